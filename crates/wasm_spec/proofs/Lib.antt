@@ -1,0 +1,4 @@
+pub mod Renaming
+pub mod SyntaxMaps
+pub mod Front
+pub mod LawSet
