@@ -1,0 +1,25 @@
+-- What loops over items keep.
+use Rattle.std.proofs.Common.{◌≡◌, refl, sym, ap, ◌∙◌, ℕ, zero, suc, ◌-◌, ◌<◌, List, [], ◌∷◌, ◌++◌, map, Option, Some, None, append_assoc, arith, rules}
+use Rattle.std.specs.Option.{option_map, option_and_then}
+use Rattle.wasm_spec.specs.Values.{many_at}
+
+-- what was read before, and what is still read
+abbrev pub with_front : {V : Type 0} → List V → Option (List V × List ℕ) → Option (List V × List ℕ)
+with_front front read = option_map (λ xs. (front ++ xs.0, xs.1)) read
+
+-- one more item goes to the end of the front
+with_one_more : {V : Type 0} (front : List V) (v : V) (read : Option (List V × List ℕ)) → with_front (front ++ v ∷ []) read ≡ with_front front (option_map (λ xs. (v ∷ xs.0, xs.1)) read)
+with_one_more front v None = refl
+with_one_more front v (Some xs) = λ i. Some (append_assoc front (v ∷ []) xs.0 i, xs.1)
+
+map-push : {T V : Type 0} (value : T → V) (items : List T) (item : T) → map value (items ++ item ∷ []) ≡ map value items ++ value item ∷ []
+map-push value [] item = refl
+map-push value (x ∷ xs) item = λ i. value x ∷ map-push value xs item i
+
+pub one_more : {T V : Type 0} (value : T → V) (encoded : List ℕ → Option (V × List ℕ)) (items : List T) (item : T) (left : ℕ) (bytes after : List ℕ)
+    → 0 < left → encoded bytes ≡ Some (value item, after)
+    → with_front (map value (items ++ item ∷ [])) (many_at encoded (left - 1) after) ≡ with_front (map value items) (many_at encoded left bytes)
+one_more value encoded items item zero bytes after h e = absurd (omega arith)
+one_more value encoded items item (suc n) bytes after h e =
+    let back : suc n - 1 ≡ n = omega arith in
+    rw (back, map-push value items item, e) (with_one_more (map value items) (value item) (many_at encoded n after))

@@ -1,0 +1,6 @@
+pub mod Reader
+pub mod Sections
+pub mod SectionsSeen
+pub mod Written
+pub mod Items
+pub mod Limits

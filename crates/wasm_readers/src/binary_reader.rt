@@ -1,0 +1,244 @@
+ghost use Rattle.std.specs.Prelude.{◌≡◌, ◌==◌, ◌≤◌, ◌<◌, ◌^◌, ◌-◌, ◌+◌, IfOk, OnOk, OnErr, length, take, drop, slice_range, [], ◌∷◌, ◌++◌, Some, None};
+ghost use Rattle.wasm_spec.specs.Values.{byte_at, u32_at, u64_at, s33_index_at, bytes_at, sized_at, name_at};
+
+use wasm_readers_errors::{Fault, Malformed, Refusal};
+use crate::leb128::signed_at;
+use std::ops::Range;
+
+/// Bytes that are read from their front.
+#[derive(Clone, Copy, Debug)]
+pub struct BinaryReader<'a> {
+    buffer: &'a [u8],
+    position: usize,
+    original_offset: u64,
+    ghost within: { position ≤ length buffer.now },
+    ghost addressed: { original_offset + length buffer.now < 2 ^ 64 },
+}
+
+impl<'a> BinaryReader<'a> {
+    ghost use Rattle.wasm_readers.specs.Reader.{input, position_in, original, rest};
+
+    /// A reader of these bytes, the first of which stands at this offset of the whole input.
+    pub fn new(buffer: &'a [u8], original_offset: u64) -> Self
+        requires { original_offset + length buffer.now < 2 ^ 64 }
+        ensures input { input result ≡ buffer.now }
+        ensures rest { rest result ≡ buffer.now }
+        ensures position { original result ≡ original_offset }
+    {
+        BinaryReader { buffer, position: 0, original_offset }
+    }
+
+    /// The offset in the whole input of the next byte.
+    pub fn original_position(&self) -> u64
+        ensures { result ≡ original self.now + position_in self.now }
+    {
+        self.original_offset + self.position as u64
+    }
+
+    /// The offsets in the whole input of its first byte, read or not, and of the byte behind its last.
+    pub fn range(&self) -> Range<u64>
+        ensures start { result.start ≡ original self.now }
+        ensures end { result.end ≡ original self.now + length (input self.now) }
+    {
+        self.original_offset..self.original_offset + self.buffer.len() as u64
+    }
+
+    /// Whether nothing is left to read.
+    pub fn is_empty(&self) -> bool
+        ensures { result ≡ (length (rest self.now) == 0) }
+    {
+        self.position >= self.buffer.len()
+    }
+
+    /// The bytes that are left.
+    pub fn remaining(&self) -> &'a [u8]
+        ensures { result.now ≡ rest self.now }
+    {
+        &self.buffer[self.position..]
+    }
+
+    fn refusal(&self, malformed: Malformed) -> Refusal {
+        Refusal::new(Fault::Malformed(malformed), self.original_position())
+    }
+
+    /// The next byte.
+    #[inline]
+    pub fn read_u8(&mut self) -> Result<u8, Refusal>
+        ensures same { input self.new ≡ input self.old }
+        ensures onward { position_in self.old ≤ position_in self.new }
+        ensures ok { IfOk result (λ byte. rest self.old ≡ byte ∷ rest self.new) }
+        ensures further { OnOk result (position_in self.old < position_in self.new) }
+        ensures err { OnErr result (rest self.old ≡ []) }
+    {
+        if self.position < self.buffer.len() {
+            let byte = self.buffer[self.position];
+            self.position += 1;
+            Ok(byte)
+        } else {
+            Err(self.refusal(Malformed::UnexpectedEnd))
+        }
+    }
+
+    /// An unsigned number of at most 32 bits, in at most five bytes.
+    pub fn read_var_u32(&mut self) -> Result<u32, Refusal>
+        ensures same { input self.new ≡ input self.old }
+        ensures onward { position_in self.old ≤ position_in self.new }
+        ensures ok { IfOk result (λ n. u32_at (rest self.old) ≡ Some (n, rest self.new)) }
+        ensures further { OnOk result (position_in self.old < position_in self.new) }
+        ensures err { OnErr result (u32_at (rest self.old) ≡ None) }
+    {
+        let first = self.read_u8()?;
+        if first < 128 {
+            return Ok(u32::from(first));
+        }
+        let second = self.read_u8()?;
+        if second < 128 {
+            return Ok(u32::from(first - 128) + (u32::from(second) << 7));
+        }
+        let third = self.read_u8()?;
+        let low = u32::from(first - 128) + (u32::from(second - 128) << 7);
+        if third < 128 {
+            return Ok(low + (u32::from(third) << 14));
+        }
+        let fourth = self.read_u8()?;
+        let low = low + (u32::from(third - 128) << 14);
+        if fourth < 128 {
+            return Ok(low + (u32::from(fourth) << 21));
+        }
+        let fifth = self.read_u8()?;
+        let low = low + (u32::from(fourth - 128) << 21);
+        if fifth < 16 {
+            Ok(low + (u32::from(fifth) << 28))
+        } else {
+            Err(self.refusal(if fifth < 128 { Malformed::IntegerTooLarge } else { Malformed::IntegerTooLong }))
+        }
+    }
+
+    /// An unsigned number of at most 64 bits, in at most ten bytes.
+    pub fn read_var_u64(&mut self) -> Result<u64, Refusal>
+        ensures same { input self.new ≡ input self.old }
+        ensures onward { position_in self.old ≤ position_in self.new }
+        ensures ok { IfOk result (λ n. u64_at (rest self.old) ≡ Some (n, rest self.new)) }
+        ensures further { OnOk result (position_in self.old < position_in self.new) }
+        ensures err { OnErr result (u64_at (rest self.old) ≡ None) }
+    {
+        let first = self.read_u8()?;
+        if first < 128 {
+            return Ok(u64::from(first));
+        }
+        let second = self.read_u8()?;
+        let low = u64::from(first - 128);
+        if second < 128 {
+            return Ok(low + (u64::from(second) << 7));
+        }
+        let third = self.read_u8()?;
+        let low = low + (u64::from(second - 128) << 7);
+        if third < 128 {
+            return Ok(low + (u64::from(third) << 14));
+        }
+        let fourth = self.read_u8()?;
+        let low = low + (u64::from(third - 128) << 14);
+        if fourth < 128 {
+            return Ok(low + (u64::from(fourth) << 21));
+        }
+        let fifth = self.read_u8()?;
+        let low = low + (u64::from(fourth - 128) << 21);
+        if fifth < 128 {
+            return Ok(low + (u64::from(fifth) << 28));
+        }
+        let sixth = self.read_u8()?;
+        let low = low + (u64::from(fifth - 128) << 28);
+        if sixth < 128 {
+            return Ok(low + (u64::from(sixth) << 35));
+        }
+        let seventh = self.read_u8()?;
+        let low = low + (u64::from(sixth - 128) << 35);
+        if seventh < 128 {
+            return Ok(low + (u64::from(seventh) << 42));
+        }
+        let eighth = self.read_u8()?;
+        let low = low + (u64::from(seventh - 128) << 42);
+        if eighth < 128 {
+            return Ok(low + (u64::from(eighth) << 49));
+        }
+        let ninth = self.read_u8()?;
+        let low = low + (u64::from(eighth - 128) << 49);
+        if ninth < 128 {
+            return Ok(low + (u64::from(ninth) << 56));
+        }
+        let tenth = self.read_u8()?;
+        let low = low + (u64::from(ninth - 128) << 56);
+        if tenth < 2 {
+            Ok(low + (u64::from(tenth) << 63))
+        } else {
+            Err(self.refusal(if tenth < 128 { Malformed::IntegerTooLarge } else { Malformed::IntegerTooLong }))
+        }
+    }
+
+    /// A type index where a heap type may stand: a signed number of 33 bits that is not negative.
+    pub fn read_var_s33_index(&mut self) -> Result<u32, Refusal>
+        ensures same { input self.new ≡ input self.old }
+        ensures onward { position_in self.old ≤ position_in self.new }
+        ensures ok { IfOk result (λ n. s33_index_at (rest self.old) ≡ Some (n, rest self.new)) }
+        ensures further { OnOk result (position_in self.old < position_in self.new) }
+        ensures err { OnErr result ((s33_index_at (rest self.old) ≡ None) × (self.new ≡ self.old)) }
+    {
+        match signed_at(self.remaining(), 33) {
+            Some((value, used)) => {
+                if value < 0 {
+                    return Err(self.refusal(Malformed::HeapType));
+                }
+                self.position += used;
+                Ok(value as u32)
+            }
+            None => Err(self.refusal(Malformed::IntegerTooLong)),
+        }
+    }
+
+    /// The next bytes, so many of them, as a reader of their own.
+    pub fn read_reader(&mut self, size: usize) -> Result<BinaryReader<'a>, Refusal>
+        ensures same { input self.new ≡ input self.old }
+        ensures onward { position_in self.old ≤ position_in self.new }
+        ensures part { IfOk result (λ part. original part ≡ original self.old + position_in self.old) }
+        ensures whole { IfOk result (λ part. input part ≡ rest part) }
+        ensures ok { IfOk result (λ part. bytes_at size (rest self.old) ≡ Some (rest part, rest self.new)) }
+        ensures err { OnErr result (bytes_at size (rest self.old) ≡ None) }
+    {
+        if size > self.buffer.len() - self.position {
+            return Err(self.refusal(Malformed::UnexpectedEnd));
+        }
+        let original_offset = self.original_position();
+        let start = self.position;
+        self.position += size;
+        Ok(BinaryReader { buffer: &self.buffer[start..start + size], position: 0, original_offset })
+    }
+
+    /// A size, and that many bytes, as a reader of their own.
+    pub fn read_sized(&mut self) -> Result<BinaryReader<'a>, Refusal>
+        ensures same { input self.new ≡ input self.old }
+        ensures onward { position_in self.old ≤ position_in self.new }
+        ensures whole { IfOk result (λ part. input part ≡ rest part) }
+        ensures ok { IfOk result (λ part. sized_at (rest self.old) ≡ Some (rest part, rest self.new)) }
+        ensures further { OnOk result (position_in self.old < position_in self.new) }
+        ensures err { OnErr result (sized_at (rest self.old) ≡ None) }
+    {
+        let size = self.read_var_u32()?;
+        self.read_reader(size as usize)
+    }
+
+    /// A name: a size, and that many bytes of text in UTF-8.
+    #[tactic(auto, using(crate::proofs::Texts::name_from_text, crate::proofs::Texts::no_name_from_no_text))]
+    pub fn read_string(&mut self) -> Result<&'a str, Refusal>
+        ensures same { input self.new ≡ input self.old }
+        ensures onward { position_in self.old ≤ position_in self.new }
+        ensures ok { IfOk result (λ name. name_at (rest self.old) ≡ Some (name.now, rest self.new)) }
+        ensures further { OnOk result (position_in self.old < position_in self.new) }
+        ensures err { OnErr result (name_at (rest self.old) ≡ None) }
+    {
+        let part = self.read_sized()?;
+        match std::str::from_utf8(part.remaining()) {
+            Ok(name) => Ok(name),
+            Err(_) => Err(part.refusal(Malformed::NotUtf8)),
+        }
+    }
+}

@@ -1,0 +1,50 @@
+ghost use Rattle.std.specs.Prelude.{◌≡◌, ◌≤◌, ◌<◌, ◌^◌, ◌-◌, ◌≤ℤ◌, ◌<ℤ◌, ◌-ℤ◌, ◌+ℤ◌, ◌*ℤ◌, pos, IfSome, IfNone, length, drop};
+ghost use Rattle.wasm_spec.specs.Values.{signed_at as encoded_at};
+
+/// The signed number of at most `bits` bits at the front, and how many bytes it takes.
+#[tactic(auto, using(crate::proofs::Powers::signed_powers))]
+pub(crate) fn signed_at(bytes: &[u8], bits: u8) -> Option<(i64, usize)>
+    requires low { 0 < bits }
+    requires high { bits ≤ 64 }
+    ensures found { IfSome result (λ r. encoded_at bits bytes.now ≡ Some (r.0, drop r.1 bytes.now)) }
+    ensures within { IfSome result (λ r. r.1 ≤ length bytes.now) }
+    ensures some { IfSome result (λ r. 0 < r.1) }
+    ensures at_least { IfSome result (λ r. (pos 0 -ℤ pos (2 ^ (bits - 1))) ≤ℤ r.0) }
+    ensures below { IfSome result (λ r. r.0 <ℤ pos (2 ^ (bits - 1))) }
+    ensures none { IfNone result (encoded_at bits bytes.now ≡ None) }
+{
+    match bytes {
+        [] => None,
+        [low, more @ ..] => {
+            if *low < 64 {
+                if bits >= 7 || *low < 1 << (bits - 1) {
+                    Some((i64::from(*low), 1))
+                } else {
+                    None
+                }
+            } else if *low < 128 {
+                if bits >= 7 || 128 - *low <= 1 << (bits - 1) {
+                    Some((i64::from(*low) - 128, 1))
+                } else {
+                    None
+                }
+            } else if bits > 7 {
+                let (high, used) = signed_at(more, bits - 7)?;
+                Some((joined(high, *low), used + 1))
+            } else {
+                None
+            }
+        }
+    }
+}
+
+/// A number of its low seven bits and what stands above them.
+#[tactic(auto, using(crate::proofs::Powers::whole))]
+fn joined(high: i64, low: u8) -> i64
+    requires at_least { (pos 0 -ℤ pos (2 ^ 56)) ≤ℤ high }
+    requires below { high <ℤ pos (2 ^ 56) }
+    requires more { 2 ^ 7 ≤ low }
+    ensures { result ≡ pos (2 ^ 7) *ℤ high +ℤ pos (low - 2 ^ 7) }
+{
+    high * 128 + i64::from(low - 128)
+}

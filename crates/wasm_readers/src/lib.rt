@@ -1,0 +1,21 @@
+//! Reading of the items of WebAssembly modules: bytes, numbers, names, types, imports and exports.
+#![tactic(auto)]
+
+pub mod binary_reader;
+pub mod defined_types;
+pub mod externs;
+pub mod items;
+mod leb128;
+pub mod lists;
+pub mod section_limited;
+pub mod types;
+
+pub use binary_reader::BinaryReader;
+pub use wasm_readers_errors::{Counted, Error, Fault, ItemKind, Malformed, OutOfOrder, Refusal, Rule, Unserved, WasmFeatures};
+pub use items::{ConstExpr, Data, DataKind, Element, ElementItems, ElementKind, Export, Global, Import, Table, TableInit};
+pub use lists::read_list;
+pub use section_limited::{FromReader, SectionItems, SectionLimited};
+pub use wasm_readers_types::{
+    AbstractHeapType, ArrayType, CompositeInnerType, CompositeType, ContType, CoreTypeId, ExternalKind, FieldType, FuncType, GlobalType, HeapType, Items,
+    MAX_IDS, MemoryType, PackedIndex, RecGroup, RefType, StorageType, StructType, SubType, TableType, TagKind, TagType, TypeRef, UnpackedIndex, ValType,
+};

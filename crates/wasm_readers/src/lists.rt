@@ -1,0 +1,37 @@
+//! Reading of lists of items.
+
+ghost use Rattle.std.specs.Prelude.{◌≡◌, ◌≤◌, map};
+ghost use Rattle.wasm_spec.specs.Values.{list_at, many_at};
+ghost use Rattle.wasm_readers.specs.Reader.{input, position_in, rest};
+ghost use Rattle.wasm_readers_errors.specs.Errors.{Reads};
+
+use crate::binary_reader::BinaryReader;
+use wasm_readers_errors::Error;
+use crate::section_limited::FromReader;
+use std::alloc::Allocator;
+
+/// A list: a count, and that many items.
+pub fn read_list<'a, T: FromReader<'a, A>, A: Allocator + Copy>(alloc: A, reader: &mut BinaryReader<'a>) -> Result<Vec<T, A>, Error>
+    ensures same { input reader.new ≡ input reader.old }
+    ensures onward { position_in reader.old ≤ position_in reader.new }
+    ensures reads { Reads (λ v. map T.value v.items) result (list_at T.encoded (rest reader.old)) (rest reader.new) }
+{
+    let count = reader.read_var_u32()?;
+    read_many(alloc, count, reader)
+}
+
+/// So many items, one after another.
+fn read_many<'a, T: FromReader<'a, A>, A: Allocator + Copy>(alloc: A, count: u32, reader: &mut BinaryReader<'a>) -> Result<Vec<T, A>, Error>
+    ensures same { input reader.new ≡ input reader.old }
+    ensures onward { position_in reader.old ≤ position_in reader.new }
+    ensures reads { Reads (λ v. map T.value v.items) result (many_at T.encoded count (rest reader.old)) (rest reader.new) }
+{
+    let mut items = Vec::new(alloc);
+    let mut left = count;
+    'items: while left > 0 {
+        let item = T::from_reader(alloc, reader)?;
+        items.push(item)?;
+        left -= 1;
+    }
+    Ok(items)
+}

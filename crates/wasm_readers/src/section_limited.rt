@@ -1,0 +1,154 @@
+ghost use Rattle.std.specs.Prelude.{◌≡◌, ℕ, ◌≤◌, List, length, Option, Some, None, IfOk, OnErr, map};
+ghost use Rattle.std.specs.Option.{option_map};
+ghost use Rattle.wasm_spec.specs.Values.{u32_at, items_at};
+ghost use Rattle.wasm_readers.specs.Reader.{input, position_in, original, rest};
+ghost use Rattle.wasm_readers_errors.specs.Errors.{Reads};
+ghost use Rattle.wasm_readers.specs.Sections.{next_item, NextItem};
+
+use crate::binary_reader::BinaryReader;
+use wasm_readers_errors::{Error, Fault, Malformed, Refusal};
+use std::alloc::{Allocator, Global};
+use std::marker::PhantomData;
+use std::ops::Range;
+
+/// A type whose values are items of the binary format.
+pub trait FromReader<'a, A: Allocator>: Sized + Drop {
+    /// What contracts see of an item.
+    ghost Value: { Type 0 };
+
+    /// What the format encodes at the front of these bytes, and the bytes behind it.
+    ghost encoded: { List ℕ → Option (Value × List ℕ) };
+
+    /// What an item stands for, without where it lies.
+    ghost value: { Self → Value };
+
+    fn from_reader(alloc: A, reader: &mut BinaryReader<'a>) -> Result<Self, Error>
+        ensures same { input reader.new ≡ input reader.old }
+        ensures onward { position_in reader.old ≤ position_in reader.new }
+        ensures reads { Reads value result (encoded (rest reader.old)) (rest reader.new) };
+}
+
+impl<'a, A: Allocator> FromReader<'a, A> for u32 {
+    ghost Value = { ℕ };
+
+    ghost encoded = { u32_at };
+
+    ghost value = { λ n. n };
+
+    fn from_reader(_alloc: A, reader: &mut BinaryReader<'a>) -> Result<u32, Error> {
+        Ok(reader.read_var_u32()?)
+    }
+}
+
+/// A section that is a count and that many items. Its items are read as they are asked for.
+#[derive(Drop)]
+pub struct SectionLimited<'a, T, A: Allocator = Global> {
+    reader: BinaryReader<'a>,
+    count: u32,
+    alloc: A,
+    of: PhantomData<T>,
+}
+
+impl<'a, T, A: Allocator + Copy> SectionLimited<'a, T, A> {
+    ghost use Rattle.wasm_readers.specs.SectionsSeen.{count_of, bytes_of, items_left, items_rest};
+
+    /// The section that these bytes are: a count, and what follows it.
+    pub fn new(alloc: A, reader: BinaryReader<'a>) -> Result<SectionLimited<'a, T, A>, Refusal>
+        ensures ok { IfOk result (λ s. u32_at (rest reader.entry) ≡ Some (count_of s, bytes_of s)) }
+        ensures err { OnErr result (u32_at (rest reader.entry) ≡ None) }
+    {
+        let mut reader = reader;
+        let count = reader.read_var_u32()?;
+        Ok(SectionLimited { reader, count, alloc, of: PhantomData })
+    }
+
+    /// The number of items that the section says it has.
+    pub fn count(&self) -> u32
+        ensures { result ≡ count_of self.now }
+    {
+        self.count
+    }
+
+    /// The offset of the first item in the whole input.
+    pub fn original_position(&self) -> u64 {
+        self.reader.original_position()
+    }
+
+    /// The offsets in the whole input of the section's first byte and of the byte behind it.
+    pub fn range(&self) -> Range<u64> {
+        self.reader.range()
+    }
+
+    /// The items, each with its offset in the whole input.
+    pub fn items(&self) -> SectionItems<'a, T, A>
+        ensures left { items_left result ≡ count_of self.now }
+        ensures rest { items_rest result ≡ bytes_of self.now }
+    {
+        SectionItems { reader: self.reader, left: self.count, done: false, alloc: self.alloc, of: PhantomData }
+    }
+}
+
+/// The items of a section that are left to read.
+#[derive(Drop)]
+pub struct SectionItems<'a, T, A: Allocator = Global> {
+    reader: BinaryReader<'a>,
+    left: u32,
+    done: bool,
+    alloc: A,
+    of: PhantomData<T>,
+}
+
+impl<'a, T: FromReader<'a, A>, A: Allocator + Copy> SectionItems<'a, T, A> {
+    ghost use Rattle.wasm_readers.specs.SectionsSeen.{items_left, items_rest, items_done};
+
+    /// The next item with its offset in the whole input, or `None` where the section ends. Bytes
+    /// behind the last item are refused.
+    pub fn read_next(&mut self) -> Result<Option<(u64, T)>, Error>
+        ensures going { items_done self.new ≡ items_done self.old }
+        ensures reads { NextItem T.encoded T.value (items_left self.old) (items_rest self.old) result (items_left self.new) (items_rest self.new) }
+    {
+        let offset = self.reader.original_position();
+        if self.left == 0 {
+            if self.reader.is_empty() {
+                return Ok(None);
+            }
+            return Err(Error::Refused(Refusal::new(Fault::Malformed(Malformed::SectionSize), offset)));
+        }
+        let item = T::from_reader(self.alloc, &mut self.reader)?;
+        self.left -= 1;
+        Ok(Some((offset, item)))
+    }
+}
+
+/// The items, each with its offset, up to the section's end or the first refusal.
+impl<'a, T: FromReader<'a, A>, A: Allocator + Copy> Iterator for SectionItems<'a, T, A> {
+    type Item = Result<(u64, T), Error>;
+
+    ghost use Rattle.std.specs.Prelude.{◌+◌, if◌then◌else◌};
+    ghost use Rattle.std.specs.Iterator.{at_most};
+    ghost use Rattle.wasm_readers.specs.Sections.{ItemGives};
+    ghost use Rattle.wasm_readers.specs.SectionsSeen.{items_left, items_rest, items_done};
+
+    ghost can_next = { λ _. Unit {0} };
+
+    ghost next_gives = { λ s r t. ItemGives T.encoded T.value (items_done s) (items_left s) (items_rest s) r (items_done t) (items_left t) (items_rest t) };
+
+    ghost remaining = { λ s. at_most (if items_done s then 0 else items_left s + 1) };
+
+    fn next(&mut self) -> Option<Result<(u64, T), Error>> {
+        if self.done {
+            return None;
+        }
+        match self.read_next() {
+            Ok(None) => {
+                self.done = true;
+                None
+            }
+            Ok(Some(item)) => Some(Ok(item)),
+            Err(error) => {
+                self.done = true;
+                Some(Err(error))
+            }
+        }
+    }
+}

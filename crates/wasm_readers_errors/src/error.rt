@@ -1,0 +1,364 @@
+ghost use Rattle.std.specs.Prelude.{◌≡◌};
+
+use crate::features::WasmFeatures;
+use std::alloc::{AllocError, AllocFailed};
+use std::fmt;
+
+/// Where bytes don't follow the binary format.
+#[derive(Clone, Copy, PartialEq, Eq, Debug)]
+pub enum Malformed {
+    UnexpectedEnd,
+    IntegerTooLong,
+    IntegerTooLarge,
+    NotUtf8,
+    HeapType,
+    ReferenceType,
+    ValueType,
+    CompositeType,
+    Flag,
+    LimitsFlags,
+    GlobalFlags,
+    TagAttribute,
+    ImportKind,
+    ExportKind,
+    MagicNumber,
+    BinaryVersion,
+    SectionOutOfOrder,
+    SectionSize,
+    FunctionAndCodeCounts,
+    DataCounts,
+}
+
+impl Malformed {
+    fn text<'a>(self) -> &'a str {
+        match self {
+            Malformed::UnexpectedEnd => "unexpected end-of-file",
+            Malformed::IntegerTooLong => "invalid LEB128: integer representation too long",
+            Malformed::IntegerTooLarge => "invalid LEB128: integer too large",
+            Malformed::NotUtf8 => "malformed UTF-8 encoding",
+            Malformed::HeapType => "invalid heap type",
+            Malformed::ReferenceType => "malformed reference type",
+            Malformed::ValueType => "invalid value type",
+            Malformed::CompositeType => "invalid leading byte for composite type",
+            Malformed::Flag => "invalid mutability byte",
+            Malformed::LimitsFlags => "invalid limits flags",
+            Malformed::GlobalFlags => "malformed mutability -- or shared flags",
+            Malformed::TagAttribute => "invalid tag attributes",
+            Malformed::ImportKind => "invalid leading byte for external kind of an import",
+            Malformed::ExportKind => "invalid leading byte for external kind",
+            Malformed::MagicNumber => "magic header not detected: bad magic number",
+            Malformed::BinaryVersion => "unknown binary version",
+            Malformed::SectionOutOfOrder => "section out of order",
+            Malformed::SectionSize => "section size mismatch: unexpected data at the end of the section",
+            Malformed::FunctionAndCodeCounts => "function and code section have inconsistent lengths",
+            Malformed::DataCounts => "data count and data section have inconsistent lengths",
+        }
+    }
+}
+
+/// Calls that come where the validator doesn't take them.
+#[derive(Clone, Copy, PartialEq, Eq, Debug)]
+pub enum OutOfOrder {
+    SectionBeforeHeader,
+    SectionAfterEnd,
+    Header,
+    EndBeforeHeader,
+    EndAfterEnd,
+    SectionAfterFailure,
+    SectionAfterCodeStart,
+    CodeEntryBeforeCodeStart,
+    CodeEntryWithoutFunction,
+}
+
+impl OutOfOrder {
+    fn text<'a>(self) -> &'a str {
+        match self {
+            OutOfOrder::SectionBeforeHeader => "unexpected section before header was parsed",
+            OutOfOrder::SectionAfterEnd => "unexpected section after parsing has completed",
+            OutOfOrder::Header => "wasm version header out of order",
+            OutOfOrder::EndBeforeHeader => "cannot call `end` before a header has been parsed",
+            OutOfOrder::EndAfterEnd => "cannot call `end` after parsing has completed",
+            OutOfOrder::SectionAfterFailure => "validator failed: an earlier section was refused",
+            OutOfOrder::SectionAfterCodeStart => "unexpected section after the code section started",
+            OutOfOrder::CodeEntryBeforeCodeStart => "code section entry before the code section started",
+            OutOfOrder::CodeEntryWithoutFunction => "code section entry without a function",
+        }
+    }
+}
+
+/// Rules of validation whose texts name no number.
+#[derive(Clone, Copy, PartialEq, Eq, Debug)]
+pub enum Rule {
+    Floats,
+    Simd,
+    MultiValue,
+    Exceptions,
+    TooManyTypes,
+    ComponentModelLeftOut,
+}
+
+impl Rule {
+    fn text<'a>(self) -> &'a str {
+        match self {
+            Rule::Floats => "floating-point support is disabled",
+            Rule::Simd => "SIMD support is not enabled",
+            Rule::MultiValue => "func type returns multiple values but the multi-value feature is not enabled",
+            Rule::Exceptions => "exceptions proposal not enabled",
+            Rule::TooManyTypes => "implementation limit: too many core types",
+            Rule::ComponentModelLeftOut => "component model validation support disabled at compile time",
+        }
+    }
+}
+
+/// What a limit counts.
+#[derive(Clone, Copy, PartialEq, Eq, Debug)]
+pub enum Counted {
+    Types,
+    Imports,
+    Functions,
+    Tables,
+    Memories,
+    Tags,
+    Globals,
+    Exports,
+    ElementSegments,
+    DataSegments,
+    FunctionBodySize,
+}
+
+impl Counted {
+    fn text<'a>(self) -> &'a str {
+        match self {
+            Counted::Types => "types",
+            Counted::Imports => "imports",
+            Counted::Functions => "functions",
+            Counted::Tables => "tables",
+            Counted::Memories => "memories",
+            Counted::Tags => "tags",
+            Counted::Globals => "globals",
+            Counted::Exports => "exports",
+            Counted::ElementSegments => "element segments",
+            Counted::DataSegments => "data segments",
+            Counted::FunctionBodySize => "function body size",
+        }
+    }
+}
+
+/// The kinds of items of a module that have an index space.
+#[derive(Clone, Copy, PartialEq, Eq, Debug)]
+pub enum ItemKind {
+    Function,
+    Table,
+    Memory,
+    Global,
+    Tag,
+}
+
+impl ItemKind {
+    fn text<'a>(self) -> &'a str {
+        match self {
+            ItemKind::Function => "function",
+            ItemKind::Table => "table",
+            ItemKind::Memory => "memory",
+            ItemKind::Global => "global",
+            ItemKind::Tag => "tag",
+        }
+    }
+}
+
+/// What this version reads and doesn't validate yet.
+#[derive(Clone, Copy, PartialEq, Eq, Debug)]
+pub enum Unserved {
+    TypeForm,
+    ImportKind,
+    FunctionSection,
+    TableSection,
+    MemorySection,
+    TagSection,
+    GlobalSection,
+    StartSection,
+    ElementSection,
+    DataCountSection,
+    CodeSection,
+    DataSection,
+}
+
+impl Unserved {
+    fn text<'a>(self) -> &'a str {
+        match self {
+            Unserved::TypeForm => "type form",
+            Unserved::ImportKind => "import kind",
+            Unserved::FunctionSection => "function section",
+            Unserved::TableSection => "table section",
+            Unserved::MemorySection => "memory section",
+            Unserved::TagSection => "tag section",
+            Unserved::GlobalSection => "global section",
+            Unserved::StartSection => "start section",
+            Unserved::ElementSection => "element section",
+            Unserved::DataCountSection => "data count section",
+            Unserved::CodeSection => "code section",
+            Unserved::DataSection => "data section",
+        }
+    }
+}
+
+/// Why content is refused.
+#[derive(Clone, Copy, PartialEq, Eq, Debug)]
+pub enum Fault {
+    Malformed(Malformed),
+    OutOfOrder(OutOfOrder),
+    Rule(Rule),
+    /// A type index that is not in the type index space.
+    UnknownType(u32),
+    NotAFunctionType(u32),
+    /// An export of an index that is not in its index space.
+    UnknownExport(ItemKind, u32),
+    /// More of something than may be.
+    Limit(Counted, u32),
+    UnknownSection(u8),
+    UnknownBinaryVersion(u16),
+    /// A component header of this number, without the component model.
+    ComponentHeader(u16),
+    NotServed(Unserved),
+}
+
+impl fmt::Display for Fault {
+    fn fmt<W: fmt::Write>(&self, f: &mut fmt::Formatter<W>) -> fmt::Result {
+        match self {
+            Fault::Malformed(malformed) => f.write_str(malformed.text()),
+            Fault::OutOfOrder(order) => f.write_str(order.text()),
+            Fault::Rule(rule) => f.write_str(rule.text()),
+            Fault::UnknownType(index) => write!(f, "unknown type {index}: type index out of bounds"),
+            Fault::NotAFunctionType(index) => write!(f, "type index {index} is not a function type"),
+            Fault::UnknownExport(kind, index) => {
+                let kind = kind.text();
+                write!(f, "unknown {kind} {index}: exported {kind} index out of bounds")
+            }
+            Fault::Limit(what, limit) => write_limit(f, what.text(), *limit),
+            Fault::UnknownSection(id) => write!(f, "malformed section id: {id}"),
+            Fault::UnknownBinaryVersion(number) => write!(f, "unknown binary version: {number:#x}"),
+            Fault::ComponentHeader(number) => write!(f, "unknown binary version and encoding combination: {number:#x} and 0x1, note: encoded as a component but the WebAssembly component model feature is not enabled - enable the feature to allow component validation"),
+            Fault::NotServed(what) => {
+                let what = what.text();
+                write!(f, "not served yet: {what}")
+            }
+        }
+    }
+}
+
+fn write_limit<W: fmt::Write>(f: &mut fmt::Formatter<W>, what: &str, limit: u32) -> fmt::Result {
+    if limit == 1 {
+        write!(f, "multiple {what}")
+    } else {
+        write!(f, "{what} count exceeds limit of {limit}")
+    }
+}
+
+/// A refusal of content: why, at which byte from the start of the input, and which proposal would
+/// allow it, if one would.
+#[derive(Clone, Copy, PartialEq, Eq, Debug)]
+pub struct Refusal {
+    pub fault: Fault,
+    pub offset: u64,
+    pub missing: Option<WasmFeatures>,
+}
+
+impl Refusal {
+    /// A refusal that no proposal lifts.
+    pub fn new(fault: Fault, offset: u64) -> Refusal
+        ensures { result ≡ record { fault = fault; offset = offset; missing = None } }
+    {
+        Refusal { fault, offset, missing: None }
+    }
+
+    /// A refusal that this proposal would lift.
+    pub fn missing(fault: Fault, offset: u64, feature: WasmFeatures) -> Refusal
+        ensures { result ≡ record { fault = fault; offset = offset; missing = Some feature } }
+    {
+        Refusal { fault, offset, missing: Some(feature) }
+    }
+}
+
+/// Why reading is refused: for the content, or for want of memory.
+#[derive(Clone, Copy, PartialEq, Eq, Debug)]
+pub enum Error {
+    Refused(Refusal),
+    OutOfMemory,
+}
+
+impl Error {
+    ghost use Rattle.std.specs.Prelude.{IsTrue, ◌↔◌};
+    ghost use Rattle.wasm_readers_errors.specs.Errors.{IsMemory, offset_of, missing_of};
+
+    /// Whether memory was refused, and nothing is said of the content.
+    pub fn is_out_of_memory(&self) -> bool
+        ensures { IsTrue result ↔ IsMemory self.now }
+    {
+        matches!(self, Error::OutOfMemory)
+    }
+
+    /// The offset from the start of the input, and 0 where memory was refused.
+    pub fn offset(&self) -> u64
+        ensures { result ≡ offset_of self.now }
+    {
+        match self {
+            Error::Refused(refusal) => refusal.offset,
+            Error::OutOfMemory => 0,
+        }
+    }
+
+    /// The proposal without which the content is refused, if it is one.
+    pub fn missing_features(&self) -> Option<WasmFeatures>
+        ensures { result ≡ missing_of self.now }
+    {
+        match self {
+            Error::Refused(refusal) => refusal.missing,
+            Error::OutOfMemory => None,
+        }
+    }
+}
+
+/// The message alone, without the offset.
+impl fmt::Display for Error {
+    fn fmt<W: fmt::Write>(&self, f: &mut fmt::Formatter<W>) -> fmt::Result {
+        match self {
+            Error::Refused(refusal) => {
+                let fault = refusal.fault;
+                write!(f, "{fault}")
+            }
+            Error::OutOfMemory => f.write_str("out of memory"),
+        }
+    }
+}
+
+impl std::error::Error for Error {}
+
+impl From<Refusal> for Error {
+    ghost use Rattle.wasm_readers_errors.specs.declared.error.Error.TheVariants.{Refused};
+
+    ghost from_gives = { λ r e. e ≡ Refused r };
+
+    fn from(refusal: Refusal) -> Error {
+        Error::Refused(refusal)
+    }
+}
+
+impl From<AllocError> for Error {
+    ghost use Rattle.wasm_readers_errors.specs.declared.error.Error.TheVariants.{OutOfMemory};
+
+    ghost from_gives = { λ _ e. e ≡ OutOfMemory };
+
+    fn from(_error: AllocError) -> Error {
+        Error::OutOfMemory
+    }
+}
+
+impl<T: Drop> From<AllocFailed<T>> for Error {
+    ghost use Rattle.wasm_readers_errors.specs.declared.error.Error.TheVariants.{OutOfMemory};
+
+    ghost from_gives = { λ _ e. e ≡ OutOfMemory };
+
+    fn from(_error: AllocFailed<T>) -> Error {
+        Error::OutOfMemory
+    }
+}

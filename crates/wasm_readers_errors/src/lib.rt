@@ -1,0 +1,8 @@
+//! Why bytes or a module are refused, and the proposals that a module may use.
+#![tactic(auto)]
+
+pub mod error;
+pub mod features;
+
+pub use error::{Counted, Error, Fault, ItemKind, Malformed, OutOfOrder, Refusal, Rule, Unserved};
+pub use features::WasmFeatures;

@@ -1,0 +1,13 @@
+use Rattle.std.proofs.Common.{ap}
+use Rattle.wasm_readers_types.specs.Exactness.{exact-as}
+use Rattle.wasm_readers_types.specs.SeenValues.{val_of}
+use Rattle.wasm_readers_types.specs.SeenApart.{val_of-apart}
+use Rattle.wasm_readers_types.specs.ValuesExact.{val-exact}
+use Rattle.wasm_readers_types.proofs.values.same_val.Goals as goal
+
+pub returns-clause-seen : goal.returns-clause-seen
+returns-clause-seen c =
+    rw c.eq.ensures (exact-as (val-exact c.args.a.now c.args.b.now) (ap val_of) (val_of-apart c.args.a.now c.args.b.now))
+
+pub returns-clause-same : goal.returns-clause-same
+returns-clause-same c = rw c.eq.ensures (val-exact c.args.a.now c.args.b.now)

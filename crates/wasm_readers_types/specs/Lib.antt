@@ -1,0 +1,11 @@
+pub mod Exactness
+pub mod Indices
+pub mod IndicesExact
+pub mod SeenValues
+pub mod SeenTypes
+pub mod ValuesExact
+pub mod TypesExact
+pub mod TypesFaithful
+pub mod SeenExterns
+pub mod ExternsExact
+pub mod SeenApart

@@ -1,0 +1,184 @@
+-- Types that say the same in the abstract syntax are the same: what each function of SeenValues and SeenTypes forgets is nothing.
+use Rattle.std.specs.Prelude.{◌≡◌, List, [], ◌∷◌, map, refl}
+use Rattle.std.specs.Prelude.{ℕ, Option, option_map, ◌%◌, ◌<◌}
+use Rattle.std.specs.declared.option.Option.TheVariants.{None, Some}
+use Rattle.std.proofs.Common.{ap, sym, ◌∙◌, lit<, arith}
+use Rattle.wasm_readers_types.specs.Indices.{number_of}
+use Rattle.wasm_readers_types.specs.IndicesExact.{packed_by, packed-same}
+use Rattle.wasm_readers_types.specs.declared.indices.TheConstants.{MAX_IDS}
+use Rattle.wasm_readers_types.specs.declared.indices.PackedIndex.{PackedIndex}
+use Rattle.wasm_readers_types.specs.declared.indices.UnpackedIndex.TheVariants.{Module, RecGroup, Id}
+use Rattle.wasm_spec.specs.Syntax as syntax
+use Rattle.wasm_spec.specs.Syntax.{AbstractHeap, Heap, Ref, Val, Storage, Field, Comp, Sub}
+use Rattle.wasm_readers_types.specs.SeenValues.{index_of, abstract_heap_of, packed_heap_of, ref_of, val_of, storage_of, field_of}
+use Rattle.wasm_readers_types.specs.SeenTypes.{comp_of, sub_of}
+use Rattle.wasm_readers_types.specs.declared.indices.UnpackedIndex.{UnpackedIndex}
+use Rattle.wasm_readers_types.specs.declared.values.AbstractHeapType.{AbstractHeapType}
+use Rattle.wasm_readers_types.specs.declared.values.AbstractHeapType.TheVariants as abstract
+use Rattle.wasm_readers_types.specs.declared.values.PackedHeap.{PackedHeap}
+use Rattle.wasm_readers_types.specs.declared.values.PackedHeap.TheVariants as packed
+use Rattle.wasm_readers_types.specs.declared.values.RefType.{RefType}
+use Rattle.wasm_readers_types.specs.declared.values.ValType.{ValType}
+use Rattle.wasm_readers_types.specs.declared.values.ValType.TheVariants as val
+use Rattle.wasm_readers_types.specs.declared.values.StorageType.{StorageType}
+use Rattle.wasm_readers_types.specs.declared.values.StorageType.TheVariants as storage
+use Rattle.wasm_readers_types.specs.declared.values.FieldType.{FieldType}
+use Rattle.wasm_readers_types.specs.declared.types.CompositeInnerType.{CompositeInnerType}
+use Rattle.wasm_readers_types.specs.declared.types.CompositeInnerType.TheVariants.{Func, Array, Struct, Cont}
+use Rattle.wasm_readers_types.specs.declared.types.SubType.{SubType}
+
+-- a function that another one undoes keeps things apart
+pub apart : {X Y : Type 0} (f : X → Y) (g : Y → X) → ((x : X) → g (f x) ≡ x) → (x y : X) → f x ≡ f y → x ≡ y
+apart f g undone x y e = sym (undone x) ∙ ap g e ∙ undone y
+
+map-undone : {X Y : Type 0} (f : X → Y) (g : Y → X) → ((x : X) → g (f x) ≡ x) → (xs : List X) → map g (map f xs) ≡ xs
+map-undone f g undone [] = refl
+map-undone f g undone (x ∷ xs) = λ i. undone x i ∷ map-undone f g undone xs i
+
+abbrev abstract_back : AbstractHeap → AbstractHeapType
+abstract_back syntax.func_heap = abstract.Func
+abstract_back syntax.extern_heap = abstract.Extern
+abstract_back syntax.any_heap = abstract.Any
+abstract_back syntax.none_heap = abstract.None
+abstract_back syntax.noextern_heap = abstract.NoExtern
+abstract_back syntax.nofunc_heap = abstract.NoFunc
+abstract_back syntax.eq_heap = abstract.Eq
+abstract_back syntax.struct_heap = abstract.Struct
+abstract_back syntax.array_heap = abstract.Array
+abstract_back syntax.i31_heap = abstract.I31
+abstract_back syntax.exn_heap = abstract.Exn
+abstract_back syntax.noexn_heap = abstract.NoExn
+abstract_back syntax.cont_heap = abstract.Cont
+abstract_back syntax.nocont_heap = abstract.NoCont
+
+abstract-undone : (a : AbstractHeapType) → abstract_back (abstract_heap_of a) ≡ a
+abstract-undone abstract.Func = refl
+abstract-undone abstract.Extern = refl
+abstract-undone abstract.Any = refl
+abstract-undone abstract.None = refl
+abstract-undone abstract.NoExtern = refl
+abstract-undone abstract.NoFunc = refl
+abstract-undone abstract.Eq = refl
+abstract-undone abstract.Struct = refl
+abstract-undone abstract.Array = refl
+abstract-undone abstract.I31 = refl
+abstract-undone abstract.Exn = refl
+abstract-undone abstract.NoExn = refl
+abstract-undone abstract.Cont = refl
+abstract-undone abstract.NoCont = refl
+
+-- an index that can't be packed becomes another one
+abbrev index_back : UnpackedIndex → PackedIndex
+index_back (Module i) = packed_by (Module i) (lit< tt)
+index_back (RecGroup i) = packed_by (RecGroup (i % 1048576)) (omega arith)
+index_back (Id id) = packed_by (Id (record { index = id.index % 1048576 })) (omega arith)
+
+mod_small : (i : ℕ) → i < 1048576 → i % 1048576 ≡ i
+mod_small i h = grind arith
+
+unpacked-undone : (u : UnpackedIndex) → number_of u < MAX_IDS → (index_back u).unpacked ≡ u
+unpacked-undone (Module i) h = refl
+unpacked-undone (RecGroup i) h = ap RecGroup (mod_small i h)
+unpacked-undone (Id id) h = λ i. Id (record { index = mod_small id.index h i })
+
+index-undone : (p : PackedIndex) → index_back (index_of p) ≡ p
+index-undone p = packed-same (index_back p.unpacked) p (unpacked-undone p.unpacked p.fits)
+
+abbrev heap_back : Heap UnpackedIndex → PackedHeap
+heap_back (syntax.abstract_heap shared a) = packed.Abstract shared (abstract_back a)
+heap_back (syntax.concrete i) = packed.Concrete (index_back i)
+heap_back (syntax.exact i) = packed.Exact (index_back i)
+
+heap-undone : (h : PackedHeap) → heap_back (packed_heap_of h) ≡ h
+heap-undone (packed.Abstract shared a) = ap (packed.Abstract shared) (abstract-undone a)
+heap-undone (packed.Concrete p) = ap packed.Concrete (index-undone p)
+heap-undone (packed.Exact p) = ap packed.Exact (index-undone p)
+
+abbrev ref_back : Ref UnpackedIndex → RefType
+ref_back r = record { nullable = r.nullable; heap = heap_back r.heap }
+
+ref-undone : (r : RefType) → ref_back (ref_of r) ≡ r
+ref-undone r = λ i. record { nullable = r.nullable; heap = heap-undone r.heap i }
+
+abbrev val_back : Val UnpackedIndex → ValType
+val_back syntax.i32 = val.I32
+val_back syntax.i64 = val.I64
+val_back syntax.f32 = val.F32
+val_back syntax.f64 = val.F64
+val_back syntax.v128 = val.V128
+val_back (syntax.reference r) = val.Ref (ref_back r)
+
+val-undone : (v : ValType) → val_back (val_of v) ≡ v
+val-undone val.I32 = refl
+val-undone val.I64 = refl
+val-undone val.F32 = refl
+val-undone val.F64 = refl
+val-undone val.V128 = refl
+val-undone (val.Ref r) = ap val.Ref (ref-undone r)
+
+abbrev storage_back : Storage UnpackedIndex → StorageType
+storage_back syntax.i8 = storage.I8
+storage_back syntax.i16 = storage.I16
+storage_back (syntax.unpacked v) = storage.Val (val_back v)
+
+storage-undone : (s : StorageType) → storage_back (storage_of s) ≡ s
+storage-undone storage.I8 = refl
+storage-undone storage.I16 = refl
+storage-undone (storage.Val v) = ap storage.Val (val-undone v)
+
+abbrev field_back : Field UnpackedIndex → FieldType
+field_back x = record { element_type = storage_back x.storage; mutable = x.mutable }
+
+field-undone : (x : FieldType) → field_back (field_of x) ≡ x
+field-undone x = λ i. record { element_type = storage-undone x.element_type i; mutable = x.mutable }
+
+abbrev comp_back : {A : Type 0} → Comp UnpackedIndex → CompositeInnerType A
+comp_back (syntax.func ps rs) = Func (record { params = map val_back ps; results = map val_back rs })
+comp_back (syntax.array x) = Array (record { 0 = field_back x })
+comp_back (syntax.struct xs) = Struct (record { fields = map field_back xs })
+comp_back (syntax.cont i) = Cont (record { 0 = index_back i })
+
+comp-undone : {A : Type 0} (c : CompositeInnerType A) → comp_back (comp_of c) ≡ c
+comp-undone (Func f) =
+    λ i. Func (record { params = map-undone val_of val_back val-undone f.params i; results = map-undone val_of val_back val-undone f.results i })
+comp-undone (Array a) = λ i. Array (record { 0 = field-undone a.0 i })
+comp-undone (Struct s) = λ i. Struct (record { fields = map-undone field_of field_back field-undone s.fields i })
+comp-undone (Cont c) = λ i. Cont (record { 0 = index-undone c.0 i })
+
+option-undone : (o : Option PackedIndex) → option_map index_back (option_map index_of o) ≡ o
+option-undone None = refl
+option-undone (Some p) = ap Some (index-undone p)
+
+abbrev sub_back : {A : Type 0} → Sub UnpackedIndex → SubType A
+sub_back s = record {
+  is_final = s.is_final;
+  supertype_idxs = map index_back s.supers;
+  composite_type = record { inner = comp_back s.comp; shared = s.shared; descriptor_idx = option_map index_back s.descriptor; describes_idx = option_map index_back s.describes };
+}
+
+sub-undone : {A : Type 0} (s : SubType A) → sub_back (sub_of s) ≡ s
+sub-undone s = λ i. record {
+  is_final = s.is_final;
+  supertype_idxs = map-undone index_of index_back index-undone s.supertype_idxs i;
+  composite_type = record {
+    inner = comp-undone s.composite_type.inner i;
+    shared = s.composite_type.shared;
+    descriptor_idx = option-undone s.composite_type.descriptor_idx i;
+    describes_idx = option-undone s.composite_type.describes_idx i;
+  };
+}
+
+pub ref_of-apart : (x y : RefType) → ref_of x ≡ ref_of y → x ≡ y
+ref_of-apart = apart ref_of ref_back ref-undone
+
+pub val_of-apart : (x y : ValType) → val_of x ≡ val_of y → x ≡ y
+val_of-apart = apart val_of val_back val-undone
+
+pub field_of-apart : (x y : FieldType) → field_of x ≡ field_of y → x ≡ y
+field_of-apart = apart field_of field_back field-undone
+
+pub sub_of-apart : {A : Type 0} (x y : SubType A) → sub_of x ≡ sub_of y → x ≡ y
+sub_of-apart = apart sub_of sub_back sub-undone
+
+pub subs_of-apart : {A : Type 0} (xs ys : List (SubType A)) → map sub_of xs ≡ map sub_of ys → xs ≡ ys
+subs_of-apart = apart (map sub_of) (map sub_back) (map-undone sub_of sub_back sub-undone)

@@ -1,0 +1,165 @@
+ghost use Rattle.std.proofs.Common.{rules};
+
+use crate::exact::{Exact, Faithful};
+use crate::values::{RefType, ValType};
+
+/// A table type (Core Specification 3.0, Structure, Types, Table Types).
+#[derive(Clone, Copy, PartialEq, Eq, Hash, Debug)]
+pub struct TableType {
+    /// What each place of the table holds.
+    pub element_type: RefType,
+    /// Whether addresses have 64 bits.
+    pub table64: bool,
+    /// The smallest size, in elements.
+    pub initial: u64,
+    /// The largest size, in elements, if there is one.
+    pub maximum: Option<u64>,
+    /// Whether it is shared between threads.
+    pub shared: bool,
+}
+
+/// A memory type (Core Specification 3.0, Structure, Types, Memory Types).
+#[derive(Clone, Copy, PartialEq, Eq, Hash, Debug)]
+pub struct MemoryType {
+    /// Whether addresses have 64 bits.
+    pub memory64: bool,
+    /// Whether it is shared between threads.
+    pub shared: bool,
+    /// The smallest size, in pages.
+    pub initial: u64,
+    /// The largest size, in pages, if there is one.
+    pub maximum: Option<u64>,
+    /// The base-2 logarithm of a page's size in bytes, if it is written. It is 16 where it isn't.
+    pub page_size_log2: Option<u32>,
+}
+
+/// A global type (Core Specification 3.0, Structure, Types, Global Types).
+#[derive(Clone, Copy, PartialEq, Eq, Hash, Debug)]
+pub struct GlobalType {
+    /// What the global holds.
+    pub content_type: ValType,
+    /// Whether it can be written.
+    pub mutable: bool,
+    /// Whether it is shared between threads.
+    pub shared: bool,
+}
+
+/// What a tag is for.
+#[derive(Clone, Copy, PartialEq, Eq, Hash, Debug)]
+pub enum TagKind {
+    /// Exceptions.
+    Exception,
+}
+
+/// A tag type (Core Specification 3.0, Structure, Types, Tag Types).
+#[derive(Clone, Copy, PartialEq, Eq, Hash, Debug)]
+pub struct TagType {
+    /// What the tag is for.
+    pub kind: TagKind,
+    /// The type index of its function type.
+    pub func_type_idx: u32,
+}
+
+/// What an import asks for (Core Specification 3.0, Structure, Types, External Types). Functions and
+/// tags name their type by its type index.
+#[derive(Clone, Copy, PartialEq, Eq, Hash, Debug)]
+pub enum TypeRef {
+    /// A function of this type or of a subtype.
+    Func(u32),
+    /// A function of exactly this type.
+    FuncExact(u32),
+    /// A table.
+    Table(TableType),
+    /// A memory.
+    Memory(MemoryType),
+    /// A global.
+    Global(GlobalType),
+    /// A tag.
+    Tag(TagType),
+}
+
+/// The kinds of what a module imports and exports (Core Specification 3.0, Binary Format, Modules,
+/// Export Section).
+#[derive(Clone, Copy, PartialEq, Eq, Hash, Debug)]
+pub enum ExternalKind {
+    /// A function.
+    Func,
+    /// A table.
+    Table,
+    /// A memory.
+    Memory,
+    /// A global.
+    Global,
+    /// A tag.
+    Tag,
+}
+
+impl Exact for TableType {
+    ghost use Rattle.wasm_readers_types.specs.ExternsExact.{table-exact};
+
+    ghost exact = { table-exact };
+}
+
+impl Exact for MemoryType {
+    ghost use Rattle.wasm_readers_types.specs.ExternsExact.{memory-exact};
+
+    ghost exact = { memory-exact };
+}
+
+impl Exact for GlobalType {
+    ghost use Rattle.wasm_readers_types.specs.ExternsExact.{global-exact};
+
+    ghost exact = { global-exact };
+}
+
+impl Exact for TagKind {
+    ghost use Rattle.wasm_readers_types.specs.ExternsExact.{tag_kind-exact};
+
+    ghost exact = { tag_kind-exact };
+}
+
+impl Exact for TagType {
+    ghost use Rattle.wasm_readers_types.specs.ExternsExact.{tag-exact};
+
+    ghost exact = { tag-exact };
+}
+
+impl Exact for TypeRef {
+    ghost use Rattle.wasm_readers_types.specs.ExternsExact.{extern-exact};
+
+    ghost exact = { extern-exact };
+}
+
+impl Exact for ExternalKind {
+    ghost use Rattle.wasm_readers_types.specs.ExternsExact.{external_kind-exact};
+
+    ghost exact = { external_kind-exact };
+}
+
+impl Faithful for TableType {
+    ghost faithful = { Prim.search rules };
+}
+
+impl Faithful for MemoryType {
+    ghost faithful = { Prim.search rules };
+}
+
+impl Faithful for GlobalType {
+    ghost faithful = { Prim.search rules };
+}
+
+impl Faithful for TagKind {
+    ghost faithful = { Prim.search rules };
+}
+
+impl Faithful for TagType {
+    ghost faithful = { Prim.search rules };
+}
+
+impl Faithful for TypeRef {
+    ghost faithful = { Prim.search rules };
+}
+
+impl Faithful for ExternalKind {
+    ghost faithful = { Prim.search rules };
+}

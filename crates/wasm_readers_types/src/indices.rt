@@ -1,0 +1,172 @@
+ghost use Rattle.std.specs.Prelude.{◌≡◌, ◌<◌, ℕ, Option, IfSome, IsSome, IsTrue, ◌↔◌};
+ghost use Rattle.std.proofs.Common.{rules};
+ghost use Rattle.wasm_readers_types.specs.declared.indices.TheConstants.{MAX_IDS};
+ghost use Rattle.wasm_readers_types.specs.Indices.{number_of, Fits, IsId, module_of, id_of};
+
+use crate::exact::{Exact, Faithful};
+
+/// One more than the largest id, and than the largest place in a recursion group, that a
+/// [`PackedIndex`] holds. It is also how many types one module may define.
+pub const MAX_IDS: u32 = 1_048_576;
+
+/// The id of a defined type in a list of types.
+#[derive(Clone, Copy, PartialEq, Eq, PartialOrd, Ord, Hash, Debug)]
+pub struct CoreTypeId {
+    index: u32,
+}
+
+impl Exact for CoreTypeId {
+    ghost use Rattle.wasm_readers_types.specs.IndicesExact.{id-exact};
+
+    ghost exact = { id-exact };
+}
+
+impl Faithful for CoreTypeId {
+    ghost faithful = { Prim.search rules };
+}
+
+impl CoreTypeId {
+    /// The id with this number.
+    pub fn from_index(index: u32) -> CoreTypeId
+        ensures { result.index ≡ index }
+    {
+        CoreTypeId { index }
+    }
+
+    /// The number of the id: its place in the list of types.
+    pub fn index(&self) -> usize
+        ensures { result ≡ self.now.index }
+    {
+        self.index as usize
+    }
+}
+
+/// What a type refers to another type by.
+/// A type index (Core Specification 3.0, Structure, Types, Type Use), in one of three forms.
+#[derive(Clone, Copy, PartialEq, Eq, PartialOrd, Ord, Hash, Debug)]
+pub enum UnpackedIndex {
+    /// A type index of a module, as it is written there.
+    Module(u32),
+    /// A place in the recursion group that the reference stands in.
+    RecGroup(u32),
+    /// The id of a type in a list of types.
+    Id(CoreTypeId),
+}
+
+impl Exact for UnpackedIndex {
+    ghost use Rattle.wasm_readers_types.specs.IndicesExact.{unpacked-exact};
+
+    ghost exact = { unpacked-exact };
+}
+
+impl Faithful for UnpackedIndex {
+    ghost faithful = { Prim.search rules };
+}
+
+impl UnpackedIndex {
+    /// The index packed: none where a place in a group or an id is [`MAX_IDS`] or more.
+    pub fn pack(&self) -> Option<PackedIndex>
+        ensures value { IfSome result (λ p. p.unpacked ≡ self.now) }
+        ensures fits { IsSome result ↔ Fits self.now }
+    {
+        match *self {
+            UnpackedIndex::Module(index) => Some(PackedIndex::from_module_index(index)),
+            UnpackedIndex::RecGroup(index) => PackedIndex::from_rec_group_index(index),
+            UnpackedIndex::Id(id) => PackedIndex::from_id(id),
+        }
+    }
+}
+
+/// An [`UnpackedIndex`] whose place in a group or id is below [`MAX_IDS`], as types hold it.
+#[derive(Clone, Copy, PartialEq, Eq, PartialOrd, Ord, Hash, Debug)]
+pub struct PackedIndex {
+    unpacked: UnpackedIndex,
+    ghost fits: { number_of unpacked < MAX_IDS },
+}
+
+impl Exact for PackedIndex {
+    ghost use Rattle.wasm_readers_types.specs.IndicesExact.{packed-exact};
+
+    ghost exact = { packed-exact };
+}
+
+impl Faithful for PackedIndex {
+    ghost faithful = { Prim.search rules };
+}
+
+impl PackedIndex {
+    /// A type index of a module. Every one can be packed.
+    pub fn from_module_index(index: u32) -> PackedIndex
+        ensures { result.unpacked ≡ UnpackedIndex.Module index }
+    {
+        PackedIndex {
+            unpacked: UnpackedIndex::Module(index),
+        }
+    }
+
+    /// A place in the recursion group that the reference stands in, where it is below [`MAX_IDS`].
+    pub fn from_rec_group_index(index: u32) -> Option<PackedIndex>
+        ensures value { IfSome result (λ p. p.unpacked ≡ UnpackedIndex.RecGroup index) }
+        ensures fits { IsSome result ↔ (index < MAX_IDS) }
+    {
+        if index < MAX_IDS {
+            Some(PackedIndex {
+                unpacked: UnpackedIndex::RecGroup(index),
+            })
+        } else {
+            None
+        }
+    }
+
+    /// An id, where it is below [`MAX_IDS`].
+    pub fn from_id(id: CoreTypeId) -> Option<PackedIndex>
+        ensures value { IfSome result (λ p. p.unpacked ≡ UnpackedIndex.Id id) }
+        ensures fits { IsSome result ↔ (id.index < MAX_IDS) }
+    {
+        if id.index < MAX_IDS {
+            Some(PackedIndex {
+                unpacked: UnpackedIndex::Id(id),
+            })
+        } else {
+            None
+        }
+    }
+
+    /// The index that this one packs. Its place in a group or its id is below [`MAX_IDS`].
+    pub fn unpack(&self) -> UnpackedIndex
+        ensures value { result ≡ self.now.unpacked }
+        ensures fits { Fits result }
+    {
+        self.unpacked
+    }
+
+    /// Whether it is an id, and so means the same type wherever it stands.
+    pub fn is_canonical(&self) -> bool
+        ensures { IsTrue result ↔ IsId self.now.unpacked }
+    {
+        match self.unpacked {
+            UnpackedIndex::Id(_) => true,
+            UnpackedIndex::Module(_) | UnpackedIndex::RecGroup(_) => false,
+        }
+    }
+
+    /// The module's type index, where it is one.
+    pub fn as_module_index(&self) -> Option<u32>
+        ensures { result ≡ module_of self.now.unpacked }
+    {
+        match self.unpacked {
+            UnpackedIndex::Module(index) => Some(index),
+            UnpackedIndex::RecGroup(_) | UnpackedIndex::Id(_) => None,
+        }
+    }
+
+    /// The id, where it is one.
+    pub fn as_core_type_id(&self) -> Option<CoreTypeId>
+        ensures { result ≡ id_of self.now.unpacked }
+    {
+        match self.unpacked {
+            UnpackedIndex::Id(id) => Some(id),
+            UnpackedIndex::Module(_) | UnpackedIndex::RecGroup(_) => None,
+        }
+    }
+}
