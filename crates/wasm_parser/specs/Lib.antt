@@ -1,0 +1,4 @@
+pub mod Framing
+pub mod Machine
+pub mod Seen
+pub mod Laws
