@@ -1,0 +1,2 @@
+mod Imports
+mod Exports

@@ -1,0 +1,5 @@
+pub mod Spaces
+pub mod SpacesSeen
+pub mod Rows
+pub mod Left
+pub mod Shown

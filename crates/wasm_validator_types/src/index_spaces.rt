@@ -1,0 +1,225 @@
+//! The index spaces of a module, as far as it has been read. The validator fills them; a user reads
+//! them through `Types` and `TypesRef`.
+
+ghost use Rattle.std.specs.Prelude.{◌≡◌, ◌+◌, ◌<◌, ◌^◌, ◌++◌, ◌∷◌, [], length, false, slice_index, map, OnOk, OnErr};
+ghost use Rattle.wasm_validator_types.specs.Spaces.{no_spaces, with_import, is_exported};
+ghost use Rattle.indexmap.specs.IndexMap.{index_map_len};
+ghost use Rattle.std.specs.String.{string_bytes};
+ghost use Rattle.wasm_validator_types.specs.Left.{imports_left, exports_left};
+ghost use Rattle.wasm_validator_types.specs.Rows.{all_imports};
+ghost use Rattle.wasm_validator_types.specs.SpacesSeen.{shown_import, PutsAt};
+
+use crate::entity_type::EntityType;
+use crate::imports_exports::{CoreExports, CoreImports};
+use indexmap::IndexMap;
+use std::alloc::{AllocError, Allocator, Global};
+use std::hash::{BuildHasherDefault, FoldHasher};
+use std::marker::Model;
+use wasm_readers_types::{CoreTypeId, Items};
+
+/// What is imported under each pair of names.
+pub(crate) type ImportMap<A> = IndexMap<
+    (String<A>, String<A>),
+    Items<EntityType, A>,
+    BuildHasherDefault<FoldHasher>,
+    A,
+>;
+
+/// What is exported under each name.
+pub(crate) type ExportMap<A> = IndexMap<String<A>, EntityType, BuildHasherDefault<FoldHasher>, A>;
+
+/// The index spaces of a module, as far as it has been read. A contract sees them as lists.
+#[derive(Drop)]
+pub struct IndexSpaces<A: Allocator = Global> {
+    types: Vec<CoreTypeId, A>,
+    functions: Vec<u32, A>,
+    imports: ImportMap<A>,
+    exports: ExportMap<A>,
+    alloc: A,
+}
+
+impl<A: Allocator> Model for IndexSpaces<A> {
+    ghost use Rattle.wasm_validator_types.specs.Spaces.{Spaces};
+
+    ghost Value = { Spaces };
+
+    ghost use Rattle.wasm_validator_types.specs.SpacesSeen.{shown_spaces, IsSound};
+
+    ghost view = { shown_spaces };
+
+    ghost invariant = { IsSound };
+}
+
+impl<A: Allocator + Copy> IndexSpaces<A> {
+    /// The index spaces of a module of which nothing has been read. They take no memory yet.
+    pub fn new(alloc: A) -> IndexSpaces<A>
+        ensures { result ≡ no_spaces }
+    {
+        IndexSpaces {
+            types: Vec::new(alloc),
+            functions: Vec::new(alloc),
+            imports: IndexMap::new(alloc),
+            exports: IndexMap::new(alloc),
+            alloc,
+        }
+    }
+
+    /// The number of types.
+    pub fn type_count(&self) -> u32
+        ensures { result ≡ length self.now.types }
+    {
+        self.types.len() as u32
+    }
+
+    /// The id of the type with this index.
+    pub fn type_at(&self, index: u32) -> CoreTypeId
+        requires { index < length self.now.types }
+        ensures { result.index ≡ slice_index self.now.types index }
+    {
+        self.types[index as usize]
+    }
+
+    /// Gives the type with this id the next index. Where memory is refused, nothing changes.
+    pub fn push_type(&mut self, id: CoreTypeId) -> Result<(), AllocError>
+        requires room { length self.old.types + 1 < 2 ^ 32 }
+        ensures ok { OnOk result (self.new ≡ record self.old { types = self.old.types ++ id.index ∷ [] }) }
+        ensures err { OnErr result (self.new ≡ self.old) }
+    {
+        self.types.push(id)?;
+        Ok(())
+    }
+
+    /// The number of functions.
+    pub fn function_count(&self) -> u32
+        ensures { result ≡ length self.now.functions }
+    {
+        self.functions.len() as u32
+    }
+
+    /// The type index of the function with this index.
+    pub fn function_type_index(&self, index: u32) -> u32
+        requires { index < length self.now.functions }
+        ensures value { result ≡ slice_index self.now.functions index }
+        ensures within { result < length self.now.types }
+    {
+        self.functions[index as usize]
+    }
+
+    /// The id of the type of the function with this index.
+    pub fn function_type_id(&self, index: u32) -> CoreTypeId
+        requires { index < length self.now.functions }
+        ensures { result.index ≡ slice_index self.now.types (slice_index self.now.functions index) }
+    {
+        self.type_at(self.function_type_index(index))
+    }
+
+    /// Gives a function of the type with this index the next function index. Where memory is refused,
+    /// nothing changes.
+    pub fn push_function(&mut self, type_index: u32) -> Result<(), AllocError>
+        requires room { length self.old.functions + 1 < 2 ^ 32 }
+        requires within { type_index < length self.old.types }
+        ensures ok { OnOk result (self.new ≡ record self.old { functions = self.old.functions ++ type_index ∷ [] }) }
+        ensures err { OnErr result (self.new ≡ self.old) }
+    {
+        self.functions.push(type_index)?;
+        Ok(())
+    }
+
+    /// The number of different pairs of names that are imported from.
+    pub fn import_count(&self) -> usize
+        ensures { result ≡ length self.now.imports }
+    {
+        self.imports.len()
+    }
+
+    /// The imports, each with its two names: pairs of names in the order in which they first came.
+    pub fn imports(&self) -> CoreImports<'_, A>
+        ensures { imports_left result ≡ all_imports self.now.imports }
+    {
+        CoreImports::new(&self.imports)
+    }
+
+    /// The exports in order, each with its name.
+    pub fn exports(&self) -> CoreExports<'_, A>
+        ensures { exports_left result ≡ self.now.exports }
+    {
+        CoreExports::new(&self.exports)
+    }
+
+    /// The number of exports.
+    pub fn export_count(&self) -> usize
+        ensures { result ≡ length self.now.exports }
+    {
+        self.exports.len()
+    }
+
+    /// Whether there is an export with this name.
+    pub fn has_export(&self, name: &str) -> bool
+        ensures { result ≡ is_exported self.now.exports name.now }
+    {
+        self.exports.contains_key(name)
+    }
+
+    /// Puts an export at the end. Where memory is refused, nothing changes.
+    pub fn add_export(&mut self, name: &str, entity: EntityType) -> Result<(), AllocError>
+        requires { is_exported self.old.exports name.now ≡ false }
+        ensures ok { OnOk result (self.new ≡ record self.old { exports = self.old.exports ++ (name.now, entity) ∷ [] }) }
+        ensures err { OnErr result (self.new ≡ self.old) }
+    {
+        let key = String::from_str(self.alloc, name)?;
+        self.exports.insert(key, entity)?;
+        Ok(())
+    }
+
+    /// Puts an import after the others of its pair of names, or as a new pair at the end. Where memory
+    /// is refused, nothing changes.
+    pub fn add_import(
+        &mut self,
+        source: &str,
+        name: &str,
+        entity: EntityType,
+    ) -> Result<(), AllocError>
+        ensures ok { OnOk result (self.new ≡ record self.old { imports = with_import self.old.imports source.now name.now entity }) }
+        ensures err { OnErr result (self.new ≡ self.old) }
+    {
+        let source = String::from_str(self.alloc, source)?;
+        let name = String::from_str(self.alloc, name)?;
+        add_to_pair(&mut self.imports, self.alloc, (source, name), entity)
+    }
+}
+
+/// Puts `entity` after the others of this pair, or with the pair at the end.
+fn add_to_pair<A: Allocator + Copy>(
+    imports: &mut ImportMap<A>,
+    alloc: A,
+    pair: (String<A>, String<A>),
+    entity: EntityType,
+) -> Result<(), AllocError>
+    ensures ok { OnOk result (map shown_import imports.new.entries ≡ with_import (map shown_import imports.old.entries) (string_bytes pair.0) (string_bytes pair.1) entity) }
+    ensures err { OnErr result (imports.new.entries ≡ imports.old.entries) }
+{
+    match imports.get_index_of(&pair) {
+        Some(index) => add_at(imports, index, entity),
+        None => {
+            let mut entities = Items::new(alloc);
+            entities.push(entity)?;
+            imports.insert(pair, entities)?;
+            Ok(())
+        }
+    }
+}
+
+/// Puts `entity` after the others of the pair at `index`.
+fn add_at<A: Allocator + Copy>(
+    imports: &mut ImportMap<A>,
+    index: usize,
+    entity: EntityType,
+) -> Result<(), AllocError>
+    requires { index < index_map_len imports.old }
+    ensures ok { OnOk result (PutsAt imports.old.entries index entity imports.new.entries) }
+    ensures err { OnErr result (imports.new.entries ≡ imports.old.entries) }
+{
+    let entities = &mut imports[index];
+    entities.push(entity)?;
+    Ok(())
+}

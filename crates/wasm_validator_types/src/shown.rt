@@ -1,0 +1,190 @@
+ghost use Rattle.std.specs.Prelude.{◌≡◌, ◌<◌, length, slice_index, slice_index_or, IfSome, IsSome, ◌↔◌};
+ghost use Rattle.wasm_validator_types.specs.Left.{imports_left, exports_left};
+ghost use Rattle.wasm_validator_types.specs.Rows.{all_imports};
+ghost use Rattle.wasm_validator_types.specs.Shown.{shown_of, shown_by};
+
+use crate::id::ValidatorId;
+use crate::imports_exports::{CoreExports, CoreImports};
+use crate::index_spaces::IndexSpaces;
+use crate::type_list::TypeList;
+use std::alloc::{Allocator, Global};
+use std::ops::Index;
+use std::rc::Rc;
+use wasm_readers_types::{CoreTypeId, SubType};
+
+/// The types of a validated module, which outlive its validator.
+#[derive(Drop)]
+pub struct Types<A: Allocator = Global> {
+    id: ValidatorId,
+    types: TypeList<A>,
+    spaces: Rc<IndexSpaces<A>, A>,
+}
+
+impl<A: Allocator + Copy> Types<A> {
+    /// Of the parts that the validator hands over. It is not for users.
+    #[doc(hidden)]
+    pub fn new(id: ValidatorId, types: TypeList<A>, spaces: Rc<IndexSpaces<A>, A>) -> Types<A>
+        ensures { shown_of result ≡ record { id = id; list = types; spaces = spaces.value } }
+    {
+        Types { id, types, spaces }
+    }
+
+    /// What they show, lent.
+    pub fn as_ref(&self) -> TypesRef<'_, A>
+        ensures { shown_by result ≡ shown_of self.now }
+    {
+        TypesRef {
+            id: self.id,
+            list: &self.types,
+            spaces: self.spaces.as_ref(),
+        }
+    }
+}
+
+impl<A: Allocator + Copy> Index<CoreTypeId> for Types<A> {
+    type Output = SubType<A>;
+
+    ghost use Rattle.std.specs.Prelude.{◌≡◌, ◌<◌, length, slice_index_or};
+    ghost use Rattle.wasm_validator_types.specs.Shown.{shown_of};
+
+    ghost can_index = { λ types id. id.index < length (shown_of types).list };
+
+    ghost index_gives = { λ types id ty. ty ≡ slice_index_or (shown_of types).list id.index ty };
+
+    fn index(&self, id: CoreTypeId) -> &SubType<A> {
+        &self.types[id]
+    }
+}
+
+/// The types of a module, lent: those of a validated one, or of one that is being validated.
+#[derive_where(Clone, Copy)]
+pub struct TypesRef<'a, A: Allocator = Global> {
+    id: ValidatorId,
+    list: &'a TypeList<A>,
+    spaces: &'a IndexSpaces<A>,
+}
+
+impl<'a, A: Allocator + Copy> TypesRef<'a, A> {
+    /// Of the parts that the validator lends. It is not for users.
+    #[doc(hidden)]
+    pub fn new(
+        id: ValidatorId,
+        list: &'a TypeList<A>,
+        spaces: &'a IndexSpaces<A>,
+    ) -> TypesRef<'a, A>
+        ensures { shown_by result ≡ record { id = id; list = list.now; spaces = spaces.now } }
+    {
+        TypesRef { id, list, spaces }
+    }
+
+    /// The id of the validator that made them.
+    pub fn id(&self) -> ValidatorId
+        ensures { result ≡ (shown_by self.now).id }
+    {
+        self.id
+    }
+
+    /// The type with this id, if there is one.
+    pub fn get(&self, id: CoreTypeId) -> Option<&'a SubType<A>>
+        ensures found { IfSome result (λ ty. ty.now ≡ slice_index_or (shown_by self.now).list id.index ty.now) }
+        ensures when { IsSome result ↔ (id.index < length (shown_by self.now).list) }
+    {
+        self.list.get(id)
+    }
+
+    /// The number of types that the module declares.
+    pub fn core_type_count_in_module(&self) -> u32
+        ensures { result ≡ length (shown_by self.now).spaces.types }
+    {
+        self.spaces.type_count()
+    }
+
+    /// The id of the module's type with this index.
+    pub fn core_type_at_in_module(&self, index: u32) -> CoreTypeId
+        requires { index < length (shown_by self.now).spaces.types }
+        ensures { result.index ≡ slice_index (shown_by self.now).spaces.types index }
+    {
+        self.spaces.type_at(index)
+    }
+
+    /// The number of functions, imported ones among them.
+    pub fn function_count(&self) -> u32
+        ensures { result ≡ length (shown_by self.now).spaces.functions }
+    {
+        self.spaces.function_count()
+    }
+
+    /// The id of the type of the function with this index.
+    pub fn core_function_at(&self, index: u32) -> CoreTypeId
+        requires { index < length (shown_by self.now).spaces.functions }
+        ensures { let spaces = (shown_by self.now).spaces in result.index ≡ slice_index spaces.types (slice_index spaces.functions index) }
+    {
+        self.spaces.function_type_id(index)
+    }
+
+    /// The number of tables.
+    pub fn table_count(&self) -> u32
+        ensures { result ≡ 0 }
+    {
+        0
+    }
+
+    /// The number of memories.
+    pub fn memory_count(&self) -> u32
+        ensures { result ≡ 0 }
+    {
+        0
+    }
+
+    /// The number of globals.
+    pub fn global_count(&self) -> u32
+        ensures { result ≡ 0 }
+    {
+        0
+    }
+
+    /// The number of tags.
+    pub fn tag_count(&self) -> u32
+        ensures { result ≡ 0 }
+    {
+        0
+    }
+
+    /// The number of element segments.
+    pub fn element_count(&self) -> u32
+        ensures { result ≡ 0 }
+    {
+        0
+    }
+
+    /// The imports of the module. There are always some, be they none.
+    pub fn core_imports(&self) -> Option<CoreImports<'a, A>>
+        ensures some { IsSome result }
+        ensures all { IfSome result (λ imports. imports_left imports ≡ all_imports (shown_by self.now).spaces.imports) }
+    {
+        Some(self.spaces.imports())
+    }
+
+    /// The exports of the module.
+    pub fn core_exports(&self) -> Option<CoreExports<'a, A>>
+        ensures some { IsSome result }
+        ensures all { IfSome result (λ exports. exports_left exports ≡ (shown_by self.now).spaces.exports) }
+    {
+        Some(self.spaces.exports())
+    }
+}
+
+impl<'a, A: Allocator + Copy> Index<CoreTypeId> for TypesRef<'a, A> {
+    type Output = SubType<A>;
+
+    ghost use Rattle.std.specs.Prelude.{◌≡◌, ◌<◌, length, slice_index_or};
+    ghost use Rattle.wasm_validator_types.specs.Shown.{shown_by};
+
+    ghost can_index = { λ types id. id.index < length (shown_by types).list };
+
+    ghost index_gives = { λ types id ty. ty ≡ slice_index_or (shown_by types).list id.index ty };
+
+    fn index(&self, id: CoreTypeId) -> &SubType<A> {
+        &self.list[id]
+    }
+}

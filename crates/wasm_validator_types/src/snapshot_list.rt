@@ -1,0 +1,107 @@
+ghost use Rattle.std.specs.Prelude.{◌≡◌, ◌<◌, ◌++◌, ◌∷◌, [], length, slice_index_or, IfOk, IfErr, IfSome, OnOk, OnErr, IsSome, IsTrue, ◌↔◌};
+
+use std::alloc::{AllocError, AllocFailed, Allocator, Global};
+use std::marker::Model;
+use std::ops::Index;
+use wasm_readers_types::Faithful;
+
+/// A list that grows at its end, and of which snapshots are taken. A contract sees the list alone.
+#[derive(Drop)]
+pub struct SnapshotList<T, A: Allocator = Global> {
+    items: Vec<T, A>,
+    alloc: A,
+}
+
+impl<T, A: Allocator> Model for SnapshotList<T, A> {
+    ghost use Rattle.std.specs.Prelude.{List};
+
+    ghost Value = { List T };
+
+    ghost view = { λ a. a.items.items };
+}
+
+impl<T, A: Allocator + Copy> SnapshotList<T, A> {
+    /// The list of nothing. It takes no memory until the first `push`.
+    pub fn new(alloc: A) -> SnapshotList<T, A>
+        ensures { result ≡ [] }
+    {
+        SnapshotList {
+            items: Vec::new(alloc),
+            alloc,
+        }
+    }
+
+    /// Puts `item` at the end. Where memory is refused, the list stays as it was and `item` comes
+    /// back.
+    pub fn push(&mut self, item: T) -> Result<(), AllocFailed<T>>
+        ensures ok { OnOk result (self.new ≡ self.old ++ item ∷ []) }
+        ensures err { OnErr result (self.new ≡ self.old) }
+        ensures returned { IfErr result (λ e. e.value ≡ item) }
+    {
+        self.items.push(item)
+    }
+
+    /// The number of items.
+    pub fn len(&self) -> usize
+        ensures { result ≡ length self.now }
+    {
+        self.items.len()
+    }
+
+    /// Whether there is no item.
+    pub fn is_empty(&self) -> bool
+        ensures { IsTrue result ↔ (length self.now ≡ 0) }
+    {
+        self.items.is_empty()
+    }
+
+    /// The item at `index`, if there is one.
+    pub fn get(&self, index: usize) -> Option<&T>
+        ensures found { IfSome result (λ item. item.now ≡ slice_index_or self.now index item.now) }
+        ensures when { IsSome result ↔ (index < length self.now) }
+    {
+        self.items.get(index)
+    }
+}
+
+impl<T: Faithful + Drop, A: Allocator + Copy> SnapshotList<T, A> {
+    /// A list of its own with the items of this one, which stays as it was.
+    pub fn commit(&mut self) -> Result<SnapshotList<T, A>, AllocError>
+        ensures same { self.new ≡ self.old }
+        ensures copy { IfOk result (λ copy. copy ≡ self.old) }
+    {
+        let items = copy_of(self.alloc, self.items.as_slice())?;
+        Ok(SnapshotList {
+            items,
+            alloc: self.alloc,
+        })
+    }
+}
+
+impl<T, A: Allocator> Index<usize> for SnapshotList<T, A> {
+    type Output = T;
+
+    ghost use Rattle.std.specs.Prelude.{◌≡◌, ◌<◌, length, slice_index_or};
+
+    ghost can_index = { λ list index. index < length list };
+
+    ghost index_gives = { λ list index item. item ≡ slice_index_or list index item };
+
+    fn index(&self, index: usize) -> &T {
+        &self.items[index]
+    }
+}
+
+/// A list of copies, which a contract cannot tell from `items`.
+fn copy_of<T: Faithful + Drop, A: Allocator + Copy>(
+    alloc: A,
+    items: &[T],
+) -> Result<Vec<T, A>, AllocError>
+    ensures { IfOk result (λ copy. copy.items ≡ items.now) }
+{
+    let mut copy = Vec::new(alloc);
+    for item in items {
+        copy.push(item.clone()?)?;
+    }
+    Ok(copy)
+}
