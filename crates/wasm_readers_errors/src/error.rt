@@ -49,8 +49,10 @@ impl Malformed {
             Malformed::MagicNumber => "magic header not detected: bad magic number",
             Malformed::BinaryVersion => "unknown binary version",
             Malformed::SectionOutOfOrder => "section out of order",
-            Malformed::SectionSize => "section size mismatch: unexpected data at the end of the section",
-            Malformed::FunctionAndCodeCounts => "function and code section have inconsistent lengths",
+            Malformed::SectionSize =>
+                "section size mismatch: unexpected data at the end of the section",
+            Malformed::FunctionAndCodeCounts =>
+                "function and code section have inconsistent lengths",
             Malformed::DataCounts => "data count and data section have inconsistent lengths",
         }
     }
@@ -79,8 +81,10 @@ impl OutOfOrder {
             OutOfOrder::EndBeforeHeader => "cannot call `end` before a header has been parsed",
             OutOfOrder::EndAfterEnd => "cannot call `end` after parsing has completed",
             OutOfOrder::SectionAfterFailure => "validator failed: an earlier section was refused",
-            OutOfOrder::SectionAfterCodeStart => "unexpected section after the code section started",
-            OutOfOrder::CodeEntryBeforeCodeStart => "code section entry before the code section started",
+            OutOfOrder::SectionAfterCodeStart =>
+                "unexpected section after the code section started",
+            OutOfOrder::CodeEntryBeforeCodeStart =>
+                "code section entry before the code section started",
             OutOfOrder::CodeEntryWithoutFunction => "code section entry without a function",
         }
     }
@@ -102,10 +106,12 @@ impl Rule {
         match self {
             Rule::Floats => "floating-point support is disabled",
             Rule::Simd => "SIMD support is not enabled",
-            Rule::MultiValue => "func type returns multiple values but the multi-value feature is not enabled",
+            Rule::MultiValue =>
+                "func type returns multiple values but the multi-value feature is not enabled",
             Rule::Exceptions => "exceptions proposal not enabled",
             Rule::TooManyTypes => "implementation limit: too many core types",
-            Rule::ComponentModelLeftOut => "component model validation support disabled at compile time",
+            Rule::ComponentModelLeftOut =>
+                "component model validation support disabled at compile time",
         }
     }
 }
@@ -228,16 +234,28 @@ impl fmt::Display for Fault {
             Fault::Malformed(malformed) => f.write_str(malformed.text()),
             Fault::OutOfOrder(order) => f.write_str(order.text()),
             Fault::Rule(rule) => f.write_str(rule.text()),
-            Fault::UnknownType(index) => write!(f, "unknown type {index}: type index out of bounds"),
-            Fault::NotAFunctionType(index) => write!(f, "type index {index} is not a function type"),
+            Fault::UnknownType(index) => write!(
+                f,
+                "unknown type {index}: type index out of bounds"
+            ),
+            Fault::NotAFunctionType(index) => write!(
+                f,
+                "type index {index} is not a function type"
+            ),
             Fault::UnknownExport(kind, index) => {
                 let kind = kind.text();
-                write!(f, "unknown {kind} {index}: exported {kind} index out of bounds")
+                write!(
+                    f,
+                    "unknown {kind} {index}: exported {kind} index out of bounds"
+                )
             }
             Fault::Limit(what, limit) => write_limit(f, what.text(), *limit),
             Fault::UnknownSection(id) => write!(f, "malformed section id: {id}"),
             Fault::UnknownBinaryVersion(number) => write!(f, "unknown binary version: {number:#x}"),
-            Fault::ComponentHeader(number) => write!(f, "unknown binary version and encoding combination: {number:#x} and 0x1, note: encoded as a component but the WebAssembly component model feature is not enabled - enable the feature to allow component validation"),
+            Fault::ComponentHeader(number) => write!(
+                f,
+                "unknown binary version and encoding combination: {number:#x} and 0x1, note: encoded as a component but the WebAssembly component model feature is not enabled - enable the feature to allow component validation"
+            ),
             Fault::NotServed(what) => {
                 let what = what.text();
                 write!(f, "not served yet: {what}")
@@ -268,14 +286,22 @@ impl Refusal {
     pub fn new(fault: Fault, offset: u64) -> Refusal
         ensures { result ≡ record { fault = fault; offset = offset; missing = None } }
     {
-        Refusal { fault, offset, missing: None }
+        Refusal {
+            fault,
+            offset,
+            missing: None,
+        }
     }
 
     /// A refusal that this proposal would lift.
     pub fn missing(fault: Fault, offset: u64, feature: WasmFeatures) -> Refusal
         ensures { result ≡ record { fault = fault; offset = offset; missing = Some feature } }
     {
-        Refusal { fault, offset, missing: Some(feature) }
+        Refusal {
+            fault,
+            offset,
+            missing: Some(feature),
+        }
     }
 }
 

@@ -1,0 +1,11 @@
+use Rattle.std.proofs.Common.{◌≡◌, ◌≤◌, length, drop, map}
+use Rattle.std.specs.List.{list_all}
+use Rattle.wasm_readers_types.specs.SeenValues.{val_of}
+use Rattle.wasm_validator.specs.Machine.{is_allowed_val}
+use Rattle.wasm_validator.proofs.rules.check_value_types.Given as goal
+
+abbrev pub invariant-loop-ty : goal.invariant-loop-ty
+invariant-loop-ty l = record {
+  inside : l.ty-index ≤ length l.types;
+  so_far : list_all (is_allowed_val l.features) (map val_of l.types) ≡ list_all (is_allowed_val l.features) (map val_of (drop l.ty-index l.types));
+}

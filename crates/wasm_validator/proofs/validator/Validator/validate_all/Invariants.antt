@@ -1,0 +1,6 @@
+use Rattle.wasm_parser.specs.Seen.{state}
+use Rattle.wasm_parser.specs.Machine.{most_left}
+use Rattle.wasm_validator.proofs.validator.Validator.validate_all.Given as goal
+
+abbrev pub decreases-payloads : goal.decreases-payloads
+decreases-payloads g l = most_left (state l.payloads)

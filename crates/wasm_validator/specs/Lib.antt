@@ -1,0 +1,5 @@
+pub mod Errors
+pub mod Standing
+pub mod Machine
+pub mod States
+pub mod Payloads

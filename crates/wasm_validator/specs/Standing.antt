@@ -1,0 +1,117 @@
+-- Where a validator stands, and the words for calls that move it.
+use Rattle.std.specs.Prelude.{ℕ, ◌≡◌, Bool, true, false, List, [], ◌∷◌, Option, Some, None, ⊤}
+use Rattle.std.specs.Option.{option_and_then}
+use Rattle.std.specs.declared.result.Result.{Result}
+use Rattle.std.specs.declared.result.Result.TheVariants.{Ok, Err}
+use Rattle.wasm_spec.specs.Syntax.{Sub}
+use Rattle.wasm_readers_types.specs.declared.indices.UnpackedIndex.{UnpackedIndex}
+use Rattle.wasm_readers_errors.specs.declared.features.WasmFeatures.{WasmFeatures}
+use Rattle.wasm_validator_types.specs.Spaces.{Spaces, no_spaces}
+use Rattle.wasm_validator.specs.declared.error.Error.{Error}
+use Rattle.wasm_validator.specs.declared.error.Error.TheVariants.{Refused, DuplicateExport, OutOfMemory}
+
+-- the types of all modules so far, each under its id
+abbrev pub Types : Type 0
+Types = List (Sub UnpackedIndex)
+
+-- The stages of a validator: no header has been read, a module is being read, one has ended, or one was
+-- refused. A validator that has failed shows nothing of what it held.
+pub data Stage : Type 0 where
+  unparsed : Types → Stage
+  in_module : Types → Spaces → Stage
+  ended : Types → Stage
+  failed : Stage
+
+pub record Standing : Type 0 where
+  pub id : ℕ
+  pub features : WasmFeatures
+  pub stage : Stage
+
+abbrev pub fresh : ℕ → WasmFeatures → Standing
+fresh id features = record { id = id; features = features; stage = unparsed [] }
+
+-- a refusal in a module fails the validator, and elsewhere changes nothing
+abbrev pub refused_at : Stage → Stage
+refused_at (unparsed types) = unparsed types
+refused_at (in_module types spaces) = failed
+refused_at (ended types) = ended types
+refused_at failed = failed
+
+abbrev pub is_failed_at : Stage → Bool
+is_failed_at (unparsed types) = false
+is_failed_at (in_module types spaces) = false
+is_failed_at (ended types) = false
+is_failed_at failed = true
+
+abbrev pub is_failed : Standing → Bool
+is_failed s = is_failed_at s.stage
+
+-- no module is being read, and none was refused
+abbrev pub can_reset_at : Stage → Bool
+can_reset_at (unparsed types) = true
+can_reset_at (in_module types spaces) = false
+can_reset_at (ended types) = true
+can_reset_at failed = false
+
+abbrev pub may_reset : Standing → Bool
+may_reset s = can_reset_at s.stage
+
+abbrev pub reset_at : Stage → Stage
+reset_at (unparsed types) = unparsed types
+reset_at (in_module types spaces) = in_module types spaces
+reset_at (ended types) = unparsed types
+reset_at failed = failed
+
+abbrev pub after_reset : Standing → Standing
+after_reset s = record s { stage = reset_at s.stage }
+
+-- the types of all modules and the index spaces of this one, while a module is being read
+abbrev pub shown_at : Stage → Option (Types × Spaces)
+shown_at (unparsed types) = None
+shown_at (in_module types spaces) = Some (types, spaces)
+shown_at (ended types) = None
+shown_at failed = None
+
+-- one step of a module that is being read
+abbrev pub within : (Types × Spaces → Option (Types × Spaces)) → Stage → Option Stage
+within f (unparsed types) = None
+within f (in_module types spaces) = option_and_then (λ p. Some (in_module p.0 p.1)) (f (types, spaces))
+within f (ended types) = None
+within f failed = None
+
+-- the same validator at another stage
+abbrev pub at_stage : Standing → Option Stage → Option Standing
+at_stage s next = option_and_then (λ g. Some (record s { stage = g })) next
+
+-- A call moves to where the machine moves; where it refuses the content so does the machine, and the
+-- validator is left at the stage that is given; a call that is refused memory fails the validator.
+abbrev pub Leaves : {T A : Type 0} → Result T (Error A) → Option Standing → Stage → Standing → Standing → Type 0
+Leaves (Ok x) next left old new = next ≡ Some new
+Leaves (Err (Refused r)) next left old new = (next ≡ None) × (new ≡ record old { stage = left })
+Leaves (Err (DuplicateExport name offset)) next left old new = (next ≡ None) × (new ≡ record old { stage = left })
+Leaves (Err OutOfMemory) next left old new = new ≡ record old { stage = failed }
+
+-- a section's call, which fails the validator where it is refused in a module, and elsewhere changes nothing
+abbrev pub Moves : {T A : Type 0} → Result T (Error A) → Option Standing → Standing → Standing → Type 0
+Moves result next old new = Leaves result next (refused_at old.stage) old new
+
+-- the same of a call that changes what it is given, where a refusal leaves nothing to say of it
+abbrev pub Adds : {T A S : Type 0} → Result T (Error A) → Option S → S → Type 0
+Adds (Ok x) next new = next ≡ Some new
+Adds (Err (Refused r)) next new = next ≡ None
+Adds (Err (DuplicateExport name offset)) next new = next ≡ None
+Adds (Err OutOfMemory) next new = ⊤
+
+-- what `end` leaves, but where memory is refused
+abbrev pub ended_at : Stage → Stage
+ended_at (unparsed types) = ended types
+ended_at (in_module types spaces) = ended types
+ended_at (ended types) = ended types
+ended_at failed = failed
+
+-- a module has ended
+abbrev pub IsEnded : Stage → Type 0
+IsEnded (unparsed types) = ⊥
+IsEnded (in_module types spaces) = ⊥
+IsEnded (ended types) = ⊤
+IsEnded failed = ⊥

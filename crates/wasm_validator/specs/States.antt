@@ -1,0 +1,117 @@
+-- What contracts see of a validator's own state, and its calls.
+use Rattle.std.specs.Prelude.{ℕ, ◌==◌, if◌then◌else◌, Bool, true, false, ◌&&◌, cond, List, map, Option, Some, None, ⊤}
+use Rattle.std.specs.Option.{option_and_then}
+use Rattle.wasm_readers_types.specs.SeenTypes.{sub_of}
+use Rattle.wasm_validator_types.specs.Spaces.{Spaces, no_spaces}
+use Rattle.std.specs.declared.result.Result.{Result}
+use Rattle.std.specs.declared.result.Result.TheVariants.{Ok, Err}
+use Rattle.wasm_validator.specs.declared.error.Error.{Error}
+use Rattle.wasm_parser.specs.declared.payload.Encoding.{Encoding}
+use Rattle.wasm_parser.specs.declared.payload.Encoding.TheVariants as encodings
+use Rattle.wasm_parser.specs.Framing as parts
+use Rattle.wasm_parser.specs.Framing.{Piece, Version, Custom, Counted, Start, DataCount, CodeStart, CodeEntry, Unknown}
+use Rattle.wasm_validator.specs.declared.validator.State.{State}
+use Rattle.wasm_validator.specs.declared.validator.State.TheVariants.{Unparsed, Module, End, Failed}
+use Rattle.wasm_validator.specs.declared.validator.Validator.TheInside.{Inside}
+use Rattle.wasm_validator.specs.Standing.{Types, Stage, unparsed, in_module, ended, failed, Standing, ended_at, refused_at, within, at_stage}
+use Rattle.wasm_validator.specs.Machine.{type_items, import_items, export_items, beside}
+
+module _ {A : Type 0} where
+  -- the module that is being read
+  abbrev pub open_of : State A → Option Spaces
+  open_of (Module spaces) = Some spaces
+  open_of Unparsed = None
+  open_of End = None
+  open_of Failed = None
+
+  abbrev pub stage_of : Types → State A → Stage
+  stage_of types Unparsed = unparsed types
+  stage_of types (Module spaces) = in_module types spaces
+  stage_of types End = ended types
+  stage_of types Failed = failed
+
+  -- what a section leaves: the module with what was added, or a failed validator
+  abbrev pub state_kept : {T : Type 0} → Result T (Error A) → Spaces → State A
+  state_kept (Ok x) spaces = Module spaces
+  state_kept (Err e) spaces = Failed
+
+  abbrev pub standing : Inside A → Standing
+  standing a = record { id = a.id; features = a.features; stage = stage_of (map sub_of a.types) a.state }
+
+-- the header is a module's
+abbrev pub is_module : Encoding → Bool
+is_module encodings.Module = true
+is_module encodings.Component = false
+
+-- the header of a module of version 1 begins a module
+abbrev pub begun : ℕ → Bool → Stage → Option Stage
+begun number is_module (unparsed types) = cond (number == 1 && is_module) (Some (in_module types no_spaces)) None
+begun number is_module (in_module types spaces) = None
+begun number is_module (ended types) = None
+begun number is_module failed = None
+
+abbrev pub after_version : Standing → ℕ → Bool → Option Standing
+after_version s number is_module = at_stage s (begun number is_module s.stage)
+
+abbrev pub after_types : Standing → ℕ → List ℕ → Option Standing
+after_types s count bytes = at_stage s (within (type_items s.features count bytes) s.stage)
+
+abbrev pub after_imports : Standing → ℕ → List ℕ → Option Standing
+after_imports s count bytes = at_stage s (within (import_items count bytes) s.stage)
+
+abbrev pub after_exports : Standing → ℕ → List ℕ → Option Standing
+after_exports s count bytes = at_stage s (within (beside (export_items count bytes)) s.stage)
+
+-- the end of a module
+abbrev pub closed : Stage → Option Stage
+closed (unparsed types) = None
+closed (in_module types spaces) = Some (ended types)
+closed (ended types) = None
+closed failed = None
+
+abbrev pub after_end : Standing → Option Standing
+after_end s = at_stage s (closed s.stage)
+
+-- a section by its id: types, imports and exports are served
+abbrev pub after_section : Standing → ℕ → ℕ → List ℕ → Option Standing
+after_section s id count bytes =
+    if id == 1 then after_types s count bytes
+    else (if id == 2 then after_imports s count bytes
+    else (if id == 7 then after_exports s count bytes
+    else None))
+
+-- a payload, without where it lies
+abbrev pub after_piece : Standing → Piece → Option Standing
+after_piece s (Version number kind) = after_version s number (kind == 0)
+after_piece s (Custom name bytes) = Some s
+after_piece s (Counted id count bytes) = after_section s id count bytes
+after_piece s (Start index) = None
+after_piece s (DataCount count) = None
+after_piece s (CodeStart count size) = None
+after_piece s (CodeEntry bytes) = None
+after_piece s (Unknown id bytes) = None
+after_piece s parts.End = after_end s
+
+-- what a refused payload leaves: the header, an unknown section and a body out of place change nothing
+abbrev pub left_by : Piece → Stage → Stage
+left_by (Version number kind) g = g
+left_by (Custom name bytes) g = g
+left_by (Counted id count bytes) g = refused_at g
+left_by (Start index) g = refused_at g
+left_by (DataCount count) g = refused_at g
+left_by (CodeStart count size) g = refused_at g
+left_by (CodeEntry bytes) g = g
+left_by (Unknown id bytes) g = g
+left_by parts.End g = ended_at g
+
+-- the piece is not the end
+abbrev pub IsBeforeEnd : Piece → Type 0
+IsBeforeEnd (Version number kind) = ⊤
+IsBeforeEnd (Custom name bytes) = ⊤
+IsBeforeEnd (Counted id count bytes) = ⊤
+IsBeforeEnd (Start index) = ⊤
+IsBeforeEnd (DataCount count) = ⊤
+IsBeforeEnd (CodeStart count size) = ⊤
+IsBeforeEnd (CodeEntry bytes) = ⊤
+IsBeforeEnd (Unknown id bytes) = ⊤
+IsBeforeEnd parts.End = ⊥

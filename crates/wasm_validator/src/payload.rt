@@ -1,0 +1,103 @@
+ghost use Rattle.std.specs.Prelude.{IfOk};
+ghost use Rattle.wasm_parser.specs.Seen.{seen};
+ghost use Rattle.wasm_validator.specs.Standing.{Leaves};
+ghost use Rattle.wasm_validator.specs.States.{after_piece, left_by, IsBeforeEnd};
+ghost use Rattle.wasm_validator.specs.Payloads.{ShowsModule};
+
+use crate::error::Error;
+use crate::validator::Validator;
+use std::alloc::{Allocator, Global};
+use wasm_parser::{Parser, Payload};
+use wasm_readers::{Fault, Malformed};
+use wasm_validator_types::{Types, ValidatorId};
+
+/// What a payload that is accepted gives.
+#[derive(Drop)]
+pub enum ValidPayload<A: Allocator = Global> {
+    /// Nothing more is to be done for it.
+    Ok,
+    /// The module has ended, and these are its types.
+    End(Types<A>),
+}
+
+impl<A: Allocator + Copy> Validator<A> {
+    /// Checks one payload of a module, as the parser gives it. The end gives the types.
+    pub fn payload<'a>(&mut self, payload: &Payload<'a, A>) -> Result<ValidPayload<A>, Error<A>>
+        ensures moves { Leaves result (after_piece self.old (seen payload.now)) (left_by (seen payload.now) self.old.stage) self.old self.new }
+        ensures shown { IfOk result (ShowsModule self.old (seen payload.now)) }
+    {
+        match payload {
+            Payload::End(offset) => match self.end(*offset) {
+                Ok(types) => Ok(ValidPayload::End(types)),
+                Err(error) => Err(error),
+            },
+            other => match self.section(other) {
+                Ok(()) => Ok(ValidPayload::Ok),
+                Err(error) => Err(error),
+            },
+        }
+    }
+
+    /// Checks a payload that is not the end.
+    fn section<'a>(&mut self, payload: &Payload<'a, A>) -> Result<(), Error<A>>
+        requires { IsBeforeEnd (seen payload.now) }
+        ensures { Leaves result (after_piece self.old (seen payload.now)) (left_by (seen payload.now) self.old.stage) self.old self.new }
+    {
+        match payload {
+            Payload::Version {
+                num,
+                encoding,
+                range,
+            } => self.version(*num, *encoding, range),
+            Payload::TypeSection(section) => self.type_section(section),
+            Payload::ImportSection(section) => self.import_section(section),
+            Payload::FunctionSection(section) => self.function_section(section),
+            Payload::TableSection(section) => self.table_section(section),
+            Payload::MemorySection(section) => self.memory_section(section),
+            Payload::TagSection(section) => self.tag_section(section),
+            Payload::GlobalSection(section) => self.global_section(section),
+            Payload::ExportSection(section) => self.export_section(section),
+            Payload::StartSection { func, range } => self.start_section(*func, range),
+            Payload::ElementSection(section) => self.element_section(section),
+            Payload::DataCountSection { count, range } => self.data_count_section(*count, range),
+            Payload::CodeSectionStart {
+                count: _,
+                range,
+                size: _,
+            } => self.code_section_start(range),
+            Payload::CodeSectionEntry(body) => self.code_section_entry(body),
+            Payload::DataSection(section) => self.data_section(section),
+            Payload::CustomSection(_) => Ok(()),
+            Payload::UnknownSection {
+                id,
+                contents: _,
+                range,
+            } => self.unknown_section(*id, range),
+            Payload::End(_) => unreachable!(),
+        }
+    }
+
+    /// Checks the module that these bytes are, and gives its types.
+    pub fn validate_all(&mut self, bytes: &[u8]) -> Result<Types<A>, Error<A>> {
+        let mut payloads = Parser::new(self.allocator(), 0).parse_all(bytes);
+        'payloads: while let Some(payload) = payloads.next_payload()? {
+            if let ValidPayload::End(types) = self.payload(&payload)? {
+                return Ok(types);
+            }
+        }
+        Err(Error::new(
+            Fault::Malformed(Malformed::UnexpectedEnd),
+            bytes.len() as u64,
+        ))
+    }
+}
+
+/// Checks with the default features the module that these bytes are, and gives its types. The id is
+/// that of the validator that does it.
+pub fn validate<A: Allocator + Copy>(
+    alloc: A,
+    bytes: &[u8],
+    id: ValidatorId,
+) -> Result<Types<A>, Error<A>> {
+    Validator::new(alloc, id).validate_all(bytes)
+}

@@ -1,0 +1,456 @@
+ghost use Rattle.std.specs.Prelude.{◌≡◌, IfOk, IfErr, IfSome, IsSome, IsErr, OnOk, OnErr, Some, None, true, map, ◌↔◌};
+ghost use Rattle.wasm_validator.specs.Errors.{IsContent};
+ghost use Rattle.wasm_readers.specs.SectionsSeen.{count_of, bytes_of};
+ghost use Rattle.wasm_readers_types.specs.SeenTypes.{sub_of};
+ghost use Rattle.wasm_validator_types.specs.Shown.{shown_of, shown_by};
+ghost use Rattle.wasm_validator.specs.Standing.{Leaves, Moves, ended_at, fresh, is_failed, may_reset, after_reset, shown_at};
+ghost use Rattle.wasm_validator.specs.States.{open_of, state_kept, is_module, after_version, after_types, after_imports, after_exports, after_end};
+
+use crate::error::Error;
+use crate::module::{add_exports, add_imports, add_types};
+use bitflags::Flags;
+use std::alloc::{AllocError, Allocator, Global};
+use std::marker::Model;
+use std::mem;
+use std::ops::Range;
+use std::rc::Rc;
+use wasm_parser::{Encoding, FunctionBody};
+use wasm_readers::{
+    Data, Element, Export, Fault, Global as GlobalItem, Import, MemoryType, OutOfOrder, RecGroup,
+    Refusal, Rule, SectionLimited, Table, TagType, Unserved, WasmFeatures,
+};
+use wasm_validator_types::{IndexSpaces, TypeList, Types, TypesRef, ValidatorId};
+
+/// What a validator is doing.
+#[derive(Drop)]
+pub enum State<A: Allocator> {
+    Unparsed,
+    Module(IndexSpaces<A>),
+    End,
+    Failed,
+}
+
+/// Checks modules, section by section, and keeps the types of all that it has seen.
+#[derive(Drop)]
+pub struct Validator<A: Allocator = Global> {
+    id: ValidatorId,
+    features: WasmFeatures,
+    types: TypeList<A>,
+    state: State<A>,
+    alloc: A,
+}
+
+impl<A: Allocator> Model for Validator<A> {
+    ghost use Rattle.wasm_validator.specs.Standing.{Standing};
+
+    ghost Value = { Standing };
+
+    ghost use Rattle.wasm_validator.specs.States.{standing};
+
+    ghost view = { standing };
+}
+
+/// Why a section may not come now, where it may not.
+fn out_of_order<A: Allocator>(state: &State<A>) -> OutOfOrder {
+    match state {
+        State::Unparsed => OutOfOrder::SectionBeforeHeader,
+        State::End => OutOfOrder::SectionAfterEnd,
+        State::Module(_) | State::Failed => OutOfOrder::SectionAfterFailure,
+    }
+}
+
+/// Why `end` may not come now, where it may not.
+fn end_out_of_order<A: Allocator>(state: &State<A>) -> OutOfOrder {
+    match state {
+        State::Unparsed => OutOfOrder::EndBeforeHeader,
+        State::End => OutOfOrder::EndAfterEnd,
+        State::Module(_) | State::Failed => OutOfOrder::SectionAfterFailure,
+    }
+}
+
+/// Takes the module out, where one is being read, and leaves `Failed` in its place.
+fn opened<A: Allocator>(state: &mut State<A>, offset: u64) -> Result<IndexSpaces<A>, Refusal>
+    ensures ok { IfOk result (λ m. open_of state.old ≡ Some m) }
+    ensures left { OnOk result (state.new ≡ State.Failed) }
+    ensures none { OnErr result (open_of state.old ≡ None) }
+    ensures unchanged { OnErr result (state.new ≡ state.old) }
+{
+    match mem::replace(state, State::Failed) {
+        State::Module(module) => Ok(module),
+        other => {
+            let order = out_of_order(&other);
+            *state = other;
+            Err(Refusal::new(Fault::OutOfOrder(order), offset))
+        }
+    }
+}
+
+/// Puts the module back where a section was added to it. Where one was refused, the validator has failed.
+fn kept<A: Allocator>(
+    state: &mut State<A>,
+    spaces: IndexSpaces<A>,
+    added: Result<(), Error<A>>,
+) -> Result<(), Error<A>>
+    requires { state.old ≡ State.Failed }
+    ensures same { result ≡ added }
+    ensures kept { state.new ≡ state_kept added spaces }
+{
+    match added {
+        Ok(()) => {
+            *state = State::Module(spaces);
+            Ok(())
+        }
+        Err(error) => Err(error),
+    }
+}
+
+/// The types of a module that has ended.
+fn finished<A: Allocator + Copy>(
+    id: ValidatorId,
+    alloc: A,
+    types: &mut TypeList<A>,
+    spaces: IndexSpaces<A>,
+) -> Result<Types<A>, AllocError>
+    ensures same { types.new ≡ types.old }
+    ensures shown { IfOk result (λ t. shown_of t ≡ record { id = id; list = types.old; spaces = spaces }) }
+{
+    let list = types.commit()?;
+    let spaces = Rc::new(alloc, spaces)?;
+    Ok(Types::new(id, list, spaces))
+}
+
+impl<A: Allocator + Copy> Validator<A> {
+    /// A validator with the default features that has seen no module.
+    pub fn new(alloc: A, id: ValidatorId) -> Validator<A>
+        ensures { result ≡ fresh id (record { 0 = 32703 }) }
+    {
+        Validator::new_with_features(alloc, WasmFeatures::default(), id)
+    }
+
+    /// A validator with these features that has seen no module.
+    pub fn new_with_features(alloc: A, features: WasmFeatures, id: ValidatorId) -> Validator<A>
+        ensures { result ≡ fresh id features }
+    {
+        Validator {
+            id,
+            features,
+            types: TypeList::new(alloc),
+            state: State::Unparsed,
+            alloc,
+        }
+    }
+
+    /// The features that modules may use.
+    pub fn features(&self) -> &WasmFeatures
+        ensures { result.now ≡ self.now.features }
+    {
+        &self.features
+    }
+
+    /// Where the validator takes memory from.
+    pub(crate) fn allocator(&self) -> A {
+        self.alloc
+    }
+
+    /// The number of this validator.
+    pub fn id(&self) -> ValidatorId
+        ensures { result ≡ self.now.id }
+    {
+        self.id
+    }
+
+    /// Whether a section was refused while a module was being read: then every further section and
+    /// `end` are refused.
+    pub fn has_failed(&self) -> bool
+        ensures { result ≡ is_failed self.now }
+    {
+        matches!(self.state, State::Failed)
+    }
+
+    /// Whether `reset` may be called: no module is being read, and none was refused by a section.
+    pub fn can_reset(&self) -> bool
+        ensures { result ≡ may_reset self.now }
+    {
+        matches!(self.state, State::Unparsed | State::End)
+    }
+
+    /// Makes ready for another module. Types, features and id stay.
+    pub fn reset(&mut self)
+        requires { may_reset self.old ≡ true }
+        ensures { self.new ≡ after_reset self.old }
+    {
+        self.state = State::Unparsed;
+    }
+
+    /// The types of the module that is being read: at level 0, and while one is.
+    pub fn types(&self, level: usize) -> Option<TypesRef<'_, A>>
+        ensures some { IsSome result ↔ (level ≡ 0) × IsSome (shown_at self.now.stage) }
+        ensures shown { IfSome result (λ t. shown_at self.now.stage ≡ Some (map sub_of (shown_by t).list, (shown_by t).spaces)) }
+        ensures id { IfSome result (λ t. (shown_by t).id ≡ self.now.id) }
+    {
+        if level != 0 {
+            return None;
+        }
+        match &self.state {
+            State::Module(module) => Some(TypesRef::new(self.id, &self.types, module)),
+            _ => None,
+        }
+    }
+
+    /// The header.
+    pub fn version(
+        &mut self,
+        number: u16,
+        encoding: Encoding,
+        range: &Range<u64>,
+    ) -> Result<(), Error<A>>
+        ensures moves { Leaves result (after_version self.old number (is_module encoding)) self.old.stage self.old self.new }
+        ensures content { IfErr result IsContent }
+    {
+        if !matches!(self.state, State::Unparsed) {
+            return Err(Error::Refused(Refusal::new(
+                Fault::OutOfOrder(OutOfOrder::Header),
+                range.start,
+            )));
+        }
+        match encoding {
+            Encoding::Module => {
+                if number != 1 {
+                    return Err(Error::Refused(Refusal::new(
+                        Fault::UnknownBinaryVersion(number),
+                        range.start,
+                    )));
+                }
+            }
+            Encoding::Component => {
+                if !self.features.contains(WasmFeatures::COMPONENT_MODEL) {
+                    let fault = Fault::ComponentHeader(number);
+                    return Err(Error::Refused(Refusal::missing(
+                        fault,
+                        range.start,
+                        WasmFeatures::COMPONENT_MODEL,
+                    )));
+                }
+                return Err(Error::Refused(Refusal::new(
+                    Fault::Rule(Rule::ComponentModelLeftOut),
+                    range.start,
+                )));
+            }
+        }
+        self.state = State::Module(IndexSpaces::new(self.alloc));
+        Ok(())
+    }
+
+    /// The types of a module.
+    pub fn type_section(
+        &mut self,
+        section: &SectionLimited<'_, RecGroup<A>, A>,
+    ) -> Result<(), Error<A>>
+        ensures { Moves result (after_types self.old (count_of section.now) (bytes_of section.now)) self.old self.new }
+    {
+        match opened(&mut self.state, section.range().start) {
+            Ok(mut module) => {
+                let added = add_types(self.features, &mut self.types, &mut module, section);
+                kept(&mut self.state, module, added)
+            }
+            Err(refusal) => Err(Error::Refused(refusal)),
+        }
+    }
+
+    /// The imports of a module.
+    pub fn import_section<'a>(
+        &mut self,
+        section: &SectionLimited<'a, Import<'a>, A>,
+    ) -> Result<(), Error<A>>
+        ensures { Moves result (after_imports self.old (count_of section.now) (bytes_of section.now)) self.old self.new }
+    {
+        match opened(&mut self.state, section.range().start) {
+            Ok(mut module) => {
+                let added = add_imports(&self.types, &mut module, section);
+                kept(&mut self.state, module, added)
+            }
+            Err(refusal) => Err(Error::Refused(refusal)),
+        }
+    }
+
+    /// The exports of a module.
+    pub fn export_section<'a>(
+        &mut self,
+        section: &SectionLimited<'a, Export<'a>, A>,
+    ) -> Result<(), Error<A>>
+        ensures { Moves result (after_exports self.old (count_of section.now) (bytes_of section.now)) self.old self.new }
+    {
+        match opened(&mut self.state, section.range().start) {
+            Ok(mut module) => {
+                let added = add_exports(self.alloc, &mut module, section);
+                kept(&mut self.state, module, added)
+            }
+            Err(refusal) => Err(Error::Refused(refusal)),
+        }
+    }
+
+    /// A section that isn't served yet: while a module is being read, it fails the validator.
+    fn unserved(&mut self, what: Unserved, offset: u64) -> Result<(), Error<A>>
+        ensures moves { Moves result None self.old self.new }
+        ensures refused { IsErr result }
+    {
+        match opened(&mut self.state, offset) {
+            Ok(_module) => Err(Error::Refused(Refusal::new(Fault::NotServed(what), offset))),
+            Err(refusal) => Err(Error::Refused(refusal)),
+        }
+    }
+
+    /// The functions of a module, by their type indices. Not served yet.
+    pub fn function_section(&mut self, section: &SectionLimited<'_, u32, A>) -> Result<(), Error<A>>
+        ensures moves { Moves result None self.old self.new }
+        ensures refused { IsErr result }
+    {
+        self.unserved(Unserved::FunctionSection, section.range().start)
+    }
+
+    /// The tables of a module. Not served yet.
+    pub fn table_section<'a>(
+        &mut self,
+        section: &SectionLimited<'a, Table<'a>, A>,
+    ) -> Result<(), Error<A>>
+        ensures moves { Moves result None self.old self.new }
+        ensures refused { IsErr result }
+    {
+        self.unserved(Unserved::TableSection, section.range().start)
+    }
+
+    /// The memories of a module. Not served yet.
+    pub fn memory_section(
+        &mut self,
+        section: &SectionLimited<'_, MemoryType, A>,
+    ) -> Result<(), Error<A>>
+        ensures moves { Moves result None self.old self.new }
+        ensures refused { IsErr result }
+    {
+        self.unserved(Unserved::MemorySection, section.range().start)
+    }
+
+    /// The tags of a module. Not served yet. Without the exceptions proposal it is refused for that
+    /// before anything else.
+    pub fn tag_section(&mut self, section: &SectionLimited<'_, TagType, A>) -> Result<(), Error<A>>
+        ensures moves { Moves result None self.old self.new }
+        ensures refused { IsErr result }
+    {
+        let offset = section.range().start;
+        if !self.features.contains(WasmFeatures::EXCEPTIONS) {
+            if matches!(self.state, State::Module(_)) {
+                self.state = State::Failed;
+            }
+            return Err(Error::Refused(Refusal::missing(
+                Fault::Rule(Rule::Exceptions),
+                offset,
+                WasmFeatures::EXCEPTIONS,
+            )));
+        }
+        self.unserved(Unserved::TagSection, offset)
+    }
+
+    /// The globals of a module. Not served yet.
+    pub fn global_section<'a>(
+        &mut self,
+        section: &SectionLimited<'a, GlobalItem<'a>, A>,
+    ) -> Result<(), Error<A>>
+        ensures moves { Moves result None self.old self.new }
+        ensures refused { IsErr result }
+    {
+        self.unserved(Unserved::GlobalSection, section.range().start)
+    }
+
+    /// The function that starts a module, by its index. Not served yet.
+    pub fn start_section(&mut self, _function: u32, range: &Range<u64>) -> Result<(), Error<A>>
+        ensures moves { Moves result None self.old self.new }
+        ensures refused { IsErr result }
+    {
+        self.unserved(Unserved::StartSection, range.start)
+    }
+
+    /// The element segments of a module. Not served yet.
+    pub fn element_section<'a>(
+        &mut self,
+        section: &SectionLimited<'a, Element<'a>, A>,
+    ) -> Result<(), Error<A>>
+        ensures moves { Moves result None self.old self.new }
+        ensures refused { IsErr result }
+    {
+        self.unserved(Unserved::ElementSection, section.range().start)
+    }
+
+    /// The number of data segments that the data section is to have. Not served yet.
+    pub fn data_count_section(&mut self, _count: u32, range: &Range<u64>) -> Result<(), Error<A>>
+        ensures moves { Moves result None self.old self.new }
+        ensures refused { IsErr result }
+    {
+        self.unserved(Unserved::DataCountSection, range.start)
+    }
+
+    /// The start of the code section. Not served yet.
+    pub fn code_section_start(&mut self, range: &Range<u64>) -> Result<(), Error<A>>
+        ensures moves { Moves result None self.old self.new }
+        ensures refused { IsErr result }
+    {
+        self.unserved(Unserved::CodeSection, range.start)
+    }
+
+    /// The body of a function. It is refused before the code section has started, which changes
+    /// nothing.
+    pub fn code_section_entry(&mut self, body: &FunctionBody<'_>) -> Result<(), Error<A>>
+        ensures moves { Leaves result None self.old.stage self.old self.new }
+        ensures content { IfErr result IsContent }
+        ensures refused { IsErr result }
+    {
+        let order = match &self.state {
+            State::Module(_) => OutOfOrder::CodeEntryBeforeCodeStart,
+            other => out_of_order(other),
+        };
+        Err(Error::Refused(Refusal::new(Fault::OutOfOrder(order), body.range().start)))
+    }
+
+    /// The data segments of a module. Not served yet.
+    pub fn data_section<'a>(
+        &mut self,
+        section: &SectionLimited<'a, Data<'a>, A>,
+    ) -> Result<(), Error<A>>
+        ensures moves { Moves result None self.old self.new }
+        ensures refused { IsErr result }
+    {
+        self.unserved(Unserved::DataSection, section.range().start)
+    }
+
+    /// A section of an id that the standard does not know, which is refused and changes nothing.
+    pub fn unknown_section(&mut self, id: u8, range: &Range<u64>) -> Result<(), Error<A>>
+        ensures moves { Leaves result None self.old.stage self.old self.new }
+        ensures content { IfErr result IsContent }
+        ensures refused { IsErr result }
+    {
+        Err(Error::Refused(Refusal::new(Fault::UnknownSection(id), range.start)))
+    }
+
+    /// The end of a module at this offset, with its types.
+    pub fn end(&mut self, offset: u64) -> Result<Types<A>, Error<A>>
+        ensures moves { Leaves result (after_end self.old) (ended_at self.old.stage) self.old self.new }
+        ensures shown { IfOk result (λ t. shown_at self.old.stage ≡ Some (map sub_of (shown_of t).list, (shown_of t).spaces)) }
+        ensures id { IfOk result (λ t. (shown_of t).id ≡ self.old.id) }
+    {
+        match opened(&mut self.state, offset) {
+            Ok(module) => match finished(self.id, self.alloc, &mut self.types, module) {
+                Ok(types) => {
+                    self.state = State::End;
+                    Ok(types)
+                }
+                Err(_) => Err(Error::OutOfMemory),
+            },
+            Err(_) => {
+                let order = end_out_of_order(&self.state);
+                if !matches!(self.state, State::Failed) {
+                    self.state = State::End;
+                }
+                Err(Error::Refused(Refusal::new(Fault::OutOfOrder(order), offset)))
+            }
+        }
+    }
+}

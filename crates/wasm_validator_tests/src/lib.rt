@@ -1,0 +1,35 @@
+//! Tests that cross crates: worked modules by the public calls of `wasm_validator`.
+#![tactic(auto)]
+
+#[cfg(test)]
+mod modules;
+#[cfg(test)]
+mod robustness;
+#[cfg(test)]
+mod states;
+
+use std::alloc::Allocator;
+use std::fmt::Write;
+use wasm_validator::{Error, Types, ValidatorId, validate};
+
+/// The message of a refusal, and nothing where the module is accepted.
+pub fn message_of<A: Allocator + Copy>(
+    alloc: A,
+    answer: &Result<Types<A>, Error<A>>,
+) -> Option<String<A>> {
+    match answer {
+        Ok(_) => None,
+        Err(error) => {
+            let mut text = String::new(alloc);
+            match write!(text, "{error}") {
+                Ok(()) => Some(text),
+                Err(_) => None,
+            }
+        }
+    }
+}
+
+/// What the default features say of these bytes.
+pub fn check<A: Allocator + Copy>(alloc: A, bytes: &[u8]) -> Result<Types<A>, Error<A>> {
+    validate(alloc, bytes, ValidatorId::from_number(0))
+}

@@ -1,0 +1,118 @@
+//! The calls of a validator in its states.
+
+use std::alloc::Global;
+use std::fmt::Write;
+use std::test::Fail;
+use wasm_validator::{BinaryReader, Encoding, Error, SectionLimited, Validator, ValidatorId};
+
+/// Whether the answer is a refusal with this message.
+fn says<T>(alloc: Global, answer: &Result<T, Error>, message: &str) -> bool {
+    let Err(error) = answer else {
+        return false;
+    };
+    let mut text = String::new(alloc);
+    match write!(text, "{error}") {
+        Ok(()) => text.as_str() == message,
+        Err(_) => false,
+    }
+}
+
+#[test]
+fn calls_in_their_order(rt: HostRuntime) -> Result<(), Fail> {
+    let alloc = rt.alloc();
+    let mut validator = Validator::new(alloc, ValidatorId::from_number(0));
+    let range = 0..8;
+    let types = SectionLimited::new(alloc, BinaryReader::new(b"\0", 0))
+        .ok()
+        .ok_or("no section")?;
+    let early = says(
+        alloc,
+        &validator.type_section(&types),
+        "unexpected section before header was parsed",
+    );
+    assert!(rt; early);
+    let no_header = says(
+        alloc,
+        &validator.end(0),
+        "cannot call `end` before a header has been parsed",
+    );
+    assert!(rt; no_header);
+    let again = says(
+        alloc,
+        &validator.end(0),
+        "cannot call `end` after parsing has completed",
+    );
+    assert!(rt; again);
+    let late = says(
+        alloc,
+        &validator.version(1, Encoding::Module, &range),
+        "wasm version header out of order",
+    );
+    assert!(rt; late);
+    assert!(rt; validator.can_reset());
+    validator.reset();
+    let begun = validator.version(1, Encoding::Module, &range).is_ok();
+    assert!(rt; begun);
+    let unknown = validator.unknown_section(42, &(7..9));
+    let unknown_offset = match &unknown {
+        Ok(()) => 0,
+        Err(error) => error.offset(),
+    };
+    assert_eq!(rt; unknown_offset, 7);
+    let unknown_text = says(alloc, &unknown, "malformed section id: 42");
+    assert!(rt; unknown_text);
+    Ok(())
+}
+
+#[test]
+fn a_refused_section_fails_the_validator(rt: HostRuntime) -> Result<(), Fail> {
+    let alloc = rt.alloc();
+    let mut validator = Validator::new(alloc, ValidatorId::from_number(0));
+    let refused = validator
+        .validate_all(b"\0asm\x01\0\0\0\x07\x05\x01\x01a\0\0")
+        .is_err();
+    assert!(rt; refused);
+    assert!(rt; validator.has_failed());
+    let can_reset = validator.can_reset();
+    assert!(rt; !can_reset);
+    let end = says(
+        alloc,
+        &validator.end(0),
+        "validator failed: an earlier section was refused",
+    );
+    assert!(rt; end);
+    let shows = validator.types(0).is_some();
+    assert!(rt; !shows);
+    Ok(())
+}
+
+#[test]
+fn a_refused_header_leaves_the_validator_unparsed(rt: HostRuntime) {
+    let alloc = rt.alloc();
+    let mut validator = Validator::new(alloc, ValidatorId::from_number(0));
+    let refused = validator.validate_all(b"\0asm\x02\0\0\0").is_err();
+    assert!(rt; refused);
+    assert!(rt; validator.can_reset());
+    let failed = validator.has_failed();
+    assert!(rt; !failed);
+    let component = validator.validate_all(b"\0asm\x0d\0\x01\0").is_err();
+    assert!(rt; component);
+    assert!(rt; validator.can_reset());
+}
+
+#[test]
+fn types_are_shown_while_a_module_is_read(rt: HostRuntime) -> Result<(), Fail> {
+    let alloc = rt.alloc();
+    let mut validator = Validator::new(alloc, ValidatorId::from_number(0));
+    let none = validator.types(0).is_none();
+    assert!(rt; none);
+    validator.version(1, Encoding::Module, &(0..8))?;
+    let count = match validator.types(0) {
+        Some(types) => types.core_type_count_in_module(),
+        None => 7,
+    };
+    assert_eq!(rt; count, 0);
+    let deeper = validator.types(1).is_none();
+    assert!(rt; deeper);
+    Ok(())
+}
