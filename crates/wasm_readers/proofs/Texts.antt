@@ -31,8 +31,8 @@ same_tests false false f g = refl
 pub past_is_empty : (k : ℕ) (xs : List ℕ) → leb (length xs) k ≡ eqb (length (drop k xs)) 0
 past_is_empty k xs =
     same_tests (leb (length xs) k) (eqb (length (drop k xs)) 0)
-        (λ t. let le : length xs ≤ k = leb-true _ _ t in let e : length (drop k xs) ≡ 0 = omega (arith, length-drop k xs) in rw e refl)
-        (λ t. le-leb _ _ (omega (arith, length-drop k xs, eqb-true _ _ t)))
+    (λ t. let le : length xs ≤ k = leb-true _ _ t in let e : length (drop k xs) ≡ 0 = omega (arith, length-drop k xs) in rw e refl)
+    (λ t. le-leb _ _ (omega (arith, length-drop k xs, eqb-true _ _ t)))
 
 pub drop_take : (i n : ℕ) (xs : List ℕ) → drop i (take (i + n) xs) ≡ take n (drop i xs)
 drop_take i n xs = drop-take i n xs

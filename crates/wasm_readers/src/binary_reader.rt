@@ -1,9 +1,9 @@
 ghost use Rattle.std.specs.Prelude.{◌≡◌, ◌==◌, ◌≤◌, ◌<◌, ◌^◌, ◌-◌, ◌+◌, IfOk, OnOk, OnErr, length, take, drop, slice_range, [], ◌∷◌, ◌++◌, Some, None};
 ghost use Rattle.wasm_spec.specs.Values.{byte_at, u32_at, u64_at, s33_index_at, bytes_at, sized_at, name_at};
 
-use wasm_readers_errors::{Fault, Malformed, Refusal};
 use crate::leb128::signed_at;
 use std::ops::Range;
+use wasm_readers_errors::{Fault, Malformed, Refusal};
 
 /// Bytes that are read from their front.
 #[derive(Clone, Copy, Debug)]
@@ -25,7 +25,11 @@ impl<'a> BinaryReader<'a> {
         ensures rest { rest result ≡ buffer.now }
         ensures position { original result ≡ original_offset }
     {
-        BinaryReader { buffer, position: 0, original_offset }
+        BinaryReader {
+            buffer,
+            position: 0,
+            original_offset,
+        }
     }
 
     /// The offset in the whole input of the next byte.
@@ -110,7 +114,11 @@ impl<'a> BinaryReader<'a> {
         if fifth < 16 {
             Ok(low + (u32::from(fifth) << 28))
         } else {
-            Err(self.refusal(if fifth < 128 { Malformed::IntegerTooLarge } else { Malformed::IntegerTooLong }))
+            Err(self.refusal(if fifth < 128 {
+                Malformed::IntegerTooLarge
+            } else {
+                Malformed::IntegerTooLong
+            }))
         }
     }
 
@@ -171,7 +179,11 @@ impl<'a> BinaryReader<'a> {
         if tenth < 2 {
             Ok(low + (u64::from(tenth) << 63))
         } else {
-            Err(self.refusal(if tenth < 128 { Malformed::IntegerTooLarge } else { Malformed::IntegerTooLong }))
+            Err(self.refusal(if tenth < 128 {
+                Malformed::IntegerTooLarge
+            } else {
+                Malformed::IntegerTooLong
+            }))
         }
     }
 
@@ -210,7 +222,11 @@ impl<'a> BinaryReader<'a> {
         let original_offset = self.original_position();
         let start = self.position;
         self.position += size;
-        Ok(BinaryReader { buffer: &self.buffer[start..start + size], position: 0, original_offset })
+        Ok(BinaryReader {
+            buffer: &self.buffer[start..start + size],
+            position: 0,
+            original_offset,
+        })
     }
 
     /// A size, and that many bytes, as a reader of their own.

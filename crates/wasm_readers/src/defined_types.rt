@@ -11,12 +11,13 @@ ghost use Rattle.std.specs.Option.{option_map};
 ghost use Rattle.wasm_readers_types.specs.SeenValues.{index_of, field_of};
 
 use crate::binary_reader::BinaryReader;
-use wasm_readers_errors::{Error, Fault, Malformed, Refusal};
 use crate::lists::read_list;
 use crate::section_limited::FromReader;
 use std::alloc::Allocator;
+use wasm_readers_errors::{Error, Fault, Malformed, Refusal};
 use wasm_readers_types::{
-    ArrayType, CompositeInnerType, CompositeType, ContType, FieldType, FuncType, Items, PackedIndex, RecGroup, StructType, SubType, ValType,
+    ArrayType, CompositeInnerType, CompositeType, ContType, FieldType, FuncType, Items,
+    PackedIndex, RecGroup, StructType, SubType, ValType,
 };
 
 impl<'a> BinaryReader<'a> {
@@ -85,7 +86,10 @@ impl<'a, A: Allocator> FromReader<'a, A> for PackedIndex {
 
 /// A function type, behind its byte.
 #[tactic(auto, unfolding(wasm_spec::specs::BinaryTypes::func_at))]
-fn read_func_type<'a, A: Allocator + Copy>(alloc: A, reader: &mut BinaryReader<'a>) -> Result<FuncType<A>, Error>
+fn read_func_type<'a, A: Allocator + Copy>(
+    alloc: A,
+    reader: &mut BinaryReader<'a>,
+) -> Result<FuncType<A>, Error>
     ensures same { input reader.new ≡ input reader.old }
     ensures onward { position_in reader.old ≤ position_in reader.new }
     ensures reads { Reads func_of result (func_at written (rest reader.old)) (rest reader.new) }
@@ -96,18 +100,26 @@ fn read_func_type<'a, A: Allocator + Copy>(alloc: A, reader: &mut BinaryReader<'
 }
 
 /// A structure type, behind its byte.
-fn read_struct_type<'a, A: Allocator + Copy>(alloc: A, reader: &mut BinaryReader<'a>) -> Result<StructType<A>, Error>
+fn read_struct_type<'a, A: Allocator + Copy>(
+    alloc: A,
+    reader: &mut BinaryReader<'a>,
+) -> Result<StructType<A>, Error>
     ensures same { input reader.new ≡ input reader.old }
     ensures onward { position_in reader.old ≤ position_in reader.new }
     ensures reads { Reads (λ s. map field_of s.fields) result (list_at (field_at written) (rest reader.old)) (rest reader.new) }
 {
     let fields: Vec<FieldType, A> = read_list(alloc, reader)?;
-    Ok(StructType { fields: Items::from_vec(fields) })
+    Ok(StructType {
+        fields: Items::from_vec(fields),
+    })
 }
 
 /// A composite type without what stands before it.
 #[tactic(auto, unfolding(wasm_spec::specs::BinaryTypes::comp_at))]
-fn read_composite_inner_type<'a, A: Allocator + Copy>(alloc: A, reader: &mut BinaryReader<'a>) -> Result<CompositeInnerType<A>, Error>
+fn read_composite_inner_type<'a, A: Allocator + Copy>(
+    alloc: A,
+    reader: &mut BinaryReader<'a>,
+) -> Result<CompositeInnerType<A>, Error>
     ensures same { input reader.new ≡ input reader.old }
     ensures onward { position_in reader.old ≤ position_in reader.new }
     ensures reads { Reads comp_of result (comp_at written (rest reader.old)) (rest reader.new) }
@@ -141,7 +153,12 @@ fn read_final_or_not<'a, A: Allocator + Copy>(
     Ok(SubType {
         is_final,
         supertype_idxs: Items::from_vec(supertypes),
-        composite_type: CompositeType { inner, shared, descriptor_idx, describes_idx },
+        composite_type: CompositeType {
+            inner,
+            shared,
+            descriptor_idx,
+            describes_idx,
+        },
     })
 }
 

@@ -9,11 +9,13 @@ ghost use Rattle.wasm_readers.specs.Limits.{limits_of};
 ghost use Rattle.wasm_readers_types.specs.SeenExterns.{table_of, memory_of, global_of, extern_of, kind_of};
 
 use crate::binary_reader::BinaryReader;
-use wasm_readers_errors::{Error, Fault, Malformed, Refusal};
 use crate::items::{Export, Import};
 use crate::section_limited::FromReader;
 use std::alloc::Allocator;
-use wasm_readers_types::{ExternalKind, GlobalType, MemoryType, TableType, TagKind, TagType, TypeRef};
+use wasm_readers_errors::{Error, Fault, Malformed, Refusal};
+use wasm_readers_types::{
+    ExternalKind, GlobalType, MemoryType, TableType, TagKind, TagType, TypeRef,
+};
 
 /// Flags, a minimum and a maximum.
 #[derive(Clone, Copy)]
@@ -47,7 +49,11 @@ impl<'a> BinaryReader<'a> {
         ensures ok { IfOk result (λ x. number_if there (rest self.old) ≡ Some (x, rest self.new)) }
         ensures err { OnErr result (number_if there (rest self.old) ≡ None) }
     {
-        if there { Ok(Some(self.read_var_u64()?)) } else { Ok(None) }
+        if there {
+            Ok(Some(self.read_var_u64()?))
+        } else {
+            Ok(None)
+        }
     }
 
     /// The logarithm of a page size, where there is one.
@@ -57,7 +63,11 @@ impl<'a> BinaryReader<'a> {
         ensures ok { IfOk result (λ x. page_size_if there (rest self.old) ≡ Some (x, rest self.new)) }
         ensures err { OnErr result (page_size_if there (rest self.old) ≡ None) }
     {
-        if there { Ok(Some(self.read_var_u32()?)) } else { Ok(None) }
+        if there {
+            Ok(Some(self.read_var_u32()?))
+        } else {
+            Ok(None)
+        }
     }
 
     /// Flags that are at most these, with a minimum, and a maximum where the flags have one.
@@ -71,7 +81,11 @@ impl<'a> BinaryReader<'a> {
         let flags = self.read_flags(most, Malformed::LimitsFlags)?;
         let minimum = self.read_var_u64()?;
         let maximum = self.read_number_if(flags & 1 != 0)?;
-        Ok(Limits { flags, minimum, maximum })
+        Ok(Limits {
+            flags,
+            minimum,
+            maximum,
+        })
     }
 
     /// A table type.
@@ -122,7 +136,11 @@ impl<'a> BinaryReader<'a> {
     {
         let content_type = self.read_val_type()?;
         let flags = self.read_flags(3, Malformed::GlobalFlags)?;
-        Ok(GlobalType { content_type, mutable: flags & 1 != 0, shared: flags & 2 != 0 })
+        Ok(GlobalType {
+            content_type,
+            mutable: flags & 1 != 0,
+            shared: flags & 2 != 0,
+        })
     }
 
     /// A tag type.
@@ -135,7 +153,10 @@ impl<'a> BinaryReader<'a> {
     {
         self.read_flags(0, Malformed::TagAttribute)?;
         let func_type_idx = self.read_var_u32()?;
-        Ok(TagType { kind: TagKind::Exception, func_type_idx })
+        Ok(TagType {
+            kind: TagKind::Exception,
+            func_type_idx,
+        })
     }
 
     /// What an import is: its kind, and its type or type index.

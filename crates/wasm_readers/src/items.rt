@@ -60,7 +60,10 @@ pub struct Table<'a> {
 pub enum ElementKind<'a> {
     Passive,
     /// Written into a table at the start; without an index, into table 0.
-    Active { table_index: Option<u32>, offset_expr: ConstExpr<'a> },
+    Active {
+        table_index: Option<u32>,
+        offset_expr: ConstExpr<'a>,
+    },
     Declared,
 }
 
@@ -84,7 +87,10 @@ pub struct Element<'a> {
 pub enum DataKind<'a> {
     Passive,
     /// Written into a memory at the start.
-    Active { memory_index: u32, offset_expr: ConstExpr<'a> },
+    Active {
+        memory_index: u32,
+        offset_expr: ConstExpr<'a>,
+    },
 }
 
 /// A data segment.

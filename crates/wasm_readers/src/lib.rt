@@ -11,11 +11,18 @@ pub mod section_limited;
 pub mod types;
 
 pub use binary_reader::BinaryReader;
-pub use wasm_readers_errors::{Counted, Error, Fault, ItemKind, Malformed, OutOfOrder, Refusal, Rule, Unserved, WasmFeatures};
-pub use items::{ConstExpr, Data, DataKind, Element, ElementItems, ElementKind, Export, Global, Import, Table, TableInit};
+pub use items::{
+    ConstExpr, Data, DataKind, Element, ElementItems, ElementKind, Export, Global, Import, Table,
+    TableInit,
+};
 pub use lists::read_list;
 pub use section_limited::{FromReader, SectionItems, SectionLimited};
+pub use wasm_readers_errors::{
+    Counted, Error, Fault, ItemKind, Malformed, OutOfOrder, Refusal, Rule, Unserved, WasmFeatures,
+};
 pub use wasm_readers_types::{
-    AbstractHeapType, ArrayType, CompositeInnerType, CompositeType, ContType, CoreTypeId, ExternalKind, FieldType, FuncType, GlobalType, HeapType, Items,
-    MAX_IDS, MemoryType, PackedIndex, RecGroup, RefType, StorageType, StructType, SubType, TableType, TagKind, TagType, TypeRef, UnpackedIndex, ValType,
+    AbstractHeapType, ArrayType, CompositeInnerType, CompositeType, ContType, CoreTypeId,
+    ExternalKind, FieldType, FuncType, GlobalType, HeapType, Items, MAX_IDS, MemoryType,
+    PackedIndex, RecGroup, RefType, StorageType, StructType, SubType, TableType, TagKind, TagType,
+    TypeRef, UnpackedIndex, ValType,
 };

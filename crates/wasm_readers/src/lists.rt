@@ -6,12 +6,15 @@ ghost use Rattle.wasm_readers.specs.Reader.{input, position_in, rest};
 ghost use Rattle.wasm_readers_errors.specs.Errors.{Reads};
 
 use crate::binary_reader::BinaryReader;
-use wasm_readers_errors::Error;
 use crate::section_limited::FromReader;
 use std::alloc::Allocator;
+use wasm_readers_errors::Error;
 
 /// A list: a count, and that many items.
-pub fn read_list<'a, T: FromReader<'a, A>, A: Allocator + Copy>(alloc: A, reader: &mut BinaryReader<'a>) -> Result<Vec<T, A>, Error>
+pub fn read_list<'a, T: FromReader<'a, A>, A: Allocator + Copy>(
+    alloc: A,
+    reader: &mut BinaryReader<'a>,
+) -> Result<Vec<T, A>, Error>
     ensures same { input reader.new ≡ input reader.old }
     ensures onward { position_in reader.old ≤ position_in reader.new }
     ensures reads { Reads (λ v. map T.value v.items) result (list_at T.encoded (rest reader.old)) (rest reader.new) }
@@ -21,7 +24,11 @@ pub fn read_list<'a, T: FromReader<'a, A>, A: Allocator + Copy>(alloc: A, reader
 }
 
 /// So many items, one after another.
-fn read_many<'a, T: FromReader<'a, A>, A: Allocator + Copy>(alloc: A, count: u32, reader: &mut BinaryReader<'a>) -> Result<Vec<T, A>, Error>
+fn read_many<'a, T: FromReader<'a, A>, A: Allocator + Copy>(
+    alloc: A,
+    count: u32,
+    reader: &mut BinaryReader<'a>,
+) -> Result<Vec<T, A>, Error>
     ensures same { input reader.new ≡ input reader.old }
     ensures onward { position_in reader.old ≤ position_in reader.new }
     ensures reads { Reads (λ v. map T.value v.items) result (many_at T.encoded count (rest reader.old)) (rest reader.new) }

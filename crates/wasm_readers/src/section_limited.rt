@@ -6,10 +6,10 @@ ghost use Rattle.wasm_readers_errors.specs.Errors.{Reads};
 ghost use Rattle.wasm_readers.specs.Sections.{next_item, NextItem};
 
 use crate::binary_reader::BinaryReader;
-use wasm_readers_errors::{Error, Fault, Malformed, Refusal};
 use std::alloc::{Allocator, Global};
 use std::marker::PhantomData;
 use std::ops::Range;
+use wasm_readers_errors::{Error, Fault, Malformed, Refusal};
 
 /// A type whose values are items of the binary format.
 pub trait FromReader<'a, A: Allocator>: Sized + Drop {
@@ -59,7 +59,12 @@ impl<'a, T, A: Allocator + Copy> SectionLimited<'a, T, A> {
     {
         let mut reader = reader;
         let count = reader.read_var_u32()?;
-        Ok(SectionLimited { reader, count, alloc, of: PhantomData })
+        Ok(SectionLimited {
+            reader,
+            count,
+            alloc,
+            of: PhantomData,
+        })
     }
 
     /// The number of items that the section says it has.
@@ -84,7 +89,13 @@ impl<'a, T, A: Allocator + Copy> SectionLimited<'a, T, A> {
         ensures left { items_left result ≡ count_of self.now }
         ensures rest { items_rest result ≡ bytes_of self.now }
     {
-        SectionItems { reader: self.reader, left: self.count, done: false, alloc: self.alloc, of: PhantomData }
+        SectionItems {
+            reader: self.reader,
+            left: self.count,
+            done: false,
+            alloc: self.alloc,
+            of: PhantomData,
+        }
     }
 }
 
@@ -112,7 +123,10 @@ impl<'a, T: FromReader<'a, A>, A: Allocator + Copy> SectionItems<'a, T, A> {
             if self.reader.is_empty() {
                 return Ok(None);
             }
-            return Err(Error::Refused(Refusal::new(Fault::Malformed(Malformed::SectionSize), offset)));
+            return Err(Error::Refused(Refusal::new(
+                Fault::Malformed(Malformed::SectionSize),
+                offset,
+            )));
         }
         let item = T::from_reader(self.alloc, &mut self.reader)?;
         self.left -= 1;

@@ -12,10 +12,12 @@ ghost use Rattle.wasm_readers.specs.Written.{written};
 ghost use Rattle.wasm_readers_types.specs.SeenValues.{abstract_heap_of, heap_of, HeapFits, ref_of, val_of, storage_of, field_of};
 
 use crate::binary_reader::BinaryReader;
-use wasm_readers_errors::{Error, Fault, Malformed, Refusal};
 use crate::section_limited::FromReader;
 use std::alloc::Allocator;
-use wasm_readers_types::{AbstractHeapType, FieldType, HeapType, RefType, StorageType, UnpackedIndex, ValType};
+use wasm_readers_errors::{Error, Fault, Malformed, Refusal};
+use wasm_readers_types::{
+    AbstractHeapType, FieldType, HeapType, RefType, StorageType, UnpackedIndex, ValType,
+};
 
 /// The abstract heap type of this byte, if it is one.
 fn abstract_heap_type(byte: u8) -> Option<AbstractHeapType>
@@ -81,7 +83,10 @@ impl<'a> BinaryReader<'a> {
         let start = *self;
         match self.read_u8()? {
             0x62 => Ok(HeapType::Exact(UnpackedIndex::Module(self.read_var_u32()?))),
-            0x65 => Ok(HeapType::Abstract { shared: true, ty: self.read_abstract_heap_type()? }),
+            0x65 => Ok(HeapType::Abstract {
+                shared: true,
+                ty: self.read_abstract_heap_type()?,
+            }),
             byte => match abstract_heap_type(byte) {
                 Some(ty) => Ok(HeapType::Abstract { shared: false, ty }),
                 None => {
@@ -182,7 +187,10 @@ impl<'a> BinaryReader<'a> {
     {
         let element_type = self.read_storage_type()?;
         let mutable = self.read_flag()?;
-        Ok(FieldType { element_type, mutable })
+        Ok(FieldType {
+            element_type,
+            mutable,
+        })
     }
 
     /// A flag: a byte that is 0 or 1.

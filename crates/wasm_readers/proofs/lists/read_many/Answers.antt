@@ -10,5 +10,5 @@ items-preserved g c =
     record {
       same = search rules;
       onward = omega arith;
-      so_far = ap (λ xs. with_front (map g.T.FromReader.value xs) (many_at g.T.FromReader.encoded (c.items.left - 1) (rest c.from_reader.new.reader))) c.in_ok-push.ensures.items ∙ more ∙ c.items.invariant.so_far
+      so_far = ap (λ xs. with_front (map g.T.FromReader.value xs) (many_at g.T.FromReader.encoded (c.items.left - 1) (rest c.from_reader.new.reader))) c.in_ok-push.ensures.items ∙ more ∙ c.items.invariant.so_far;
     }

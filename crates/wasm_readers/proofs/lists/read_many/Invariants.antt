@@ -8,7 +8,7 @@ abbrev pub invariant-items : goal.invariant-items
 invariant-items g l = record {
   same : input l.reader ≡ input l.fn.reader;
   onward : position_in l.fn.reader ≤ position_in l.reader;
-  so_far : with_front (map g.T.FromReader.value l.items.items) (many_at g.T.FromReader.encoded l.left (rest l.reader)) ≡ many_at g.T.FromReader.encoded l.fn.count (rest l.fn.reader)
+  so_far : with_front (map g.T.FromReader.value l.items.items) (many_at g.T.FromReader.encoded l.left (rest l.reader)) ≡ many_at g.T.FromReader.encoded l.fn.count (rest l.fn.reader);
 }
 
 abbrev pub decreases-items : goal.decreases-items
