@@ -1,15 +1,66 @@
 -- What a payload that is accepted gives.
-use Rattle.std.specs.Prelude.{ℕ, ◌≡◌, map, Some}
+use Rattle.std.specs.Prelude.{ℕ, ◌≡◌, ◌++◌, List, [], ◌∷◌, map, Option, Some, None, ⊤}
+use Rattle.std.specs.Option.{option_and_then}
+use Rattle.std.specs.declared.result.Result.{Result}
+use Rattle.std.specs.declared.result.Result.TheVariants as results
 use Rattle.wasm_parser.specs.Framing as parts
-use Rattle.wasm_parser.specs.Framing.{Piece}
+use Rattle.wasm_parser.specs.Framing.{Piece, IsFramed}
 use Rattle.wasm_readers_types.specs.SeenTypes.{sub_of}
 use Rattle.wasm_validator_types.specs.Shown.{shown_of}
+use Rattle.wasm_validator_types.specs.declared.shown.Types.{Types}
+use Rattle.wasm_validator.specs.declared.error.Error.{Error}
+use Rattle.wasm_validator.specs.declared.error.Error.TheVariants.{Refused, DuplicateExport, OutOfMemory}
 use Rattle.wasm_validator.specs.declared.payload.ValidPayload.{ValidPayload}
 use Rattle.wasm_validator.specs.declared.payload.ValidPayload.TheVariants.{Ok, End}
 use Rattle.wasm_validator.specs.Standing.{Standing, shown_at}
-use Rattle.wasm_validator.specs.States.{IsBeforeEnd}
+use Rattle.wasm_validator.specs.States.{IsBeforeEnd, after_piece}
+
+-- the types show what the validator held
+abbrev pub Show : {A : Type 0} → Standing → Types A → Type 0
+Show s t = (shown_at s.stage ≡ Some (map sub_of (shown_of t).list, (shown_of t).spaces)) × ((shown_of t).id ≡ s.id)
 
 -- the end gives the types of the module that was being read, and any other payload gives nothing
 abbrev pub ShowsModule : {A : Type 0} → Standing → Piece → ValidPayload A → Type 0
 ShowsModule s p Ok = IsBeforeEnd p
-ShowsModule s p (End t) = (p ≡ parts.End) × (shown_at s.stage ≡ Some (map sub_of (shown_of t).list, (shown_of t).spaces)) × ((shown_of t).id ≡ s.id)
+ShowsModule s p (End t) = (p ≡ parts.End) × Show s t
+
+-- the types of the module that has ended last
+abbrev pub latest_of : {A : Type 0} → Option (Types A) → ValidPayload A → Option (Types A)
+latest_of before Ok = before
+latest_of before (End t) = Some t
+
+-- one payload after another
+abbrev pub after_all : Standing → List Piece → Option Standing
+after_all s [] = Some s
+after_all s (p ∷ ps) = option_and_then (λ t. after_all t ps) (after_piece s p)
+
+-- The bytes are framed as these pieces, each is accepted after those before it, and the types show what
+-- the validator held before the end.
+pub record Accepts {A : Type 0} (bytes : List ℕ) (old new : Standing) (t : Types A) : Type 0 where
+  pub pieces : List Piece
+  pub framed : IsFramed bytes pieces
+  pub accepted : after_all old pieces ≡ Some new
+  pub front : List Piece
+  pub behind : List Piece
+  pub split : pieces ≡ front ++ parts.End ∷ behind
+  pub before_end : Standing
+  pub reached : after_all old front ≡ Some before_end
+  pub shown : Show before_end t
+
+-- the bytes have no framing whose pieces are all accepted
+abbrev pub Rejects : List ℕ → Standing → Type 0
+Rejects bytes old = (pieces : List Piece) → IsFramed bytes pieces → after_all old pieces ≡ None
+
+-- what the answer on whole bytes says
+abbrev pub Validates : {A : Type 0} → Result (Types A) (Error A) → List ℕ → Standing → Standing → Type 0
+Validates (results.Ok t) bytes old new = Accepts bytes old new t
+Validates (results.Err (Refused r)) bytes old new = Rejects bytes old
+Validates (results.Err (DuplicateExport name offset)) bytes old new = Rejects bytes old
+Validates (results.Err OutOfMemory) bytes old new = ⊤
+
+-- the same of a validator that is made for these bytes
+abbrev pub ValidatesAnew : {A : Type 0} → Result (Types A) (Error A) → List ℕ → Standing → Type 0
+ValidatesAnew (results.Ok t) bytes old = (new : Standing) × Accepts bytes old new t
+ValidatesAnew (results.Err (Refused r)) bytes old = Rejects bytes old
+ValidatesAnew (results.Err (DuplicateExport name offset)) bytes old = Rejects bytes old
+ValidatesAnew (results.Err OutOfMemory) bytes old = ⊤

@@ -12,6 +12,7 @@ pub use payload::{ValidPayload, validate};
 pub use validator::Validator;
 pub use wasm_parser::{Encoding, FunctionBody, Parser, Payload};
 pub use wasm_readers::{BinaryReader, SectionLimited, WasmFeatures};
+pub use wasm_validator_core::MaybeOwned;
 pub use wasm_validator_types::{
     CoreExports, CoreImports, EntityType, SnapshotList, TypeList, Types, TypesRef, ValidatorId,
 };

@@ -1,14 +1,13 @@
-ghost use Rattle.std.specs.Prelude.{IfOk};
+ghost use Rattle.std.specs.Prelude.{◌≡◌, IfOk};
 ghost use Rattle.wasm_parser.specs.Seen.{seen};
-ghost use Rattle.wasm_validator.specs.Standing.{Leaves};
+ghost use Rattle.wasm_validator.specs.Standing.{Leaves, fresh};
 ghost use Rattle.wasm_validator.specs.States.{after_piece, left_by, IsBeforeEnd};
-ghost use Rattle.wasm_validator.specs.Payloads.{ShowsModule};
+ghost use Rattle.wasm_validator.specs.Payloads.{ShowsModule, latest_of, Validates, ValidatesAnew};
 
 use crate::error::Error;
 use crate::validator::Validator;
 use std::alloc::{Allocator, Global};
 use wasm_parser::{Parser, Payload};
-use wasm_readers::{Fault, Malformed};
 use wasm_validator_types::{Types, ValidatorId};
 
 /// What a payload that is accepted gives.
@@ -77,18 +76,37 @@ impl<A: Allocator + Copy> Validator<A> {
         }
     }
 
-    /// Checks the module that these bytes are, and gives its types.
-    pub fn validate_all(&mut self, bytes: &[u8]) -> Result<Types<A>, Error<A>> {
+    /// Checks the module that these bytes are, and gives its types. It is accepted exactly where the
+    /// bytes are framed as a module is and each of its payloads is accepted after those before it.
+    pub fn validate_all(&mut self, bytes: &[u8]) -> Result<Types<A>, Error<A>>
+        ensures { Validates result bytes.now self.old self.new }
+    {
         let mut payloads = Parser::new(self.allocator(), 0).parse_all(bytes);
-        'payloads: while let Some(payload) = payloads.next_payload()? {
-            if let ValidPayload::End(types) = self.payload(&payload)? {
-                return Ok(types);
+        let mut ended = None;
+        'payloads: loop {
+            match payloads.next_payload() {
+                Ok(Some(payload)) => match self.payload(&payload) {
+                    Ok(valid) => ended = latest(ended, valid),
+                    Err(error) => return Err(error),
+                },
+                Ok(None) => break,
+                Err(refusal) => return Err(Error::Refused(refusal)),
             }
         }
-        Err(Error::new(
-            Fault::Malformed(Malformed::UnexpectedEnd),
-            bytes.len() as u64,
-        ))
+        match ended {
+            Some(types) => Ok(types),
+            None => unreachable!(),
+        }
+    }
+}
+
+/// The types of the module that has ended last.
+fn latest<A: Allocator>(before: Option<Types<A>>, valid: ValidPayload<A>) -> Option<Types<A>>
+    ensures { result ≡ latest_of before valid }
+{
+    match valid {
+        ValidPayload::Ok => before,
+        ValidPayload::End(types) => Some(types),
     }
 }
 
@@ -98,6 +116,8 @@ pub fn validate<A: Allocator + Copy>(
     alloc: A,
     bytes: &[u8],
     id: ValidatorId,
-) -> Result<Types<A>, Error<A>> {
+) -> Result<Types<A>, Error<A>>
+    ensures { ValidatesAnew result bytes.now (fresh id (record { 0 = 32703 })) }
+{
     Validator::new(alloc, id).validate_all(bytes)
 }

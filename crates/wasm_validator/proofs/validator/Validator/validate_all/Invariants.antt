@@ -1,6 +1,10 @@
 use Rattle.wasm_parser.specs.Seen.{state}
 use Rattle.wasm_parser.specs.Machine.{most_left}
+use Rattle.wasm_validator.proofs.Runs.{Progress}
 use Rattle.wasm_validator.proofs.validator.Validator.validate_all.Given as goal
+
+abbrev pub invariant-payloads : goal.invariant-payloads
+invariant-payloads g l = Progress l.bytes l.fn.self l.self (state l.payloads) l.ended
 
 abbrev pub decreases-payloads : goal.decreases-payloads
 decreases-payloads g l = most_left (state l.payloads)
