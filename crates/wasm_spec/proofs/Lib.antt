@@ -1,4 +1,16 @@
+pub mod Numbering
+pub mod Closing
+pub mod Matching
 pub mod Renaming
+pub mod MatchingTests
+pub mod Agreement
+pub mod Written
+pub mod Decided
+pub mod Listed
+pub mod Shifting
 pub mod SyntaxMaps
 pub mod Front
 pub mod LawSet
+pub mod TypeLawSet
+pub mod TypeExamples
+pub mod Accepted

@@ -3,3 +3,16 @@ pub mod Values
 pub mod BinaryTypes
 pub mod BinaryModules
 pub mod Laws
+pub mod References
+pub mod Trees
+pub mod Features
+pub mod Closing
+pub mod Declared
+pub mod ValueTypes
+pub mod Matching
+pub mod GroupRules
+pub mod TypeLists
+pub mod MatchingTests
+pub mod TypeLaws
+pub mod TypeExamples
+pub mod TreeCode

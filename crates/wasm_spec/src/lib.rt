@@ -8,6 +8,8 @@ ghost use Rattle.wasm_spec.specs.Values.{unsigned_at, signed_at, name_at};
 ghost use Rattle.wasm_spec.specs.BinaryTypes.{val_at, rec_at};
 ghost use Rattle.wasm_spec.specs.BinaryModules.{import_at, export_at, map_import};
 ghost use Rattle.wasm_spec.specs.Laws.{ReadingRenames, ReadingGoesOn, ReadingIgnoresWhatFollows, MapAfterMap, MapBySame};
+ghost use Rattle.wasm_spec.specs.TypeLaws.{MembersOfClosed, StartOfClosed, EqualTreesEqualGroups, DifferentGroupsDifferentTypes, AppendedGroup, FrontOfTypeSpace, EarlierTypesStay, SingleRecIsPlain, EachWrittenGroupIsItsOwn, MatchingIsReflexive, MatchingIsTransitive, MatchingIsAntisymmetric, AcceptedTypesMatchAncestors, ValidTypeSectionIsAccepted, TestsDecideMatching, SelfMentionsAreOneTree, TypesDeclareWhatIsWritten, AppendedListedGroup, EarlierIdsStay, EqualTreesEqualListedGroups, ListedGroupIsWrittenGroup};
+ghost use Rattle.wasm_spec.specs.TypeExamples.{FinalStructStillMatches, ExtendedStructHasOneAncestor, DescribedPairIsValid, MutualStructsAreOneTree, MutualStructsAreTypes, NoRecWithoutGc, NoIndexPastTheEnd, ExtendsOpenStruct, FinalStructIsNotExtended, ImmutableFieldMatches, MutableFieldDoesNotMatch, ParametersMatchBackwards, ParametersDoNotMatchForwards};
 
 /// Reading with renamed type indices is reading, and renaming what was read.
 #[tactic(auto, using(crate::proofs::LawSet::renaming_laws))]
@@ -52,4 +54,67 @@ pub fn maps_compose<Q, R, S>()
     ensures same_sub_types { MapBySame R map_sub }
     ensures same_recursive_types { MapBySame R map_rec }
     ensures same_imports { MapBySame R map_import }
+{}
+
+/// A recursive type is the list of sub types that it was closed from, and no two lists give one.
+#[tactic(auto, using(crate::proofs::TypeLawSet::tree_laws))]
+pub fn recursive_types_are_their_groups()
+    ensures members { MembersOfClosed }
+    ensures start { StartOfClosed }
+    ensures equal { EqualTreesEqualGroups }
+    ensures different { DifferentGroupsDifferentTypes }
+{}
+
+/// The list of types grows by the types of each group, and what it has stays.
+#[tactic(auto, using(crate::proofs::TypeLawSet::closing_laws))]
+pub fn type_space_grows()
+    ensures appended { AppendedGroup }
+    ensures front { FrontOfTypeSpace }
+    ensures earlier_types { EarlierTypesStay }
+    ensures single { SingleRecIsPlain }
+    ensures own { EachWrittenGroupIsItsOwn }
+    ensures one_tree { SelfMentionsAreOneTree }
+    ensures declare { TypesDeclareWhatIsWritten }
+{}
+
+/// In a list of groups over ids the types of earlier ids stay, and where no type has two ids equal types are those of equal groups.
+#[tactic(auto, using(crate::proofs::TypeLawSet::list_laws))]
+pub fn ids_stand_for_types()
+    ensures appended { AppendedListedGroup }
+    ensures earlier { EarlierIdsStay }
+    ensures equal { EqualTreesEqualListedGroups }
+    ensures written { ListedGroupIsWrittenGroup }
+{}
+
+/// Matching is an order, and where each type is valid it holds between a type and each of its ancestors.
+#[tactic(auto, using(crate::proofs::TypeLawSet::matching_laws))]
+pub fn matching_is_an_order<R>()
+    ensures reflexive { MatchingIsReflexive R }
+    ensures transitive { MatchingIsTransitive R }
+    ensures antisymmetric { MatchingIsAntisymmetric R }
+    ensures accepted { AcceptedTypesMatchAncestors R }
+    ensures tests { TestsDecideMatching R }
+{}
+
+/// The types of a valid type section mention only types of it, all of them valid: what is shown of accepted types holds of them.
+pub fn valid_type_sections_are_accepted()
+    ensures accepted { ValidTypeSectionIsAccepted }
+{}
+
+/// Worked examples.
+#[tactic(auto, using(crate::proofs::TypeLawSet::type_examples))]
+pub fn type_examples()
+    ensures one_tree { MutualStructsAreOneTree }
+    ensures types { MutualStructsAreTypes }
+    ensures no_rec { NoRecWithoutGc }
+    ensures no_index { NoIndexPastTheEnd }
+    ensures open { ExtendsOpenStruct }
+    ensures not_open { FinalStructIsNotExtended }
+    ensures not_open_matches { FinalStructStillMatches }
+    ensures not_open_depth { ExtendedStructHasOneAncestor }
+    ensures described { DescribedPairIsValid }
+    ensures immutable { ImmutableFieldMatches }
+    ensures mutable { MutableFieldDoesNotMatch }
+    ensures backwards { ParametersMatchBackwards }
+    ensures forwards { ParametersDoNotMatchForwards }
 {}

@@ -1,0 +1,28 @@
+-- Which extensions of WebAssembly are allowed: those that the Core Specification 3.0 lists in its Change History,
+-- and proposals beyond it.
+use Rattle.std.specs.Prelude.{Bool, ◌||◌}
+
+pub record Features : Type 0 where
+  pub mutable_global : Bool
+  pub reference_types : Bool
+  pub multi_value : Bool
+  pub bulk_memory : Bool
+  pub simd : Bool
+  pub threads : Bool
+  pub shared_everything_threads : Bool
+  pub floats : Bool
+  pub multi_memory : Bool
+  pub exceptions : Bool
+  pub memory64 : Bool
+  pub extended_const : Bool
+  pub function_references : Bool
+  pub gc : Bool
+  pub gc_types : Bool
+  pub custom_page_sizes : Bool
+  pub custom_descriptors : Bool
+  pub stack_switching : Bool
+  pub component_model : Bool
+
+-- whether equal types are one type: without these features no type can refer to another, and each written type is its own
+abbrev pub canonical : Features → Bool
+canonical F = F.gc || F.function_references || F.stack_switching || F.custom_descriptors
