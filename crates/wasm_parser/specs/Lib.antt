@@ -1,4 +1,5 @@
 pub mod Framing
 pub mod Machine
 pub mod Seen
+pub mod Places
 pub mod Laws

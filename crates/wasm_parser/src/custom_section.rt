@@ -1,6 +1,6 @@
-ghost use Rattle.std.specs.Prelude.{◌≡◌, ◌+◌, length, Some, None, IfOk, OnErr};
+ghost use Rattle.std.specs.Prelude.{◌≡◌, ◌+◌, length, Some, None, IfOk, IfErr, OnErr};
 ghost use Rattle.wasm_spec.specs.Values.{name_at};
-ghost use Rattle.wasm_readers.specs.Reader.{input, position_in, original, rest};
+ghost use Rattle.wasm_readers.specs.Reader.{input, SameInput, position_in, original, rest, RefusedFrom};
 ghost use Rattle.wasm_parser.specs.Seen.{name_of, data_of, data_reader};
 
 use std::ops::Range;
@@ -19,7 +19,8 @@ impl<'a> CustomSectionReader<'a> {
     /// The section of these contents: a name, and what follows it.
     pub fn new(reader: BinaryReader<'a>) -> Result<CustomSectionReader<'a>, Refusal>
         ensures ok { IfOk result (λ s. name_at (rest reader.entry) ≡ Some (name_of s, data_of s)) }
-        ensures part { IfOk result (λ s. input (data_reader s) ≡ input reader.entry) }
+        ensures part { IfOk result (λ s. SameInput reader.entry (data_reader s)) }
+        ensures refusal { IfErr result (RefusedFrom reader.entry) }
         ensures err { OnErr result (name_at (rest reader.entry) ≡ None) }
     {
         let mut reader = reader;

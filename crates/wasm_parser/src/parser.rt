@@ -1,9 +1,10 @@
-ghost use Rattle.std.specs.Prelude.{◌≡◌, ◌≢◌, ◌≤◌, ◌<◌, ◌^◌, ◌-◌, ◌+◌, IfOk, OnErr, length, drop, [], ◌∷◌, ◌++◌, Some, None, IsTrue};
+ghost use Rattle.std.specs.Prelude.{◌≡◌, ◌≢◌, ◌≤◌, ◌<◌, ◌^◌, ◌-◌, ◌+◌, IfOk, OnOk, OnErr, IfErr, IfSome, length, drop, [], ◌∷◌, ◌++◌, Some, None, IsTrue};
 ghost use Rattle.std.specs.Option.{option_map};
-ghost use Rattle.wasm_readers.specs.Reader.{input, rest};
+ghost use Rattle.wasm_readers.specs.Reader.{input, SameInput, position_in, original, rest};
 ghost use Rattle.wasm_parser.specs.Framing.{place, piece_of, number_of, agrees, u16_at};
-ghost use Rattle.wasm_parser.specs.Machine.{start, header_of, numbers_of, entry_of, contents_of, alone_of, section_of, ending_of, part_of, behind, failed, next_of};
+ghost use Rattle.wasm_parser.specs.Machine.{start, header_of, numbers_of, entry_of, contents_of, alone_of, section_of, ending_of, part_of, behind, at_sections, failed, next_of};
 ghost use Rattle.wasm_parser.specs.Seen.{offset_of, seen, state};
+ghost use Rattle.wasm_parser.specs.Places.{reader_end, starts_at, ends_at, stands_at, stands_in_code, input_end, section_size, body_size, part_size, part_end, next_size, next_end, IsFormat, refused_with, CodeIsLast, BodiesAreLast};
 
 use crate::custom_section::CustomSectionReader;
 use crate::function_body::FunctionBody;
@@ -48,7 +49,9 @@ const MAGIC: [u8; 4] = [0x00, 0x61, 0x73, 0x6d];
 
 const PLACES: [u8; 14] = [0, 1, 2, 3, 4, 5, 7, 8, 9, 10, 12, 13, 11, 6];
 
-fn refusal(malformed: Malformed, offset: u64) -> Refusal {
+fn refusal(malformed: Malformed, offset: u64) -> Refusal
+    ensures { result ≡ record { fault = Fault.Malformed malformed; offset = offset; missing = None } }
+{
     Refusal::new(Fault::Malformed(malformed), offset)
 }
 
@@ -61,7 +64,11 @@ fn place_of(id: u8) -> u8
 
 /// Two bytes, the low one first.
 fn read_u16(reader: &mut BinaryReader) -> Result<u16, Refusal>
+    ensures same { SameInput reader.old reader.new }
+    ensures onward { position_in reader.old ≤ position_in reader.new }
+    ensures two { OnOk result (position_in reader.new ≡ position_in reader.old + 2) }
     ensures ok { IfOk result (λ n. u16_at (rest reader.old) ≡ Some (n, rest reader.new)) }
+    ensures format { IfErr result IsFormat }
     ensures err { OnErr result (u16_at (rest reader.old) ≡ None) }
 {
     let low = reader.read_u8()?;
@@ -72,6 +79,7 @@ fn read_u16(reader: &mut BinaryReader) -> Result<u16, Refusal>
 /// One number and nothing else.
 fn read_number(body: BinaryReader) -> Result<u32, Refusal>
     ensures ok { IfOk result (λ n. number_of (rest body.entry) ≡ Some n) }
+    ensures format { IfErr result IsFormat }
     ensures err { OnErr result (number_of (rest body.entry) ≡ None) }
 {
     let mut body = body;
@@ -92,6 +100,9 @@ fn read_piece<'a, A: Allocator + Copy>(
 ) -> Result<Payload<'a, A>, Refusal>
     requires { id ≢ 10 }
     ensures ok { IfOk result (λ p. piece_of id (rest body.entry) ≡ Some (seen p)) }
+    ensures start { IfOk result (λ p. starts_at p ≡ original body.entry) }
+    ensures end { IfOk result (λ p. ends_at p ≡ reader_end body.entry) }
+    ensures format { IfErr result IsFormat }
     ensures err { OnErr result (piece_of id (rest body.entry) ≡ None) }
 {
     match id {
@@ -133,7 +144,9 @@ impl<A: Allocator + Copy> Parser<A> {
     /// The payloads of the module or component that these bytes are.
     pub fn parse_all<'a>(self, bytes: &'a [u8]) -> ParseAll<'a, A>
         requires { offset_of self + length bytes.now < 2 ^ 64 }
-        ensures { state result ≡ start bytes.now }
+        ensures begun { state result ≡ start bytes.now }
+        ensures position { stands_at result ≡ offset_of self }
+        ensures whole { input_end result ≡ offset_of self + length bytes.now }
     {
         ParseAll {
             alloc: self.alloc,
@@ -153,7 +166,12 @@ impl<A: Allocator + Copy> Parser<A> {
 impl<'a, A: Allocator + Copy> ParseAll<'a, A> {
     /// The header behind the magic.
     fn read_version(&mut self, start: u64) -> Result<Payload<'a, A>, Refusal>
+        ensures whole { input_end self.new ≡ input_end self.old }
         ensures ok { IfOk result (λ p. numbers_of (state self.old) (state self.old).bytes ≡ Some (seen p, state self.new)) }
+        ensures start { IfOk result (λ p. starts_at p ≡ start) }
+        ensures end { IfOk result (λ p. ends_at p ≡ stands_at self.new) }
+        ensures four { OnOk result (stands_at self.new ≡ stands_at self.old + 4) }
+        ensures format { IfErr result IsFormat }
         ensures err { OnErr result (numbers_of (state self.old) (state self.old).bytes ≡ None) }
     {
         let num = read_u16(&mut self.reader)?;
@@ -173,7 +191,11 @@ impl<'a, A: Allocator + Copy> ParseAll<'a, A> {
     }
 
     fn read_header(&mut self) -> Result<Payload<'a, A>, Refusal>
+        ensures whole { input_end self.new ≡ input_end self.old }
         ensures ok { IfOk result (λ p. header_of (state self.old) ≡ Some (seen p, state self.new)) }
+        ensures size { IfOk result (λ p. starts_at p + 8 ≡ ends_at p) }
+        ensures end { IfOk result (λ p. ends_at p ≡ stands_at self.new) }
+        ensures format { IfErr result IsFormat }
         ensures err { OnErr result (header_of (state self.old) ≡ None) }
     {
         let start = self.reader.original_position();
@@ -187,7 +209,12 @@ impl<'a, A: Allocator + Copy> ParseAll<'a, A> {
 
     fn read_entry(&mut self) -> Result<Payload<'a, A>, Refusal>
         requires { 0 < self.old.bodies_left }
+        ensures whole { input_end self.new ≡ input_end self.old }
         ensures ok { IfOk result (λ p. entry_of (state self.old) ≡ Some (seen p, state self.new)) }
+        ensures size { IfOk result (λ p. starts_at p + body_size (state self.old).code ≡ ends_at p) }
+        ensures end { IfOk result (λ p. ends_at p ≡ stands_in_code self.new) }
+        ensures bodies { CodeIsLast self.old → OnOk result (CodeIsLast self.new) }
+        ensures format { IfErr result IsFormat }
         ensures err { OnErr result (entry_of (state self.old) ≡ None) }
     {
         let body = self.code.read_sized()?;
@@ -197,7 +224,10 @@ impl<'a, A: Allocator + Copy> ParseAll<'a, A> {
 
     /// Notes a section of this id that is this payload.
     fn go_behind(&mut self, id: u8, payload: &Payload<'a, A>)
-        ensures { state self.new ≡ behind (state self.old) id (state self.old).bytes (seen payload.now) }
+        ensures whole { input_end self.new ≡ input_end self.old }
+        ensures notes { state self.new ≡ behind (state self.old) id (state self.old).bytes (seen payload.now) }
+        ensures code { stands_in_code self.new ≡ stands_in_code self.old }
+        ensures position { stands_at self.new ≡ stands_at self.old }
     {
         let place = place_of(id);
         if place != 0 {
@@ -218,8 +248,15 @@ impl<'a, A: Allocator + Copy> ParseAll<'a, A> {
 
     /// The front of the code section with these contents.
     fn open_code(&mut self, body: BinaryReader<'a>) -> Result<Payload<'a, A>, Refusal>
-        requires { length (rest body) < 2 ^ 32 }
+        requires short { length (rest body) < 2 ^ 32 }
+        requires last { reader_end body ≡ stands_at self.old }
+        ensures whole { input_end self.new ≡ input_end self.old }
         ensures ok { IfOk result (λ p. contents_of (state self.old) 10 (rest body.entry) (state self.old).bytes ≡ Some (seen p, state self.new)) }
+        ensures start { IfOk result (λ p. starts_at p ≡ original body.entry) }
+        ensures end { IfOk result (λ p. ends_at p ≡ reader_end body.entry) }
+        ensures bodies { OnOk result (CodeIsLast self.new) }
+        ensures position { stands_at self.new ≡ stands_at self.old }
+        ensures format { IfErr result IsFormat }
         ensures err { OnErr result (contents_of (state self.old) 10 (rest body.entry) (state self.old).bytes ≡ None) }
     {
         let mut code = body;
@@ -237,7 +274,12 @@ impl<'a, A: Allocator + Copy> ParseAll<'a, A> {
 
     /// A section, whatever the counts of others.
     fn read_alone(&mut self) -> Result<Payload<'a, A>, Refusal>
+        ensures whole { input_end self.new ≡ input_end self.old }
         ensures ok { IfOk result (λ p. alone_of (state self.old) ≡ Some (seen p, state self.new)) }
+        ensures size { IfOk result (λ p. starts_at p + section_size (state self.old).bytes ≡ ends_at p) }
+        ensures end { IfOk result (λ p. ends_at p ≡ stands_at self.new) }
+        ensures bodies { (state self.old).left ≡ 0 → OnOk result (BodiesAreLast self.new) }
+        ensures format { IfErr result IsFormat }
         ensures err { OnErr result (alone_of (state self.old) ≡ None) }
     {
         let id = self.reader.read_u8()?;
@@ -256,7 +298,12 @@ impl<'a, A: Allocator + Copy> ParseAll<'a, A> {
     }
 
     fn read_section(&mut self) -> Result<Payload<'a, A>, Refusal>
+        ensures whole { input_end self.new ≡ input_end self.old }
         ensures ok { IfOk result (λ p. section_of (state self.old) ≡ Some (seen p, state self.new)) }
+        ensures size { IfOk result (λ p. starts_at p + section_size (state self.old).bytes ≡ ends_at p) }
+        ensures end { IfOk result (λ p. ends_at p ≡ stands_at self.new) }
+        ensures bodies { (state self.old).left ≡ 0 → OnOk result (BodiesAreLast self.new) }
+        ensures format { IfErr result IsFormat }
         ensures err { OnErr result (section_of (state self.old) ≡ None) }
     {
         let payload = self.read_alone()?;
@@ -283,7 +330,11 @@ impl<'a, A: Allocator + Copy> ParseAll<'a, A> {
     }
 
     fn read_end(&mut self) -> Result<Payload<'a, A>, Refusal>
+        ensures whole { input_end self.new ≡ input_end self.old }
         ensures ok { IfOk result (λ p. ending_of (state self.old) ≡ Some (seen p, state self.new)) }
+        ensures size { IfOk result (λ p. starts_at p ≡ ends_at p) }
+        ensures end { IfOk result (λ p. ends_at p ≡ stands_at self.new) }
+        ensures format { IfErr result IsFormat }
         ensures err { OnErr result (ending_of (state self.old) ≡ None) }
     {
         let position = self.reader.original_position();
@@ -302,7 +353,13 @@ impl<'a, A: Allocator + Copy> ParseAll<'a, A> {
     /// What is next behind the header.
     #[tactic(auto, unfolding(crate::specs::Machine::part_of))]
     fn read_part(&mut self) -> Result<Payload<'a, A>, Refusal>
+        ensures whole { input_end self.new ≡ input_end self.old }
         ensures ok { IfOk result (λ p. part_of (state self.old) ≡ Some (seen p, state self.new)) }
+        ensures size { IfOk result (λ p. starts_at p + part_size (state self.old) ≡ ends_at p) }
+        ensures end { IfOk result (λ p. ends_at p ≡ part_end (state self.old) self.new) }
+        ensures code { 0 < (state self.old).left → CodeIsLast self.old → OnOk result (CodeIsLast self.new) }
+        ensures bodies { (state self.old).left ≡ 0 → OnOk result (BodiesAreLast self.new) }
+        ensures format { IfErr result IsFormat }
         ensures err { OnErr result (part_of (state self.old) ≡ None) }
     {
         if self.bodies_left > 0 {
@@ -319,8 +376,15 @@ impl<'a, A: Allocator + Copy> ParseAll<'a, A> {
     }
 
     fn advance(&mut self) -> Result<Option<Payload<'a, A>>, Refusal>
+        ensures whole { input_end self.new ≡ input_end self.old }
         ensures ok { IfOk result (λ p. next_of (state self.old) ≡ Some (option_map (λ q. (seen q, state self.new)) p)) }
+        ensures size { IfOk result (λ p. IfSome p (λ q. starts_at q + next_size (state self.old).stage (state self.old) ≡ ends_at q)) }
+        ensures end { IfOk result (λ p. IfSome p (λ q. ends_at q ≡ next_end (state self.old).stage (state self.old) self.new)) }
         ensures over { IfOk result (λ p. p ≡ None → state self.new ≡ state self.old) }
+        ensures code { (state self.old).stage ≡ at_sections → 0 < (state self.old).left → CodeIsLast self.old → OnOk result (CodeIsLast self.new) }
+        ensures bodies { (state self.old).left ≡ 0 → OnOk result (BodiesAreLast self.new) }
+        ensures format { refused_with self.old ≡ None → IfErr result IsFormat }
+        ensures again { IfSome (refused_with self.old) (λ r. result ≡ Err r) }
         ensures err { OnErr result (next_of (state self.old) ≡ None) }
     {
         match self.progress {
@@ -334,10 +398,18 @@ impl<'a, A: Allocator + Copy> ParseAll<'a, A> {
     /// The next payload, the last of which is the end, and `None` from then on. Once bytes are refused
     /// it refuses them at each further call.
     pub fn next_payload(&mut self) -> Result<Option<Payload<'a, A>>, Refusal>
+        ensures whole { input_end self.new ≡ input_end self.old }
         ensures ok { IfOk result (λ p. next_of (state self.old) ≡ Some (option_map (λ q. (seen q, state self.new)) p)) }
+        ensures size { IfOk result (λ p. IfSome p (λ q. starts_at q + next_size (state self.old).stage (state self.old) ≡ ends_at q)) }
+        ensures end { IfOk result (λ p. IfSome p (λ q. ends_at q ≡ next_end (state self.old).stage (state self.old) self.new)) }
         ensures over { IfOk result (λ p. p ≡ None → state self.new ≡ state self.old) }
+        ensures code { (state self.old).stage ≡ at_sections → 0 < (state self.old).left → CodeIsLast self.old → OnOk result (CodeIsLast self.new) }
+        ensures bodies { (state self.old).left ≡ 0 → OnOk result (BodiesAreLast self.new) }
+        ensures format { refused_with self.old ≡ None → IfErr result IsFormat }
+        ensures again { IfSome (refused_with self.old) (λ r. result ≡ Err r) }
         ensures err { OnErr result (next_of (state self.old) ≡ None) }
         ensures failed { OnErr result ((state self.new).stage ≡ failed) }
+        ensures kept { IfErr result (λ r. refused_with self.new ≡ Some r) }
     {
         match self.advance() {
             Ok(payload) => Ok(payload),

@@ -1,6 +1,6 @@
 -- What loops over items keep.
-use Rattle.std.proofs.Common.{◌≡◌, refl, sym, ap, ◌∙◌, ℕ, zero, suc, ◌-◌, ◌<◌, List, [], ◌∷◌, ◌++◌, map, Option, Some, None, append_assoc, arith, rules}
-use Rattle.std.specs.Option.{option_map, option_and_then}
+use Rattle.std.proofs.Common.{◌≡◌, refl, ℕ, zero, suc, ◌-◌, ◌<◌, List, [], ◌∷◌, ◌++◌, map, Option, Some, None, append_assoc, arith}
+use Rattle.std.specs.Option.{option_map}
 use Rattle.wasm_spec.specs.Values.{many_at}
 
 -- what was read before, and what is still read
@@ -23,3 +23,9 @@ one_more value encoded items item zero bytes after h e = absurd (omega arith)
 one_more value encoded items item (suc n) bytes after h e =
     let back : suc n - 1 ≡ n = omega arith in
     rw (back, map-push value items item, e) (with_one_more (map value items) (value item) (many_at encoded n after))
+
+-- nothing is read where the next item is refused
+pub none_more : {T V : Type 0} (value : T → V) (encoded : List ℕ → Option (V × List ℕ)) (items : List T) (left : ℕ) (bytes : List ℕ)
+    → 0 < left → encoded bytes ≡ None → with_front (map value items) (many_at encoded left bytes) ≡ None
+none_more value encoded items zero bytes h e = absurd (omega arith)
+none_more value encoded items (suc n) bytes h e = rw e refl

@@ -1,5 +1,5 @@
 -- The items of a section, read one after another.
-use Rattle.std.specs.Prelude.{ℕ, zero, suc, ◌≡◌, ◌==◌, if◌then◌else◌, Bool, true, false, List, length, Option, Some, None, ⊤}
+use Rattle.std.specs.Prelude.{ℕ, zero, suc, ◌≡◌, ◌==◌, if◌then◌else◌, Bool, true, false, List, length, Option, Some, None, IfSome, IfOk, ⊤}
 use Rattle.std.specs.Option.{option_map}
 use Rattle.std.specs.declared.result.Result.{Result}
 use Rattle.std.specs.declared.result.Result.TheVariants.{Ok, Err}
@@ -25,3 +25,7 @@ ItemGives encoded value false left bytes None done n after = (next_item encoded 
 ItemGives encoded value false left bytes (Some (Ok x)) done n after = (next_item encoded left bytes ≡ Some (Some (value x.1, (n, after)))) × (done ≡ false)
 ItemGives encoded value false left bytes (Some (Err (Refused r))) done n after = (next_item encoded left bytes ≡ None) × (done ≡ true)
 ItemGives encoded value false left bytes (Some (Err OutOfMemory)) done n after = done ≡ true
+
+-- if a turn gives an item, this is its offset
+abbrev pub StandsAt : {T : Type 0} → ℕ → Option (Result (ℕ × T) Error) → Type 0
+StandsAt offset r = IfSome r (λ item. IfOk item (λ x. x.0 ≡ offset))

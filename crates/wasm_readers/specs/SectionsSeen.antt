@@ -1,8 +1,9 @@
 -- What contracts see of a section and of its items that are left.
-use Rattle.std.specs.Prelude.{ℕ, List, Bool}
+use Rattle.std.specs.Prelude.{◌≤◌, ◌+◌, ℕ, List, Bool, length}
 use Rattle.wasm_readers.specs.declared.section_limited.SectionLimited.{SectionLimited}
 use Rattle.wasm_readers.specs.declared.section_limited.SectionItems.{SectionItems}
-use Rattle.wasm_readers.specs.Reader.{rest}
+use Rattle.wasm_readers.specs.Reader.{input, position_in, original, rest, SameInput, FailedFrom}
+use Rattle.wasm_readers_errors.specs.declared.error.Error.{Error}
 
 -- the number of items that a section says it has
 abbrev pub count_of : {T A : Type 0} → SectionLimited T A → ℕ
@@ -11,6 +12,18 @@ count_of s = s.count
 -- the bytes behind the count
 abbrev pub bytes_of : {T A : Type 0} → SectionLimited T A → List ℕ
 bytes_of s = rest s.reader
+
+-- the offset in the whole input of a section's first byte, which is that of its count
+abbrev pub section_start : {T A : Type 0} → SectionLimited T A → ℕ
+section_start s = original s.reader
+
+-- the offset of the byte behind a section
+abbrev pub section_end : {T A : Type 0} → SectionLimited T A → ℕ
+section_end s = original s.reader + length (input s.reader)
+
+-- the offset of the first item
+abbrev pub first_item_at : {T A : Type 0} → SectionLimited T A → ℕ
+first_item_at s = original s.reader + position_in s.reader
 
 -- how many items are left to read
 abbrev pub items_left : {T A : Type 0} → SectionItems T A → ℕ
@@ -23,3 +36,19 @@ items_rest s = rest s.reader
 -- whether the iterator has ended
 abbrev pub items_done : {T A : Type 0} → SectionItems T A → Bool
 items_done s = s.done
+
+-- the offset in the whole input of what is left to read
+abbrev pub next_item_at : {T A : Type 0} → SectionItems T A → ℕ
+next_item_at s = original s.reader + position_in s.reader
+
+-- the offset of the byte behind the section
+abbrev pub items_end : {T A : Type 0} → SectionItems T A → ℕ
+items_end s = original s.reader + length (input s.reader)
+
+-- items of the same section, read as far or further
+abbrev pub SameSection : {T A : Type 0} → SectionItems T A → SectionItems T A → Type 0
+SameSection old new = SameInput old.reader new.reader × (next_item_at old ≤ next_item_at new)
+
+-- a refusal for the format, at an offset from the next item to the section's end, unless memory was refused
+abbrev pub ItemsFailedFrom : {T A : Type 0} → SectionItems T A → Error → Type 0
+ItemsFailedFrom s error = FailedFrom s.reader error

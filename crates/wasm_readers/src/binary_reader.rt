@@ -1,11 +1,12 @@
-ghost use Rattle.std.specs.Prelude.{◌≡◌, ◌==◌, ◌≤◌, ◌<◌, ◌^◌, ◌-◌, ◌+◌, IfOk, OnOk, OnErr, length, take, drop, slice_range, [], ◌∷◌, ◌++◌, Some, None};
+ghost use Rattle.std.specs.Prelude.{◌≡◌, ◌==◌, ◌≤◌, ◌<◌, ◌^◌, ◌-◌, ◌+◌, IfOk, OnOk, OnErr, length, take, drop, slice_range, [], ◌∷◌, ◌++◌, Some, None, IfErr};
 ghost use Rattle.wasm_spec.specs.Values.{byte_at, u32_at, u64_at, s33_index_at, bytes_at, sized_at, name_at};
 
 use crate::leb128::signed_at;
 use std::ops::Range;
 use wasm_readers_errors::{Fault, Malformed, Refusal};
 
-/// Bytes that are read from their front.
+/// Bytes that are read from their front. A reader that has refused bytes stands somewhere behind where it
+/// stood before, or there, in the same bytes.
 #[derive(Clone, Copy, Debug)]
 pub struct BinaryReader<'a> {
     buffer: &'a [u8],
@@ -16,7 +17,7 @@ pub struct BinaryReader<'a> {
 }
 
 impl<'a> BinaryReader<'a> {
-    ghost use Rattle.wasm_readers.specs.Reader.{input, position_in, original, rest};
+    ghost use Rattle.wasm_readers.specs.Reader.{input, SameInput, position_in, original, rest, RefusedFrom};
 
     /// A reader of these bytes, the first of which stands at this offset of the whole input.
     pub fn new(buffer: &'a [u8], original_offset: u64) -> Self
@@ -61,17 +62,21 @@ impl<'a> BinaryReader<'a> {
         &self.buffer[self.position..]
     }
 
-    fn refusal(&self, malformed: Malformed) -> Refusal {
+    /// A refusal at the next byte.
+    fn refusal(&self, malformed: Malformed) -> Refusal
+        ensures { result ≡ record { fault = Fault.Malformed malformed; offset = original self.now + position_in self.now; missing = None } }
+    {
         Refusal::new(Fault::Malformed(malformed), self.original_position())
     }
 
     /// The next byte.
     #[inline]
     pub fn read_u8(&mut self) -> Result<u8, Refusal>
-        ensures same { input self.new ≡ input self.old }
+        ensures same { SameInput self.old self.new }
         ensures onward { position_in self.old ≤ position_in self.new }
+        ensures refusal { IfErr result (RefusedFrom self.old) }
         ensures ok { IfOk result (λ byte. rest self.old ≡ byte ∷ rest self.new) }
-        ensures further { OnOk result (position_in self.old < position_in self.new) }
+        ensures further { OnOk result (position_in self.new ≡ position_in self.old + 1) }
         ensures err { OnErr result (rest self.old ≡ []) }
     {
         if self.position < self.buffer.len() {
@@ -85,8 +90,9 @@ impl<'a> BinaryReader<'a> {
 
     /// An unsigned number of at most 32 bits, in at most five bytes.
     pub fn read_var_u32(&mut self) -> Result<u32, Refusal>
-        ensures same { input self.new ≡ input self.old }
+        ensures same { SameInput self.old self.new }
         ensures onward { position_in self.old ≤ position_in self.new }
+        ensures refusal { IfErr result (RefusedFrom self.old) }
         ensures ok { IfOk result (λ n. u32_at (rest self.old) ≡ Some (n, rest self.new)) }
         ensures further { OnOk result (position_in self.old < position_in self.new) }
         ensures err { OnErr result (u32_at (rest self.old) ≡ None) }
@@ -124,8 +130,9 @@ impl<'a> BinaryReader<'a> {
 
     /// An unsigned number of at most 64 bits, in at most ten bytes.
     pub fn read_var_u64(&mut self) -> Result<u64, Refusal>
-        ensures same { input self.new ≡ input self.old }
+        ensures same { SameInput self.old self.new }
         ensures onward { position_in self.old ≤ position_in self.new }
+        ensures refusal { IfErr result (RefusedFrom self.old) }
         ensures ok { IfOk result (λ n. u64_at (rest self.old) ≡ Some (n, rest self.new)) }
         ensures further { OnOk result (position_in self.old < position_in self.new) }
         ensures err { OnErr result (u64_at (rest self.old) ≡ None) }
@@ -189,8 +196,9 @@ impl<'a> BinaryReader<'a> {
 
     /// A type index where a heap type may stand: a signed number of 33 bits that is not negative.
     pub fn read_var_s33_index(&mut self) -> Result<u32, Refusal>
-        ensures same { input self.new ≡ input self.old }
+        ensures same { SameInput self.old self.new }
         ensures onward { position_in self.old ≤ position_in self.new }
+        ensures refusal { IfErr result (RefusedFrom self.old) }
         ensures ok { IfOk result (λ n. s33_index_at (rest self.old) ≡ Some (n, rest self.new)) }
         ensures further { OnOk result (position_in self.old < position_in self.new) }
         ensures err { OnErr result ((s33_index_at (rest self.old) ≡ None) × (self.new ≡ self.old)) }
@@ -209,9 +217,11 @@ impl<'a> BinaryReader<'a> {
 
     /// The next bytes, so many of them, as a reader of their own.
     pub fn read_reader(&mut self, size: usize) -> Result<BinaryReader<'a>, Refusal>
-        ensures same { input self.new ≡ input self.old }
+        ensures same { SameInput self.old self.new }
         ensures onward { position_in self.old ≤ position_in self.new }
-        ensures part { IfOk result (λ part. original part ≡ original self.old + position_in self.old) }
+        ensures refusal { IfErr result (RefusedFrom self.old) }
+        ensures start { IfOk result (λ part. original part ≡ original self.old + position_in self.old) }
+        ensures end { IfOk result (λ part. original part + length (input part) ≡ original self.new + position_in self.new) }
         ensures whole { IfOk result (λ part. input part ≡ rest part) }
         ensures ok { IfOk result (λ part. bytes_at size (rest self.old) ≡ Some (rest part, rest self.new)) }
         ensures err { OnErr result (bytes_at size (rest self.old) ≡ None) }
@@ -231,8 +241,11 @@ impl<'a> BinaryReader<'a> {
 
     /// A size, and that many bytes, as a reader of their own.
     pub fn read_sized(&mut self) -> Result<BinaryReader<'a>, Refusal>
-        ensures same { input self.new ≡ input self.old }
+        ensures same { SameInput self.old self.new }
         ensures onward { position_in self.old ≤ position_in self.new }
+        ensures refusal { IfErr result (RefusedFrom self.old) }
+        ensures start { IfOk result (λ part. original self.old + position_in self.old ≤ original part) }
+        ensures end { IfOk result (λ part. original part + length (input part) ≡ original self.new + position_in self.new) }
         ensures whole { IfOk result (λ part. input part ≡ rest part) }
         ensures ok { IfOk result (λ part. sized_at (rest self.old) ≡ Some (rest part, rest self.new)) }
         ensures further { OnOk result (position_in self.old < position_in self.new) }
@@ -245,8 +258,9 @@ impl<'a> BinaryReader<'a> {
     /// A name: a size, and that many bytes of text in UTF-8.
     #[tactic(auto, using(crate::proofs::Texts::name_from_text, crate::proofs::Texts::no_name_from_no_text))]
     pub fn read_string(&mut self) -> Result<&'a str, Refusal>
-        ensures same { input self.new ≡ input self.old }
+        ensures same { SameInput self.old self.new }
         ensures onward { position_in self.old ≤ position_in self.new }
+        ensures refusal { IfErr result (RefusedFrom self.old) }
         ensures ok { IfOk result (λ name. name_at (rest self.old) ≡ Some (name.now, rest self.new)) }
         ensures further { OnOk result (position_in self.old < position_in self.new) }
         ensures err { OnErr result (name_at (rest self.old) ≡ None) }

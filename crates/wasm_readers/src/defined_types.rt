@@ -1,9 +1,9 @@
 //! Reading of defined types: composite types, sub types and recursion groups.
 
-ghost use Rattle.std.specs.Prelude.{◌≡◌, ◌≤◌, ◌<◌, OnOk, OnErr, IfOk, Some, None, map};
+ghost use Rattle.std.specs.Prelude.{◌≡◌, ◌≤◌, ◌<◌, OnOk, OnErr, IfOk, Some, None, map, IfErr};
 ghost use Rattle.wasm_spec.specs.Values.{list_at};
 ghost use Rattle.wasm_spec.specs.BinaryTypes.{index_at, func_at, comp_at, marked_at, marked_index_at, field_at, final_or_not, sub_at, rec_at};
-ghost use Rattle.wasm_readers.specs.Reader.{input, position_in, rest};
+ghost use Rattle.wasm_readers.specs.Reader.{input, SameInput, position_in, rest, RefusedFrom, FailedFrom};
 ghost use Rattle.wasm_readers_errors.specs.Errors.{Reads};
 ghost use Rattle.wasm_readers.specs.Written.{written};
 ghost use Rattle.wasm_readers_types.specs.SeenTypes.{func_of, comp_of, sub_of, rec_of};
@@ -23,8 +23,9 @@ use wasm_readers_types::{
 impl<'a> BinaryReader<'a> {
     /// A type index.
     pub fn read_type_index(&mut self) -> Result<PackedIndex, Refusal>
-        ensures same { input self.new ≡ input self.old }
+        ensures same { SameInput self.old self.new }
         ensures onward { position_in self.old ≤ position_in self.new }
+        ensures refusal { IfErr result (RefusedFrom self.old) }
         ensures ok { IfOk result (λ x. index_at written (rest self.old) ≡ Some (index_of x, rest self.new)) }
         ensures further { OnOk result (position_in self.old < position_in self.new) }
         ensures err { OnErr result (index_at written (rest self.old) ≡ None) }
@@ -34,7 +35,7 @@ impl<'a> BinaryReader<'a> {
 
     /// Whether the next byte is this mark, which is then read.
     fn read_mark(&mut self, mark: u8) -> bool
-        ensures same { input self.new ≡ input self.old }
+        ensures same { SameInput self.old self.new }
         ensures onward { position_in self.old ≤ position_in self.new }
         ensures marked { marked_at mark (rest self.old) ≡ (result, rest self.new) }
     {
@@ -57,8 +58,9 @@ impl<'a> BinaryReader<'a> {
     /// A type index behind this mark, where the mark stands.
     #[tactic(auto, unfolding(wasm_spec::specs::BinaryTypes::marked_index_at))]
     fn read_marked_index(&mut self, mark: u8) -> Result<Option<PackedIndex>, Refusal>
-        ensures same { input self.new ≡ input self.old }
+        ensures same { SameInput self.old self.new }
         ensures onward { position_in self.old ≤ position_in self.new }
+        ensures refusal { IfErr result (RefusedFrom self.old) }
         ensures ok { IfOk result (λ x. marked_index_at written mark (rest self.old) ≡ Some (option_map index_of x, rest self.new)) }
         ensures err { OnErr result (marked_index_at written mark (rest self.old) ≡ None) }
     {
@@ -90,8 +92,9 @@ fn read_func_type<'a, A: Allocator + Copy>(
     alloc: A,
     reader: &mut BinaryReader<'a>,
 ) -> Result<FuncType<A>, Error>
-    ensures same { input reader.new ≡ input reader.old }
+    ensures same { SameInput reader.old reader.new }
     ensures onward { position_in reader.old ≤ position_in reader.new }
+    ensures failure { IfErr result (FailedFrom reader.old) }
     ensures reads { Reads func_of result (func_at written (rest reader.old)) (rest reader.new) }
 {
     let params: Vec<ValType, A> = read_list(alloc, reader)?;
@@ -104,8 +107,9 @@ fn read_struct_type<'a, A: Allocator + Copy>(
     alloc: A,
     reader: &mut BinaryReader<'a>,
 ) -> Result<StructType<A>, Error>
-    ensures same { input reader.new ≡ input reader.old }
+    ensures same { SameInput reader.old reader.new }
     ensures onward { position_in reader.old ≤ position_in reader.new }
+    ensures failure { IfErr result (FailedFrom reader.old) }
     ensures reads { Reads (λ s. map field_of s.fields) result (list_at (field_at written) (rest reader.old)) (rest reader.new) }
 {
     let fields: Vec<FieldType, A> = read_list(alloc, reader)?;
@@ -120,8 +124,9 @@ fn read_composite_inner_type<'a, A: Allocator + Copy>(
     alloc: A,
     reader: &mut BinaryReader<'a>,
 ) -> Result<CompositeInnerType<A>, Error>
-    ensures same { input reader.new ≡ input reader.old }
+    ensures same { SameInput reader.old reader.new }
     ensures onward { position_in reader.old ≤ position_in reader.new }
+    ensures failure { IfErr result (FailedFrom reader.old) }
     ensures reads { Reads comp_of result (comp_at written (rest reader.old)) (rest reader.new) }
 {
     let offset = reader.original_position();
@@ -142,8 +147,9 @@ fn read_final_or_not<'a, A: Allocator + Copy>(
     supertypes: Vec<PackedIndex, A>,
     reader: &mut BinaryReader<'a>,
 ) -> Result<SubType<A>, Error>
-    ensures same { input reader.new ≡ input reader.old }
+    ensures same { SameInput reader.old reader.new }
     ensures onward { position_in reader.old ≤ position_in reader.new }
+    ensures failure { IfErr result (FailedFrom reader.old) }
     ensures reads { Reads sub_of result (final_or_not written is_final (map index_of supertypes.items) (rest reader.old)) (rest reader.new) }
 {
     let shared = reader.read_mark(0x65);

@@ -1,9 +1,9 @@
 //! Reading of the types of tables, memories, globals and tags, and of imports and exports.
 
-ghost use Rattle.std.specs.Prelude.{◌≡◌, ◌≤◌, ◌<◌, OnOk, OnErr, IfOk, Some, None};
+ghost use Rattle.std.specs.Prelude.{◌≡◌, ◌≤◌, ◌<◌, OnOk, OnErr, IfOk, Some, None, IfErr};
 ghost use Rattle.wasm_spec.specs.BinaryTypes.{flags_at, limits_at, number_if, page_size_if, table_at, memory_at, global_at, tag_at};
 ghost use Rattle.wasm_spec.specs.BinaryModules.{import_at, export_at, extern_at};
-ghost use Rattle.wasm_readers.specs.Reader.{input, position_in, rest};
+ghost use Rattle.wasm_readers.specs.Reader.{input, SameInput, position_in, rest, RefusedFrom};
 ghost use Rattle.wasm_readers.specs.Written.{written};
 ghost use Rattle.wasm_readers.specs.Limits.{limits_of};
 ghost use Rattle.wasm_readers_types.specs.SeenExterns.{table_of, memory_of, global_of, extern_of, kind_of};
@@ -29,8 +29,9 @@ impl<'a> BinaryReader<'a> {
     /// Flags: a byte that is at most this one.
     #[tactic(auto, unfolding(wasm_spec::specs::BinaryTypes::flags_at))]
     fn read_flags(&mut self, most: u8, malformed: Malformed) -> Result<u8, Refusal>
-        ensures same { input self.new ≡ input self.old }
+        ensures same { SameInput self.old self.new }
         ensures onward { position_in self.old ≤ position_in self.new }
+        ensures refusal { IfErr result (RefusedFrom self.old) }
         ensures ok { IfOk result (λ x. flags_at most (rest self.old) ≡ Some (x, rest self.new)) }
         ensures err { OnErr result (flags_at most (rest self.old) ≡ None) }
     {
@@ -44,8 +45,9 @@ impl<'a> BinaryReader<'a> {
 
     /// A number of 64 bits, where there is one.
     fn read_number_if(&mut self, there: bool) -> Result<Option<u64>, Refusal>
-        ensures same { input self.new ≡ input self.old }
+        ensures same { SameInput self.old self.new }
         ensures onward { position_in self.old ≤ position_in self.new }
+        ensures refusal { IfErr result (RefusedFrom self.old) }
         ensures ok { IfOk result (λ x. number_if there (rest self.old) ≡ Some (x, rest self.new)) }
         ensures err { OnErr result (number_if there (rest self.old) ≡ None) }
     {
@@ -58,8 +60,9 @@ impl<'a> BinaryReader<'a> {
 
     /// The logarithm of a page size, where there is one.
     fn read_page_size_if(&mut self, there: bool) -> Result<Option<u32>, Refusal>
-        ensures same { input self.new ≡ input self.old }
+        ensures same { SameInput self.old self.new }
         ensures onward { position_in self.old ≤ position_in self.new }
+        ensures refusal { IfErr result (RefusedFrom self.old) }
         ensures ok { IfOk result (λ x. page_size_if there (rest self.old) ≡ Some (x, rest self.new)) }
         ensures err { OnErr result (page_size_if there (rest self.old) ≡ None) }
     {
@@ -73,8 +76,9 @@ impl<'a> BinaryReader<'a> {
     /// Flags that are at most these, with a minimum, and a maximum where the flags have one.
     #[tactic(auto, unfolding(wasm_spec::specs::BinaryTypes::limits_at))]
     fn read_limits(&mut self, most: u8) -> Result<Limits, Refusal>
-        ensures same { input self.new ≡ input self.old }
+        ensures same { SameInput self.old self.new }
         ensures onward { position_in self.old ≤ position_in self.new }
+        ensures refusal { IfErr result (RefusedFrom self.old) }
         ensures ok { IfOk result (λ x. limits_at most (rest self.old) ≡ Some (limits_of x, rest self.new)) }
         ensures err { OnErr result (limits_at most (rest self.old) ≡ None) }
     {
@@ -91,8 +95,9 @@ impl<'a> BinaryReader<'a> {
     /// A table type.
     #[tactic(auto, unfolding(wasm_spec::specs::BinaryTypes::table_at))]
     pub fn read_table_type(&mut self) -> Result<TableType, Refusal>
-        ensures same { input self.new ≡ input self.old }
+        ensures same { SameInput self.old self.new }
         ensures onward { position_in self.old ≤ position_in self.new }
+        ensures refusal { IfErr result (RefusedFrom self.old) }
         ensures ok { IfOk result (λ x. table_at written (rest self.old) ≡ Some (table_of x, rest self.new)) }
         ensures err { OnErr result (table_at written (rest self.old) ≡ None) }
     {
@@ -110,8 +115,9 @@ impl<'a> BinaryReader<'a> {
     /// A memory type.
     #[tactic(auto, unfolding(wasm_spec::specs::BinaryTypes::memory_at))]
     pub fn read_memory_type(&mut self) -> Result<MemoryType, Refusal>
-        ensures same { input self.new ≡ input self.old }
+        ensures same { SameInput self.old self.new }
         ensures onward { position_in self.old ≤ position_in self.new }
+        ensures refusal { IfErr result (RefusedFrom self.old) }
         ensures ok { IfOk result (λ x. memory_at (rest self.old) ≡ Some (memory_of x, rest self.new)) }
         ensures err { OnErr result (memory_at (rest self.old) ≡ None) }
     {
@@ -129,8 +135,9 @@ impl<'a> BinaryReader<'a> {
     /// A global type.
     #[tactic(auto, unfolding(wasm_spec::specs::BinaryTypes::global_at))]
     pub fn read_global_type(&mut self) -> Result<GlobalType, Refusal>
-        ensures same { input self.new ≡ input self.old }
+        ensures same { SameInput self.old self.new }
         ensures onward { position_in self.old ≤ position_in self.new }
+        ensures refusal { IfErr result (RefusedFrom self.old) }
         ensures ok { IfOk result (λ x. global_at written (rest self.old) ≡ Some (global_of x, rest self.new)) }
         ensures err { OnErr result (global_at written (rest self.old) ≡ None) }
     {
@@ -146,8 +153,9 @@ impl<'a> BinaryReader<'a> {
     /// A tag type.
     #[tactic(auto, unfolding(wasm_spec::specs::BinaryTypes::tag_at))]
     pub fn read_tag_type(&mut self) -> Result<TagType, Refusal>
-        ensures same { input self.new ≡ input self.old }
+        ensures same { SameInput self.old self.new }
         ensures onward { position_in self.old ≤ position_in self.new }
+        ensures refusal { IfErr result (RefusedFrom self.old) }
         ensures ok { IfOk result (λ x. tag_at (rest self.old) ≡ Some (x.func_type_idx, rest self.new)) }
         ensures err { OnErr result (tag_at (rest self.old) ≡ None) }
     {
@@ -162,8 +170,9 @@ impl<'a> BinaryReader<'a> {
     /// What an import is: its kind, and its type or type index.
     #[tactic(auto, unfolding(wasm_spec::specs::BinaryModules::extern_at))]
     pub fn read_type_ref(&mut self) -> Result<TypeRef, Refusal>
-        ensures same { input self.new ≡ input self.old }
+        ensures same { SameInput self.old self.new }
         ensures onward { position_in self.old ≤ position_in self.new }
+        ensures refusal { IfErr result (RefusedFrom self.old) }
         ensures ok { IfOk result (λ x. extern_at written (rest self.old) ≡ Some (extern_of x, rest self.new)) }
         ensures err { OnErr result (extern_at written (rest self.old) ≡ None) }
     {
@@ -182,8 +191,9 @@ impl<'a> BinaryReader<'a> {
     /// The kind of an export.
     #[tactic(auto, unfolding(wasm_spec::specs::BinaryTypes::flags_at))]
     pub fn read_external_kind(&mut self) -> Result<ExternalKind, Refusal>
-        ensures same { input self.new ≡ input self.old }
+        ensures same { SameInput self.old self.new }
         ensures onward { position_in self.old ≤ position_in self.new }
+        ensures refusal { IfErr result (RefusedFrom self.old) }
         ensures ok { IfOk result (λ x. flags_at 4 (rest self.old) ≡ Some (kind_of x, rest self.new)) }
         ensures err { OnErr result (flags_at 4 (rest self.old) ≡ None) }
     {

@@ -1,8 +1,8 @@
 //! Reading of lists of items.
 
-ghost use Rattle.std.specs.Prelude.{◌≡◌, ◌≤◌, map};
+ghost use Rattle.std.specs.Prelude.{◌≡◌, ◌≤◌, map, IfErr};
 ghost use Rattle.wasm_spec.specs.Values.{list_at, many_at};
-ghost use Rattle.wasm_readers.specs.Reader.{input, position_in, rest};
+ghost use Rattle.wasm_readers.specs.Reader.{input, SameInput, position_in, rest, FailedFrom};
 ghost use Rattle.wasm_readers_errors.specs.Errors.{Reads};
 
 use crate::binary_reader::BinaryReader;
@@ -15,8 +15,9 @@ pub fn read_list<'a, T: FromReader<'a, A>, A: Allocator + Copy>(
     alloc: A,
     reader: &mut BinaryReader<'a>,
 ) -> Result<Vec<T, A>, Error>
-    ensures same { input reader.new ≡ input reader.old }
+    ensures same { SameInput reader.old reader.new }
     ensures onward { position_in reader.old ≤ position_in reader.new }
+    ensures failure { IfErr result (FailedFrom reader.old) }
     ensures reads { Reads (λ v. map T.value v.items) result (list_at T.encoded (rest reader.old)) (rest reader.new) }
 {
     let count = reader.read_var_u32()?;
@@ -29,8 +30,9 @@ fn read_many<'a, T: FromReader<'a, A>, A: Allocator + Copy>(
     count: u32,
     reader: &mut BinaryReader<'a>,
 ) -> Result<Vec<T, A>, Error>
-    ensures same { input reader.new ≡ input reader.old }
+    ensures same { SameInput reader.old reader.new }
     ensures onward { position_in reader.old ≤ position_in reader.new }
+    ensures failure { IfErr result (FailedFrom reader.old) }
     ensures reads { Reads (λ v. map T.value v.items) result (many_at T.encoded count (rest reader.old)) (rest reader.new) }
 {
     let mut items = Vec::new(alloc);

@@ -1,7 +1,7 @@
-ghost use Rattle.std.specs.Prelude.{◌≡◌, ℕ, ◌≤◌, List, length, Option, Some, None, IfOk, OnErr, map};
+ghost use Rattle.std.specs.Prelude.{◌≡◌, ℕ, ◌≤◌, ◌+◌, List, length, Option, Some, None, IfOk, OnErr, map, IfErr};
 ghost use Rattle.std.specs.Option.{option_map};
 ghost use Rattle.wasm_spec.specs.Values.{u32_at, items_at};
-ghost use Rattle.wasm_readers.specs.Reader.{input, position_in, original, rest};
+ghost use Rattle.wasm_readers.specs.Reader.{input, SameInput, position_in, original, rest, RefusedFrom, FailedFrom};
 ghost use Rattle.wasm_readers_errors.specs.Errors.{Reads};
 ghost use Rattle.wasm_readers.specs.Sections.{next_item, NextItem};
 
@@ -23,8 +23,9 @@ pub trait FromReader<'a, A: Allocator>: Sized + Drop {
     ghost value: { Self → Value };
 
     fn from_reader(alloc: A, reader: &mut BinaryReader<'a>) -> Result<Self, Error>
-        ensures same { input reader.new ≡ input reader.old }
+        ensures same { SameInput reader.old reader.new }
         ensures onward { position_in reader.old ≤ position_in reader.new }
+        ensures failure { IfErr result (FailedFrom reader.old) }
         ensures reads { Reads value result (encoded (rest reader.old)) (rest reader.new) };
 }
 
@@ -50,11 +51,16 @@ pub struct SectionLimited<'a, T, A: Allocator = Global> {
 }
 
 impl<'a, T, A: Allocator + Copy> SectionLimited<'a, T, A> {
-    ghost use Rattle.wasm_readers.specs.SectionsSeen.{count_of, bytes_of, items_left, items_rest};
+    ghost use Rattle.std.specs.Prelude.{false};
+    ghost use Rattle.wasm_readers.specs.SectionsSeen.{count_of, bytes_of, section_start, section_end, first_item_at, items_left, items_rest, items_done, next_item_at, items_end};
 
     /// The section that these bytes are: a count, and what follows it.
     pub fn new(alloc: A, reader: BinaryReader<'a>) -> Result<SectionLimited<'a, T, A>, Refusal>
         ensures ok { IfOk result (λ s. u32_at (rest reader.entry) ≡ Some (count_of s, bytes_of s)) }
+        ensures start { IfOk result (λ s. section_start s ≡ original reader.entry) }
+        ensures end { IfOk result (λ s. section_end s ≡ original reader.entry + length (input reader.entry)) }
+        ensures first { IfOk result (λ s. first_item_at s + length (bytes_of s) ≡ section_end s) }
+        ensures refusal { IfErr result (RefusedFrom reader.entry) }
         ensures err { OnErr result (u32_at (rest reader.entry) ≡ None) }
     {
         let mut reader = reader;
@@ -75,12 +81,17 @@ impl<'a, T, A: Allocator + Copy> SectionLimited<'a, T, A> {
     }
 
     /// The offset of the first item in the whole input.
-    pub fn original_position(&self) -> u64 {
+    pub fn original_position(&self) -> u64
+        ensures { result ≡ first_item_at self.now }
+    {
         self.reader.original_position()
     }
 
     /// The offsets in the whole input of the section's first byte and of the byte behind it.
-    pub fn range(&self) -> Range<u64> {
+    pub fn range(&self) -> Range<u64>
+        ensures start { result.start ≡ section_start self.now }
+        ensures end { result.end ≡ section_end self.now }
+    {
         self.reader.range()
     }
 
@@ -88,6 +99,9 @@ impl<'a, T, A: Allocator + Copy> SectionLimited<'a, T, A> {
     pub fn items(&self) -> SectionItems<'a, T, A>
         ensures left { items_left result ≡ count_of self.now }
         ensures rest { items_rest result ≡ bytes_of self.now }
+        ensures going { items_done result ≡ false }
+        ensures position { next_item_at result ≡ first_item_at self.now }
+        ensures end { items_end result ≡ section_end self.now }
     {
         SectionItems {
             reader: self.reader,
@@ -110,13 +124,19 @@ pub struct SectionItems<'a, T, A: Allocator = Global> {
 }
 
 impl<'a, T: FromReader<'a, A>, A: Allocator + Copy> SectionItems<'a, T, A> {
-    ghost use Rattle.wasm_readers.specs.SectionsSeen.{items_left, items_rest, items_done};
+    ghost use Rattle.std.specs.Prelude.{IfSome};
+    ghost use Rattle.wasm_readers.specs.SectionsSeen.{items_left, items_rest, items_done, next_item_at, SameSection, ItemsFailedFrom};
 
     /// The next item with its offset in the whole input, or `None` where the section ends. Bytes
     /// behind the last item are refused.
     pub fn read_next(&mut self) -> Result<Option<(u64, T)>, Error>
         ensures going { items_done self.new ≡ items_done self.old }
         ensures reads { NextItem T.encoded T.value (items_left self.old) (items_rest self.old) result (items_left self.new) (items_rest self.new) }
+        ensures position { IfOk result (λ o. IfSome o (λ x. x.0 ≡ next_item_at self.old)) }
+        ensures same { SameSection self.old self.new }
+        ensures over { IfOk result (λ o. o ≡ None → self.new ≡ self.old) }
+        ensures failure { IfErr result (ItemsFailedFrom self.old) }
+        ensures err { OnErr result (items_left self.new ≡ items_left self.old) }
     {
         let offset = self.reader.original_position();
         if self.left == 0 {
@@ -138,14 +158,14 @@ impl<'a, T: FromReader<'a, A>, A: Allocator + Copy> SectionItems<'a, T, A> {
 impl<'a, T: FromReader<'a, A>, A: Allocator + Copy> Iterator for SectionItems<'a, T, A> {
     type Item = Result<(u64, T), Error>;
 
-    ghost use Rattle.std.specs.Prelude.{◌+◌, if◌then◌else◌};
+    ghost use Rattle.std.specs.Prelude.{IfSome, if◌then◌else◌};
     ghost use Rattle.std.specs.Iterator.{at_most};
-    ghost use Rattle.wasm_readers.specs.Sections.{ItemGives};
-    ghost use Rattle.wasm_readers.specs.SectionsSeen.{items_left, items_rest, items_done};
+    ghost use Rattle.wasm_readers.specs.Sections.{ItemGives, StandsAt};
+    ghost use Rattle.wasm_readers.specs.SectionsSeen.{items_left, items_rest, items_done, next_item_at, SameSection, ItemsFailedFrom};
 
     ghost can_next = { λ _. Unit {0} };
 
-    ghost next_gives = { λ s r t. ItemGives T.encoded T.value (items_done s) (items_left s) (items_rest s) r (items_done t) (items_left t) (items_rest t) };
+    ghost next_gives = { λ s r t. ItemGives T.encoded T.value (items_done s) (items_left s) (items_rest s) r (items_done t) (items_left t) (items_rest t) × StandsAt (next_item_at s) r × SameSection s t × IfSome r (λ item. IfErr item (ItemsFailedFrom s)) };
 
     ghost remaining = { λ s. at_most (if items_done s then 0 else items_left s + 1) };
 

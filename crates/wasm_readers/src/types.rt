@@ -1,12 +1,12 @@
 //! Reading of types.
 
-ghost use Rattle.std.specs.Prelude.{◌≡◌, ◌≤◌, ◌<◌, ℕ, List, Option, Some, None, IfOk, OnOk, OnErr, map};
+ghost use Rattle.std.specs.Prelude.{◌≡◌, ◌≤◌, ◌<◌, ℕ, List, Option, Some, None, IfOk, OnOk, OnErr, map, IfErr};
 ghost use Rattle.std.specs.Option.{option_map};
 ghost use Rattle.wasm_spec.specs.Values.{list_at};
 ghost use Rattle.std.specs.Prelude.{true};
 ghost use Rattle.wasm_spec.specs.Syntax.{abstract_heap};
 ghost use Rattle.wasm_spec.specs.BinaryTypes.{abstract_heap_from, abstract_heap_at, flag_at, heap_at, ref_at, val_at, storage_at, field_at};
-ghost use Rattle.wasm_readers.specs.Reader.{input, position_in, rest};
+ghost use Rattle.wasm_readers.specs.Reader.{input, SameInput, position_in, rest, RefusedFrom};
 ghost use Rattle.wasm_readers_errors.specs.Errors.{Reads};
 ghost use Rattle.wasm_readers.specs.Written.{written};
 ghost use Rattle.wasm_readers_types.specs.SeenValues.{abstract_heap_of, heap_of, HeapFits, ref_of, val_of, storage_of, field_of};
@@ -56,8 +56,9 @@ impl<'a> BinaryReader<'a> {
     /// An abstract heap type.
     #[tactic(auto, unfolding(wasm_spec::specs::BinaryTypes::abstract_heap_at))]
     pub fn read_abstract_heap_type(&mut self) -> Result<AbstractHeapType, Refusal>
-        ensures same { input self.new ≡ input self.old }
+        ensures same { SameInput self.old self.new }
         ensures onward { position_in self.old ≤ position_in self.new }
+        ensures refusal { IfErr result (RefusedFrom self.old) }
         ensures ok { IfOk result (λ a. abstract_heap_at (rest self.old) ≡ Some (abstract_heap_of a, rest self.new)) }
         ensures further { OnOk result (position_in self.old < position_in self.new) }
         ensures err { OnErr result (abstract_heap_at (rest self.old) ≡ None) }
@@ -73,8 +74,9 @@ impl<'a> BinaryReader<'a> {
     /// A heap type.
     #[tactic(auto, unfolding(wasm_spec::specs::BinaryTypes::heap_at))]
     pub fn read_heap_type(&mut self) -> Result<HeapType, Refusal>
-        ensures same { input self.new ≡ input self.old }
+        ensures same { SameInput self.old self.new }
         ensures onward { position_in self.old ≤ position_in self.new }
+        ensures refusal { IfErr result (RefusedFrom self.old) }
         ensures ok { IfOk result (λ h. heap_at written (rest self.old) ≡ Some (heap_of h, rest self.new)) }
         ensures further { OnOk result (position_in self.old < position_in self.new) }
         ensures fits { IfOk result HeapFits }
@@ -100,8 +102,9 @@ impl<'a> BinaryReader<'a> {
     /// A reference type.
     #[tactic(auto, unfolding(wasm_spec::specs::BinaryTypes::ref_at))]
     pub fn read_ref_type(&mut self) -> Result<RefType, Refusal>
-        ensures same { input self.new ≡ input self.old }
+        ensures same { SameInput self.old self.new }
         ensures onward { position_in self.old ≤ position_in self.new }
+        ensures refusal { IfErr result (RefusedFrom self.old) }
         ensures ok { IfOk result (λ x. ref_at written (rest self.old) ≡ Some (ref_of x, rest self.new)) }
         ensures further { OnOk result (position_in self.old < position_in self.new) }
         ensures err { OnErr result (ref_at written (rest self.old) ≡ None) }
@@ -120,8 +123,9 @@ impl<'a> BinaryReader<'a> {
 
     /// A reference type's heap type.
     fn read_reference(&mut self, nullable: bool) -> Result<RefType, Refusal>
-        ensures same { input self.new ≡ input self.old }
+        ensures same { SameInput self.old self.new }
         ensures onward { position_in self.old ≤ position_in self.new }
+        ensures refusal { IfErr result (RefusedFrom self.old) }
         ensures ok { IfOk result (λ x. heap_at written (rest self.old) ≡ Some ((ref_of x).heap, rest self.new)) }
         ensures null { IfOk result (λ x. (ref_of x).nullable ≡ nullable) }
         ensures err { OnErr result (heap_at written (rest self.old) ≡ None) }
@@ -136,8 +140,9 @@ impl<'a> BinaryReader<'a> {
     /// A value type.
     #[tactic(auto, unfolding(wasm_spec::specs::BinaryTypes::val_at))]
     pub fn read_val_type(&mut self) -> Result<ValType, Refusal>
-        ensures same { input self.new ≡ input self.old }
+        ensures same { SameInput self.old self.new }
         ensures onward { position_in self.old ≤ position_in self.new }
+        ensures refusal { IfErr result (RefusedFrom self.old) }
         ensures ok { IfOk result (λ x. val_at written (rest self.old) ≡ Some (val_of x, rest self.new)) }
         ensures further { OnOk result (position_in self.old < position_in self.new) }
         ensures err { OnErr result (val_at written (rest self.old) ≡ None) }
@@ -159,8 +164,9 @@ impl<'a> BinaryReader<'a> {
     /// A storage type.
     #[tactic(auto, unfolding(wasm_spec::specs::BinaryTypes::storage_at))]
     pub fn read_storage_type(&mut self) -> Result<StorageType, Refusal>
-        ensures same { input self.new ≡ input self.old }
+        ensures same { SameInput self.old self.new }
         ensures onward { position_in self.old ≤ position_in self.new }
+        ensures refusal { IfErr result (RefusedFrom self.old) }
         ensures ok { IfOk result (λ x. storage_at written (rest self.old) ≡ Some (storage_of x, rest self.new)) }
         ensures further { OnOk result (position_in self.old < position_in self.new) }
         ensures err { OnErr result (storage_at written (rest self.old) ≡ None) }
@@ -179,8 +185,9 @@ impl<'a> BinaryReader<'a> {
     /// A field type.
     #[tactic(auto, unfolding(wasm_spec::specs::BinaryTypes::field_at))]
     pub fn read_field_type(&mut self) -> Result<FieldType, Refusal>
-        ensures same { input self.new ≡ input self.old }
+        ensures same { SameInput self.old self.new }
         ensures onward { position_in self.old ≤ position_in self.new }
+        ensures refusal { IfErr result (RefusedFrom self.old) }
         ensures ok { IfOk result (λ x. field_at written (rest self.old) ≡ Some (field_of x, rest self.new)) }
         ensures further { OnOk result (position_in self.old < position_in self.new) }
         ensures err { OnErr result (field_at written (rest self.old) ≡ None) }
@@ -196,8 +203,9 @@ impl<'a> BinaryReader<'a> {
     /// A flag: a byte that is 0 or 1.
     #[tactic(auto, unfolding(wasm_spec::specs::BinaryTypes::flag_at))]
     pub fn read_flag(&mut self) -> Result<bool, Refusal>
-        ensures same { input self.new ≡ input self.old }
+        ensures same { SameInput self.old self.new }
         ensures onward { position_in self.old ≤ position_in self.new }
+        ensures refusal { IfErr result (RefusedFrom self.old) }
         ensures ok { IfOk result (λ f. flag_at (rest self.old) ≡ Some (f, rest self.new)) }
         ensures further { OnOk result (position_in self.old < position_in self.new) }
         ensures err { OnErr result (flag_at (rest self.old) ≡ None) }
