@@ -6,8 +6,16 @@ use Rattle.wasm_readers.specs.Sections.{next_item}
 use Rattle.wasm_readers_errors.specs.declared.features.WasmFeatures.{WasmFeatures}
 use Rattle.wasm_readers_types.specs.declared.indices.UnpackedIndex.{UnpackedIndex}
 use Rattle.wasm_validator_types.specs.Spaces.{Spaces}
-use Rattle.wasm_validator.specs.Standing.{Types}
+use Rattle.std.specs.declared.result.Result.{Result}
+use Rattle.std.specs.declared.result.Result.TheVariants as results
+use Rattle.wasm_validator.specs.declared.error.Error.{Error}
+use Rattle.wasm_validator.specs.declared.error.Error.TheVariants.{Refused, DuplicateExport, OutOfMemory}
+use Rattle.wasm_validator.specs.Standing.{Types, Adds}
 use Rattle.wasm_validator.specs.Machine.{read_each, add_single}
+
+-- a refusal, as the answer of a call that gives nothing
+abbrev pub refusal : {A : Type 0} → Error A → Result (Unit {0}) (Error A)
+refusal e = results.Err e
 
 -- at the end there is no item
 no_item : {V : Type 0} (b : Bool) (x : V × (ℕ × List ℕ)) → cond b (Some None) None ≡ Some (Some x) → ⊥
@@ -44,6 +52,17 @@ module _ {V : Type 0} (encoded : List ℕ → Option (V × List ℕ)) where
     read_each-refused (suc m) n bytes after v s e a = let here = item_is m (encoded bytes) v n after e in rw (here.0, a) refl
 
 pub ruleset item_laws = (fewer_left, read_each-step, read_each-refused)
+
+-- what is refused in a part is refused in the whole
+pub adds_refused : {A S : Type 0} (e : Error A) (part whole : Option S) (here there : S) → Adds (refusal e) part here → (part ≡ None → whole ≡ None) → Adds (refusal e) whole there
+adds_refused (Refused r) part whole here there a up = up a
+adds_refused (DuplicateExport name offset) part whole here there a up = up a
+adds_refused OutOfMemory part whole here there a up = tt
+
+-- nothing under a test
+pub if_none : {S : Type 0} (b : Bool) (o : Option S) → o ≡ None → cond b o None ≡ None
+if_none true o e = e
+if_none false o e = refl
 
 -- a group of any other number of types is not served
 pub add_single-other : {X : Type 0} (features : WasmFeatures) (p : Types × Spaces) (f : X → Sub UnpackedIndex) (xs : List X) → length xs ≢ 1 → add_single features p (map f xs) ≡ None

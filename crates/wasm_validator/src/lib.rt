@@ -7,6 +7,7 @@ pub mod payload;
 mod rules;
 pub mod validator;
 
+pub use bitflags::Flags;
 pub use error::Error;
 pub use payload::{ValidPayload, validate};
 pub use validator::Validator;

@@ -35,7 +35,10 @@ pub fn add_types<'a, A: Allocator + Copy>(
     )?;
     let mut groups = section.items();
     'groups: while let Some((offset, group)) = groups.read_next()? {
-        add_rec_group(features, list, spaces, group, offset)?;
+        match add_rec_group(features, list, spaces, group, offset) {
+            Ok(()) => {}
+            Err(error) => return Err(error),
+        }
     }
     Ok(())
 }

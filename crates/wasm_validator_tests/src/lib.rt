@@ -2,6 +2,8 @@
 #![tactic(auto)]
 
 #[cfg(test)]
+mod features;
+#[cfg(test)]
 mod modules;
 #[cfg(test)]
 mod robustness;

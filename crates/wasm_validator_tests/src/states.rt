@@ -3,7 +3,9 @@
 use std::alloc::Global;
 use std::fmt::Write;
 use std::test::Fail;
-use wasm_validator::{BinaryReader, Encoding, Error, SectionLimited, Validator, ValidatorId};
+use wasm_validator::{
+    BinaryReader, Encoding, Error, Flags, SectionLimited, Validator, ValidatorId, WasmFeatures,
+};
 
 /// Whether the answer is a refusal with this message.
 fn says<T>(alloc: Global, answer: &Result<T, Error>, message: &str) -> bool {
@@ -114,5 +116,80 @@ fn types_are_shown_while_a_module_is_read(rt: HostRuntime) -> Result<(), Fail> {
     assert_eq!(rt; count, 0);
     let deeper = validator.types(1).is_none();
     assert!(rt; deeper);
+    Ok(())
+}
+
+#[test]
+fn tags_need_their_feature_in_every_state(rt: HostRuntime) -> Result<(), Fail> {
+    let alloc = rt.alloc();
+    let mut features = WasmFeatures::default();
+    features.remove(WasmFeatures::EXCEPTIONS);
+    let mut validator = Validator::new_with_features(alloc, features, ValidatorId::from_number(0));
+    let tags = SectionLimited::new(alloc, BinaryReader::new(b"\0", 0))
+        .ok()
+        .ok_or("no section")?;
+    let before = says(
+        alloc,
+        &validator.tag_section(&tags),
+        "exceptions proposal not enabled",
+    );
+    assert!(rt; before);
+    assert!(rt; validator.can_reset());
+    validator.version(1, Encoding::Module, &(0..8))?;
+    let within = says(
+        alloc,
+        &validator.tag_section(&tags),
+        "exceptions proposal not enabled",
+    );
+    assert!(rt; within);
+    assert!(rt; validator.has_failed());
+    Ok(())
+}
+
+#[test]
+fn sections_that_are_not_served_fail_the_validator(rt: HostRuntime) -> Result<(), Fail> {
+    let alloc = rt.alloc();
+    let range = 8..9;
+    let functions = SectionLimited::new(alloc, BinaryReader::new(b"\0", 8))
+        .ok()
+        .ok_or("no section")?;
+    let mut validator = Validator::new(alloc, ValidatorId::from_number(0));
+    validator.version(1, Encoding::Module, &(0..8))?;
+    let function = says(
+        alloc,
+        &validator.function_section(&functions),
+        "not served yet: function section",
+    );
+    assert!(rt; function);
+    let again = says(
+        alloc,
+        &validator.function_section(&functions),
+        "validator failed: an earlier section was refused",
+    );
+    assert!(rt; again);
+    let mut validator = Validator::new(alloc, ValidatorId::from_number(1));
+    validator.version(1, Encoding::Module, &(0..8))?;
+    let start = says(
+        alloc,
+        &validator.start_section(0, &range),
+        "not served yet: start section",
+    );
+    assert!(rt; start);
+    let mut validator = Validator::new(alloc, ValidatorId::from_number(2));
+    validator.version(1, Encoding::Module, &(0..8))?;
+    let count = says(
+        alloc,
+        &validator.data_count_section(3, &range),
+        "not served yet: data count section",
+    );
+    assert!(rt; count);
+    let mut validator = Validator::new(alloc, ValidatorId::from_number(3));
+    validator.version(1, Encoding::Module, &(0..8))?;
+    let code = says(
+        alloc,
+        &validator.code_section_start(&range),
+        "not served yet: code section",
+    );
+    assert!(rt; code);
     Ok(())
 }
