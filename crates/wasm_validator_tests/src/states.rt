@@ -149,7 +149,6 @@ fn tags_need_their_feature_in_every_state(rt: HostRuntime) -> Result<(), Fail> {
 #[test]
 fn sections_that_are_not_served_fail_the_validator(rt: HostRuntime) -> Result<(), Fail> {
     let alloc = rt.alloc();
-    let range = 8..9;
     let functions = SectionLimited::new(alloc, BinaryReader::new(b"\0", 8))
         .ok()
         .ok_or("no section")?;
@@ -167,29 +166,5 @@ fn sections_that_are_not_served_fail_the_validator(rt: HostRuntime) -> Result<()
         "validator failed: an earlier section was refused",
     );
     assert!(rt; again);
-    let mut validator = Validator::new(alloc, ValidatorId::from_number(1));
-    validator.version(1, Encoding::Module, &(0..8))?;
-    let start = says(
-        alloc,
-        &validator.start_section(0, &range),
-        "not served yet: start section",
-    );
-    assert!(rt; start);
-    let mut validator = Validator::new(alloc, ValidatorId::from_number(2));
-    validator.version(1, Encoding::Module, &(0..8))?;
-    let count = says(
-        alloc,
-        &validator.data_count_section(3, &range),
-        "not served yet: data count section",
-    );
-    assert!(rt; count);
-    let mut validator = Validator::new(alloc, ValidatorId::from_number(3));
-    validator.version(1, Encoding::Module, &(0..8))?;
-    let code = says(
-        alloc,
-        &validator.code_section_start(&range),
-        "not served yet: code section",
-    );
-    assert!(rt; code);
     Ok(())
 }
