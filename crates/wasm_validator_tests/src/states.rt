@@ -168,3 +168,45 @@ fn sections_that_are_not_served_fail_the_validator(rt: HostRuntime) -> Result<()
     assert!(rt; again);
     Ok(())
 }
+
+#[test]
+fn start_sections_are_not_served(rt: HostRuntime) -> Result<(), Fail> {
+    let alloc = rt.alloc();
+    let mut validator = Validator::new(alloc, ValidatorId::from_number(0));
+    validator.version(1, Encoding::Module, &(0..8))?;
+    let start = says(
+        alloc,
+        &validator.start_section(0, &(8..9)),
+        "not served yet: start section",
+    );
+    assert!(rt; start);
+    Ok(())
+}
+
+#[test]
+fn data_count_sections_are_not_served(rt: HostRuntime) -> Result<(), Fail> {
+    let alloc = rt.alloc();
+    let mut validator = Validator::new(alloc, ValidatorId::from_number(0));
+    validator.version(1, Encoding::Module, &(0..8))?;
+    let count = says(
+        alloc,
+        &validator.data_count_section(3, &(8..9)),
+        "not served yet: data count section",
+    );
+    assert!(rt; count);
+    Ok(())
+}
+
+#[test]
+fn code_sections_are_not_served(rt: HostRuntime) -> Result<(), Fail> {
+    let alloc = rt.alloc();
+    let mut validator = Validator::new(alloc, ValidatorId::from_number(0));
+    validator.version(1, Encoding::Module, &(0..8))?;
+    let code = says(
+        alloc,
+        &validator.code_section_start(&(8..9)),
+        "not served yet: code section",
+    );
+    assert!(rt; code);
+    Ok(())
+}
