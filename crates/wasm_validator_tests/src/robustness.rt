@@ -1,4 +1,4 @@
-//! Every front of a valid module, and every change of one byte, is answered.
+//! Every front of a valid module is answered, and the module with any one byte replaced by 00 or by ff.
 
 use crate::check;
 use std::alloc::{AllocError, Global};
