@@ -7,9 +7,9 @@ use Rattle.std.proofs.lemmas.List.Elements.{All-from_recursion}
 use Rattle.std.proofs.lemmas.Option.{none-some, slice_get-get_or, slice_get_within, get_or_from_slice_get, option_and_then_some}
 use Rattle.wasm_spec.specs.Syntax.{Sub, Rec, map_sub}
 use Rattle.wasm_spec.specs.References.{refs_option, refs_comp, refs_sub}
-use Rattle.wasm_spec.specs.Features.{Features}
+use Rattle.wasm_spec.specs.Features.{Features, canonical}
 use Rattle.wasm_spec.specs.Trees.{RecTree, DefType, close, declared}
-use Rattle.wasm_spec.specs.Closing.{is_closable, are_closable, resolve, start_if, closed, positions, with_group, with_groups}
+use Rattle.wasm_spec.specs.Closing.{is_closable, are_closable, resolve, start_unless, closed, positions, with_group, with_groups}
 use Rattle.wasm_spec.specs.TypeLaws.{ValidTypeSectionIsAccepted}
 use Rattle.wasm_spec.proofs.Closing.{slice_get-append_left}
 use Rattle.wasm_spec.proofs.Matching.{some-injective}
@@ -69,7 +69,7 @@ module _ (F : Features) where
   new_mentions ts us g t e f same k a s at_k in_group d =
       let found = position_of t 0 g.types k a in_group in
       let w = found.0 in
-      let c = if_some (is_closable F (length ts) g) (close (start_if F (length ts)) (map (map_sub (resolve ts)) g.types)) t f in
+      let c = if_some (is_closable F (length ts) g) (close (start_unless (canonical F) (length ts)) (map (map_sub (resolve ts)) g.types)) t f in
       let written = types_declare_what_is_written F ts us g e k w a found.1 (ap (λ l. slice_get l (length ts + k)) (sym same) ∙ at_k) in
       let is : map_sub (λ i. get_or us i a) w ≡ s = some-injective (map_sub (λ i. get_or us i a) w) s (sym written ∙ d) in
       let long : length us ≡ length ts + length g.types = ap length (sym same) ∙ length-append ts (positions t 0 g.types) ∙ ap (λ n. length ts + n) (length-positions t 0 g.types) in

@@ -3,9 +3,9 @@ use Rattle.std.proofs.Common.{◌≡◌, refl, sym, ap, ◌∙◌, subst, ℕ, z
 use Rattle.std.proofs.lemmas.Option.{option_and_then_some, none-some}
 use Rattle.std.specs.Option.{option_and_then}
 use Rattle.wasm_spec.specs.Syntax.{Rec, map_sub}
-use Rattle.wasm_spec.specs.Features.{Features}
+use Rattle.wasm_spec.specs.Features.{Features, canonical}
 use Rattle.wasm_spec.specs.Trees.{DefType, close, members, start_of}
-use Rattle.wasm_spec.specs.Closing.{are_closable, is_closable, resolve, start_if, closed, positions, with_group, with_groups, type_space}
+use Rattle.wasm_spec.specs.Closing.{are_closable, is_closable, resolve, start_unless, closed, positions, with_group, with_groups, type_space}
 use Rattle.wasm_spec.specs.TypeLaws.{MembersOfClosed, StartOfClosed, EqualTreesEqualGroups, AppendedGroup, FrontOfTypeSpace, EarlierTypesStay, SingleRecIsPlain, DifferentGroupsDifferentTypes, EachWrittenGroupIsItsOwn}
 use Rattle.wasm_spec.proofs.Numbering.{members-close, start_of-close}
 
@@ -32,13 +32,13 @@ if_some false x y e = absurd (none-some y e)
 
 pub each_written_group_is_its_own : EachWrittenGroupIsItsOwn
 each_written_group_is_its_own F ts us g h t u off e f differ same =
-    let left : close (start_if F (length ts)) (map (map_sub (resolve ts)) g.types) ≡ t = if_some (is_closable F (length ts) g) _ t e in
-    let right : close (start_if F (length us)) (map (map_sub (resolve us)) h.types) ≡ u = if_some (is_closable F (length us) h) _ u f in
+    let left : close (start_unless (canonical F) (length ts)) (map (map_sub (resolve ts)) g.types) ≡ t = if_some (is_closable F (length ts) g) _ t e in
+    let right : close (start_unless (canonical F) (length us)) (map (map_sub (resolve us)) h.types) ≡ u = if_some (is_closable F (length us) h) _ u f in
     let starts = (equal_trees_equal_groups _ _ _ _ (left ∙ same ∙ sym right)).0 in
     differ (some-injective (length ts) (length us) (subst (λ c. (if c then None else Some (length ts)) ≡ (if c then None else Some (length us))) off starts))
 
 pub single_rec_is_plain : SingleRecIsPlain
-single_rec_is_plain F ts s on = ap (λ c. if c then Some (close (start_if F (length ts)) (map (map_sub (resolve ts)) (s ∷ []))) else None) (ap (λ c. c && are_closable F (length ts) (length ts + 1) (length ts) (s ∷ [])) on)
+single_rec_is_plain F ts s on = ap (λ c. if c then Some (close (start_unless (canonical F) (length ts)) (map (map_sub (resolve ts)) (s ∷ []))) else None) (ap (λ c. c && are_closable F (length ts) (length ts + 1) (length ts) (s ∷ [])) on)
 
 -- the types that groups give
 module _ (F : Features) where

@@ -1,13 +1,12 @@
 -- The types of a list of groups over ids.
-use Rattle.std.proofs.Common.{◌≡◌, refl, sym, ap, ◌∙◌, ℕ, zero, suc, ◌<◌, ◌≤◌, ◌-◌, if◌then◌else◌, List, [], ◌∷◌, ◌++◌, map, length, slice_get, Option, Some, None, All, append_assoc, append-nil, arith}
+use Rattle.std.proofs.Common.{◌≡◌, refl, sym, ap, ◌∙◌, ℕ, zero, suc, Bool, ◌<◌, ◌≤◌, ◌-◌, List, [], ◌∷◌, ◌++◌, map, length, slice_get, Option, Some, None, All, append_assoc, append-nil, arith}
 use Rattle.std.specs.List.{AllByRecursion}
 use Rattle.std.proofs.lemmas.List.Elements.{recursion_from_All}
 use Rattle.std.proofs.lemmas.Option.{none-some, slice_get_within, slice_get_past}
 use Rattle.wasm_spec.specs.Syntax.{Sub, map_sub}
 use Rattle.wasm_spec.specs.References.{refs_sub}
-use Rattle.wasm_spec.specs.Features.{Features}
 use Rattle.wasm_spec.specs.Trees.{TypeUse, local, outer, DefType, close}
-use Rattle.wasm_spec.specs.Closing.{start_if, use_of, resolve, positions}
+use Rattle.wasm_spec.specs.Closing.{start_unless, use_of, resolve, positions}
 use Rattle.wasm_spec.specs.TypeLists.{ListedUse, by_id, by_position, use_of_id, resolve_listed, listed_use, listed_from, listed_tree, with_listed, with_all_listed, types_of}
 use Rattle.wasm_spec.specs.TypeLaws.{AppendedListedGroup, EarlierIdsStay, HasNoRepetition, IsKnownUse, EqualTreesEqualListedGroups, AreIdsOf, ListedGroupIsWrittenGroup}
 use Rattle.wasm_spec.proofs.Agreement.{map_sub-undone}
@@ -16,25 +15,25 @@ use Rattle.wasm_spec.proofs.SyntaxMaps.{map-map_by, map_sub-map}
 use Rattle.wasm_spec.proofs.Matching.{some-injective}
 use Rattle.wasm_spec.proofs.Decided.{type_discrete}
 
-module _ (F : Features) where
-  all-append : (gs hs : List (List (Sub ListedUse))) (ts : List DefType) → with_all_listed F ts (gs ++ hs) ≡ with_all_listed F (with_all_listed F ts gs) hs
+module _ (c : Bool) where
+  all-append : (gs hs : List (List (Sub ListedUse))) (ts : List DefType) → with_all_listed c ts (gs ++ hs) ≡ with_all_listed c (with_all_listed c ts gs) hs
   all-append [] hs ts = refl
-  all-append (g ∷ gs) hs ts = all-append gs hs (with_listed F ts g)
+  all-append (g ∷ gs) hs ts = all-append gs hs (with_listed c ts g)
 
-  goes_on : (gs : List (List (Sub ListedUse))) (ts : List DefType) → (rest : List DefType) × (with_all_listed F ts gs ≡ ts ++ rest)
+  goes_on : (gs : List (List (Sub ListedUse))) (ts : List DefType) → (rest : List DefType) × (with_all_listed c ts gs ≡ ts ++ rest)
   goes_on [] ts = ([], sym (append-nil ts))
   goes_on (g ∷ gs) ts =
-      let here = positions (listed_tree F ts g) 0 g in
+      let here = positions (listed_tree c ts g) 0 g in
       let h = goes_on gs (ts ++ here) in
       (here ++ h.0, h.1 ∙ append_assoc ts here h.0)
 
 pub appended_listed_group : AppendedListedGroup
-appended_listed_group F gs g = all-append F gs (g ∷ []) []
+appended_listed_group c gs g = all-append c gs (g ∷ []) []
 
 pub earlier_ids_stay : EarlierIdsStay
-earlier_ids_stay F gs hs k l =
-    let h = goes_on F hs (types_of F gs) in
-    ap (λ ts. slice_get ts k) (all-append F gs hs [] ∙ h.1) ∙ slice_get-append_left (types_of F gs) h.0 k l
+earlier_ids_stay c gs hs k l =
+    let h = goes_on c hs (types_of c gs) in
+    ap (λ ts. slice_get ts k) (all-append c gs hs [] ∙ h.1) ∙ slice_get-append_left (types_of c gs) h.0 k l
 
 -- the first place of a type in a list
 abbrev id_in : List DefType → DefType → ℕ
@@ -89,8 +88,8 @@ module _ (ts : List DefType) (one : HasNoRepetition ts) where
   undone (s ∷ ss) h = λ i. map_sub-undone (resolve_listed ts) back s (each_back (refs_sub s) (recursion_from_All (IsKnownUse ts) (refs_sub s) h.0)) i ∷ undone ss h.1 i
 
 pub equal_trees_equal_listed_groups : EqualTreesEqualListedGroups
-equal_trees_equal_listed_groups F ts g h one u v e =
-    let start = start_if F (length ts) in
+equal_trees_equal_listed_groups c ts g h one u v e =
+    let start = start_unless c (length ts) in
     let same = (equal_trees_equal_groups start start (map (map_sub (resolve_listed ts)) g) (map (map_sub (resolve_listed ts)) h) e).1 in
     sym (undone ts one g (recursion_from_All _ g u.known)) ∙ ap (map (map_sub (back ts one))) same ∙ undone ts one h (recursion_from_All _ h v.known)
 
@@ -105,9 +104,9 @@ written_use us ts ids h k None e =
     (λ i. local (k - h.as_many i)) ∙ sym (ap (λ o. use_of o (k - length ts)) (slice_get_past ts k l))
 
 pub listed_group_is_written_group : ListedGroupIsWrittenGroup
-listed_group_is_written_group F us ts ids g on h =
+listed_group_is_written_group us ts ids g h =
     let uses : (k : ℕ) → resolve_listed us (listed_from ids k) ≡ resolve ts k = λ k. written_use us ts ids h k (slice_get ids k) refl in
     let subs : map (map_sub (resolve_listed us)) (map (map_sub (listed_from ids)) g) ≡ map (map_sub (resolve ts)) g =
     map-map_by (map_sub (resolve_listed us)) (map_sub (listed_from ids)) (map_sub (λ k. resolve_listed us (listed_from ids k))) (map_sub-map (resolve_listed us) (listed_from ids)) g
     ∙ (λ i. map (map_sub (λ k. uses k i)) g) in
-    λ i. close (if on i then None else Some (length us)) (subs i)
+    λ i. close None (subs i)

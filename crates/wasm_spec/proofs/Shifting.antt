@@ -7,9 +7,9 @@ use Rattle.std.proofs.lemmas.List.Folds.{list_all-map}
 use Rattle.std.proofs.lemmas.Option.{slice_get_past}
 use Rattle.wasm_spec.specs.Syntax.{Heap, abstract_heap, concrete, exact, Val, i32, i64, f32, f64, v128, reference, Storage, i8, i16, unpacked, Comp, func, array, struct, cont, Sub, Rec, map_heap, map_val, map_storage, map_field, map_comp, map_sub, map_rec}
 use Rattle.wasm_spec.specs.References.{refs_option, refs_heap, refs_val, refs_storage, refs_field, refs_comp}
-use Rattle.wasm_spec.specs.Features.{Features}
+use Rattle.wasm_spec.specs.Features.{Features, canonical}
 use Rattle.wasm_spec.specs.Trees.{DefType, close}
-use Rattle.wasm_spec.specs.Closing.{is_in_bounds, are_closable, is_closable, use_of, resolve, start_if}
+use Rattle.wasm_spec.specs.Closing.{is_in_bounds, are_closable, is_closable, use_of, resolve, start_unless}
 use Rattle.wasm_spec.specs.TypeLaws.{SelfMentionsAreOneTree}
 use Rattle.wasm_spec.proofs.SyntaxMaps.{map-map_by, map_sub-map}
 
@@ -100,7 +100,7 @@ pub self_mentions_are_one_tree : SelfMentionsAreOneTree
 self_mentions_are_one_tree F ts g on =
     let m = length ts in
     let test = group-shifted F m g in
-    let start : start_if F m ≡ start_if F 0 = ap (λ c. if c then None else Some m) on ∙ sym (ap (λ c. if c then None else Some 0) on) in
+    let start : start_unless (canonical F) m ≡ start_unless (canonical F) 0 = ap (λ c. if c then None else Some m) on ∙ sym (ap (λ c. if c then None else Some 0) on) in
     let members : map (map_sub (resolve ts)) (map (map_sub (shift F m)) g.types) ≡ map (map_sub (resolve [])) g.types =
     map-map_by (map_sub (resolve ts)) (map_sub (shift F m)) (map_sub (λ k. resolve ts (shift F m k))) (map_sub-map (resolve ts) (shift F m)) g.types
     ∙ (λ i. map (map_sub (λ k. uses-shifted F m ts refl k i)) g.types) in

@@ -8,9 +8,9 @@ use Rattle.std.proofs.lemmas.List.Elements.{recursion_from_All}
 use Rattle.std.proofs.lemmas.Option.{none-some, slice_get_past, slice_get-get_or, slice_get_within}
 use Rattle.wasm_spec.specs.Syntax.{Sub, Rec, map_sub}
 use Rattle.wasm_spec.specs.References.{refs_option, refs_comp, refs_sub}
-use Rattle.wasm_spec.specs.Features.{Features}
+use Rattle.wasm_spec.specs.Features.{Features, canonical}
 use Rattle.wasm_spec.specs.Trees.{RecTree, DefType, close, members, denote, declared}
-use Rattle.wasm_spec.specs.Closing.{is_in_bounds, are_closable, is_closable, use_of, resolve, start_if, closed, positions}
+use Rattle.wasm_spec.specs.Closing.{is_in_bounds, are_closable, is_closable, use_of, resolve, start_unless, closed, positions}
 use Rattle.wasm_spec.specs.TypeLaws.{TypesDeclareWhatIsWritten}
 use Rattle.wasm_spec.proofs.Numbering.{members-close}
 use Rattle.wasm_spec.proofs.SyntaxMaps.{map_sub-map}
@@ -130,11 +130,11 @@ stands_for ts t g d i false e h =
     ap (λ o. denote t (use_of o k)) (slice_get_past ts i l)
     ∙ sym (ap (λ j. get_or (ts ++ positions t 0 g.types) j d) (sym split) ∙ get_or-append-add ts (positions t 0 g.types) k d ∙ positions-get_or t 0 g.types k d (omega (arith, h, l)) ∙ ap (at t) first)
 
-declares-closed : (F : Features) (ts : List DefType) (g : Rec ℕ) (t : RecTree) (k : ℕ) (s : Sub ℕ) (d : DefType) → is_closable F (length ts) g ≡ true → close (start_if F (length ts)) (map (map_sub (resolve ts)) g.types) ≡ t → slice_get g.types k ≡ Some s → d ≡ record { tree = t; position = k } → declared d ≡ Some (map_sub (λ i. get_or (ts ++ positions t 0 g.types) i d) s)
+declares-closed : (F : Features) (ts : List DefType) (g : Rec ℕ) (t : RecTree) (k : ℕ) (s : Sub ℕ) (d : DefType) → is_closable F (length ts) g ≡ true → close (start_unless (canonical F) (length ts)) (map (map_sub (resolve ts)) g.types) ≡ t → slice_get g.types k ≡ Some s → d ≡ record { tree = t; position = k } → declared d ≡ Some (map_sub (λ i. get_or (ts ++ positions t 0 g.types) i d) s)
 unfolding declared
 declares-closed F ts g t k s d c e f at_k =
     let subs = map (map_sub (resolve ts)) g.types in
-    let held : members t ≡ subs = ap members (sym e) ∙ members-close (start_if F (length ts)) subs in
+    let held : members t ≡ subs = ap members (sym e) ∙ members-close (start_unless (canonical F) (length ts)) subs in
     let within : k < length g.types = slice_get_within g.types k s f in
     let whole = not g.is_explicit || F.gc in
     let all : are_closable F (length ts) (length ts + length g.types) (length ts) g.types ≡ true = and_right whole (are_closable F (length ts) (length ts + length g.types) (length ts) g.types) c in
@@ -151,7 +151,7 @@ pub types_declare_what_is_written : TypesDeclareWhatIsWritten
 types_declare_what_is_written F ts us g e k s d f at_k =
     let h = map_some (λ t. ts ++ positions t 0 g.types) (closed F ts g) us e in
     let t = h.0 in
-    let c = if_some (is_closable F (length ts) g) (close (start_if F (length ts)) (map (map_sub (resolve ts)) g.types)) t h.1 in
+    let c = if_some (is_closable F (length ts) g) (close (start_unless (canonical F) (length ts)) (map (map_sub (resolve ts)) g.types)) t h.1 in
     let first : 0 + k ≡ k = omega arith in
     let found : slice_get (ts ++ positions t 0 g.types) (length ts + k) ≡ Some (at t (0 + k)) = slice_get-append_right ts (positions t 0 g.types) k ∙ positions-get t 0 g.types k (slice_get_within g.types k s f) in
     let same : d ≡ at t k = some-injective d (at t k) (sym at_k ∙ ap (λ l. slice_get l (length ts + k)) (sym h.2) ∙ found ∙ ap (λ j. Some (at t j)) first) in

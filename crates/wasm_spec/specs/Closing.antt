@@ -33,13 +33,13 @@ use_of None i = local i
 abbrev pub resolve : List DefType → ℕ → TypeUse
 resolve ts k = use_of (slice_get ts k) (k - length ts)
 
--- the index at which a group begins, where references aren't canonicalized
-abbrev pub start_if : Features → ℕ → Option ℕ
-start_if F start = if canonical F then None else Some start
+-- the index at which a group begins, where equal types aren't one
+abbrev pub start_unless : Bool → ℕ → Option ℕ
+start_unless is_canonical start = if is_canonical then None else Some start
 
 -- the recursive type that a written group is, behind the types so far
 abbrev pub closed : Features → List DefType → Rec ℕ → Option RecTree
-closed F ts g = if is_closable F (length ts) g then Some (close (start_if F (length ts)) (map (map_sub (resolve ts)) g.types)) else None
+closed F ts g = if is_closable F (length ts) g then Some (close (start_unless (canonical F) (length ts)) (map (map_sub (resolve ts)) g.types)) else None
 
 -- the types of a recursive type from position i on, one for each item of the list
 abbrev pub positions : {X : Type 0} → RecTree → ℕ → List X → List DefType

@@ -1,5 +1,5 @@
 -- Laws of recursive types, of closing, and of matching, as facts that a contract can name.
-use Rattle.std.specs.Prelude.{get_or, ⊤, ◌≡◌, ◌≢◌, ℕ, ◌+◌, ◌<◌, true, false, List, [], ◌∷◌, ◌++◌, map, length, slice_get, Option, Some, None, IsTrue}
+use Rattle.std.specs.Prelude.{get_or, Bool, ⊤, ◌≡◌, ◌≢◌, ℕ, ◌+◌, ◌<◌, true, false, List, [], ◌∷◌, ◌++◌, map, length, slice_get, Option, Some, None, IsTrue}
 use Rattle.std.specs.Option.{option_and_then}
 use Rattle.std.specs.Bool.{Decides}
 use Rattle.std.specs.List.{All, Contains}
@@ -78,10 +78,10 @@ TypesDeclareWhatIsWritten =
 
 -- A group behind others in a list leaves the types of earlier ids as they were.
 abbrev pub AppendedListedGroup : Type 0
-AppendedListedGroup = (F : Features) (gs : List (List (Sub ListedUse))) (g : List (Sub ListedUse)) → types_of F (gs ++ g ∷ []) ≡ with_listed F (types_of F gs) g
+AppendedListedGroup = (c : Bool) (gs : List (List (Sub ListedUse))) (g : List (Sub ListedUse)) → types_of c (gs ++ g ∷ []) ≡ with_listed c (types_of c gs) g
 
 abbrev pub EarlierIdsStay : Type 0
-EarlierIdsStay = (F : Features) (gs hs : List (List (Sub ListedUse))) (k : ℕ) → k < length (types_of F gs) → slice_get (types_of F (gs ++ hs)) k ≡ slice_get (types_of F gs) k
+EarlierIdsStay = (c : Bool) (gs hs : List (List (Sub ListedUse))) (k : ℕ) → k < length (types_of c gs) → slice_get (types_of c (gs ++ hs)) k ≡ slice_get (types_of c gs) k
 
 -- no type of the list has two ids
 pub record HasNoRepetition (ts : List DefType) : Type 0 where
@@ -99,8 +99,8 @@ pub record MentionsKnown (ts : List DefType) (g : List (Sub ListedUse)) : Type 0
 -- Behind a list with no repetition, equal recursive types come from equal groups, so that trees can be compared by ids.
 abbrev pub EqualTreesEqualListedGroups : Type 0
 EqualTreesEqualListedGroups =
-    (F : Features) (ts : List DefType) (g h : List (Sub ListedUse))
-    → HasNoRepetition ts → MentionsKnown ts g → MentionsKnown ts h → listed_tree F ts g ≡ listed_tree F ts h → g ≡ h
+    (c : Bool) (ts : List DefType) (g h : List (Sub ListedUse))
+    → HasNoRepetition ts → MentionsKnown ts g → MentionsKnown ts h → listed_tree c ts g ≡ listed_tree c ts h → g ≡ h
 
 -- each id is that of the type at its place
 pub record AreIdsOf (us : List DefType) (ids : List ℕ) (ts : List DefType) : Type 0 where
@@ -110,8 +110,8 @@ pub record AreIdsOf (us : List DefType) (ids : List ℕ) (ts : List DefType) : T
 -- A module's group, written by ids in a list of canonical types, is the recursive type that it is in the module.
 abbrev pub ListedGroupIsWrittenGroup : Type 0
 ListedGroupIsWrittenGroup =
-    (F : Features) (us ts : List DefType) (ids : List ℕ) (g : List (Sub ℕ)) → IsTrue (canonical F) → AreIdsOf us ids ts
-    → listed_tree F us (map (map_sub (listed_from ids)) g) ≡ close None (map (map_sub (resolve ts)) g)
+    (us ts : List DefType) (ids : List ℕ) (g : List (Sub ℕ)) → AreIdsOf us ids ts
+    → listed_tree true us (map (map_sub (listed_from ids)) g) ≡ close None (map (map_sub (resolve ts)) g)
 
 -- Matching is reflexive.
 pub record MatchingIsReflexive (R : Type 0) : Type 0 where

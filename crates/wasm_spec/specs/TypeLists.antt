@@ -1,11 +1,10 @@
 -- The types of a list of groups that name one another by ids: the list in which a validator keeps recursive types.
 -- An id is an index in the list of all types. Core Specification 3.0, Validation, Types (Recursive Types), with
 -- indices of one list in place of a module's.
-use Rattle.std.specs.Prelude.{ℕ, ◌-◌, List, [], ◌∷◌, ◌++◌, map, length, slice_get, Option, Some, None}
+use Rattle.std.specs.Prelude.{ℕ, ◌-◌, Bool, List, [], ◌∷◌, ◌++◌, map, length, slice_get, Option, Some, None}
 use Rattle.wasm_spec.specs.Syntax.{Sub, map_sub}
-use Rattle.wasm_spec.specs.Features.{Features}
 use Rattle.wasm_spec.specs.Trees.{RecTree, TypeUse, local, outer, DefType, close}
-use Rattle.wasm_spec.specs.Closing.{start_if, positions}
+use Rattle.wasm_spec.specs.Closing.{start_unless, positions}
 
 -- a use of a type in a group of the list: the id of a type before the group, or a position in the group
 pub data ListedUse : Type 0 where
@@ -20,21 +19,21 @@ abbrev pub resolve_listed : List DefType → ListedUse → TypeUse
 resolve_listed ts (by_id k) = use_of_id (slice_get ts k)
 resolve_listed ts (by_position i) = local i
 
--- the recursive type of a group, behind the types so far
-abbrev pub listed_tree : Features → List DefType → List (Sub ListedUse) → RecTree
-listed_tree F ts g = close (start_if F (length ts)) (map (map_sub (resolve_listed ts)) g)
+-- the recursive type of a group, behind the types so far, where equal types are one or each has its place
+abbrev pub listed_tree : Bool → List DefType → List (Sub ListedUse) → RecTree
+listed_tree is_canonical ts g = close (start_unless is_canonical (length ts)) (map (map_sub (resolve_listed ts)) g)
 
 -- the types so far, and those of a group
-abbrev pub with_listed : Features → List DefType → List (Sub ListedUse) → List DefType
-with_listed F ts g = ts ++ positions (listed_tree F ts g) 0 g
+abbrev pub with_listed : Bool → List DefType → List (Sub ListedUse) → List DefType
+with_listed is_canonical ts g = ts ++ positions (listed_tree is_canonical ts g) 0 g
 
-abbrev pub with_all_listed : Features → List DefType → List (List (Sub ListedUse)) → List DefType
-with_all_listed F ts [] = ts
-with_all_listed F ts (g ∷ gs) = with_all_listed F (with_listed F ts g) gs
+abbrev pub with_all_listed : Bool → List DefType → List (List (Sub ListedUse)) → List DefType
+with_all_listed is_canonical ts [] = ts
+with_all_listed is_canonical ts (g ∷ gs) = with_all_listed is_canonical (with_listed is_canonical ts g) gs
 
 -- the types of a list of groups, in the order of their ids
-abbrev pub types_of : Features → List (List (Sub ListedUse)) → List DefType
-types_of F gs = with_all_listed F [] gs
+abbrev pub types_of : Bool → List (List (Sub ListedUse)) → List DefType
+types_of is_canonical gs = with_all_listed is_canonical [] gs
 
 -- A type index of a module as the list writes it, where ids are those of the module's types so far: the id of the
 -- type at it, or from the end of them on a position in the group.
