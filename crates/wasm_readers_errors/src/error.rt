@@ -98,6 +98,7 @@ pub enum Rule {
     MultiValue,
     Exceptions,
     TooManyTypes,
+    EffectiveSize,
     ComponentModelLeftOut,
 }
 
@@ -110,6 +111,7 @@ impl Rule {
                 "func type returns multiple values but the multi-value feature is not enabled",
             Rule::Exceptions => "exceptions proposal not enabled",
             Rule::TooManyTypes => "implementation limit: too many core types",
+            Rule::EffectiveSize => "effective type size exceeds the limit of 1000000",
             Rule::ComponentModelLeftOut =>
                 "component model validation support disabled at compile time",
         }

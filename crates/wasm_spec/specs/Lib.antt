@@ -2,6 +2,7 @@ pub mod Syntax
 pub mod Values
 pub mod BinaryTypes
 pub mod BinaryModules
+pub mod BinarySections
 pub mod Laws
 pub mod References
 pub mod Trees

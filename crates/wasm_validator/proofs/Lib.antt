@@ -1,3 +1,9 @@
 pub mod Sections
 pub mod Items
 pub mod Runs
+pub mod Reading
+pub mod PlainTypes
+pub mod TypeSection
+pub mod MachineTypes
+pub mod FunctionImports
+pub mod FunctionExports

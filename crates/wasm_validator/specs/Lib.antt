@@ -1,5 +1,7 @@
 pub mod Errors
 pub mod Standing
+pub mod Served
 pub mod Machine
+pub mod Shows
 pub mod States
 pub mod Payloads

@@ -60,7 +60,7 @@ abbrev pub after_imports : Standing → ℕ → List ℕ → Option Standing
 after_imports s count bytes = at_stage s (within (import_items count bytes) s.stage)
 
 abbrev pub after_exports : Standing → ℕ → List ℕ → Option Standing
-after_exports s count bytes = at_stage s (within (beside (export_items count bytes)) s.stage)
+after_exports s count bytes = at_stage s (within (beside (λ types. export_items types count bytes)) s.stage)
 
 -- the end of a module
 abbrev pub closed : Stage → Option Stage

@@ -1,14 +1,14 @@
 //! What the items of a module's sections add to it.
 
-ghost use Rattle.std.specs.Prelude.{◌≡◌, ◌≤◌, map, slice_get};
+ghost use Rattle.std.specs.Prelude.{◌≡◌, ◌≤◌, map};
 ghost use Rattle.wasm_readers.specs.SectionsSeen.{count_of, bytes_of};
 ghost use Rattle.wasm_readers.specs.Items.{import_of, export_of};
 ghost use Rattle.wasm_readers_types.specs.SeenTypes.{sub_of, rec_of};
 ghost use Rattle.wasm_validator.specs.Standing.{Adds};
-ghost use Rattle.wasm_validator.specs.Machine.{add_group, add_sub, add_import, add_function_import, add_export, type_items, import_items, export_items, is_func};
+ghost use Rattle.wasm_validator.specs.Machine.{add_group, add_sub, add_import, add_function_import, add_export, type_items, import_items, export_items, arity_at, grown};
 
 use crate::error::Error;
-use crate::rules::{MAX_EXPORTS, MAX_FUNCTIONS, MAX_IMPORTS, MAX_TYPES, check_max, check_sub_type};
+use crate::rules::{MAX_EFFECTIVE_SIZE, MAX_EXPORTS, MAX_FUNCTIONS, MAX_IMPORTS, MAX_TYPES, check_max, check_sub_type};
 use std::alloc::Allocator;
 use wasm_readers::{
     CompositeInnerType, CoreTypeId, Counted, Export, ExternalKind, Fault, Import, ItemKind,
@@ -152,9 +152,9 @@ fn add_imported_function<A: Allocator + Copy>(
         return Err(Error::new(Fault::UnknownType(index), offset));
     }
     let id = spaces.type_at(index);
-    if !is_function_type(list, id) {
+    let Some(arity) = function_arity(list, id) else {
         return Err(Error::new(Fault::NotAFunctionType(index), offset));
-    }
+    };
     check_max(
         spaces.function_count() as usize,
         1,
@@ -162,28 +162,50 @@ fn add_imported_function<A: Allocator + Copy>(
         Counted::Functions,
         offset,
     )?;
+    let Some(size) = size_with(spaces.effective_size(), arity) else {
+        return Err(Error::new(Fault::Rule(Rule::EffectiveSize), offset));
+    };
     spaces.push_function(index)?;
     spaces.add_import(source, name, EntityType::Func(id))?;
+    spaces.set_effective_size(size);
     Ok(())
 }
 
-/// Whether the type with this id is a function type.
-fn is_function_type<A: Allocator + Copy>(list: &TypeList<A>, id: CoreTypeId) -> bool
-    ensures { result ≡ is_func (slice_get (map sub_of list.now) id.index) }
+/// How many parameters and results the type with this id has, if it is a function type.
+fn function_arity<A: Allocator + Copy>(list: &TypeList<A>, id: CoreTypeId) -> Option<(usize, usize)>
+    ensures { result ≡ arity_at (map sub_of list.now) id.index }
 {
     match list.get(id) {
-        Some(ty) => matches!(ty.composite_type.inner, CompositeInnerType::Func(_)),
-        None => false,
+        Some(ty) => match &ty.composite_type.inner {
+            CompositeInnerType::Func(func) => Some((func.params().len(), func.results().len())),
+            _ => None,
+        },
+        None => None,
     }
+}
+
+/// The effective size with an import or export of so many parameters and results: none where it would
+/// reach the limit.
+fn size_with(size: u32, arity: (usize, usize)) -> Option<u32>
+    ensures { result ≡ grown size arity }
+{
+    let limit = MAX_EFFECTIVE_SIZE as usize;
+    let (params, results) = arity;
+    if params >= limit || results >= limit {
+        return None;
+    }
+    let size = size as usize + (2 + (params + results));
+    if size < limit { Some(size as u32) } else { None }
 }
 
 /// Adds the exports of an export section.
 pub fn add_exports<'a, A: Allocator + Copy>(
     alloc: A,
+    list: &TypeList<A>,
     spaces: &mut IndexSpaces<A>,
     section: &SectionLimited<'a, Export<'a>, A>,
 ) -> Result<(), Error<A>>
-    ensures { Adds result (export_items (count_of section.now) (bytes_of section.now) spaces.old) spaces.new }
+    ensures { Adds result (export_items (map sub_of list.now) (count_of section.now) (bytes_of section.now) spaces.old) spaces.new }
 {
     check_max(
         spaces.export_count(),
@@ -194,7 +216,7 @@ pub fn add_exports<'a, A: Allocator + Copy>(
     )?;
     let mut exports = section.items();
     'exports: while let Some((offset, export)) = exports.read_next()? {
-        add_one_export(alloc, spaces, &export, offset)?;
+        add_one_export(alloc, list, spaces, &export, offset)?;
     }
     Ok(())
 }
@@ -202,11 +224,12 @@ pub fn add_exports<'a, A: Allocator + Copy>(
 /// Adds one export.
 fn add_one_export<A: Allocator + Copy>(
     alloc: A,
+    list: &TypeList<A>,
     spaces: &mut IndexSpaces<A>,
     export: &Export,
     offset: u64,
 ) -> Result<(), Error<A>>
-    ensures { Adds result (add_export spaces.old (export_of export.now)) spaces.new }
+    ensures { Adds result (add_export (map sub_of list.now) spaces.old (export_of export.now)) spaces.new }
 {
     let kind = match export.kind {
         ExternalKind::Func => ItemKind::Function,
@@ -223,6 +246,13 @@ fn add_one_export<A: Allocator + Copy>(
         return Err(Error::DuplicateExport { name, offset });
     }
     let id = spaces.function_type_id(export.index);
+    let Some(arity) = function_arity(list, id) else {
+        return Err(Error::new(Fault::UnknownExport(kind, export.index), offset));
+    };
+    let Some(size) = size_with(spaces.effective_size(), arity) else {
+        return Err(Error::new(Fault::Rule(Rule::EffectiveSize), offset));
+    };
     spaces.add_export(export.name, EntityType::Func(id))?;
+    spaces.set_effective_size(size);
     Ok(())
 }

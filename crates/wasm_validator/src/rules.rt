@@ -5,7 +5,8 @@ ghost use Rattle.std.specs.List.{list_all};
 ghost use Rattle.wasm_readers_errors.specs.On.{floats_on, simd_on, multi_value_on};
 ghost use Rattle.wasm_readers_types.specs.SeenValues.{val_of};
 ghost use Rattle.wasm_readers_types.specs.SeenTypes.{func_of, sub_of};
-ghost use Rattle.wasm_validator.specs.Machine.{is_served_val, is_allowed_val, is_allowed_comp, is_plain};
+ghost use Rattle.wasm_validator.specs.Machine.{is_allowed_val, is_allowed_comp};
+ghost use Rattle.wasm_validator.specs.Served.{is_served_val, is_served_comp, is_plain};
 
 use bitflags::Flags;
 use std::alloc::Allocator;
@@ -22,6 +23,9 @@ pub const MAX_IMPORTS: u32 = 1_000_000;
 pub const MAX_FUNCTIONS: u32 = 1_000_000;
 
 pub const MAX_EXPORTS: u32 = 1_000_000;
+
+/// The effective size of a module's type stays below this.
+pub const MAX_EFFECTIVE_SIZE: u32 = 1_000_000;
 
 /// Whether so many more, besides those that are there, keep to the limit.
 pub fn check_max(
@@ -94,7 +98,7 @@ fn check_func_type<A: Allocator>(
     ty: &FuncType<A>,
     offset: u64,
 ) -> Result<(), Refusal>
-    ensures { is_ok result ≡ is_allowed_comp features (func_of ty.now) }
+    ensures { is_ok result ≡ (is_served_comp (func_of ty.now) && is_allowed_comp features (func_of ty.now)) }
 {
     if !are_served(ty.params()) || !are_served(ty.results()) {
         return Err(Refusal::new(Fault::NotServed(Unserved::TypeForm), offset));
@@ -118,7 +122,7 @@ pub fn check_sub_type<A: Allocator>(
     ty: &SubType<A>,
     offset: u64,
 ) -> Result<(), Refusal>
-    ensures { is_ok result ≡ (is_plain (sub_of ty.now) && is_allowed_comp features (sub_of ty.now).comp) }
+    ensures { is_ok result ≡ (is_plain (sub_of ty.now) && is_served_comp (sub_of ty.now).comp && is_allowed_comp features (sub_of ty.now).comp) }
 {
     let composite = &ty.composite_type;
     let extends_nothing = ty.supertype_idxs.is_empty();

@@ -282,7 +282,7 @@ impl<A: Allocator + Copy> Validator<A> {
     {
         match opened(&mut self.state, section.range().start) {
             Ok(mut module) => {
-                let added = add_exports(self.alloc, &mut module, section);
+                let added = add_exports(self.alloc, &self.types, &mut module, section);
                 kept(&mut self.state, module, added)
             }
             Err(refusal) => Err(Error::Refused(refusal)),

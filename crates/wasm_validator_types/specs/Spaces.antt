@@ -6,16 +6,18 @@ use Rattle.wasm_validator_types.specs.declared.entity_type.EntityType.{EntityTyp
 use Rattle.wasm_validator_types.specs.declared.entity_type.EntityType.TheVariants.{Func}
 
 -- the numbers of the ids of its types; the type index of each function; the pairs of names (of a module and in it) that it imports from, in the order
--- in which they first came, each with what it imports from there; and its exports
+-- in which they first came, each with what it imports from there; its exports; and its effective size, one and that
+-- of all imports and exports
 pub record Spaces : Type 0 where
   pub types : List ℕ
   pub functions : List ℕ
   pub imports : List ((List ℕ × List ℕ) × List EntityType)
   pub exports : List (List ℕ × EntityType)
+  pub size : ℕ
 
 -- those of a module of which nothing has been read
 abbrev pub no_spaces : Spaces
-no_spaces = record { types = []; functions = []; imports = []; exports = [] }
+no_spaces = record { types = []; functions = []; imports = []; exports = []; size = 1 }
 
 -- a function of the type whose id has this number
 abbrev pub function_with : ℕ → EntityType

@@ -23,7 +23,7 @@ module _ {A : Type 0} where
   shown_export e = (string_bytes e.0, e.1)
 
   abbrev pub shown_spaces : Inside A → Spaces
-  shown_spaces a = record { types = numbers a.types.items; functions = a.functions.items; imports = map shown_import a.imports.entries; exports = map shown_export a.exports.entries }
+  shown_spaces a = record { types = numbers a.types.items; functions = a.functions.items; imports = map shown_import a.imports.entries; exports = map shown_export a.exports.entries; size = a.size }
 
   -- the counts fit a `u32`, and each function has a type of the module
   abbrev pub IsSound : Inside A → Type 0

@@ -35,6 +35,7 @@ pub struct IndexSpaces<A: Allocator = Global> {
     functions: Vec<u32, A>,
     imports: ImportMap<A>,
     exports: ExportMap<A>,
+    size: u32,
     alloc: A,
 }
 
@@ -60,6 +61,7 @@ impl<A: Allocator + Copy> IndexSpaces<A> {
             functions: Vec::new(alloc),
             imports: IndexMap::new(alloc),
             exports: IndexMap::new(alloc),
+            size: 1,
             alloc,
         }
     }
@@ -123,6 +125,20 @@ impl<A: Allocator + Copy> IndexSpaces<A> {
     {
         self.functions.push(type_index)?;
         Ok(())
+    }
+
+    /// The effective size: one, and that of all imports and exports.
+    pub fn effective_size(&self) -> u32
+        ensures { result ≡ self.now.size }
+    {
+        self.size
+    }
+
+    /// Notes the effective size with one more import or export.
+    pub fn set_effective_size(&mut self, size: u32)
+        ensures { self.new ≡ record self.old { size = size } }
+    {
+        self.size = size;
     }
 
     /// The number of different pairs of names that are imported from.

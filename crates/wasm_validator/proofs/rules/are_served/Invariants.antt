@@ -1,7 +1,7 @@
 use Rattle.std.proofs.Common.{◌≡◌, ◌≤◌, length, drop, map}
 use Rattle.std.specs.List.{list_all}
 use Rattle.wasm_readers_types.specs.SeenValues.{val_of}
-use Rattle.wasm_validator.specs.Machine.{is_served_val}
+use Rattle.wasm_validator.specs.Served.{is_served_val}
 use Rattle.wasm_validator.proofs.rules.are_served.Given as goal
 
 abbrev pub invariant-loop-ty : goal.invariant-loop-ty

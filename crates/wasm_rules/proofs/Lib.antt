@@ -1,0 +1,4 @@
+pub mod Tests
+pub mod Verdicts
+pub mod Ordered
+pub mod FramedOrder

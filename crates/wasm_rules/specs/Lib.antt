@@ -1,0 +1,9 @@
+pub mod FeatureFlags
+pub mod Parts
+pub mod Sections
+pub mod IndexSpaces
+pub mod ItemRules
+pub mod LinkRules
+pub mod SegmentRules
+pub mod Limits
+pub mod Modules

@@ -1,0 +1,77 @@
+-- When a module is valid. Core Specification 3.0, Validation, Modules.
+use Rattle.std.specs.Prelude.{ℕ, ◌≡◌, ◌<◌, ◌==◌, if◌then◌else◌, List, [], ◌∷◌, ◌++◌, map, length, slice_get, Option, Some, None, IsTrue, ⊤}
+use Rattle.std.specs.List.{All, flat_map}
+use Rattle.wasm_spec.specs.Features.{Features}
+use Rattle.wasm_spec.specs.BinarySections.{TableEntry, GlobalEntry, Element, ElementItems, functions, expressions, Data, SegmentMode, passive, active, declarative}
+use Rattle.wasm_spec.specs.Trees.{DefType}
+use Rattle.wasm_spec.specs.GroupRules.{IsValidTypeSection}
+use Rattle.wasm_parser.specs.Framing.{Piece, Version, Custom, Counted, Start, DataCount, CodeStart, CodeEntry, Unknown, End, IsFramed}
+use Rattle.wasm_rules.specs.Parts.{Parts, Expression, HasParts}
+use Rattle.wasm_rules.specs.IndexSpaces.{IndexSpaces, index_spaces, IsFunctionType}
+use Rattle.wasm_rules.specs.ItemRules.{IsValidTable, IsValidTableEntry, IsValidMemory, IsValidTag, IsValidGlobal}
+use Rattle.wasm_rules.specs.LinkRules.{IsValidImport, IsValidExport, HasDistinctNames, effective_size, IsValidStart}
+use Rattle.wasm_rules.specs.SegmentRules.{IsValidElement, IsValidData}
+use Rattle.wasm_rules.specs.Limits.{KeepsLimits}
+
+-- a section is known, and allowed: tags, be they none, with exceptions, and a data count with bulk memory
+abbrev pub IsAllowedPiece : Features → Piece → Type 0
+IsAllowedPiece F (Counted id n bytes) = IsTrue (id == 13) → IsTrue F.exceptions
+IsAllowedPiece F (DataCount n) = IsTrue F.bulk_memory
+IsAllowedPiece F (Unknown id bytes) = ⊥
+IsAllowedPiece F _ = ⊤
+
+-- The rules of a module's parts, whose index spaces are C: all but the typing of constant expressions and bodies.
+pub record AreValidParts (F : Features) (C : IndexSpaces) (parts : Parts) : Type 0 where
+  pub imports : All (IsValidImport F C.types) parts.imports
+  pub functions : All (IsFunctionType C.types) parts.functions
+  pub tables : All (IsValidTableEntry F C.types) parts.tables
+  pub memories : All (IsValidMemory F) parts.memories
+  pub tags : All (IsValidTag F C.types) parts.tags
+  pub globals : All (λ (g : GlobalEntry Expression ℕ). IsValidGlobal F C.types g.ty) parts.globals
+  pub exports : All (IsValidExport F C) parts.exports
+  pub export_names : HasDistinctNames parts.exports
+  pub size : effective_size C parts.imports parts.exports < 1000000
+  pub starts : All (IsValidStart C) parts.starts
+  pub elements : All (IsValidElement F C) parts.elements
+  pub segments : All (IsValidData F C) parts.segments
+  pub limits : KeepsLimits F C parts
+
+-- The bytes are a module whose sections, types and parts keep their rules, where `expression_at` reads a constant
+-- expression.
+pub record IsWellFormed (expression_at : List ℕ → Option (Expression × List ℕ)) (F : Features) (bytes : List ℕ) : Type 0 where
+  pub pieces : List Piece
+  pub framed : IsFramed bytes pieces
+  pub first : slice_get pieces 0 ≡ Some (Version 1 0)
+  pub allowed : All (IsAllowedPiece F) pieces
+  pub parts : Parts
+  pub has_parts : HasParts expression_at pieces parts
+  pub types : IsValidTypeSection F parts.groups
+  pub rules : AreValidParts F (index_spaces types.types parts) parts
+
+-- the constant expressions of a module
+abbrev pub mode_expressions : SegmentMode Expression → List Expression
+mode_expressions passive = []
+mode_expressions declarative = []
+mode_expressions (active x e) = e ∷ []
+
+abbrev pub items_expressions : ElementItems Expression ℕ → List Expression
+items_expressions (functions xs) = []
+items_expressions (expressions ty es) = es
+
+abbrev pub table_expressions : Option Expression → List Expression
+table_expressions None = []
+table_expressions (Some e) = e ∷ []
+
+abbrev pub expressions_of : Parts → List Expression
+expressions_of parts =
+    flat_map (λ (t : TableEntry Expression ℕ). table_expressions t.init) parts.tables
+    ++ (map (λ (g : GlobalEntry Expression ℕ). g.init) parts.globals
+    ++ (flat_map (λ (e : Element Expression ℕ). mode_expressions e.mode ++ items_expressions e.items) parts.elements
+    ++ flat_map (λ (d : Data Expression). mode_expressions d.mode) parts.segments))
+
+-- The bytes are a valid module without constant expressions and bodies. The typing of these isn't defined yet, so
+-- a module that has any is spoken of by no theorem.
+pub record IsValid (expression_at : List ℕ → Option (Expression × List ℕ)) (F : Features) (bytes : List ℕ) : Type 0 where
+  pub well_formed : IsWellFormed expression_at F bytes
+  pub no_expressions : expressions_of well_formed.parts ≡ []
+  pub no_bodies : well_formed.parts.bodies ≡ []

@@ -1,0 +1,74 @@
+-- What a module is made of: the items of its sections, each in the order in which they are written.
+-- Core Specification 3.0, Structure, Modules, and Binary Format, Modules.
+use Rattle.std.specs.Prelude.{ℕ, ◌≡◌, ◌==◌, if◌then◌else◌, List, [], ◌∷◌, ◌++◌, Option, Some, None}
+use Rattle.std.specs.Option.{option_map, option_and_then}
+use Rattle.std.specs.List.{flat_map}
+use Rattle.wasm_spec.specs.Syntax.{Rec, Memory}
+use Rattle.wasm_spec.specs.Values.{u32_at, items_at}
+use Rattle.wasm_spec.specs.BinaryTypes.{rec_at, memory_at, tag_at}
+use Rattle.wasm_spec.specs.BinaryModules.{Import, Export, import_at, export_at}
+use Rattle.wasm_spec.specs.BinarySections.{TableEntry, GlobalEntry, Element, Data, table_entry_at, global_entry_at, element_at, data_at}
+use Rattle.wasm_parser.specs.Framing.{Piece, Counted, Start, DataCount, CodeEntry}
+
+-- a constant expression, as the bytes of its instructions
+abbrev pub Expression : Type 0
+Expression = List ℕ
+
+-- The parts of a module. Functions and tags are written as their type's index, bodies as their bytes.
+pub record Parts : Type 0 where
+  pub groups : List (Rec ℕ)
+  pub imports : List (Import ℕ)
+  pub functions : List ℕ
+  pub tables : List (TableEntry Expression ℕ)
+  pub memories : List Memory
+  pub tags : List ℕ
+  pub globals : List (GlobalEntry Expression ℕ)
+  pub exports : List Export
+  pub starts : List ℕ
+  pub elements : List (Element Expression ℕ)
+  pub data_counts : List ℕ
+  pub bodies : List (List ℕ)
+  pub segments : List (Data Expression)
+
+-- the items of a piece, if it is the section with this id, read to its end
+abbrev pub items_of : {V : Type 0} → ℕ → (List ℕ → Option (V × List ℕ)) → Piece → Option (List V)
+items_of id reads (Counted i n bytes) = if i == id then items_at reads n bytes else Some []
+items_of id reads _ = Some []
+
+-- the items of all sections with this id
+abbrev pub all_items : {V : Type 0} → ℕ → (List ℕ → Option (V × List ℕ)) → List Piece → Option (List V)
+all_items id reads [] = Some []
+all_items id reads (p ∷ ps) = option_and_then (λ xs. option_map (λ ys. xs ++ ys) (all_items id reads ps)) (items_of id reads p)
+
+abbrev pub starts_of : Piece → List ℕ
+starts_of (Start x) = x ∷ []
+starts_of _ = []
+
+abbrev pub data_counts_of : Piece → List ℕ
+data_counts_of (DataCount n) = n ∷ []
+data_counts_of _ = []
+
+abbrev pub bodies_of : Piece → List (List ℕ)
+bodies_of (CodeEntry bytes) = bytes ∷ []
+bodies_of _ = []
+
+-- a type index, as it is written
+abbrev pub index : ℕ → ℕ
+index x = x
+
+-- These are the parts of the pieces, where `expression_at` reads a constant expression: each section's items
+-- can be read to its end. There is one such record at most.
+pub record HasParts (expression_at : List ℕ → Option (Expression × List ℕ)) (pieces : List Piece) (parts : Parts) : Type 0 where
+  pub groups : all_items 1 (rec_at index) pieces ≡ Some parts.groups
+  pub imports : all_items 2 (import_at index) pieces ≡ Some parts.imports
+  pub functions : all_items 3 u32_at pieces ≡ Some parts.functions
+  pub tables : all_items 4 (table_entry_at expression_at index) pieces ≡ Some parts.tables
+  pub memories : all_items 5 memory_at pieces ≡ Some parts.memories
+  pub globals : all_items 6 (global_entry_at expression_at index) pieces ≡ Some parts.globals
+  pub exports : all_items 7 export_at pieces ≡ Some parts.exports
+  pub starts : flat_map starts_of pieces ≡ parts.starts
+  pub elements : all_items 9 (element_at expression_at index) pieces ≡ Some parts.elements
+  pub bodies : flat_map bodies_of pieces ≡ parts.bodies
+  pub segments : all_items 11 (data_at expression_at) pieces ≡ Some parts.segments
+  pub data_counts : flat_map data_counts_of pieces ≡ parts.data_counts
+  pub tags : all_items 13 tag_at pieces ≡ Some parts.tags

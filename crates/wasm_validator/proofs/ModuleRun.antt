@@ -1,0 +1,152 @@
+-- The machine over the pieces between the header and the end: section by section, in the order of the sections.
+use Rattle.std.proofs.Common.{◌≡◌, ◌≢◌, refl, sym, ap, subst, ◌∙◌, ◌⊎◌, inl, inr, ℕ, zero, suc, ◌+◌, ◌≤◌, ◌<◌, Bool, true, false, ◌&&◌, ◌||◌, cond, if◌then◌else◌, eqb, leb, List, [], ◌∷◌, ◌++◌, map, length, Option, Some, None, arith, append-nil}
+use Rattle.std.specs.Option.{option_map, option_and_then}
+use Rattle.std.specs.List.{list_all, flat_map}
+use Rattle.std.proofs.lemmas.Bool.{eqb-true, eqb-false, eq-eqb, ne_eqb}
+use Rattle.wasm_spec.specs.Values.{items_at}
+use Rattle.wasm_parser.specs.Framing.{Piece, Version, Custom, Counted, Start, DataCount, CodeStart, CodeEntry, Unknown, End, place}
+use Rattle.wasm_rules.specs.Sections.{each, rank, rank_of_section, at_rank, by_rank}
+use Rattle.wasm_rules.specs.Parts.{items_of, all_items, starts_of, data_counts_of, bodies_of}
+use Rattle.wasm_rules.proofs.Ordered.{Follows, done, free, here, body, later, AreRanks, LeavesFree, IsOne, one_at_most, by_ranks}
+use Rattle.wasm_rules.proofs.FramedOrder.{IsInner, AreInner}
+use Rattle.wasm_rules.proofs.Tests.{truth, when, unless, then_some}
+use Rattle.wasm_readers_errors.specs.declared.features.WasmFeatures.{WasmFeatures}
+use Rattle.wasm_validator_types.specs.Spaces.{Spaces}
+use Rattle.wasm_validator.specs.Served.{is_served_piece}
+use Rattle.wasm_validator.specs.Standing.{Types}
+use Rattle.wasm_validator.specs.Machine.{type_items, import_items, export_items, beside}
+use Rattle.wasm_validator.proofs.PlainTypes.{and_left, and_right, and_both}
+
+-- one piece of a module that is being read
+abbrev pub section_step : WasmFeatures → Types × Spaces → ℕ → ℕ → List ℕ → Option (Types × Spaces)
+section_step features p id n bytes =
+    if id == 1 then type_items features n bytes p else (if id == 2 then import_items n bytes p else (if id == 7 then beside (λ types. export_items types n bytes) p else None))
+
+abbrev pub step : WasmFeatures → Types × Spaces → Piece → Option (Types × Spaces)
+step features p (Version number kind) = None
+step features p (Custom name bytes) = Some p
+step features p (Counted id n bytes) = section_step features p id n bytes
+step features p (Start x) = None
+step features p (DataCount n) = None
+step features p (CodeStart n size) = None
+step features p (CodeEntry bytes) = None
+step features p (Unknown id bytes) = None
+step features p End = None
+
+-- pieces that are served, between the header and the end
+abbrev pub IsPart : Piece → Type 0
+IsPart p = (is_served_piece p ≡ true) × IsInner p
+
+abbrev pub AreParts : List Piece → Type 0
+AreParts [] = Unit {0}
+AreParts (p ∷ ps) = IsPart p × AreParts ps
+
+pub are_parts : (ps : List Piece) → list_all is_served_piece ps ≡ true → AreInner ps → AreParts ps
+are_parts [] e i = tt
+are_parts (p ∷ ps) e i = ((and_left (is_served_piece p) (list_all is_served_piece ps) e, i.0), are_parts ps (and_right (is_served_piece p) (list_all is_served_piece ps) e) i.1)
+
+pub parts_served : (ps : List Piece) → AreParts ps → list_all is_served_piece ps ≡ true
+parts_served [] a = refl
+parts_served (p ∷ ps) a = and_both (is_served_piece p) (list_all is_served_piece ps) a.0.0 (parts_served ps a.1)
+
+-- a part is a custom section, or one of the three that are served
+pub data PartForm : Piece → Type 0 where
+  custom : {name bytes : List ℕ} → PartForm (Custom name bytes)
+  types : {n : ℕ} {bytes : List ℕ} → PartForm (Counted 1 n bytes)
+  imports : {n : ℕ} {bytes : List ℕ} → PartForm (Counted 2 n bytes)
+  exports : {n : ℕ} {bytes : List ℕ} → PartForm (Counted 7 n bytes)
+
+counted_form : (id n : ℕ) (bytes : List ℕ) → (eqb id 1 ≡ true) ⊎ (eqb id 1 ≡ false) → (eqb id 2 ≡ true) ⊎ (eqb id 2 ≡ false) → (eqb id 7 ≡ true) ⊎ (eqb id 7 ≡ false)
+    → (eqb id 1 || eqb id 2 || eqb id 7) ≡ true → PartForm (Counted id n bytes)
+counted_form id n bytes (inl a) b c e = subst (λ i. PartForm (Counted i n bytes)) (sym (eqb-true id 1 a)) types
+counted_form id n bytes (inr a) (inl b) c e = subst (λ i. PartForm (Counted i n bytes)) (sym (eqb-true id 2 b)) imports
+counted_form id n bytes (inr a) (inr b) (inl c) e = subst (λ i. PartForm (Counted i n bytes)) (sym (eqb-true id 7 c)) exports
+counted_form id n bytes (inr a) (inr b) (inr c) e = absurd (let h : false ≡ true = sym (λ i. a i || b i || c i) ∙ e in cc)
+
+pub form_of : (p : Piece) → IsPart p → PartForm p
+form_of (Version number kind) h = absurd h.1
+form_of (Custom name bytes) h = custom
+form_of (Counted id n bytes) h = counted_form id n bytes (truth (eqb id 1)) (truth (eqb id 2)) (truth (eqb id 7)) h.0
+form_of (Start x) h = absurd (let e = h.0 in cc)
+form_of (DataCount n) h = absurd (let e = h.0 in cc)
+form_of (CodeStart n size) h = absurd (let e = h.0 in cc)
+form_of (CodeEntry bytes) h = absurd (let e = h.0 in cc)
+form_of (Unknown id bytes) h = absurd (let e = h.0 in cc)
+form_of End h = absurd h.1
+
+-- what is accepted is served
+counted_accepted : (features : WasmFeatures) (p q : Types × Spaces) (id n : ℕ) (bytes : List ℕ) (a b c : Bool)
+    → (if a then type_items features n bytes p else (if b then import_items n bytes p else (if c then beside (λ types. export_items types n bytes) p else None))) ≡ Some q → (a || b || c) ≡ true
+counted_accepted features p q id n bytes true b c e = refl
+counted_accepted features p q id n bytes false true c e = refl
+counted_accepted features p q id n bytes false false true e = refl
+counted_accepted features p q id n bytes false false false e = absurd cc
+
+step_served : (features : WasmFeatures) (p q : Types × Spaces) (x : Piece) → step features p x ≡ Some q → is_served_piece x ≡ true
+step_served features p q (Version number kind) e = absurd cc
+step_served features p q (Custom name bytes) e = refl
+step_served features p q (Counted id n bytes) e = counted_accepted features p q id n bytes (eqb id 1) (eqb id 2) (eqb id 7) e
+step_served features p q (Start x) e = absurd cc
+step_served features p q (DataCount n) e = absurd cc
+step_served features p q (CodeStart n size) e = absurd cc
+step_served features p q (CodeEntry bytes) e = absurd cc
+step_served features p q (Unknown id bytes) e = absurd cc
+step_served features p q End e = absurd cc
+
+pub run_served : (features : WasmFeatures) (ps : List Piece) (p q : Types × Spaces) → each (step features) p ps ≡ Some q → list_all is_served_piece ps ≡ true
+run_served features [] p q e = refl
+run_served features (x ∷ ps) p q e =
+    let h = then_some (λ t. each (step features) t ps) (step features p x) q e in
+    and_both (is_served_piece x) (list_all is_served_piece ps) (step_served features p h.0 x h.1) (run_served features ps h.0 q h.2)
+
+-- the ranks of the sections that are served
+abbrev pub served_ranks : List ℕ
+served_ranks = 1 ∷ 2 ∷ 8 ∷ []
+
+part_rank : (p : Piece) → PartForm p → (rank p ≡ 0) ⊎ ((rank p ≡ 1) ⊎ ((rank p ≡ 2) ⊎ (rank p ≡ 8)))
+unfolding place
+part_rank p custom = inl refl
+part_rank p types = inr (inl refl)
+part_rank p imports = inr (inr (inl refl))
+part_rank p exports = inr (inr (inr refl))
+
+apart : (n : ℕ) → n ≡ 13 → (n ≡ 13 → ⊥) → ⊥
+apart n e h = h e
+
+no_body : (p : Piece) → PartForm p → rank p ≡ 13 → ⊥
+no_body p f e =
+    elim (part_rank p f) [
+      | inl a ↦ apart 0 (sym a ∙ e) (λ h. cc)
+      | inr (inl a) ↦ apart 1 (sym a ∙ e) (λ h. cc)
+      | inr (inr (inl a)) ↦ apart 2 (sym a ∙ e) (λ h. cc)
+      | inr (inr (inr a)) ↦ apart 8 (sym a ∙ e) (λ h. cc)
+    ]
+
+-- of these ranks, those that are served
+abbrev restricted : List ℕ → List ℕ
+restricted [] = []
+restricted (k ∷ ks) = cond (eqb k 1 || eqb k 2 || eqb k 8) (k ∷ restricted ks) (restricted ks)
+
+no_zero : (ks : List ℕ) → Type 0
+no_zero [] = Unit {0}
+no_zero (k ∷ ks) = (0 ≢ k) × no_zero ks
+
+restrict_here : (k : ℕ) (ks : List ℕ) (p : Piece) (ps : List Piece) → 0 ≢ k → rank p ≡ k → PartForm p → Follows (restricted ks) ps → Follows (restricted (k ∷ ks)) (p ∷ ps)
+restrict_here k ks p ps z r f g =
+    elim (part_rank p f) [
+      | inl a ↦ absurd (z (sym a ∙ r))
+      | inr (inl a) ↦ subst (λ j. Follows (restricted (j ∷ ks)) (p ∷ ps)) (sym a ∙ r) (here a g)
+      | inr (inr (inl a)) ↦ subst (λ j. Follows (restricted (j ∷ ks)) (p ∷ ps)) (sym a ∙ r) (here a g)
+      | inr (inr (inr a)) ↦ subst (λ j. Follows (restricted (j ∷ ks)) (p ∷ ps)) (sym a ∙ r) (here a g)
+    ]
+
+restrict_later : (b : Bool) (k : ℕ) (ks : List ℕ) (ps : List Piece) → Follows ks ps → Follows (cond b (k ∷ ks) ks) ps
+restrict_later true k ks ps f = later f
+restrict_later false k ks ps f = f
+
+restrict : (ks : List ℕ) (ps : List Piece) → no_zero ks → AreParts ps → Follows ks ps → Follows (restricted ks) ps
+restrict ks [] z a done = done
+restrict ks (p ∷ ps) z a (free r f) = free r (restrict ks ps z a.1 f)
+restrict (k ∷ ks) (p ∷ ps) z a (here r f) = restrict_here k ks p ps z.0 r (form_of p a.0) (restrict ks ps z.1 a.1 f)
+restrict (k ∷ ks) (p ∷ ps) z a (body r b f) = absurd (no_body p (form_of p a.0) (r ∙ b))
+restrict (k ∷ ks) ps z a (later f) = restrict_later (eqb k 1 || eqb k 2 || eqb k 8) k (restricted ks) ps (restrict ks ps z.1 a f)
