@@ -40,3 +40,12 @@ always t p = inl (p, refl)
 
 pub never : {T P : Type 0} (t : T) → ¬ P → Verdict P {S = T} None t
 never t p = inr (p, refl)
+
+-- what a verdict says of a step that gives something, and of one whose fact holds
+pub verdict_some : {T P : Type 0} (o : Option T) (t u : T) → Verdict P o t → o ≡ Some u → P × (t ≡ u)
+verdict_some o t u (inl (p, e)) h = (p, let same : Some t ≡ Some u = sym e ∙ h in cc)
+verdict_some o t u (inr (p, e)) h = absurd (let same : None ≡ Some u = sym e ∙ h in cc)
+
+pub verdict_yes : {T P : Type 0} (o : Option T) (t : T) → Verdict P o t → P → o ≡ Some t
+verdict_yes o t (inl (p, e)) h = e
+verdict_yes o t (inr (p, e)) h = absurd (p h)

@@ -7,6 +7,7 @@ use Rattle.std.specs.Str.{bytes_eq}
 use Rattle.std.specs.Cmp.Lexicographic.{pointwise, nat_list_eq_equiv}
 use Rattle.std.proofs.lemmas.Bool.Decides.{Decides-ltb, Decides-eqb, Decides-and}
 use Rattle.std.proofs.lemmas.List.Elements.{All-nil, All-cons, All-head, All-tail}
+use Rattle.std.proofs.lemmas.Map.Made.{IsDistinct-from_count}
 use Rattle.std.proofs.lemmas.Map.Keys.{IsDistinct-push, IsDistinct-head, IsDistinct-tail}
 use Rattle.wasm_spec.specs.BinaryModules.{Export}
 use Rattle.wasm_rules.specs.Sections.{each}
@@ -31,6 +32,9 @@ row_name row = row.0
 
 abbrev pub names_of : List (List ℕ × EntityType) → List (List ℕ)
 names_of rows = map row_name rows
+
+pub no_names : AreApart []
+no_names = IsDistinct-from_count nat_list_eq_equiv [] refl
 
 flips : (x y : List ℕ) → same_name x y ≡ false → same_name y x ≡ false
 flips x y h = (nat_list_eq_equiv).symm y x ∙ h

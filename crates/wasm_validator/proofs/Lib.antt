@@ -7,3 +7,13 @@ pub mod TypeSection
 pub mod MachineTypes
 pub mod FunctionImports
 pub mod FunctionExports
+pub mod ModuleRun
+pub mod SectionItems
+pub mod RunOfParts
+pub mod ServedParts
+pub mod ServedValid
+pub mod ServedPieces
+pub mod ServedModules
+pub mod ImportRows
+pub mod ListedTypes
+pub mod WholeModules

@@ -44,6 +44,15 @@ as_many_ids n (x ∷ xs) = ap suc (as_many_ids (n + 1) xs)
 abbrev pub with_types : Types × Spaces → List (Signature ℕ) → Types × Spaces
 with_types p ss = (p.0 ++ kept ss, record p.1 { types = p.1.types ++ ids_from (length p.0) ss })
 
+pub served_kept : (vs : List (Val ℕ)) → list_all is_served_val (map (map_val written) vs) ≡ list_all is_served_val vs
+served_kept [] = refl
+served_kept (i32 ∷ vs) = served_kept vs
+served_kept (i64 ∷ vs) = served_kept vs
+served_kept (f32 ∷ vs) = served_kept vs
+served_kept (f64 ∷ vs) = served_kept vs
+served_kept (v128 ∷ vs) = served_kept vs
+served_kept (reference r ∷ vs) = refl
+
 module _ (features : WasmFeatures) where
   abbrev F : Features
   F = features_of features
@@ -52,15 +61,6 @@ module _ (features : WasmFeatures) where
   abbrev pub Fit : ℕ → ℕ → List (Signature ℕ) → Type 0
   Fit m n [] = Unit {0}
   Fit m n (s ∷ ss) = ((allows_signature F s ≡ true) × (m < MAX_TYPES) × (n < MAX_IDS)) × Fit (m + 1) (n + 1) ss
-
-  served_kept : (vs : List (Val ℕ)) → list_all is_served_val (map (map_val written) vs) ≡ list_all is_served_val vs
-  served_kept [] = refl
-  served_kept (i32 ∷ vs) = served_kept vs
-  served_kept (i64 ∷ vs) = served_kept vs
-  served_kept (f32 ∷ vs) = served_kept vs
-  served_kept (f64 ∷ vs) = served_kept vs
-  served_kept (v128 ∷ vs) = served_kept vs
-  served_kept (reference r ∷ vs) = refl
 
   allowed_kept : (vs : List (Val ℕ)) → list_all is_served_val vs ≡ true → list_all (is_allowed_val features) (map (map_val written) vs) ≡ list_all (allows_val F) vs
   allowed_kept [] e = refl

@@ -1,5 +1,5 @@
 -- A validator that goes over the payloads of whole bytes.
-use Rattle.std.proofs.Common.{◌≡◌, refl, sym, ap, subst, ◌∙◌, ℕ, List, [], ◌∷◌, ◌++◌, Option, Some, None, append_assoc}
+use Rattle.std.proofs.Common.{◌≡◌, refl, sym, ap, subst, ◌∙◌, inl, inr, ℕ, List, [], ◌∷◌, ◌++◌, Option, Some, None, append_assoc}
 use Rattle.std.specs.Option.{option_and_then}
 use Rattle.wasm_parser.specs.Framing as parts
 use Rattle.wasm_parser.specs.Framing.{Piece, IsFramed, Version, Custom, Counted, Start, DataCount, CodeStart, CodeEntry, Unknown}
@@ -13,9 +13,9 @@ use Rattle.std.specs.declared.result.Result.{Result}
 use Rattle.std.specs.declared.result.Result.TheVariants as results
 use Rattle.wasm_validator.specs.declared.error.Error.{Error}
 use Rattle.wasm_validator.specs.declared.error.Error.TheVariants.{Refused, DuplicateExport, OutOfMemory}
-use Rattle.wasm_validator.specs.Standing.{Standing, Stage, Leaves}
-use Rattle.wasm_validator.specs.States.{after_piece, IsBeforeEnd}
-use Rattle.wasm_validator.specs.Payloads.{ShowsModule, Show, latest_of, after_all, Accepts, Rejects, Validates, ValidatesAnew}
+use Rattle.wasm_validator.specs.Standing.{Standing, Leaves}
+use Rattle.wasm_validator.specs.States.{after_piece, IsBeforeEnd, left_by}
+use Rattle.wasm_validator.specs.Payloads.{ShowsModule, Show, latest_of, after_all, Accepts, Rejects, IsLeft, IsOutOfMemory, Validates}
 
 -- pieces after pieces
 all_from : (ps qs : List Piece) (t : Standing) (o : Option Standing) → ((u : Standing) → after_all u ps ≡ Some t → after_all u (ps ++ qs) ≡ after_all t qs)
@@ -143,14 +143,12 @@ module _ {A : Type 0} where
   refusal T e = results.Err e
 
   -- what the refusal of a payload says of the whole
-  pub refused_whole : (T : Type 0) (bytes : List ℕ) (old now new : Standing) (p : Piece) (left : Stage) (e : Error A)
-      → Leaves (refusal T e) (after_piece now p) left now new → (after_piece now p ≡ None → Rejects bytes old) → Validates (refusal (Types A) e) bytes old new
-  refused_whole T bytes old now new p left (Refused r) l rejected = rejected l.0
-  refused_whole T bytes old now new p left (DuplicateExport name offset) l rejected = rejected l.0
-  refused_whole T bytes old now new p left OutOfMemory l rejected = tt
+  pub refused_whole : (T : Type 0) (bytes : List ℕ) (old now new : Standing) (s : State) (latest : Option (Types A)) (p : Piece) (e : Error A) → Progress bytes old now s latest
+      → Leaves (refusal T e) (after_piece now p) (left_by p now.stage) now new → (after_piece now p ≡ None → Rejects bytes old) → Validates (refusal (Types A) e) bytes old new
+  refused_whole T bytes old now new s latest p (Refused r) g l rejected = (rejected l.0, record { pieces = g.pieces; reached = now; run = g.taken; left = inr (p, l.1) })
+  refused_whole T bytes old now new s latest p (DuplicateExport name offset) g l rejected = (rejected l.0, record { pieces = g.pieces; reached = now; run = g.taken; left = inr (p, l.1) })
+  refused_whole T bytes old now new s latest p OutOfMemory g l rejected = record { pieces = g.pieces; reached = now; run = g.taken; failed_there = l }
 
-  pub anew : (bytes : List ℕ) (old new : Standing) (r : Result (Types A) (Error A)) → Validates r bytes old new → ValidatesAnew r bytes old
-  anew bytes old new (results.Ok t) v = (new, v)
-  anew bytes old new (results.Err (Refused e)) v = v
-  anew bytes old new (results.Err (DuplicateExport name offset)) v = v
-  anew bytes old new (results.Err OutOfMemory) v = tt
+  -- where the parser refuses, the validator stands where it was
+  pub refused_bytes : (bytes : List ℕ) (old now : Standing) (s : State) (latest : Option (Types A)) → Progress bytes old now s latest → next_of s ≡ None → Rejects bytes old × IsLeft old now
+  refused_bytes bytes old now s latest g e = (rejected_bytes bytes old now s latest g e, record { pieces = g.pieces; reached = now; run = g.taken; left = inl refl })

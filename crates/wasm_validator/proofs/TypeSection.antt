@@ -41,7 +41,7 @@ module _ (F : Features) where
   plain_types ts [] = []
   plain_types ts (s ∷ ss) = plain_type F ts s ∷ plain_types (ts ++ plain_type F ts s ∷ []) ss
 
-  plain_space : (ss : List (Signature ℕ)) (ts : List DefType) → AreServedSignatures ss → with_groups F ts (map plain_group ss) ≡ Some (ts ++ plain_types ts ss)
+  pub plain_space : (ss : List (Signature ℕ)) (ts : List DefType) → AreServedSignatures ss → with_groups F ts (map plain_group ss) ≡ Some (ts ++ plain_types ts ss)
   plain_space [] ts e = ap Some (sym (append-nil ts))
   plain_space (s ∷ ss) ts e =
       let t = plain_type F ts s in
@@ -82,7 +82,7 @@ module _ (F : Features) where
       let g = denote (plain_tree F ts s) in
       λ i. allows-twice f g s.0 i && (allows-twice f g s.1 i && (leb (length-twice f g s.1 i) 1 || F.multi_value))
 
-  types_valid : (ss : List (Signature ℕ)) (ts : List DefType) → allow_signatures ss ≡ true → All (IsValidType F declared) (plain_types ts ss)
+  pub types_valid : (ss : List (Signature ℕ)) (ts : List DefType) → allow_signatures ss ≡ true → All (IsValidType F declared) (plain_types ts ss)
   types_valid [] ts e = All-nil (IsValidType F declared)
   types_valid (s ∷ ss) ts e =
       let t = plain_type F ts s in
@@ -105,7 +105,7 @@ module _ (F : Features) where
       (types_allowed ss (ts ++ t ∷ []) (All-tail (IsValidType F declared) t (plain_types (ts ++ t ∷ []) ss) v))
 
   -- a section of them is valid where the features allow their signatures, and then has these types
-  pub section_valid : (ss : List (Signature ℕ)) → AreServedSignatures ss → allow_signatures ss ≡ true → IsValidTypeSection F (map plain_group ss)
+  abbrev pub section_valid : (ss : List (Signature ℕ)) → AreServedSignatures ss → allow_signatures ss ≡ true → IsValidTypeSection F (map plain_group ss)
   section_valid ss served e = record { types = plain_types [] ss; gives = plain_space ss [] served; valid = types_valid ss [] e }
 
   pub section_types : (ss : List (Signature ℕ)) → AreServedSignatures ss → (v : IsValidTypeSection F (map plain_group ss)) → v.types ≡ plain_types [] ss

@@ -5,3 +5,4 @@ pub mod Machine
 pub mod Shows
 pub mod States
 pub mod Payloads
+pub mod Verdict

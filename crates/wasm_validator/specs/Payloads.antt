@@ -1,5 +1,5 @@
 -- What a payload that is accepted gives.
-use Rattle.std.specs.Prelude.{ℕ, ◌≡◌, ◌++◌, List, [], ◌∷◌, map, Option, Some, None, ⊤}
+use Rattle.std.specs.Prelude.{ℕ, ◌≡◌, ◌⊎◌, ◌++◌, List, [], ◌∷◌, map, Option, Some, None, ⊤}
 use Rattle.std.specs.Option.{option_and_then}
 use Rattle.std.specs.declared.result.Result.{Result}
 use Rattle.std.specs.declared.result.Result.TheVariants as results
@@ -12,8 +12,8 @@ use Rattle.wasm_validator.specs.declared.error.Error.{Error}
 use Rattle.wasm_validator.specs.declared.error.Error.TheVariants.{Refused, DuplicateExport, OutOfMemory}
 use Rattle.wasm_validator.specs.declared.payload.ValidPayload.{ValidPayload}
 use Rattle.wasm_validator.specs.declared.payload.ValidPayload.TheVariants.{Ok, End}
-use Rattle.wasm_validator.specs.Standing.{Standing, shown_at}
-use Rattle.wasm_validator.specs.States.{IsBeforeEnd, after_piece}
+use Rattle.wasm_validator.specs.Standing.{Standing, shown_at, failed}
+use Rattle.wasm_validator.specs.States.{IsBeforeEnd, after_piece, left_by}
 
 -- the types show what the validator held
 abbrev pub Show : {A : Type 0} → Standing → Types A → Type 0
@@ -51,16 +51,23 @@ pub record Accepts {A : Type 0} (bytes : List ℕ) (old new : Standing) (t : Typ
 abbrev pub Rejects : List ℕ → Standing → Type 0
 Rejects bytes old = (pieces : List Piece) → IsFramed bytes pieces → after_all old pieces ≡ None
 
+-- The validator stands where some payloads have brought it, or where the next one that it refused has left it.
+pub record IsLeft (old new : Standing) : Type 0 where
+  pub pieces : List Piece
+  pub reached : Standing
+  pub run : after_all old pieces ≡ Some reached
+  pub left : (new ≡ reached) ⊎ ((p : Piece) × (new ≡ record reached { stage = left_by p reached.stage }))
+
+-- after some payloads memory was refused, and the validator has failed
+pub record IsOutOfMemory (old new : Standing) : Type 0 where
+  pub pieces : List Piece
+  pub reached : Standing
+  pub run : after_all old pieces ≡ Some reached
+  pub failed_there : new ≡ record reached { stage = failed }
+
 -- what the answer on whole bytes says
 abbrev pub Validates : {A : Type 0} → Result (Types A) (Error A) → List ℕ → Standing → Standing → Type 0
 Validates (results.Ok t) bytes old new = Accepts bytes old new t
-Validates (results.Err (Refused r)) bytes old new = Rejects bytes old
-Validates (results.Err (DuplicateExport name offset)) bytes old new = Rejects bytes old
-Validates (results.Err OutOfMemory) bytes old new = ⊤
-
--- the same of a validator that is made for these bytes
-abbrev pub ValidatesAnew : {A : Type 0} → Result (Types A) (Error A) → List ℕ → Standing → Type 0
-ValidatesAnew (results.Ok t) bytes old = (new : Standing) × Accepts bytes old new t
-ValidatesAnew (results.Err (Refused r)) bytes old = Rejects bytes old
-ValidatesAnew (results.Err (DuplicateExport name offset)) bytes old = Rejects bytes old
-ValidatesAnew (results.Err OutOfMemory) bytes old = ⊤
+Validates (results.Err (Refused r)) bytes old new = Rejects bytes old × IsLeft old new
+Validates (results.Err (DuplicateExport name offset)) bytes old new = Rejects bytes old × IsLeft old new
+Validates (results.Err OutOfMemory) bytes old new = IsOutOfMemory old new

@@ -1,8 +1,9 @@
 ghost use Rattle.std.specs.Prelude.{◌≡◌, IfOk};
 ghost use Rattle.wasm_parser.specs.Seen.{seen};
-ghost use Rattle.wasm_validator.specs.Standing.{Leaves, fresh};
+ghost use Rattle.wasm_validator.specs.Standing.{Leaves};
 ghost use Rattle.wasm_validator.specs.States.{after_piece, left_by, IsBeforeEnd};
-ghost use Rattle.wasm_validator.specs.Payloads.{ShowsModule, latest_of, Validates, ValidatesAnew};
+ghost use Rattle.wasm_validator.specs.Payloads.{ShowsModule, latest_of, Validates};
+ghost use Rattle.wasm_validator.specs.Verdict.{DecidesModule, DecidesAlone};
 
 use crate::error::Error;
 use crate::validator::Validator;
@@ -76,9 +77,19 @@ impl<A: Allocator + Copy> Validator<A> {
         }
     }
 
-    /// Checks the module that these bytes are, and gives its types. It is accepted exactly where the
-    /// bytes are framed as a module is and each of its payloads is accepted after those before it.
+    /// Checks the module that these bytes are, and gives its types, which show its index spaces. It is
+    /// accepted exactly where it is valid (Core Specification 3.0, Validation, Modules), as far as its
+    /// forms are served and the list of types has room for its own.
+    ///
+    /// The validator has to be fresh or reset: elsewhere the header is refused.
     pub fn validate_all(&mut self, bytes: &[u8]) -> Result<Types<A>, Error<A>>
+        ensures { DecidesModule result bytes.now self.old self.new }
+    {
+        self.run(bytes)
+    }
+
+    /// Goes over the payloads of these bytes, up to the first that is refused.
+    fn run(&mut self, bytes: &[u8]) -> Result<Types<A>, Error<A>>
         ensures { Validates result bytes.now self.old self.new }
     {
         let mut payloads = Parser::new(self.allocator(), 0).parse_all(bytes);
@@ -110,14 +121,15 @@ fn latest<A: Allocator>(before: Option<Types<A>>, valid: ValidPayload<A>) -> Opt
     }
 }
 
-/// Checks with the default features the module that these bytes are, and gives its types. The id is
-/// that of the validator that does it.
+/// Checks with the default features the module that these bytes are, and gives its types, which show
+/// its index spaces. It is accepted exactly where it is valid (Core Specification 3.0, Validation,
+/// Modules), as far as its forms are served. The id is that of the validator that does it.
 pub fn validate<A: Allocator + Copy>(
     alloc: A,
     bytes: &[u8],
     id: ValidatorId,
 ) -> Result<Types<A>, Error<A>>
-    ensures { ValidatesAnew result bytes.now (fresh id (record { 0 = 32703 })) }
+    ensures { DecidesAlone result bytes.now id (record { 0 = 32703 }) }
 {
     Validator::new(alloc, id).validate_all(bytes)
 }

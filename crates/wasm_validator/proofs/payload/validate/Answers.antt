@@ -1,10 +1,10 @@
 use Rattle.std.proofs.Common.{subst}
-use Rattle.wasm_validator.specs.Payloads.{ValidatesAnew}
+use Rattle.wasm_validator.specs.Verdict.{DecidesModule}
 use Rattle.wasm_validator.specs.Standing.{Standing}
-use Rattle.wasm_validator.proofs.Runs.{anew}
+use Rattle.wasm_validator.proofs.WholeModules.{decides_alone}
 use Rattle.wasm_validator.proofs.payload.validate.Goals as goal
 
 pub returns : goal.returns
 returns g c =
-    let P : Standing → Type 0 = λ s. ValidatesAnew c.validate_all.result c.args.bytes.now s in
-    subst P c.new.ensures (anew c.args.bytes.now c.new.result c.validate_all.new.self c.validate_all.result c.validate_all.ensures)
+    let P : Standing → Type 0 = λ s. DecidesModule c.validate_all.result c.args.bytes.now s c.validate_all.new.self in
+    decides_alone c.args.bytes.now c.args.id (record { 0 = 32703 }) c.validate_all.new.self c.validate_all.result (subst P c.new.ensures c.validate_all.ensures)

@@ -1,7 +1,7 @@
 use Rattle.wasm_parser.specs.Seen.{state}
 use Rattle.wasm_parser.specs.Machine.{most_left}
 use Rattle.wasm_validator.proofs.Runs.{Progress}
-use Rattle.wasm_validator.proofs.validator.Validator.validate_all.Given as goal
+use Rattle.wasm_validator.proofs.validator.Validator.run.Given as goal
 
 abbrev pub invariant-payloads : goal.invariant-payloads
 invariant-payloads g l = Progress l.bytes l.fn.self l.self (state l.payloads) l.ended

@@ -1,0 +1,145 @@
+-- Pieces whose parts are of the forms that are served are accepted where these parts are valid.
+use Rattle.std.proofs.Common.{◌≡◌, ◌≢◌, refl, sym, ap, subst, ◌∙◌, ◌⊎◌, inl, inr, ℕ, zero, suc, ◌+◌, ◌≤◌, ◌<◌, Bool, true, false, ◌&&◌, ◌||◌, cond, eqb, List, [], ◌∷◌, ◌++◌, map, length, slice_get, slice_index, get_or, Option, Some, None, arith, append-nil, length-append}
+use Rattle.std.specs.Prelude.{is_some, IsTrue}
+use Rattle.std.specs.Option.{option_map, option_and_then}
+use Rattle.std.specs.List.{list_all, flat_map, All, IsDistinct}
+use Rattle.std.proofs.lemmas.Bool.{eqb-true, eqb-false, eq-eqb, ne_eqb}
+use Rattle.std.proofs.lemmas.List.{length-map}
+use Rattle.std.proofs.lemmas.List.Elements.{All-nil, All-cons, All-head, All-tail}
+use Rattle.wasm_spec.specs.Syntax.{Extern, func_extern, Memory}
+use Rattle.wasm_spec.specs.BinaryModules.{Import, Export}
+use Rattle.wasm_spec.specs.BinarySections.{TableEntry, GlobalEntry, Element, Data}
+use Rattle.wasm_spec.specs.Features.{Features}
+use Rattle.wasm_spec.specs.Trees.{DefType}
+use Rattle.wasm_rules.specs.Parts.{Parts, Expression}
+use Rattle.wasm_rules.specs.IndexSpaces.{IndexSpaces, index_spaces, IsFunctionType}
+use Rattle.wasm_rules.specs.ItemRules.{IsValidTableEntry, IsValidMemory, IsValidTag, IsValidGlobal}
+use Rattle.wasm_rules.specs.LinkRules.{IsValidImport, exported, IsValidExport, IsValidStart, effective_size, sum, export_name, import_size, export_size}
+use Rattle.wasm_rules.specs.SegmentRules.{IsValidElement, IsValidData}
+use Rattle.wasm_rules.specs.Limits.{KeepsLimits, most_tables, most_memories}
+use Rattle.wasm_rules.specs.Modules.{AreValidParts}
+use Rattle.wasm_validator.specs.declared.rules.TheConstants.{MAX_TYPES, MAX_IMPORTS, MAX_FUNCTIONS, MAX_EXPORTS, MAX_EFFECTIVE_SIZE}
+use Rattle.wasm_validator.specs.Standing.{Types}
+use Rattle.wasm_validator.proofs.PlainTypes.{Signature, plain_group}
+use Rattle.wasm_validator.proofs.TypeSection.{plain_types, as_many_types}
+use Rattle.wasm_validator.proofs.FunctionImports.{FunctionImport, function_import, sizes, AllFunctionsFit}
+use Rattle.wasm_validator.proofs.FunctionExports.{AllFit, export_sizes}
+use Rattle.wasm_validator.proofs.RunOfParts.{list_after, ids, arities_of, have_arities, function_indices, import_total}
+use Rattle.wasm_validator.proofs.ServedParts.{served_parts, import_index, served_spaces, served_only, function_exported, exported_function, section_space, is_function_type, function_type_is, imports_size, exports_size}
+
+regroup : (a b : ℕ) → 1 + (a + b) ≡ (1 + a) + b
+regroup a b = omega arith
+
+module _ (F : Features) (T : Types) (ss : List (Signature ℕ)) (fs : List FunctionImport) (es : List Export) where
+  -- what the machine's tests say of the parts
+  pub record PartsFit : Type 0 where
+    pub few_groups : length ss ≤ MAX_TYPES
+    pub few_imports : length fs ≤ MAX_IMPORTS
+    pub functions_fit : AllFunctionsFit (list_after T ss) (ids T ss) (arities_of T ss) (have_arities T ss) 0 1 fs
+    pub few_exports : length es ≤ MAX_EXPORTS
+    pub exports_fit : AllFit (list_after T ss) (ids T ss) (arities_of T ss) (have_arities T ss) (function_indices T ss fs) [] (import_total T ss fs) es
+
+  abbrev pub spaces : IndexSpaces
+  spaces = served_spaces (section_space F T ss) ss fs es
+
+  abbrev pub parts : Parts
+  parts = served_parts ss fs es
+
+  total_size : (a : All (λ (e : Export). (e.kind ≡ 0) × (e.index < length (function_indices T ss fs))) es)
+      → effective_size spaces parts.imports es ≡ import_total T ss fs + sum (export_sizes (list_after T ss) (ids T ss) (arities_of T ss) (have_arities T ss) (function_indices T ss fs) es)
+  total_size a =
+      let i = imports_size F T ss fs in
+      let x = exports_size F T ss spaces (function_indices T ss fs) (served_only (section_space F T ss) ss fs es) refl es a in
+      let i_size = sum (map (import_size (section_space F T ss)) parts.imports) in
+      let x_size = sum (map (export_size spaces) es) in
+      regroup i_size x_size ∙ (λ j. (1 + i j) + x j)
+
+  imports_valid : (gs : List FunctionImport) → All (λ (f : FunctionImport). f.index < length (arities_of T ss)) gs → All (IsValidImport F (section_space F T ss)) (map function_import gs)
+  imports_valid [] a = All-nil (IsValidImport F (section_space F T ss))
+  imports_valid (g ∷ gs) a =
+      let P : FunctionImport → Type 0 = λ f. f.index < length (arities_of T ss) in
+      All-cons (IsValidImport F (section_space F T ss)) (function_import g) (map function_import gs) (is_function_type F T ss g.index (All-head P g gs a)) (imports_valid gs (All-tail P g gs a))
+
+  valid_imports : (gs : List FunctionImport) → All (IsValidImport F (section_space F T ss)) (map function_import gs) → All (λ (f : FunctionImport). f.index < length (arities_of T ss)) gs
+  valid_imports [] v = All-nil (λ (f : FunctionImport). f.index < length (arities_of T ss))
+  valid_imports (g ∷ gs) v =
+      let V = IsValidImport F (section_space F T ss) in
+      All-cons (λ (f : FunctionImport). f.index < length (arities_of T ss)) g gs (function_type_is F T ss g.index (All-head V (function_import g) (map function_import gs) v)) (valid_imports gs (All-tail V (function_import g) (map function_import gs) v))
+
+  exports_valid : (xs : List Export) → All (λ (e : Export). (e.kind ≡ 0) × (e.index < length (function_indices T ss fs))) xs → All (IsValidExport F spaces) xs
+  exports_valid [] a = All-nil (IsValidExport F spaces)
+  exports_valid (x ∷ xs) a =
+      let P : Export → Type 0 = λ e. (e.kind ≡ 0) × (e.index < length (function_indices T ss fs)) in
+      let h = All-head P x xs a in
+      All-cons
+      (IsValidExport F spaces)
+      x
+      xs
+      (record { item = func_extern (slice_index (function_indices T ss fs) x.index); exports = function_exported spaces (function_indices T ss fs) (served_only (section_space F T ss) ss fs es) x h.0 h.1; movable = tt })
+      (exports_valid xs (All-tail P x xs a))
+
+  valid_exports : (xs : List Export) → All (IsValidExport F spaces) xs → All (λ (e : Export). (e.kind ≡ 0) × (e.index < length (function_indices T ss fs))) xs
+  valid_exports [] v = All-nil (λ (e : Export). (e.kind ≡ 0) × (e.index < length (function_indices T ss fs)))
+  valid_exports (x ∷ xs) v =
+      let h = All-head (IsValidExport F spaces) x xs v in
+      All-cons
+      (λ (e : Export). (e.kind ≡ 0) × (e.index < length (function_indices T ss fs)))
+      x
+      xs
+      (exported_function spaces (function_indices T ss fs) (served_only (section_space F T ss) ss fs es) x h.item h.exports)
+      (valid_exports xs (All-tail (IsValidExport F spaces) x xs v))
+
+  functions_count : length spaces.functions ≡ length fs
+  functions_count = ap length ((served_only (section_space F T ss) ss fs es).has) ∙ length-map fs import_index
+
+  few_none : {X : Type 0} (xs : List X) (n : ℕ) → xs ≡ [] → length xs ≤ n
+  few_none xs n e = subst (λ ys. length ys ≤ n) (sym e) (omega arith)
+
+  -- parts that fit are valid
+  pub fit_valid : PartsFit → AreValidParts F spaces parts
+  fit_valid p =
+      let only = served_only (section_space F T ss) ss fs es in
+      let few = p.functions_fit.few in
+      record {
+        imports = imports_valid fs p.functions_fit.in_range;
+        functions = All-nil (IsFunctionType spaces.types);
+        tables = All-nil (IsValidTableEntry F spaces.types);
+        memories = All-nil (IsValidMemory F);
+        tags = All-nil (IsValidTag F spaces.types);
+        globals = All-nil (λ (g : GlobalEntry Expression ℕ). IsValidGlobal F spaces.types g.ty);
+        exports = exports_valid es p.exports_fit.in_range;
+        export_names = p.exports_fit.names;
+        size = subst (λ n. n < 1000000) (sym (total_size p.exports_fit.in_range)) p.exports_fit.small;
+        starts = All-nil (IsValidStart spaces);
+        elements = All-nil (IsValidElement F spaces);
+        segments = All-nil (IsValidData F spaces);
+        limits = record {
+          groups = subst (λ n. n ≤ 1000000) (sym (length-map ss plain_group)) p.few_groups;
+          types = subst (λ n. n ≤ 1000000) (sym (as_many_types F ss [])) p.few_groups;
+          imports = subst (λ n. n ≤ 1000000) (sym (length-map fs function_import)) p.few_imports;
+          functions = subst (λ n. n ≤ 1000000) (sym functions_count) (omega (arith, few));
+          tables = few_none spaces.tables (most_tables F) only.tables;
+          memories = few_none spaces.memories (most_memories F) only.memories;
+          globals = few_none spaces.globals 1000000 only.globals;
+          tags = few_none spaces.tags 1000000 only.tags;
+          exports = p.few_exports;
+          elements = omega arith;
+          segments = omega arith;
+          data_counts = All-nil (λ n. n ≤ 100000);
+          bodies = All-nil (λ (b : List ℕ). length b ≤ 7654321);
+        };
+      }
+
+  -- and parts that are valid fit
+  pub valid_fit : AreValidParts F spaces parts → PartsFit
+  valid_fit v =
+      let functions = subst (λ n. n ≤ 1000000) functions_count v.limits.functions in
+      let in_range = valid_exports es v.exports in
+      let total = subst (λ n. n < 1000000) (total_size in_range) v.size in
+      record {
+        few_groups = subst (λ n. n ≤ 1000000) (length-map ss plain_group) v.limits.groups;
+        few_imports = subst (λ n. n ≤ 1000000) (length-map fs function_import) v.limits.imports;
+        functions_fit = record { in_range = valid_imports fs v.imports; few = omega (arith, functions); small = omega (arith, total) };
+        few_exports = v.limits.exports;
+        exports_fit = record { in_range = in_range; names = v.export_names; small = total };
+      }

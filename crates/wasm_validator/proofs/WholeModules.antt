@@ -1,0 +1,292 @@
+-- A run over whole bytes decides whether they are a valid module of the forms that are served.
+use Rattle.std.proofs.Common.{◌≡◌, ◌≢◌, refl, sym, ap, subst, ◌∙◌, ◌⊎◌, inl, inr, ℕ, ◌+◌, ◌≤◌, Bool, true, false, cond, if◌then◌else◌, ◌==◌, ◌&&◌, eqb, List, [], ◌∷◌, ◌++◌, map, length, Option, Some, None, arith}
+use Rattle.std.specs.Option.{option_map, option_and_then}
+use Rattle.std.proofs.lemmas.Bool.{eqb-true}
+use Rattle.std.specs.declared.result.Result.{Result}
+use Rattle.std.specs.declared.result.Result.TheVariants as results
+use Rattle.wasm_parser.specs.Framing as parts
+use Rattle.wasm_parser.specs.Framing.{Piece, Version, Custom, Counted, Start, DataCount, CodeStart, CodeEntry, Unknown, IsFramed}
+use Rattle.wasm_spec.specs.Features.{Features}
+use Rattle.wasm_rules.specs.FeatureFlags.{features_of}
+use Rattle.wasm_rules.specs.IndexSpaces.{index_spaces}
+use Rattle.wasm_rules.specs.Sections.{each, ranks}
+use Rattle.wasm_rules.proofs.FramedOrder.{IsInner, AreInner, others_inner, others_follow}
+use Rattle.wasm_rules.proofs.Ordered.{Follows}
+use Rattle.wasm_rules.proofs.Tests.{then_some, map_some, guarded}
+use Rattle.wasm_readers_types.specs.SeenTypes.{sub_of}
+use Rattle.wasm_readers_types.specs.declared.indices.TheConstants.{MAX_IDS}
+use Rattle.wasm_readers_errors.specs.declared.features.WasmFeatures.{WasmFeatures}
+use Rattle.wasm_validator_types.specs.Spaces.{Spaces, no_spaces}
+use Rattle.wasm_validator_types.specs.Shown.{shown_of}
+use Rattle.wasm_validator_types.specs.declared.shown.Types as shown
+use Rattle.wasm_validator.specs.declared.error.Error.{Error}
+use Rattle.wasm_validator.specs.declared.error.Error.TheVariants.{Refused, DuplicateExport, OutOfMemory}
+use Rattle.wasm_validator.specs.Standing.{Types, Stage, Standing, unparsed, in_module, ended, failed, fresh, shown_at}
+use Rattle.wasm_validator.specs.States.{after_piece, after_section, after_version, IsBeforeEnd}
+use Rattle.wasm_validator.specs.Machine.{type_items, import_items, export_items, beside}
+use Rattle.wasm_validator.specs.Payloads.{after_all, Accepts, Rejects, Validates}
+use Rattle.wasm_validator.specs.Shows.{ShowModule, export_row}
+use Rattle.wasm_validator.specs.Verdict.{Expressions, IsServedModule, AcceptsModule, RefusesModule, DecidesModule, DecidesAlone}
+use Rattle.wasm_validator.proofs.FunctionImports.{FunctionImport}
+use Rattle.wasm_validator.proofs.ImportRows.{in_rows}
+use Rattle.wasm_validator.proofs.ListedTypes.{stand}
+use Rattle.wasm_validator.proofs.ModuleRun.{step, section_step, AreParts, are_parts, run_served, no_zero, restrict, served_ranks}
+use Rattle.wasm_validator.proofs.MachineTypes.{kept}
+use Rattle.wasm_validator.proofs.RunOfParts.{list_after, ids, arities_of, have_arities, spaces_3, Accepted, end_of, Ran, ran, runs}
+use Rattle.wasm_validator.proofs.ServedParts.{served_parts, served_only, section_space}
+use Rattle.wasm_validator.proofs.ServedModules.{accepted_parts, accepted_formed, accepted_valid, valid_accepted}
+
+-- a validator in a module
+abbrev at : ℕ → WasmFeatures → Types × Spaces → Standing
+at id features p = record { id = id; features = features; stage = in_module p.0 p.1 }
+
+module _ (id : ℕ) (features : WasmFeatures) where
+  lifted : (g : Standing) (o : Option (Types × Spaces)) → option_and_then (λ (h : Stage). Some (record g { stage = h })) (option_and_then (λ (q : Types × Spaces). Some (in_module q.0 q.1)) o)
+      ≡ option_map (λ (q : Types × Spaces). record g { stage = in_module q.0 q.1 }) o
+  lifted g None = refl
+  lifted g (Some q) = refl
+
+  under_tests : (a b c : Bool) (x y z : Option (Types × Spaces)) (u v w : Option Standing) → u ≡ option_map (at id features) x → v ≡ option_map (at id features) y → w ≡ option_map (at id features) z
+      → (if a then u else (if b then v else (if c then w else None))) ≡ option_map (at id features) (if a then x else (if b then y else (if c then z else None)))
+  under_tests true b c x y z u v w e f g = e
+  under_tests false true c x y z u v w e f g = f
+  under_tests false false true x y z u v w e f g = g
+  under_tests false false false x y z u v w e f g = refl
+
+  one_step : (p : Types × Spaces) (x : Piece) → IsInner x → after_piece (at id features p) x ≡ option_map (at id features) (step features p x)
+  one_step p (Version number kind) i = absurd i
+  one_step p (Custom name bytes) i = refl
+  one_step p (Counted k n bytes) i =
+      under_tests
+      (eqb k 1)
+      (eqb k 2)
+      (eqb k 7)
+      (type_items features n bytes p)
+      (import_items n bytes p)
+      (beside (λ types. export_items types n bytes) p)
+      _
+      _
+      _
+      (lifted (at id features p) (type_items features n bytes p))
+      (lifted (at id features p) (import_items n bytes p))
+      (lifted (at id features p) (beside (λ types. export_items types n bytes) p))
+  one_step p (Start x) i = refl
+  one_step p (DataCount n) i = refl
+  one_step p (CodeStart n size) i = refl
+  one_step p (CodeEntry bytes) i = refl
+  one_step p (Unknown k bytes) i = refl
+  one_step p parts.End i = absurd i
+
+  under_map : (o : Option (Types × Spaces)) (f : Standing → Option Standing) (g : Types × Spaces → Option (Types × Spaces)) → ((q : Types × Spaces) → f (at id features q) ≡ option_map (at id features) (g q))
+      → option_and_then f (option_map (at id features) o) ≡ option_map (at id features) (option_and_then g o)
+  under_map None f g h = refl
+  under_map (Some q) f g h = h q
+
+  inside_run : (ps : List Piece) (p : Types × Spaces) → AreInner ps → after_all (at id features p) ps ≡ option_map (at id features) (each (step features) p ps)
+  inside_run [] p i = refl
+  inside_run (x ∷ ps) p i =
+      ap (option_and_then (λ t. after_all t ps)) (one_step p x i.0)
+      ∙ under_map (step features p x) (λ t. after_all t ps) (λ q. each (step features) q ps) (λ q. inside_run ps q i.1)
+
+-- pieces and then others
+nested_all : (o : Option Standing) (ps qs : List Piece) → ((s : Standing) → after_all s (ps ++ qs) ≡ option_and_then (λ t. after_all t qs) (after_all s ps))
+    → option_and_then (λ t. after_all t (ps ++ qs)) o ≡ option_and_then (λ t. after_all t qs) (option_and_then (λ t. after_all t ps) o)
+nested_all None ps qs h = refl
+nested_all (Some s) ps qs h = h s
+
+all_split : (ps qs : List Piece) (s : Standing) → after_all s (ps ++ qs) ≡ option_and_then (λ t. after_all t qs) (after_all s ps)
+all_split [] qs s = refl
+all_split (p ∷ ps) qs s = nested_all (after_piece s p) ps qs (all_split ps qs)
+
+no_more : (front behind : List Piece) → [] ≡ front ++ parts.End ∷ behind → ⊥
+no_more [] behind e = cc
+no_more (x ∷ front) behind e = cc
+
+-- what is before the only end
+unique_end : (xs front behind : List Piece) → AreInner xs → xs ++ parts.End ∷ [] ≡ front ++ parts.End ∷ behind → front ≡ xs
+unique_end [] [] behind i e = refl
+unique_end [] (y ∷ front) behind i e = absurd (no_more front behind (let h : [] ≡ front ++ parts.End ∷ behind = cc in h))
+unique_end (x ∷ xs) [] behind i e = absurd (let same : x ≡ parts.End = cc in subst IsInner same i.0)
+unique_end (x ∷ xs) (y ∷ front) behind i e =
+    let same : x ≡ y = cc in
+    let rest : xs ++ parts.End ∷ [] ≡ front ++ parts.End ∷ behind = cc in
+    λ j. sym same j ∷ unique_end xs front behind i.1 rest j
+
+-- where a header begins a module
+record Begins (old : Standing) (number kind : ℕ) (s : Standing) : Type 0 where
+  before : Types
+  was : old.stage ≡ unparsed before
+  header : Version number kind ≡ Version 1 0
+  now : s ≡ at old.id old.features (before, no_spaces)
+
+begun_is : (a b : Bool) (old : Standing) (g : Stage) (s : Standing) → option_and_then (λ (h : Stage). Some (record old { stage = h })) (cond (a && b) (Some g) None) ≡ Some s → (a ≡ true) × (b ≡ true) × (record old { stage = g } ≡ s)
+begun_is true true old g s e = (refl, refl, cc)
+begun_is true false old g s e = absurd cc
+begun_is false b old g s e = absurd cc
+
+begin_case : (old : Standing) (number kind : ℕ) (s : Standing) (g : Stage) → old.stage ≡ g → after_version (record old { stage = g }) number (kind == 0) ≡ Some s → Begins old number kind s
+begin_case old number kind s (unparsed before) w e =
+    let b = begun_is (eqb number 1) (eqb kind 0) (record old { stage = unparsed before }) (in_module before no_spaces) s e in
+    record {
+      before = before;
+      was = w;
+      header = λ i. Version (eqb-true number 1 b.0 i) (eqb-true kind 0 b.1 i);
+      now = sym b.2;
+    }
+begin_case old number kind s (in_module types spaces) w e = absurd cc
+begin_case old number kind s (ended types) w e = absurd cc
+begin_case old number kind s failed w e = absurd cc
+
+begins : (old : Standing) (number kind : ℕ) (s : Standing) → after_piece old (Version number kind) ≡ Some s → Begins old number kind s
+begins old number kind s e = begin_case old number kind s old.stage refl e
+
+no_rank_is_zero : no_zero ranks
+no_rank_is_zero = ((λ e. cc), ((λ e. cc), ((λ e. cc), ((λ e. cc), ((λ e. cc), ((λ e. cc), ((λ e. cc), ((λ e. cc), ((λ e. cc), ((λ e. cc), ((λ e. cc), ((λ e. cc), ((λ e. cc), ((λ e. cc), tt))))))))))))))
+
+-- the header and what is inside are before the end
+front_is : (header : Piece) (xs front behind : List Piece) → AreInner xs → header ∷ (xs ++ parts.End ∷ []) ≡ front ++ parts.End ∷ behind → IsBeforeEnd header → front ≡ header ∷ xs
+front_is header xs [] behind i e b = absurd (let same : header ≡ parts.End = cc in subst IsBeforeEnd same b)
+front_is header xs (y ∷ front) behind i e b =
+    let same : header ≡ y = cc in
+    let rest : xs ++ parts.End ∷ [] ≡ front ++ parts.End ∷ behind = cc in
+    λ j. sym same j ∷ unique_end xs front behind i rest j
+
+-- parts in the order of the ranks of the sections that are served
+parts_follow : (bytes : List ℕ) (pieces : List Piece) (f : IsFramed bytes pieces) → AreParts f.others → Follows served_ranks f.others
+parts_follow bytes pieces f a = restrict ranks f.others no_rank_is_zero a (others_follow bytes pieces f)
+
+the_same : {X : Type 0} (x y : X) → Some x ≡ Some y → x ≡ y
+the_same x y e = cc
+
+nothing : {X : Type 0} (x : X) → None ≡ Some x → ⊥
+nothing x e = cc
+
+-- a run through the end, by its run inside
+record RunsInside {A : Type 0} (bytes : List ℕ) (old new : Standing) (t : shown.Types A) (pieces : List Piece) (f : IsFramed bytes pieces) : Type 0 where
+  before : Types
+  was : old.stage ≡ unparsed before
+  header : Version f.number f.kind ≡ Version 1 0
+  q : Types × Spaces
+  inside : each (step old.features) (before, no_spaces) f.others ≡ Some q
+  after : new ≡ record old { stage = ended q.0 }
+  list : q.0 ≡ map sub_of (shown_of t).list
+  spaces : q.1 ≡ (shown_of t).spaces
+  same_id : (shown_of t).id ≡ old.id
+
+runs_inside : {A : Type 0} (bytes : List ℕ) (old new : Standing) (t : shown.Types A) (a : Accepts bytes old new t) → RunsInside bytes old new t a.pieces a.framed
+runs_inside bytes old new t a =
+    let f = a.framed in
+    let header = Version f.number f.kind in
+    let whole : after_all old (header ∷ (f.others ++ parts.End ∷ [])) ≡ Some new = sym (ap (after_all old) f.all) ∙ a.accepted in
+    let first = then_some (λ s. after_all s (f.others ++ parts.End ∷ [])) (after_piece old header) new whole in
+    let b = begins old f.number f.kind first.0 first.1 in
+    let start : Types × Spaces = (b.before, no_spaces) in
+    let inner = others_inner bytes a.pieces f in
+    let rest : option_and_then (λ s. after_all s (parts.End ∷ [])) (option_map (at old.id old.features) (each (step old.features) start f.others)) ≡ Some new =
+        sym (all_split f.others (parts.End ∷ []) (at old.id old.features start) ∙ ap (option_and_then (λ s. after_all s (parts.End ∷ []))) (inside_run old.id old.features f.others start inner))
+        ∙ sym (ap (λ s. after_all s (f.others ++ parts.End ∷ [])) b.now)
+        ∙ first.2 in
+    let last = then_some (λ s. after_all s (parts.End ∷ [])) (option_map (at old.id old.features) (each (step old.features) start f.others)) new rest in
+    let m = map_some (at old.id old.features) (each (step old.features) start f.others) last.0 last.1 in
+    let q = m.0 in
+    let closing : after_all (at old.id old.features q) (parts.End ∷ []) ≡ Some new = ap (λ s. after_all s (parts.End ∷ [])) m.2 ∙ last.2 in
+    let stood : record old { stage = ended q.0 } ≡ new = the_same (record old { stage = ended q.0 }) new closing in
+    let split : header ∷ f.others ≡ a.front = sym (front_is header f.others a.front a.behind inner (sym f.all ∙ a.split) tt) in
+    let reached : after_all old (header ∷ f.others) ≡ Some (at old.id old.features q) =
+        ap (option_and_then (λ s. after_all s f.others)) first.1
+        ∙ ap (λ s. after_all s f.others) b.now
+        ∙ inside_run old.id old.features f.others start inner
+        ∙ ap (option_map (at old.id old.features)) m.1 in
+    let at_end : at old.id old.features q ≡ a.before_end = the_same (at old.id old.features q) a.before_end (sym reached ∙ ap (after_all old) split ∙ a.reached) in
+    let seen : shown_at (in_module q.0 q.1) ≡ Some (map sub_of (shown_of t).list, (shown_of t).spaces) = ap (λ (s : Standing). shown_at s.stage) at_end ∙ a.shown.0 in
+    let shown_pair : Types × Spaces = (map sub_of (shown_of t).list, (shown_of t).spaces) in
+    let pair : q ≡ shown_pair = the_same q shown_pair seen in
+    record {
+      before = b.before;
+      was = b.was;
+      header = b.header;
+      q = q;
+      inside = m.1;
+      after = sym stood;
+      list = λ i. (pair i).0;
+      spaces = λ i. (pair i).1;
+      same_id = a.shown.1 ∙ sym (ap (λ (s : Standing). s.id) at_end);
+    }
+
+-- what the lists at the end show
+module _ (features : WasmFeatures) (T : Types) (ps : List Piece) (a : Accepted features T ps) where
+  abbrev F : Features
+  F = features_of features
+
+  indices_are : (spaces_3 T a.signatures a.functions a.exports).functions ≡ (index_spaces (section_space F T a.signatures) (served_parts a.signatures a.functions a.exports)).functions
+  indices_are = sym ((served_only (section_space F T a.signatures) a.signatures a.functions a.exports).has)
+
+  pub ends_shown : ShowModule F (list_after T a.signatures) (spaces_3 T a.signatures a.functions a.exports) (index_spaces (section_space F T a.signatures) (served_parts a.signatures a.functions a.exports)) (served_parts a.signatures a.functions a.exports)
+  ends_shown = record {
+    types = stand F T a.signatures a.served;
+    functions = indices_are;
+    imports = in_rows (ids T a.signatures) (list_after T a.signatures) (arities_of T a.signatures) (have_arities T a.signatures) a.functions;
+    exports = ap (λ (functions : List ℕ). map (export_row (ids T a.signatures) functions) a.exports) indices_are;
+  }
+
+-- what is accepted is a valid module, and its types show it
+pub accepts_valid : {A : Type 0} (bytes : List ℕ) (old new : Standing) (t : shown.Types A) → Accepts bytes old new t → (expression_at : Expressions) → AcceptsModule expression_at bytes old new t
+accepts_valid bytes old new t a expression_at =
+    let f = a.framed in
+    let r = runs_inside bytes old new t a in
+    let parts = are_parts f.others (run_served old.features f.others (r.before, no_spaces) r.q r.inside) (others_inner bytes a.pieces f) in
+    let run = ran old.features r.before f.others parts (parts_follow bytes a.pieces f parts) r.q r.inside in
+    let acc = run.accepted in
+    let F = features_of old.features in
+    let C = index_spaces (section_space F r.before acc.signatures) (served_parts acc.signatures acc.functions acc.exports) in
+    let there : end_of old.features r.before f.others acc ≡ (map sub_of (shown_of t).list, (shown_of t).spaces) = run.ends ∙ (λ i. (r.list i, r.spaces i)) in
+    record {
+      module_valid = accepted_valid expression_at old.features r.before bytes a.pieces f r.header parts acc;
+      shows = subst (λ (x : Types × Spaces). ShowModule F x.0 x.1 C (served_parts acc.signatures acc.functions acc.exports)) there (ends_shown old.features r.before f.others acc);
+      same_id = r.same_id;
+      before = r.before;
+      began = r.was;
+      more = kept acc.signatures;
+      kept = sym (λ i. (there i).0);
+      after = r.after ∙ ap (λ (xs : Types). record old { stage = ended xs }) r.list;
+    }
+
+-- what has no accepted run is no valid module of the forms that are served
+begins_at : (old : Standing) (T : Types) (number kind : ℕ) → old.stage ≡ unparsed T → Version number kind ≡ Version 1 0 → after_piece old (Version number kind) ≡ Some (at old.id old.features (T, no_spaces))
+begins_at old T number kind w e = ap (after_piece old) e ∙ ap (λ (g : Stage). after_version (record old { stage = g }) 1 true) w
+
+pub rejects_refuses : (bytes : List ℕ) (old : Standing) → Rejects bytes old → RefusesModule bytes old
+rejects_refuses bytes old rejects expression_at T w m room =
+    let v = m.module_valid.well_formed in
+    let f = v.framed in
+    let a = valid_accepted expression_at old.features T bytes v m.served in
+    let start : Types × Spaces = (T, no_spaces) in
+    let q = end_of old.features T f.others a.accepted in
+    let fits : length T + length a.accepted.signatures ≤ MAX_IDS = subst (λ n. length T + n ≤ MAX_IDS) (sym a.as_many) room in
+    let inside = runs old.features T f.others a.parts (parts_follow bytes v.pieces f a.parts) a.accepted fits in
+    let inner = others_inner bytes v.pieces f in
+    let ended_there : after_all old v.pieces ≡ Some (record old { stage = ended q.0 }) =
+        ap (after_all old) f.all
+        ∙ ap (option_and_then (λ s. after_all s (f.others ++ parts.End ∷ []))) (begins_at old T f.number f.kind w a.header)
+        ∙ all_split f.others (parts.End ∷ []) (at old.id old.features start)
+        ∙ ap (option_and_then (λ s. after_all s (parts.End ∷ []))) (inside_run old.id old.features f.others start inner ∙ ap (option_map (at old.id old.features)) inside) in
+    let none = rejects v.pieces f in
+    nothing (record old { stage = ended q.0 }) (sym none ∙ ended_there)
+
+-- no module has more types than a list may hold
+room_alone : (features : WasmFeatures) (id : ℕ) (bytes : List ℕ) → RefusesModule bytes (fresh id features) → (expression_at : Expressions) → IsServedModule expression_at features bytes → ⊥
+room_alone features id bytes h expression_at m = let few = m.module_valid.well_formed.rules.limits.types in h expression_at [] refl m (omega (arith, few))
+
+-- the answers
+module _ {A : Type 0} where
+  pub decides : (bytes : List ℕ) (old new : Standing) (r : Result (shown.Types A) (Error A)) → Validates r bytes old new → DecidesModule r bytes old new
+  decides bytes old new (results.Ok t) v = accepts_valid bytes old new t v
+  decides bytes old new (results.Err (Refused e)) v = (rejects_refuses bytes old v.0, v.1)
+  decides bytes old new (results.Err (DuplicateExport name offset)) v = (rejects_refuses bytes old v.0, v.1)
+  decides bytes old new (results.Err OutOfMemory) v = v
+
+  pub decides_alone : (bytes : List ℕ) (id : ℕ) (features : WasmFeatures) (new : Standing) (r : Result (shown.Types A) (Error A)) → DecidesModule r bytes (fresh id features) new → DecidesAlone r bytes id features
+  decides_alone bytes id features new (results.Ok t) v = λ e. (new, v e)
+  decides_alone bytes id features new (results.Err (Refused e)) v = room_alone features id bytes v.0
+  decides_alone bytes id features new (results.Err (DuplicateExport name offset)) v = room_alone features id bytes v.0
+  decides_alone bytes id features new (results.Err OutOfMemory) v = tt

@@ -1,0 +1,63 @@
+-- What the answer on whole bytes says of the module that they are. Core Specification 3.0, Validation, Modules.
+use Rattle.std.specs.Prelude.{ℕ, ◌≡◌, ◌≤◌, ◌+◌, ◌++◌, List, [], map, length, Option, Some, None, ⊤}
+use Rattle.std.specs.declared.result.Result.{Result}
+use Rattle.std.specs.declared.result.Result.TheVariants as results
+use Rattle.wasm_readers_types.specs.SeenTypes.{sub_of}
+use Rattle.wasm_readers_types.specs.declared.indices.TheConstants.{MAX_IDS}
+use Rattle.wasm_readers_errors.specs.declared.features.WasmFeatures.{WasmFeatures}
+use Rattle.wasm_rules.specs.FeatureFlags.{features_of}
+use Rattle.wasm_rules.specs.Parts.{Expression}
+use Rattle.wasm_rules.specs.IndexSpaces.{index_spaces}
+use Rattle.wasm_rules.specs.Modules.{IsWellFormed, IsValid}
+use Rattle.wasm_validator_types.specs.Shown.{shown_of}
+use Rattle.wasm_validator_types.specs.declared.shown.Types as shown
+use Rattle.wasm_validator.specs.declared.error.Error.{Error}
+use Rattle.wasm_validator.specs.declared.error.Error.TheVariants.{Refused, DuplicateExport, OutOfMemory}
+use Rattle.wasm_validator.specs.Served.{AreServed}
+use Rattle.wasm_validator.specs.Shows.{ShowModule}
+use Rattle.wasm_validator.specs.Standing.{Types, Standing, unparsed, ended, fresh}
+use Rattle.wasm_validator.specs.Payloads.{IsLeft, IsOutOfMemory}
+
+-- How a constant expression is read. No module that is served has one, so what is said here holds however they are read.
+abbrev pub Expressions : Type 0
+Expressions = List ℕ → Option (Expression × List ℕ)
+
+-- the bytes are a valid module, of the forms that are served
+pub record IsServedModule (expression_at : Expressions) (features : WasmFeatures) (bytes : List ℕ) : Type 0 where
+  pub module_valid : IsValid expression_at (features_of features) bytes
+  pub served : AreServed module_valid.well_formed.pieces module_valid.well_formed.parts
+
+-- The bytes are a valid module. The types show its index spaces, in a list that begins with the types that the
+-- validator had, and this list is what it has from now on.
+pub record AcceptsModule {A : Type 0} (expression_at : Expressions) (bytes : List ℕ) (old new : Standing) (t : shown.Types A) : Type 0 where
+  pub module_valid : IsValid expression_at (features_of old.features) bytes
+  pub shows :
+      ShowModule (features_of old.features) (map sub_of (shown_of t).list) (shown_of t).spaces
+      (index_spaces module_valid.well_formed.types.types module_valid.well_formed.parts) module_valid.well_formed.parts
+  pub same_id : (shown_of t).id ≡ old.id
+  pub before : Types
+  pub began : old.stage ≡ unparsed before
+  pub more : Types
+  pub kept : map sub_of (shown_of t).list ≡ before ++ more
+  pub after : new ≡ record old { stage = ended (map sub_of (shown_of t).list) }
+
+-- Where no header had been read, the bytes are no valid module of the forms that are served, unless the list would
+-- pass its limit with the module's types.
+abbrev pub RefusesModule : List ℕ → Standing → Type 0
+RefusesModule bytes old =
+    (expression_at : Expressions) (before : Types) → old.stage ≡ unparsed before
+    → (m : IsServedModule expression_at old.features bytes) → length before + length m.module_valid.well_formed.types.types ≤ MAX_IDS → ⊥
+
+-- what the answer on whole bytes says: of acceptance with no premise, of a refusal unless memory was refused
+abbrev pub DecidesModule : {A : Type 0} → Result (shown.Types A) (Error A) → List ℕ → Standing → Standing → Type 0
+DecidesModule (results.Ok t) bytes old new = (expression_at : Expressions) → AcceptsModule expression_at bytes old new t
+DecidesModule (results.Err (Refused r)) bytes old new = RefusesModule bytes old × IsLeft old new
+DecidesModule (results.Err (DuplicateExport name offset)) bytes old new = RefusesModule bytes old × IsLeft old new
+DecidesModule (results.Err OutOfMemory) bytes old new = IsOutOfMemory old new
+
+-- The same of a validator that is made for these bytes: no module has as many types as its list may hold.
+abbrev pub DecidesAlone : {A : Type 0} → Result (shown.Types A) (Error A) → List ℕ → ℕ → WasmFeatures → Type 0
+DecidesAlone (results.Ok t) bytes id features = (expression_at : Expressions) → (new : Standing) × AcceptsModule expression_at bytes (fresh id features) new t
+DecidesAlone (results.Err (Refused r)) bytes id features = (expression_at : Expressions) → IsServedModule expression_at features bytes → ⊥
+DecidesAlone (results.Err (DuplicateExport name offset)) bytes id features = (expression_at : Expressions) → IsServedModule expression_at features bytes → ⊥
+DecidesAlone (results.Err OutOfMemory) bytes id features = ⊤
