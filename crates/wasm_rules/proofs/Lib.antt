@@ -2,3 +2,4 @@ pub mod Tests
 pub mod Verdicts
 pub mod Ordered
 pub mod FramedOrder
+pub mod ModuleExamples

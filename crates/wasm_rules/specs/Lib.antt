@@ -7,3 +7,4 @@ pub mod LinkRules
 pub mod SegmentRules
 pub mod Limits
 pub mod Modules
+pub mod ModuleExamples

@@ -1,3 +1,28 @@
 //! When a module is valid: definitions in the words and the order of the WebAssembly Core Specification 3.0,
 //! chapter Validation. Contracts of the validator cite them.
 #![tactic(auto)]
+
+ghost use Rattle.wasm_rules.specs.ModuleExamples.{TableOfOneOrTwo, NoTableOfTwoToOne, NoTableWithoutEntries, MemoryOfAllAddresses, NoMemoryPastAllAddresses, NoSharedGlobal, NoTagWithoutExceptions, NoMutableImport, MemoryIsExported, NoSecondMemory, NoNameTwice, SizeIsThree, NoStartWithParameter, NoPassiveElements, NoPassiveData, NoTwoMemories, HeaderIsModule, NoVersionTwo};
+
+/// Worked examples of the rules of modules.
+#[tactic(auto, using(crate::proofs::ModuleExamples::examples))]
+pub fn module_examples()
+    ensures table { TableOfOneOrTwo }
+    ensures no_table { NoTableOfTwoToOne }
+    ensures no_entries { NoTableWithoutEntries }
+    ensures memory { MemoryOfAllAddresses }
+    ensures no_memory { NoMemoryPastAllAddresses }
+    ensures no_global { NoSharedGlobal }
+    ensures no_tag { NoTagWithoutExceptions }
+    ensures no_import { NoMutableImport }
+    ensures export { MemoryIsExported }
+    ensures no_export { NoSecondMemory }
+    ensures no_name { NoNameTwice }
+    ensures size { SizeIsThree }
+    ensures no_start { NoStartWithParameter }
+    ensures no_elements { NoPassiveElements }
+    ensures no_data { NoPassiveData }
+    ensures no_memories { NoTwoMemories }
+    ensures header { HeaderIsModule }
+    ensures no_version { NoVersionTwo }
+{}

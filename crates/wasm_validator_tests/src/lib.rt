@@ -8,6 +8,8 @@ mod modules;
 #[cfg(test)]
 mod robustness;
 #[cfg(test)]
+mod sizes;
+#[cfg(test)]
 mod states;
 
 use std::alloc::Allocator;
