@@ -8,3 +8,5 @@ pub mod SegmentRules
 pub mod Limits
 pub mod Modules
 pub mod ModuleExamples
+pub mod StateTable
+pub mod Totals

@@ -17,3 +17,4 @@ pub mod ServedModules
 pub mod ImportRows
 pub mod ListedTypes
 pub mod WholeModules
+pub mod Table

@@ -6,3 +6,4 @@ pub mod Shows
 pub mod States
 pub mod Payloads
 pub mod Verdict
+pub mod Table
