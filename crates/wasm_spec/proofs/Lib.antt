@@ -14,3 +14,4 @@ pub mod LawSet
 pub mod TypeLawSet
 pub mod TypeExamples
 pub mod Accepted
+pub mod Depths

@@ -131,7 +131,7 @@ module _ {R : Type 0} (D : R → Option (Sub R)) where
   then_ancestor m n h None = refl
   then_ancestor m n h (Some x) = h x
 
-  ancestor_at-add : (m n : ℕ) (a : R) → ancestor_at D (m + n) a ≡ option_and_then (ancestor_at D n) (ancestor_at D m a)
+  pub ancestor_at-add : (m n : ℕ) (a : R) → ancestor_at D (m + n) a ≡ option_and_then (ancestor_at D n) (ancestor_at D m a)
   ancestor_at-add zero n a = let e : zero + n ≡ n = omega arith in ap (λ k. ancestor_at D k a) e
   ancestor_at-add (suc m) n a =
       let e : suc m + n ≡ suc (m + n) = omega arith in

@@ -1,7 +1,7 @@
 -- Core Specification 3.0, Binary Format, Modules: the entries of the table, global, element and data sections.
 -- They hold constant expressions, whose instructions are not this crate's: `expression_at` reads one, its `end`
 -- included, and E is what it is read as.
-use Rattle.std.specs.Prelude.{ℕ, Bool, true, false, ◌==◌, if◌then◌else◌, List, [], ◌∷◌, Option, Some, None}
+use Rattle.std.specs.Prelude.{ℕ, true, false, ◌==◌, if◌then◌else◌, List, Option, Some, None}
 use Rattle.std.specs.Option.{option_map, option_and_then}
 use Rattle.wasm_spec.specs.Syntax.{abstract_heap, func_heap, Ref, Table, Global}
 use Rattle.wasm_spec.specs.Values.{byte_at, u32_at, sized_at, list_at}

@@ -8,7 +8,7 @@ ghost use Rattle.wasm_spec.specs.Values.{unsigned_at, signed_at, name_at};
 ghost use Rattle.wasm_spec.specs.BinaryTypes.{val_at, rec_at};
 ghost use Rattle.wasm_spec.specs.BinaryModules.{import_at, export_at, map_import};
 ghost use Rattle.wasm_spec.specs.Laws.{ReadingRenames, ReadingGoesOn, ReadingIgnoresWhatFollows, MapAfterMap, MapBySame};
-ghost use Rattle.wasm_spec.specs.TypeLaws.{MembersOfClosed, StartOfClosed, EqualTreesEqualGroups, DifferentGroupsDifferentTypes, AppendedGroup, FrontOfTypeSpace, EarlierTypesStay, SingleRecIsPlain, EachWrittenGroupIsItsOwn, MatchingIsReflexive, MatchingIsTransitive, MatchingIsAntisymmetric, AcceptedTypesMatchAncestors, ValidTypeSectionIsAccepted, TestsDecideMatching, SelfMentionsAreOneTree, TypesDeclareWhatIsWritten, AppendedListedGroup, EarlierIdsStay, EqualTreesEqualListedGroups, ListedGroupIsWrittenGroup};
+ghost use Rattle.wasm_spec.specs.TypeLaws.{MembersOfClosed, StartOfClosed, EqualTreesEqualGroups, DifferentGroupsDifferentTypes, AppendedGroup, FrontOfTypeSpace, EarlierTypesStay, SingleRecIsPlain, EachWrittenGroupIsItsOwn, MatchingIsReflexive, MatchingIsTransitive, MatchingIsAntisymmetric, AcceptedTypesMatchAncestors, DepthsAreSmall, ValidTypeSectionIsAccepted, TestsDecideMatching, SelfMentionsAreOneTree, TypesDeclareWhatIsWritten, AppendedListedGroup, EarlierIdsStay, EqualTreesEqualListedGroups, ListedGroupIsWrittenGroup};
 ghost use Rattle.wasm_spec.specs.TypeExamples.{FinalStructStillMatches, ExtendedStructHasOneAncestor, DescribedPairIsValid, MutualStructsAreOneTree, MutualStructsAreTypes, NoRecWithoutGc, NoIndexPastTheEnd, ExtendsOpenStruct, FinalStructIsNotExtended, ImmutableFieldMatches, MutableFieldDoesNotMatch, ParametersMatchBackwards, ParametersDoNotMatchForwards};
 
 /// Reading with renamed type indices is reading, and renaming what was read.
@@ -94,6 +94,12 @@ pub fn matching_is_an_order<R>()
     ensures antisymmetric { MatchingIsAntisymmetric R }
     ensures accepted { AcceptedTypesMatchAncestors R }
     ensures tests { TestsDecideMatching R }
+{}
+
+/// A type has one number of proper ancestors at most, and a valid one at most 63.
+#[tactic(auto, using(crate::proofs::Depths::depths_are_small))]
+pub fn depths_are_small<R>()
+    ensures depths { DepthsAreSmall R }
 {}
 
 /// The types of a valid type section mention only types of it, all of them valid: what is shown of accepted types holds of them.
