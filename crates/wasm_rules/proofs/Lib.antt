@@ -3,3 +3,4 @@ pub mod Verdicts
 pub mod Ordered
 pub mod FramedOrder
 pub mod ModuleExamples
+pub mod Contexts

@@ -10,3 +10,4 @@ pub mod Modules
 pub mod ModuleExamples
 pub mod StateTable
 pub mod Totals
+pub mod Contexts

@@ -2,6 +2,7 @@
 //! chapter Validation. Contracts of the validator cite them.
 #![tactic(auto)]
 
+ghost use Rattle.wasm_rules.specs.Contexts.{ContextsAreRenamed};
 ghost use Rattle.wasm_rules.specs.ModuleExamples.{TableOfOneOrTwo, NoTableOfTwoToOne, NoTableWithoutEntries, MemoryOfAllAddresses, NoMemoryPastAllAddresses, NoSharedGlobal, NoTagWithoutExceptions, NoMutableImport, MemoryIsExported, NoSecondMemory, NoNameTwice, SizeIsThree, NoStartWithParameter, NoPassiveElements, NoPassiveData, NoTwoMemories, HeaderIsModule, NoVersionTwo};
 
 /// Worked examples of the rules of modules.
@@ -25,4 +26,10 @@ pub fn module_examples()
     ensures no_memories { NoTwoMemories }
     ensures header { HeaderIsModule }
     ensures no_version { NoVersionTwo }
+{}
+
+/// A context over other identities of types is the context with each identity renamed.
+#[tactic(auto, using(crate::proofs::Contexts::contexts_are_renamed))]
+pub fn contexts_are_renamed<R, S>()
+    ensures renamed { ContextsAreRenamed R S }
 {}
