@@ -2,14 +2,14 @@
 use Rattle.std.proofs.Common.{◌≡◌, refl, ap, ◌∙◌, ℕ, List, [], ◌∷◌, ◌++◌, map, Option, Some, None}
 use Rattle.std.specs.List.{flat_map}
 use Rattle.std.proofs.lemmas.List.{map-append}
-use Rattle.wasm_spec.specs.Syntax.{Sub, map_ref, map_table, map_global, map_sub}
+use Rattle.wasm_spec.specs.Syntax.{Sub, map_ref, map_table, map_global}
 use Rattle.wasm_spec.specs.BinarySections.{Element}
 use Rattle.wasm_spec.specs.Trees.{DefType, declared}
 use Rattle.wasm_spec.proofs.SyntaxMaps.{map-map_by, map_ref-map, map_table-map, map_global-map, map_sub-map}
 use Rattle.wasm_rules.specs.Parts.{Expression}
 use Rattle.wasm_rules.specs.IndexSpaces.{type_at}
 use Rattle.wasm_rules.specs.SegmentRules.{items_type}
-use Rattle.wasm_rules.specs.Contexts.{declares_at, renamed_declared, map_context, context_over, ContextsAreRenamed}
+use Rattle.wasm_rules.specs.Contexts.{declares_at, renamed_declared, context_over, ContextsAreRenamed}
 
 module _ {R S : Type 0} (f : R → S) (n : DefType → R) where
   one_declares : (d : DefType) (o : Option (Sub DefType)) → map (renamed_declared f) (declares_at n d o) ≡ declares_at (λ x. f (n x)) d o

@@ -4,3 +4,4 @@ pub mod Ordered
 pub mod FramedOrder
 pub mod ModuleExamples
 pub mod Contexts
+pub mod Totals

@@ -1,6 +1,5 @@
 -- The worked examples of modules.
-use Rattle.std.proofs.Common.{◌≡◌, refl, sym, ap, subst, ◌∙◌, arith, ℕ, ◌≤◌, ◌<◌, Bool, true, false, List, [], ◌∷◌, map, length, drop, slice_get, Option, Some, None}
-use Rattle.std.specs.List.{All}
+use Rattle.std.proofs.Common.{◌≡◌, refl, sym, ap, ◌∙◌, arith, ℕ, ◌≤◌, ◌<◌, true, false, List, [], ◌∷◌, map, length, drop, slice_get, Some, None}
 use Rattle.std.proofs.lemmas.List.Elements.{All-nil, All-cons}
 use Rattle.std.proofs.lemmas.Map.Keys.{IsDistinct-head}
 use Rattle.std.specs.Option.{option_map, option_and_then}
@@ -8,7 +7,6 @@ use Rattle.std.specs.Cmp.Lexicographic.{nat_list_eq_equiv}
 use Rattle.std.proofs.lemmas.Map.Made.{IsDistinct-from_count}
 use Rattle.wasm_spec.specs.Syntax.{Val, i32, Sub, map_sub}
 use Rattle.wasm_spec.specs.BinarySections.{GlobalEntry}
-use Rattle.wasm_spec.specs.Features.{Features}
 use Rattle.wasm_spec.specs.Closing.{resolve}
 use Rattle.wasm_spec.specs.GroupRules.{IsValidType}
 use Rattle.wasm_spec.proofs.Numbering.{members-close}

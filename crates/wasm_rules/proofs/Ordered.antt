@@ -1,9 +1,9 @@
 -- Pieces in the order of their sections: what is done with one after another is done rank by rank.
-use Rattle.std.proofs.Common.{◌≡◌, ◌≢◌, refl, sym, ap, subst, ◌∙◌, ◌⊎◌, inl, inr, ℕ, zero, suc, ◌<◌, ◌≤◌, Bool, true, false, cond, eqb, List, [], ◌∷◌, ◌++◌, drop, length, slice_get, Option, Some, None, arith}
+use Rattle.std.proofs.Common.{◌≡◌, ◌≢◌, refl, sym, ap, subst, ◌∙◌, ◌⊎◌, inl, inr, ℕ, Bool, true, false, cond, eqb, List, [], ◌∷◌, Option, Some, None}
 use Rattle.std.specs.Option.{option_and_then}
 use Rattle.std.proofs.lemmas.Bool.{eq-eqb, ne_eqb, eqb-true, eqb-false}
-use Rattle.wasm_parser.specs.Framing.{Piece, CodeEntry, place, places}
-use Rattle.wasm_rules.specs.Sections.{each, rank, at_rank, ranks, by_rank}
+use Rattle.wasm_parser.specs.Framing.{Piece}
+use Rattle.wasm_rules.specs.Sections.{each, rank, at_rank, by_rank}
 
 -- these pieces follow one another in the order of these ranks; several bodies may come, and one of any other kind
 pub data Follows : List ℕ → List Piece → Type 0 where
@@ -97,10 +97,10 @@ module _ {S : Type 0} (step : S → Piece → Option S) where
       ap (λ xs. option_and_then (λ t. by_rank step ks t (p ∷ ps)) (each step s xs)) (same k p ps r)
       ∙ nested (step s p) (λ t. each step t (at_rank k ps)) (λ t. by_rank step ks t (p ∷ ps))
       ∙ under
-        (step s p)
-        (λ u. option_and_then (λ t. by_rank step ks t (p ∷ ps)) (each step u (at_rank k ps)))
-        (λ t. by_rank step (k ∷ ks) t ps)
-        (λ u. under (each step u (at_rank k ps)) (λ t. by_rank step ks t (p ∷ ps)) (λ t. by_rank step ks t ps) (λ t. passed ks p ps t (subst (λ i. IsNone i ks) (sym r) n)))
+      (step s p)
+      (λ u. option_and_then (λ t. by_rank step ks t (p ∷ ps)) (each step u (at_rank k ps)))
+      (λ t. by_rank step (k ∷ ks) t ps)
+      (λ u. under (each step u (at_rank k ps)) (λ t. by_rank step ks t (p ∷ ps)) (λ t. by_rank step ks t ps) (λ t. passed ks p ps t (subst (λ i. IsNone i ks) (sym r) n)))
 
   -- a rank that no piece has
   skipped : (k : ℕ) (ks : List ℕ) (ps : List Piece) (s : S) → at_rank k ps ≡ [] → by_rank step (k ∷ ks) s ps ≡ by_rank step ks s ps

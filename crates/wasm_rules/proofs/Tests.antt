@@ -1,5 +1,5 @@
 -- What options and tests say.
-use Rattle.std.proofs.Common.{◌≡◌, refl, sym, ap, ◌∙◌, ◌⊎◌, inl, inr, ℕ, Bool, true, false, cond, List, [], ◌∷◌, Option, Some, None}
+use Rattle.std.proofs.Common.{◌≡◌, refl, ◌⊎◌, inl, inr, Bool, true, false, cond, Option, Some, None}
 use Rattle.std.specs.Option.{option_map, option_and_then}
 
 pub truth : (b : Bool) → (b ≡ true) ⊎ (b ≡ false)

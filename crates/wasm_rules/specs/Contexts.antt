@@ -1,7 +1,6 @@
 -- What instructions look up of a module, over any kind of identity R of types: the context of the Core Specification
 -- 3.0 (Validation, Conventions, Contexts), as finite lists.
 use Rattle.std.specs.Prelude.{ℕ, ◌≡◌, ◌<◌, Bool, true, false, List, [], ◌∷◌, ◌++◌, map, slice_get, Option, Some, None}
-use Rattle.std.specs.Option.{option_map}
 use Rattle.std.specs.List.{flat_map, All, Contains}
 use Rattle.wasm_spec.specs.Syntax.{Ref, Table, Memory, Global, Sub, Extern, func_extern, func_exact_extern, map_ref, map_table, map_global, map_sub}
 use Rattle.wasm_spec.specs.BinaryModules.{Import}

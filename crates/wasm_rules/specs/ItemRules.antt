@@ -1,8 +1,7 @@
 -- The rules of tables, memories, tags and globals, imported or defined here, all but the typing of their first
 -- values. Core Specification 3.0, Validation, Types (Limits, Table Types, Memory Types, Global Types, Tag Types),
 -- with the features that each form needs and the rules of shared ones.
-use Rattle.std.specs.Prelude.{ℕ, ◌≡◌, ◌≢◌, ◌≤◌, ◌^◌, ◌-◌, ◌==◌, ◌||◌, ◌⊎◌, Bool, true, if◌then◌else◌, List, [], ◌∷◌, length, Option, Some, None, nat_lt, is_some, IsTrue, IfSome, ⊤}
-use Rattle.std.specs.Option.{option_and_then}
+use Rattle.std.specs.Prelude.{ℕ, ◌≡◌, ◌≢◌, ◌≤◌, ◌^◌, ◌-◌, ◌==◌, ◌||◌, if◌then◌else◌, List, length, Some, None, nat_lt, is_some, IsTrue, IfSome}
 use Rattle.wasm_spec.specs.Syntax.{Ref, Val, Table, Memory, Global}
 use Rattle.wasm_spec.specs.BinarySections.{TableEntry, funcref}
 use Rattle.wasm_spec.specs.Features.{Features}

@@ -1,6 +1,6 @@
 -- How many items a module may have. Core Specification 3.0, Appendix, Implementation Limitations; the numbers are
 -- this validator's.
-use Rattle.std.specs.Prelude.{ℕ, ◌≤◌, if◌then◌else◌, List, length}
+use Rattle.std.specs.Prelude.{ℕ, ◌≤◌, if◌then◌else◌, length}
 use Rattle.std.specs.List.{All}
 use Rattle.wasm_spec.specs.Features.{Features}
 use Rattle.wasm_rules.specs.Parts.{Parts}

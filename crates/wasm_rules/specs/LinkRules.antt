@@ -1,10 +1,10 @@
 -- The rules of imports, functions, exports and the start function, and the size of a module's type. Core
 -- Specification 3.0, Validation, Modules.
-use Rattle.std.specs.Prelude.{ℕ, ◌≡◌, ◌<◌, ◌+◌, ◌==◌, if◌then◌else◌, List, [], ◌∷◌, ◌++◌, map, length, slice_get, Option, Some, None, nat_eq, IsTrue, IfSome, ⊤}
+use Rattle.std.specs.Prelude.{ℕ, ◌≡◌, ◌+◌, ◌==◌, if◌then◌else◌, List, [], ◌∷◌, ◌++◌, map, length, slice_get, Option, Some, None, nat_eq, IsTrue, ⊤}
 use Rattle.std.specs.Option.{option_map}
-use Rattle.std.specs.List.{All, IsDistinct, flat_map}
+use Rattle.std.specs.List.{IsDistinct, flat_map}
 use Rattle.std.specs.Cmp.Lexicographic.{pointwise}
-use Rattle.wasm_spec.specs.Syntax.{Val, Table, Memory, Global, Extern, func_extern, func_exact_extern, table_extern, memory_extern, global_extern, tag_extern}
+use Rattle.wasm_spec.specs.Syntax.{Val, Global, Extern, func_extern, func_exact_extern, table_extern, memory_extern, global_extern, tag_extern}
 use Rattle.wasm_spec.specs.BinaryModules.{Import, Export}
 use Rattle.wasm_spec.specs.BinarySections.{Element, ElementItems, functions, expressions}
 use Rattle.wasm_spec.specs.Features.{Features}

@@ -1,14 +1,14 @@
 -- Worked examples of the rules of modules, as facts that a contract can name: for each kind of item one that keeps its
 -- rules, or one that doesn't and the rule that it breaks.
-use Rattle.std.specs.Prelude.{ℕ, ◌≡◌, ◌<◌, Bool, true, false, List, [], ◌∷◌, Option, Some, None}
-use Rattle.wasm_spec.specs.Syntax.{Val, i32, i64, reference, Table, Memory, Global, Extern, func_extern, global_extern, Sub, func, Rec}
+use Rattle.std.specs.Prelude.{ℕ, ◌≡◌, true, false, List, [], ◌∷◌, Option, Some, None}
+use Rattle.wasm_spec.specs.Syntax.{i32, i64, Table, Memory, global_extern, func, Rec}
 use Rattle.wasm_spec.specs.BinaryModules.{Import, Export}
-use Rattle.wasm_spec.specs.BinarySections.{TableEntry, funcref, ref_func, Element, Data, passive, active, functions}
+use Rattle.wasm_spec.specs.BinarySections.{funcref, ref_func, passive, functions}
 use Rattle.wasm_spec.specs.Features.{Features}
 use Rattle.wasm_spec.specs.Trees.{DefType}
 use Rattle.wasm_spec.specs.Closing.{type_space}
 use Rattle.wasm_rules.specs.Parts.{Parts, Expression}
-use Rattle.wasm_rules.specs.IndexSpaces.{IndexSpaces, index_spaces}
+use Rattle.wasm_rules.specs.IndexSpaces.{IndexSpaces}
 use Rattle.wasm_rules.specs.ItemRules.{IsValidTable, IsValidTableEntry, IsValidMemory, IsValidTag, IsValidGlobal}
 use Rattle.wasm_rules.specs.LinkRules.{IsValidImport, IsValidExport, HasDistinctNames, effective_size, IsValidStart}
 use Rattle.wasm_rules.specs.SegmentRules.{IsValidElement, IsValidData}

@@ -1,14 +1,13 @@
 -- When a module is valid. Core Specification 3.0, Validation, Modules.
-use Rattle.std.specs.Prelude.{ℕ, ◌≡◌, ◌<◌, ◌==◌, if◌then◌else◌, List, [], ◌∷◌, ◌++◌, map, length, slice_get, Option, Some, None, IsTrue, ⊤}
+use Rattle.std.specs.Prelude.{ℕ, ◌≡◌, ◌<◌, ◌==◌, List, [], ◌∷◌, ◌++◌, map, slice_get, Option, Some, None, IsTrue, ⊤}
 use Rattle.std.specs.List.{All, flat_map}
 use Rattle.wasm_spec.specs.Features.{Features}
 use Rattle.wasm_spec.specs.BinarySections.{TableEntry, GlobalEntry, Element, ElementItems, functions, expressions, Data, SegmentMode, passive, active, declarative}
-use Rattle.wasm_spec.specs.Trees.{DefType}
 use Rattle.wasm_spec.specs.GroupRules.{IsValidTypeSection}
-use Rattle.wasm_parser.specs.Framing.{Piece, Version, Custom, Counted, Start, DataCount, CodeStart, CodeEntry, Unknown, End, IsFramed}
+use Rattle.wasm_parser.specs.Framing.{Piece, Version, Counted, DataCount, Unknown, IsFramed}
 use Rattle.wasm_rules.specs.Parts.{Parts, Expression, HasParts}
 use Rattle.wasm_rules.specs.IndexSpaces.{IndexSpaces, index_spaces, IsFunctionType}
-use Rattle.wasm_rules.specs.ItemRules.{IsValidTable, IsValidTableEntry, IsValidMemory, IsValidTag, IsValidGlobal}
+use Rattle.wasm_rules.specs.ItemRules.{IsValidTableEntry, IsValidMemory, IsValidTag, IsValidGlobal}
 use Rattle.wasm_rules.specs.LinkRules.{IsValidImport, IsValidExport, HasDistinctNames, effective_size, IsValidStart}
 use Rattle.wasm_rules.specs.SegmentRules.{IsValidElement, IsValidData}
 use Rattle.wasm_rules.specs.Limits.{KeepsLimits}

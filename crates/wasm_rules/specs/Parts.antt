@@ -1,6 +1,6 @@
 -- What a module is made of: the items of its sections, each in the order in which they are written.
 -- Core Specification 3.0, Structure, Modules, and Binary Format, Modules.
-use Rattle.std.specs.Prelude.{ℕ, ◌≡◌, ◌==◌, if◌then◌else◌, List, [], ◌∷◌, ◌++◌, Option, Some, None}
+use Rattle.std.specs.Prelude.{ℕ, ◌≡◌, ◌==◌, if◌then◌else◌, List, [], ◌∷◌, ◌++◌, Option, Some}
 use Rattle.std.specs.Option.{option_map, option_and_then}
 use Rattle.std.specs.List.{flat_map}
 use Rattle.wasm_spec.specs.Syntax.{Rec, Memory}

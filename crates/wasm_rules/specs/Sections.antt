@@ -1,5 +1,5 @@
 -- The pieces of a module in the order of their sections, kind by kind.
-use Rattle.std.specs.Prelude.{ℕ, ◌==◌, if◌then◌else◌, List, [], ◌∷◌, Option, Some, None}
+use Rattle.std.specs.Prelude.{ℕ, ◌==◌, if◌then◌else◌, List, [], ◌∷◌, Option, Some}
 use Rattle.std.specs.Option.{option_and_then}
 use Rattle.wasm_parser.specs.Framing.{Piece, Counted, Start, DataCount, CodeStart, CodeEntry, place}
 

@@ -1,11 +1,11 @@
 -- The rules of element segments and data, all but the typing of offsets and of item expressions. Core
 -- Specification 3.0, Validation, Modules (Element Segments, Data Segments).
-use Rattle.std.specs.Prelude.{ℕ, ◌≡◌, ◌<◌, ◌≤◌, List, length, slice_get, Option, Some, None, get_or, IsTrue}
+use Rattle.std.specs.Prelude.{ℕ, ◌≡◌, ◌<◌, ◌≤◌, length, slice_get, Option, Some, None, IsTrue}
 use Rattle.std.specs.List.{All}
-use Rattle.wasm_spec.specs.Syntax.{Ref, Table, Memory}
+use Rattle.wasm_spec.specs.Syntax.{Ref, Table}
 use Rattle.wasm_spec.specs.BinarySections.{SegmentMode, passive, active, declarative, ElementItems, functions, expressions, Element, Data, ref_func}
 use Rattle.wasm_spec.specs.Features.{Features}
-use Rattle.wasm_spec.specs.Trees.{DefType, declared}
+use Rattle.wasm_spec.specs.Trees.{declared}
 use Rattle.wasm_spec.specs.Matching.{MatchesRef}
 use Rattle.wasm_rules.specs.Parts.{Expression}
 use Rattle.wasm_rules.specs.IndexSpaces.{IndexSpaces, ref_over}

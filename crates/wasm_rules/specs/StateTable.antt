@@ -1,7 +1,7 @@
 -- In which order a module's payloads may be handed over, as a table: where a call that is accepted leads, and what a
 -- call that is refused leaves. Core Specification 3.0, Binary Format, Modules, has the order of sections; that sections
 -- are refused before the header and after the end is this validator's.
-use Rattle.std.specs.Prelude.{ℕ, zero, suc, Option, Some, None}
+use Rattle.std.specs.Prelude.{ℕ, suc, Option, Some, None}
 
 -- no header has been read; a module is being read; its code has started, and so many bodies are still to come; it has
 -- ended; or something in it was refused, and nothing is said of it any more

@@ -3,6 +3,7 @@
 #![tactic(auto)]
 
 ghost use Rattle.wasm_rules.specs.Contexts.{ContextsAreRenamed};
+ghost use Rattle.wasm_rules.specs.Totals.{TotalsGoOn};
 ghost use Rattle.wasm_rules.specs.ModuleExamples.{TableOfOneOrTwo, NoTableOfTwoToOne, NoTableWithoutEntries, MemoryOfAllAddresses, NoMemoryPastAllAddresses, NoSharedGlobal, NoTagWithoutExceptions, NoMutableImport, MemoryIsExported, NoSecondMemory, NoNameTwice, SizeIsThree, NoStartWithParameter, NoPassiveElements, NoPassiveData, NoTwoMemories, HeaderIsModule, NoVersionTwo};
 
 /// Worked examples of the rules of modules.
@@ -32,4 +33,10 @@ pub fn module_examples()
 #[tactic(auto, using(crate::proofs::Contexts::contexts_are_renamed))]
 pub fn contexts_are_renamed<R, S>()
     ensures renamed { ContextsAreRenamed R S }
+{}
+
+/// The types of a run of modules behind another are added to those of that one.
+#[tactic(auto, using(crate::proofs::Totals::totals_go_on))]
+pub fn totals_go_on()
+    ensures total { TotalsGoOn }
 {}

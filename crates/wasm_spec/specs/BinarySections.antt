@@ -78,9 +78,9 @@ module _ {E : Type 0} (expression_at : List ℕ → Option (E × List ℕ)) wher
     abbrev pub table_from : ℕ → List ℕ → List ℕ → Option (TableEntry E R × List ℕ)
     table_from b more bytes =
         if b == 0x40 then
-          option_and_then
-          (λ z. option_and_then (λ t. option_map (λ e. (record { ty = t.0; init = Some e.0 }, e.1)) (expression_at t.1)) (table_at to z.1))
-          (flags_at 0 more)
+        option_and_then
+        (λ z. option_and_then (λ t. option_map (λ e. (record { ty = t.0; init = Some e.0 }, e.1)) (expression_at t.1)) (table_at to z.1))
+        (flags_at 0 more)
         else option_map (λ t. (record { ty = t.0; init = None }, t.1)) (table_at to bytes)
 
     unfoldable pub table_entry_at : List ℕ → Option (TableEntry E R × List ℕ)

@@ -1,9 +1,8 @@
 -- What the machine makes of exports.
-use Rattle.std.proofs.Common.{◌≡◌, refl, sym, ap, subst, ◌∙◌, ℕ, zero, suc, ◌+◌, ◌≤◌, ◌<◌, Bool, true, false, not, ◌&&◌, cond, ltb, eqb, List, [], ◌∷◌, ◌++◌, map, length, slice_get, slice_index, Option, Some, None, nat_eq, arith, append_assoc, append-nil}
+use Rattle.std.proofs.Common.{◌≡◌, refl, sym, ap, subst, ◌∙◌, ℕ, ◌+◌, ◌<◌, Bool, true, false, not, ◌&&◌, ltb, eqb, List, [], ◌∷◌, ◌++◌, map, length, slice_index, nat_eq, arith, append_assoc, append-nil}
 use Rattle.std.specs.Option.{option_map, option_and_then}
 use Rattle.std.specs.Bool.{Decides}
 use Rattle.std.specs.List.{list_any, All, AllByRecursion, IsDistinct}
-use Rattle.std.specs.Str.{bytes_eq}
 use Rattle.std.specs.Cmp.Lexicographic.{pointwise, nat_list_eq_equiv}
 use Rattle.std.proofs.lemmas.Bool.Decides.{Decides-ltb, Decides-eqb, Decides-and}
 use Rattle.std.proofs.lemmas.List.Elements.{All-nil, All-cons, All-head, All-tail}
@@ -102,7 +101,7 @@ module _ (T : Types) (ids : List ℕ) (arities : List (ℕ × ℕ)) (have : Have
       let c = not (is_exported s.exports e.name) in
       let rest = option_and_then (λ n. option_map added (grown s.size n)) (arity_at T (slice_index s.types x)) in
       let below : ((e.kind ≡ 0) × (e.index < length s.functions)) × (is_exported s.exports e.name ≡ false) → Verdict (s.size + size_at T ids arities have x < MAX_EFFECTIVE_SIZE) rest next =
-          λ h. verdict_of rest _ next (ap (λ js. option_and_then (λ n. option_map added (grown s.size n)) (arity_at T (slice_index js x))) i) (grows T ids arities have added x s.size (typed e.index h.0.1)) in
+      λ h. verdict_of rest _ next (ap (λ js. option_and_then (λ n. option_map added (grown s.size n)) (arity_at T (slice_index js x))) i) (grows T ids arities have added x s.size (typed e.index h.0.1)) in
       verdict_to
       _
       _
@@ -141,8 +140,7 @@ module _ (T : Types) (ids : List ℕ) (arities : List (ℕ × ℕ)) (have : Have
   exports_fit functions (e ∷ es) rows m a d l =
       let P : Export → Type 0 = λ f. (f.kind ≡ 0) × (f.index < length functions) in
       let head = All-head P e es a in
-      let free : is_exported rows e.name ≡ false = sym (taken_names rows e.name) ∙ apart (names_of rows) (map export_name es) e.name d in
-      (
+      let free : is_exported rows e.name ≡ false = sym (taken_names rows e.name) ∙ apart (names_of rows) (map export_name es) e.name d in (
         (head.0, head.1, free, omega (arith, l)),
         exports_fit functions es (rows ++ row functions e ∷ []) (m + export_size_at functions e) (All-tail P e es a) (next_apart rows (row functions e) es d) (omega (arith, l)),
       )

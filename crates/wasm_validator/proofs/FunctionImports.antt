@@ -1,10 +1,10 @@
 -- What the machine makes of imported functions.
-use Rattle.std.proofs.Common.{◌≡◌, refl, sym, ap, subst, ◌∙◌, ◌⊎◌, inl, inr, ℕ, zero, suc, ◌+◌, ◌≤◌, ◌<◌, Bool, true, false, not, ◌&&◌, cond, ltb, List, [], ◌∷◌, ◌++◌, map, length, slice_get, slice_index, get_or, Option, Some, None, arith, append_assoc, append-nil, length-append}
+use Rattle.std.proofs.Common.{◌≡◌, refl, sym, ap, subst, ◌∙◌, ℕ, ◌+◌, ◌≤◌, ◌<◌, Bool, true, false, ◌&&◌, cond, ltb, List, [], ◌∷◌, ◌++◌, map, length, slice_get, slice_index, get_or, Option, Some, None, arith, append_assoc, append-nil, length-append}
 use Rattle.std.specs.Option.{option_map, option_and_then}
 use Rattle.std.specs.List.{list_all, All}
 use Rattle.std.proofs.lemmas.List.Elements.{All-nil, All-cons, All-head, All-tail}
 use Rattle.std.proofs.lemmas.Bool.Decides.{Decides-ltb, Decides-and}
-use Rattle.std.proofs.lemmas.Option.{slice_get-get_or, slice_get_within}
+use Rattle.std.proofs.lemmas.Option.{slice_get-get_or}
 use Rattle.wasm_spec.specs.Syntax.{Extern, func_extern, func_exact_extern, table_extern, memory_extern, global_extern, tag_extern}
 use Rattle.wasm_spec.specs.BinaryModules.{Import, map_import}
 use Rattle.wasm_rules.specs.Sections.{each}
@@ -17,7 +17,7 @@ use Rattle.wasm_validator.specs.declared.rules.TheConstants.{MAX_FUNCTIONS, MAX_
 use Rattle.wasm_validator.specs.Served.{is_served_extern, is_served_import}
 use Rattle.wasm_validator.specs.Standing.{Types}
 use Rattle.wasm_validator.specs.Machine.{arity_at, grown, func_entity, add_import}
-use Rattle.wasm_validator.proofs.PlainTypes.{and_left, and_right, and_both}
+use Rattle.wasm_validator.proofs.PlainTypes.{and_left, and_right}
 
 -- an imported function: its names, and its type's index
 pub record FunctionImport : Type 0 where
@@ -86,7 +86,7 @@ module _ (T : Types) (ids : List ℕ) (arities : List (ℕ × ℕ)) (have : Have
       let there : slice_get arities x ≡ Some a = slice_get-get_or arities x (0, 0) h in
       let total = size + (2 + (a.0 + a.1)) in
       let test : Verdict ((total < MAX_EFFECTIVE_SIZE) × Unit {0}) (cond (ltb total MAX_EFFECTIVE_SIZE) (Some (f total)) None) (f total) =
-          if_verdict {Q = Unit {0}} (ltb total MAX_EFFECTIVE_SIZE) (Some (f total)) (f total) (Decides-ltb total MAX_EFFECTIVE_SIZE) (λ g. always (f total) tt) in
+      if_verdict {Q = Unit {0}} (ltb total MAX_EFFECTIVE_SIZE) (Some (f total)) (f total) (Decides-ltb total MAX_EFFECTIVE_SIZE) (λ g. always (f total) tt) in
       let same : size + size_at x ≡ total = ap (λ o. size + size_of_arity o) there in
       verdict_to
       _
@@ -134,7 +134,7 @@ module _ (T : Types) (ids : List ℕ) (arities : List (ℕ × ℕ)) (have : Have
       let next : Types × Spaces = added (s.size + size_at x) in
       let rest = option_and_then (λ a. option_map added (grown s.size a)) (arity_at T (slice_index s.types x)) in
       let below : (x < length s.types) × (length s.functions < MAX_FUNCTIONS) → Verdict (s.size + size_at x < MAX_EFFECTIVE_SIZE) rest next =
-          λ h. verdict_of rest _ next (ap (λ js. option_and_then (λ a. option_map added (grown s.size a)) (arity_at T (slice_index js x))) e) (grows added x s.size (subst (λ n. x < n) many h.0)) in
+      λ h. verdict_of rest _ next (ap (λ js. option_and_then (λ a. option_map added (grown s.size a)) (arity_at T (slice_index js x))) e) (grows added x s.size (subst (λ n. x < n) many h.0)) in
       verdict_to
       _
       _
@@ -181,8 +181,7 @@ module _ (T : Types) (ids : List ℕ) (arities : List (ℕ × ℕ)) (have : Have
   functions_fit (f ∷ fs) n m a =
       let few = a.few in
       let small = a.small in
-      let P : FunctionImport → Type 0 = λ g. g.index < length arities in
-      (
+      let P : FunctionImport → Type 0 = λ g. g.index < length arities in (
         (All-head P f fs a.in_range, omega (arith, few), omega (arith, small)),
         functions_fit fs (n + 1) (m + size_at f.index) (record { in_range = All-tail P f fs a.in_range; few = omega (arith, few); small = omega (arith, small) }),
       )

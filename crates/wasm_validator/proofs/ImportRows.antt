@@ -1,7 +1,6 @@
 -- Imports that are put one by one after the others of their pair of names are in the order of first appearance.
-use Rattle.std.proofs.Common.{◌≡◌, refl, sym, ap, subst, ◌∙◌, ◌⊎◌, inl, inr, ℕ, Bool, true, false, not, ◌&&◌, ◌||◌, cond, List, [], ◌∷◌, ◌++◌, map, slice_index, Option, Some, None, append_assoc, append-nil}
+use Rattle.std.proofs.Common.{◌≡◌, refl, sym, ap, subst, ◌∙◌, ℕ, Bool, true, false, not, ◌&&◌, ◌||◌, cond, List, [], ◌∷◌, ◌++◌, map, append_assoc, append-nil}
 use Rattle.std.specs.Prelude.{filter}
-use Rattle.std.specs.Bool.{Decides}
 use Rattle.std.specs.List.{list_any, flat_map}
 use Rattle.std.specs.Str.{bytes_eq}
 use Rattle.std.specs.Cmp.Lexicographic.{nat_list_eq_equiv}
@@ -9,12 +8,10 @@ use Rattle.std.proofs.lemmas.Slice.Eq.{bytes_eq-Decides}
 use Rattle.std.proofs.lemmas.List.{map-append}
 use Rattle.std.proofs.lemmas.List.Elements.{filter-append}
 use Rattle.std.proofs.lemmas.Grind.{flat_map-append}
-use Rattle.wasm_spec.specs.Syntax.{func_extern}
 use Rattle.wasm_spec.specs.BinaryModules.{Import}
-use Rattle.wasm_rules.proofs.Tests.{truth, when, unless}
+use Rattle.wasm_rules.proofs.Tests.{when, unless}
 use Rattle.wasm_validator_types.specs.Spaces.{with_import, is_pair}
 use Rattle.wasm_validator_types.specs.declared.entity_type.EntityType.{EntityType}
-use Rattle.wasm_validator.specs.Machine.{func_entity}
 use Rattle.wasm_validator.specs.Shows.{entity, entities_in, names_of, has_names, first_pairs, import_row, import_rows}
 use Rattle.wasm_validator.proofs.FunctionImports.{FunctionImport, function_import, imports_with, HaveArities}
 use Rattle.wasm_validator.proofs.PlainTypes.{and_left, and_right, and_both}

@@ -1,6 +1,6 @@
 -- The items of a section, one step at a time.
-use Rattle.std.proofs.Common.{◌≡◌, ◌≢◌, refl, sym, ap, ◌∙◌, ℕ, zero, suc, ◌<◌, ◌≤◌, Bool, true, false, cond, List, [], ◌∷◌, map, length, eqb, Option, Some, None, arith}
-use Rattle.std.specs.Option.{option_map, option_and_then}
+use Rattle.std.proofs.Common.{◌≡◌, ◌≢◌, refl, ℕ, zero, suc, ◌≤◌, Bool, true, false, cond, List, [], ◌∷◌, map, length, eqb, Option, Some, None, arith}
+use Rattle.std.specs.Option.{option_map}
 use Rattle.wasm_spec.specs.Syntax.{Sub}
 use Rattle.wasm_readers.specs.Sections.{next_item}
 use Rattle.wasm_readers_errors.specs.declared.features.WasmFeatures.{WasmFeatures}

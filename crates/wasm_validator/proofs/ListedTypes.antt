@@ -1,11 +1,11 @@
 -- The ids of a section's plain types stand for them.
-use Rattle.std.proofs.Common.{◌≡◌, refl, sym, ap, subst, ◌∙◌, ℕ, zero, suc, ◌+◌, ◌<◌, Bool, true, false, ◌&&◌, List, [], ◌∷◌, ◌++◌, map, length, slice_get, Option, Some, None, arith, append_assoc, append-nil, length-append}
+use Rattle.std.proofs.Common.{◌≡◌, refl, sym, ap, subst, ◌∙◌, ℕ, zero, suc, ◌+◌, ◌<◌, Bool, true, List, [], ◌∷◌, ◌++◌, map, length, slice_get, Some, arith, append_assoc, length-append}
 use Rattle.std.specs.List.{list_all, AllZip}
 use Rattle.wasm_spec.specs.Syntax.{Val, i32, i64, f32, f64, v128, reference, Sub, map_val, map_sub}
 use Rattle.wasm_spec.specs.Features.{Features, canonical}
-use Rattle.wasm_spec.specs.Trees.{TypeUse, RecTree, DefType, members, close}
+use Rattle.wasm_spec.specs.Trees.{DefType, members}
 use Rattle.wasm_spec.specs.Closing.{resolve, start_unless, positions}
-use Rattle.wasm_spec.specs.TypeLists.{ListedUse, resolve_listed, listed_tree, with_listed, with_all_listed}
+use Rattle.wasm_spec.specs.TypeLists.{ListedUse, resolve_listed, listed_tree, with_all_listed}
 use Rattle.wasm_spec.proofs.Numbering.{members-close}
 use Rattle.wasm_spec.proofs.Closing.{slice_get-append_left}
 use Rattle.wasm_readers.specs.Written.{written}
@@ -54,9 +54,9 @@ module _ (c : Bool) where
       record {
         before = ts;
         is = ap (slice_get (with_all_listed c (ts ++ d ∷ []) (map listed_group list))) (let z : length ts + 0 ≡ length ts = omega arith in z)
-        ∙ stays (map listed_group list) (ts ++ d ∷ []) (length ts) (omega (arith, longer))
-        ∙ first_behind ts [] d
-        ∙ ap (λ x. Some (record { tree = listed_tree c ts (listed_group x); position = 0 })) same;
+            ∙ stays (map listed_group list) (ts ++ d ∷ []) (length ts) (omega (arith, longer))
+            ∙ first_behind ts [] d
+            ∙ ap (λ x. Some (record { tree = listed_tree c ts (listed_group x); position = 0 })) same;
       }
   is_listed (s ∷ list) ts (suc k) t e =
       let d : DefType = record { tree = listed_tree c ts (listed_group s); position = 0 } in
@@ -90,8 +90,7 @@ module _ (F : Features) where
       let here = is_listed (canonical F) (T ++ kept (done ++ s ∷ ss)) [] (length T + length done) (plain_sub (kept_signature s)) (there T done s ss) in
       let rest = stand_from T (done ++ s ∷ []) ss (ts ++ plain_type F ts s ∷ []) (and_right (is_served_signature s) (list_all is_served_signature ss) e) in
       let longer : length (done ++ s ∷ []) ≡ length done + 1 = length-append done (s ∷ []) in
-      let next : length T + length (done ++ s ∷ []) ≡ (length T + length done) + 1 = omega (arith, longer) in
-      (
+      let next : length T + length (done ++ s ∷ []) ≡ (length T + length done) + 1 = omega (arith, longer) in (
         record {
           listed = record { tree = listed_tree (canonical F) here.before (listed_group (plain_sub (kept_signature s))); position = 0 };
           is_there = ap (slice_get (listed_types (canonical F) (T ++ kept (done ++ s ∷ ss)))) (let z : length T + length done ≡ 0 + (length T + length done) = omega arith in z) ∙ here.is;
@@ -99,12 +98,12 @@ module _ (F : Features) where
           same_members = same_members here.before ts s (and_left (is_served_signature s) (list_all is_served_signature ss) e);
         },
         subst
-        (λ (n : ℕ). AllZip (StandsFor (canonical F) (T ++ kept (done ++ s ∷ ss))) (ids_from n ss) (plain_types F (ts ++ plain_type F ts s ∷ []) ss))
-        next
-        (subst
-        (λ (xs : List (Signature ℕ)). AllZip (StandsFor (canonical F) (T ++ kept xs)) (ids_from (length T + length (done ++ s ∷ [])) ss) (plain_types F (ts ++ plain_type F ts s ∷ []) ss))
-        (append_assoc done (s ∷ []) ss)
-        rest),
+            (λ (n : ℕ). AllZip (StandsFor (canonical F) (T ++ kept (done ++ s ∷ ss))) (ids_from n ss) (plain_types F (ts ++ plain_type F ts s ∷ []) ss))
+            next
+            (subst
+            (λ (xs : List (Signature ℕ)). AllZip (StandsFor (canonical F) (T ++ kept xs)) (ids_from (length T + length (done ++ s ∷ [])) ss) (plain_types F (ts ++ plain_type F ts s ∷ []) ss))
+            (append_assoc done (s ∷ []) ss)
+            rest),
       )
 
   pub stand : (T : Types) (ss : List (Signature ℕ)) → AreServedSignatures ss → AllZip (StandsFor (canonical F) (T ++ kept ss)) (ids_from (length T) ss) (plain_types F [] ss)

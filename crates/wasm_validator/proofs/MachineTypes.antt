@@ -1,11 +1,10 @@
 -- What the machine makes of the groups of a type section that is served.
-use Rattle.std.proofs.Common.{◌≡◌, refl, sym, ap, subst, ◌∙◌, ◌⊎◌, inl, inr, ℕ, zero, suc, ◌+◌, ◌≤◌, ◌<◌, Bool, true, false, not, ◌&&◌, ◌||◌, cond, ltb, leb, eqb, List, [], ◌∷◌, ◌++◌, map, length, slice_get, Option, Some, None, arith, append_assoc, append-nil, length-append}
-use Rattle.std.specs.Option.{option_map, option_and_then}
+use Rattle.std.proofs.Common.{◌≡◌, refl, sym, ap, subst, ◌∙◌, ℕ, suc, ◌+◌, ◌≤◌, ◌<◌, Bool, true, false, ◌&&◌, ◌||◌, cond, ltb, leb, List, [], ◌∷◌, ◌++◌, map, length, Some, None, arith, append_assoc, append-nil, length-append}
 use Rattle.std.specs.List.{list_all}
 use Rattle.std.specs.Bool.{Decides}
 use Rattle.std.proofs.lemmas.Bool.Decides.{Decides-ltb, Decides-and}
 use Rattle.std.proofs.lemmas.List.{length-map}
-use Rattle.wasm_spec.specs.Syntax.{Val, i32, i64, f32, f64, v128, reference, func, Sub, Rec, map_rec, map_val}
+use Rattle.wasm_spec.specs.Syntax.{Val, i32, i64, f32, f64, v128, reference, func, map_rec, map_val}
 use Rattle.wasm_spec.specs.Features.{Features}
 use Rattle.wasm_spec.specs.ValueTypes.{allows_val}
 use Rattle.wasm_rules.specs.FeatureFlags.{features_of}
@@ -15,7 +14,6 @@ use Rattle.wasm_readers.specs.Written.{written}
 use Rattle.wasm_readers_types.specs.declared.indices.UnpackedIndex.{UnpackedIndex}
 use Rattle.wasm_readers_types.specs.declared.indices.TheConstants.{MAX_IDS}
 use Rattle.wasm_readers_errors.specs.declared.features.WasmFeatures.{WasmFeatures}
-use Rattle.wasm_readers_errors.specs.On.{multi_value_on}
 use Rattle.wasm_validator_types.specs.Spaces.{Spaces}
 use Rattle.wasm_validator.specs.declared.rules.TheConstants.{MAX_TYPES}
 use Rattle.wasm_validator.specs.Served.{is_served_val}
@@ -133,11 +131,10 @@ module _ (features : WasmFeatures) where
   -- where there is room for all, and where there was
   pub fit_all : (ss : List (Signature ℕ)) (m n : ℕ) → list_all (allows_signature F) ss ≡ true → m + length ss ≤ MAX_TYPES → n + length ss ≤ MAX_IDS → Fit m n ss
   fit_all [] m n e f g = tt
-  fit_all (s ∷ ss) m n e f g =
-      (
-        (and_left (allows_signature F s) (list_all (allows_signature F) ss) e, omega (arith, f), omega (arith, g)),
-        fit_all ss (m + 1) (n + 1) (and_right (allows_signature F s) (list_all (allows_signature F) ss) e) (omega (arith, f)) (omega (arith, g)),
-      )
+  fit_all (s ∷ ss) m n e f g = (
+    (and_left (allows_signature F s) (list_all (allows_signature F) ss) e, omega (arith, f), omega (arith, g)),
+    fit_all ss (m + 1) (n + 1) (and_right (allows_signature F s) (list_all (allows_signature F) ss) e) (omega (arith, f)) (omega (arith, g)),
+  )
 
   pub fit_allowed : (ss : List (Signature ℕ)) (m n : ℕ) → Fit m n ss → list_all (allows_signature F) ss ≡ true
   fit_allowed [] m n f = refl

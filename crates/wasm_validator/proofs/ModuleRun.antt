@@ -1,12 +1,12 @@
 -- The machine over the pieces between the header and the end: section by section, in the order of the sections.
-use Rattle.std.proofs.Common.{◌≡◌, ◌≢◌, refl, sym, ap, subst, ◌∙◌, ◌⊎◌, inl, inr, ℕ, zero, suc, ◌+◌, ◌≤◌, ◌<◌, Bool, true, false, ◌&&◌, ◌||◌, cond, if◌then◌else◌, ◌==◌, eqb, leb, List, [], ◌∷◌, ◌++◌, map, length, Option, Some, None, arith, append-nil}
+use Rattle.std.proofs.Common.{◌≡◌, ◌≢◌, refl, sym, ap, subst, ◌∙◌, ◌⊎◌, inl, inr, ℕ, Bool, true, false, ◌||◌, cond, if◌then◌else◌, ◌==◌, eqb, List, [], ◌∷◌, ◌++◌, Option, Some, None, append-nil}
 use Rattle.std.specs.Option.{option_map, option_and_then}
-use Rattle.std.specs.List.{list_all, flat_map}
+use Rattle.std.specs.List.{list_all}
 use Rattle.std.proofs.lemmas.Bool.{eqb-true, eqb-false, eq-eqb, ne_eqb}
 use Rattle.wasm_spec.specs.Values.{items_at}
 use Rattle.wasm_parser.specs.Framing.{Piece, Version, Custom, Counted, Start, DataCount, CodeStart, CodeEntry, Unknown, End, place}
 use Rattle.wasm_rules.specs.Sections.{each, rank, rank_of_section, at_rank, by_rank}
-use Rattle.wasm_rules.specs.Parts.{items_of, all_items, starts_of, data_counts_of, bodies_of}
+use Rattle.wasm_rules.specs.Parts.{items_of, all_items}
 use Rattle.wasm_rules.proofs.Ordered.{Follows, done, free, here, body, later, AreRanks, LeavesFree, IsOne, one_at_most, by_ranks}
 use Rattle.wasm_rules.proofs.FramedOrder.{IsInner, AreInner}
 use Rattle.wasm_rules.proofs.Tests.{truth, when, unless, then_some}

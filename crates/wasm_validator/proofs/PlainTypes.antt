@@ -1,23 +1,21 @@
 -- Final function types between numbers and vectors: how they close, and when they are valid.
-use Rattle.std.proofs.Common.{◌≡◌, refl, sym, ap, subst, ◌∙◌, ◌⊎◌, inl, inr, ℕ, zero, suc, ◌+◌, ◌≤◌, ◌<◌, Bool, true, false, not, ◌&&◌, ◌||◌, cond, ltb, leb, eqb, List, [], ◌∷◌, ◌++◌, map, length, slice_get, Option, Some, None, arith, append_assoc, append-nil}
-use Rattle.std.specs.Prelude.{is_none, IsTrue, ⊤}
+use Rattle.std.proofs.Common.{◌≡◌, refl, sym, ap, subst, ◌∙◌, ℕ, zero, suc, ◌+◌, ◌≤◌, Bool, true, false, not, ◌&&◌, ◌||◌, cond, ltb, leb, eqb, List, [], ◌∷◌, ◌++◌, map, length, slice_get, Option, Some, None, arith}
+use Rattle.std.specs.Prelude.{is_none}
 use Rattle.std.specs.Option.{option_map, option_and_then}
-use Rattle.std.specs.List.{list_all, flat_map, All}
+use Rattle.std.specs.List.{list_all, flat_map}
 use Rattle.std.proofs.lemmas.List.Folds.{list_all-map, list_all-append}
-use Rattle.std.proofs.lemmas.List.Elements.{All-nil, All-cons, All-head, All-tail, All-append}
 use Rattle.std.proofs.lemmas.List.{nil_from_length}
 use Rattle.std.proofs.lemmas.Bool.{eqb-true, leb-true, lt-ltb}
-use Rattle.wasm_spec.specs.Syntax.{Val, i32, i64, f32, f64, v128, reference, Storage, unpacked, Comp, func, array, struct, cont, Sub, Rec, map_sub, map_val}
+use Rattle.wasm_spec.specs.Syntax.{Val, i32, i64, f32, f64, v128, reference, unpacked, Comp, func, array, struct, cont, Sub, Rec, map_sub, map_val}
 use Rattle.wasm_spec.specs.References.{refs_val, refs_comp}
 use Rattle.wasm_spec.specs.Features.{Features, canonical}
-use Rattle.wasm_spec.specs.Trees.{RecTree, DefType, members, denote, declared, close}
-use Rattle.wasm_spec.specs.Closing.{is_in_bounds, is_closable, resolve, start_unless, closed, positions, with_group, with_groups}
+use Rattle.wasm_spec.specs.Trees.{RecTree, DefType, denote, declared, close}
+use Rattle.wasm_spec.specs.Closing.{is_closable, resolve, start_unless, positions, with_group}
 use Rattle.wasm_spec.specs.Declared.{supertype, supertype_of, ancestor_at}
 use Rattle.wasm_spec.specs.ValueTypes.{allows_val, allows_storage}
-use Rattle.wasm_spec.specs.GroupRules.{TypeRules, DescriptorRules, IsValidType, storages}
+use Rattle.wasm_spec.specs.GroupRules.{TypeRules, IsValidType, storages}
 use Rattle.wasm_spec.proofs.Numbering.{members-close}
 use Rattle.wasm_validator.specs.Served.{is_served_val, is_served_comp, is_plain, is_served_sub, is_served_single, is_served_group}
-use Rattle.wasm_rules.proofs.Tests.{truth}
 
 pub and_left : (a b : Bool) → (a && b) ≡ true → a ≡ true
 and_left true b e = refl

@@ -1,18 +1,17 @@
 -- The machine's run over the pieces between the header and the end, by the items of its sections.
-use Rattle.std.proofs.Common.{◌≡◌, refl, sym, ap, subst, ◌∙◌, ◌⊎◌, inl, inr, ℕ, zero, suc, ◌+◌, ◌≤◌, ◌<◌, Bool, true, false, cond, leb, List, [], ◌∷◌, ◌++◌, map, length, slice_get, slice_index, get_or, Option, Some, None, arith}
-use Rattle.std.specs.Option.{option_map, option_and_then}
+use Rattle.std.proofs.Common.{◌≡◌, refl, sym, ap, subst, ◌∙◌, ℕ, zero, suc, ◌+◌, ◌≤◌, ◌<◌, true, cond, leb, List, [], ◌∷◌, ◌++◌, map, length, slice_get, slice_index, Option, Some, None, arith}
+use Rattle.std.specs.Option.{option_and_then}
 use Rattle.std.specs.List.{list_all, All}
 use Rattle.std.proofs.lemmas.Bool.{leb-true, le-leb}
 use Rattle.std.proofs.lemmas.List.{length-map}
 use Rattle.std.proofs.lemmas.List.Elements.{All-head, All-tail}
-use Rattle.std.proofs.lemmas.Option.{slice_get-map}
 use Rattle.wasm_spec.specs.Syntax.{map_rec, map_val, Sub}
 use Rattle.wasm_spec.specs.BinaryTypes.{rec_at}
-use Rattle.wasm_spec.specs.BinaryModules.{Import, Export, import_at, export_at, map_import}
+use Rattle.wasm_spec.specs.BinaryModules.{Export, import_at, export_at, map_import}
 use Rattle.wasm_parser.specs.Framing.{Piece, place}
 use Rattle.wasm_rules.specs.FeatureFlags.{features_of}
 use Rattle.wasm_rules.specs.LinkRules.{sum}
-use Rattle.wasm_rules.specs.Sections.{each, at_rank, by_rank, rank_of_section}
+use Rattle.wasm_rules.specs.Sections.{each, at_rank, by_rank}
 use Rattle.wasm_rules.specs.Parts.{index, all_items}
 use Rattle.wasm_rules.proofs.Ordered.{Follows}
 use Rattle.wasm_rules.proofs.Tests.{then_some, guarded}
@@ -22,14 +21,14 @@ use Rattle.wasm_readers_types.specs.declared.indices.UnpackedIndex.{UnpackedInde
 use Rattle.wasm_readers_types.specs.declared.indices.TheConstants.{MAX_IDS}
 use Rattle.wasm_readers_errors.specs.declared.features.WasmFeatures.{WasmFeatures}
 use Rattle.wasm_validator_types.specs.Spaces.{Spaces, no_spaces}
-use Rattle.wasm_validator.specs.declared.rules.TheConstants.{MAX_TYPES, MAX_IMPORTS, MAX_FUNCTIONS, MAX_EXPORTS, MAX_EFFECTIVE_SIZE}
+use Rattle.wasm_validator.specs.declared.rules.TheConstants.{MAX_TYPES, MAX_IMPORTS, MAX_EXPORTS}
 use Rattle.wasm_validator.specs.Standing.{Types}
 use Rattle.wasm_validator.specs.Machine.{comp_arity, arity_at, add_group, add_import, add_export}
 use Rattle.wasm_validator.proofs.PlainTypes.{Signature, plain_sub, plain_group, plain_groups, allows_signature}
 use Rattle.wasm_validator.proofs.TypeSection.{AreServedSignatures, arity}
-use Rattle.wasm_validator.proofs.MachineTypes.{kept_signature, kept, ids_from, as_many_ids, with_types, Fit, types_verdict, fit_all, fit_allowed}
-use Rattle.wasm_validator.proofs.FunctionImports.{FunctionImport, function_import, function_imports, HaveArities, index_of, with_functions, sizes, AllFunctionsFit, FunctionsFit, imports_verdict, functions_fit, fit_functions}
-use Rattle.wasm_validator.proofs.FunctionExports.{no_names, AreTyped, ExportsFit, AllFit, with_exports, exports_verdict, exports_fit, fit_exports}
+use Rattle.wasm_validator.proofs.MachineTypes.{kept_signature, kept, ids_from, as_many_ids, types_verdict, fit_all, fit_allowed}
+use Rattle.wasm_validator.proofs.FunctionImports.{FunctionImport, function_import, function_imports, HaveArities, index_of, with_functions, sizes, AllFunctionsFit, imports_verdict, functions_fit, fit_functions}
+use Rattle.wasm_validator.proofs.FunctionExports.{no_names, AreTyped, AllFit, with_exports, exports_verdict, exports_fit, fit_exports}
 use Rattle.wasm_validator.proofs.ModuleRun.{step, AreParts, served_ranks, three_sections, type_section, import_section, export_section, ranked_items}
 use Rattle.wasm_validator.proofs.SectionItems.{limited, types_step, imports_step, exports_step, exported_all, same_export, map_same, groups_accepted, imports_accepted}
 
@@ -69,10 +68,10 @@ module _ (T : Types) (ss : List (Signature ℕ)) where
   have_arities = record {
     as_many = many_ids;
     each_has = λ x h.
-    let l : x < length ss = subst (λ n. x < n) (length-map ss arity) h in
-    ap (λ i. option_and_then (λ (t : Sub UnpackedIndex). comp_arity t.comp) (slice_get (T ++ kept ss) i)) (id_is (length T) ss x l)
-    ∙ ap (option_and_then (λ (t : Sub UnpackedIndex). comp_arity t.comp)) (behind_list T (kept ss) x)
-    ∙ kept_arities ss x;
+        let l : x < length ss = subst (λ n. x < n) (length-map ss arity) h in
+        ap (λ i. option_and_then (λ (t : Sub UnpackedIndex). comp_arity t.comp) (slice_get (T ++ kept ss) i)) (id_is (length T) ss x l)
+        ∙ ap (option_and_then (λ (t : Sub UnpackedIndex). comp_arity t.comp)) (behind_list T (kept ss) x)
+        ∙ kept_arities ss x;
   }
 
   -- the lists with the module's types, then with its imports, and with its exports
@@ -252,22 +251,22 @@ module _ (features : WasmFeatures) (T : Types) (ps : List Piece) (parts : ArePar
       let t : Types × Spaces = (list_after T ss, spaces_2 T ss fs) in
       let few = a.few_groups in
       let types_run : each (step features) start (at_rank 1 ps) ≡ Some s =
-          types_of_rank start refl
-          ∙ ap (option_and_then (limited (add_group features) (map_rec written) MAX_TYPES start)) a.groups
-          ∙ below_limit (length (map plain_group ss)) MAX_TYPES (each (add_group features) start (map (map_rec written) (map plain_group ss))) (subst (λ n. n ≤ MAX_TYPES) (sym (length-map ss plain_group)) few)
-          ∙ verdict_yes _ s (types_verdict features ss start a.served) (fit_all features ss 0 (length T) a.allowed (omega (arith, few)) room) in
+      types_of_rank start refl
+      ∙ ap (option_and_then (limited (add_group features) (map_rec written) MAX_TYPES start)) a.groups
+      ∙ below_limit (length (map plain_group ss)) MAX_TYPES (each (add_group features) start (map (map_rec written) (map plain_group ss))) (subst (λ n. n ≤ MAX_TYPES) (sym (length-map ss plain_group)) few)
+      ∙ verdict_yes _ s (types_verdict features ss start a.served) (fit_all features ss 0 (length T) a.allowed (omega (arith, few)) room) in
       let imports_run : each (step features) s (at_rank 2 ps) ≡ Some t =
-          imports_of_rank s refl
-          ∙ ap (option_and_then (limited add_import (map_import written) MAX_IMPORTS s)) a.imports
-          ∙ below_limit (length (map function_import fs)) MAX_IMPORTS (each add_import s (map (map_import written) (map function_import fs))) (subst (λ n. n ≤ MAX_IMPORTS) (sym (length-map fs function_import)) a.few_imports)
-          ∙ verdict_yes _ t (imports_verdict (list_after T ss) (ids T ss) (arities_of T ss) (have_arities T ss) fs (spaces_1 T ss) refl) (functions_fit (list_after T ss) (ids T ss) (arities_of T ss) (have_arities T ss) fs 0 1 a.functions_fit) in
+      imports_of_rank s refl
+      ∙ ap (option_and_then (limited add_import (map_import written) MAX_IMPORTS s)) a.imports
+      ∙ below_limit (length (map function_import fs)) MAX_IMPORTS (each add_import s (map (map_import written) (map function_import fs))) (subst (λ n. n ≤ MAX_IMPORTS) (sym (length-map fs function_import)) a.few_imports)
+      ∙ verdict_yes _ t (imports_verdict (list_after T ss) (ids T ss) (arities_of T ss) (have_arities T ss) fs (spaces_1 T ss) refl) (functions_fit (list_after T ss) (ids T ss) (arities_of T ss) (have_arities T ss) fs 0 1 a.functions_fit) in
       let fit = a.exports_fit in
       let exports_run : each (step features) t (at_rank 8 ps) ≡ Some (end_of features T ps a) =
-          exports_of_rank t refl
-          ∙ ap (option_and_then (exported_all t.0 t.1)) a.entries
-          ∙ ap (λ o. option_and_then (λ (u : Spaces). Some (t.0, u)) o) (below_limit (length es) MAX_EXPORTS (each (add_export t.0) t.1 (map same_export es)) a.few_exports
-          ∙ ap (each (add_export t.0) t.1) (map_same es)
-          ∙ verdict_yes _ (spaces_3 T ss fs es) (exports_verdict (list_after T ss) (ids T ss) (arities_of T ss) (have_arities T ss) es t.1 refl (typed T ss fs a.functions_fit.in_range)) (exports_fit (list_after T ss) (ids T ss) (arities_of T ss) (have_arities T ss) (function_indices T ss fs) es [] (import_total T ss fs) fit.in_range fit.names fit.small)) in
+      exports_of_rank t refl
+      ∙ ap (option_and_then (exported_all t.0 t.1)) a.entries
+      ∙ ap (λ o. option_and_then (λ (u : Spaces). Some (t.0, u)) o) (below_limit (length es) MAX_EXPORTS (each (add_export t.0) t.1 (map same_export es)) a.few_exports
+      ∙ ap (each (add_export t.0) t.1) (map_same es)
+      ∙ verdict_yes _ (spaces_3 T ss fs es) (exports_verdict (list_after T ss) (ids T ss) (arities_of T ss) (have_arities T ss) es t.1 refl (typed T ss fs a.functions_fit.in_range)) (exports_fit (list_after T ss) (ids T ss) (arities_of T ss) (have_arities T ss) (function_indices T ss fs) es [] (import_total T ss fs) fit.in_range fit.names fit.small)) in
       three_sections features ps start parts follows
       ∙ ap (option_and_then (λ x. by_rank (step features) (2 ∷ 8 ∷ []) x ps)) types_run
       ∙ ap (option_and_then (λ x. by_rank (step features) (8 ∷ []) x ps)) imports_run

@@ -15,7 +15,7 @@ use Rattle.wasm_validator.specs.declared.error.Error.{Error}
 use Rattle.wasm_validator.specs.declared.error.Error.TheVariants.{Refused, DuplicateExport, OutOfMemory}
 use Rattle.wasm_validator.specs.Standing.{Standing, Leaves}
 use Rattle.wasm_validator.specs.States.{after_piece, IsBeforeEnd, left_by}
-use Rattle.wasm_validator.specs.Payloads.{ShowsModule, Show, latest_of, after_all, Accepts, Rejects, IsLeft, IsOutOfMemory, Validates}
+use Rattle.wasm_validator.specs.Payloads.{ShowsModule, Show, latest_of, after_all, Accepts, Rejects, IsLeft, Validates}
 
 -- pieces after pieces
 all_from : (ps qs : List Piece) (t : Standing) (o : Option Standing) → ((u : Standing) → after_all u ps ≡ Some t → after_all u (ps ++ qs) ≡ after_all t qs)

@@ -1,5 +1,5 @@
 -- Each section as the list of its items, and items that are accepted as items that are served.
-use Rattle.std.proofs.Common.{◌≡◌, ◌≢◌, refl, sym, ap, subst, ◌∙◌, ◌⊎◌, inl, inr, ℕ, zero, suc, ◌+◌, ◌≤◌, ◌<◌, Bool, true, false, not, ◌&&◌, cond, eqb, leb, List, [], ◌∷◌, ◌++◌, map, length, Option, Some, None, arith}
+use Rattle.std.proofs.Common.{◌≡◌, refl, sym, ap, subst, ◌∙◌, inl, inr, ℕ, ◌+◌, Bool, true, false, not, ◌&&◌, cond, eqb, leb, List, [], ◌∷◌, map, length, Option, Some, None, arith}
 use Rattle.std.specs.Prelude.{is_none}
 use Rattle.std.specs.Option.{option_map, option_and_then}
 use Rattle.std.specs.List.{list_all}
@@ -9,23 +9,21 @@ use Rattle.wasm_spec.specs.Values.{items_at}
 use Rattle.wasm_spec.specs.BinaryTypes.{rec_at}
 use Rattle.wasm_spec.specs.BinaryModules.{Import, Export, import_at, export_at, map_import}
 use Rattle.wasm_spec.proofs.LawSet.{rec_renames, import_renames}
-use Rattle.wasm_parser.specs.Framing.{Piece, Counted}
+use Rattle.wasm_parser.specs.Framing.{Piece}
 use Rattle.wasm_rules.specs.Sections.{each}
 use Rattle.wasm_rules.specs.Parts.{index, all_items}
 use Rattle.wasm_rules.proofs.Tests.{guarded, then_some}
 use Rattle.wasm_readers.specs.Written.{written}
-use Rattle.wasm_readers_types.specs.declared.indices.UnpackedIndex.{UnpackedIndex}
-use Rattle.wasm_readers_types.specs.declared.indices.TheConstants.{MAX_IDS}
 use Rattle.wasm_readers_errors.specs.declared.features.WasmFeatures.{WasmFeatures}
 use Rattle.wasm_validator_types.specs.Spaces.{Spaces}
 use Rattle.wasm_validator.specs.declared.rules.TheConstants.{MAX_TYPES, MAX_IMPORTS, MAX_EXPORTS}
 use Rattle.wasm_validator.specs.Served.{is_served_comp, is_plain, is_served_sub, is_served_single, is_served_group, is_served_extern, is_served_import}
 use Rattle.wasm_validator.specs.Standing.{Types}
-use Rattle.wasm_validator.specs.Machine.{read_each, add_single, add_group, add_extern, add_import, add_export, type_items, import_items, export_items}
-use Rattle.wasm_validator.proofs.PlainTypes.{and_left, and_right, and_both}
+use Rattle.wasm_validator.specs.Machine.{read_each, add_single, add_group, add_import, add_export, type_items, import_items, export_items}
+use Rattle.wasm_validator.proofs.PlainTypes.{and_left, and_both}
 use Rattle.wasm_validator.proofs.MachineTypes.{served_kept}
 use Rattle.wasm_validator.proofs.Reading.{read_then_added, items_renamed, as_many_as_counted}
-use Rattle.wasm_validator.proofs.ModuleRun.{step, SectionOf, IsSection, one_section}
+use Rattle.wasm_validator.proofs.ModuleRun.{step, SectionOf, one_section}
 
 -- so many items at most, renamed and added
 abbrev pub limited : {S V W : Type 0} → (S → W → Option S) → (V → W) → ℕ → S → List V → Option S

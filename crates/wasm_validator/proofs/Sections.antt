@@ -1,16 +1,10 @@
 -- How a section moves a validator.
-use Rattle.std.proofs.Common.{◌≡◌, refl, sym, ap, subst, ◌∙◌, ℕ, List, Option, Some, None, map}
-use Rattle.std.specs.declared.result.Result.{Result}
-use Rattle.std.specs.declared.result.Result.TheVariants.{Ok, Err}
-use Rattle.wasm_readers_errors.specs.declared.error.Refusal.{Refusal}
+use Rattle.std.proofs.Common.{◌≡◌, refl, sym, ap, subst, ◌∙◌, ℕ, Some}
 use Rattle.wasm_readers_errors.specs.declared.features.WasmFeatures.{WasmFeatures}
 use Rattle.wasm_validator_types.specs.Spaces.{Spaces}
-use Rattle.wasm_validator.specs.declared.error.Error.{Error}
-use Rattle.wasm_validator.specs.declared.error.Error.TheVariants.{Refused, DuplicateExport, OutOfMemory}
 use Rattle.wasm_validator.specs.declared.validator.State.{State}
 use Rattle.wasm_validator.specs.declared.validator.State.TheVariants.{Unparsed, Module, End, Failed}
-use Rattle.std.specs.Prelude.{Bool, true}
-use Rattle.wasm_validator.specs.Standing.{Types, ended_at, shown_at, Standing, Stage, unparsed, in_module, ended, failed, at_stage}
+use Rattle.wasm_validator.specs.Standing.{Types, shown_at, Standing, ended}
 use Rattle.wasm_validator.specs.States.{open_of, stage_of, closed, after_end}
 
 -- the end of a module that is being read

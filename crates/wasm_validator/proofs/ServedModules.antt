@@ -1,11 +1,10 @@
 -- Framed bytes whose parts are of the forms that are served are a valid module exactly where the machine accepts them.
-use Rattle.std.proofs.Common.{◌≡◌, refl, sym, ap, subst, ◌∙◌, ℕ, Bool, true, false, ◌&&◌, List, [], ◌∷◌, ◌++◌, map, length, slice_get, Option, Some, None, arith}
+use Rattle.std.proofs.Common.{◌≡◌, refl, sym, ap, subst, ◌∙◌, ℕ, true, List, [], ◌∷◌, ◌++◌, map, length, slice_get, Option, Some}
 use Rattle.std.specs.List.{list_all, All}
 use Rattle.std.proofs.lemmas.List.Folds.{list_all-append}
 use Rattle.std.proofs.lemmas.List.Elements.{All-cons}
-use Rattle.wasm_spec.specs.Syntax.{Rec}
 use Rattle.wasm_spec.specs.BinaryTypes.{rec_at}
-use Rattle.wasm_spec.specs.BinaryModules.{Import, import_at, export_at}
+use Rattle.wasm_spec.specs.BinaryModules.{import_at, export_at}
 use Rattle.wasm_spec.specs.Features.{Features}
 use Rattle.wasm_spec.specs.Trees.{DefType}
 use Rattle.wasm_spec.specs.Closing.{type_space}
@@ -15,16 +14,16 @@ use Rattle.wasm_rules.specs.FeatureFlags.{features_of}
 use Rattle.wasm_rules.specs.Parts.{Parts, Expression, HasParts, index, all_items}
 use Rattle.wasm_rules.specs.IndexSpaces.{index_spaces}
 use Rattle.wasm_rules.specs.Modules.{IsAllowedPiece, AreValidParts, IsWellFormed, IsValid}
-use Rattle.wasm_rules.proofs.FramedOrder.{AreInner, others_inner}
+use Rattle.wasm_rules.proofs.FramedOrder.{others_inner}
 use Rattle.wasm_readers_errors.specs.declared.features.WasmFeatures.{WasmFeatures}
-use Rattle.wasm_validator.specs.Served.{is_served_piece, is_served_group, is_served_import, AreServed}
+use Rattle.wasm_validator.specs.Served.{is_served_piece, AreServed}
 use Rattle.wasm_validator.specs.Standing.{Types}
-use Rattle.wasm_validator.proofs.PlainTypes.{and_left, and_right, and_both, Signature, plain_group, plain_groups}
+use Rattle.wasm_validator.proofs.PlainTypes.{and_left, and_right, plain_group, plain_groups}
 use Rattle.wasm_validator.proofs.TypeSection.{section_valid, section_types, section_allowed, plain_types, as_many_types}
-use Rattle.wasm_validator.proofs.FunctionImports.{FunctionImport, function_import, function_imports}
+use Rattle.wasm_validator.proofs.FunctionImports.{function_imports}
 use Rattle.wasm_validator.proofs.ModuleRun.{AreParts, are_parts, framed_items}
 use Rattle.wasm_validator.proofs.RunOfParts.{Accepted}
-use Rattle.wasm_validator.proofs.ServedParts.{served_parts, section_space}
+use Rattle.wasm_validator.proofs.ServedParts.{served_parts}
 use Rattle.wasm_validator.proofs.ServedValid.{PartsFit, fit_valid, valid_fit}
 use Rattle.wasm_validator.proofs.ServedPieces.{whole, all_parts, same_parts, allowed_inside}
 
@@ -85,7 +84,7 @@ module _ (expression_at : List ℕ → Option (Expression × List ℕ)) (feature
       let section : IsValidTypeSection F (map plain_group ss) = record { types = m.types.types; gives = ap (type_space F) (sym gs.are) ∙ m.types.gives; valid = m.types.valid } in
       let types : m.types.types ≡ plain_types F [] ss = section_types F ss gs.served section in
       let rules : AreValidParts F (index_spaces (plain_types F [] ss) (served_parts ss fs.items es)) (served_parts ss fs.items es) =
-          subst (λ (x : List DefType × Parts). AreValidParts F (index_spaces x.0 x.1) x.1) (λ i. (types i, same i)) m.rules in
+      subst (λ (x : List DefType × Parts). AreValidParts F (index_spaces x.0 x.1) x.1) (λ i. (types i, same i)) m.rules in
       let fit = valid_fit F T ss fs.items es rules in
       record {
         header = header;

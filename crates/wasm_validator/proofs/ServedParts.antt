@@ -1,28 +1,25 @@
 -- The parts of a module of the forms that are served, and when they keep their rules.
-use Rattle.std.proofs.Common.{◌≡◌, ◌≢◌, refl, sym, ap, subst, ◌∙◌, ◌⊎◌, inl, inr, ℕ, zero, suc, ◌+◌, ◌≤◌, ◌<◌, Bool, true, false, ◌&&◌, ◌||◌, cond, eqb, List, [], ◌∷◌, ◌++◌, map, length, slice_get, slice_index, get_or, Option, Some, None, arith, append-nil}
-use Rattle.std.specs.Prelude.{is_some, IsTrue}
-use Rattle.std.specs.Option.{option_map, option_and_then}
-use Rattle.std.specs.List.{list_all, flat_map, All}
-use Rattle.std.proofs.lemmas.Bool.{eqb-true, eqb-false, eq-eqb, ne_eqb}
-use Rattle.std.proofs.lemmas.List.{length-map}
-use Rattle.std.proofs.lemmas.List.Elements.{All-nil, All-cons, All-head, All-tail, All-weaker}
-use Rattle.std.proofs.lemmas.Option.{slice_get-get_or, slice_get_within, get_or_from_slice_get}
-use Rattle.wasm_spec.specs.Syntax.{Val, Extern, func_extern, table_extern, memory_extern, global_extern, tag_extern}
-use Rattle.wasm_spec.specs.BinaryModules.{Import, Export}
+use Rattle.std.proofs.Common.{◌≡◌, refl, sym, ap, ◌∙◌, inl, inr, ℕ, ◌+◌, ◌<◌, true, eqb, List, [], ◌∷◌, map, length, slice_get, slice_index, get_or, Option, Some, None, append-nil}
+use Rattle.std.specs.Prelude.{is_some}
+use Rattle.std.specs.Option.{option_map}
+use Rattle.std.specs.List.{All}
+use Rattle.std.proofs.lemmas.Bool.{eqb-true, eq-eqb}
+use Rattle.std.proofs.lemmas.List.Elements.{All-head, All-tail}
+use Rattle.std.proofs.lemmas.Option.{slice_get-get_or, slice_get_within}
+use Rattle.wasm_spec.specs.Syntax.{Extern, func_extern, table_extern, memory_extern, global_extern, tag_extern}
+use Rattle.wasm_spec.specs.BinaryModules.{Export}
 use Rattle.wasm_spec.specs.Features.{Features}
 use Rattle.wasm_spec.specs.Trees.{DefType}
 use Rattle.wasm_rules.specs.Parts.{Parts}
 use Rattle.wasm_rules.specs.IndexSpaces.{IndexSpaces, index_spaces, imported, functions_in, tables_in, memories_in, globals_in, tags_in, signature_at, IsFunctionType}
-use Rattle.wasm_rules.specs.LinkRules.{IsValidImport, exported, IsValidExport, signature_size, import_size, size_if, export_size, sum, effective_size}
-use Rattle.wasm_rules.specs.Modules.{AreValidParts}
-use Rattle.wasm_rules.proofs.Tests.{truth, when, unless, chosen, map_some}
-use Rattle.wasm_validator.specs.declared.rules.TheConstants.{MAX_TYPES, MAX_IMPORTS, MAX_FUNCTIONS, MAX_EXPORTS, MAX_EFFECTIVE_SIZE}
+use Rattle.wasm_rules.specs.LinkRules.{exported, signature_size, import_size, size_if, export_size, sum}
+use Rattle.wasm_rules.proofs.Tests.{when, chosen, map_some}
 use Rattle.wasm_validator.specs.Standing.{Types}
 use Rattle.wasm_validator.proofs.PlainTypes.{Signature, plain_group}
-use Rattle.wasm_validator.proofs.TypeSection.{arity, arities, plain_types, as_many_types}
-use Rattle.wasm_validator.proofs.FunctionImports.{FunctionImport, function_import, size_of_arity, sizes, size_at, AllFunctionsFit}
-use Rattle.wasm_validator.proofs.FunctionExports.{AllFit, export_sizes, export_size_at}
-use Rattle.wasm_validator.proofs.RunOfParts.{list_after, ids, arities_of, have_arities, function_indices, import_total}
+use Rattle.wasm_validator.proofs.TypeSection.{arity, arities, plain_types}
+use Rattle.wasm_validator.proofs.FunctionImports.{FunctionImport, function_import, size_of_arity, sizes, size_at}
+use Rattle.wasm_validator.proofs.FunctionExports.{export_sizes}
+use Rattle.wasm_validator.proofs.RunOfParts.{list_after, ids, arities_of, have_arities}
 
 -- the parts of types, imported functions and exports
 abbrev pub served_parts : List (Signature ℕ) → List FunctionImport → List Export → Parts

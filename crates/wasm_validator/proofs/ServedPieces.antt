@@ -1,33 +1,21 @@
 -- The parts of pieces that are served, and what validity says of them.
-use Rattle.std.proofs.Common.{◌≡◌, ◌≢◌, refl, sym, ap, subst, ◌∙◌, ◌⊎◌, inl, inr, ℕ, zero, suc, ◌+◌, ◌≤◌, ◌<◌, Bool, true, false, ◌&&◌, ◌||◌, cond, eqb, List, [], ◌∷◌, ◌++◌, map, length, slice_get, Option, Some, None, arith, append-nil}
-use Rattle.std.specs.Prelude.{IsTrue}
-use Rattle.std.specs.Option.{option_map, option_and_then}
-use Rattle.std.specs.List.{list_all, flat_map, All}
-use Rattle.std.proofs.lemmas.Bool.{eqb-true, eqb-false, eq-eqb, ne_eqb}
-use Rattle.std.proofs.lemmas.List.Elements.{All-nil, All-cons, All-head, All-tail, All-append}
+use Rattle.std.proofs.Common.{◌≡◌, ◌≢◌, refl, sym, ap, ◌∙◌, ℕ, eqb, List, [], ◌∷◌, ◌++◌, map, Option, Some}
+use Rattle.std.specs.List.{flat_map, All}
+use Rattle.std.proofs.lemmas.Bool.{ne_eqb}
+use Rattle.std.proofs.lemmas.List.Elements.{All-nil, All-cons}
 use Rattle.wasm_spec.specs.Values.{u32_at, items_at}
 use Rattle.wasm_spec.specs.BinaryTypes.{rec_at, memory_at, tag_at}
-use Rattle.wasm_spec.specs.BinaryModules.{Import, Export, import_at, export_at}
+use Rattle.wasm_spec.specs.BinaryModules.{Export, import_at, export_at}
 use Rattle.wasm_spec.specs.BinarySections.{table_entry_at, global_entry_at, element_at, data_at}
 use Rattle.wasm_spec.specs.Features.{Features}
-use Rattle.wasm_spec.specs.GroupRules.{IsValidTypeSection}
-use Rattle.wasm_parser.specs.Framing.{Piece, Version, Custom, Counted, End, IsFramed}
-use Rattle.wasm_rules.specs.FeatureFlags.{features_of}
+use Rattle.wasm_parser.specs.Framing.{Piece, Version, End}
 use Rattle.wasm_rules.specs.Parts.{Parts, Expression, HasParts, index, items_of, all_items, starts_of, data_counts_of, bodies_of}
-use Rattle.wasm_rules.specs.IndexSpaces.{index_spaces}
-use Rattle.wasm_rules.specs.Modules.{IsAllowedPiece, AreValidParts, IsWellFormed, IsValid}
-use Rattle.wasm_rules.proofs.FramedOrder.{AreInner}
+use Rattle.wasm_rules.specs.Modules.{IsAllowedPiece}
 use Rattle.wasm_rules.proofs.Tests.{unless}
-use Rattle.wasm_readers_errors.specs.declared.features.WasmFeatures.{WasmFeatures}
-use Rattle.wasm_validator.specs.Served.{is_served_piece, is_served_group, is_served_import, AreServed}
-use Rattle.wasm_validator.specs.Standing.{Types}
-use Rattle.wasm_validator.proofs.PlainTypes.{and_left, and_right, and_both, Signature, plain_group, plain_groups}
-use Rattle.wasm_validator.proofs.TypeSection.{section_valid, section_types, section_allowed, plain_types}
-use Rattle.wasm_validator.proofs.FunctionImports.{FunctionImport, function_import, function_imports}
-use Rattle.wasm_validator.proofs.ModuleRun.{PartForm, custom, types, imports, exports, form_of, AreParts, are_parts, parts_served, framed_items, no_items}
-use Rattle.wasm_validator.proofs.RunOfParts.{Accepted}
-use Rattle.wasm_validator.proofs.ServedParts.{served_parts, served_spaces, section_space}
-use Rattle.wasm_validator.proofs.ServedValid.{PartsFit, fit_valid, valid_fit}
+use Rattle.wasm_validator.proofs.PlainTypes.{Signature, plain_group}
+use Rattle.wasm_validator.proofs.FunctionImports.{FunctionImport, function_import}
+use Rattle.wasm_validator.proofs.ModuleRun.{PartForm, custom, types, imports, exports, form_of, AreParts, framed_items, no_items}
+use Rattle.wasm_validator.proofs.ServedParts.{served_parts}
 
 -- sections of other ids aren't there
 module _ {V : Type 0} (id : ℕ) (reads : List ℕ → Option (V × List ℕ)) (not_types : 1 ≢ id) (not_imports : 2 ≢ id) (not_exports : 7 ≢ id) where

@@ -1,28 +1,24 @@
 -- Pieces whose parts are of the forms that are served are accepted where these parts are valid.
-use Rattle.std.proofs.Common.{◌≡◌, ◌≢◌, refl, sym, ap, subst, ◌∙◌, ◌⊎◌, inl, inr, ℕ, zero, suc, ◌+◌, ◌≤◌, ◌<◌, Bool, true, false, ◌&&◌, ◌||◌, cond, eqb, List, [], ◌∷◌, ◌++◌, map, length, slice_get, slice_index, get_or, Option, Some, None, arith, append-nil, length-append}
-use Rattle.std.specs.Prelude.{is_some, IsTrue}
-use Rattle.std.specs.Option.{option_map, option_and_then}
-use Rattle.std.specs.List.{list_all, flat_map, All, IsDistinct}
-use Rattle.std.proofs.lemmas.Bool.{eqb-true, eqb-false, eq-eqb, ne_eqb}
+use Rattle.std.proofs.Common.{◌≡◌, refl, sym, ap, subst, ◌∙◌, ℕ, ◌+◌, ◌≤◌, ◌<◌, List, [], ◌∷◌, map, length, slice_index, arith}
+use Rattle.std.specs.List.{All}
 use Rattle.std.proofs.lemmas.List.{length-map}
 use Rattle.std.proofs.lemmas.List.Elements.{All-nil, All-cons, All-head, All-tail}
-use Rattle.wasm_spec.specs.Syntax.{Extern, func_extern, Memory}
-use Rattle.wasm_spec.specs.BinaryModules.{Import, Export}
-use Rattle.wasm_spec.specs.BinarySections.{TableEntry, GlobalEntry, Element, Data}
+use Rattle.wasm_spec.specs.Syntax.{func_extern}
+use Rattle.wasm_spec.specs.BinaryModules.{Export}
+use Rattle.wasm_spec.specs.BinarySections.{GlobalEntry}
 use Rattle.wasm_spec.specs.Features.{Features}
-use Rattle.wasm_spec.specs.Trees.{DefType}
 use Rattle.wasm_rules.specs.Parts.{Parts, Expression}
-use Rattle.wasm_rules.specs.IndexSpaces.{IndexSpaces, index_spaces, IsFunctionType}
+use Rattle.wasm_rules.specs.IndexSpaces.{IndexSpaces, IsFunctionType}
 use Rattle.wasm_rules.specs.ItemRules.{IsValidTableEntry, IsValidMemory, IsValidTag, IsValidGlobal}
-use Rattle.wasm_rules.specs.LinkRules.{IsValidImport, exported, IsValidExport, IsValidStart, effective_size, sum, export_name, import_size, export_size}
+use Rattle.wasm_rules.specs.LinkRules.{IsValidImport, IsValidExport, IsValidStart, effective_size, sum, import_size, export_size}
 use Rattle.wasm_rules.specs.SegmentRules.{IsValidElement, IsValidData}
-use Rattle.wasm_rules.specs.Limits.{KeepsLimits, most_tables, most_memories}
+use Rattle.wasm_rules.specs.Limits.{most_tables, most_memories}
 use Rattle.wasm_rules.specs.Modules.{AreValidParts}
-use Rattle.wasm_validator.specs.declared.rules.TheConstants.{MAX_TYPES, MAX_IMPORTS, MAX_FUNCTIONS, MAX_EXPORTS, MAX_EFFECTIVE_SIZE}
+use Rattle.wasm_validator.specs.declared.rules.TheConstants.{MAX_TYPES, MAX_IMPORTS, MAX_EXPORTS}
 use Rattle.wasm_validator.specs.Standing.{Types}
 use Rattle.wasm_validator.proofs.PlainTypes.{Signature, plain_group}
-use Rattle.wasm_validator.proofs.TypeSection.{plain_types, as_many_types}
-use Rattle.wasm_validator.proofs.FunctionImports.{FunctionImport, function_import, sizes, AllFunctionsFit}
+use Rattle.wasm_validator.proofs.TypeSection.{as_many_types}
+use Rattle.wasm_validator.proofs.FunctionImports.{FunctionImport, function_import, AllFunctionsFit}
 use Rattle.wasm_validator.proofs.FunctionExports.{AllFit, export_sizes}
 use Rattle.wasm_validator.proofs.RunOfParts.{list_after, ids, arities_of, have_arities, function_indices, import_total}
 use Rattle.wasm_validator.proofs.ServedParts.{served_parts, import_index, served_spaces, served_only, function_exported, exported_function, section_space, is_function_type, function_type_is, imports_size, exports_size}

@@ -1,15 +1,15 @@
 -- The machine keeps the state table.
-use Rattle.std.proofs.Common.{◌≡◌, refl, sym, ap, subst, ◌∙◌, ℕ, Bool, true, false, ◌&&◌, cond, eqb, List, [], Option, Some, None}
-use Rattle.std.specs.Option.{option_map, option_and_then}
+use Rattle.std.proofs.Common.{◌≡◌, refl, sym, ap, ◌∙◌, ℕ, Bool, true, false, ◌&&◌, cond, eqb, [], Option, Some, None}
+use Rattle.std.specs.Option.{option_and_then}
 use Rattle.wasm_parser.specs.Framing as parts
 use Rattle.wasm_parser.specs.Framing.{Piece, Version, Custom, Counted, Start, DataCount, CodeStart, CodeEntry, Unknown}
 use Rattle.wasm_rules.specs.StateTable as table
 use Rattle.wasm_rules.specs.StateTable.{Phase, Call, section, data_section, accepted_to, refused_to}
 use Rattle.wasm_validator_types.specs.Spaces.{Spaces, no_spaces}
 use Rattle.wasm_validator.specs.Standing.{Types, Stage, unparsed, in_module, ended, failed, Standing, within, at_stage}
-use Rattle.wasm_validator.specs.States.{after_piece, after_section, left_by, begun, closed}
+use Rattle.wasm_validator.specs.States.{left_by, begun, closed}
 use Rattle.wasm_validator.specs.Machine.{type_items, import_items, export_items, beside}
-use Rattle.wasm_validator.specs.Table.{phase_of, call_of, AcceptedByTable, RefusedByTable}
+use Rattle.wasm_validator.specs.Table.{phase_of, AcceptedByTable, RefusedByTable}
 
 stays : (s t : Standing) (o : Option (Types × Spaces)) → at_stage s (option_and_then (λ (p : Types × Spaces). Some (in_module p.0 p.1)) o) ≡ Some t → phase_of t.stage ≡ table.in_module
 stays s t None e = absurd cc

@@ -1,33 +1,17 @@
 -- Type sections of plain function types: what the machine makes of them, and when they are valid.
-use Rattle.std.proofs.Common.{◌≡◌, refl, sym, ap, subst, ◌∙◌, ◌⊎◌, inl, inr, ⊎_elim, ℕ, zero, suc, ◌+◌, ◌≤◌, ◌<◌, Bool, true, false, not, ◌&&◌, ◌||◌, cond, ltb, leb, eqb, List, [], ◌∷◌, ◌++◌, map, length, slice_get, Option, Some, None, arith, append_assoc, append-nil, length-append}
-use Rattle.std.specs.Prelude.{IsTrue}
+use Rattle.std.proofs.Common.{◌≡◌, refl, sym, ap, subst, ◌∙◌, ℕ, zero, suc, Bool, true, ◌&&◌, ◌||◌, leb, List, [], ◌∷◌, ◌++◌, map, length, slice_get, Some, append_assoc, append-nil}
 use Rattle.std.specs.Option.{option_map, option_and_then}
 use Rattle.std.specs.List.{list_all, All}
-use Rattle.std.specs.Bool.{Decides}
-use Rattle.std.proofs.lemmas.Bool.Decides.{Decides-ltb, Decides-and}
 use Rattle.std.proofs.lemmas.List.{length-map}
-use Rattle.std.proofs.lemmas.List.Folds.{list_all-map}
 use Rattle.std.proofs.lemmas.List.Elements.{All-nil, All-cons, All-head, All-tail}
-use Rattle.wasm_spec.specs.Syntax.{Heap, abstract_heap, concrete, exact, map_heap, Val, i32, i64, f32, f64, v128, reference, Sub, Rec, map_rec, map_val}
+use Rattle.wasm_spec.specs.Syntax.{Heap, abstract_heap, concrete, exact, map_heap, Val, i32, i64, f32, f64, v128, reference, Sub, map_val}
 use Rattle.wasm_spec.specs.Features.{Features}
-use Rattle.wasm_spec.specs.Trees.{TypeUse, DefType, denote, declared}
-use Rattle.wasm_spec.specs.Closing.{resolve, with_groups, type_space}
+use Rattle.wasm_spec.specs.Trees.{DefType, denote, declared}
+use Rattle.wasm_spec.specs.Closing.{resolve, with_groups}
 use Rattle.wasm_spec.specs.ValueTypes.{allows_heap, allows_val}
 use Rattle.wasm_spec.specs.GroupRules.{IsValidType, IsValidTypeSection}
-use Rattle.wasm_rules.specs.FeatureFlags.{features_of}
 use Rattle.wasm_rules.specs.IndexSpaces.{signature, signature_at}
-use Rattle.wasm_rules.specs.Sections.{each}
-use Rattle.wasm_rules.proofs.Verdicts.{Verdict, then_verdict, if_verdict, verdict_as, verdict_to, verdict_of, always}
-use Rattle.wasm_readers.specs.Written.{written}
-use Rattle.wasm_readers_types.specs.declared.indices.UnpackedIndex.{UnpackedIndex}
-use Rattle.wasm_readers_types.specs.declared.indices.TheConstants.{MAX_IDS}
-use Rattle.wasm_readers_errors.specs.declared.features.WasmFeatures.{WasmFeatures}
-use Rattle.wasm_validator_types.specs.Spaces.{Spaces}
-use Rattle.wasm_validator.specs.declared.rules.TheConstants.{MAX_TYPES}
-use Rattle.wasm_validator.specs.Served.{is_served_val, is_served_comp}
-use Rattle.wasm_validator.specs.Standing.{Types}
-use Rattle.wasm_validator.specs.Machine.{is_allowed_val, is_allowed_comp, add_group, comp_arity, arity_at}
-use Rattle.wasm_validator.proofs.PlainTypes.{and_left, and_right, and_both, plain_tree, Signature, plain_sub, plain_group, is_served_signature, allows_signature, plain_valid, valid_plain, plain_type, plain_closed, declared_signature, plain_declares}
+use Rattle.wasm_validator.proofs.PlainTypes.{and_left, and_right, and_both, plain_tree, Signature, plain_group, is_served_signature, allows_signature, plain_valid, valid_plain, plain_type, plain_closed, declared_signature, plain_declares}
 
 abbrev pub AreServedSignatures : {R : Type 0} → List (Signature R) → Type 0
 AreServedSignatures ss = list_all is_served_signature ss ≡ true

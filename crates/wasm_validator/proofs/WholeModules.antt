@@ -1,5 +1,5 @@
 -- A run over whole bytes decides whether they are a valid module of the forms that are served.
-use Rattle.std.proofs.Common.{◌≡◌, ◌≢◌, refl, sym, ap, subst, ◌∙◌, ◌⊎◌, inl, inr, ℕ, ◌+◌, ◌≤◌, Bool, true, false, cond, if◌then◌else◌, ◌==◌, ◌&&◌, eqb, List, [], ◌∷◌, ◌++◌, map, length, Option, Some, None, arith}
+use Rattle.std.proofs.Common.{◌≡◌, refl, sym, ap, subst, ◌∙◌, ℕ, ◌+◌, ◌≤◌, Bool, true, false, cond, if◌then◌else◌, ◌==◌, ◌&&◌, eqb, List, [], ◌∷◌, ◌++◌, map, length, Option, Some, None, arith}
 use Rattle.std.specs.Option.{option_map, option_and_then}
 use Rattle.std.proofs.lemmas.Bool.{eqb-true}
 use Rattle.std.specs.declared.result.Result.{Result}
@@ -12,7 +12,7 @@ use Rattle.wasm_rules.specs.IndexSpaces.{index_spaces}
 use Rattle.wasm_rules.specs.Sections.{each, ranks}
 use Rattle.wasm_rules.proofs.FramedOrder.{IsInner, AreInner, others_inner, others_follow}
 use Rattle.wasm_rules.proofs.Ordered.{Follows}
-use Rattle.wasm_rules.proofs.Tests.{then_some, map_some, guarded}
+use Rattle.wasm_rules.proofs.Tests.{then_some, map_some}
 use Rattle.wasm_readers_types.specs.SeenTypes.{sub_of}
 use Rattle.wasm_readers_types.specs.declared.indices.TheConstants.{MAX_IDS}
 use Rattle.wasm_readers_errors.specs.declared.features.WasmFeatures.{WasmFeatures}
@@ -22,19 +22,18 @@ use Rattle.wasm_validator_types.specs.declared.shown.Types as shown
 use Rattle.wasm_validator.specs.declared.error.Error.{Error}
 use Rattle.wasm_validator.specs.declared.error.Error.TheVariants.{Refused, DuplicateExport, OutOfMemory}
 use Rattle.wasm_validator.specs.Standing.{Types, Stage, Standing, unparsed, in_module, ended, failed, fresh, shown_at}
-use Rattle.wasm_validator.specs.States.{after_piece, after_section, after_version, IsBeforeEnd}
+use Rattle.wasm_validator.specs.States.{after_piece, after_version, IsBeforeEnd}
 use Rattle.wasm_validator.specs.Machine.{type_items, import_items, export_items, beside}
 use Rattle.wasm_validator.specs.Payloads.{after_all, Accepts, Rejects, Validates}
 use Rattle.wasm_validator.specs.Shows.{ShowModule, export_row}
 use Rattle.wasm_validator.specs.Verdict.{Expressions, IsServedModule, AcceptsModule, RefusesModule, DecidesModule, DecidesAlone}
-use Rattle.wasm_validator.proofs.FunctionImports.{FunctionImport}
 use Rattle.wasm_validator.proofs.ImportRows.{in_rows}
 use Rattle.wasm_validator.proofs.ListedTypes.{stand}
-use Rattle.wasm_validator.proofs.ModuleRun.{step, section_step, AreParts, are_parts, run_served, no_zero, restrict, served_ranks}
+use Rattle.wasm_validator.proofs.ModuleRun.{step, AreParts, are_parts, run_served, no_zero, restrict, served_ranks}
 use Rattle.wasm_validator.proofs.MachineTypes.{kept}
-use Rattle.wasm_validator.proofs.RunOfParts.{list_after, ids, arities_of, have_arities, spaces_3, Accepted, end_of, Ran, ran, runs}
+use Rattle.wasm_validator.proofs.RunOfParts.{list_after, ids, arities_of, have_arities, spaces_3, Accepted, end_of, ran, runs}
 use Rattle.wasm_validator.proofs.ServedParts.{served_parts, served_only, section_space}
-use Rattle.wasm_validator.proofs.ServedModules.{accepted_parts, accepted_formed, accepted_valid, valid_accepted}
+use Rattle.wasm_validator.proofs.ServedModules.{accepted_valid, valid_accepted}
 
 -- a validator in a module
 abbrev at : ℕ → WasmFeatures → Types × Spaces → Standing
@@ -183,9 +182,9 @@ runs_inside bytes old new t a =
     let start : Types × Spaces = (b.before, no_spaces) in
     let inner = others_inner bytes a.pieces f in
     let rest : option_and_then (λ s. after_all s (parts.End ∷ [])) (option_map (at old.id old.features) (each (step old.features) start f.others)) ≡ Some new =
-        sym (all_split f.others (parts.End ∷ []) (at old.id old.features start) ∙ ap (option_and_then (λ s. after_all s (parts.End ∷ []))) (inside_run old.id old.features f.others start inner))
-        ∙ sym (ap (λ s. after_all s (f.others ++ parts.End ∷ [])) b.now)
-        ∙ first.2 in
+    sym (all_split f.others (parts.End ∷ []) (at old.id old.features start) ∙ ap (option_and_then (λ s. after_all s (parts.End ∷ []))) (inside_run old.id old.features f.others start inner))
+    ∙ sym (ap (λ s. after_all s (f.others ++ parts.End ∷ [])) b.now)
+    ∙ first.2 in
     let last = then_some (λ s. after_all s (parts.End ∷ [])) (option_map (at old.id old.features) (each (step old.features) start f.others)) new rest in
     let m = map_some (at old.id old.features) (each (step old.features) start f.others) last.0 last.1 in
     let q = m.0 in
@@ -193,10 +192,10 @@ runs_inside bytes old new t a =
     let stood : record old { stage = ended q.0 } ≡ new = the_same (record old { stage = ended q.0 }) new closing in
     let split : header ∷ f.others ≡ a.front = sym (front_is header f.others a.front a.behind inner (sym f.all ∙ a.split) tt) in
     let reached : after_all old (header ∷ f.others) ≡ Some (at old.id old.features q) =
-        ap (option_and_then (λ s. after_all s f.others)) first.1
-        ∙ ap (λ s. after_all s f.others) b.now
-        ∙ inside_run old.id old.features f.others start inner
-        ∙ ap (option_map (at old.id old.features)) m.1 in
+    ap (option_and_then (λ s. after_all s f.others)) first.1
+    ∙ ap (λ s. after_all s f.others) b.now
+    ∙ inside_run old.id old.features f.others start inner
+    ∙ ap (option_map (at old.id old.features)) m.1 in
     let at_end : at old.id old.features q ≡ a.before_end = the_same (at old.id old.features q) a.before_end (sym reached ∙ ap (after_all old) split ∙ a.reached) in
     let seen : shown_at (in_module q.0 q.1) ≡ Some (map sub_of (shown_of t).list, (shown_of t).spaces) = ap (λ (s : Standing). shown_at s.stage) at_end ∙ a.shown.0 in
     let shown_pair : Types × Spaces = (map sub_of (shown_of t).list, (shown_of t).spaces) in
@@ -266,10 +265,10 @@ rejects_refuses bytes old rejects expression_at T w m room =
     let inside = runs old.features T f.others a.parts (parts_follow bytes v.pieces f a.parts) a.accepted fits in
     let inner = others_inner bytes v.pieces f in
     let ended_there : after_all old v.pieces ≡ Some (record old { stage = ended q.0 }) =
-        ap (after_all old) f.all
-        ∙ ap (option_and_then (λ s. after_all s (f.others ++ parts.End ∷ []))) (begins_at old T f.number f.kind w a.header)
-        ∙ all_split f.others (parts.End ∷ []) (at old.id old.features start)
-        ∙ ap (option_and_then (λ s. after_all s (parts.End ∷ []))) (inside_run old.id old.features f.others start inner ∙ ap (option_map (at old.id old.features)) inside) in
+    ap (after_all old) f.all
+    ∙ ap (option_and_then (λ s. after_all s (f.others ++ parts.End ∷ []))) (begins_at old T f.number f.kind w a.header)
+    ∙ all_split f.others (parts.End ∷ []) (at old.id old.features start)
+    ∙ ap (option_and_then (λ s. after_all s (parts.End ∷ []))) (inside_run old.id old.features f.others start inner ∙ ap (option_map (at old.id old.features)) inside) in
     let none = rejects v.pieces f in
     nothing (record old { stage = ended q.0 }) (sym none ∙ ended_there)
 

@@ -71,11 +71,11 @@ abbrev pub add_function_import : Types × Spaces → List ℕ → List ℕ → �
 add_function_import p source name x =
     if nat_lt x (length p.1.types) && nat_lt (length p.1.functions) MAX_FUNCTIONS
     then
-      option_and_then
-      (λ arity. option_map
-      (λ size. (p.0, record p.1 { functions = p.1.functions ++ x ∷ []; imports = with_import p.1.imports source name (func_entity (slice_index p.1.types x)); size = size }))
-      (grown p.1.size arity))
-      (arity_at p.0 (slice_index p.1.types x))
+    option_and_then
+    (λ arity. option_map
+    (λ size. (p.0, record p.1 { functions = p.1.functions ++ x ∷ []; imports = with_import p.1.imports source name (func_entity (slice_index p.1.types x)); size = size }))
+    (grown p.1.size arity))
+    (arity_at p.0 (slice_index p.1.types x))
     else None
 
 abbrev pub add_extern : Types × Spaces → List ℕ → List ℕ → Extern UnpackedIndex → Option (Types × Spaces)
@@ -94,11 +94,11 @@ abbrev pub add_export : Types → Spaces → Export → Option Spaces
 add_export types s e =
     if (e.kind == 0) && nat_lt e.index (length s.functions) && not (is_exported s.exports e.name)
     then
-      option_and_then
-      (λ arity. option_map
-      (λ size. record s { exports = s.exports ++ (e.name, func_entity (slice_index s.types (slice_index s.functions e.index))) ∷ []; size = size })
-      (grown s.size arity))
-      (arity_at types (slice_index s.types (slice_index s.functions e.index)))
+    option_and_then
+    (λ arity. option_map
+    (λ size. record s { exports = s.exports ++ (e.name, func_entity (slice_index s.types (slice_index s.functions e.index))) ∷ []; size = size })
+    (grown s.size arity))
+    (arity_at types (slice_index s.types (slice_index s.functions e.index)))
     else None
 
 -- so many items, one after another, and nothing behind them

@@ -1,8 +1,8 @@
 -- Modules of the forms that are served: custom sections, final function types between numbers and vectors,
 -- imported functions, and exports.
-use Rattle.std.specs.Prelude.{ℕ, ◌==◌, nat_lt, Bool, true, false, not, ◌&&◌, ◌||◌, List, [], ◌∷◌, length, Option, Some, None, is_none, IsTrue}
+use Rattle.std.specs.Prelude.{◌==◌, Bool, true, false, not, ◌&&◌, ◌||◌, List, [], ◌∷◌, length, is_none, IsTrue}
 use Rattle.std.specs.List.{list_all}
-use Rattle.wasm_spec.specs.Syntax.{Val, reference, Comp, func, array, struct, cont, Sub, Rec, Extern, func_extern, func_exact_extern, table_extern, memory_extern, global_extern, tag_extern}
+use Rattle.wasm_spec.specs.Syntax.{Val, reference, Comp, func, Sub, Rec, Extern, func_extern}
 use Rattle.wasm_spec.specs.BinaryModules.{Import}
 use Rattle.wasm_parser.specs.Framing.{Piece, Version, Custom, Counted, Start, DataCount, CodeStart, CodeEntry, Unknown, End}
 use Rattle.wasm_rules.specs.Parts.{Parts}

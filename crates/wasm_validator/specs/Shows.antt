@@ -1,8 +1,8 @@
 -- What the types of an accepted module show of it. Core Specification 3.0, Validation, Conventions, Contexts.
 -- Functions are all that is imported and exported yet.
-use Rattle.std.specs.Prelude.{ℕ, ◌≡◌, ◌&&◌, Bool, not, List, [], ◌∷◌, map, filter, slice_get, slice_index, Option, Some, None}
+use Rattle.std.specs.Prelude.{ℕ, ◌≡◌, Bool, not, List, [], ◌∷◌, map, filter, slice_get, slice_index, Some}
 use Rattle.std.specs.List.{AllZip, flat_map}
-use Rattle.wasm_spec.specs.Syntax.{Sub, map_sub, Extern, func_extern, func_exact_extern, table_extern, memory_extern, global_extern, tag_extern}
+use Rattle.wasm_spec.specs.Syntax.{Sub, map_sub, Extern, func_extern}
 use Rattle.wasm_spec.specs.BinaryModules.{Import, Export}
 use Rattle.wasm_spec.specs.Features.{Features, canonical}
 use Rattle.wasm_spec.specs.Trees.{DefType, members}

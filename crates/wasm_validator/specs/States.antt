@@ -1,6 +1,5 @@
 -- What contracts see of a validator's own state, and its calls.
 use Rattle.std.specs.Prelude.{ℕ, ◌==◌, if◌then◌else◌, Bool, true, false, ◌&&◌, cond, List, map, Option, Some, None, ⊤}
-use Rattle.std.specs.Option.{option_and_then}
 use Rattle.wasm_readers_types.specs.SeenTypes.{sub_of}
 use Rattle.wasm_validator_types.specs.Spaces.{Spaces, no_spaces}
 use Rattle.std.specs.declared.result.Result.{Result}

@@ -1,5 +1,5 @@
 -- What the answer on whole bytes says of the module that they are. Core Specification 3.0, Validation, Modules.
-use Rattle.std.specs.Prelude.{ℕ, ◌≡◌, ◌≤◌, ◌+◌, ◌++◌, List, [], map, length, Option, Some, None, ⊤}
+use Rattle.std.specs.Prelude.{ℕ, ◌≡◌, ◌≤◌, ◌+◌, ◌++◌, List, map, length, Option, ⊤}
 use Rattle.std.specs.declared.result.Result.{Result}
 use Rattle.std.specs.declared.result.Result.TheVariants as results
 use Rattle.wasm_readers_types.specs.SeenTypes.{sub_of}
@@ -8,7 +8,7 @@ use Rattle.wasm_readers_errors.specs.declared.features.WasmFeatures.{WasmFeature
 use Rattle.wasm_rules.specs.FeatureFlags.{features_of}
 use Rattle.wasm_rules.specs.Parts.{Expression}
 use Rattle.wasm_rules.specs.IndexSpaces.{index_spaces}
-use Rattle.wasm_rules.specs.Modules.{IsWellFormed, IsValid}
+use Rattle.wasm_rules.specs.Modules.{IsValid}
 use Rattle.wasm_validator_types.specs.Shown.{shown_of}
 use Rattle.wasm_validator_types.specs.declared.shown.Types as shown
 use Rattle.wasm_validator.specs.declared.error.Error.{Error}

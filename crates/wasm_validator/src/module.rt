@@ -8,7 +8,10 @@ ghost use Rattle.wasm_validator.specs.Standing.{Adds};
 ghost use Rattle.wasm_validator.specs.Machine.{add_group, add_sub, add_import, add_function_import, add_export, type_items, import_items, export_items, arity_at, grown};
 
 use crate::error::Error;
-use crate::rules::{MAX_EFFECTIVE_SIZE, MAX_EXPORTS, MAX_FUNCTIONS, MAX_IMPORTS, MAX_TYPES, check_max, check_sub_type};
+use crate::rules::{
+    MAX_EFFECTIVE_SIZE, MAX_EXPORTS, MAX_FUNCTIONS, MAX_IMPORTS, MAX_TYPES, check_max,
+    check_sub_type,
+};
 use std::alloc::Allocator;
 use wasm_readers::{
     CompositeInnerType, CoreTypeId, Counted, Export, ExternalKind, Fault, Import, ItemKind,
@@ -195,7 +198,11 @@ fn size_with(size: u32, arity: (usize, usize)) -> Option<u32>
         return None;
     }
     let size = size as usize + (2 + (params + results));
-    if size < limit { Some(size as u32) } else { None }
+    if size < limit {
+        Some(size as u32)
+    } else {
+        None
+    }
 }
 
 /// Adds the exports of an export section.

@@ -30,6 +30,9 @@ fn a_size_below_the_limit_is_accepted(rt: HostRuntime) -> Result<(), Fail> {
 fn a_size_at_the_limit_is_refused(rt: HostRuntime) -> Result<(), Fail> {
     let bytes = importing(rt.alloc(), b"\x02\x9e\x1f\xe7\x07", 999)?;
     let text = message_of(rt.alloc(), &check(rt.alloc(), &bytes)).ok_or("accepted")?;
-    assert_eq!(rt; text.as_str(), "effective type size exceeds the limit of 1000000");
+    assert_eq!(rt;
+        text.as_str(),
+        "effective type size exceeds the limit of 1000000"
+    );
     Ok(())
 }

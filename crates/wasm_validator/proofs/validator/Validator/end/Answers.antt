@@ -1,4 +1,4 @@
-use Rattle.std.proofs.Common.{ap, map, sym, refl}
+use Rattle.std.proofs.Common.{ap, map}
 use Rattle.wasm_readers_types.specs.SeenTypes.{sub_of}
 use Rattle.wasm_validator.proofs.Sections.{ended_from_open, shown_from_open}
 use Rattle.wasm_validator.proofs.validator.Validator.end.Goals as goal
