@@ -1,0 +1,10 @@
+pub mod Flat
+pub mod Places
+pub mod Listed
+pub mod Standing
+pub mod Once
+pub mod Few
+pub mod Sound
+pub mod Lookups
+pub mod Counting
+pub mod Examples

@@ -1,0 +1,191 @@
+-- What is always true of a list of types, as groups are added.
+use Rattle.std.proofs.Common.{◌≡◌, refl, sym, ap, subst, ◌∙◌, ℕ, ◌+◌, ◌-◌, ◌<◌, ◌≤◌, ◌^◌, Bool, true, false, true≢false, cond, List, [], ◌∷◌, ◌++◌, length, slice_get, Option, Some, None, arith, length-append}
+use Rattle.std.specs.HashMap as hash
+use Rattle.std.specs.List.{slice_index_or}
+use Rattle.std.specs.Option.{option_map}
+use Rattle.std.specs.declared.ops.Range.{Range}
+use Rattle.wasm_readers_types.specs.Indices.{module_of}
+use Rattle.wasm_readers_types.specs.declared.indices.CoreTypeId.{CoreTypeId}
+use Rattle.wasm_readers_types.specs.declared.indices.PackedIndex.{PackedIndex}
+use Rattle.wasm_readers_types.specs.declared.indices.UnpackedIndex.{UnpackedIndex}
+use Rattle.wasm_validator_type_list.specs.Spans.{span}
+use Rattle.wasm_validator_type_list.specs.Lookups.{leads_to, IsSupertypeAt}
+use Rattle.wasm_validator_type_list.proofs.Standing.{first_of-within}
+use Rattle.wasm_validator_type_list.proofs.Lookups.{supertype_listed}
+use Rattle.std.proofs.lemmas.Option.{none-some, MatchOption-at_some, MatchOption-at_none}
+use Rattle.wasm_readers_types.specs.declared.indices.TheConstants.{MAX_IDS}
+use Rattle.wasm_readers_types.specs.declared.types.RecGroup.{RecGroup}
+use Rattle.wasm_readers_types.specs.declared.types.SubType.{SubType}
+use Rattle.wasm_readers_types.specs.TypesExact.{group_equal, group-exact}
+use Rattle.wasm_validator_type_list.specs.declared.type_list.TypeList.TheInside.{Inside}
+use Rattle.wasm_validator_type_list.specs.Groups.{all_in, first_of, IsInGroup}
+use Rattle.wasm_validator_type_list.specs.Listing.{Listing, types_in}
+use Rattle.wasm_validator_type_list.specs.Listable.{IsListable}
+use Rattle.wasm_validator_type_list.specs.Interned.{IsNew, IsPlaceOf, Interns, InternsTypes}
+use Rattle.wasm_validator_type_list.specs.Sound.{shown, IsSound}
+use Rattle.wasm_validator_type_list.proofs.Flat.{all_in-push}
+use Rattle.wasm_validator_type_list.proofs.Places.{get-left, get-end, get-push}
+use Rattle.wasm_validator_type_list.proofs.Once.{once-push, listable-push, types-known, types-new}
+use Rattle.wasm_validator_type_list.proofs.Few.{few_groups, few-more, few-new}
+use Rattle.std.proofs.lemmas.Option.{slice_get_within, slice_get-get_or}
+
+module _ {A : Type 0} where
+  -- the number of groups fits
+  pub group_room : (a : Inside A) → IsSound a → length a.groups < 2 ^ 32
+  group_room a h = omega (arith, few_groups a.groups, h.room, h.few)
+
+  -- what is said of the listing, of the fields
+  pub mode_of : (a : Inside A) (l : Listing A) (b : Bool) → shown a ≡ l → b ≡ l.is_canonical → a.is_canonical ≡ b
+  mode_of a l b e f = ap (λ (m : Listing A). m.is_canonical) e ∙ sym f
+
+  pub open_of : (a : Inside A) (l : Listing A) → shown a ≡ l → l.is_open ≡ true → a.is_open ≡ true
+  open_of a l e f = ap (λ (m : Listing A). m.is_open) e ∙ f
+
+  pub next_of : (a : Inside A) (l : Listing A) (g : List (SubType A)) → shown a ≡ l → IsListable (length (types_in l)) g → IsListable (length (all_in a.groups)) g
+  next_of a l g e h = subst (λ (m : Listing A). IsListable (length (types_in m)) g) (sym e) h
+
+  pub room_of : (a : Inside A) (n m : ℕ) → IsSound a → n ≡ length (all_in a.groups) → m ≤ MAX_IDS - n → length (all_in a.groups) + m ≤ MAX_IDS
+  room_of a n m h e l = omega (arith, h.room, e, l)
+
+  -- no groups
+  pub sound_none : (a : Inside A) → a.groups ≡ [] → a.known.entries ≡ [] → IsSound a
+  sound_none a e f = record {
+    room = rw e (omega arith);
+    few = rw e (omega arith);
+    listable = rw e (λ k g h. absurd (none-some g h));
+    once = λ _. rw e (record { groups = λ j k g h _. absurd (none-some g h); types = record { one_id = λ j k d h _. absurd (none-some d h) } });
+    mapped = λ _ _ k. rw (e, f) (λ n h. none-some k.types h);
+  }
+
+  -- the same groups
+  pub sound_same : (a b : Inside A) → IsSound a → b.groups ≡ a.groups → b.is_canonical ≡ a.is_canonical → b.is_open ≡ a.is_open
+      → ((q : RecGroup A) → hash.get group_equal b.known q ≡ hash.get group_equal a.known q) → IsSound b
+  sound_same a b h e c o m = record {
+    room = rw e h.room;
+    few = rw e h.few;
+    listable = rw e h.listable;
+    once = λ d. rw e (h.once (sym c ∙ d));
+    mapped = λ d p k. rw (e, m k) (h.mapped (sym c ∙ d) (sym o ∙ p) k);
+  }
+
+  -- a copy that is closed
+  pub sound_closed : (a b : Inside A) → IsSound a → b.groups ≡ a.groups → b.is_canonical ≡ a.is_canonical → b.is_open ≡ false → IsSound b
+  sound_closed a b h e c o = record {
+    room = rw e h.room;
+    few = rw e h.few;
+    listable = rw e h.listable;
+    once = λ d. rw e (h.once (sym c ∙ d));
+    mapped = λ d p k. absurd (true≢false (sym p ∙ o));
+  }
+
+  -- what the map says of a group, once the group k was put at the end
+  placed-push : (gs : List (List (SubType A))) (k q : RecGroup A) (o : Option ℕ) (b : Bool) → b ≡ group_equal k q → IsPlaceOf o gs q.types → IsPlaceOf (cond b (Some (length gs)) o) (gs ++ k.types ∷ []) q.types
+  placed-push gs k q o true e h = let same : k.types ≡ q.types = (group-exact k q).0 (sym e) in get-end gs k.types ∙ ap Some same
+  placed-push gs k q (Some n) false e h = get-left gs (k.types ∷ []) n (omega (arith, slice_get_within gs n q.types h)) ∙ h
+  placed-push gs k q None false e h = λ n f. get-push gs k.types n q.types f (h n) (λ _ same. true≢false (sym ((group-exact k q).1 same) ∙ sym e))
+
+  -- a new group, in a list that keeps equal ones once
+  pub sound_known : (a b : Inside A) (k : RecGroup A) → IsSound a → IsListable (length (all_in a.groups)) k.types → length (all_in a.groups) + length k.types ≤ MAX_IDS
+      → IsNew a.groups k.types → b.groups ≡ a.groups ++ k.types ∷ [] → b.is_canonical ≡ a.is_canonical → b.is_open ≡ a.is_open
+      → ((q : RecGroup A) → hash.get group_equal b.known q ≡ cond (group_equal k q) (Some (length a.groups)) (hash.get group_equal a.known q)) → IsSound b
+  sound_known a b k h l r n e c o m =
+      let gs = a.groups in
+      record {
+        room = rw e (omega (arith, r, ap length (all_in-push gs k.types), length-append (all_in gs) k.types));
+        few = rw e (few-new gs k.types h.few n);
+        listable = rw e (listable-push gs k.types h.listable l);
+        once = λ d. rw e (once-push gs k.types h.listable l (h.once (sym c ∙ d)) n);
+        mapped = λ d p q. rw (e, m q) (placed-push gs k q (hash.get group_equal a.known q) (group_equal k q) refl (h.mapped (sym c ∙ d) (sym o ∙ p) q));
+      }
+
+  -- a group with members, in a list of another mode
+  pub sound_own : (a b : Inside A) (k : List (SubType A)) → IsSound a → IsListable (length (all_in a.groups)) k → length (all_in a.groups) + length k ≤ MAX_IDS
+      → 0 < length k → b.groups ≡ a.groups ++ k ∷ [] → b.is_canonical ≡ false → IsSound b
+  sound_own a b k h l r n e c =
+      let gs = a.groups in
+      record {
+        room = rw e (omega (arith, r, ap length (all_in-push gs k), length-append (all_in gs) k));
+        few = rw e (few-more gs k h.few n);
+        listable = rw e (listable-push gs k h.listable l);
+        once = λ d. absurd (true≢false (sym d ∙ c));
+        mapped = λ d p q. absurd (true≢false (sym d ∙ c));
+      }
+
+  -- the map's answers
+  pub place_found : (a : Inside A) (k : RecGroup A) (n : ℕ) → IsSound a → a.is_canonical ≡ true → a.is_open ≡ true → hash.get group_equal a.known k ≡ Some n → slice_get a.groups n ≡ Some k.types
+  place_found a k n h c o e = MatchOption-at_some (IsNew a.groups k.types) (λ m. slice_get a.groups m ≡ Some k.types) n e (h.mapped c o k)
+
+  pub place_missed : (a : Inside A) (k : RecGroup A) → IsSound a → a.is_canonical ≡ true → a.is_open ≡ true → hash.get group_equal a.known k ≡ None → IsNew a.groups k.types
+  place_missed a k h c o e = MatchOption-at_none (IsNew a.groups k.types) (λ m. slice_get a.groups m ≡ Some k.types) e (h.mapped c o k)
+
+  -- what is said of a group that is found, and of one that is added
+  pub interned_found : (a : Inside A) (l : Listing A) (g : List (SubType A)) (n : ℕ) → shown a ≡ l → IsSound a → a.is_canonical ≡ true → slice_get a.groups n ≡ Some g → Interns l l g false n × InternsTypes l l g false n
+  interned_found a l g n e h c f =
+      let P : Listing A → Type 0 = λ l. Interns l l g false n × InternsTypes l l g false n in
+      subst P e (
+        record { mode = λ _. c; known = λ _. refl; there = λ _. f; added = λ w. absurd (true≢false (sym w)); last = λ w. absurd (true≢false (sym w)); absent = λ w. absurd (true≢false (sym w)) },
+        types-known (shown a) g n h.listable c f,
+      )
+
+  pub interned_new : (a b : Inside A) (l : Listing A) (g : List (SubType A)) → shown a ≡ l → IsSound a → IsListable (length (types_in l)) g
+      → b.groups ≡ a.groups ++ g ∷ [] → b.is_canonical ≡ a.is_canonical → b.is_open ≡ a.is_open → (a.is_canonical ≡ true → IsNew a.groups g)
+      → Interns l (shown b) g true (length a.groups) × InternsTypes l (shown b) g true (length a.groups)
+  interned_new a b l g e h k f c o n =
+      let P : Listing A → Type 0 = λ l. IsListable (length (types_in l)) g → Interns l (shown b) g true (length a.groups) × InternsTypes l (shown b) g true (length a.groups) in
+      subst P e
+      (λ next. (
+        record {
+          mode = λ w. absurd (true≢false w);
+          known = λ w. absurd (true≢false w);
+          there = λ w. absurd (true≢false w);
+          added = λ _ i. record { is_canonical = c i; is_open = o i; groups = f i };
+          last = λ _. refl;
+          absent = λ _ d. n d;
+        },
+        types-new (shown a) (shown b) g f h.listable next (λ d. ((h.once d).types, n d)),
+      ))
+      k
+
+  pub interned_own : (a b : Inside A) (l : Listing A) (g : List (SubType A)) → shown a ≡ l → IsSound a → IsListable (length (types_in l)) g
+      → b.groups ≡ a.groups ++ g ∷ [] → b.is_canonical ≡ a.is_canonical → b.is_open ≡ a.is_open → a.is_canonical ≡ false
+      → Interns l (shown b) g true (length a.groups) × InternsTypes l (shown b) g true (length a.groups)
+  interned_own a b l g e h k f c o off = interned_new a b l g e h k f c o (λ on. absurd (true≢false (sym on ∙ off)))
+
+  -- the ids of a group fit
+  pub span_room : (a : Inside A) (k : ℕ) (ids : Range CoreTypeId) → IsSound a → ids ≡ span (first_of a.groups k) (first_of a.groups (k + 1)) → (ids.start.index ≤ MAX_IDS) × (ids.end.index ≤ MAX_IDS)
+  span_room a k ids h e =
+      let from : ids.start.index ≡ first_of a.groups k = ap (λ (r : Range CoreTypeId). r.start.index) e in
+      let end : ids.end.index ≡ first_of a.groups (k + 1) = ap (λ (r : Range CoreTypeId). r.end.index) e in
+      (omega (arith, from, first_of-within a.groups k, h.room), omega (arith, end, first_of-within a.groups (k + 1), h.room))
+
+  -- the supertype of a type that is there
+  type_there : (gs : List (List (SubType A))) (k place : ℕ) (ty : SubType A) → IsInGroup gs k place → ty ≡ slice_index_or (all_in gs) place ty → slice_get (all_in gs) place ≡ Some ty
+  type_there gs k place ty h e = let l : place < length (all_in gs) = omega (arith, h.below, first_of-within gs (k + 1)) in slice_get-get_or (all_in gs) place ty l ∙ ap Some (sym e)
+
+  pub supertype_no_module : (a : Inside A) (k place : ℕ) (ty : SubType A) (supers : List PackedIndex) (p : PackedIndex) (u : UnpackedIndex) → IsSound a → IsInGroup a.groups k place
+      → ty ≡ slice_index_or (all_in a.groups) place ty → supers ≡ ty.supertype_idxs → Some p ≡ slice_get supers 0 → u ≡ p.unpacked → module_of u ≡ None
+  supertype_no_module a k place ty supers p u h in_group e f g u_is =
+      ap module_of u_is ∙ supertype_listed a.groups k place ty p h.listable in_group (type_there a.groups k place ty in_group e) (ap (λ l. slice_get l 0) (sym f) ∙ sym g)
+
+  pub supertype_some : (a : Inside A) (l : Listing A) (k place : ℕ) (ty : SubType A) (supers : List PackedIndex) (p : PackedIndex) (u : UnpackedIndex) (ids : Range CoreTypeId) (r : CoreTypeId) → shown a ≡ l → IsInGroup a.groups k place
+      → ty ≡ slice_index_or (all_in a.groups) place ty → supers ≡ ty.supertype_idxs → Some p ≡ slice_get supers 0 → u ≡ p.unpacked
+      → ids ≡ span (first_of a.groups k) (first_of a.groups (k + 1)) → r.index ≡ leads_to ids.start.index u → IsSupertypeAt l.groups place (Some r)
+  supertype_some a l k place ty supers p u ids r view in_group e f g u_is ids_is r_is =
+      subst (λ (m : Listing A). IsSupertypeAt m.groups place (Some r)) view (record {
+        group = k;
+        ty = ty;
+        in_group = in_group;
+        there = type_there a.groups k place ty in_group e;
+        leads = ap Some (r_is ∙ ap (λ (q : Range CoreTypeId). leads_to q.start.index u) ids_is ∙ ap (leads_to (first_of a.groups k)) u_is) ∙ ap (option_map (λ (q : PackedIndex). leads_to (first_of a.groups k) q.unpacked)) (g ∙ ap (λ m. slice_get m 0) f);
+      })
+
+  pub supertype_none : (a : Inside A) (l : Listing A) (k place : ℕ) (ty : SubType A) (supers : List PackedIndex) → shown a ≡ l → IsInGroup a.groups k place
+      → ty ≡ slice_index_or (all_in a.groups) place ty → supers ≡ ty.supertype_idxs → None ≡ slice_get supers 0 → IsSupertypeAt l.groups place None
+  supertype_none a l k place ty supers view in_group e f g =
+      subst (λ (m : Listing A). IsSupertypeAt m.groups place None) view (record {
+        group = k;
+        ty = ty;
+        in_group = in_group;
+        there = type_there a.groups k place ty in_group e;
+        leads = ap (option_map (λ (q : PackedIndex). leads_to (first_of a.groups k) q.unpacked)) (g ∙ ap (λ m. slice_get m 0) f);
+      })

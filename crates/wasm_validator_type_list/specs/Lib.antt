@@ -1,0 +1,12 @@
+pub mod Groups
+pub mod Spans
+pub mod Flat
+pub mod Listing
+pub mod Listable
+pub mod Standing
+pub mod Interned
+pub mod Sound
+pub mod Refused
+pub mod Lookups
+pub mod Sizes
+pub mod Elements

@@ -1,0 +1,29 @@
+-- Where references in a list lead.
+use Rattle.std.specs.Prelude.{ℕ, ◌≡◌, ◌+◌, ◌<◌, ⊤, List, slice_get, Option, option_map}
+use Rattle.std.specs.declared.option.Option.TheVariants.{Some}
+use Rattle.wasm_readers_types.specs.declared.indices.CoreTypeId.{CoreTypeId}
+use Rattle.wasm_readers_types.specs.declared.indices.PackedIndex.{PackedIndex}
+use Rattle.wasm_readers_types.specs.declared.indices.UnpackedIndex.{UnpackedIndex}
+use Rattle.wasm_readers_types.specs.declared.indices.UnpackedIndex.TheVariants.{Module, RecGroup, Id}
+use Rattle.wasm_readers_types.specs.declared.types.SubType.{SubType}
+use Rattle.wasm_validator_type_list.specs.Groups.{all_in, first_of, IsInGroup}
+
+-- the number of the id that a reference in a group leads to, where the group's first id has this number; a module's index isn't in lists
+abbrev pub leads_to : ℕ → UnpackedIndex → ℕ
+leads_to start (Module i) = i
+leads_to start (RecGroup i) = start + i
+leads_to start (Id id) = id.index
+
+-- the reference leads to an id, where the group's ids have the numbers from start to below end
+abbrev pub Leads : ℕ → ℕ → UnpackedIndex → Type 0
+Leads start end (Module i) = ⊥
+Leads start end (RecGroup i) = start + i < end
+Leads start end (Id id) = ⊤
+
+-- it is the supertype of the type with this id, or there is none
+pub record IsSupertypeAt {A : Type 0} (gs : List (List (SubType A))) (place : ℕ) (supertype : Option CoreTypeId) : Type 0 where
+  pub group : ℕ
+  pub ty : SubType A
+  pub in_group : IsInGroup gs group place
+  pub there : slice_get (all_in gs) place ≡ Some ty
+  pub leads : option_map (λ (id : CoreTypeId). id.index) supertype ≡ option_map (λ (p : PackedIndex). leads_to (first_of gs group) p.unpacked) (slice_get ty.supertype_idxs 0)

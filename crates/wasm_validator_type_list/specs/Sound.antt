@@ -1,0 +1,30 @@
+-- What is always true of a list of types.
+use Rattle.std.specs.Prelude.{ℕ, suc, ◌≡◌, ◌≤◌, true, List, [], ◌∷◌, length}
+use Rattle.std.specs.HashMap as hash
+use Rattle.wasm_readers_types.specs.declared.indices.TheConstants.{MAX_IDS}
+use Rattle.wasm_readers_types.specs.declared.types.RecGroup.{RecGroup}
+use Rattle.wasm_readers_types.specs.TypesExact.{group_equal}
+use Rattle.wasm_validator_type_list.specs.declared.type_list.TypeList.TheInside.{Inside}
+use Rattle.wasm_validator_type_list.specs.Groups.{all_in}
+use Rattle.wasm_validator_type_list.specs.Listing.{Listing}
+use Rattle.wasm_validator_type_list.specs.Listable.{AreListable}
+use Rattle.wasm_validator_type_list.specs.Interned.{IsPlaceOf, AreOnce}
+
+-- how many of the groups have no members
+abbrev pub count_of_empty : {X : Type 0} → List (List X) → ℕ
+count_of_empty [] = 0
+count_of_empty ([] ∷ gs) = suc (count_of_empty gs)
+count_of_empty ((x ∷ xs) ∷ gs) = count_of_empty gs
+
+module _ {A : Type 0} where
+  abbrev pub shown : Inside A → Listing A
+  shown a = record { is_canonical = a.is_canonical; is_open = a.is_open; groups = a.groups }
+
+  -- each id fits a packed index, at most one group is empty, references are known, and where equal groups are kept
+  -- once the map of an open list finds each group by its sub types
+  pub record IsSound (a : Inside A) : Type 0 where
+    pub room : length (all_in a.groups) ≤ MAX_IDS
+    pub few : count_of_empty a.groups ≤ 1
+    pub listable : AreListable a.groups
+    pub once : a.is_canonical ≡ true → AreOnce a.groups
+    pub mapped : a.is_canonical ≡ true → a.is_open ≡ true → (k : RecGroup A) → IsPlaceOf (hash.get group_equal a.known k) a.groups k.types

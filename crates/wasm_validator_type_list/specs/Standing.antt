@@ -1,0 +1,42 @@
+-- The types that the ids of a list stand for.
+use Rattle.std.specs.Prelude.{ℕ, ◌≡◌, ◌+◌, ◌<◌, Bool, List, map, length, take, slice_get}
+use Rattle.std.specs.declared.option.Option.TheVariants.{Some}
+use Rattle.wasm_spec.specs.Syntax.{Sub, map_sub}
+use Rattle.wasm_spec.specs.Trees.{RecTree, DefType}
+use Rattle.wasm_spec.specs.TypeLists.{ListedUse, by_id, by_position, listed_tree, types_of}
+use Rattle.wasm_readers_types.specs.declared.indices.UnpackedIndex.{UnpackedIndex}
+use Rattle.wasm_readers_types.specs.declared.indices.UnpackedIndex.TheVariants.{Module, RecGroup, Id}
+use Rattle.wasm_readers_types.specs.declared.types.SubType.{SubType}
+use Rattle.wasm_readers_types.specs.SeenTypes.{sub_of}
+
+-- a reference in a group of a list; a module's index isn't in lists
+abbrev pub listed_ref : UnpackedIndex → ListedUse
+listed_ref (Module i) = by_position i
+listed_ref (RecGroup i) = by_position i
+listed_ref (Id id) = by_id id.index
+
+module _ {A : Type 0} where
+  abbrev pub listed_sub : SubType A → Sub ListedUse
+  listed_sub s = map_sub listed_ref (sub_of s)
+
+  abbrev pub listed_group : List (SubType A) → List (Sub ListedUse)
+  listed_group g = map listed_sub g
+
+  -- what the ids stand for, in their order, where equal types are one or each has its place
+  abbrev pub standing : Bool → List (List (SubType A)) → List DefType
+  standing is_canonical gs = types_of is_canonical (map listed_group gs)
+
+  -- the recursive type that a group behind these is
+  abbrev pub tree_behind : Bool → List (List (SubType A)) → List (SubType A) → RecTree
+  tree_behind is_canonical gs g = listed_tree is_canonical (standing is_canonical gs) (listed_group g)
+
+  -- one of the groups is this recursive type
+  pub record IsTreeOfOne (is_canonical : Bool) (gs : List (List (SubType A))) (t : RecTree) : Type 0 where
+    pub place : ℕ
+    pub members : List (SubType A)
+    pub there : slice_get gs place ≡ Some members
+    pub tree : tree_behind is_canonical (take place gs) members ≡ t
+
+  -- from this id on, an id for each member of a group stands for that member's place in a recursive type
+  abbrev pub StandFor : List DefType → ℕ → List (SubType A) → RecTree → Type 0
+  StandFor ts start g t = (i : ℕ) → i < length g → slice_get ts (start + i) ≡ Some (record { tree = t; position = i })

@@ -1,0 +1,305 @@
+ghost use Rattle.std.specs.Prelude.{◌≡◌, ◌+◌, ◌<◌, ◌≤◌, true, length, slice_index_or, IfOk, IfErr, IfSome, IsOk, IsSome, IsTrue, ◌↔◌};
+ghost use Rattle.std.specs.declared.option.Option.TheVariants.{None};
+ghost use Rattle.wasm_readers_types.specs.Indices.{number_of, module_of};
+ghost use Rattle.wasm_readers_types.specs.declared.indices.TheConstants.{MAX_IDS};
+ghost use Rattle.wasm_validator_type_list.specs.Groups.{first_of, IsInGroup};
+ghost use Rattle.wasm_validator_type_list.specs.Spans.{spans_of};
+ghost use Rattle.wasm_validator_type_list.specs.Elements.{ids_left, ids_of_group};
+ghost use Rattle.wasm_validator_type_list.specs.Refused.{not_in_group};
+ghost use Rattle.wasm_validator_type_list.specs.Lookups.{leads_to, Leads};
+
+use crate::elements::RecGroupElements;
+use crate::group_id::RecGroupId;
+use crate::grouped_list::GroupedList;
+use std::alloc::{AllocError, Allocator, Global};
+use std::collections::HashMap;
+use std::hash::{BuildHasherDefault, FoldHasher};
+use std::marker::Model;
+use std::ops::{Index, Range};
+use wasm_readers_errors::{Fault, Refusal};
+use wasm_readers_types::{CoreTypeId, PackedIndex, RecGroup, SubType, UnpackedIndex};
+
+mod interning;
+
+/// The number of each group, found by its sub types.
+type KnownGroups<A> = HashMap<RecGroup<A>, u32, BuildHasherDefault<FoldHasher>, A>;
+
+/// The types of all modules that one validator has seen, in recursion groups, each type under its
+/// id. A contract sees the mode of the list, whether groups may be added, and the sub types of each
+/// group in order; an id is a place in the list of all types.
+///
+/// Where the list is canonical equal groups are kept once, so that no two ids stand for one type.
+#[derive(Drop)]
+pub struct TypeList<A: Allocator = Global> {
+    groups: GroupedList<SubType<A>, A>,
+    known: KnownGroups<A>,
+    is_canonical: bool,
+    is_open: bool,
+    alloc: A,
+}
+
+impl<A: Allocator> Model for TypeList<A> {
+    ghost use Rattle.wasm_validator_type_list.specs.Listing.{Listing};
+
+    ghost Value = { Listing A };
+
+    ghost use Rattle.wasm_validator_type_list.specs.Sound.{shown, IsSound};
+
+    ghost view = { shown };
+
+    ghost invariant = { IsSound };
+}
+
+impl<A: Allocator + Copy> TypeList<A> {
+    ghost use Rattle.wasm_validator_type_list.specs.Listing.{no_groups, types_in, closed};
+    ghost use Rattle.wasm_validator_type_list.specs.Listable.{AreListable};
+    ghost use Rattle.wasm_validator_type_list.specs.Interned.{AreOnce};
+    ghost use Rattle.wasm_validator_type_list.specs.Lookups.{IsSupertypeAt};
+
+    /// The list of no groups, to which groups may be added. It takes no memory until then.
+    pub fn new(alloc: A, is_canonical: bool) -> TypeList<A>
+        ensures { result ≡ no_groups is_canonical }
+    {
+        TypeList {
+            groups: GroupedList::new(alloc),
+            known: HashMap::new(alloc),
+            is_canonical,
+            is_open: true,
+            alloc,
+        }
+    }
+
+    /// Whether equal groups are kept once. Then no group is there twice, and no two ids stand for
+    /// one type.
+    pub fn is_canonical(&self) -> bool
+        ensures mode { result ≡ self.now.is_canonical }
+        ensures once { IsTrue result → AreOnce self.now.groups }
+    {
+        self.is_canonical
+    }
+
+    /// Whether groups may be added.
+    pub fn is_open(&self) -> bool
+        ensures { result ≡ self.now.is_open }
+    {
+        self.is_open
+    }
+
+    /// The number of types. Each type refers to types before it, or to those of its group.
+    pub fn len(&self) -> usize
+        ensures count { result ≡ length (types_in self.now) }
+        ensures room { result ≤ MAX_IDS }
+        ensures listable { AreListable self.now.groups }
+    {
+        self.groups.item_count()
+    }
+
+    /// Whether there is no type.
+    pub fn is_empty(&self) -> bool
+        ensures { IsTrue result ↔ (length (types_in self.now) ≡ 0) }
+    {
+        self.groups.item_count() == 0
+    }
+
+    /// The number of groups.
+    pub fn rec_group_count(&self) -> usize
+        ensures { result ≡ length self.now.groups }
+    {
+        self.groups.group_count()
+    }
+
+    /// The type with this id, if there is one.
+    pub fn get(&self, id: CoreTypeId) -> Option<&SubType<A>>
+        ensures found { IfSome result (λ ty. ty.now ≡ slice_index_or (types_in self.now) id.index ty.now) }
+        ensures when { IsSome result ↔ (id.index < length (types_in self.now)) }
+    {
+        self.groups.get(id.index())
+    }
+
+    /// All types, in the order of their ids.
+    pub fn types(&self) -> &[SubType<A>]
+        ensures { result.now ≡ types_in self.now }
+    {
+        self.groups.items()
+    }
+
+    /// The ids of the types of each group, in the order of the groups' ids.
+    pub fn rec_groups(&self) -> &[Range<CoreTypeId>]
+        ensures { result.now ≡ spans_of self.now.groups }
+    {
+        self.groups.spans()
+    }
+
+    /// The id of the group that the type is in.
+    pub fn rec_group_id_of(&self, id: CoreTypeId) -> RecGroupId
+        requires { id.index < length (types_in self.now) }
+        ensures { IsInGroup self.now.groups result.index id.index }
+    {
+        RecGroupId::from_index(self.groups.group_at(id.index()))
+    }
+
+    /// The ids of the types of the group, in order.
+    pub fn rec_group_elements(&self, group: RecGroupId) -> RecGroupElements
+        requires { group.index < length self.now.groups }
+        ensures { ids_left result ≡ ids_of_group self.now.groups group.index }
+    {
+        RecGroupElements::new(self.groups.members(group.index()))
+    }
+
+    /// The id of the type at position `index` of the group. `offset` is where the reference stands
+    /// in the input.
+    ///
+    /// # Errors
+    ///
+    /// Refused where the group has no such position.
+    pub fn rec_group_local_id(
+        &self,
+        group: RecGroupId,
+        index: u32,
+        offset: u64,
+    ) -> Result<CoreTypeId, Refusal>
+        requires { group.index < length self.now.groups }
+        ensures id { IfOk result (λ id. id.index ≡ first_of self.now.groups group.index + index) }
+        ensures inside { IsOk result ↔ (first_of self.now.groups group.index + index < first_of self.now.groups (group.index + 1)) }
+        ensures err { IfErr result (λ e. e ≡ not_in_group index offset) }
+    {
+        local_id(self.groups.members(group.index()), index, offset)
+    }
+
+    /// The id that a reference in the group leads to. It is no module's index. `offset` is where the
+    /// reference stands in the input.
+    ///
+    /// # Errors
+    ///
+    /// Refused where it is a position that the group doesn't have.
+    pub fn at_canonicalized_unpacked_index(
+        &self,
+        group: RecGroupId,
+        index: UnpackedIndex,
+        offset: u64,
+    ) -> Result<CoreTypeId, Refusal>
+        requires group { group.index < length self.now.groups }
+        requires not_module { module_of index ≡ None }
+        ensures id { IfOk result (λ id. id.index ≡ leads_to (first_of self.now.groups group.index) index) }
+        ensures leads { IsOk result ↔ Leads (first_of self.now.groups group.index) (first_of self.now.groups (group.index + 1)) index }
+        ensures err { IfErr result (λ e. e ≡ not_in_group (number_of index) offset) }
+    {
+        match index {
+            UnpackedIndex::Id(id) => Ok(id),
+            UnpackedIndex::RecGroup(position) => self.rec_group_local_id(group, position, offset),
+            UnpackedIndex::Module(_) => unreachable!(),
+        }
+    }
+
+    /// The same of a packed reference.
+    ///
+    /// # Errors
+    ///
+    /// Refused where it is a position that the group doesn't have.
+    pub fn at_canonicalized_packed_index(
+        &self,
+        group: RecGroupId,
+        index: PackedIndex,
+        offset: u64,
+    ) -> Result<CoreTypeId, Refusal>
+        requires group { group.index < length self.now.groups }
+        requires not_module { module_of index.unpacked ≡ None }
+        ensures id { IfOk result (λ id. id.index ≡ leads_to (first_of self.now.groups group.index) index.unpacked) }
+        ensures leads { IsOk result ↔ Leads (first_of self.now.groups group.index) (first_of self.now.groups (group.index + 1)) index.unpacked }
+        ensures err { IfErr result (λ e. e ≡ not_in_group (number_of index.unpacked) offset) }
+    {
+        self.at_canonicalized_unpacked_index(group, index.unpack(), offset)
+    }
+
+    /// The id of the type that the type with this id extends, if it extends one.
+    pub fn supertype_of(&self, id: CoreTypeId) -> Option<CoreTypeId>
+        requires { id.index < length (types_in self.now) }
+        ensures { IsSupertypeAt self.now.groups id.index result }
+    {
+        let place = id.index();
+        let ids = self.groups.members(self.groups.group_at(place) as usize);
+        let ty = self.groups.at(place);
+        match ty.supertype_idxs.as_slice().first() {
+            Some(index) => Some(id_from(ids.start, index.unpack())),
+            None => None,
+        }
+    }
+
+    /// A list of its own with the groups of this one, to which none may be added. This one stays as
+    /// it was.
+    pub fn commit(&mut self) -> Result<TypeList<A>, AllocError>
+        ensures same { self.new ≡ self.old }
+        ensures copy { IfOk result (λ copy. copy ≡ closed self.old) }
+    {
+        let groups = self.groups.commit()?;
+        Ok(TypeList {
+            groups,
+            known: HashMap::new(self.alloc),
+            is_canonical: self.is_canonical,
+            is_open: false,
+            alloc: self.alloc,
+        })
+    }
+}
+
+/// The id at a position in a group with these ids.
+fn local_id(ids: &Range<CoreTypeId>, index: u32, offset: u64) -> Result<CoreTypeId, Refusal>
+    requires start { ids.now.start.index ≤ MAX_IDS }
+    requires end { ids.now.end.index ≤ MAX_IDS }
+    ensures id { IfOk result (λ id. id.index ≡ ids.now.start.index + index) }
+    ensures inside { IsOk result ↔ (ids.now.start.index + index < ids.now.end.index) }
+    ensures err { IfErr result (λ e. e ≡ not_in_group index offset) }
+{
+    let place = ids.start.index() + index as usize;
+    if place < ids.end.index() {
+        Ok(CoreTypeId::from_index(place as u32))
+    } else {
+        Err(Refusal::new(Fault::UnknownType(index), offset))
+    }
+}
+
+/// The id that a reference leads to in a group that begins with this id.
+fn id_from(start: CoreTypeId, index: UnpackedIndex) -> CoreTypeId
+    requires not_module { module_of index ≡ None }
+    requires room { start.index + number_of index ≤ MAX_IDS + MAX_IDS }
+    ensures { result.index ≡ leads_to start.index index }
+{
+    match index {
+        UnpackedIndex::Id(id) => id,
+        UnpackedIndex::RecGroup(position) => {
+            CoreTypeId::from_index(start.index() as u32 + position)
+        }
+        UnpackedIndex::Module(_) => unreachable!(),
+    }
+}
+
+impl<A: Allocator + Copy> Index<CoreTypeId> for TypeList<A> {
+    type Output = SubType<A>;
+
+    ghost use Rattle.std.specs.Prelude.{◌≡◌, ◌<◌, length, slice_index_or};
+    ghost use Rattle.wasm_validator_type_list.specs.Listing.{types_in};
+
+    ghost can_index = { λ list id. id.index < length (types_in list) };
+
+    ghost index_gives = { λ list id ty. ty ≡ slice_index_or (types_in list) id.index ty };
+
+    fn index(&self, id: CoreTypeId) -> &SubType<A> {
+        self.groups.at(id.index())
+    }
+}
+
+impl<A: Allocator + Copy> Index<RecGroupId> for TypeList<A> {
+    type Output = Range<CoreTypeId>;
+
+    ghost use Rattle.std.specs.Prelude.{◌≡◌, ◌<◌, ◌+◌, length};
+    ghost use Rattle.wasm_validator_type_list.specs.Groups.{first_of};
+    ghost use Rattle.wasm_validator_type_list.specs.Spans.{span};
+
+    ghost can_index = { λ list group. group.index < length list.groups };
+
+    ghost index_gives = { λ list group ids. ids ≡ span (first_of list.groups group.index) (first_of list.groups (group.index + 1)) };
+
+    fn index(&self, group: RecGroupId) -> &Range<CoreTypeId> {
+        self.groups.members(group.index())
+    }
+}
