@@ -1,0 +1,14 @@
+pub mod Opcodes
+pub mod Numeric
+pub mod Immediates
+pub mod Refusals
+pub mod Calls
+pub mod Variables
+pub mod Tables
+pub mod Memories
+pub mod Constants
+pub mod References
+pub mod SeenReferences
+pub mod Conversions
+pub mod Structs
+pub mod Arrays

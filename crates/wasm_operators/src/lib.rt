@@ -1,0 +1,24 @@
+//! Operators of WebAssembly and their reading.
+#![tactic(auto)]
+
+mod arrays;
+mod calls;
+mod constants;
+mod conversions;
+mod memories;
+mod numeric;
+mod references;
+mod structs;
+mod tables;
+mod variables;
+
+pub use arrays::ArrayOperator;
+pub use calls::CallOperator;
+pub use constants::{ConstantOperator, Ieee32, Ieee64, V128};
+pub use conversions::ConversionOperator;
+pub use memories::{BulkMemoryOperator, MemArg, MemoryOperator, read_memarg};
+pub use numeric::{NumericOperator, SaturatingOperator};
+pub use references::{CastOperator, ReferenceOperator};
+pub use structs::StructOperator;
+pub use tables::TableOperator;
+pub use variables::VariableOperator;
