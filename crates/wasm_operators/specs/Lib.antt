@@ -10,5 +10,8 @@ pub mod Constants
 pub mod References
 pub mod SeenReferences
 pub mod Conversions
+pub mod SeenLists
+pub mod Control
+pub mod SeenControl
 pub mod Structs
 pub mod Arrays

@@ -4,7 +4,9 @@
 mod arrays;
 mod calls;
 mod constants;
+mod control;
 mod conversions;
+mod lists;
 mod memories;
 mod numeric;
 mod references;
@@ -15,7 +17,12 @@ mod variables;
 pub use arrays::ArrayOperator;
 pub use calls::CallOperator;
 pub use constants::{ConstantOperator, Ieee32, Ieee64, V128};
+pub use control::{
+    BlockType, BrTable, Catch, ControlOperator, FrameKind, ParametricOperator, TryTable,
+    read_block_type,
+};
 pub use conversions::ConversionOperator;
+pub use lists::{Immediate, Listed};
 pub use memories::{BulkMemoryOperator, MemArg, MemoryOperator, read_memarg};
 pub use numeric::{NumericOperator, SaturatingOperator};
 pub use references::{CastOperator, ReferenceOperator};
