@@ -15,3 +15,5 @@ pub mod Control
 pub mod SeenControl
 pub mod Structs
 pub mod Arrays
+pub mod Instructions
+pub mod SeenOperators
