@@ -17,3 +17,4 @@ pub mod Structs
 pub mod Arrays
 pub mod Instructions
 pub mod SeenOperators
+pub mod Expressions

@@ -6,6 +6,7 @@ mod calls;
 mod constants;
 mod control;
 mod conversions;
+mod expressions;
 mod lists;
 mod memories;
 mod numeric;
@@ -23,6 +24,7 @@ pub use control::{
     read_block_type,
 };
 pub use conversions::ConversionOperator;
+pub use expressions::{Nesting, nesting_of, read_expression};
 pub use lists::{Immediate, Listed};
 pub use memories::{BulkMemoryOperator, MemArg, MemoryOperator, read_memarg};
 pub use numeric::{NumericOperator, SaturatingOperator};
