@@ -1,23 +1,37 @@
 -- What reading of lists keeps.
-use Rattle.std.proofs.Common.{◌≡◌, refl, sym, ap, ℕ, zero, suc, ◌-◌, ◌<◌, List, [], ◌∷◌, Option, Some, None, arith}
-use Rattle.std.specs.Option.{option_map}
+use Rattle.std.proofs.Common.{◌≡◌, refl, sym, ap, ◌∙◌, ℕ, zero, suc, ◌-◌, ◌<◌, List, [], ◌∷◌, Option, Some, None, arith}
+use Rattle.std.specs.Option.{option_map, option_and_then}
 use Rattle.wasm_spec.specs.Values.{u32_at, many_at, list_at}
-use Rattle.wasm_operators.specs.SeenLists.{items_in, behind}
+use Rattle.wasm_operators.specs.SeenLists.{begun_by, first_items, GivesFront, behind}
 
-whole : {V : Type 0} (o : Option (List V × List ℕ)) (more : List ℕ) → behind o ≡ Some more → o ≡ Some (items_in o, more)
-whole None more e = cc
-whole (Some x) more e = let same : x.1 ≡ more = cc in ap (λ (m : List ℕ). Some (x.0, m)) same
+-- what is read behind an item, with that item
+abbrev pub starting : {V : Type 0} → V → Option (List V × List ℕ) → Option (List V × List ℕ)
+starting v o = option_map (λ xs. (v ∷ xs.0, xs.1)) o
+
+abbrev pub joined : {V : Type 0} → (List ℕ → Option (List V × List ℕ)) → Option (V × List ℕ) → Option (List V × List ℕ)
+joined go o = option_and_then (λ x. starting x.0 (go x.1)) o
+
+-- an item before the others moves none of the bytes behind
+still : {V : Type 0} (v : V) (o : Option (List V × List ℕ)) → behind o ≡ behind (starting v o)
+still v None = refl
+still v (Some x) = refl
+
+-- where a list is read its items are the first ones
+begun : {V : Type 0} (go : List ℕ → Option (List V × List ℕ)) (others : List ℕ → List V) (more : List ℕ) (o : Option (V × List ℕ))
+    → ((b : List ℕ) → behind (go b) ≡ Some more → go b ≡ Some (others b, more)) → behind (joined go o) ≡ Some more → joined go o ≡ Some (begun_by others o, more)
+begun go others more None h e = cc
+begun {V} go others more (Some x) h e = let all : go x.1 ≡ Some (others x.1, more) = h x.1 (still x.0 (go x.1) ∙ e) in ap (λ (o : Option (List V × List ℕ)). starting x.0 o) all
+
+first : {V : Type 0} (encoded : List ℕ → Option (V × List ℕ)) (n : ℕ) (bytes more : List ℕ) → behind (many_at encoded n bytes) ≡ Some more → many_at encoded n bytes ≡ Some (first_items encoded n bytes, more)
+first encoded zero bytes more e = let same : bytes ≡ more = cc in ap (λ (m : List ℕ). Some ([], m)) same
+first encoded (suc n) bytes more e = begun (λ b. many_at encoded n b) (λ b. first_items encoded n b) more (encoded bytes) (λ b h. first encoded n b more h) e
 
 -- a list is its count and its items
 pub list_of_items : {V : Type 0} (encoded : List ℕ → Option (V × List ℕ)) (bytes : List ℕ) (n : ℕ) (items more : List ℕ)
-    → u32_at bytes ≡ Some (n, items) → behind (many_at encoded n items) ≡ Some more → list_at encoded bytes ≡ Some (items_in (many_at encoded n items), more)
-list_of_items encoded bytes n items more e h = rw e (whole (many_at encoded n items) more h)
+    → u32_at bytes ≡ Some (n, items) → behind (many_at encoded n items) ≡ Some more → list_at encoded bytes ≡ Some (first_items encoded n items, more)
+list_of_items encoded bytes n items more e h = rw e (first encoded n items more h)
 
 pub ruleset list_laws = (list_of_items)
-
-still : {V : Type 0} (v : V) (o : Option (List V × List ℕ)) → behind o ≡ behind (option_map (λ xs. (v ∷ xs.0, xs.1)) o)
-still v None = refl
-still v (Some x) = refl
 
 -- one item read
 pub one_less : {V : Type 0} (encoded : List ℕ → Option (V × List ℕ)) (left : ℕ) (bytes after : List ℕ) (v : V)
@@ -27,12 +41,16 @@ one_less encoded (suc n) bytes after v h e =
     let back : suc n - 1 ≡ n = omega arith in
     rw (back, e) (still v (many_at encoded n after))
 
-nothing_behind : {V : Type 0} (o : Option (List V × List ℕ)) → behind o ≡ None → o ≡ None
-nothing_behind None e = refl
-nothing_behind (Some x) e = cc
+-- the first item is given, and the others are left
+pub first_given : {V : Type 0} (encoded : List ℕ → Option (V × List ℕ)) (count : ℕ) (bytes after : List ℕ) (v : V)
+    → 0 < count → encoded bytes ≡ Some (v, after) → GivesFront (first_items encoded count bytes) (Some v) (first_items encoded (count - 1) after)
+first_given encoded zero bytes after v h e = absurd (omega arith)
+first_given encoded (suc n) bytes after v h e = let back : suc n - 1 ≡ n = omega arith in rw (back, e) (refl, refl)
 
--- nothing is read where the next item is refused
-pub none_less : {V : Type 0} (encoded : List ℕ → Option (V × List ℕ)) (left : ℕ) (bytes : List ℕ) (o : Option (List V × List ℕ))
-    → 0 < left → encoded bytes ≡ None → behind (many_at encoded left bytes) ≡ behind o → o ≡ None
-none_less encoded zero bytes o h e b = absurd (omega arith)
-none_less encoded (suc n) bytes o h e b = let none : behind o ≡ None = rw e at (sym b) in nothing_behind o none
+-- nothing is given where none is encoded
+pub none_given : {V : Type 0} (encoded : List ℕ → Option (V × List ℕ)) (count : ℕ) (bytes : List ℕ)
+    → encoded bytes ≡ None → GivesFront (first_items encoded count bytes) None []
+none_given encoded zero bytes e = (refl, refl)
+none_given encoded (suc n) bytes e = rw e (refl, refl)
+
+pub ruleset next_laws = (first_given, none_given)

@@ -10,7 +10,7 @@ use wasm_readers_errors::{Fault, Malformed, Refusal};
 
 /// Operators on arrays (Core Specification 3.0, Binary Format, Instructions, Aggregate
 /// Instructions).
-#[derive(Clone, Copy, PartialEq, Eq, Debug)]
+#[derive(Clone, Copy, Debug)]
 pub enum ArrayOperator {
     ArrayNew {
         array_type_index: u32,

@@ -10,7 +10,7 @@ use wasm_readers_errors::{Fault, Malformed, Refusal};
 
 /// Calls and tail calls (Core Specification 3.0, Binary Format, Instructions, Control
 /// Instructions).
-#[derive(Clone, Copy, PartialEq, Eq, Debug)]
+#[derive(Clone, Copy, Debug)]
 pub enum CallOperator {
     Call { function_index: u32 },
     CallIndirect { type_index: u32, table_index: u32 },

@@ -25,7 +25,7 @@ pub use control::{
 };
 pub use conversions::ConversionOperator;
 pub use expressions::{Nesting, nesting_of, read_expression};
-pub use lists::{Immediate, Listed};
+pub use lists::{Immediate, Listed, ListedItems};
 pub use memories::{BulkMemoryOperator, MemArg, MemoryOperator, read_memarg};
 pub use numeric::{NumericOperator, SaturatingOperator};
 pub use operators::{Operator, read_operator};

@@ -3,7 +3,7 @@
 ghost use Rattle.std.specs.Prelude.{◌≡◌, ◌≤◌, ◌<◌, ℕ, List, Option, Some, None, IfOk, IfErr, OnOk, OnErr, length};
 ghost use Rattle.wasm_spec.specs.Values.{list_at, many_at, u32_at};
 ghost use Rattle.wasm_readers.specs.Reader.{SameInput, position_in, rest, RefusedFrom};
-ghost use Rattle.wasm_operators.specs.SeenLists.{listed, behind};
+ghost use Rattle.wasm_operators.specs.SeenLists.{listed, items_left, behind};
 
 use std::marker::PhantomData;
 use wasm_readers::BinaryReader;
@@ -47,6 +47,58 @@ pub struct Listed<'a, T> {
     reader: BinaryReader<'a>,
     count: u32,
     of: PhantomData<T>,
+}
+
+impl<'a, T: Immediate<'a>> Listed<'a, T> {
+    /// The items in order.
+    pub fn items(&self) -> ListedItems<'a, T>
+        ensures { items_left T.encoded result ≡ listed T.encoded self.now }
+    {
+        ListedItems {
+            reader: self.reader,
+            count: self.count,
+            of: PhantomData,
+        }
+    }
+}
+
+/// The items of a list that are left.
+#[derive(Debug, Drop)]
+pub struct ListedItems<'a, T> {
+    reader: BinaryReader<'a>,
+    count: u32,
+    of: PhantomData<T>,
+}
+
+impl<'a, T: Immediate<'a>> Iterator for ListedItems<'a, T> {
+    type Item = T;
+
+    ghost use Rattle.std.specs.Option.{option_map};
+    ghost use Rattle.std.specs.Iterator.{at_most};
+    ghost use Rattle.wasm_operators.specs.SeenLists.{GivesFront, items_left, most_left};
+
+    ghost can_next = { λ _. Unit {0} };
+
+    ghost next_gives = { λ s r t. GivesFront (items_left T.encoded s) (option_map T.value r) (items_left T.encoded t) };
+
+    ghost remaining = { λ s. at_most (most_left s) };
+
+    #[tactic(auto, using(crate::proofs::Listing::next_laws))]
+    fn next(&mut self) -> Option<T> {
+        if self.count == 0 {
+            return None;
+        }
+        match T::read(&mut self.reader) {
+            Ok(item) => {
+                self.count -= 1;
+                Some(item)
+            }
+            Err(_) => {
+                self.count = 0;
+                None
+            }
+        }
+    }
 }
 
 /// A list: a count, and that many items.

@@ -51,7 +51,7 @@ pub struct MemArg {
 
 /// The operators on whole memories and on data segments (Core Specification 3.0, Binary Format,
 /// Instructions, Memory Instructions).
-#[derive(Clone, Copy, PartialEq, Eq, Debug)]
+#[derive(Clone, Copy, Debug)]
 pub enum BulkMemoryOperator {
     MemorySize { mem: u32 },
     MemoryGrow { mem: u32 },

@@ -15,7 +15,7 @@ use wasm_readers_types::{HeapType, RefType};
 
 /// Operators on references (Core Specification 3.0, Binary Format, Instructions, Reference
 /// Instructions), with the branches on null.
-#[derive(Clone, Copy, PartialEq, Eq, Debug)]
+#[derive(Clone, Copy, Debug)]
 pub enum ReferenceOperator {
     RefNull { hty: HeapType },
     RefIsNull,
@@ -28,7 +28,7 @@ pub enum ReferenceOperator {
 
 /// Tests and casts of references (Core Specification 3.0, Binary Format, Instructions, Reference
 /// Instructions), with the branches on casts and those of custom descriptors.
-#[derive(Clone, Copy, PartialEq, Eq, Debug)]
+#[derive(Clone, Copy, Debug)]
 pub enum CastOperator {
     RefTestNonNull {
         hty: HeapType,

@@ -10,7 +10,7 @@ use wasm_readers_errors::{Fault, Malformed, Refusal};
 
 /// Operators on structures (Core Specification 3.0, Binary Format, Instructions, Aggregate
 /// Instructions), with those that take a descriptor.
-#[derive(Clone, Copy, PartialEq, Eq, Debug)]
+#[derive(Clone, Copy, Debug)]
 pub enum StructOperator {
     StructNew {
         struct_type_index: u32,

@@ -9,7 +9,7 @@ use wasm_readers::BinaryReader;
 use wasm_readers_errors::{Fault, Malformed, Refusal};
 
 /// Operators on tables (Core Specification 3.0, Binary Format, Instructions, Table Instructions).
-#[derive(Clone, Copy, PartialEq, Eq, Debug)]
+#[derive(Clone, Copy, Debug)]
 pub enum TableOperator {
     TableGet { table: u32 },
     TableSet { table: u32 },

@@ -10,7 +10,7 @@ use wasm_readers_errors::{Fault, Malformed, Refusal};
 
 /// Operators on locals and globals (Core Specification 3.0, Binary Format, Instructions, Variable
 /// Instructions).
-#[derive(Clone, Copy, PartialEq, Eq, Debug)]
+#[derive(Clone, Copy, Debug)]
 pub enum VariableOperator {
     LocalGet { local_index: u32 },
     LocalSet { local_index: u32 },
