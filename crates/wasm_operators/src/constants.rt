@@ -12,27 +12,9 @@ use wasm_readers_errors::{Fault, Malformed, Refusal};
 #[derive(Clone, Copy, PartialEq, Eq, Debug)]
 pub struct Ieee32(pub u32);
 
-impl Ieee32 {
-    /// The bits, as the standard for floating-point arithmetic lays them out.
-    pub fn bits(self) -> u32
-        ensures { result ≡ self.0 }
-    {
-        self.0
-    }
-}
-
 /// A floating-point number of 64 bits, as its bits.
 #[derive(Clone, Copy, PartialEq, Eq, Debug)]
 pub struct Ieee64(pub u64);
-
-impl Ieee64 {
-    /// The bits, as the standard for floating-point arithmetic lays them out.
-    pub fn bits(self) -> u64
-        ensures { result ≡ self.0 }
-    {
-        self.0
-    }
-}
 
 /// A vector of 128 bits, as its halves.
 #[derive(Clone, Copy, PartialEq, Eq, Debug)]

@@ -14,6 +14,8 @@ mod operators;
 mod references;
 mod structs;
 mod tables;
+#[cfg(test)]
+mod tests;
 mod variables;
 
 pub use arrays::ArrayOperator;
