@@ -1,6 +1,6 @@
 -- Core Specification 3.0, Binary Format, Instructions, Control Instructions and Parametric Instructions. Blocks are not
 -- taken together with their bodies: `else` and `end` stand for themselves. A type index x in a type is read as `to x`.
-use Rattle.std.specs.Prelude.{ℕ, ◌==◌, if◌then◌else◌, List, Option, Some, None}
+use Rattle.std.specs.Prelude.{ℕ, ◌==◌, nat_lt, if◌then◌else◌, List, Option, Some, None}
 use Rattle.std.specs.Option.{option_map, option_and_then}
 use Rattle.wasm_spec.specs.Syntax.{Val}
 use Rattle.wasm_spec.specs.Values.{byte_at, u32_at, s33_index_at, list_at}
@@ -43,13 +43,17 @@ abbrev pub br_table_at : List ℕ → Option ((List ℕ × ℕ) × List ℕ)
 br_table_at bytes = option_and_then (λ ls. option_map (λ l. ((ls.0, l.0), l.1)) (u32_at ls.1)) (list_at u32_at bytes)
 
 module _ {R : Type 0} (to : ℕ → R) where
-  -- a value type where one is read, and else a type index
-  abbrev pub block_from : Option (Val R × List ℕ) → List ℕ → Option (Block R × List ℕ)
-  block_from (Some v) bytes = Some (value_block v.0, v.1)
-  block_from None bytes = option_map (λ x. (func_block x.0, x.1)) (s33_index_at bytes)
+  -- A block type begins with 40 and is empty, or with another byte from 40 to 7f and is a value type, or else is a type index.
+  -- As a signed number a type index isn't negative, so it has none of these bytes in front.
+  abbrev pub block_from : ℕ → List ℕ → List ℕ → Option (Block R × List ℕ)
+  block_from b more bytes =
+      if b == 0x40 then Some (empty_block, more)
+      else (if nat_lt b 0x40 then option_map (λ x. (func_block x.0, x.1)) (s33_index_at bytes)
+      else (if nat_lt b 0x80 then option_map (λ v. (value_block v.0, v.1)) (val_at to bytes)
+      else option_map (λ x. (func_block x.0, x.1)) (s33_index_at bytes)))
 
   unfoldable pub block_at : List ℕ → Option (Block R × List ℕ)
-  block_at bytes = option_and_then (λ b. if b.0 == 0x40 then Some (empty_block, b.1) else block_from (val_at to bytes) bytes) (byte_at bytes)
+  block_at bytes = option_and_then (λ b. block_from b.0 b.1 bytes) (byte_at bytes)
 
   abbrev pub with_block : (Block R → Control R) → List ℕ → Option (Control R × List ℕ)
   with_block op bytes = option_map (λ b. (op b.0, b.1)) (block_at bytes)

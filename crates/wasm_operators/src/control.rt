@@ -161,16 +161,15 @@ pub fn read_block_type(reader: &mut BinaryReader) -> Result<BlockType, Refusal>
     ensures err { OnErr result (block_at written (rest reader.old) ≡ None) }
 {
     let start = *reader;
-    if reader.read_u8()? == 0x40 {
+    let byte = reader.read_u8()?;
+    if byte == 0x40 {
         return Ok(BlockType::Empty);
     }
     *reader = start;
-    match reader.read_val_type() {
-        Ok(ty) => Ok(BlockType::Value(ty)),
-        Err(_) => {
-            *reader = start;
-            Ok(BlockType::FuncType(reader.read_var_s33_index()?))
-        }
+    if 0x40 <= byte && byte < 0x80 {
+        Ok(BlockType::Value(reader.read_val_type()?))
+    } else {
+        Ok(BlockType::FuncType(reader.read_var_s33_index()?))
     }
 }
 
