@@ -1,5 +1,3 @@
-pub mod Opcodes
-pub mod Numeric
 pub mod Immediates
 pub mod Refusals
 pub mod Calls

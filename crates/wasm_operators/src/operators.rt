@@ -16,7 +16,7 @@ use crate::memories::{
     BulkMemoryOperator, MemArg, MemoryOperator, access_from_opcode, read_memarg, read_memory,
     read_memory_size,
 };
-use crate::numeric::{
+use wasm_numeric_operators::{
     NumericOperator, SaturatingOperator, numeric_from_opcode, saturating_from_code,
 };
 use crate::references::{CastOperator, ReferenceOperator, read_cast, read_reference};

@@ -1,4 +1,5 @@
-use Rattle.wasm_operators.proofs.Opcodes.{entry_of, access-table}
+use Rattle.wasm_numeric_operators.proofs.Opcodes.{entry_of}
+use Rattle.wasm_operators.proofs.Opcodes.{access-table}
 use Rattle.wasm_operators.specs.Memories.{access_opcode, access_from}
 use Rattle.wasm_operators.proofs.memories.access_from_opcode.Goals as goal
 

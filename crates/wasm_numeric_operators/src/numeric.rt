@@ -1,9 +1,9 @@
 //! Numeric operators without immediates.
 
 ghost use Rattle.std.specs.Prelude.{◌≡◌, ◌≢◌, IfSome, IfNone};
-ghost use Rattle.wasm_operators.specs.Numeric.{numeric_opcode, numeric_from, saturating_code, saturating_from};
-ghost use Rattle.wasm_operators.specs.declared.numeric.NumericOperator.{NumericOperator};
-ghost use Rattle.wasm_operators.specs.declared.numeric.SaturatingOperator.{SaturatingOperator};
+ghost use Rattle.wasm_numeric_operators.specs.Numeric.{numeric_opcode, numeric_from, saturating_code, saturating_from};
+ghost use Rattle.wasm_numeric_operators.specs.declared.numeric.NumericOperator.{NumericOperator};
+ghost use Rattle.wasm_numeric_operators.specs.declared.numeric.SaturatingOperator.{SaturatingOperator};
 
 /// The numeric operators of one byte that have no immediates (Core Specification 3.0, Binary Format,
 /// Instructions, Numeric Instructions).
@@ -155,7 +155,7 @@ pub enum SaturatingOperator {
 
 /// The numeric operator of this opcode, if there is one.
 #[inline]
-pub(crate) fn numeric_from_opcode(opcode: u8) -> Option<NumericOperator>
+pub fn numeric_from_opcode(opcode: u8) -> Option<NumericOperator>
     ensures { result ≡ numeric_from opcode }
 {
     numeric_with_opcode(opcode)
@@ -301,7 +301,7 @@ fn numeric_with_opcode(opcode: u8) -> Option<NumericOperator>
 
 /// The saturating truncation of this code behind the prefix, if there is one.
 #[inline]
-pub(crate) fn saturating_from_code(code: u32) -> Option<SaturatingOperator>
+pub fn saturating_from_code(code: u32) -> Option<SaturatingOperator>
     ensures { result ≡ saturating_from code }
 {
     saturating_with_code(code)
