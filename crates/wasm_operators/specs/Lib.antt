@@ -16,3 +16,4 @@ pub mod Arrays
 pub mod Instructions
 pub mod SeenOperators
 pub mod Expressions
+pub mod Laws

@@ -7,6 +7,7 @@ mod constants;
 mod control;
 mod conversions;
 mod expressions;
+pub mod laws;
 mod lists;
 mod memories;
 mod operators;

@@ -16,13 +16,13 @@ use crate::memories::{
     BulkMemoryOperator, MemArg, MemoryOperator, access_from_opcode, read_memarg, read_memory,
     read_memory_size,
 };
-use wasm_numeric_operators::{
-    NumericOperator, SaturatingOperator, numeric_from_opcode, saturating_from_code,
-};
 use crate::references::{CastOperator, ReferenceOperator, read_cast, read_reference};
 use crate::structs::{StructOperator, read_struct};
 use crate::tables::{TableOperator, read_table, read_table_access};
 use crate::variables::{VariableOperator, read_variable};
+use wasm_numeric_operators::{
+    NumericOperator, SaturatingOperator, numeric_from_opcode, saturating_from_code,
+};
 use wasm_readers::BinaryReader;
 use wasm_readers_errors::{Fault, Malformed, Refusal};
 
