@@ -19,7 +19,7 @@ front_taken front rest =
     ap (λ (n : ℕ). take n (front ++ rest)) size ∙ take-append_seam front rest
 
 -- the bytes before these, and these
-abbrev cut : List ℕ → List ℕ → List ℕ × List ℕ
+abbrev pub cut : List ℕ → List ℕ → List ℕ × List ℕ
 cut bytes rest = (take (length bytes - length rest) bytes, rest)
 
 -- an expression is what is taken from the front
@@ -37,7 +37,7 @@ front_is bytes x rest front is e = e ∙ ap (λ (b : List ℕ). take (length b -
 
 module _ {R : Type 0} (to : ℕ → R) where
   -- an expression goes on behind this instruction
-  abbrev stepped : ℕ → ℕ → Option (Instruction R × List ℕ) → Option (List ℕ)
+  abbrev pub stepped : ℕ → ℕ → Option (Instruction R × List ℕ) → Option (List ℕ)
   stepped most depth o = option_and_then (λ i. go_on (λ d. behind_from to most d i.1) i.1 (depth_after (nesting_of i.0) depth)) o
 
   -- what is left is a rest, and is left in the second result with more behind

@@ -16,4 +16,5 @@ pub mod Arrays
 pub mod Instructions
 pub mod SeenOperators
 pub mod Expressions
+pub mod Maps
 pub mod Laws

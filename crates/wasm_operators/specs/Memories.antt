@@ -78,3 +78,30 @@ memory_from n bytes =
     else (if n == 10 then two_indices MemoryCopy bytes
     else (if n == 11 then one_index MemoryFill bytes
     else None)))
+
+-- Validation, Instructions, Memory Instructions: the logarithm to base 2 of the bytes that a load or a store accesses, which its
+-- alignment may not pass
+abbrev pub max_align_of : MemoryOperator → ℕ
+max_align_of I32Load = 2
+max_align_of I64Load = 3
+max_align_of F32Load = 2
+max_align_of F64Load = 3
+max_align_of I32Load8S = 0
+max_align_of I32Load8U = 0
+max_align_of I32Load16S = 1
+max_align_of I32Load16U = 1
+max_align_of I64Load8S = 0
+max_align_of I64Load8U = 0
+max_align_of I64Load16S = 1
+max_align_of I64Load16U = 1
+max_align_of I64Load32S = 2
+max_align_of I64Load32U = 2
+max_align_of I32Store = 2
+max_align_of I64Store = 3
+max_align_of F32Store = 2
+max_align_of F64Store = 3
+max_align_of I32Store8 = 0
+max_align_of I32Store16 = 1
+max_align_of I64Store8 = 0
+max_align_of I64Store16 = 1
+max_align_of I64Store32 = 2

@@ -2,11 +2,12 @@
 
 ghost use Rattle.std.specs.Prelude.{ℕ};
 ghost use Rattle.wasm_numeric_operators.specs.Opcodes.{IsTableOf};
-ghost use Rattle.wasm_spec.specs.Laws.{ReadingGoesOn, ReadingIgnoresWhatFollows};
+ghost use Rattle.wasm_spec.specs.Laws.{ReadingRenames, ReadingGoesOn, ReadingIgnoresWhatFollows};
 ghost use Rattle.wasm_operators.specs.Memories.{access_opcode, access_from};
 ghost use Rattle.wasm_operators.specs.Instructions.{instruction_at};
 ghost use Rattle.wasm_operators.specs.Expressions.{expression_at};
-ghost use Rattle.wasm_operators.specs.Laws.{ExpressionIsFront};
+ghost use Rattle.wasm_operators.specs.Maps.{map_instruction};
+ghost use Rattle.wasm_operators.specs.Laws.{ExpressionIsFront, ReadingIsOfBytes};
 
 /// The table of loads and stores in the order of their opcodes says what their own opcodes say, and nothing more.
 pub fn accesses_are_a_table()
@@ -24,4 +25,11 @@ pub fn reading_goes_on<R>()
 pub fn reading_ignores_what_follows<R>()
     ensures instructions { (to : ℕ → R) → ReadingIgnoresWhatFollows (instruction_at to) }
     ensures expressions { (to : ℕ → R) → ReadingIgnoresWhatFollows (expression_at to) }
+{}
+
+/// Reading with renamed type indices is reading, and renaming what was read. An expression is the same bytes whatever type
+/// indices stand for.
+pub fn reading_renames<R, S>()
+    ensures instructions { ReadingRenames R S map_instruction instruction_at instruction_at }
+    ensures expressions { ReadingIsOfBytes R S expression_at expression_at }
 {}

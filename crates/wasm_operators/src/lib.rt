@@ -28,7 +28,7 @@ pub use control::{
 pub use conversions::ConversionOperator;
 pub use expressions::{Nesting, nesting_of, read_expression};
 pub use lists::{Immediate, Listed, ListedItems};
-pub use memories::{BulkMemoryOperator, MemArg, MemoryOperator, read_memarg};
+pub use memories::{BulkMemoryOperator, MemArg, MemoryOperator, max_align, read_memarg};
 pub use operators::{Operator, read_operator};
 pub use references::{CastOperator, ReferenceOperator};
 pub use structs::StructOperator;

@@ -3,7 +3,7 @@
 ghost use Rattle.std.specs.Prelude.{◌≡◌, ◌≢◌, ◌≤◌, ◌<◌, ◌+◌, Some, None, IfSome, IfNone, IfOk, IfErr, OnOk, OnErr};
 ghost use Rattle.wasm_readers.specs.Reader.{SameInput, position_in, original, rest, RefusedFrom};
 ghost use Rattle.wasm_operators.specs.Refusals.{RefusedBetween};
-ghost use Rattle.wasm_operators.specs.Memories.{access_opcode, access_from, memarg_at, memory_size_from, memory_from};
+ghost use Rattle.wasm_operators.specs.Memories.{max_align_of, access_opcode, access_from, memarg_at, memory_size_from, memory_from};
 ghost use Rattle.wasm_operators.specs.declared.memories.MemoryOperator.{MemoryOperator};
 
 use wasm_readers::BinaryReader;
@@ -186,5 +186,36 @@ pub(crate) fn read_memory(
             mem: reader.read_var_u32()?,
         }),
         _ => Err(Refusal::new(Fault::Malformed(Malformed::Opcode), offset)),
+    }
+}
+
+/// The logarithm to base 2 of the bytes that it accesses. Validation refuses an alignment past it.
+pub fn max_align(op: MemoryOperator) -> u8
+    ensures { result ≡ max_align_of op }
+{
+    match op {
+        MemoryOperator::I32Load8S
+        | MemoryOperator::I32Load8U
+        | MemoryOperator::I64Load8S
+        | MemoryOperator::I64Load8U
+        | MemoryOperator::I32Store8
+        | MemoryOperator::I64Store8 => 0,
+        MemoryOperator::I32Load16S
+        | MemoryOperator::I32Load16U
+        | MemoryOperator::I64Load16S
+        | MemoryOperator::I64Load16U
+        | MemoryOperator::I32Store16
+        | MemoryOperator::I64Store16 => 1,
+        MemoryOperator::I32Load
+        | MemoryOperator::F32Load
+        | MemoryOperator::I64Load32S
+        | MemoryOperator::I64Load32U
+        | MemoryOperator::I32Store
+        | MemoryOperator::F32Store
+        | MemoryOperator::I64Store32 => 2,
+        MemoryOperator::I64Load
+        | MemoryOperator::F64Load
+        | MemoryOperator::I64Store
+        | MemoryOperator::F64Store => 3,
     }
 }
