@@ -1,7 +1,7 @@
 -- The tables of operators say what the operators' own opcodes say.
-use Rattle.std.proofs.Common.{◌≡◌, refl, sym, subst, ap, ◌∙◌, ℕ, zero, suc, ◌+◌, ◌-◌, ltb, eqb, Bool, true, false, cond, List, [], ◌∷◌, Option, Some, None, arith}
+use Rattle.std.proofs.Common.{◌≡◌, refl, sym, subst, ap, ℕ, zero, suc, ◌+◌, ◌-◌, ltb, eqb, Bool, true, false, cond, List, [], ◌∷◌, Option, Some, None, arith}
 use Rattle.std.proofs.lemmas.Bool.{eqb-true, ltb-false}
-use Rattle.std.specs.Prelude.{slice_get, IfSome, IfNone, ◌≢◌, ◌≤◌, ◌↔◌}
+use Rattle.std.specs.Prelude.{slice_get, IfSome, IfNone, ◌≢◌, ◌≤◌}
 use Rattle.wasm_numeric_operators.specs.Opcodes.{counted_from, IsTableOf}
 use Rattle.wasm_numeric_operators.specs.Numeric.{numeric_opcode, numeric_from, numeric_operators, saturating_code, saturating_from, saturating_operators}
 use Rattle.wasm_numeric_operators.specs.declared.numeric.NumericOperator.{NumericOperator}

@@ -1,5 +1,5 @@
 -- An expression is the same bytes whatever type indices stand for.
-use Rattle.std.proofs.Common.{◌≡◌, refl, ap, ◌∙◌, ℕ, zero, suc, ◌-◌, List, length, take, Option, Some, None, option_map}
+use Rattle.std.proofs.Common.{◌≡◌, refl, ap, ◌∙◌, ℕ, zero, suc, List, length, Option, Some, None, option_map}
 use Rattle.wasm_operators.specs.Control.{Control, unreachable, nop, else_, end_, throw_ref, return_, block, loop, if_, try_table, throw, br, br_if, br_table}
 use Rattle.wasm_operators.specs.Instructions.{Instruction, control, call, parametric, variable, table, access, memory, constant, numeric, saturating, reference, cast, conversion, structure, array, instruction_at}
 use Rattle.wasm_operators.specs.Expressions.{nesting_of, nesting_of_control, depth_after, go_on, behind_from, behind_expression, expression_at}

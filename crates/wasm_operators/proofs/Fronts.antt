@@ -1,11 +1,10 @@
 -- What an instruction is read from stands at the front of the bytes: what is left is a rest of them, and bytes behind them change
 -- only that.
-use Rattle.std.proofs.Common.{◌≡◌, refl, sym, ap, ◌∙◌, subst, ℕ, zero, suc, ◌+◌, ◌-◌, ◌≤◌, ◌<◌, nat_lt, ◌==◌, List, [], ◌∷◌, ◌++◌, length, Option, Some, None, option_map, arith}
-use Rattle.std.specs.Option.{option_and_then}
-use Rattle.wasm_spec.specs.Values.{u32_at, u64_at, s33_index_at, list_at, not_negative}
-use Rattle.wasm_spec.specs.BinaryTypes.{heap_at, val_at}
-use Rattle.wasm_spec.proofs.Front.{IsRest, Reads, reads_none, reads_here, reads_value, reads_behind, reads_weaken, reads_if, reads_map, reads_then, reads_list, unsigned-reads, signed-reads, heap-reads, val-reads}
-use Rattle.wasm_operators.specs.Immediates.{alone, one_index, two_indices}
+use Rattle.std.proofs.Common.{ℕ, zero, suc, ◌-◌, nat_lt, ◌==◌, List, [], ◌∷◌, ◌++◌, Option, Some, None}
+use Rattle.wasm_spec.specs.Values.{u32_at, u64_at, s33_index_at, not_negative}
+use Rattle.wasm_spec.specs.BinaryTypes.{val_at}
+use Rattle.wasm_spec.proofs.Front.{Reads, reads_none, reads_here, reads_value, reads_behind, reads_weaken, reads_if, reads_map, reads_then, reads_list, unsigned-reads, signed-reads, heap-reads, val-reads}
+use Rattle.wasm_operators.specs.Immediates.{one_index, two_indices}
 use Rattle.wasm_operators.specs.Calls.{call_from}
 use Rattle.wasm_operators.specs.Variables.{variable_from}
 use Rattle.wasm_operators.specs.Tables.{table_access_from, table_from}
@@ -16,8 +15,8 @@ use Rattle.wasm_operators.specs.Structs.{struct_from}
 use Rattle.wasm_operators.specs.Arrays.{array_from}
 use Rattle.wasm_operators.specs.Conversions.{conversion_from, shared_from}
 use Rattle.wasm_operators.specs.References.{cast_flags_from, cast_flags_at, branch_at, reference_from, cast_from}
-use Rattle.wasm_operators.specs.Control.{catch_from, catch_at, br_table_at, try_table_at, block_from, block_at, control_from, parametric_from}
-use Rattle.wasm_operators.specs.Instructions.{Instruction, with_memarg, aggregate_from, bulk_from, prefixed_from, plain_from, instruction_at}
+use Rattle.wasm_operators.specs.Control.{catch_at, br_table_at, try_table_at, block_at, control_from, parametric_from}
+use Rattle.wasm_operators.specs.Instructions.{with_memarg, aggregate_from, bulk_from, prefixed_from, plain_from, instruction_at}
 use Rattle.wasm_operators.specs.declared.memories.MemoryOperator.{MemoryOperator}
 
 module _ {more : List ℕ} where

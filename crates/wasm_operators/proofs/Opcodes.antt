@@ -1,5 +1,5 @@
 -- The table of loads and stores says what their own opcodes say.
-use Rattle.std.proofs.Common.{◌≡◌, refl, Option, Some}
+use Rattle.std.proofs.Common.{◌≡◌, refl, Some}
 use Rattle.wasm_numeric_operators.specs.Opcodes.{counted_from, IsTableOf}
 use Rattle.wasm_numeric_operators.proofs.Opcodes.{table_of}
 use Rattle.wasm_operators.specs.Memories.{access_opcode, access_from, accesses}

@@ -1,8 +1,6 @@
 -- Reading with a renamed index map gives what reading gives, renamed.
-use Rattle.std.proofs.Common.{◌≡◌, refl, ap, ℕ, nat_lt, ◌==◌, List, Option, Some, None}
-use Rattle.wasm_spec.specs.Syntax.{map_heap, map_ref, map_val}
+use Rattle.std.proofs.Common.{refl, ℕ, nat_lt, ◌==◌, List, Option, Some, None}
 use Rattle.wasm_spec.specs.Values.{byte_at, u32_at, s33_index_at, list_at}
-use Rattle.wasm_spec.specs.BinaryTypes.{heap_at, val_at}
 use Rattle.wasm_spec.proofs.Renaming.{Renames, renames_none, renames_some, renames_if, renames_then, renames_map, renames_same_then, renames_same_map, renames_list, heap-renames, val-renames}
 use Rattle.wasm_numeric_operators.specs.Numeric.{numeric_from, saturating_from}
 use Rattle.wasm_operators.specs.Calls.{call_from}
@@ -14,7 +12,7 @@ use Rattle.wasm_operators.specs.Structs.{struct_from}
 use Rattle.wasm_operators.specs.Arrays.{array_from}
 use Rattle.wasm_operators.specs.Conversions.{conversion_from, shared_from}
 use Rattle.wasm_operators.specs.References.{cast_flags_at, branch_at, reference_from, cast_from}
-use Rattle.wasm_operators.specs.Control.{Block, catch_at, br_table_at, try_table_at, block_at, control_from, parametric_from}
+use Rattle.wasm_operators.specs.Control.{catch_at, br_table_at, try_table_at, block_at, control_from, parametric_from}
 use Rattle.wasm_operators.specs.Instructions.{with_memarg, aggregate_from, bulk_from, prefixed_from, plain_from, instruction_at}
 use Rattle.wasm_operators.specs.Maps.{map_block, map_control, map_parametric, map_reference, map_cast, map_instruction, map_try_table, map_branch}
 use Rattle.wasm_operators.specs.declared.memories.MemoryOperator.{MemoryOperator}

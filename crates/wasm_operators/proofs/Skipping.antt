@@ -1,6 +1,5 @@
 -- What reading of an expression keeps.
-use Rattle.std.proofs.Common.{◌≡◌, ◌≤◌, ◌<◌, ◌+◌, ◌-◌, ◌∙◌, refl, sym, ap, ℕ, zero, suc, Bool, true, false, cond, eqb, List, length, take, drop, Option, Some, None, arith}
-use Rattle.std.specs.Option.{option_map}
+use Rattle.std.proofs.Common.{◌≡◌, ◌≤◌, ◌<◌, ◌+◌, ◌-◌, ◌∙◌, refl, sym, ap, ℕ, zero, suc, Bool, true, false, cond, eqb, List, length, Option, Some, None, arith}
 use Rattle.std.proofs.lemmas.List.{length-drop}
 use Rattle.wasm_readers.specs.Reader.{SameInput, input, position_in, rest}
 use Rattle.wasm_readers.specs.declared.binary_reader.BinaryReader.{BinaryReader}

@@ -1,6 +1,6 @@
 -- Core Specification 3.0, Binary Format, Instructions, Control Instructions: calls.
 use Rattle.std.specs.Prelude.{ℕ, ◌==◌, if◌then◌else◌, List, Option, None}
-use Rattle.wasm_operators.specs.Immediates.{alone, one_index, two_indices}
+use Rattle.wasm_operators.specs.Immediates.{one_index, two_indices}
 use Rattle.wasm_operators.specs.declared.calls.CallOperator.{CallOperator}
 use Rattle.wasm_operators.specs.declared.calls.CallOperator.TheVariants.{Call, CallIndirect, ReturnCall, ReturnCallIndirect, CallRef, ReturnCallRef}
 

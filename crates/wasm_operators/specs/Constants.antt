@@ -2,8 +2,6 @@
 use Rattle.std.specs.Prelude.{ℕ, zero, suc, ◌+◌, ◌*◌, ◌^◌, ◌==◌, if◌then◌else◌, List, [], ◌∷◌, Option, Some, None}
 use Rattle.std.specs.Option.{option_map, option_and_then}
 use Rattle.wasm_spec.specs.Values.{signed_at}
-use Rattle.wasm_operators.specs.declared.constants.Ieee32.{Ieee32}
-use Rattle.wasm_operators.specs.declared.constants.Ieee64.{Ieee64}
 use Rattle.wasm_operators.specs.declared.constants.V128.{V128}
 use Rattle.wasm_operators.specs.declared.constants.ConstantOperator.{ConstantOperator}
 use Rattle.wasm_operators.specs.declared.constants.ConstantOperator.TheVariants.{I32Const, I64Const, F32Const, F64Const, V128Const}

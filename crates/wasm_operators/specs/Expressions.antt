@@ -2,7 +2,7 @@
 -- them. Where an `else` may stand is left to validation.
 use Rattle.std.specs.Prelude.{ℕ, zero, suc, ◌+◌, ◌-◌, ◌==◌, if◌then◌else◌, List, length, take, Option, Some, None}
 use Rattle.std.specs.Option.{option_map, option_and_then}
-use Rattle.wasm_operators.specs.Control.{Control, unreachable, nop, else_, end_, throw_ref, return_, block, loop, if_, try_table, throw, br, br_if, br_table}
+use Rattle.wasm_operators.specs.Control.{Control, end_, block, loop, if_, try_table}
 use Rattle.wasm_operators.specs.Instructions.{Instruction, control, instruction_at}
 use Rattle.wasm_operators.specs.declared.expressions.Nesting.{Nesting}
 use Rattle.wasm_operators.specs.declared.expressions.Nesting.TheVariants.{Opens, Closes, Keeps}

@@ -1,5 +1,5 @@
 -- Core Specification 3.0, Binary Format, Instructions, Memory Instructions.
-use Rattle.std.specs.Prelude.{ℕ, ◌-◌, ◌==◌, nat_lt, if◌then◌else◌, List, [], ◌∷◌, Option, Some, None}
+use Rattle.std.specs.Prelude.{ℕ, ◌-◌, ◌==◌, nat_lt, if◌then◌else◌, List, [], ◌∷◌, Option, None}
 use Rattle.std.specs.Option.{option_map, option_and_then}
 use Rattle.wasm_spec.specs.Values.{u32_at, u64_at}
 use Rattle.wasm_numeric_operators.specs.Opcodes.{counted_from}

@@ -1,9 +1,7 @@
 -- What contracts see of control and parametric operators.
-use Rattle.std.specs.Prelude.{ℕ, List, [], Option, Some, None}
-use Rattle.wasm_spec.specs.Syntax.{Val}
-use Rattle.wasm_spec.specs.Values.{u32_at, many_at}
+use Rattle.std.specs.Prelude.{ℕ, List}
+use Rattle.wasm_spec.specs.Values.{u32_at}
 use Rattle.wasm_spec.specs.BinaryTypes.{val_at}
-use Rattle.wasm_readers.specs.Reader.{rest}
 use Rattle.wasm_readers.specs.Written.{written}
 use Rattle.wasm_readers_types.specs.SeenValues.{val_of}
 use Rattle.wasm_readers_types.specs.declared.indices.UnpackedIndex.{UnpackedIndex}

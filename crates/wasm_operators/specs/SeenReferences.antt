@@ -1,9 +1,7 @@
 -- What contracts see of operators on references and of casts.
 use Rattle.std.specs.Prelude.{true, false}
-use Rattle.wasm_spec.specs.Syntax.{Ref}
 use Rattle.wasm_readers_types.specs.SeenValues.{heap_of, ref_of}
 use Rattle.wasm_readers_types.specs.declared.indices.UnpackedIndex.{UnpackedIndex}
-use Rattle.wasm_readers_types.specs.declared.values.HeapType.{HeapType}
 use Rattle.wasm_operators.specs.References as syntax
 use Rattle.wasm_operators.specs.References.{Reference, Cast, reference_to}
 use Rattle.wasm_operators.specs.declared.references.ReferenceOperator.{ReferenceOperator}

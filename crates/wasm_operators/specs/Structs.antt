@@ -1,6 +1,6 @@
 -- Core Specification 3.0, Binary Format, Instructions, Aggregate Instructions: structures.
 use Rattle.std.specs.Prelude.{ℕ, ◌==◌, if◌then◌else◌, List, Option, None}
-use Rattle.wasm_operators.specs.Immediates.{alone, one_index, two_indices}
+use Rattle.wasm_operators.specs.Immediates.{one_index, two_indices}
 use Rattle.wasm_operators.specs.declared.structs.StructOperator.{StructOperator}
 use Rattle.wasm_operators.specs.declared.structs.StructOperator.TheVariants.{StructNew, StructNewDefault, StructGet, StructGetS, StructGetU, StructSet, StructNewDesc, StructNewDefaultDesc}
 

@@ -1,9 +1,8 @@
-use Rattle.std.proofs.Common.{◌≡◌, ◌≤◌, ◌<◌, ◌+◌, ◌∙◌, sym, Some, None, ℕ, length, arith, rules}
+use Rattle.std.proofs.Common.{◌≡◌, ◌≤◌, ◌<◌, ◌+◌, Some, None, arith, rules}
 use Rattle.std.proofs.lemmas.Grind.{common_steps}
 use Rattle.wasm_readers.specs.Reader.{position_in, rest}
 use Rattle.wasm_readers.specs.Written.{written}
-use Rattle.wasm_operators.specs.Expressions.{nesting_of, depth_after, behind_from, behind_expression}
-use Rattle.wasm_operators.specs.Instructions.{instruction_at}
+use Rattle.wasm_operators.specs.Expressions.{nesting_of, depth_after, behind_expression}
 use Rattle.wasm_operators.specs.SeenOperators.{operator_of}
 use Rattle.wasm_operators.proofs.Skipping.{shorter, one_deeper, go_one, end_here, none_here}
 use Rattle.wasm_operators.proofs.expressions.skip_expression.Goals as goal
