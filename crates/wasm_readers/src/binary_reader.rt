@@ -1,5 +1,5 @@
 ghost use Rattle.std.specs.Prelude.{◌≡◌, ◌==◌, ◌≤◌, ◌<◌, ◌^◌, ◌-◌, ◌+◌, IfOk, OnOk, OnErr, length, take, drop, slice_range, [], ◌∷◌, ◌++◌, Some, None, IfErr};
-ghost use Rattle.wasm_spec.specs.Values.{byte_at, u32_at, u64_at, s33_index_at, bytes_at, sized_at, name_at};
+ghost use Rattle.wasm_spec.specs.Values.{byte_at, u32_at, u64_at, s33_index_at, bytes_at, sized_at, name_at, signed_at as integer_at};
 
 use crate::leb128::signed_at;
 use std::ops::Range;
@@ -210,6 +210,42 @@ impl<'a> BinaryReader<'a> {
                 }
                 self.position += used;
                 Ok(value as u32)
+            }
+            None => Err(self.refusal(Malformed::IntegerTooLong)),
+        }
+    }
+
+    /// A signed number of at most 32 bits, in at most five bytes.
+    pub fn read_var_i32(&mut self) -> Result<i32, Refusal>
+        ensures same { SameInput self.old self.new }
+        ensures onward { position_in self.old ≤ position_in self.new }
+        ensures refusal { IfErr result (RefusedFrom self.old) }
+        ensures ok { IfOk result (λ n. integer_at 32 (rest self.old) ≡ Some (n, rest self.new)) }
+        ensures further { OnOk result (position_in self.old < position_in self.new) }
+        ensures err { OnErr result (integer_at 32 (rest self.old) ≡ None) }
+    {
+        match signed_at(self.remaining(), 32) {
+            Some((value, used)) => {
+                self.position += used;
+                Ok(value as i32)
+            }
+            None => Err(self.refusal(Malformed::IntegerTooLong)),
+        }
+    }
+
+    /// A signed number of at most 64 bits, in at most ten bytes.
+    pub fn read_var_i64(&mut self) -> Result<i64, Refusal>
+        ensures same { SameInput self.old self.new }
+        ensures onward { position_in self.old ≤ position_in self.new }
+        ensures refusal { IfErr result (RefusedFrom self.old) }
+        ensures ok { IfOk result (λ n. integer_at 64 (rest self.old) ≡ Some (n, rest self.new)) }
+        ensures further { OnOk result (position_in self.old < position_in self.new) }
+        ensures err { OnErr result (integer_at 64 (rest self.old) ≡ None) }
+    {
+        match signed_at(self.remaining(), 64) {
+            Some((value, used)) => {
+                self.position += used;
+                Ok(value)
             }
             None => Err(self.refusal(Malformed::IntegerTooLong)),
         }

@@ -27,6 +27,10 @@ pub enum Malformed {
     SectionSize,
     FunctionAndCodeCounts,
     DataCounts,
+    Opcode,
+    Alignment,
+    CastFlags,
+    CatchKind,
 }
 
 impl Malformed {
@@ -54,6 +58,10 @@ impl Malformed {
             Malformed::FunctionAndCodeCounts =>
                 "function and code section have inconsistent lengths",
             Malformed::DataCounts => "data count and data section have inconsistent lengths",
+            Malformed::Opcode => "illegal opcode",
+            Malformed::Alignment => "malformed memop alignment: alignment too large",
+            Malformed::CastFlags => "malformed cast flags",
+            Malformed::CatchKind => "invalid leading byte for a catch clause",
         }
     }
 }

@@ -16,7 +16,7 @@ pub record IsRest (k : ℕ) (rest start : List ℕ) : Type 0 where
   pub longer : k ≤ length front
 
 -- a rest of a rest
-IsRest-trans : {k l : ℕ} {rest middle start : List ℕ} → IsRest k middle start → IsRest l rest middle → (IsRest k rest start) × (IsRest l rest start)
+pub IsRest-trans : {k l : ℕ} {rest middle start : List ℕ} → IsRest k middle start → IsRest l rest middle → (IsRest k rest start) × (IsRest l rest start)
 IsRest-trans {k} {l} {rest} {middle} {start} h r =
     let is : start ≡ (h.front ++ r.front) ++ rest = h.is ∙ ap (λ xs. h.front ++ xs) r.is ∙ sym (append_assoc h.front r.front rest) in
     let both : length (h.front ++ r.front) ≡ length h.front + length r.front = length-append h.front r.front in
@@ -217,7 +217,7 @@ module _ {more : List ℕ} where
     plain_heap-reads None b bytes = reads_map _ (s33_index-reads (b ∷ bytes))
     plain_heap-reads (Some a) b bytes = reads_behind reads_here
 
-    heap-reads : (bytes : List ℕ) → Reads more 1 bytes (heap_at to bytes) (heap_at to (bytes ++ more))
+    pub heap-reads : (bytes : List ℕ) → Reads more 1 bytes (heap_at to bytes) (heap_at to (bytes ++ more))
     unfolding heap_at
     heap-reads [] = reads_none
     heap-reads (b ∷ bytes) =

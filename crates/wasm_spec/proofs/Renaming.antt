@@ -59,7 +59,7 @@ module _ {R S : Type 0} (f : R → S) (to : ℕ → R) where
   plain_heap-renames None more bytes = renames_same_map (s33_index_at bytes) _ _ (λ x. refl)
   plain_heap-renames (Some a) more bytes = renames_some
 
-  heap-renames : (bytes : List ℕ) → Renames (map_heap f) (heap_at to bytes) (heap_at then_renamed bytes)
+  pub heap-renames : (bytes : List ℕ) → Renames (map_heap f) (heap_at to bytes) (heap_at then_renamed bytes)
   unfolding heap_at
   heap-renames bytes =
       renames_same_then (byte_at bytes) _ _ (λ b.

@@ -1,0 +1,309 @@
+-- What an instruction is read from stands at the front of the bytes: what is left is a rest of them, and bytes behind them change
+-- only that.
+use Rattle.std.proofs.Common.{ℕ, zero, suc, ◌-◌, nat_lt, ◌==◌, List, [], ◌∷◌, ◌++◌, Option, Some, None}
+use Rattle.wasm_spec.specs.Values.{u32_at, u64_at, s33_index_at, not_negative}
+use Rattle.wasm_spec.specs.BinaryTypes.{val_at}
+use Rattle.wasm_spec.proofs.Front.{Reads, reads_none, reads_here, reads_value, reads_behind, reads_weaken, reads_if, reads_map, reads_then, reads_list, unsigned-reads, signed-reads, heap-reads, val-reads}
+use Rattle.wasm_operators.specs.Immediates.{one_index, two_indices}
+use Rattle.wasm_operators.specs.Calls.{call_from}
+use Rattle.wasm_operators.specs.Variables.{variable_from}
+use Rattle.wasm_operators.specs.Tables.{table_access_from, table_from}
+use Rattle.wasm_operators.specs.Memories.{access_from, memarg_behind, memarg_at, memory_size_from, memory_from}
+use Rattle.wasm_operators.specs.Constants.{little_endian_at, bits_32_at, bits_64_at, bits_128_at, constant_from, vector_from}
+use Rattle.wasm_numeric_operators.specs.Numeric.{numeric_from, saturating_from}
+use Rattle.wasm_operators.specs.Structs.{struct_from}
+use Rattle.wasm_operators.specs.Arrays.{array_from}
+use Rattle.wasm_operators.specs.Conversions.{conversion_from, shared_from}
+use Rattle.wasm_operators.specs.References.{cast_flags_from, cast_flags_at, branch_at, reference_from, cast_from}
+use Rattle.wasm_operators.specs.Control.{catch_at, br_table_at, try_table_at, block_at, control_from, parametric_from}
+use Rattle.wasm_operators.specs.Instructions.{with_memarg, aggregate_from, bulk_from, prefixed_from, plain_from, instruction_at}
+use Rattle.wasm_operators.specs.declared.memories.MemoryOperator.{MemoryOperator}
+
+module _ {more : List ℕ} where
+  -- numbers
+  u32-reads : (bytes : List ℕ) → Reads more 1 bytes (u32_at bytes) (u32_at (bytes ++ more))
+  u32-reads bytes = unsigned-reads 32 bytes
+
+  u64-reads : (bytes : List ℕ) → Reads more 1 bytes (u64_at bytes) (u64_at (bytes ++ more))
+  u64-reads bytes = unsigned-reads 64 bytes
+
+  s33_index-reads : (bytes : List ℕ) → Reads more 1 bytes (s33_index_at bytes) (s33_index_at (bytes ++ more))
+  s33_index-reads bytes = reads_then _ (signed-reads 33 bytes) (λ n. reads_value (λ x. x) (not_negative n.0))
+
+  one_index-reads : {X : Type 0} (op : ℕ → X) (bytes : List ℕ) → Reads more 0 bytes (one_index op bytes) (one_index op (bytes ++ more))
+  one_index-reads op bytes = reads_weaken (reads_map _ (u32-reads bytes))
+
+  two_indices-reads : {X : Type 0} (op : ℕ → ℕ → X) (bytes : List ℕ) → Reads more 0 bytes (two_indices op bytes) (two_indices op (bytes ++ more))
+  two_indices-reads op bytes = reads_weaken (reads_then _ (u32-reads bytes) (λ i. reads_map _ (u32-reads i.1)))
+
+  -- memory arguments
+  memarg_behind-reads : (align memory : ℕ) (bytes : List ℕ) → Reads more 1 bytes (memarg_behind align memory bytes) (memarg_behind align memory (bytes ++ more))
+  memarg_behind-reads align memory bytes = reads_map _ (u64-reads bytes)
+
+  memarg-reads : (bytes : List ℕ) → Reads more 1 bytes (memarg_at bytes) (memarg_at (bytes ++ more))
+  unfolding memarg_at
+  memarg-reads bytes =
+      reads_then _ (u32-reads bytes)
+      (λ n. reads_if (nat_lt n.0 64) (memarg_behind-reads n.0 0 n.1)
+      (reads_if (nat_lt n.0 128) (reads_then _ (u32-reads n.1) (λ x. memarg_behind-reads (n.0 - 64) x.0 x.1)) reads_none))
+
+  -- bits
+  little_endian-reads : (n : ℕ) (bytes : List ℕ) → Reads more 0 bytes (little_endian_at n bytes) (little_endian_at n (bytes ++ more))
+  little_endian-reads zero bytes = reads_here
+  little_endian-reads (suc n) [] = reads_none
+  little_endian-reads (suc n) (b ∷ bytes) = reads_weaken (reads_behind (reads_map _ (little_endian-reads n bytes)))
+
+  bits_32-reads : (bytes : List ℕ) → Reads more 0 bytes (bits_32_at bytes) (bits_32_at (bytes ++ more))
+  unfolding bits_32_at
+  bits_32-reads bytes = little_endian-reads 4 bytes
+
+  bits_64-reads : (bytes : List ℕ) → Reads more 0 bytes (bits_64_at bytes) (bits_64_at (bytes ++ more))
+  unfolding bits_64_at
+  bits_64-reads bytes = reads_then _ (bits_32-reads bytes) (λ low. reads_map _ (bits_32-reads low.1))
+
+  bits_128-reads : (bytes : List ℕ) → Reads more 0 bytes (bits_128_at bytes) (bits_128_at (bytes ++ more))
+  unfolding bits_128_at
+  bits_128-reads bytes = reads_then _ (bits_64-reads bytes) (λ low. reads_map _ (bits_64-reads low.1))
+
+  -- parts of control instructions and of casts
+  catch-reads : (bytes : List ℕ) → Reads more 1 bytes (catch_at bytes) (catch_at (bytes ++ more))
+  unfolding catch_at
+  catch-reads [] = reads_none
+  catch-reads (b ∷ bytes) =
+      reads_behind
+      (reads_if (b == 0) (two_indices-reads _ bytes)
+      (reads_if (b == 1) (two_indices-reads _ bytes)
+      (reads_if (b == 2) (one_index-reads _ bytes)
+      (reads_if (b == 3) (one_index-reads _ bytes) reads_none))))
+
+  br_table-reads : (bytes : List ℕ) → Reads more 1 bytes (br_table_at bytes) (br_table_at (bytes ++ more))
+  br_table-reads bytes = reads_then _ (reads_list u32_at u32-reads bytes) (λ ls. reads_map _ (u32-reads ls.1))
+
+  cast_flags-reads : (bytes : List ℕ) → Reads more 1 bytes (cast_flags_at bytes) (cast_flags_at (bytes ++ more))
+  unfolding cast_flags_at
+  cast_flags-reads [] = reads_none
+  cast_flags-reads (b ∷ bytes) = reads_behind (reads_value (λ f. f) (cast_flags_from b))
+
+  -- families without types
+  call-reads : (b : ℕ) (bytes : List ℕ) → Reads more 0 bytes (call_from b bytes) (call_from b (bytes ++ more))
+  unfolding call_from
+  call-reads b bytes =
+      reads_if (b == 0x10) (one_index-reads _ bytes)
+      (reads_if (b == 0x11) (two_indices-reads _ bytes)
+      (reads_if (b == 0x12) (one_index-reads _ bytes)
+      (reads_if (b == 0x13) (two_indices-reads _ bytes)
+      (reads_if (b == 0x14) (one_index-reads _ bytes)
+      (reads_if (b == 0x15) (one_index-reads _ bytes)
+      reads_none)))))
+
+  variable-reads : (b : ℕ) (bytes : List ℕ) → Reads more 0 bytes (variable_from b bytes) (variable_from b (bytes ++ more))
+  unfolding variable_from
+  variable-reads b bytes =
+      reads_if (b == 0x20) (one_index-reads _ bytes)
+      (reads_if (b == 0x21) (one_index-reads _ bytes)
+      (reads_if (b == 0x22) (one_index-reads _ bytes)
+      (reads_if (b == 0x23) (one_index-reads _ bytes)
+      (reads_if (b == 0x24) (one_index-reads _ bytes)
+      reads_none))))
+
+  table_access-reads : (b : ℕ) (bytes : List ℕ) → Reads more 0 bytes (table_access_from b bytes) (table_access_from b (bytes ++ more))
+  unfolding table_access_from
+  table_access-reads b bytes =
+      reads_if (b == 0x25) (one_index-reads _ bytes)
+      (reads_if (b == 0x26) (one_index-reads _ bytes)
+      reads_none)
+
+  table-reads : (n : ℕ) (bytes : List ℕ) → Reads more 0 bytes (table_from n bytes) (table_from n (bytes ++ more))
+  unfolding table_from
+  table-reads n bytes =
+      reads_if (n == 12) (two_indices-reads _ bytes)
+      (reads_if (n == 13) (one_index-reads _ bytes)
+      (reads_if (n == 14) (two_indices-reads _ bytes)
+      (reads_if (n == 15) (one_index-reads _ bytes)
+      (reads_if (n == 16) (one_index-reads _ bytes)
+      (reads_if (n == 17) (one_index-reads _ bytes)
+      reads_none)))))
+
+  memory_size-reads : (b : ℕ) (bytes : List ℕ) → Reads more 0 bytes (memory_size_from b bytes) (memory_size_from b (bytes ++ more))
+  unfolding memory_size_from
+  memory_size-reads b bytes =
+      reads_if (b == 0x3f) (one_index-reads _ bytes)
+      (reads_if (b == 0x40) (one_index-reads _ bytes)
+      reads_none)
+
+  memory-reads : (n : ℕ) (bytes : List ℕ) → Reads more 0 bytes (memory_from n bytes) (memory_from n (bytes ++ more))
+  unfolding memory_from
+  memory-reads n bytes =
+      reads_if (n == 8) (two_indices-reads _ bytes)
+      (reads_if (n == 9) (one_index-reads _ bytes)
+      (reads_if (n == 10) (two_indices-reads _ bytes)
+      (reads_if (n == 11) (one_index-reads _ bytes)
+      reads_none)))
+
+  constant-reads : (b : ℕ) (bytes : List ℕ) → Reads more 0 bytes (constant_from b bytes) (constant_from b (bytes ++ more))
+  unfolding constant_from
+  constant-reads b bytes =
+      reads_if (b == 0x41) (reads_weaken (reads_map _ (signed-reads 32 bytes)))
+      (reads_if (b == 0x42) (reads_weaken (reads_map _ (signed-reads 64 bytes)))
+      (reads_if (b == 0x43) (reads_map _ (bits_32-reads bytes))
+      (reads_if (b == 0x44) (reads_map _ (bits_64-reads bytes))
+      reads_none)))
+
+  vector-reads : (n : ℕ) (bytes : List ℕ) → Reads more 0 bytes (vector_from n bytes) (vector_from n (bytes ++ more))
+  unfolding vector_from
+  vector-reads n bytes = reads_if (n == 12) (reads_map _ (bits_128-reads bytes)) reads_none
+
+  struct-reads : (n : ℕ) (bytes : List ℕ) → Reads more 0 bytes (struct_from n bytes) (struct_from n (bytes ++ more))
+  unfolding struct_from
+  struct-reads n bytes =
+      reads_if (n == 0) (one_index-reads _ bytes)
+      (reads_if (n == 1) (one_index-reads _ bytes)
+      (reads_if (n == 2) (two_indices-reads _ bytes)
+      (reads_if (n == 3) (two_indices-reads _ bytes)
+      (reads_if (n == 4) (two_indices-reads _ bytes)
+      (reads_if (n == 5) (two_indices-reads _ bytes)
+      (reads_if (n == 32) (one_index-reads _ bytes)
+      (reads_if (n == 33) (one_index-reads _ bytes)
+      reads_none)))))))
+
+  array-reads : (n : ℕ) (bytes : List ℕ) → Reads more 0 bytes (array_from n bytes) (array_from n (bytes ++ more))
+  unfolding array_from
+  array-reads n bytes =
+      reads_if (n == 6) (one_index-reads _ bytes)
+      (reads_if (n == 7) (one_index-reads _ bytes)
+      (reads_if (n == 8) (two_indices-reads _ bytes)
+      (reads_if (n == 9) (two_indices-reads _ bytes)
+      (reads_if (n == 10) (two_indices-reads _ bytes)
+      (reads_if (n == 11) (one_index-reads _ bytes)
+      (reads_if (n == 12) (one_index-reads _ bytes)
+      (reads_if (n == 13) (one_index-reads _ bytes)
+      (reads_if (n == 14) (one_index-reads _ bytes)
+      (reads_if (n == 15) reads_here
+      (reads_if (n == 16) (one_index-reads _ bytes)
+      (reads_if (n == 17) (two_indices-reads _ bytes)
+      (reads_if (n == 18) (two_indices-reads _ bytes)
+      (reads_if (n == 19) (two_indices-reads _ bytes)
+      reads_none)))))))))))))
+
+  module _ {R : Type 0} (to : ℕ → R) where
+    block-reads : (bytes : List ℕ) → Reads more 1 bytes (block_at to bytes) (block_at to (bytes ++ more))
+    unfolding block_at
+    block-reads [] = reads_none
+    block-reads (b ∷ bytes) =
+        reads_if (b == 0x40) (reads_behind reads_here)
+        (reads_if (nat_lt b 0x40) (reads_map _ (s33_index-reads (b ∷ bytes)))
+        (reads_if (nat_lt b 0x80) (reads_map _ (val-reads to (b ∷ bytes)))
+        (reads_map _ (s33_index-reads (b ∷ bytes)))))
+
+    try_table-reads : (bytes : List ℕ) → Reads more 1 bytes (try_table_at to bytes) (try_table_at to (bytes ++ more))
+    try_table-reads bytes = reads_then _ (block-reads bytes) (λ b. reads_map _ (reads_list catch_at catch-reads b.1))
+
+    branch-reads : (bytes : List ℕ) → Reads more 1 bytes (branch_at to bytes) (branch_at to (bytes ++ more))
+    unfolding branch_at
+    branch-reads bytes =
+        reads_then _ (cast_flags-reads bytes) (λ f. reads_then _ (u32-reads f.1) (λ l. reads_then _ (heap-reads to l.1) (λ a. reads_map _ (heap-reads to a.1))))
+
+    with_memarg-reads : (found : Option MemoryOperator) (bytes : List ℕ) → Reads more 0 bytes (with_memarg {R = R} bytes found) (with_memarg {R = R} (bytes ++ more) found)
+    with_memarg-reads None bytes = reads_none
+    with_memarg-reads (Some op) bytes = reads_weaken (reads_map _ (memarg-reads bytes))
+
+    control-reads : (b : ℕ) (bytes : List ℕ) → Reads more 0 bytes (control_from to b bytes) (control_from to b (bytes ++ more))
+    unfolding control_from
+    control-reads b bytes =
+        reads_if (b == 0x00) reads_here
+        (reads_if (b == 0x01) reads_here
+        (reads_if (b == 0x02) (reads_weaken (reads_map _ (block-reads bytes)))
+        (reads_if (b == 0x03) (reads_weaken (reads_map _ (block-reads bytes)))
+        (reads_if (b == 0x04) (reads_weaken (reads_map _ (block-reads bytes)))
+        (reads_if (b == 0x05) reads_here
+        (reads_if (b == 0x08) (one_index-reads _ bytes)
+        (reads_if (b == 0x0a) reads_here
+        (reads_if (b == 0x0b) reads_here
+        (reads_if (b == 0x0c) (one_index-reads _ bytes)
+        (reads_if (b == 0x0d) (one_index-reads _ bytes)
+        (reads_if (b == 0x0e) (reads_weaken (reads_map _ (br_table-reads bytes)))
+        (reads_if (b == 0x0f) reads_here
+        (reads_if (b == 0x1f) (reads_weaken (reads_map _ (try_table-reads bytes)))
+        reads_none)))))))))))))
+
+    parametric-reads : (b : ℕ) (bytes : List ℕ) → Reads more 0 bytes (parametric_from to b bytes) (parametric_from to b (bytes ++ more))
+    unfolding parametric_from
+    parametric-reads b bytes =
+        reads_if (b == 0x1a) reads_here
+        (reads_if (b == 0x1b) reads_here
+        (reads_if (b == 0x1c) (reads_weaken (reads_map _ (reads_list (val_at to) (val-reads to) bytes)))
+        reads_none))
+
+    reference-reads : (b : ℕ) (bytes : List ℕ) → Reads more 0 bytes (reference_from to b bytes) (reference_from to b (bytes ++ more))
+    unfolding reference_from
+    reference-reads b bytes =
+        reads_if (b == 0xd0) (reads_weaken (reads_map _ (heap-reads to bytes)))
+        (reads_if (b == 0xd1) reads_here
+        (reads_if (b == 0xd2) (one_index-reads _ bytes)
+        (reads_if (b == 0xd3) reads_here
+        (reads_if (b == 0xd4) reads_here
+        (reads_if (b == 0xd5) (one_index-reads _ bytes)
+        (reads_if (b == 0xd6) (one_index-reads _ bytes)
+        reads_none))))))
+
+    cast-reads : (n : ℕ) (bytes : List ℕ) → Reads more 0 bytes (cast_from to n bytes) (cast_from to n (bytes ++ more))
+    unfolding cast_from
+    cast-reads n bytes =
+        reads_if (n == 20) (reads_weaken (reads_map _ (heap-reads to bytes)))
+        (reads_if (n == 21) (reads_weaken (reads_map _ (heap-reads to bytes)))
+        (reads_if (n == 22) (reads_weaken (reads_map _ (heap-reads to bytes)))
+        (reads_if (n == 23) (reads_weaken (reads_map _ (heap-reads to bytes)))
+        (reads_if (n == 24) (reads_weaken (reads_map _ (branch-reads bytes)))
+        (reads_if (n == 25) (reads_weaken (reads_map _ (branch-reads bytes)))
+        (reads_if (n == 34) (one_index-reads _ bytes)
+        (reads_if (n == 35) (reads_weaken (reads_map _ (heap-reads to bytes)))
+        (reads_if (n == 36) (reads_weaken (reads_map _ (heap-reads to bytes)))
+        (reads_if (n == 37) (reads_weaken (reads_map _ (branch-reads bytes)))
+        (reads_if (n == 38) (reads_weaken (reads_map _ (branch-reads bytes)))
+        reads_none))))))))))
+
+    aggregate-reads : (n : ℕ) (bytes : List ℕ) → Reads more 0 bytes (aggregate_from to n bytes) (aggregate_from to n (bytes ++ more))
+    unfolding aggregate_from
+    aggregate-reads n bytes =
+        reads_if (nat_lt n 6) (reads_map _ (struct-reads n bytes))
+        (reads_if (nat_lt n 20) (reads_map _ (array-reads n bytes))
+        (reads_if (nat_lt n 26) (reads_map _ (cast-reads n bytes))
+        (reads_if (nat_lt n 32) (reads_value _ (conversion_from n))
+        (reads_if (nat_lt n 34) (reads_map _ (struct-reads n bytes))
+        (reads_map _ (cast-reads n bytes))))))
+
+    bulk-reads : (n : ℕ) (bytes : List ℕ) → Reads more 0 bytes (bulk_from to n bytes) (bulk_from to n (bytes ++ more))
+    unfolding bulk_from
+    bulk-reads n bytes =
+        reads_if (nat_lt n 8) (reads_value _ (saturating_from n))
+        (reads_if (nat_lt n 12) (reads_map _ (memory-reads n bytes))
+        (reads_map _ (table-reads n bytes)))
+
+    plain-reads : (b : ℕ) (bytes : List ℕ) → Reads more 0 bytes (plain_from to b bytes) (plain_from to b (bytes ++ more))
+    unfolding plain_from
+    plain-reads b bytes =
+        reads_if (nat_lt b 0x10) (reads_map _ (control-reads b bytes))
+        (reads_if (nat_lt b 0x1a) (reads_map _ (call-reads b bytes))
+        (reads_if (nat_lt b 0x1f) (reads_map _ (parametric-reads b bytes))
+        (reads_if (nat_lt b 0x20) (reads_map _ (control-reads b bytes))
+        (reads_if (nat_lt b 0x25) (reads_map _ (variable-reads b bytes))
+        (reads_if (nat_lt b 0x28) (reads_map _ (table_access-reads b bytes))
+        (reads_if (nat_lt b 0x3f) (with_memarg-reads (access_from b) bytes)
+        (reads_if (nat_lt b 0x41) (reads_map _ (memory_size-reads b bytes))
+        (reads_if (nat_lt b 0x45) (reads_map _ (constant-reads b bytes))
+        (reads_if (nat_lt b 0xd0) (reads_value _ (numeric_from b))
+        (reads_map _ (reference-reads b bytes)))))))))))
+
+    prefixed-reads : (b n : ℕ) (bytes : List ℕ) → Reads more 0 bytes (prefixed_from to b n bytes) (prefixed_from to b n (bytes ++ more))
+    unfolding prefixed_from
+    prefixed-reads b n bytes =
+        reads_if (b == 0xfb) (aggregate-reads n bytes)
+        (reads_if (b == 0xfc) (bulk-reads n bytes)
+        (reads_if (b == 0xfd) (reads_map _ (vector-reads n bytes))
+        (reads_if (b == 0xfe) (reads_value _ (shared_from n)) reads_none)))
+
+    pub instruction-reads : (bytes : List ℕ) → Reads more 1 bytes (instruction_at to bytes) (instruction_at to (bytes ++ more))
+    unfolding instruction_at
+    instruction-reads [] = reads_none
+    instruction-reads (b ∷ bytes) =
+        reads_behind (reads_if (nat_lt b 0xfb) (plain-reads b bytes) (reads_weaken (reads_then _ (u32-reads bytes) (λ n. prefixed-reads b n.0 n.1))))

@@ -1,0 +1,205 @@
+//! Operators and their reading.
+
+ghost use Rattle.std.specs.Prelude.{◌≡◌, ◌≤◌, ◌<◌, ◌+◌, Some, None, IfOk, IfErr, OnOk, OnErr};
+ghost use Rattle.wasm_readers.specs.Reader.{SameInput, position_in, original, rest, RefusedFrom};
+ghost use Rattle.wasm_readers.specs.Written.{written};
+ghost use Rattle.wasm_operators.specs.Refusals.{RefusedBetween};
+ghost use Rattle.wasm_operators.specs.Instructions.{aggregate_from, bulk_from, prefixed_from, plain_from, instruction_at};
+ghost use Rattle.wasm_operators.specs.SeenOperators.{operator_of};
+
+use crate::arrays::{ArrayOperator, read_array};
+use crate::calls::{CallOperator, read_call};
+use crate::constants::{ConstantOperator, read_constant, read_vector};
+use crate::control::{ControlOperator, ParametricOperator, read_control, read_parametric};
+use crate::conversions::{ConversionOperator, conversion_from_code, shared_from_code};
+use crate::memories::{
+    BulkMemoryOperator, MemArg, MemoryOperator, access_from_opcode, read_memarg, read_memory,
+    read_memory_size,
+};
+use crate::references::{CastOperator, ReferenceOperator, read_cast, read_reference};
+use crate::structs::{StructOperator, read_struct};
+use crate::tables::{TableOperator, read_table, read_table_access};
+use crate::variables::{VariableOperator, read_variable};
+use wasm_numeric_operators::{
+    NumericOperator, SaturatingOperator, numeric_from_opcode, saturating_from_code,
+};
+use wasm_readers::BinaryReader;
+use wasm_readers_errors::{Fault, Malformed, Refusal};
+
+/// An operator, by its family (Core Specification 3.0, Binary Format, Instructions).
+#[derive(Clone, Copy, Debug)]
+pub enum Operator<'a> {
+    Control(ControlOperator<'a>),
+    Call(CallOperator),
+    Parametric(ParametricOperator<'a>),
+    Variable(VariableOperator),
+    Table(TableOperator),
+    /// A load or a store.
+    Memory(MemoryOperator, MemArg),
+    BulkMemory(BulkMemoryOperator),
+    Constant(ConstantOperator),
+    Numeric(NumericOperator),
+    Saturating(SaturatingOperator),
+    Reference(ReferenceOperator),
+    Cast(CastOperator),
+    Conversion(ConversionOperator),
+    Struct(StructOperator),
+    Array(ArrayOperator),
+}
+
+/// A refusal of an opcode that stands at this offset.
+fn unknown(offset: u64) -> Refusal
+    ensures { result ≡ record { fault = Fault.Malformed Malformed.Opcode; offset = offset; missing = None } }
+{
+    Refusal::new(Fault::Malformed(Malformed::Opcode), offset)
+}
+
+/// The operator of this code behind the prefix `0xfb`, which stood at this offset.
+#[tactic(auto, unfolding(crate::specs::Instructions::aggregate_from))]
+fn read_aggregate<'a>(
+    reader: &mut BinaryReader<'a>,
+    code: u32,
+    offset: u64,
+) -> Result<Operator<'a>, Refusal>
+    requires { offset ≤ original reader.old + position_in reader.old }
+    ensures same { SameInput reader.old reader.new }
+    ensures onward { position_in reader.old ≤ position_in reader.new }
+    ensures refusal { IfErr result (RefusedBetween offset reader.old) }
+    ensures ok { IfOk result (λ op. aggregate_from written code (rest reader.old) ≡ Some (operator_of op, rest reader.new)) }
+    ensures err { OnErr result (aggregate_from written code (rest reader.old) ≡ None) }
+{
+    if code < 6 {
+        Ok(Operator::Struct(read_struct(reader, code, offset)?))
+    } else if code < 20 {
+        Ok(Operator::Array(read_array(reader, code, offset)?))
+    } else if code < 26 {
+        Ok(Operator::Cast(read_cast(reader, code, offset)?))
+    } else if code < 32 {
+        match conversion_from_code(code) {
+            Some(op) => Ok(Operator::Conversion(op)),
+            None => Err(unknown(offset)),
+        }
+    } else if code < 34 {
+        Ok(Operator::Struct(read_struct(reader, code, offset)?))
+    } else {
+        Ok(Operator::Cast(read_cast(reader, code, offset)?))
+    }
+}
+
+/// The operator of this code behind the prefix `0xfc`, which stood at this offset.
+#[tactic(auto, unfolding(crate::specs::Instructions::bulk_from))]
+fn read_bulk<'a>(
+    reader: &mut BinaryReader<'a>,
+    code: u32,
+    offset: u64,
+) -> Result<Operator<'a>, Refusal>
+    requires { offset ≤ original reader.old + position_in reader.old }
+    ensures same { SameInput reader.old reader.new }
+    ensures onward { position_in reader.old ≤ position_in reader.new }
+    ensures refusal { IfErr result (RefusedBetween offset reader.old) }
+    ensures ok { IfOk result (λ op. bulk_from written code (rest reader.old) ≡ Some (operator_of op, rest reader.new)) }
+    ensures err { OnErr result (bulk_from written code (rest reader.old) ≡ None) }
+{
+    if code < 8 {
+        match saturating_from_code(code) {
+            Some(op) => Ok(Operator::Saturating(op)),
+            None => Err(unknown(offset)),
+        }
+    } else if code < 12 {
+        Ok(Operator::BulkMemory(read_memory(reader, code, offset)?))
+    } else {
+        Ok(Operator::Table(read_table(reader, code, offset)?))
+    }
+}
+
+/// The operator of this code behind this prefix, which stood at this offset.
+#[tactic(auto, unfolding(crate::specs::Instructions::prefixed_from))]
+fn read_prefixed<'a>(
+    reader: &mut BinaryReader<'a>,
+    prefix: u8,
+    code: u32,
+    offset: u64,
+) -> Result<Operator<'a>, Refusal>
+    requires { offset ≤ original reader.old + position_in reader.old }
+    ensures same { SameInput reader.old reader.new }
+    ensures onward { position_in reader.old ≤ position_in reader.new }
+    ensures refusal { IfErr result (RefusedBetween offset reader.old) }
+    ensures ok { IfOk result (λ op. prefixed_from written prefix code (rest reader.old) ≡ Some (operator_of op, rest reader.new)) }
+    ensures err { OnErr result (prefixed_from written prefix code (rest reader.old) ≡ None) }
+{
+    match prefix {
+        0xfb => read_aggregate(reader, code, offset),
+        0xfc => read_bulk(reader, code, offset),
+        0xfd => Ok(Operator::Constant(read_vector(reader, code, offset)?)),
+        0xfe => match shared_from_code(code) {
+            Some(op) => Ok(Operator::Conversion(op)),
+            None => Err(unknown(offset)),
+        },
+        _ => Err(unknown(offset)),
+    }
+}
+
+/// The operator of this opcode, which is below `0xfb` and stood at this offset.
+#[tactic(auto, unfolding(crate::specs::Instructions::plain_from))]
+fn read_plain<'a>(
+    reader: &mut BinaryReader<'a>,
+    opcode: u8,
+    offset: u64,
+) -> Result<Operator<'a>, Refusal>
+    requires { offset ≤ original reader.old + position_in reader.old }
+    ensures same { SameInput reader.old reader.new }
+    ensures onward { position_in reader.old ≤ position_in reader.new }
+    ensures refusal { IfErr result (RefusedBetween offset reader.old) }
+    ensures ok { IfOk result (λ op. plain_from written opcode (rest reader.old) ≡ Some (operator_of op, rest reader.new)) }
+    ensures err { OnErr result (plain_from written opcode (rest reader.old) ≡ None) }
+{
+    if opcode < 0x10 {
+        Ok(Operator::Control(read_control(reader, opcode, offset)?))
+    } else if opcode < 0x1a {
+        Ok(Operator::Call(read_call(reader, opcode, offset)?))
+    } else if opcode < 0x1f {
+        Ok(Operator::Parametric(read_parametric(reader, opcode, offset)?))
+    } else if opcode < 0x20 {
+        Ok(Operator::Control(read_control(reader, opcode, offset)?))
+    } else if opcode < 0x25 {
+        Ok(Operator::Variable(read_variable(reader, opcode, offset)?))
+    } else if opcode < 0x28 {
+        Ok(Operator::Table(read_table_access(reader, opcode, offset)?))
+    } else if opcode < 0x3f {
+        match access_from_opcode(opcode) {
+            Some(op) => Ok(Operator::Memory(op, read_memarg(reader)?)),
+            None => Err(unknown(offset)),
+        }
+    } else if opcode < 0x41 {
+        Ok(Operator::BulkMemory(read_memory_size(reader, opcode, offset)?))
+    } else if opcode < 0x45 {
+        Ok(Operator::Constant(read_constant(reader, opcode, offset)?))
+    } else if opcode < 0xd0 {
+        match numeric_from_opcode(opcode) {
+            Some(op) => Ok(Operator::Numeric(op)),
+            None => Err(unknown(offset)),
+        }
+    } else {
+        Ok(Operator::Reference(read_reference(reader, opcode, offset)?))
+    }
+}
+
+/// The next operator.
+#[tactic(auto, unfolding(crate::specs::Instructions::instruction_at))]
+pub fn read_operator<'a>(reader: &mut BinaryReader<'a>) -> Result<Operator<'a>, Refusal>
+    ensures same { SameInput reader.old reader.new }
+    ensures onward { position_in reader.old ≤ position_in reader.new }
+    ensures refusal { IfErr result (RefusedFrom reader.old) }
+    ensures ok { IfOk result (λ op. instruction_at written (rest reader.old) ≡ Some (operator_of op, rest reader.new)) }
+    ensures further { OnOk result (position_in reader.old < position_in reader.new) }
+    ensures err { OnErr result (instruction_at written (rest reader.old) ≡ None) }
+{
+    let offset = reader.original_position();
+    let opcode = reader.read_u8()?;
+    if opcode < 0xfb {
+        read_plain(reader, opcode, offset)
+    } else {
+        let code = reader.read_var_u32()?;
+        read_prefixed(reader, opcode, code, offset)
+    }
+}
