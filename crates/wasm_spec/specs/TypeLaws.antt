@@ -9,7 +9,7 @@ use Rattle.wasm_spec.specs.Features.{Features, canonical}
 use Rattle.wasm_spec.specs.Trees.{RecTree, TypeUse, DefType, close, members, start_of, declared}
 use Rattle.wasm_spec.specs.Closing.{closed, resolve, with_group, type_space}
 use Rattle.wasm_spec.specs.TypeLists.{ListedUse, by_id, by_position, listed_from, listed_tree, with_listed, types_of}
-use Rattle.wasm_spec.specs.Declared.{IsAncestor, IsDepth, ancestor_at}
+use Rattle.wasm_spec.specs.Declared.{IsAncestor, IsDepth, Links, ancestor_at}
 use Rattle.wasm_spec.specs.Matching.{MatchesAbstract, kind_of, MatchesHeap, MatchesRef, MatchesVal, MatchesComp, MatchesSub}
 use Rattle.wasm_spec.specs.MatchingTests.{World, IsWorld, matches_abstract, matches_heap, matches_ref, matches_val}
 use Rattle.wasm_spec.specs.GroupRules.{IsValidType, IsValidTypeSection}
@@ -174,7 +174,9 @@ pub record AcceptedTypesMatchAncestors (R : Type 0) : Type 0 where
 abbrev pub ValidTypeSectionIsAccepted : Type 0
 ValidTypeSectionIsAccepted = (F : Features) (gs : List (Rec ℕ)) (h : IsValidTypeSection F gs) → AreAccepted F declared h.types
 
--- A type has one number of proper ancestors at most, and a valid one at most 63 of them.
+-- A type has one number of proper ancestors at most, and a valid one at most 63 of them, so that no more links than
+-- these are followed from it.
 pub record DepthsAreSmall (R : Type 0) : Type 0 where
   pub one_depth : (D : R → Option (Sub R)) (a : R) (m n : ℕ) → IsDepth D a m → IsDepth D a n → m ≡ n
   pub at_most_63 : (F : Features) (D : R → Option (Sub R)) (a : R) (n : ℕ) → IsValidType F D a → IsDepth D a n → n ≤ 63
+  pub few_links : (F : Features) (D : R → Option (Sub R)) (a b : R) (n : ℕ) → IsValidType F D a → Links D a b n → n ≤ 63
