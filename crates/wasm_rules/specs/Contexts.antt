@@ -1,6 +1,6 @@
 -- What instructions look up of a module, over any kind of identity R of types: the context of the Core Specification
 -- 3.0 (Validation, Conventions, Contexts), as finite lists.
-use Rattle.std.specs.Prelude.{ℕ, ◌≡◌, ◌<◌, Bool, true, false, List, [], ◌∷◌, ◌++◌, map, slice_get, Option, Some, None}
+use Rattle.std.specs.Prelude.{ℕ, ◌≡◌, ◌≢◌, ◌<◌, Bool, true, false, List, [], ◌∷◌, ◌++◌, map, slice_get, Option, Some, None}
 use Rattle.std.specs.List.{flat_map, All, Contains}
 use Rattle.wasm_spec.specs.Syntax.{Ref, Table, Memory, Global, Sub, Extern, func_extern, func_exact_extern, map_ref, map_table, map_global, map_sub}
 use Rattle.wasm_spec.specs.BinaryModules.{Import}
@@ -94,3 +94,7 @@ abbrev pub ContextsAreRenamed : (R S : Type 0) → Type 0
 ContextsAreRenamed R S =
     (f : R → S) (n : DefType → R) (distinct : List DefType) (named : Expression → List ℕ) (C : IndexSpaces) (parts : Parts)
     → map_context f (context_over n distinct named C parts) ≡ context_over (λ d. f (n d)) distinct named C parts
+
+-- A type that comes twice is one of the distinct types.
+abbrev pub RepeatedTypeIsOne : Type 0
+RepeatedTypeIsOne = (a b : DefType) → a ≢ b → AreFirst (a ∷ b ∷ a ∷ []) (a ∷ b ∷ [])

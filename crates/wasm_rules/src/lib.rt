@@ -2,7 +2,7 @@
 //! chapter Validation. Contracts of the validator cite them.
 #![tactic(auto)]
 
-ghost use Rattle.wasm_rules.specs.Contexts.{ContextsAreRenamed};
+ghost use Rattle.wasm_rules.specs.Contexts.{ContextsAreRenamed, RepeatedTypeIsOne};
 ghost use Rattle.wasm_rules.specs.Totals.{TotalsGoOn};
 ghost use Rattle.wasm_rules.specs.ModuleExamples.{TableOfOneOrTwo, NoTableOfTwoToOne, NoTableWithoutEntries, MemoryOfAllAddresses, NoMemoryPastAllAddresses, NoSharedGlobal, NoTagWithoutExceptions, NoMutableImport, MemoryIsExported, NoSecondMemory, NoNameTwice, SizeIsThree, NoStartWithParameter, NoPassiveElements, NoPassiveData, NoTwoMemories, HeaderIsModule, NoVersionTwo};
 
@@ -33,6 +33,12 @@ pub fn module_examples()
 #[tactic(auto, using(crate::proofs::Contexts::contexts_are_renamed))]
 pub fn contexts_are_renamed<R, S>()
     ensures renamed { ContextsAreRenamed R S }
+{}
+
+/// A type that a module has twice is numbered once.
+#[tactic(auto, using(crate::proofs::Contexts::repeated_type_is_one))]
+pub fn repeated_types_are_numbered_once()
+    ensures once { RepeatedTypeIsOne }
 {}
 
 /// The types of a run of modules behind another are added to those of that one.
