@@ -226,6 +226,11 @@ module _ (features : WasmFeatures) (T : Types) (ps : List Piece) (a : Accepted f
     functions = indices_are;
     imports = in_rows (ids T a.signatures) (list_after T a.signatures) (arities_of T a.signatures) (have_arities T a.signatures) a.functions;
     exports = ap (λ (functions : List ℕ). map (export_row (ids T a.signatures) functions) a.exports) indices_are;
+    no_tables = (served_only (section_space F T a.signatures) a.signatures a.functions a.exports).tables;
+    no_memories = (served_only (section_space F T a.signatures) a.signatures a.functions a.exports).memories;
+    no_globals = (served_only (section_space F T a.signatures) a.signatures a.functions a.exports).globals;
+    no_tags = (served_only (section_space F T a.signatures) a.signatures a.functions a.exports).tags;
+    no_elements = refl;
   }
 
 -- what is accepted is a valid module, and its types show it

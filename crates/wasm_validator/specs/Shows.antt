@@ -77,3 +77,9 @@ pub record ShowModule (F : Features) (list : Types) (spaces : Spaces) (C : Index
   pub functions : spaces.functions ≡ C.functions
   pub imports : spaces.imports ≡ import_rows spaces.types parts.imports
   pub exports : spaces.exports ≡ map (export_row spaces.types C.functions) parts.exports
+  -- the counts of these are 0
+  pub no_tables : C.tables ≡ []
+  pub no_memories : C.memories ≡ []
+  pub no_globals : C.globals ≡ []
+  pub no_tags : C.tags ≡ []
+  pub no_elements : parts.elements ≡ []
