@@ -36,7 +36,6 @@ pub fn contexts_are_renamed<R, S>()
 {}
 
 /// A type that a module has twice is numbered once.
-#[tactic(auto, using(crate::proofs::Contexts::repeated_type_is_one))]
 pub fn repeated_types_are_numbered_once()
     ensures once { RepeatedTypeIsOne }
 {}
