@@ -18,7 +18,8 @@ pub use items::{
 pub use lists::read_list;
 pub use section_limited::{FromReader, SectionItems, SectionLimited};
 pub use wasm_readers_errors::{
-    Counted, Error, Fault, ItemKind, Malformed, OutOfOrder, Refusal, Rule, Unserved, WasmFeatures,
+    Counted, DescriptorRule, Error, Fault, GroupRule, ItemKind, Malformed, OutOfOrder, Refusal,
+    Rule, Unserved, ValueTypeRule, WasmFeatures,
 };
 pub use wasm_readers_types::{
     AbstractHeapType, ArrayType, CompositeInnerType, CompositeType, ContType, CoreTypeId,

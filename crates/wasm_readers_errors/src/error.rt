@@ -1,6 +1,7 @@
 ghost use Rattle.std.specs.Prelude.{◌≡◌};
 
 use crate::features::WasmFeatures;
+use crate::type_rules::{DescriptorRule, GroupRule, ValueTypeRule};
 use std::alloc::{AllocError, AllocFailed};
 use std::fmt;
 
@@ -224,9 +225,23 @@ pub enum Fault {
     Malformed(Malformed),
     OutOfOrder(OutOfOrder),
     Rule(Rule),
+    /// A rule of recursion groups and their types.
+    Group(GroupRule),
+    /// A rule of descriptor clauses.
+    Descriptor(DescriptorRule),
+    /// A reference type without the proposal that it needs.
+    ValueType(ValueTypeRule),
     /// A type index that is not in the type index space.
     UnknownType(u32),
+    /// The index of the type that it stands in, where no type refers to itself.
+    UnknownTypeWithoutGc(u32),
+    /// A type index behind the recursion group that it stands in.
+    OutOfGroup(u32),
+    /// A sub type with so many types above it.
+    SubtypesTooDeep(u32),
     NotAFunctionType(u32),
+    /// A continuation type of a type, by its id, that is not a function type.
+    NotAFunctionId(u32),
     /// An export of an index that is not in its index space.
     UnknownExport(ItemKind, u32),
     /// More of something than may be.
@@ -244,34 +259,62 @@ impl fmt::Display for Fault {
             Fault::Malformed(malformed) => f.write_str(malformed.text()),
             Fault::OutOfOrder(order) => f.write_str(order.text()),
             Fault::Rule(rule) => f.write_str(rule.text()),
-            Fault::UnknownType(index) => write!(
+            Fault::Group(rule) => f.write_str(rule.text()),
+            Fault::Descriptor(rule) => f.write_str(rule.text()),
+            Fault::ValueType(rule) => f.write_str(rule.text()),
+            Fault::UnknownType(index) => write_unknown_type(f, *index, "bounds"),
+            Fault::UnknownTypeWithoutGc(index) => write_unknown_type(
                 f,
-                "unknown type {index}: type index out of bounds"
+                *index,
+                "bounds because the GC proposal is disabled",
+            ),
+            Fault::OutOfGroup(index) => write_unknown_type(f, *index, "rec group bounds"),
+            Fault::SubtypesTooDeep(depth) => write!(
+                f,
+                "sub type hierarchy too deep: found depth {depth}, cannot exceed depth 63"
             ),
             Fault::NotAFunctionType(index) => write!(
                 f,
                 "type index {index} is not a function type"
             ),
-            Fault::UnknownExport(kind, index) => {
-                let kind = kind.text();
-                write!(
-                    f,
-                    "unknown {kind} {index}: exported {kind} index out of bounds"
-                )
-            }
+            Fault::NotAFunctionId(id) => write!(f, "non-function type {id}"),
+            Fault::UnknownExport(kind, index) => write_unknown_export(f, kind.text(), *index),
             Fault::Limit(what, limit) => write_limit(f, what.text(), *limit),
             Fault::UnknownSection(id) => write!(f, "malformed section id: {id}"),
             Fault::UnknownBinaryVersion(number) => write!(f, "unknown binary version: {number:#x}"),
-            Fault::ComponentHeader(number) => write!(
-                f,
-                "unknown binary version and encoding combination: {number:#x} and 0x1, note: encoded as a component but the WebAssembly component model feature is not enabled - enable the feature to allow component validation"
-            ),
+            Fault::ComponentHeader(number) => write_component_header(f, *number),
             Fault::NotServed(what) => {
                 let what = what.text();
                 write!(f, "not served yet: {what}")
             }
         }
     }
+}
+
+fn write_unknown_type<W: fmt::Write>(
+    f: &mut fmt::Formatter<W>,
+    index: u32,
+    bounds: &str,
+) -> fmt::Result {
+    write!(f, "unknown type {index}: type index out of {bounds}")
+}
+
+fn write_unknown_export<W: fmt::Write>(
+    f: &mut fmt::Formatter<W>,
+    kind: &str,
+    index: u32,
+) -> fmt::Result {
+    write!(
+        f,
+        "unknown {kind} {index}: exported {kind} index out of bounds"
+    )
+}
+
+fn write_component_header<W: fmt::Write>(f: &mut fmt::Formatter<W>, number: u16) -> fmt::Result {
+    write!(
+        f,
+        "unknown binary version and encoding combination: {number:#x} and 0x1, note: encoded as a component but the WebAssembly component model feature is not enabled - enable the feature to allow component validation"
+    )
 }
 
 fn write_limit<W: fmt::Write>(f: &mut fmt::Formatter<W>, what: &str, limit: u32) -> fmt::Result {

@@ -3,6 +3,8 @@
 
 pub mod error;
 pub mod features;
+pub mod type_rules;
 
 pub use error::{Counted, Error, Fault, ItemKind, Malformed, OutOfOrder, Refusal, Rule, Unserved};
 pub use features::WasmFeatures;
+pub use type_rules::{DescriptorRule, GroupRule, ValueTypeRule};
