@@ -1,0 +1,19 @@
+-- Which composite types the features allow. Core Specification 3.0, Validation, Types, Composite Types, and the
+-- proposals by which each form came.
+use Rattle.std.specs.Prelude.{Bool, ◌&&◌}
+use Rattle.std.specs.List.{list_all}
+use Rattle.wasm_spec.specs.Syntax.{Comp}
+use Rattle.wasm_spec.specs.Features.{Features}
+use Rattle.wasm_spec.specs.ValueTypes.{implies, allows_storage}
+use Rattle.wasm_spec.specs.GroupRules.{storages, has_many_results, is_array, is_struct, is_cont}
+
+-- the features that each form needs
+abbrev pub allows_form : {R : Type 0} → Features → Comp R → Bool
+allows_form F c =
+    implies (has_many_results c) F.multi_value
+    && implies (is_array c) (F.gc && F.gc_types)
+    && implies (is_struct c) (F.gc && F.gc_types)
+    && implies (is_cont c) (F.stack_switching && F.gc_types)
+
+abbrev pub allows_comp : {R : Type 0} → Features → Comp R → Bool
+allows_comp F c = list_all (allows_storage F) (storages c) && allows_form F c

@@ -1,0 +1,12 @@
+//! Value types and composite types by the proposals that a module may use.
+#![tactic(auto)]
+
+mod composite_types;
+mod require;
+mod value_types;
+
+pub use composite_types::check_composite_type;
+pub use value_types::{check_ref_type, check_value_type};
+
+#[cfg(test)]
+mod tests;
