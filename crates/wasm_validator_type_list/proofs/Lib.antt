@@ -6,5 +6,14 @@ pub mod Once
 pub mod Few
 pub mod Sound
 pub mod Lookups
+pub mod Declares
+pub mod Chains
+pub mod Relations
+pub mod Matches
+pub mod Grouped
+pub mod Composite
+pub mod Joined
+pub mod Worlds
+pub mod Order
 pub mod Counting
 pub mod Examples

@@ -17,7 +17,7 @@ not_module n m (Module i) h = absurd h
 not_module n m (RecGroup i) h = refl
 not_module n m (Id id) h = refl
 
-group_found : {X : Type 0} (xs : List X) (k : ℕ) → k < length xs → (x : X) × (slice_get xs k ≡ Some x)
+pub group_found : {X : Type 0} (xs : List X) (k : ℕ) → k < length xs → (x : X) × (slice_get xs k ≡ Some x)
 group_found [] k h = absurd (omega (arith, h))
 group_found (x ∷ xs) zero h = (x, refl)
 group_found (x ∷ xs) (suc k) h = group_found xs k (omega (arith, h))
@@ -28,7 +28,7 @@ pub record IsMember {X : Type 0} (gs : List (List X)) (k place : ℕ) (x : X) : 
   pub group : slice_get gs k ≡ Some members
   pub position : slice_get members (place - first_of gs k) ≡ Some x
 
-first_of-next : {X : Type 0} (gs : List (List X)) (k : ℕ) (g : List X) → slice_get gs k ≡ Some g → first_of gs (k + 1) ≡ first_of gs k + length g
+pub first_of-next : {X : Type 0} (gs : List (List X)) (k : ℕ) (g : List X) → slice_get gs k ≡ Some g → first_of gs (k + 1) ≡ first_of gs k + length g
 first_of-next [] k g e = absurd (none-some g e)
 first_of-next (x ∷ xs) zero g e = let same : x ≡ g = same_Some x g e in omega (arith, ap length same, length-append x [])
 first_of-next (x ∷ xs) (suc k) g e =

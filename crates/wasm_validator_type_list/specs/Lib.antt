@@ -10,3 +10,9 @@ pub mod Refused
 pub mod Lookups
 pub mod Sizes
 pub mod Elements
+pub mod Declares
+pub mod Reading
+pub mod Subtyping
+pub mod Grouped
+pub mod Worlds
+pub mod Laws

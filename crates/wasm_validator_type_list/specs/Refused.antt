@@ -5,7 +5,7 @@ use Rattle.std.specs.declared.result.Result.{Result}
 use Rattle.std.specs.declared.result.Result.TheVariants.{Ok, Err}
 use Rattle.wasm_readers_errors.specs.declared.error.Error.{Error}
 use Rattle.wasm_readers_errors.specs.declared.error.Error.TheVariants.{Refused, OutOfMemory}
-use Rattle.wasm_readers_errors.specs.declared.error.Fault.TheVariants.{Rule, UnknownType}
+use Rattle.wasm_readers_errors.specs.declared.error.Fault.TheVariants.{Rule, OutOfGroup}
 use Rattle.wasm_readers_errors.specs.declared.error.Refusal.{Refusal}
 use Rattle.wasm_readers_errors.specs.declared.error.Rule.TheVariants.{TooManyTypes}
 use Rattle.wasm_readers_types.specs.declared.indices.TheConstants.{MAX_IDS}
@@ -16,7 +16,7 @@ too_many_types offset = record { fault = Rule TooManyTypes; offset = offset; mis
 
 -- the position is not in the group
 abbrev pub not_in_group : ℕ → ℕ → Refusal
-not_in_group index offset = record { fault = UnknownType index; offset = offset; missing = None }
+not_in_group index offset = record { fault = OutOfGroup index; offset = offset; missing = None }
 
 -- The call at the offset refuses the content exactly where this number of types is more than there are ids, unless
 -- memory is refused.

@@ -14,6 +14,8 @@ use wasm_readers_types::{
     StorageType, StructType, SubType, ValType,
 };
 
+mod subtyping;
+
 /// The function type that takes nothing and gives nothing.
 fn empty_signature(alloc: Global) -> FuncType
     ensures { func_of result ≡ func [] [] }

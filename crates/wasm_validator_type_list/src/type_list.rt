@@ -20,6 +20,8 @@ use wasm_readers_errors::{Fault, Refusal};
 use wasm_readers_types::{CoreTypeId, PackedIndex, RecGroup, SubType, UnpackedIndex};
 
 mod interning;
+mod matching;
+mod relations;
 
 /// The number of each group, found by its sub types.
 type KnownGroups<A> = HashMap<RecGroup<A>, u32, BuildHasherDefault<FoldHasher>, A>;
@@ -254,7 +256,7 @@ fn local_id(ids: &Range<CoreTypeId>, index: u32, offset: u64) -> Result<CoreType
     if place < ids.end.index() {
         Ok(CoreTypeId::from_index(place as u32))
     } else {
-        Err(Refusal::new(Fault::UnknownType(index), offset))
+        Err(Refusal::new(Fault::OutOfGroup(index), offset))
     }
 }
 

@@ -1,0 +1,7 @@
+use Rattle.wasm_readers_types.specs.SeenValues.{abstract_heap_of}
+use Rattle.wasm_validator_type_list.proofs.Matches.{abstract-decides}
+use Rattle.wasm_validator_type_list.proofs.type_list.TypeList.abstract_matches.Goals as goal
+
+pub returns-then-shared-other_shared : goal.returns-then-shared-other_shared
+returns-then-shared-other_shared g c =
+    rw c.in-Abstract.is (abstract-decides c.args.shared c.in-Abstract.other_shared (abstract_heap_of c.args.ty) (abstract_heap_of c.in-Abstract.other) c.abstract_is_subtype.result c.if-shared-other_shared.true c.abstract_is_subtype.ensures)

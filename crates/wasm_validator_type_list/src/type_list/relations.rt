@@ -1,0 +1,224 @@
+ghost use Rattle.std.specs.Prelude.{◌≡◌, ◌+◌, ◌<◌, ◌^◌, length};
+ghost use Rattle.std.specs.Bool.{Decides};
+ghost use Rattle.std.specs.declared.option.Option.TheVariants.{Some};
+ghost use Rattle.wasm_spec.specs.Syntax.{abstract_heap, concrete, exact};
+ghost use Rattle.wasm_spec.specs.Declared.{IsAncestor};
+ghost use Rattle.wasm_spec.specs.Matching.{MatchesKind, IsAboveBottom, MatchesHeap, MatchesRef, MatchesVal, top_of_heap, is_shared_type, is_shared_heap, is_shared_val};
+ghost use Rattle.wasm_readers_types.specs.SeenValues.{abstract_heap_of};
+ghost use Rattle.wasm_validator_type_list.specs.Listing.{types_in};
+ghost use Rattle.wasm_validator_type_list.specs.Declares.{declares};
+ghost use Rattle.wasm_validator_type_list.specs.Reading.{Counts};
+ghost use Rattle.wasm_validator_type_list.specs.Subtyping.{IsHeapOver, IsRefOver, IsValOver, heap_by_ids, ref_by_ids, val_by_ids};
+
+use crate::link_count::LinkCount;
+use crate::subtyping::{abstract_is_subtype, abstract_top, id_in, is_bottom, kind};
+use crate::type_list::TypeList;
+use std::alloc::Allocator;
+use wasm_readers_types::{AbstractHeapType, CoreTypeId, HeapType, RefType, ValType};
+
+impl<A: Allocator + Copy> TypeList<A> {
+    /// Whether the second type is the first or one of its declared ancestors (Core Specification
+    /// 3.0, Validation, Matching, Defined Types). It takes no memory.
+    pub fn id_is_subtype(&self, a: CoreTypeId, b: CoreTypeId) -> bool
+        requires sub { a.index < length (types_in self.now) }
+        requires sup { b.index < length (types_in self.now) }
+        ensures { Decides result (IsAncestor (declares self.now.groups) a.index b.index) }
+    {
+        let mut count = LinkCount::new();
+        self.id_is_subtype_counted(a, b, &mut count)
+    }
+
+    /// The same, and adds one to the count for each supertype link that is read. It reads none of a
+    /// type whose id is not above the second one, since what a type extends comes before it.
+    pub fn id_is_subtype_counted(&self, a: CoreTypeId, b: CoreTypeId, count: &mut LinkCount) -> bool
+        requires sub { a.index < length (types_in self.now) }
+        requires sup { b.index < length (types_in self.now) }
+        requires room { count.old.links < 2 ^ 63 }
+        ensures decides { Decides result (IsAncestor (declares self.now.groups) a.index b.index) }
+        ensures counts { Counts (declares self.now.groups) a.index b.index count.old.links count.new.links }
+    {
+        // What is always true of the list is known from here on.
+        let _groups = &self.groups;
+        let mut id = a;
+        'links: while b.index() < id.index() {
+            match self.supertype_of(id) {
+                Some(supertype) => {
+                    count.add_one();
+                    id = supertype;
+                }
+                None => return false,
+            }
+        }
+        id.index() == b.index()
+    }
+
+    /// Whether the first reference type matches the second (Core Specification 3.0, Validation,
+    /// Matching, Reference Types).
+    pub fn reftype_is_subtype(&self, a: RefType, b: RefType) -> bool
+        requires sub { IsRefOver (length (types_in self.now)) a }
+        requires sup { IsRefOver (length (types_in self.now)) b }
+        ensures { Decides result (MatchesRef (declares self.now.groups) (ref_by_ids a) (ref_by_ids b)) }
+    {
+        if a.is_nullable() && !b.is_nullable() {
+            return false;
+        }
+        self.heap_is_subtype(a.heap_type(), b.heap_type())
+    }
+
+    /// Whether the first value type matches the second (Core Specification 3.0, Validation,
+    /// Matching, Value Types).
+    pub fn valtype_is_subtype(&self, a: ValType, b: ValType) -> bool
+        requires sub { IsValOver (length (types_in self.now)) a }
+        requires sup { IsValOver (length (types_in self.now)) b }
+        ensures { Decides result (MatchesVal (declares self.now.groups) (val_by_ids a) (val_by_ids b)) }
+    {
+        match (a, b) {
+            (ValType::Ref(a), ValType::Ref(b)) => self.reftype_is_subtype(a, b),
+            (ValType::I32, ValType::I32)
+            | (ValType::I64, ValType::I64)
+            | (ValType::F32, ValType::F32)
+            | (ValType::F64, ValType::F64)
+            | (ValType::V128, ValType::V128) => true,
+            _ => false,
+        }
+    }
+
+    /// Whether values of the reference type may be shared between threads.
+    pub fn reftype_is_shared(&self, ty: RefType) -> bool
+        requires { IsRefOver (length (types_in self.now)) ty }
+        ensures { result ≡ is_shared_heap (declares self.now.groups) (ref_by_ids ty).heap }
+    {
+        self.heap_is_shared(ty.heap_type())
+    }
+
+    /// Whether values of the type may be shared between threads. Numbers and vectors may be.
+    pub fn valtype_is_shared(&self, ty: ValType) -> bool
+        requires { IsValOver (length (types_in self.now)) ty }
+        ensures { result ≡ is_shared_val (declares self.now.groups) (val_by_ids ty) }
+    {
+        match ty {
+            ValType::I32 | ValType::I64 | ValType::F32 | ValType::F64 | ValType::V128 => true,
+            ValType::Ref(ty) => self.reftype_is_shared(ty),
+        }
+    }
+
+    /// The greatest heap type of the hierarchy that the heap type stands in, with its shared flag.
+    pub fn top_type(&self, heap: &HeapType) -> HeapType
+        requires { IsHeapOver (length (types_in self.now)) heap.now }
+        ensures { top_of_heap (declares self.now.groups) (heap_by_ids heap.now) ≡ Some (heap_by_ids result) }
+    {
+        match *heap {
+            HeapType::Abstract { shared, ty } => HeapType::Abstract {
+                shared,
+                ty: abstract_top(ty),
+            },
+            HeapType::Concrete(index) | HeapType::Exact(index) => self.top_of_type(id_in(index)),
+        }
+    }
+
+    /// Whether what the heap type describes may be shared between threads.
+    fn heap_is_shared(&self, heap: HeapType) -> bool
+        requires { IsHeapOver (length (types_in self.now)) heap }
+        ensures { result ≡ is_shared_heap (declares self.now.groups) (heap_by_ids heap) }
+    {
+        match heap {
+            HeapType::Abstract { shared, .. } => shared,
+            HeapType::Concrete(index) | HeapType::Exact(index) => {
+                self.type_is_shared(id_in(index))
+            }
+        }
+    }
+
+    /// Whether what the type describes may be shared between threads.
+    fn type_is_shared(&self, id: CoreTypeId) -> bool
+        requires { id.index < length (types_in self.now) }
+        ensures { result ≡ is_shared_type (declares self.now.groups) id.index }
+    {
+        self[id].composite_type.shared
+    }
+
+    /// The greatest heap type of the hierarchy that the type stands in, with its shared flag.
+    fn top_of_type(&self, id: CoreTypeId) -> HeapType
+        requires { id.index < length (types_in self.now) }
+        ensures { top_of_heap (declares self.now.groups) (concrete id.index) ≡ Some (heap_by_ids result) }
+    {
+        let composite = &self[id].composite_type;
+        HeapType::Abstract {
+            shared: composite.shared,
+            ty: abstract_top(kind(&composite.inner)),
+        }
+    }
+
+    /// Whether the first heap type matches the second.
+    pub(super) fn heap_is_subtype(&self, a: HeapType, b: HeapType) -> bool
+        requires sub { IsHeapOver (length (types_in self.now)) a }
+        requires sup { IsHeapOver (length (types_in self.now)) b }
+        ensures { Decides result (MatchesHeap (declares self.now.groups) (heap_by_ids a) (heap_by_ids b)) }
+    {
+        match a {
+            HeapType::Abstract { shared, ty } => self.abstract_matches(shared, ty, b),
+            HeapType::Concrete(index) => self.concrete_matches(id_in(index), b),
+            HeapType::Exact(index) => self.exact_matches(id_in(index), b),
+        }
+    }
+
+    /// Whether the abstract heap type matches the heap type.
+    fn abstract_matches(&self, shared: bool, ty: AbstractHeapType, b: HeapType) -> bool
+        requires { IsHeapOver (length (types_in self.now)) b }
+        ensures { Decides result (MatchesHeap (declares self.now.groups) (abstract_heap shared (abstract_heap_of ty)) (heap_by_ids b)) }
+    {
+        match b {
+            HeapType::Abstract {
+                shared: other_shared,
+                ty: other,
+            } => shared == other_shared && abstract_is_subtype(ty, other),
+            HeapType::Concrete(index) | HeapType::Exact(index) => {
+                self.is_above_bottom(id_in(index), shared, ty)
+            }
+        }
+    }
+
+    /// Whether what the type or a subtype of it describes matches the heap type.
+    fn concrete_matches(&self, id: CoreTypeId, b: HeapType) -> bool
+        requires sub { id.index < length (types_in self.now) }
+        requires sup { IsHeapOver (length (types_in self.now)) b }
+        ensures { Decides result (MatchesHeap (declares self.now.groups) (concrete id.index) (heap_by_ids b)) }
+    {
+        match b {
+            HeapType::Abstract { shared, ty } => self.matches_kind(id, shared, ty),
+            HeapType::Concrete(index) => self.id_is_subtype(id, id_in(index)),
+            HeapType::Exact(_) => false,
+        }
+    }
+
+    /// Whether what exactly the type describes matches the heap type.
+    fn exact_matches(&self, id: CoreTypeId, b: HeapType) -> bool
+        requires sub { id.index < length (types_in self.now) }
+        requires sup { IsHeapOver (length (types_in self.now)) b }
+        ensures { Decides result (MatchesHeap (declares self.now.groups) (exact id.index) (heap_by_ids b)) }
+    {
+        match b {
+            HeapType::Abstract { shared, ty } => self.matches_kind(id, shared, ty),
+            HeapType::Concrete(index) => self.id_is_subtype(id, id_in(index)),
+            HeapType::Exact(index) => id.index() == id_in(index).index(),
+        }
+    }
+
+    /// Whether the type has this shared flag, and its kind matches the abstract heap type.
+    fn matches_kind(&self, id: CoreTypeId, shared: bool, ty: AbstractHeapType) -> bool
+        requires { id.index < length (types_in self.now) }
+        ensures { Decides result (MatchesKind (declares self.now.groups) id.index shared (abstract_heap_of ty)) }
+    {
+        let composite = &self[id].composite_type;
+        composite.shared == shared && abstract_is_subtype(kind(&composite.inner), ty)
+    }
+
+    /// Whether the type has this shared flag, and the abstract heap type is that below its kind.
+    fn is_above_bottom(&self, id: CoreTypeId, shared: bool, ty: AbstractHeapType) -> bool
+        requires { id.index < length (types_in self.now) }
+        ensures { Decides result (IsAboveBottom (declares self.now.groups) id.index shared (abstract_heap_of ty)) }
+    {
+        let composite = &self[id].composite_type;
+        composite.shared == shared && is_bottom(&composite.inner, ty)
+    }
+}
