@@ -114,6 +114,15 @@ impl<A: Allocator> FuncType<A> {
     {
         self.results.as_slice()
     }
+
+    /// What the function takes and what it gives, in the memory that they are in.
+    pub fn into_parts(self) -> (Vec<ValType, A>, Vec<ValType, A>)
+        ensures params { result.0.items ≡ self.params }
+        ensures results { result.1.items ≡ self.results }
+    {
+        let FuncType { params, results } = self;
+        (params.into_vec(), results.into_vec())
+    }
 }
 
 impl<A: Allocator> SubType<A> {
