@@ -1,0 +1,9 @@
+pub mod Found
+pub mod Held
+pub mod Written
+pub mod Canonical
+pub mod Kept
+pub mod Closes
+pub mod Interning
+pub mod Allowed
+pub mod Added

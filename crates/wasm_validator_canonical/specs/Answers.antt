@@ -1,0 +1,29 @@
+-- What the answer of a call says that adds the types of a group.
+use Rattle.std.specs.Prelude.{ℕ, ◌≡◌, ◌++◌, Bool, true, false, List, Option, Some, None, ⊤}
+use Rattle.std.specs.declared.result.Result.{Result}
+use Rattle.std.specs.declared.result.Result.TheVariants.{Ok, Err}
+use Rattle.wasm_spec.specs.Trees.{DefType}
+use Rattle.wasm_readers_errors.specs.declared.error.Error.{Error}
+use Rattle.wasm_readers_errors.specs.declared.error.Error.TheVariants.{Refused, OutOfMemory}
+use Rattle.wasm_validator_type_list.specs.declared.elements.RecGroupElements.{RecGroupElements}
+use Rattle.wasm_validator_type_list.specs.Elements.{ids_left}
+
+-- a refusal of the content says that nothing can be added, and one for want of memory nothing
+abbrev pub AddsNothing : Error → Option (List DefType × List ℕ) → Type 0
+AddsNothing (Refused r) next = next ≡ None
+AddsNothing OutOfMemory next = ⊤
+
+-- The answered ids are those of the group's types, in the list that it was added to.
+abbrev pub AddsIds : Result RecGroupElements Error → Option (List DefType × List ℕ) → List DefType → List ℕ → Type 0
+AddsIds (Ok elements) next us ids = next ≡ Some (us, ids ++ ids_left elements)
+AddsIds (Err e) next us ids = AddsNothing e next
+
+-- a refusal of the content says that the test fails, and one for want of memory nothing
+abbrev pub Denies : Error → Bool → Type 0
+Denies (Refused r) b = b ≡ false
+Denies OutOfMemory b = ⊤
+
+-- the content is accepted exactly where the test holds, unless memory is refused
+abbrev pub Says : {T : Type 0} → Result T Error → Bool → Type 0
+Says (Ok x) b = b ≡ true
+Says (Err e) b = Denies e b

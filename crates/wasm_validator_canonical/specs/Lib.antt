@@ -1,0 +1,5 @@
+pub mod Indices
+pub mod Found
+pub mod Groups
+pub mod Answers
+pub mod Interned

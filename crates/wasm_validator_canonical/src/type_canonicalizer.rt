@@ -1,0 +1,271 @@
+ghost use Rattle.std.specs.Prelude.{◌≡◌, ◌+◌, ◌<◌, ◌^◌, [], map, length, is_ok, IfOk, IsTrue, true, false};
+ghost use Rattle.std.specs.List.{list_all, flat_map};
+ghost use Rattle.wasm_spec.specs.Syntax.{map_ref, map_val, map_field, map_comp, map_sub};
+ghost use Rattle.wasm_spec.specs.References.{refs_heap, refs_val, refs_field, refs_comp, refs_sub};
+ghost use Rattle.wasm_readers_types.specs.Indices.{Fits};
+ghost use Rattle.wasm_readers_types.specs.SeenValues.{ref_of, val_of, field_of};
+ghost use Rattle.wasm_readers_types.specs.SeenTypes.{func_of, comp_of, sub_of};
+ghost use Rattle.wasm_validator_canonical.specs.Groups.{is_served_comp, is_served_sub};
+ghost use Rattle.wasm_validator_canonical.specs.Answers.{Says};
+ghost use Rattle.wasm_validator_canonical.specs.Indices.{has_no_index};
+
+use std::alloc::Allocator;
+use wasm_readers_errors::{Error, Fault, Refusal};
+use wasm_readers_types::{
+    ArrayType, CompositeInnerType, CompositeType, CoreTypeId, FieldType, FuncType, HeapType, Items,
+    RefType, StorageType, StructType, SubType, UnpackedIndex, ValType,
+};
+
+/// Writes the types of one recursion group as a list of types has them: each type index of the
+/// module as the id of its type, or as a position in the group.
+#[derive(Clone, Copy)]
+pub struct TypeCanonicalizer<'a> {
+    ids: &'a [CoreTypeId],
+    end: u32,
+    has_gc: bool,
+    offset: u64,
+}
+
+impl<'a> TypeCanonicalizer<'a> {
+    ghost use Rattle.wasm_validator_canonical.specs.Indices.{IsSmall, canonical_by, is_known_by, knows_val, knows_field, knows_sub};
+
+    /// Of a group of `count` types behind those of the module, which have these ids. With `has_gc` types
+    /// of the group may refer to one another. `offset` is where the group stands in the input.
+    pub fn new(
+        ids: &'a [CoreTypeId],
+        count: u32,
+        has_gc: bool,
+        offset: u64,
+    ) -> TypeCanonicalizer<'a>
+        requires room { length ids.now + count < 2 ^ 32 }
+        ensures ids { result.ids.now ≡ ids.now }
+        ensures end { result.end ≡ length ids.now + count }
+        ensures gc { result.has_gc ≡ has_gc }
+    {
+        TypeCanonicalizer {
+            ids,
+            end: ids.len() as u32 + count,
+            has_gc,
+            offset,
+        }
+    }
+
+    /// The index as the list has it: the id of the module's type, or a position in the group.
+    pub fn index(&self, index: UnpackedIndex) -> Result<UnpackedIndex, Refusal>
+        requires { IsSmall self.now }
+        ensures value { IfOk result (λ i. i ≡ canonical_by self.now index) }
+        ensures fits { IfOk result Fits }
+        ensures known { is_ok result ≡ is_known_by self.now index }
+    {
+        let UnpackedIndex::Module(number) = index else {
+            return Err(Refusal::new(Fault::UnknownType(0), self.offset));
+        };
+        let place = number as usize;
+        if place < self.ids.len() {
+            return Ok(UnpackedIndex::Id(self.ids[place]));
+        }
+        if number >= self.end {
+            return Err(Refusal::new(Fault::UnknownType(number), self.offset));
+        }
+        if !self.has_gc {
+            return Err(Refusal::new(Fault::UnknownTypeWithoutGc(number), self.offset));
+        }
+        Ok(UnpackedIndex::RecGroup((place - self.ids.len()) as u32))
+    }
+
+    /// A reference type with its index as the list has it.
+    fn reference(&self, ty: RefType) -> Result<RefType, Refusal>
+        requires { IsSmall self.now }
+        ensures value { IfOk result (λ r. ref_of r ≡ map_ref (canonical_by self.now) (ref_of ty)) }
+        ensures known { is_ok result ≡ list_all (is_known_by self.now) (refs_heap (ref_of ty).heap) }
+    {
+        let heap = match ty.heap_type() {
+            HeapType::Abstract { .. } => return Ok(ty),
+            HeapType::Concrete(index) => HeapType::Concrete(self.index(index)?),
+            HeapType::Exact(index) => HeapType::Exact(self.index(index)?),
+        };
+        match RefType::new(ty.is_nullable(), heap) {
+            Some(reference) => Ok(reference),
+            None => unreachable!(),
+        }
+    }
+
+    /// A value type with its index as the list has it.
+    fn value(&self, ty: ValType) -> Result<ValType, Refusal>
+        requires { IsSmall self.now }
+        ensures value { IfOk result (λ v. val_of v ≡ map_val (canonical_by self.now) (val_of ty)) }
+        ensures known { is_ok result ≡ knows_val self.now (val_of ty) }
+    {
+        match ty {
+            ValType::Ref(reference) => Ok(ValType::Ref(self.reference(reference)?)),
+            other => Ok(other),
+        }
+    }
+
+    /// A field with its index as the list has it.
+    fn field(&self, ty: FieldType) -> Result<FieldType, Refusal>
+        requires { IsSmall self.now }
+        ensures value { IfOk result (λ x. field_of x ≡ map_field (canonical_by self.now) (field_of ty)) }
+        ensures known { is_ok result ≡ knows_field self.now (field_of ty) }
+    {
+        match ty.element_type {
+            StorageType::Val(value) => Ok(FieldType {
+                element_type: StorageType::Val(self.value(value)?),
+                mutable: ty.mutable,
+            }),
+            _ => Ok(ty),
+        }
+    }
+
+    /// Value types, each with its index as the list has it. It takes memory only where there is an index.
+    #[tactic(auto, using(crate::proofs::Canonical::values_laws))]
+    fn values<A: Allocator + Copy>(
+        &self,
+        alloc: A,
+        types: Vec<ValType, A>,
+    ) -> Result<Vec<ValType, A>, Error>
+        requires { IsSmall self.now }
+        ensures value { IfOk result (λ vs. map val_of vs.items ≡ map (map_val (canonical_by self.now)) (map val_of types.items)) }
+        ensures known { Says result (list_all (knows_val self.now) (map val_of types.items)) }
+    {
+        if !have_index(types.as_slice()) {
+            return Ok(types);
+        }
+        let mut canonical = Vec::new(alloc);
+        for ty in types.as_slice() {
+            match self.value(*ty) {
+                Ok(value) => canonical.push(value)?,
+                Err(refusal) => return Err(Error::Refused(refusal)),
+            }
+        }
+        Ok(canonical)
+    }
+
+    /// Fields, each with its index as the list has it.
+    fn fields<A: Allocator + Copy>(
+        &self,
+        alloc: A,
+        types: &[FieldType],
+    ) -> Result<Vec<FieldType, A>, Error>
+        requires { IsSmall self.now }
+        ensures value { IfOk result (λ xs. map field_of xs.items ≡ map (map_field (canonical_by self.now)) (map field_of types.now)) }
+        ensures known { Says result (list_all (knows_field self.now) (map field_of types.now)) }
+    {
+        let mut canonical = Vec::new(alloc);
+        for ty in types {
+            match self.field(*ty) {
+                Ok(field) => canonical.push(field)?,
+                Err(refusal) => return Err(Error::Refused(refusal)),
+            }
+        }
+        Ok(canonical)
+    }
+
+    /// A function type with its indices as the list has them.
+    #[tactic(auto, using(crate::proofs::Canonical::known_laws))]
+    fn function<A: Allocator + Copy>(&self, alloc: A, ty: FuncType<A>) -> Result<FuncType<A>, Error>
+        requires { IsSmall self.now }
+        ensures value { IfOk result (λ f. func_of f ≡ map_comp (canonical_by self.now) (func_of ty)) }
+        ensures known { Says result (list_all (is_known_by self.now) (refs_comp (func_of ty))) }
+    {
+        let (params, results) = ty.into_parts();
+        match self.values(alloc, params) {
+            Ok(params) => match self.values(alloc, results) {
+                Ok(results) => Ok(FuncType::new(params, results)),
+                Err(error) => Err(error),
+            },
+            Err(error) => Err(error),
+        }
+    }
+
+    /// A composite type, other than of continuations, with its indices as the list has them.
+    #[tactic(auto, using(crate::proofs::Canonical::known_laws))]
+    fn composite<A: Allocator + Copy>(
+        &self,
+        alloc: A,
+        ty: CompositeInnerType<A>,
+    ) -> Result<CompositeInnerType<A>, Error>
+        requires small { IsSmall self.now }
+        requires served { IsTrue (is_served_comp (comp_of ty)) }
+        ensures value { IfOk result (λ c. comp_of c ≡ map_comp (canonical_by self.now) (comp_of ty)) }
+        ensures known { Says result (list_all (is_known_by self.now) (refs_comp (comp_of ty))) }
+    {
+        match ty {
+            CompositeInnerType::Func(signature) => match self.function(alloc, signature) {
+                Ok(signature) => Ok(CompositeInnerType::Func(signature)),
+                Err(error) => Err(error),
+            },
+            CompositeInnerType::Array(array) => match self.field(array.0) {
+                Ok(field) => Ok(CompositeInnerType::Array(ArrayType(field))),
+                Err(refusal) => Err(Error::Refused(refusal)),
+            },
+            CompositeInnerType::Struct(structure) => {
+                match self.fields(alloc, structure.fields.as_slice()) {
+                    Ok(fields) => Ok(CompositeInnerType::Struct(StructType {
+                        fields: Items::from_vec(fields),
+                    })),
+                    Err(error) => Err(error),
+                }
+            }
+            CompositeInnerType::Cont(_) => unreachable!(),
+        }
+    }
+
+    /// A sub type of the forms that are served, with its indices as the list has them.
+    #[tactic(auto, using(crate::proofs::Canonical::plain_laws))]
+    fn sub_type<A: Allocator + Copy>(&self, alloc: A, ty: SubType<A>) -> Result<SubType<A>, Error>
+        requires small { IsSmall self.now }
+        requires served { IsTrue (is_served_sub (sub_of ty)) }
+        ensures value { IfOk result (λ s. sub_of s ≡ map_sub (canonical_by self.now) (sub_of ty)) }
+        ensures known { Says result (knows_sub self.now (sub_of ty)) }
+    {
+        match self.composite(alloc, ty.composite_type.inner) {
+            Ok(inner) => Ok(SubType {
+                is_final: true,
+                supertype_idxs: Items::new(alloc),
+                composite_type: CompositeType {
+                    inner,
+                    shared: false,
+                    descriptor_idx: None,
+                    describes_idx: None,
+                },
+            }),
+            Err(error) => Err(error),
+        }
+    }
+
+    /// The sub types of a group of the forms that are served, with their indices as the list has them.
+    pub fn sub_types<A: Allocator + Copy>(
+        &self,
+        alloc: A,
+        types: Vec<SubType<A>, A>,
+    ) -> Result<Vec<SubType<A>, A>, Error>
+        requires small { IsSmall self.now }
+        requires served { IsTrue (list_all is_served_sub (map sub_of types.items)) }
+        ensures value { IfOk result (λ ss. map sub_of ss.items ≡ map (map_sub (canonical_by self.now)) (map sub_of types.items)) }
+        ensures known { Says result (list_all (knows_sub self.now) (map sub_of types.items)) }
+    {
+        let mut canonical = Vec::new(alloc);
+        for ty in types {
+            match self.sub_type(alloc, ty) {
+                Ok(sub_type) => canonical.push(sub_type)?,
+                Err(error) => return Err(error),
+            }
+        }
+        Ok(canonical)
+    }
+}
+
+/// Whether one of the value types has a type index.
+fn have_index(types: &[ValType]) -> bool
+    ensures { (result ≡ false) → (list_all has_no_index (map val_of types.now) ≡ true) }
+{
+    for ty in types {
+        if let ValType::Ref(reference) = ty {
+            if reference.type_index().is_some() {
+                return true;
+            }
+        }
+    }
+    false
+}
