@@ -1,11 +1,10 @@
 -- What a group that is written, closed and interned adds.
-use Rattle.std.proofs.Common.{◌≡◌, refl, sym, ap, subst, ◌∙◌, ℕ, suc, ◌+◌, ◌<◌, ◌≤◌, Bool, true, false, not, ◌&&◌, ◌||◌, eqb, leb, List, [], ◌∷◌, ◌++◌, map, length, Option, Some, None, All, arith}
+use Rattle.std.proofs.Common.{◌≡◌, refl, sym, ap, subst, ◌∙◌, ℕ, ◌+◌, ◌<◌, ◌≤◌, Bool, true, false, not, ◌||◌, eqb, leb, List, [], ◌∷◌, ◌++◌, map, length, Option, Some, None, All, arith}
 use Rattle.std.specs.List.{list_all}
 use Rattle.std.proofs.lemmas.Bool.{eqb-true, leb-true}
 use Rattle.std.proofs.lemmas.List.{length-map}
 use Rattle.std.proofs.lemmas.List.Elements.{All-nil, All-cons, All-head, All-tail}
 use Rattle.wasm_spec.specs.Syntax.{Sub, Rec, map_sub, map_rec}
-use Rattle.wasm_spec.specs.References.{refs_sub}
 use Rattle.wasm_spec.specs.Features.{Features, canonical}
 use Rattle.wasm_spec.specs.Closing.{is_closable}
 use Rattle.wasm_readers_types.specs.declared.indices.CoreTypeId.{CoreTypeId}
@@ -29,7 +28,7 @@ use Rattle.wasm_validator_type_list.specs.Elements.{ids_left}
 use Rattle.wasm_validator_type_list.specs.Refused.{RefusesTooMany}
 use Rattle.wasm_validator_canonical.specs.Answers.{AddsNothing, AddsIds, Denies}
 use Rattle.wasm_validator_canonical.specs.Groups.{is_served_sub, is_served_group, allows_sub, closes, types_at, with_written}
-use Rattle.wasm_validator_canonical.specs.Indices.{numbers, canonical_index, canonical_group, is_written_sub, is_known, number_in}
+use Rattle.wasm_validator_canonical.specs.Indices.{numbers, canonical_index, canonical_group, is_written_sub, number_in}
 use Rattle.wasm_validator_canonical.specs.Interned.{InternsUnder}
 use Rattle.wasm_validator_canonical.proofs.Allowed.{subs_allowed}
 use Rattle.wasm_validator_canonical.proofs.Canonical.{and_left, and_right}

@@ -1,14 +1,13 @@
 -- References that are known, and groups that close.
-use Rattle.std.proofs.Common.{◌≡◌, refl, sym, ap, subst, ◌∙◌, ℕ, zero, suc, ◌+◌, ◌≤◌, Bool, true, false, not, ◌&&◌, ◌||◌, cond, ltb, leb, List, [], ◌∷◌, ◌++◌, map, length, Option, Some, None, arith}
+use Rattle.std.proofs.Common.{◌≡◌, refl, sym, ap, ◌∙◌, ℕ, ◌+◌, Bool, true, false, not, ◌&&◌, ◌||◌, cond, ltb, leb, List, [], ◌∷◌, map, length, Option, Some, None}
 use Rattle.std.specs.Option.{option_map}
 use Rattle.std.specs.List.{list_all}
 use Rattle.std.proofs.lemmas.List.{length-map}
-use Rattle.std.proofs.lemmas.List.Folds.{list_all-map}
 use Rattle.wasm_spec.specs.Syntax.{Comp, map_comp, Sub, Rec, map_sub, map_rec}
 use Rattle.wasm_spec.specs.References.{refs_comp, refs_sub}
 use Rattle.wasm_spec.specs.Features.{Features, canonical}
 use Rattle.wasm_spec.specs.Trees.{RecTree, DefType, close}
-use Rattle.wasm_spec.specs.Closing.{is_in_bounds, are_closable, is_closable, closed, positions, resolve, start_unless}
+use Rattle.wasm_spec.specs.Closing.{is_in_bounds, are_closable, is_closable, positions, resolve, start_unless}
 use Rattle.wasm_spec.proofs.Shifting.{refs_comp-map}
 use Rattle.wasm_readers_types.specs.declared.indices.UnpackedIndex.{UnpackedIndex}
 use Rattle.wasm_readers_types.specs.declared.indices.UnpackedIndex.TheVariants.{Module, RecGroup, Id}

@@ -1,19 +1,18 @@
 -- What a list of types holds once a group is interned.
-use Rattle.std.proofs.Common.{◌≡◌, refl, sym, ap, subst, ◌∙◌, ℕ, zero, suc, ◌+◌, ◌<◌, Bool, true, false, List, [], ◌∷◌, ◌++◌, map, length, slice_get, Option, Some, None, arith, append-nil, length-append}
-use Rattle.std.proofs.lemmas.Option.{none-some, same_Some, slice_get_within}
+use Rattle.std.proofs.Common.{◌≡◌, refl, sym, ap, subst, ◌∙◌, ℕ, suc, ◌+◌, ◌<◌, Bool, true, false, List, [], ◌∷◌, ◌++◌, map, length, slice_get, Some, None, arith, append-nil}
+use Rattle.std.proofs.lemmas.Option.{slice_get_within}
 use Rattle.wasm_spec.specs.Trees.{RecTree, DefType}
 use Rattle.wasm_spec.specs.Closing.{positions}
 use Rattle.wasm_spec.specs.TypeLaws.{HasNoRepetition}
 use Rattle.wasm_readers_types.specs.declared.types.SubType.{SubType}
 use Rattle.wasm_validator_type_list.specs.Elements.{numbers_from}
-use Rattle.wasm_validator_type_list.specs.Groups.{all_in, first_of}
+use Rattle.wasm_validator_type_list.specs.Groups.{first_of}
 use Rattle.wasm_validator_type_list.specs.Listing.{Listing}
 use Rattle.wasm_validator_type_list.specs.Standing.{listed_sub, listed_group, standing, tree_behind, StandFor}
 use Rattle.wasm_validator_type_list.specs.Interned.{AreOnce, Interns, InternsTypes}
 use Rattle.wasm_validator_type_list.proofs.Flat.{first_of-stays, first_of-all}
 use Rattle.wasm_validator_type_list.proofs.Places.{get-left, get-right}
-use Rattle.wasm_validator_type_list.proofs.Standing.{get-positions, from-positions, place_in, standing-push, length-standing}
-use Rattle.wasm_validator_canonical.specs.Found.{place_of}
+use Rattle.wasm_validator_type_list.proofs.Standing.{from-positions, place_in, standing-push, length-standing}
 use Rattle.wasm_validator_canonical.specs.Groups.{held_at, held}
 use Rattle.wasm_validator_canonical.proofs.Found.{StandAt, no_types_found, found, not_found}
 

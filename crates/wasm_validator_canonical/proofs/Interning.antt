@@ -2,10 +2,9 @@
 use Rattle.std.proofs.Common.{◌≡◌, refl, sym, ap, subst, ◌∙◌, ℕ, zero, suc, ◌+◌, ◌-◌, ◌<◌, ◌≤◌, Bool, true, false, ◌&&◌, ◌||◌, ltb, List, [], ◌∷◌, ◌++◌, map, length, slice_get, take, Option, Some, None, All, arith, length-append}
 use Rattle.std.specs.List.{list_all}
 use Rattle.std.proofs.lemmas.Bool.{ltb-true}
-use Rattle.std.proofs.lemmas.List.{length-map}
 use Rattle.std.proofs.lemmas.List.Elements.{All-nil, All-cons, All-head, All-tail}
 use Rattle.std.proofs.lemmas.Option.{none-some, same_Some}
-use Rattle.wasm_spec.specs.Syntax.{Sub, map_sub, map_comp}
+use Rattle.wasm_spec.specs.Syntax.{Sub, map_sub}
 use Rattle.wasm_spec.specs.References.{refs_comp, refs_sub}
 use Rattle.wasm_spec.proofs.Shifting.{refs_comp-map}
 use Rattle.wasm_readers_types.specs.declared.indices.PackedIndex.{PackedIndex}

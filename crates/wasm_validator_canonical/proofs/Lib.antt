@@ -7,3 +7,8 @@ pub mod Closes
 pub mod Interning
 pub mod Allowed
 pub mod Added
+pub mod PlainTypes
+pub mod NoReferences
+pub mod Standing
+pub mod Steps
+pub mod Sections

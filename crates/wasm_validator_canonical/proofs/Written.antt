@@ -1,5 +1,5 @@
 -- A module's group, written as the list of types has it, is the recursive type that it closes to.
-use Rattle.std.proofs.Common.{◌≡◌, refl, sym, ap, subst, ◌∙◌, ℕ, zero, suc, ◌+◌, ◌-◌, ◌<◌, ◌≤◌, Bool, true, false, ◌&&◌, cond, leb, List, [], ◌∷◌, ◌++◌, map, length, slice_get, get_or, Option, Some, None, All, arith}
+use Rattle.std.proofs.Common.{◌≡◌, refl, sym, ap, subst, ◌∙◌, ℕ, zero, suc, ◌+◌, ◌-◌, ◌<◌, ◌≤◌, Bool, true, false, ◌&&◌, cond, leb, List, [], ◌∷◌, ◌++◌, map, length, slice_get, get_or, Option, Some, None, All}
 use Rattle.std.specs.Option.{option_map}
 use Rattle.std.specs.List.{list_all, AllByRecursion}
 use Rattle.std.proofs.lemmas.Bool.{le-leb}
@@ -9,15 +9,15 @@ use Rattle.std.proofs.lemmas.Option.{none-some, same_Some, slice_get-get_or}
 use Rattle.wasm_spec.specs.Syntax.{Sub, Rec, map_sub, map_rec}
 use Rattle.wasm_spec.specs.References.{refs_sub}
 use Rattle.wasm_spec.specs.Features.{Features, canonical}
-use Rattle.wasm_spec.specs.Trees.{RecTree, DefType, TypeUse, close, members}
-use Rattle.wasm_spec.specs.Closing.{is_closable, closed, positions, resolve, start_unless}
-use Rattle.wasm_spec.specs.TypeLists.{ListedUse, by_id, by_position, listed_use, listed_from, resolve_listed, listed_tree}
+use Rattle.wasm_spec.specs.Trees.{RecTree, DefType, close}
+use Rattle.wasm_spec.specs.Closing.{is_closable, positions, resolve, start_unless}
+use Rattle.wasm_spec.specs.TypeLists.{listed_use, listed_from, resolve_listed, listed_tree}
 use Rattle.wasm_spec.specs.TypeLaws.{AreIdsOf}
 use Rattle.wasm_spec.proofs.Agreement.{agree_sub}
 use Rattle.wasm_spec.proofs.Closing.{equal_trees_equal_groups}
 use Rattle.wasm_spec.proofs.Listed.{listed_group_is_written_group}
 use Rattle.wasm_spec.proofs.Numbering.{members-close}
-use Rattle.wasm_spec.proofs.SyntaxMaps.{map-map_by, map_sub-map}
+use Rattle.wasm_spec.proofs.SyntaxMaps.{map_sub-map}
 use Rattle.wasm_readers_types.specs.declared.indices.UnpackedIndex.{UnpackedIndex}
 use Rattle.wasm_readers_types.specs.declared.indices.UnpackedIndex.TheVariants.{Module, RecGroup, Id}
 use Rattle.wasm_readers_types.specs.declared.types.SubType.{SubType}

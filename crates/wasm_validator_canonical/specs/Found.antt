@@ -1,7 +1,6 @@
 -- Where types stand in a list of types.
 use Rattle.std.specs.Prelude.{ℕ, suc, ◌==◌, cond, Bool, true, false, ◌&&◌, List, [], ◌∷◌, Option, Some, None}
 use Rattle.std.specs.Option.{option_map}
-use Rattle.std.specs.Coded.{Coded}
 use base.Stored.{Gv, gnil, gnum, gcons}
 use Rattle.wasm_spec.specs.Trees.{DefType}
 use Rattle.wasm_spec.specs.TreeCode.{coded_type}

@@ -1,6 +1,6 @@
 -- What one recursion group adds to the types of a validator and of a module. Core Specification 3.0, Validation, Types
 -- (Recursive Types), with the types of a list in place of a module's.
-use Rattle.std.specs.Prelude.{ℕ, zero, ◌+◌, ◌==◌, nat_le, cond, if◌then◌else◌, Bool, true, false, not, ◌&&◌, ◌||◌, List, [], ◌++◌, map, length, get_or, is_none, Option, Some, None}
+use Rattle.std.specs.Prelude.{ℕ, ◌+◌, ◌==◌, nat_le, if◌then◌else◌, Bool, true, false, not, ◌&&◌, ◌||◌, List, [], ◌++◌, map, length, get_or, is_none, Option, Some, None}
 use Rattle.std.specs.Option.{option_map}
 use Rattle.std.specs.List.{list_all}
 use Rattle.wasm_spec.specs.Syntax.{Comp, func, array, struct, cont, Sub, Rec, map_rec}

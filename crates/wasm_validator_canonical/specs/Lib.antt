@@ -3,3 +3,4 @@ pub mod Found
 pub mod Groups
 pub mod Answers
 pub mod Interned
+pub mod Sections

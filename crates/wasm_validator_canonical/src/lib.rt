@@ -2,11 +2,21 @@
 //! rules, and the ids of their types.
 #![tactic(auto)]
 
+ghost use Rattle.wasm_validator_canonical.specs.Sections.{AddedSectionsAreValid, ValidSectionsAreAdded};
+
 mod intern_rec_group;
 mod type_canonicalizer;
 
 pub use intern_rec_group::{canonicalize_and_intern_rec_group, needs_type_canonicalization};
 pub use type_canonicalizer::TypeCanonicalizer;
+
+/// The groups of a module's type section, added one after another, are accepted exactly where the
+/// section is valid (Core Specification 3.0, Validation, Modules, Types), as far as its forms are served
+/// and there are ids for its types; and then each type stands in the list under the id at its index.
+pub fn type_sections_are_added_where_valid()
+    ensures accepted { AddedSectionsAreValid }
+    ensures valid { ValidSectionsAreAdded }
+{}
 
 #[cfg(test)]
 mod tests;

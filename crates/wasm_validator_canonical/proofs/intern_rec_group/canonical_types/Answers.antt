@@ -1,4 +1,4 @@
-use Rattle.std.proofs.Common.{◌≡◌, sym, ap, subst, ◌∙◌, ◌+◌, ◌<◌, ◌&&◌, true, List, map, length, arith, All}
+use Rattle.std.proofs.Common.{◌≡◌, sym, ap, subst, ◌∙◌, ◌+◌, ◌<◌, ◌&&◌, true, map, length, arith, All}
 use Rattle.std.specs.Prelude.{IfOk}
 use Rattle.std.specs.List.{list_all}
 use Rattle.std.proofs.lemmas.List.{length-map}
@@ -9,7 +9,7 @@ use Rattle.wasm_readers_types.specs.SeenTypes.{sub_of, rec_of}
 use Rattle.wasm_readers_types.specs.declared.indices.CoreTypeId.{CoreTypeId}
 use Rattle.wasm_readers_types.specs.declared.indices.TheConstants.{MAX_IDS}
 use Rattle.wasm_validator_canonical.specs.Answers.{Says}
-use Rattle.wasm_validator_canonical.specs.Groups.{is_served_sub, closes}
+use Rattle.wasm_validator_canonical.specs.Groups.{is_served_sub}
 use Rattle.wasm_validator_canonical.specs.Indices.{numbers, canonical_index, is_known}
 use Rattle.wasm_validator_canonical.proofs.Canonical.{and_right}
 use Rattle.wasm_validator_canonical.proofs.Closes.{closes_is}

@@ -1,19 +1,17 @@
-use Rattle.std.proofs.Common.{◌≡◌, sym, ap, subst, ◌∙◌, ℕ, ◌+◌, ◌≤◌, ◌<◌, true, false, List, map, length, arith, All}
+use Rattle.std.proofs.Common.{◌≡◌, sym, ap, subst, ◌∙◌, ◌+◌, ◌<◌, true, List, map, length, arith, All}
 use Rattle.std.specs.List.{list_all}
 use Rattle.std.proofs.lemmas.List.{length-map}
-use Rattle.wasm_spec.specs.Features.{canonical}
 use Rattle.wasm_rules.specs.FeatureFlags.{features_of}
 use Rattle.wasm_readers_types.specs.SeenTypes.{sub_of, rec_of}
 use Rattle.wasm_readers_types.specs.declared.indices.CoreTypeId.{CoreTypeId}
 use Rattle.wasm_readers_types.specs.declared.indices.TheConstants.{MAX_IDS}
 use Rattle.wasm_readers_types.specs.declared.types.SubType.{SubType}
-use Rattle.wasm_validator_type_list.specs.Groups.{all_in}
 use Rattle.wasm_validator_type_list.specs.Listing.{types_in}
 use Rattle.wasm_validator_type_list.specs.Listable.{IsListable}
 use Rattle.wasm_validator_type_list.specs.Standing.{standing}
 use Rattle.wasm_validator_type_list.proofs.Standing.{length-standing}
 use Rattle.wasm_validator_canonical.specs.Groups.{allows_sub, closes, with_written}
-use Rattle.wasm_validator_canonical.specs.Indices.{numbers, canonical_index, canonical_group}
+use Rattle.wasm_validator_canonical.specs.Indices.{numbers, canonical_index}
 use Rattle.wasm_validator_canonical.proofs.Added.{numbers_below, below_limit, closing_listable, closing_members, closing_added, not_within, denies_adds, adds_by}
 use Rattle.wasm_validator_canonical.proofs.Allowed.{subs_allowed}
 use Rattle.wasm_validator_canonical.proofs.Closes.{none_open, none_refused, none_full}

@@ -1,4 +1,4 @@
-use Rattle.std.proofs.Common.{◌≡◌, true, length, drop, map}
+use Rattle.std.proofs.Common.{◌≡◌, drop, map}
 use Rattle.std.specs.List.{list_all}
 use Rattle.wasm_readers_types.specs.SeenValues.{val_of}
 use Rattle.wasm_validator_canonical.specs.Indices.{has_no_index}

@@ -1,0 +1,132 @@
+-- The groups of a type section, one after another: they are added exactly where they are valid and there are ids for them.
+use Rattle.std.proofs.Common.{◌≡◌, refl, sym, ap, subst, ◌∙◌, ℕ, ◌+◌, ◌≤◌, true, List, [], ◌∷◌, ◌++◌, length, Option, Some, None, arith, append_assoc, append-nil, length-append}
+use Rattle.std.specs.Option.{option_map, option_and_then}
+use Rattle.std.specs.List.{list_all, All}
+use Rattle.std.proofs.lemmas.List.Elements.{All-nil, All-cons, All-head, All-tail}
+use Rattle.std.proofs.lemmas.Option.{same_Some}
+use Rattle.wasm_spec.specs.Syntax.{Rec, map_rec}
+use Rattle.wasm_spec.specs.Features.{Features, canonical}
+use Rattle.wasm_spec.specs.Trees.{RecTree, DefType, declared}
+use Rattle.wasm_spec.specs.Closing.{closed, positions, with_group, with_groups}
+use Rattle.wasm_spec.specs.GroupRules.{IsValidType}
+use Rattle.wasm_spec.proofs.Written.{map_some}
+use Rattle.wasm_readers_types.specs.declared.indices.TheConstants.{MAX_IDS}
+use Rattle.wasm_validator_canonical.specs.Groups.{placed, is_served_group, is_served_sub, with_written}
+use Rattle.wasm_validator_canonical.specs.Sections.{written, with_all_written, AddedSectionsAreValid, ValidSectionsAreAdded}
+use Rattle.wasm_validator_canonical.proofs.Held.{length-positions}
+use Rattle.wasm_validator_canonical.proofs.Kept.{held_front, held_at_most}
+use Rattle.wasm_validator_canonical.proofs.PlainTypes.{and_left, and_right, and_both}
+use Rattle.wasm_validator_canonical.proofs.Standing.{Stand, held_with, held_stand, closed_is, types_valid, types_allowed}
+use Rattle.wasm_validator_canonical.proofs.Steps.{Fits, fits_added, added_fits}
+
+then_some : {X Y : Type 0} (f : X → Option Y) (o : Option X) (y : Y) → option_and_then f o ≡ Some y → (x : X) × (o ≡ Some x) × (f x ≡ Some y)
+then_some f None y e = absurd cc
+then_some f (Some x) y e = (x, refl, e)
+
+all_append : {X : Type 0} (P : X → Type 0) (xs ys : List X) → All P xs → All P ys → All P (xs ++ ys)
+all_append P [] ys a b = b
+all_append P (x ∷ xs) ys a b = All-cons P x (xs ++ ys) (All-head P x xs a) (all_append P xs ys (All-tail P x xs a) b)
+
+all_front : {X : Type 0} (P : X → Type 0) (xs ys : List X) → All P (xs ++ ys) → All P xs
+all_front P [] ys a = All-nil P
+all_front P (x ∷ xs) ys a = All-cons P x xs (All-head P x (xs ++ ys) a) (all_front P xs ys (All-tail P x (xs ++ ys) a))
+
+all_behind : {X : Type 0} (P : X → Type 0) (xs ys : List X) → All P (xs ++ ys) → All P ys
+all_behind P [] ys a = a
+all_behind P (x ∷ xs) ys a = all_behind P xs ys (All-tail P x (xs ++ ys) a)
+
+same_behind : {X : Type 0} (xs ys zs : List X) → xs ++ ys ≡ xs ++ zs → ys ≡ zs
+same_behind [] ys zs e = e
+same_behind (x ∷ xs) ys zs e = let h : xs ++ ys ≡ xs ++ zs = cc in same_behind xs ys zs h
+
+-- groups come behind the types so far
+groups_go_on : (F : Features) (gs : List (Rec ℕ)) (ts us : List DefType) → with_groups F ts gs ≡ Some us → (more : List DefType) × (us ≡ ts ++ more)
+groups_go_on F [] ts us e = ([], sym (same_Some ts us e) ∙ sym (append-nil ts))
+groups_go_on F (g ∷ gs) ts us e =
+    let a = then_some (λ xs. with_groups F xs gs) (with_group F ts g) us e in
+    let b = map_some (λ t. ts ++ positions t 0 g.types) (closed F ts g) a.0 a.1 in
+    let c = groups_go_on F gs a.0 us a.2 in
+    (positions b.0 0 g.types ++ c.0, c.1 ∙ ap (λ xs. xs ++ c.0) (sym b.2) ∙ append_assoc ts (positions b.0 0 g.types) c.0)
+
+module _ (F : Features) where
+  -- what there is to know of groups that are added behind types of the module
+  record GroupsHeld (us ts : List DefType) (gs : List (Rec ℕ)) (q : List DefType × List ℕ) : Type 0 where
+    space : List DefType
+    gives : with_groups F ts gs ≡ Some (ts ++ space)
+    served : list_all is_served_group gs ≡ true
+    valid : All (IsValidType F declared) space
+    stand : Stand F q.0 q.1 (ts ++ space)
+    more : List DefType
+    front : q.0 ≡ us ++ more
+
+  nothing_held : (us : List DefType) (ids : List ℕ) (ts : List DefType) → Stand F us ids ts → GroupsHeld us ts [] (us, ids)
+  nothing_held us ids ts a = record {
+    space = [];
+    gives = ap Some (sym (append-nil ts));
+    served = refl;
+    valid = All-nil (IsValidType F declared);
+    stand = subst (Stand F us ids) (sym (append-nil ts)) a;
+    more = [];
+    front = sym (append-nil us);
+  }
+
+  one_held : (us : List DefType) (ids : List ℕ) (ts : List DefType) (a : Stand F us ids ts) (g : Rec ℕ) (gs : List (Rec ℕ)) (t : RecTree) (q : List DefType × List ℕ)
+      → Fits F us ids ts a g t → GroupsHeld (held_with F us ids g t).0 (ts ++ positions t 0 g.types) gs q → GroupsHeld us ts (g ∷ gs) q
+  one_held us ids ts a g gs t q f r =
+      let here = positions t 0 g.types in
+      let h = held_front us ids (positions (placed (canonical F) (length us) t) 0 g.types) (canonical F) in
+      let valid : All (IsValidType F declared) here = subst (λ u. All (IsValidType F declared) (positions u 0 g.types)) (closed_is F ts g t f.closes) (types_valid F ts g (and_right _ (list_all is_served_sub g.types) f.served) f.allowed) in
+      record {
+        space = here ++ r.space;
+        gives = ap (λ o. option_and_then (λ xs. with_groups F xs gs) (option_map (λ u. ts ++ positions u 0 g.types) o)) f.closes ∙ r.gives ∙ ap Some (append_assoc ts here r.space);
+        served = and_both (is_served_group g) (list_all is_served_group gs) f.served r.served;
+        valid = all_append (IsValidType F declared) here r.space valid r.valid;
+        stand = subst (Stand F q.0 q.1) (append_assoc ts here r.space) r.stand;
+        more = h.0 ++ r.more;
+        front = r.front ∙ ap (λ xs. xs ++ r.more) h.1 ∙ append_assoc us h.0 r.more;
+      }
+
+  groups_held : (gs : List (Rec ℕ)) (us : List DefType) (ids : List ℕ) (ts : List DefType) → Stand F us ids ts → (q : List DefType × List ℕ) → with_all_written F us ids gs ≡ Some q → GroupsHeld us ts gs q
+  groups_held [] us ids ts a q e = subst (GroupsHeld us ts []) (same_Some (us, ids) q e) (nothing_held us ids ts a)
+  groups_held (g ∷ gs) us ids ts a q e =
+      let x = then_some (λ (p : List DefType × List ℕ). with_all_written F p.0 p.1 gs) (with_written F us ids (map_rec written g)) q e in
+      let y = added_fits F us ids ts a g x.0 x.1 in
+      let t = y.tree in
+      let next = held_with F us ids g t in
+      one_held us ids ts a g gs t q y.fits
+      (groups_held gs next.0 next.1 (ts ++ positions t 0 g.types) (held_stand F us ids ts g t a) q (ap (λ (p : List DefType × List ℕ). with_all_written F p.0 p.1 gs) y.is ∙ x.2))
+
+  -- and the other way round
+  record GroupsAdded (us : List DefType) (ids : List ℕ) (gs : List (Rec ℕ)) : Type 0 where
+    end : List DefType × List ℕ
+    run : with_all_written F us ids gs ≡ Some end
+
+  groups_added : (gs : List (Rec ℕ)) (us : List DefType) (ids : List ℕ) (ts space : List DefType) → Stand F us ids ts
+      → with_groups F ts gs ≡ Some (ts ++ space) → list_all is_served_group gs ≡ true → All (IsValidType F declared) space → length us + length space ≤ MAX_IDS → GroupsAdded us ids gs
+  groups_added [] us ids ts space a e served v room = record { end = (us, ids); run = refl }
+  groups_added (g ∷ gs) us ids ts space a e served v room =
+      let x = then_some (λ xs. with_groups F xs gs) (with_group F ts g) (ts ++ space) e in
+      let y = map_some (λ t. ts ++ positions t 0 g.types) (closed F ts g) x.0 x.1 in
+      let t = y.0 in
+      let here = positions t 0 g.types in
+      let rest : with_groups F (ts ++ here) gs ≡ Some (ts ++ space) = ap (λ xs. with_groups F xs gs) y.2 ∙ x.2 in
+      let z = groups_go_on F gs (ts ++ here) (ts ++ space) rest in
+      let split : space ≡ here ++ z.0 = same_behind ts space (here ++ z.0) (z.1 ∙ append_assoc ts here z.0) in
+      let served_here = and_left (is_served_group g) (list_all is_served_group gs) served in
+      let valid = subst (All (IsValidType F declared)) split v in
+      let many : length space ≡ length g.types + length z.0 = ap length split ∙ length-append here z.0 ∙ ap (λ n. n + length z.0) (length-positions t 0 g.types) in
+      let allowed = types_allowed F ts g (and_right _ (list_all is_served_sub g.types) served_here) (subst (λ u. All (IsValidType F declared) (positions u 0 g.types)) (sym (closed_is F ts g t y.1)) (all_front (IsValidType F declared) here z.0 valid)) in
+      let fits : Fits F us ids ts a g t = record { served = served_here; allowed = allowed; room = omega (arith, room, many); closes = y.1 } in
+      let next = held_with F us ids g t in
+      let h = held_at_most us ids (positions (placed (canonical F) (length us) t) 0 g.types) (canonical F) in
+      let p = length-positions (placed (canonical F) (length us) t) 0 g.types in
+      let later = groups_added gs next.0 next.1 (ts ++ here) z.0 (held_stand F us ids ts g t a) (rest ∙ ap Some z.1) (and_right (is_served_group g) (list_all is_served_group gs) served) (all_behind (IsValidType F declared) here z.0 valid) (omega (arith, room, many, h, p)) in
+      record { end = later.end; run = ap (option_and_then (λ (r : List DefType × List ℕ). with_all_written F r.0 r.1 gs)) (fits_added F us ids ts a g t fits) ∙ later.run }
+
+pub added_sections_are_valid : AddedSectionsAreValid
+added_sections_are_valid F us gs held e =
+    let r = groups_held F gs us [] [] tt held e in
+    record { served = r.served; section = record { types = r.space; gives = r.gives; valid = r.valid }; stand = r.stand; more = r.more; front = r.front }
+
+pub valid_sections_are_added : ValidSectionsAreAdded
+valid_sections_are_added F us gs served v room = let r = groups_added F gs us [] [] v.types tt v.gives served v.valid room in record { held = r.end; added = r.run }

@@ -1,0 +1,52 @@
+-- The types of a type section, added to a list group by group. Core Specification 3.0, Validation, Modules (Types).
+use Rattle.std.specs.Prelude.{ℕ, ◌≡◌, ◌+◌, ◌≤◌, ◌++◌, Bool, List, [], ◌∷◌, length, slice_get, Option, Some, IsTrue}
+use Rattle.std.specs.Option.{option_and_then}
+use Rattle.std.specs.List.{list_all, AllZip}
+use Rattle.wasm_spec.specs.Syntax.{Rec, map_rec}
+use Rattle.wasm_spec.specs.Features.{Features, canonical}
+use Rattle.wasm_spec.specs.Trees.{DefType, members}
+use Rattle.wasm_spec.specs.GroupRules.{IsValidTypeSection}
+use Rattle.wasm_readers_types.specs.declared.indices.UnpackedIndex.{UnpackedIndex}
+use Rattle.wasm_readers_types.specs.declared.indices.UnpackedIndex.TheVariants.{Module}
+use Rattle.wasm_readers_types.specs.declared.indices.TheConstants.{MAX_IDS}
+use Rattle.wasm_validator_canonical.specs.Groups.{is_served_group, with_written}
+
+-- an index as a module writes it
+abbrev pub written : ℕ → UnpackedIndex
+written n = Module n
+
+-- one group after another
+abbrev pub with_all_written : Features → List DefType → List ℕ → List (Rec ℕ) → Option (List DefType × List ℕ)
+with_all_written F us ids [] = Some (us, ids)
+with_all_written F us ids (g ∷ gs) = option_and_then (λ (r : List DefType × List ℕ). with_all_written F r.0 r.1 gs) (with_written F us ids (map_rec written g))
+
+-- The id stands for a type of the module: the type of the list there is at the same position of a recursive type
+-- with the same members, and where equal types are one it is this type.
+pub record StandsFor (is_canonical : Bool) (us : List DefType) (id : ℕ) (d : DefType) : Type 0 where
+  pub listed : DefType
+  pub is_there : slice_get us id ≡ Some listed
+  pub same_position : listed.position ≡ d.position
+  pub same_members : members listed.tree ≡ members d.tree
+  pub same : IsTrue is_canonical → listed ≡ d
+
+-- The groups are of the forms that are served and a valid type section, each of its types stands in the list under
+-- the id at its index, and the list begins with the types that it had.
+pub record HoldsSection (F : Features) (us : List DefType) (gs : List (Rec ℕ)) (held : List DefType × List ℕ) : Type 0 where
+  pub served : IsTrue (list_all is_served_group gs)
+  pub section : IsValidTypeSection F gs
+  pub stand : AllZip (StandsFor (canonical F) held.0) held.1 section.types
+  pub more : List DefType
+  pub front : held.0 ≡ us ++ more
+
+-- Groups that are added are a valid type section, which the list then holds.
+abbrev pub AddedSectionsAreValid : Type 0
+AddedSectionsAreValid = (F : Features) (us : List DefType) (gs : List (Rec ℕ)) (held : List DefType × List ℕ) → with_all_written F us [] gs ≡ Some held → HoldsSection F us gs held
+
+-- what adding them gives
+pub record Adds (F : Features) (us : List DefType) (gs : List (Rec ℕ)) : Type 0 where
+  pub held : List DefType × List ℕ
+  pub added : with_all_written F us [] gs ≡ Some held
+
+-- A valid type section of the forms that are served is added where there are ids for its types.
+abbrev pub ValidSectionsAreAdded : Type 0
+ValidSectionsAreAdded = (F : Features) (us : List DefType) (gs : List (Rec ℕ)) → IsTrue (list_all is_served_group gs) → (v : IsValidTypeSection F gs) → length us + length v.types ≤ MAX_IDS → Adds F us gs
