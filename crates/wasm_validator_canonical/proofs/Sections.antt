@@ -1,18 +1,19 @@
 -- The groups of a type section, one after another: they are added exactly where they are valid and there are ids for them.
-use Rattle.std.proofs.Common.{◌≡◌, refl, sym, ap, subst, ◌∙◌, ℕ, ◌+◌, ◌≤◌, true, List, [], ◌∷◌, ◌++◌, length, Option, Some, None, arith, append_assoc, append-nil, length-append}
+use Rattle.std.proofs.Common.{◌≡◌, refl, sym, ap, subst, ◌∙◌, ℕ, ◌+◌, ◌≤◌, true, List, [], ◌∷◌, ◌++◌, length, slice_get, Option, Some, None, arith, append_assoc, append-nil, length-append}
 use Rattle.std.specs.Option.{option_map, option_and_then}
 use Rattle.std.specs.List.{list_all, All}
 use Rattle.std.proofs.lemmas.List.Elements.{All-nil, All-cons, All-head, All-tail}
-use Rattle.std.proofs.lemmas.Option.{same_Some}
+use Rattle.std.proofs.lemmas.Option.{same_Some, slice_get_within}
 use Rattle.wasm_spec.specs.Syntax.{Rec, map_rec}
 use Rattle.wasm_spec.specs.Features.{Features, canonical}
 use Rattle.wasm_spec.specs.Trees.{RecTree, DefType, declared}
 use Rattle.wasm_spec.specs.Closing.{closed, positions, with_group, with_groups}
 use Rattle.wasm_spec.specs.GroupRules.{IsValidType}
+use Rattle.wasm_spec.proofs.Closing.{slice_get-append_left}
 use Rattle.wasm_spec.proofs.Written.{map_some}
 use Rattle.wasm_readers_types.specs.declared.indices.TheConstants.{MAX_IDS}
 use Rattle.wasm_validator_canonical.specs.Groups.{placed, is_served_group, is_served_sub, with_written}
-use Rattle.wasm_validator_canonical.specs.Sections.{written, with_all_written, AddedSectionsAreValid, ValidSectionsAreAdded}
+use Rattle.wasm_validator_canonical.specs.Sections.{written, with_all_written, AddedSectionsAreValid, ValidSectionsAreAdded, OneIdForOneType}
 use Rattle.wasm_validator_canonical.proofs.Held.{length-positions}
 use Rattle.wasm_validator_canonical.proofs.Kept.{held_front, held_at_most}
 use Rattle.wasm_validator_canonical.proofs.PlainTypes.{and_left, and_right, and_both}
@@ -130,3 +131,10 @@ added_sections_are_valid F us gs held e =
 
 pub valid_sections_are_added : ValidSectionsAreAdded
 valid_sections_are_added F us gs served v room = let r = groups_added F gs us [] [] v.types tt v.gives served v.valid room in record { held = r.end; added = r.run }
+
+-- ids and the types that they stand for
+pub one_id_for_one_type : OneIdForOneType
+one_id_for_one_type us more once i j d e a b =
+    let there : slice_get (us ++ more) i ≡ Some d = slice_get-append_left us more i (slice_get_within us i a.listed a.is_there) ∙ a.is_there ∙ ap Some (a.same refl) in
+    let here : slice_get (us ++ more) j ≡ Some e = b.is_there ∙ ap Some (b.same refl) in
+    (λ h. same_Some d e (sym there ∙ ap (slice_get (us ++ more)) h ∙ here), λ h. once.one_id i j e (there ∙ ap Some h) here)

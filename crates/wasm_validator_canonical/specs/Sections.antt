@@ -1,11 +1,12 @@
 -- The types of a type section, added to a list group by group. Core Specification 3.0, Validation, Modules (Types).
-use Rattle.std.specs.Prelude.{ℕ, ◌≡◌, ◌+◌, ◌≤◌, ◌++◌, Bool, List, [], ◌∷◌, length, slice_get, Option, Some, IsTrue}
+use Rattle.std.specs.Prelude.{ℕ, ◌≡◌, ◌↔◌, ◌+◌, ◌≤◌, ◌++◌, Bool, true, List, [], ◌∷◌, length, slice_get, Option, Some, IsTrue}
 use Rattle.std.specs.Option.{option_and_then}
 use Rattle.std.specs.List.{list_all, AllZip}
 use Rattle.wasm_spec.specs.Syntax.{Rec, map_rec}
 use Rattle.wasm_spec.specs.Features.{Features, canonical}
 use Rattle.wasm_spec.specs.Trees.{DefType, members}
 use Rattle.wasm_spec.specs.GroupRules.{IsValidTypeSection}
+use Rattle.wasm_spec.specs.TypeLaws.{HasNoRepetition}
 use Rattle.wasm_readers_types.specs.declared.indices.UnpackedIndex.{UnpackedIndex}
 use Rattle.wasm_readers_types.specs.declared.indices.UnpackedIndex.TheVariants.{Module}
 use Rattle.wasm_readers_types.specs.declared.indices.TheConstants.{MAX_IDS}
@@ -50,3 +51,10 @@ pub record Adds (F : Features) (us : List DefType) (gs : List (Rec ℕ)) : Type 
 -- A valid type section of the forms that are served is added where there are ids for its types.
 abbrev pub ValidSectionsAreAdded : Type 0
 ValidSectionsAreAdded = (F : Features) (us : List DefType) (gs : List (Rec ℕ)) → IsTrue (list_all is_served_group gs) → (v : IsValidTypeSection F gs) → length us + length v.types ≤ MAX_IDS → Adds F us gs
+
+-- In a list where equal types are one, and in a longer one that begins with it, ids of two types are the same exactly
+-- where these types are.
+abbrev pub OneIdForOneType : Type 0
+OneIdForOneType =
+    (us more : List DefType) → HasNoRepetition (us ++ more)
+    → (i j : ℕ) (d e : DefType) → StandsFor true us i d → StandsFor true (us ++ more) j e → (i ≡ j) ↔ (d ≡ e)

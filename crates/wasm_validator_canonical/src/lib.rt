@@ -2,7 +2,7 @@
 //! rules, and the ids of their types.
 #![tactic(auto)]
 
-ghost use Rattle.wasm_validator_canonical.specs.Sections.{AddedSectionsAreValid, ValidSectionsAreAdded};
+ghost use Rattle.wasm_validator_canonical.specs.Sections.{AddedSectionsAreValid, ValidSectionsAreAdded, OneIdForOneType};
 
 mod intern_rec_group;
 mod type_canonicalizer;
@@ -16,6 +16,12 @@ pub use type_canonicalizer::TypeCanonicalizer;
 pub fn type_sections_are_added_where_valid()
     ensures accepted { AddedSectionsAreValid }
     ensures valid { ValidSectionsAreAdded }
+{}
+
+/// Where equal types are one, types of any two modules whose types went to one list have the same id
+/// exactly where they are equal: the same place of equal recursive types.
+pub fn equal_types_have_one_id()
+    ensures { OneIdForOneType }
 {}
 
 #[cfg(test)]
