@@ -21,7 +21,8 @@ impl<A: Allocator> Error<A> {
 
     /// A refusal that no proposal lifts.
     pub fn new(fault: Fault, offset: u64) -> Error<A>
-        ensures { IsContent result }
+        ensures content { IsContent result }
+        ensures refusal { result ≡ Error.Refused (record { fault = fault; offset = offset; missing = None }) }
     {
         Error::Refused(Refusal::new(fault, offset))
     }
