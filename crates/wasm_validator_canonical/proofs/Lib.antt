@@ -12,3 +12,4 @@ pub mod NoReferences
 pub mod Standing
 pub mod Steps
 pub mod Sections
+pub mod Arities

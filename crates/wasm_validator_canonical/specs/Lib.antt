@@ -4,3 +4,4 @@ pub mod Groups
 pub mod Answers
 pub mod Interned
 pub mod Sections
+pub mod Arities

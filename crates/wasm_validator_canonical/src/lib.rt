@@ -3,6 +3,7 @@
 #![tactic(auto)]
 
 ghost use Rattle.wasm_validator_canonical.specs.Sections.{AddedSectionsAreValid, ValidSectionsAreAdded, OneIdForOneType};
+ghost use Rattle.wasm_validator_canonical.specs.Arities.{IdsKeepArities};
 
 mod intern_rec_group;
 mod type_canonicalizer;
@@ -22,6 +23,11 @@ pub fn type_sections_are_added_where_valid()
 /// exactly where they are equal: the same place of equal recursive types.
 pub fn equal_types_have_one_id()
     ensures { OneIdForOneType }
+{}
+
+/// The type of a list has as many parameters and results as the type of a module that its id stands for.
+pub fn ids_keep_arities()
+    ensures { IdsKeepArities }
 {}
 
 #[cfg(test)]
