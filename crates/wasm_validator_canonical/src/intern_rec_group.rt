@@ -190,6 +190,7 @@ fn intern<A: Allocator + Copy>(
     let is_canonical = types.is_canonical();
     match types.intern_canonical_rec_group(is_canonical, group, offset) {
         Ok((_, id)) => {
+            // Asked for what it promises: where equal types are one, they still are.
             let _is_canonical = types.is_canonical();
             Ok(types.rec_group_elements(id))
         }
