@@ -164,9 +164,10 @@ fn types_match_by_their_structure(rt: HostRuntime) -> Result<(), Fail> {
     let mut list = TypeList::new(rt.alloc(), true);
     let empty = list.intern_sub_type(empty_structure(rt.alloc()), 0)?;
     let function = list.intern_func_type(empty_signature(rt.alloc()), 0)?;
-    let (_, group) = list.intern_canonical_rec_group(true, mutual_pair(rt.alloc())?, 0)?;
-    let first = list[group].start;
-    let second = list.rec_group_local_id(group, 1, 0).unwrap_or(first);
+    let (is_new, _) = list.intern_canonical_rec_group(true, mutual_pair(rt.alloc())?, 0)?;
+    assert!(rt; is_new);
+    let first = CoreTypeId::from_index(2);
+    let second = CoreTypeId::from_index(3);
     assert!(rt; matches(&list, first, empty) == Some(true));
     assert!(rt; matches(&list, empty, first) == Some(false));
     assert!(rt; matches(&list, first, first) == Some(true));
