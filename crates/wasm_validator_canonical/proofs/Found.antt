@@ -7,6 +7,7 @@ use Rattle.std.proofs.lemmas.Option.{none-some, same_Some}
 use base.Stored.{Gv, gnil, gnum, gcons}
 use Rattle.wasm_spec.specs.Trees.{DefType}
 use Rattle.wasm_spec.specs.TreeCode.{coded_type}
+use Rattle.wasm_validator_canonical.proofs.Canonical.{and_left, and_right}
 use Rattle.wasm_validator_canonical.specs.Found.{same_code, is_same, begins_with, place_of}
 
 abbrev number : Gv → ℕ
@@ -20,14 +21,6 @@ first _ = gnil
 abbrev second : Gv → Gv
 second (gcons a b) = b
 second _ = gnil
-
-and_left : (a b : Bool) → (a && b) ≡ true → a ≡ true
-and_left true b e = refl
-and_left false b e = absurd cc
-
-and_right : (a b : Bool) → (a && b) ≡ true → b ≡ true
-and_right true b e = e
-and_right false b e = absurd cc
 
 and_both : (a b : Bool) → a ≡ true → b ≡ true → (a && b) ≡ true
 and_both true b e f = f

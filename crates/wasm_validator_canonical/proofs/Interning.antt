@@ -22,6 +22,7 @@ use Rattle.wasm_validator_type_list.proofs.Places.{get-end, first_of-suc}
 use Rattle.wasm_validator_canonical.specs.Groups.{is_served_sub}
 use Rattle.wasm_validator_canonical.specs.Indices.{use_of_index, canonical_index, canonical_group, is_known}
 use Rattle.wasm_validator_canonical.specs.Interned.{InternsUnder}
+use Rattle.wasm_validator_canonical.proofs.Written.{known_ids}
 use Rattle.wasm_validator_canonical.proofs.Canonical.{and_left, and_right, plain, is_plain}
 
 -- where the group behind a group begins
@@ -63,17 +64,12 @@ position_known gc true start end k l e h = let m : k < start = ltb-true k start 
 position_known true false start end k l e h = let m : k < end = ltb-true k end h in omega (arith, l, m)
 position_known false false start end k l e h = absurd cc
 
-within_below : (n : ℕ) (ids : List ℕ) (k id : ℕ) → All (λ i. i < n) ids → slice_get ids k ≡ Some id → id < n
-within_below n [] k id a e = absurd (none-some id e)
-within_below n (i ∷ ids) zero id a e = subst (λ m. m < n) (same_Some i id e) (All-head (λ m. m < n) i ids a)
-within_below n (i ∷ ids) (suc k) id a e = within_below n ids k id (All-tail (λ m. m < n) i ids a) e
-
 module _ (n count : ℕ) (gc : Bool) (ids : List ℕ) (below : All (λ i. i < n) ids) where
   abbrev end : ℕ
   end = length ids + count
 
   use_known : (k : ℕ) (o : Option ℕ) → slice_get ids k ≡ o → is_known gc (length ids) end (Module k) ≡ true → IsKnown n count (use_of_index o (k - length ids))
-  use_known k (Some id) e h = within_below n ids k id below e
+  use_known k (Some id) e h = known_ids n ids below k id e
   use_known k None e h = let l = past ids k e in let m = position_known gc (ltb k (length ids)) (length ids) end k l refl h in omega (arith, m)
 
   index_known : (u : UnpackedIndex) → is_known gc (length ids) end u ≡ true → IsKnown n count (canonical_index ids u)

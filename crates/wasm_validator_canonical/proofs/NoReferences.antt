@@ -9,8 +9,7 @@ use Rattle.wasm_spec.specs.ValueTypes.{allows_heap, allows_val, allows_storage}
 use Rattle.wasm_spec.specs.GroupRules.{storages, field_storage}
 use Rattle.wasm_value_types.specs.Allowed.{allows_form}
 use Rattle.wasm_validator_canonical.specs.Groups.{is_served_comp, is_served_sub, allows_sub}
-use Rattle.wasm_validator_canonical.proofs.Canonical.{plain, is_plain}
-use Rattle.wasm_validator_canonical.proofs.PlainTypes.{and_left, and_right}
+use Rattle.wasm_validator_canonical.proofs.Canonical.{and_left, and_right, plain, is_plain}
 
 or_none : (a b c d : Bool) → (a || b || c || d) ≡ false → ((a || b) ≡ false) × (d ≡ false)
 or_none false false false false e = (refl, refl)

@@ -9,15 +9,7 @@ use Rattle.wasm_spec.specs.ValueTypes.{implies, allows_storage}
 use Rattle.wasm_spec.specs.GroupRules.{TypeRules, IsValidType, IsContinuationOfFunction, storages, has_many_results, is_array, is_struct, is_cont}
 use Rattle.wasm_value_types.specs.Allowed.{allows_comp}
 use Rattle.wasm_validator_canonical.specs.Groups.{is_served_comp}
-use Rattle.wasm_validator_canonical.proofs.Canonical.{plain_sub}
-
-pub and_left : (a b : Bool) → (a && b) ≡ true → a ≡ true
-and_left true b e = refl
-and_left false b e = absurd cc
-
-pub and_right : (a b : Bool) → (a && b) ≡ true → b ≡ true
-and_right true b e = e
-and_right false b e = absurd cc
+use Rattle.wasm_validator_canonical.proofs.Canonical.{and_left, and_right, plain_sub}
 
 pub and_both : (a b : Bool) → a ≡ true → b ≡ true → (a && b) ≡ true
 and_both true b e f = f

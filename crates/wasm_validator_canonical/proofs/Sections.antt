@@ -10,19 +10,16 @@ use Rattle.wasm_spec.specs.Trees.{RecTree, DefType, declared}
 use Rattle.wasm_spec.specs.Closing.{closed, positions, with_group, with_groups}
 use Rattle.wasm_spec.specs.GroupRules.{IsValidType}
 use Rattle.wasm_spec.proofs.Closing.{slice_get-append_left}
-use Rattle.wasm_spec.proofs.Written.{map_some}
+use Rattle.wasm_rules.proofs.Tests.{map_some, then_some}
 use Rattle.wasm_readers_types.specs.declared.indices.TheConstants.{MAX_IDS}
 use Rattle.wasm_validator_canonical.specs.Groups.{placed, is_served_group, is_served_sub, with_written}
 use Rattle.wasm_validator_canonical.specs.Sections.{written, with_all_written, AddedSectionsAreValid, ValidSectionsAreAdded, OneIdForOneType}
+use Rattle.wasm_validator_canonical.proofs.Canonical.{and_left, and_right}
 use Rattle.wasm_validator_canonical.proofs.Held.{length-positions}
 use Rattle.wasm_validator_canonical.proofs.Kept.{held_front, held_at_most}
-use Rattle.wasm_validator_canonical.proofs.PlainTypes.{and_left, and_right, and_both}
+use Rattle.wasm_validator_canonical.proofs.PlainTypes.{and_both}
 use Rattle.wasm_validator_canonical.proofs.Standing.{Stand, held_with, held_stand, closed_is, types_valid, types_allowed}
 use Rattle.wasm_validator_canonical.proofs.Steps.{Fits, fits_added, added_fits}
-
-then_some : {X Y : Type 0} (f : X → Option Y) (o : Option X) (y : Y) → option_and_then f o ≡ Some y → (x : X) × (o ≡ Some x) × (f x ≡ Some y)
-then_some f None y e = absurd cc
-then_some f (Some x) y e = (x, refl, e)
 
 all_append : {X : Type 0} (P : X → Type 0) (xs ys : List X) → All P xs → All P ys → All P (xs ++ ys)
 all_append P [] ys a b = b

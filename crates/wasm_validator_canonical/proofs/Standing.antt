@@ -21,11 +21,11 @@ use Rattle.wasm_validator_type_list.proofs.Standing.{get-positions}
 use Rattle.wasm_value_types.specs.Allowed.{allows_comp}
 use Rattle.wasm_validator_canonical.specs.Groups.{nowhere, types_at, placed, held, is_served_comp, is_served_sub, allows_sub}
 use Rattle.wasm_validator_canonical.proofs.Allowed.{comp_allowed, comp_served}
-use Rattle.wasm_validator_canonical.proofs.Canonical.{plain_sub, is_plain, plain}
+use Rattle.wasm_validator_canonical.proofs.Canonical.{and_left, and_right, plain_sub, is_plain, plain}
 use Rattle.wasm_validator_canonical.proofs.Found.{StandAt}
 use Rattle.wasm_validator_canonical.proofs.Kept.{held_front, new_ids}
 use Rattle.wasm_validator_canonical.specs.Sections.{StandsFor}
-use Rattle.wasm_validator_canonical.proofs.PlainTypes.{and_left, and_right, and_both, plain_valid, valid_plain}
+use Rattle.wasm_validator_canonical.proofs.PlainTypes.{and_both, plain_valid, valid_plain}
 use Rattle.wasm_validator_canonical.proofs.NoReferences.{sub_alone}
 
 -- lists place by place

@@ -12,21 +12,18 @@ use Rattle.wasm_spec.specs.Trees.{RecTree, DefType}
 use Rattle.wasm_spec.specs.Closing.{closed, positions}
 use Rattle.wasm_spec.proofs.Shifting.{refs_option-map, refs_comp-map}
 use Rattle.wasm_spec.proofs.SyntaxMaps.{map_rec-map, map_rec-same}
-use Rattle.wasm_spec.proofs.Written.{map_some}
+use Rattle.wasm_rules.proofs.Tests.{map_some, guarded}
 use Rattle.wasm_readers_types.specs.declared.indices.UnpackedIndex.{UnpackedIndex}
 use Rattle.wasm_readers_types.specs.declared.indices.TheConstants.{MAX_IDS}
 use Rattle.wasm_validator_canonical.specs.Groups.{types_at, placed, held, is_served_comp, is_served_sub, is_served_group, allows_sub, with_written}
 use Rattle.wasm_validator_canonical.specs.Indices.{is_written, is_written_sub, number_in}
 use Rattle.wasm_validator_canonical.specs.Sections.{written}
+use Rattle.wasm_validator_canonical.proofs.Canonical.{and_left, and_right}
 use Rattle.wasm_validator_canonical.proofs.Allowed.{comp_allowed}
 use Rattle.wasm_validator_canonical.proofs.Held.{positions-map, length-positions}
 use Rattle.wasm_validator_canonical.proofs.Kept.{AreBelow, length_held, held_known}
-use Rattle.wasm_validator_canonical.proofs.PlainTypes.{and_left, and_right, and_both}
+use Rattle.wasm_validator_canonical.proofs.PlainTypes.{and_both}
 use Rattle.wasm_validator_canonical.proofs.Standing.{Stand, held_with, same_closed}
-
-guarded : {A : Type 0} (b : Bool) (o : Option A) (x : A) → cond b o None ≡ Some x → (b ≡ true) × (o ≡ Some x)
-guarded true o x e = (refl, e)
-guarded false o x e = absurd cc
 
 -- a group as it is written
 none_written : {R S : Type 0} (f : R → S) (o : Option R) → is_none (option_map f o) ≡ is_none o

@@ -31,6 +31,7 @@ use Rattle.wasm_validator_type_list.specs.Interned.{AreOnce, Interns, InternsTyp
 use Rattle.wasm_validator_type_list.proofs.Places.{get-map}
 use Rattle.wasm_validator_canonical.specs.Groups.{nowhere, types_at, placed, held, is_served_group, allows_sub, with_written}
 use Rattle.wasm_validator_canonical.specs.Indices.{use_of_index, canonical_index, canonical_group, is_written, is_written_sub, number_in}
+use Rattle.wasm_validator_canonical.proofs.Canonical.{and_left, and_right}
 use Rattle.wasm_validator_canonical.proofs.Held.{positions-map, interned_held}
 
 -- an index as the list has it
@@ -42,14 +43,6 @@ listed_index : (ids : List ℕ) (u : UnpackedIndex) → is_written u ≡ true �
 listed_index ids (Module k) e = listed_either (slice_get ids k) (k - length ids)
 listed_index ids (RecGroup i) e = absurd cc
 listed_index ids (Id id) e = absurd cc
-
-and_left : (a b : Bool) → (a && b) ≡ true → a ≡ true
-and_left true b e = refl
-and_left false b e = absurd cc
-
-and_right : (a b : Bool) → (a && b) ≡ true → b ≡ true
-and_right true b e = e
-and_right false b e = absurd cc
 
 listed_indices : (ids : List ℕ) (us : List UnpackedIndex) → list_all is_written us ≡ true → AllByRecursion (λ u. listed_ref (canonical_index ids u) ≡ listed_from ids (number_in u)) us
 listed_indices ids [] e = tt
@@ -72,15 +65,15 @@ module _ {A : Type 0} where
   listed_seen (s ∷ ss) = ap (λ xs. listed_sub s ∷ xs) (listed_seen ss)
 
 -- ids that are there are those of the types at them
-known_ids : (us : List DefType) (ids : List ℕ) → All (λ id. id < length us) ids → (k id : ℕ) → slice_get ids k ≡ Some id → id < length us
-known_ids us [] a k id e = absurd (none-some id e)
-known_ids us (i ∷ ids) a zero id e = subst (λ n. n < length us) (same_Some i id e) (All-head (λ n. n < length us) i ids a)
-known_ids us (i ∷ ids) a (suc k) id e = known_ids us ids (All-tail (λ n. n < length us) i ids a) k id e
+pub known_ids : (n : ℕ) (ids : List ℕ) → All (λ id. id < n) ids → (k id : ℕ) → slice_get ids k ≡ Some id → id < n
+known_ids n [] a k id e = absurd (none-some id e)
+known_ids n (i ∷ ids) a zero id e = subst (λ m. m < n) (same_Some i id e) (All-head (λ m. m < n) i ids a)
+known_ids n (i ∷ ids) a (suc k) id e = known_ids n ids (All-tail (λ m. m < n) i ids a) k id e
 
 pub are_ids : (us : List DefType) (ids : List ℕ) → All (λ id. id < length us) ids → AreIdsOf us ids (types_at us ids)
 are_ids us ids a = record {
   as_many = sym (length-map ids (λ (id : ℕ). get_or us id nowhere));
-  each = λ k id e. slice_get-get_or us id nowhere (known_ids us ids a k id e) ∙ sym (get-map (λ (id : ℕ). get_or us id nowhere) ids k id e);
+  each = λ k id e. slice_get-get_or us id nowhere (known_ids (length us) ids a k id e) ∙ sym (get-map (λ (id : ℕ). get_or us id nowhere) ids k id e);
 }
 
 -- the group's members with their uses
