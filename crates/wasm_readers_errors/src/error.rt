@@ -1,6 +1,7 @@
 ghost use Rattle.std.specs.Prelude.{◌≡◌};
 
 use crate::features::WasmFeatures;
+use crate::item_rules::ItemRule;
 use crate::type_rules::{DescriptorRule, GroupRule, ValueTypeRule};
 use std::alloc::{AllocError, AllocFailed};
 use std::fmt;
@@ -231,6 +232,8 @@ pub enum Fault {
     Descriptor(DescriptorRule),
     /// A reference type without the proposal that it needs.
     ValueType(ValueTypeRule),
+    /// A rule of imports, tables, memories, tags or globals.
+    Item(ItemRule),
     /// A type index that is not in the type index space.
     UnknownType(u32),
     /// The index of the type that it stands in, where no type refers to itself.
@@ -242,6 +245,8 @@ pub enum Fault {
     NotAFunctionType(u32),
     /// A continuation type of a type, by its id, that is not a function type.
     NotAFunctionId(u32),
+    /// A memory of more than so many pages, each of so many bytes.
+    MemorySize(u64, u64),
     /// An export of an index that is not in its index space.
     UnknownExport(ItemKind, u32),
     /// More of something than may be.
@@ -262,6 +267,7 @@ impl fmt::Display for Fault {
             Fault::Group(rule) => f.write_str(rule.text()),
             Fault::Descriptor(rule) => f.write_str(rule.text()),
             Fault::ValueType(rule) => f.write_str(rule.text()),
+            Fault::Item(rule) => f.write_str(rule.text()),
             Fault::UnknownType(index) => write_unknown_type(f, *index, "bounds"),
             Fault::UnknownTypeWithoutGc(index) => write_unknown_type(
                 f,
@@ -278,6 +284,10 @@ impl fmt::Display for Fault {
                 "type index {index} is not a function type"
             ),
             Fault::NotAFunctionId(id) => write!(f, "non-function type {id}"),
+            Fault::MemorySize(pages, page) => write!(
+                f,
+                "memory size must be at most {pages:#x} {page}-byte pages"
+            ),
             Fault::UnknownExport(kind, index) => write_unknown_export(f, kind.text(), *index),
             Fault::Limit(what, limit) => write_limit(f, what.text(), *limit),
             Fault::UnknownSection(id) => write!(f, "malformed section id: {id}"),
