@@ -4,3 +4,4 @@ pub mod SectionsSeen
 pub mod Written
 pub mod Items
 pub mod Limits
+pub mod Tables

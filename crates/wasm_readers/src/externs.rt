@@ -6,10 +6,11 @@ ghost use Rattle.wasm_spec.specs.BinaryModules.{import_at, export_at, extern_at}
 ghost use Rattle.wasm_readers.specs.Reader.{input, SameInput, position_in, rest, RefusedFrom};
 ghost use Rattle.wasm_readers.specs.Written.{written};
 ghost use Rattle.wasm_readers.specs.Limits.{limits_of};
+ghost use Rattle.wasm_readers.specs.Tables.{BeginsTable, HasNoTable};
 ghost use Rattle.wasm_readers_types.specs.SeenExterns.{table_of, memory_of, global_of, extern_of, kind_of};
 
 use crate::binary_reader::BinaryReader;
-use crate::items::{Export, Import};
+use crate::items::{Export, Import, TableHead};
 use crate::section_limited::FromReader;
 use std::alloc::Allocator;
 use wasm_readers_errors::{Error, Fault, Malformed, Refusal};
@@ -110,6 +111,27 @@ impl<'a> BinaryReader<'a> {
             maximum: limits.maximum,
             shared: limits.flags & 2 != 0,
         })
+    }
+
+    /// What stands of a table of the table section before its initializer: its type, and whether an
+    /// initializer follows (Core Specification 3.0, Binary Format, Table Section).
+    #[tactic(auto, unfolding(wasm_spec::specs::BinarySections::table_entry_at))]
+    pub fn read_table_head(&mut self) -> Result<TableHead, Refusal>
+        ensures same { SameInput self.old self.new }
+        ensures onward { position_in self.old ≤ position_in self.new }
+        ensures refusal { IfErr result (RefusedFrom self.old) }
+        ensures ok { IfOk result (λ h. BeginsTable h (rest self.old) (rest self.new)) }
+        ensures err { OnErr result (HasNoTable (rest self.old)) }
+    {
+        let start = *self;
+        let has_init = self.read_u8()? == 0x40;
+        if has_init {
+            self.read_flags(0, Malformed::ReferenceType)?;
+        } else {
+            *self = start;
+        }
+        let ty = self.read_table_type()?;
+        Ok(TableHead { ty, has_init })
     }
 
     /// A memory type.

@@ -48,6 +48,15 @@ pub enum TableInit<'a> {
     Expr(ConstExpr<'a>),
 }
 
+/// What stands of a table before its initializer.
+#[derive(Clone, Copy, Debug)]
+pub struct TableHead {
+    /// The table's type.
+    pub ty: TableType,
+    /// Whether it has an initializer, whose bytes come next.
+    pub has_init: bool,
+}
+
 /// A table with its initializer.
 #[derive(Clone, Copy, Debug)]
 pub struct Table<'a> {

@@ -13,13 +13,13 @@ pub mod types;
 pub use binary_reader::BinaryReader;
 pub use items::{
     ConstExpr, Data, DataKind, Element, ElementItems, ElementKind, Export, Global, Import, Table,
-    TableInit,
+    TableHead, TableInit,
 };
 pub use lists::read_list;
 pub use section_limited::{FromReader, SectionItems, SectionLimited};
 pub use wasm_readers_errors::{
-    Counted, DescriptorRule, Error, Fault, GroupRule, ItemKind, Malformed, OutOfOrder, Refusal,
-    Rule, Unserved, ValueTypeRule, WasmFeatures,
+    Counted, DescriptorRule, Error, Fault, GroupRule, ItemKind, ItemRule, Malformed, OutOfOrder,
+    Refusal, Rule, Unserved, ValueTypeRule, WasmFeatures,
 };
 pub use wasm_readers_types::{
     AbstractHeapType, ArrayType, CompositeInnerType, CompositeType, ContType, CoreTypeId,
