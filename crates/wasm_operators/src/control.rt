@@ -5,7 +5,7 @@ ghost use Rattle.wasm_spec.specs.Values.{list_at};
 ghost use Rattle.wasm_spec.specs.BinaryTypes.{val_at};
 ghost use Rattle.wasm_readers.specs.Reader.{SameInput, position_in, original, rest, RefusedFrom};
 ghost use Rattle.wasm_readers.specs.Written.{written};
-ghost use Rattle.wasm_operators.specs.Refusals.{RefusedBetween};
+ghost use Rattle.wasm_flat_operators.specs.Refusals.{RefusedBetween};
 ghost use Rattle.wasm_operators.specs.Control.{block_at, catch_at, br_table_at, try_table_at, control_from, parametric_from};
 ghost use Rattle.wasm_operators.specs.SeenControl.{block_of, labels_of, catches_of, control_of, parametric_of};
 
@@ -151,6 +151,7 @@ impl<'a> Immediate<'a> for ValType {
 }
 
 /// A block type.
+#[inline(always)]
 #[tactic(auto, unfolding(crate::specs::Control::block_at))]
 pub fn read_block_type(reader: &mut BinaryReader) -> Result<BlockType, Refusal>
     ensures same { SameInput reader.old reader.new }
@@ -200,6 +201,7 @@ fn read_try_table<'a>(reader: &mut BinaryReader<'a>) -> Result<TryTable<'a>, Ref
 }
 
 /// The control operator of this opcode, which stood at this offset.
+#[inline(always)]
 #[tactic(auto, unfolding(crate::specs::Control::control_from))]
 pub(crate) fn read_control<'a>(
     reader: &mut BinaryReader<'a>,
@@ -249,6 +251,7 @@ pub(crate) fn read_control<'a>(
 }
 
 /// The parametric operator of this opcode, which stood at this offset.
+#[inline(always)]
 #[tactic(auto, unfolding(crate::specs::Control::parametric_from))]
 pub(crate) fn read_parametric<'a>(
     reader: &mut BinaryReader<'a>,

@@ -1,18 +1,13 @@
 //! Laws of the definitions.
 
 ghost use Rattle.std.specs.Prelude.{ℕ};
-ghost use Rattle.wasm_numeric_operators.specs.Opcodes.{IsTableOf};
 ghost use Rattle.wasm_spec.specs.Laws.{ReadingRenames, ReadingGoesOn, ReadingIgnoresWhatFollows};
-ghost use Rattle.wasm_operators.specs.Memories.{access_opcode, access_from};
 ghost use Rattle.wasm_operators.specs.Instructions.{instruction_at};
 ghost use Rattle.wasm_operators.specs.Expressions.{expression_at};
 ghost use Rattle.wasm_operators.specs.Maps.{map_instruction};
 ghost use Rattle.wasm_operators.specs.Laws.{ExpressionIsFront, ReadingIsOfBytes};
 
-/// The table of loads and stores in the order of their opcodes says what their own opcodes say, and nothing more.
-pub fn accesses_are_a_table()
-    ensures { IsTableOf access_opcode access_from }
-{}
+pub use wasm_flat_operators::accesses_are_a_table;
 
 /// What is read takes at least one byte, and leaves the bytes behind it as they are.
 pub fn reading_goes_on<R>()

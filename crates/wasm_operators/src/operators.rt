@@ -3,23 +3,19 @@
 ghost use Rattle.std.specs.Prelude.{◌≡◌, ◌≤◌, ◌<◌, ◌+◌, Some, None, IfOk, IfErr, OnOk, OnErr};
 ghost use Rattle.wasm_readers.specs.Reader.{SameInput, position_in, original, rest, RefusedFrom};
 ghost use Rattle.wasm_readers.specs.Written.{written};
-ghost use Rattle.wasm_operators.specs.Refusals.{RefusedBetween};
+ghost use Rattle.wasm_flat_operators.specs.Refusals.{RefusedBetween};
 ghost use Rattle.wasm_operators.specs.Instructions.{aggregate_from, bulk_from, prefixed_from, plain_from, instruction_at};
 ghost use Rattle.wasm_operators.specs.SeenOperators.{operator_of};
 
-use crate::arrays::{ArrayOperator, read_array};
-use crate::calls::{CallOperator, read_call};
-use crate::constants::{ConstantOperator, read_constant, read_vector};
 use crate::control::{ControlOperator, ParametricOperator, read_control, read_parametric};
-use crate::conversions::{ConversionOperator, conversion_from_code, shared_from_code};
-use crate::memories::{
-    BulkMemoryOperator, MemArg, MemoryOperator, access_from_opcode, read_memarg, read_memory,
-    read_memory_size,
-};
 use crate::references::{CastOperator, ReferenceOperator, read_cast, read_reference};
-use crate::structs::{StructOperator, read_struct};
-use crate::tables::{TableOperator, read_table, read_table_access};
-use crate::variables::{VariableOperator, read_variable};
+use wasm_flat_operators::{
+    ArrayOperator, BulkMemoryOperator, CallOperator, ConstantOperator, ConversionOperator, MemArg,
+    MemoryOperator, StructOperator, TableOperator, VariableOperator, access_from_opcode,
+    conversion_from_code, read_array, read_call, read_constant, read_memarg, read_memory,
+    read_memory_size, read_struct, read_table, read_table_access, read_variable, read_vector,
+    shared_from_code,
+};
 use wasm_numeric_operators::{
     NumericOperator, SaturatingOperator, numeric_from_opcode, saturating_from_code,
 };

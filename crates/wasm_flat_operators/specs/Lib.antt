@@ -1,0 +1,10 @@
+pub mod Immediates
+pub mod Refusals
+pub mod Calls
+pub mod Variables
+pub mod Tables
+pub mod Memories
+pub mod Constants
+pub mod Conversions
+pub mod Structs
+pub mod Arrays

@@ -1,5 +1,0 @@
-use Rattle.wasm_operators.proofs.Opcodes.{access-table}
-use Rattle.wasm_operators.proofs.laws.accesses_are_a_table.Goals as goal
-
-pub returns : goal.returns
-returns c = access-table

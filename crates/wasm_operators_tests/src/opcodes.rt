@@ -1,0 +1,72 @@
+use crate::taken;
+
+/// How many bytes the operator of this byte takes before zeros.
+fn length_of(opcode: u8) -> Option<u64> {
+    match opcode {
+        0x00 | 0x01 | 0x05 | 0x0a | 0x0b | 0x0f | 0x1a | 0x1b => Some(1),
+        0x45..=0xc4 | 0xd1 | 0xd3 | 0xd4 => Some(1),
+        0x02..=0x04 | 0x08 | 0x0c | 0x0d | 0x10 | 0x12 | 0x14 | 0x15 | 0x1c => Some(2),
+        0x20..=0x26 | 0x3f..=0x42 | 0xd0 | 0xd2 | 0xd5 | 0xd6 | 0xfc => Some(2),
+        0x0e | 0x11 | 0x13 | 0x1f | 0x28..=0x3e | 0xfb => Some(3),
+        0x43 => Some(5),
+        0x44 => Some(9),
+        _ => None,
+    }
+}
+
+#[test]
+fn every_opcode(rt: HostRuntime) {
+    for opcode in 0u8..=255 {
+        let bytes = [opcode, 0, 0, 0, 0, 0, 0, 0, 0, 0];
+        assert_eq!(rt; taken(&bytes), length_of(opcode));
+    }
+}
+
+/// The same behind the prefix `0xfb`.
+fn aggregate_length_of(code: u8) -> Option<u64> {
+    match code {
+        15 | 26..=30 => Some(2),
+        0 | 1 | 6 | 7 | 11..=14 | 16 | 20..=23 | 32..=36 => Some(3),
+        2..=5 | 8..=10 | 17..=19 => Some(4),
+        24 | 25 | 37 | 38 => Some(6),
+        _ => None,
+    }
+}
+
+/// The same behind the prefix `0xfc`.
+fn bulk_length_of(code: u8) -> Option<u64> {
+    match code {
+        0..=7 => Some(2),
+        9 | 11 | 13 | 15..=17 => Some(3),
+        8 | 10 | 12 | 14 => Some(4),
+        _ => None,
+    }
+}
+
+#[test]
+fn every_prefixed_opcode(rt: HostRuntime) {
+    for code in 0u8..128 {
+        assert_eq!(rt;
+            taken(&[0xfb, code, 0, 0, 0, 0, 0]),
+            aggregate_length_of(code)
+        );
+        assert_eq!(rt; taken(&[0xfc, code, 0, 0, 0, 0, 0]), bulk_length_of(code));
+        let vector = [0xfd, code, 0, 0, 0, 0, 0, 0, 0, 0, 0, 0, 0, 0, 0, 0, 0, 0];
+        assert_eq!(rt; taken(&vector), if code == 12 { Some(18) } else { None });
+        let shared = [0xfe, code, 0, 0, 0];
+        assert_eq!(rt; taken(&shared), if code == 0x72 { Some(2) } else { None });
+    }
+}
+
+/// No prefix has an operator whose number needs two bytes.
+#[test]
+fn no_greater_opcode(rt: HostRuntime) {
+    for code in 128u16..16_384 {
+        let low = (code % 128) as u8 + 128;
+        let high = (code / 128) as u8;
+        assert_eq!(rt; taken(&[0xfb, low, high, 0, 0, 0, 0, 0]), None);
+        assert_eq!(rt; taken(&[0xfc, low, high, 0, 0, 0, 0, 0]), None);
+        assert_eq!(rt; taken(&[0xfd, low, high, 0, 0, 0, 0, 0]), None);
+        assert_eq!(rt; taken(&[0xfe, low, high, 0, 0, 0, 0, 0]), None);
+    }
+}
