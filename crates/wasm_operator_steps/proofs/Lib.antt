@@ -1,0 +1,13 @@
+pub mod ControlRuns
+pub mod HeapRuns
+pub mod Attempts
+pub mod WorldsRenamed
+pub mod MatchingRenamed
+pub mod MachineRenamed
+pub mod MeaningsRenamed
+pub mod StepsRenamed
+pub mod NumericShapes
+pub mod SyntaxAgrees
+pub mod VerdictsRenamed
+pub mod ConstantReferences
+pub mod WorldsDecided

@@ -1,0 +1,76 @@
+-- The small language that instructions are told in: types by what names them, checks, and actions on the two stacks. It is over
+-- type indices alone, and gets its meaning over identities elsewhere.
+use Rattle.std.specs.Prelude.{ℕ, Bool, List}
+use Rattle.wasm_spec.specs.Syntax.{AbstractHeap, Ref, Val}
+use Rattle.wasm_operators.specs.Control.{Block}
+use Rattle.wasm_flat_operators.specs.declared.memories.MemoryOperator.{MemoryOperator}
+use Rattle.wasm_flat_operators.specs.declared.memories.MemArg.{MemArg}
+use Rattle.wasm_operator_steps.specs.Machine.{Kind}
+
+-- what has a signature, by its index
+pub data Signed : Type 0 where
+  of_type of_function of_tag : ℕ → Signed
+
+-- Lists of value types, by what the module or the frames call so:
+-- written types; the parameters or results of a signature; what a label takes, and what the body returns; the type of a local or a
+-- global; a reference to a function, and to a new value of a type; the unpacked types of all fields of a structure, of one of them, and
+-- of an array's elements; what addresses a table or a memory, and the lesser of two; a table's elements, and a segment's; the greatest
+-- type, with null, of a reference type's hierarchy; the descriptor, or null, of a type that a reference type names; and lists made of
+-- others: so many times, without the last, the last alone, and one after another.
+pub data Types : Type 0 where
+  these : List (Val ℕ) → Types
+  params results : Signed → Types
+  label : ℕ → Types
+  returned : Types
+  local global function_reference new_reference fields element : ℕ → Types
+  field : ℕ → ℕ → Types
+  table_address memory_address table_element segment : ℕ → Types
+  lesser_table_address lesser_memory_address : ℕ → ℕ → Types
+  top descriptor_of : Ref ℕ → Types
+  repeated : ℕ → Types → Types
+  front last : Types → Types
+  joined : Types → Types → Types
+
+-- the proposals that an instruction may need
+pub data Needed : Type 0 where
+  multi_value reference_types bulk_memory exceptions function_references gc shared_everything_threads custom_descriptors : Needed
+
+-- Checks:
+-- a feature is on; a written type is one that the features allow; a global is mutable; a local is set; a function counts as referenced;
+-- a tag has no results, so that it is one of exceptions; each type of one list matches that of another; a reference type may be cast
+-- to another; a load or a store may have its memory argument; all fields of a structure have a default, and it has no descriptor; a
+-- field is mutable, and is packed or isn't; the same of an array's elements, and they are numbers or vectors; the elements of one array
+-- may be stored in another; a data segment or an element segment is there.
+pub data Check : Type 0 where
+  has : Needed → Check
+  allows : Val ℕ → Check
+  global_is_mutable local_is_set function_is_referenced is_exception : ℕ → Check
+  each_matches : Types → Types → Check
+  may_be_cast : Ref ℕ → Ref ℕ → Check
+  is_aligned : MemoryOperator → MemArg → Check
+  fields_have_defaults has_no_descriptor : ℕ → Check
+  field_is_mutable : ℕ → ℕ → Check
+  field_is_packed : Bool → ℕ → ℕ → Check
+  element_is_mutable element_has_default element_is_number : ℕ → Check
+  element_is_packed : Bool → ℕ → Check
+  element_is_storable : ℕ → ℕ → Check
+  data_is_there segment_is_there : ℕ → Check
+
+-- Actions:
+-- go on only where a check holds, or not at all; take operands of these types, or give them; take any operand; take a reference; take a
+-- reference below an abstract heap type, shared or not; take two references that may be compared; know that a reference isn't null; turn a
+-- reference of one hierarchy into one of another; turn a reference to a structure into one to its descriptor; choose one of two operands;
+-- know that what follows isn't reached; turn to `else`; leave a frame, or enter one; know that a local is set; branch where a reference is
+-- null; branch to one of several labels.
+pub data Action : Type 0 where
+  need : Check → Action
+  refuse : Action
+  take give : Types → Action
+  take_any take_reference take_comparable make_non_null choose stop turn_to_else leave : Action
+  take_below : AbstractHeap → Action
+  convert : AbstractHeap → AbstractHeap → Action
+  describe : ℕ → Action
+  enter : Kind → Block ℕ → Action
+  set : ℕ → Action
+  branch_on_null : ℕ → Action
+  branch_to_one_of : List ℕ → ℕ → Action

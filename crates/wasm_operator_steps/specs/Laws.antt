@@ -1,0 +1,73 @@
+-- Laws of the steps, as facts that a contract can name.
+use Rattle.std.specs.Prelude.{◌≡◌, ◌≤◌, ℕ, Bool, true, List, ◌++◌, length, Option, Some, is_some}
+use Rattle.std.specs.Bool.{Decides}
+use Rattle.std.specs.Option.{option_map}
+use Rattle.wasm_spec.specs.Syntax.{Sub}
+use Rattle.wasm_spec.specs.Declared.{ancestor_at, IsAncestor}
+use Rattle.wasm_spec.specs.MatchingTests.{IsWorld}
+use Rattle.wasm_rules.specs.Contexts.{Context}
+use Rattle.wasm_numeric_operators.specs.Numeric.{numeric_opcode}
+use Rattle.wasm_numeric_operators.specs.Signatures.{signature_at}
+use Rattle.wasm_numeric_operators.specs.declared.numeric.NumericOperator.{NumericOperator}
+use Rattle.wasm_operators.specs.Control.{Block}
+use Rattle.wasm_operators.specs.Maps.{map_block}
+use Rattle.wasm_operators.specs.Instructions.{Instruction, numeric}
+use Rattle.wasm_operator_steps.specs.Worlds.{declared_in, world_of}
+use Rattle.wasm_operator_steps.specs.Bodies.{Surroundings, map_surroundings}
+use Rattle.wasm_operator_steps.specs.Machine.{State, map_state}
+use Rattle.wasm_operator_steps.specs.Identities.{refs_surroundings, refs_state, refs_block, IsOneToOneOn}
+use Rattle.wasm_operator_steps.specs.ConstantExpressions.{gives_reference, takes_no_reference, is_number, GivesOne, GivesOneReference}
+use Rattle.wasm_operator_steps.specs.Shapes.{computing, shape_of}
+use Rattle.wasm_operator_steps.specs.Steps.{step, steps, is_typed}
+
+-- A step, a run of steps and a finish over renamed identities are those over the identities themselves, renamed.
+pub record AreRenamed {R S : Type 0} (same : R → R → Bool) (renamed : S → S → Bool) (f : R → S) (B : Surroundings R) : Type 0 where
+  pub step : (op : Instruction ℕ) (s : State R) → step renamed (map_surroundings f B) op (map_state f s) ≡ option_map (map_state f) (step same B op s)
+  pub steps : (ops : List (Instruction ℕ)) (s : State R) → steps renamed (map_surroundings f B) ops (map_state f s) ≡ option_map (map_state f) (steps same B ops s)
+  pub typed : (b : Block R) (ops : List (Instruction ℕ)) → is_typed renamed (map_surroundings f B) (map_block f b) ops ≡ is_typed same B b ops
+
+-- They are, where renamed identities are the same exactly where they were.
+abbrev pub StepsRename : (R S : Type 0) → Type 0
+StepsRename R S =
+    (same : R → R → Bool) (renamed : S → S → Bool) (f : R → S) → ((a b : R) → renamed (f a) (f b) ≡ same a b) → (B : Surroundings R) → AreRenamed same renamed f B
+
+-- Whether a step can be taken, whether a run of steps can, and whether it leads to the end of a frame doesn't depend on the identities
+-- of types, as long as the renaming is one-to-one on those in the context, the locals and the state.
+pub record KeepsVerdicts {R S : Type 0} (same : R → R → Bool) (renamed : S → S → Bool) (f : R → S) (B : Surroundings R) : Type 0 where
+  pub step :
+      (op : Instruction ℕ) (s : State R) → IsOneToOneOn same renamed f (refs_surroundings B ++ refs_state s)
+      → is_some (step renamed (map_surroundings f B) op (map_state f s)) ≡ is_some (step same B op s)
+  pub steps :
+      (ops : List (Instruction ℕ)) (s : State R) → IsOneToOneOn same renamed f (refs_surroundings B ++ refs_state s)
+      → is_some (steps renamed (map_surroundings f B) ops (map_state f s)) ≡ is_some (steps same B ops s)
+  pub typed :
+      (b : Block R) (ops : List (Instruction ℕ)) → IsOneToOneOn same renamed f (refs_surroundings B ++ refs_block b)
+      → is_typed renamed (map_surroundings f B) (map_block f b) ops ≡ is_typed same B b ops
+
+abbrev pub VerdictsRename : (R S : Type 0) → Type 0
+VerdictsRename R S = Discrete R → (same : R → R → Bool) (renamed : S → S → Bool) (f : R → S) (B : Surroundings R) → KeepsVerdicts same renamed f B
+
+-- A numeric instruction checks, takes and gives what the table of signatures says of its opcode.
+abbrev pub NumericShapesByOpcode : Type 0
+NumericShapesByOpcode = (op : NumericOperator) → option_map computing (signature_at (numeric_opcode op)) ≡ Some (shape_of (numeric op))
+
+-- Of the instructions of constant expressions some give exactly one reference each, and the others take none.
+pub record ReferencesAreCounted {R : Type 0} (same : R → R → Bool) (B : Surroundings R) : Type 0 where
+  pub gives_one : (op : Instruction ℕ) (s t : State R) → gives_reference op ≡ true → step same B op s ≡ Some t → GivesOneReference s.operands t.operands
+  pub takes_none : (op : Instruction ℕ) (s t : State R) → takes_no_reference op ≡ true → step same B op s ≡ Some t → GivesOne is_number s.operands t.operands
+
+abbrev pub ConstantsGiveReferences : (R : Type 0) → Type 0
+ConstantsGiveReferences R = (same : R → R → Bool) (B : Surroundings R) → ReferencesAreCounted same B
+
+-- b is an ancestor of a, or a itself, no further away than so many steps
+pub record IsNear {R : Type 0} (C : Context R) (D : R → Option (Sub R)) (a b : R) : Type 0 where
+  pub steps : ℕ
+  pub within : steps ≤ length C.declares
+  pub leads : ancestor_at D steps a ≡ Some b
+
+-- Where the test for the same identity is right, and no ancestor is further away than there are types that declare something, the tests of
+-- a context's world are right: so is then what `matches_val` says of value types.
+abbrev pub WorldsAreRight : (R : Type 0) → Type 0
+WorldsAreRight R =
+    (same : R → R → Bool) (C : Context R) → ((a b : R) → Decides (same a b) (a ≡ b))
+    → ((a b : R) → IsAncestor (declared_in same C.declares) a b → IsNear C (declared_in same C.declares) a b) → IsWorld (world_of same C)

@@ -1,0 +1,16 @@
+pub mod Attempts
+pub mod Worlds
+pub mod Matching
+pub mod Bodies
+pub mod Machine
+pub mod Actions
+pub mod Meanings
+pub mod Shapes
+pub mod Steps
+pub mod Renaming
+pub mod ConstantExpressions
+pub mod Identities
+pub mod Laws
+pub mod Samples
+pub mod ControlExamples
+pub mod HeapExamples

@@ -1,0 +1,18 @@
+-- Matching of lists of value types and of storage types, as tests over any kind of identity.
+-- Core Specification 3.0, Validation, Matching (Result Types, Field Types).
+use Rattle.std.specs.Prelude.{Bool, true, false, ◌&&◌, List, [], ◌∷◌}
+use Rattle.wasm_spec.specs.Syntax.{Val, Storage, i8, i16, unpacked}
+use Rattle.wasm_spec.specs.MatchingTests.{World, matches_val}
+
+module _ {R : Type 0} (W : World R) where
+  -- place by place, equally many
+  abbrev pub matches_vals : List (Val R) → List (Val R) → Bool
+  matches_vals [] [] = true
+  matches_vals (v ∷ vs) (w ∷ ws) = matches_val W v w && matches_vals vs ws
+  matches_vals _ _ = false
+
+  abbrev pub matches_storage : Storage R → Storage R → Bool
+  matches_storage i8 i8 = true
+  matches_storage i16 i16 = true
+  matches_storage (unpacked v) (unpacked w) = matches_val W v w
+  matches_storage _ _ = false

@@ -1,0 +1,311 @@
+-- The first table: each instruction has one of few shapes, with what it checks, takes and gives.
+-- Core Specification 3.0, Validation, Instructions, and the proposals for shared references and for custom descriptors.
+use Rattle.std.specs.Prelude.{ℕ, Bool, true, false, if◌then◌else◌, List, [], ◌∷◌, ◌++◌}
+use Rattle.wasm_spec.specs.Syntax.{AbstractHeap, any_heap, i31_heap, array_heap, func_heap, extern_heap, exn_heap, Heap, abstract_heap, concrete, exact, Ref, Val, i32, i64, f32, f64, v128, reference}
+use Rattle.wasm_numeric_operators.specs.Signatures.{signature_of, saturating_signature_of}
+use Rattle.wasm_numeric_operators.specs.declared.signatures.NumberType.{NumberType}
+use Rattle.wasm_numeric_operators.specs.declared.signatures.NumberType.TheVariants as number
+use Rattle.wasm_numeric_operators.specs.declared.signatures.Signature.{Signature}
+use Rattle.wasm_numeric_operators.specs.declared.signatures.Signature.TheVariants.{Unary, Binary}
+use Rattle.wasm_operators.specs.Control as control
+use Rattle.wasm_operators.specs.Control.{Block, empty_block, value_block, func_block, Control, Parametric}
+use Rattle.wasm_operators.specs.References as references
+use Rattle.wasm_operators.specs.References.{Reference, Cast}
+use Rattle.wasm_operators.specs.Instructions as instruction
+use Rattle.wasm_operators.specs.Instructions.{Instruction}
+use Rattle.wasm_operators.specs.declared.control.Catch.{Catch}
+use Rattle.wasm_operators.specs.declared.control.Catch.TheVariants as catch
+use Rattle.wasm_flat_operators.specs.declared.calls.CallOperator.{CallOperator}
+use Rattle.wasm_flat_operators.specs.declared.calls.CallOperator.TheVariants.{Call, CallIndirect, ReturnCall, ReturnCallIndirect, CallRef, ReturnCallRef}
+use Rattle.wasm_flat_operators.specs.declared.variables.VariableOperator.{VariableOperator}
+use Rattle.wasm_flat_operators.specs.declared.variables.VariableOperator.TheVariants.{LocalGet, LocalSet, LocalTee, GlobalGet, GlobalSet}
+use Rattle.wasm_flat_operators.specs.declared.tables.TableOperator.{TableOperator}
+use Rattle.wasm_flat_operators.specs.declared.tables.TableOperator.TheVariants.{TableGet, TableSet, TableInit, ElemDrop, TableCopy, TableGrow, TableSize, TableFill}
+use Rattle.wasm_flat_operators.specs.declared.memories.MemoryOperator.{MemoryOperator}
+use Rattle.wasm_flat_operators.specs.declared.memories.MemoryOperator.TheVariants.{I32Load, I64Load, F32Load, F64Load, I32Load8S, I32Load8U, I32Load16S, I32Load16U, I64Load8S, I64Load8U, I64Load16S, I64Load16U, I64Load32S, I64Load32U, I32Store, I64Store, F32Store, F64Store, I32Store8, I32Store16, I64Store8, I64Store16, I64Store32}
+use Rattle.wasm_flat_operators.specs.declared.memories.MemArg.{MemArg}
+use Rattle.wasm_flat_operators.specs.declared.memories.BulkMemoryOperator.{BulkMemoryOperator}
+use Rattle.wasm_flat_operators.specs.declared.memories.BulkMemoryOperator.TheVariants.{MemorySize, MemoryGrow, MemoryInit, DataDrop, MemoryCopy, MemoryFill}
+use Rattle.wasm_flat_operators.specs.declared.constants.ConstantOperator.{ConstantOperator}
+use Rattle.wasm_flat_operators.specs.declared.constants.ConstantOperator.TheVariants.{I32Const, I64Const, F32Const, F64Const, V128Const}
+use Rattle.wasm_flat_operators.specs.declared.conversions.ConversionOperator.{ConversionOperator}
+use Rattle.wasm_flat_operators.specs.declared.conversions.ConversionOperator.TheVariants.{AnyConvertExtern, ExternConvertAny, RefI31, I31GetS, I31GetU, RefI31Shared}
+use Rattle.wasm_flat_operators.specs.declared.structs.StructOperator.{StructOperator}
+use Rattle.wasm_flat_operators.specs.declared.structs.StructOperator.TheVariants.{StructNew, StructNewDefault, StructGet, StructGetS, StructGetU, StructSet, StructNewDesc, StructNewDefaultDesc}
+use Rattle.wasm_flat_operators.specs.declared.arrays.ArrayOperator.{ArrayOperator}
+use Rattle.wasm_flat_operators.specs.declared.arrays.ArrayOperator.TheVariants.{ArrayNew, ArrayNewDefault, ArrayNewFixed, ArrayNewData, ArrayNewElem, ArrayGet, ArrayGetS, ArrayGetU, ArraySet, ArrayLen, ArrayFill, ArrayCopy, ArrayInitData, ArrayInitElem}
+use Rattle.wasm_operator_steps.specs.Machine.{Kind, block_kind, loop_kind, if_kind, try_table_kind}
+use Rattle.wasm_operator_steps.specs.Actions.{of_type, of_function, of_tag, Types, these, params, results, label, returned, local, global, function_reference, new_reference, fields, element, field, table_address, memory_address, table_element, segment, lesser_table_address, lesser_memory_address, top, descriptor_of, repeated, front, last, joined, multi_value, reference_types, bulk_memory, exceptions, function_references, gc, shared_everything_threads, custom_descriptors, Check, has, allows, global_is_mutable, local_is_set, function_is_referenced, is_exception, each_matches, may_be_cast, is_aligned, fields_have_defaults, has_no_descriptor, field_is_mutable, field_is_packed, element_is_mutable, element_has_default, element_is_number, element_is_packed, element_is_storable, data_is_there, segment_is_there}
+
+-- Shapes: takes some operands and gives others; takes some, and what follows isn't reached; takes some and enters a block; `end`; `else`;
+-- takes any operand; chooses one of two; tests a reference for null; asserts that it isn't null; branches where it is null; branches
+-- where it isn't; branches by a table; sets a local; sets it and gives it back; takes a reference below an abstract heap type, shared
+-- or not; takes two that may be compared; turns a reference of one hierarchy into one of another; gives a descriptor; is never valid.
+pub data Shape : Type 0 where
+  plain : List Check → Types → Types → Shape
+  ending : List Check → Types → Shape
+  opening : List Check → Types → Kind → Block ℕ → Shape
+  closing turning dropping choosing never : Shape
+  testing_null asserting_non_null : List Check → Shape
+  branching_on_null branching_on_non_null : List Check → ℕ → Shape
+  branching_by_table : List ℕ → ℕ → Shape
+  setting giving_back : ℕ → Shape
+  measuring : List Check → AbstractHeap → Types → Shape
+  comparing : List Check → Types → Shape
+  converting : List Check → AbstractHeap → AbstractHeap → Shape
+  describing : List Check → ℕ → Shape
+
+-- words on types
+abbrev pub nothing : Types
+nothing = these []
+
+abbrev pub one : Val ℕ → Types
+one v = these (v ∷ [])
+
+abbrev pub reference_to : Bool → Heap ℕ → Val ℕ
+reference_to nullable h = reference (record { nullable = nullable; heap = h })
+
+-- a reference, or null, to a value of the type of an index
+abbrev pub nullable_to : ℕ → Val ℕ
+nullable_to n = reference_to true (concrete n)
+
+-- a reference type as it is after a cast to another failed: without null, where the other has it
+abbrev pub difference : Ref ℕ → Ref ℕ → Val ℕ
+difference r q = reference_to (if q.nullable then false else r.nullable) r.heap
+
+-- the first types, then an index or number of 32 bits for each of a list
+abbrev pub with_i32s : Types → List (Val ℕ) → Types
+with_i32s t vs = joined t (these vs)
+
+-- what a block type needs
+abbrev pub block_checks : Block ℕ → List Check
+block_checks empty_block = []
+block_checks (value_block v) = allows v ∷ []
+block_checks (func_block n) = has multi_value ∷ []
+
+-- catch clauses: what a tag has, and the exception where it is asked for, matches the label
+abbrev pub exception : Types
+exception = one (reference_to false (abstract_heap false exn_heap))
+
+abbrev pub catch_checks : List Catch → List Check
+catch_checks [] = []
+catch_checks (catch.One x l ∷ cs) = is_exception x ∷ each_matches (params (of_tag x)) (label l) ∷ catch_checks cs
+catch_checks (catch.OneRef x l ∷ cs) = is_exception x ∷ each_matches (joined (params (of_tag x)) exception) (label l) ∷ catch_checks cs
+catch_checks (catch.All l ∷ cs) = each_matches nothing (label l) ∷ catch_checks cs
+catch_checks (catch.AllRef l ∷ cs) = each_matches exception (label l) ∷ catch_checks cs
+
+-- Control Instructions
+abbrev pub control_shape : Control ℕ → Shape
+control_shape control.unreachable = ending [] nothing
+control_shape control.nop = plain [] nothing nothing
+control_shape (control.block b) = opening (block_checks b) nothing block_kind b
+control_shape (control.loop b) = opening (block_checks b) nothing loop_kind b
+control_shape (control.if_ b) = opening (block_checks b) (one i32) if_kind b
+control_shape control.else_ = turning
+control_shape control.end_ = closing
+control_shape (control.try_table b cs) = opening (has exceptions ∷ block_checks b ++ catch_checks cs) nothing try_table_kind b
+control_shape (control.throw x) = ending (has exceptions ∷ is_exception x ∷ []) (params (of_tag x))
+control_shape control.throw_ref = ending (has exceptions ∷ []) (one (reference_to true (abstract_heap false exn_heap)))
+control_shape (control.br l) = ending [] (label l)
+control_shape (control.br_if l) = plain [] (joined (label l) (one i32)) (label l)
+control_shape (control.br_table ls l) = branching_by_table ls l
+control_shape control.return_ = ending [] returned
+
+-- the results of a call in place of the caller
+abbrev pub returns : Types → Check
+returns t = each_matches t returned
+
+-- a table of functions
+abbrev pub holds_functions : ℕ → Check
+holds_functions n = each_matches (table_element n) (one (reference_to true (abstract_heap false func_heap)))
+
+abbrev pub call_shape : CallOperator → Shape
+call_shape (Call x) = plain [] (params (of_function x)) (results (of_function x))
+call_shape (CallIndirect y x) = plain (holds_functions x ∷ []) (joined (params (of_type y)) (table_address x)) (results (of_type y))
+call_shape (CallRef y) = plain (has function_references ∷ []) (joined (params (of_type y)) (one (nullable_to y))) (results (of_type y))
+call_shape (ReturnCall x) = ending (returns (results (of_function x)) ∷ []) (params (of_function x))
+call_shape (ReturnCallIndirect y x) = ending (holds_functions x ∷ returns (results (of_type y)) ∷ []) (joined (params (of_type y)) (table_address x))
+call_shape (ReturnCallRef y) = ending (has function_references ∷ returns (results (of_type y)) ∷ []) (joined (params (of_type y)) (one (nullable_to y)))
+
+-- Parametric Instructions: a `select` names one type
+abbrev pub parametric_shape : Parametric ℕ → Shape
+parametric_shape control.drop_ = dropping
+parametric_shape control.select = choosing
+parametric_shape (control.select_of []) = never
+parametric_shape (control.select_of (v ∷ [])) = plain (has reference_types ∷ allows v ∷ []) (these (v ∷ v ∷ i32 ∷ [])) (one v)
+parametric_shape (control.select_of (v ∷ w ∷ vs)) = never
+
+-- Variable Instructions
+abbrev pub variable_shape : VariableOperator → Shape
+variable_shape (LocalGet x) = plain (local_is_set x ∷ []) nothing (local x)
+variable_shape (LocalSet x) = setting x
+variable_shape (LocalTee x) = giving_back x
+variable_shape (GlobalGet x) = plain [] nothing (global x)
+variable_shape (GlobalSet x) = plain (global_is_mutable x ∷ []) (global x) nothing
+
+-- Table Instructions
+abbrev pub table_shape : TableOperator → Shape
+table_shape (TableGet x) = plain (has reference_types ∷ []) (table_address x) (table_element x)
+table_shape (TableSet x) = plain (has reference_types ∷ []) (joined (table_address x) (table_element x)) nothing
+table_shape (TableSize x) = plain (has reference_types ∷ []) nothing (table_address x)
+table_shape (TableGrow x) = plain (has reference_types ∷ []) (joined (table_element x) (table_address x)) (table_address x)
+table_shape (TableFill x) = plain (has reference_types ∷ []) (joined (table_address x) (joined (table_element x) (table_address x))) nothing
+table_shape (TableCopy x y) =
+    plain (has bulk_memory ∷ each_matches (table_element y) (table_element x) ∷ []) (joined (table_address x) (joined (table_address y) (lesser_table_address x y))) nothing
+table_shape (TableInit y x) = plain (has bulk_memory ∷ each_matches (segment y) (table_element x) ∷ []) (with_i32s (table_address x) (i32 ∷ i32 ∷ [])) nothing
+table_shape (ElemDrop y) = plain (has bulk_memory ∷ segment_is_there y ∷ []) nothing nothing
+
+-- Memory Instructions
+abbrev pub loading : MemoryOperator → MemArg → Val ℕ → Shape
+loading op m v = plain (allows v ∷ is_aligned op m ∷ []) (memory_address m.memory) (one v)
+
+abbrev pub storing : MemoryOperator → MemArg → Val ℕ → Shape
+storing op m v = plain (allows v ∷ is_aligned op m ∷ []) (joined (memory_address m.memory) (one v)) nothing
+
+abbrev pub access_shape : MemoryOperator → MemArg → Shape
+access_shape I32Load m = loading I32Load m i32
+access_shape I64Load m = loading I64Load m i64
+access_shape F32Load m = loading F32Load m f32
+access_shape F64Load m = loading F64Load m f64
+access_shape I32Load8S m = loading I32Load8S m i32
+access_shape I32Load8U m = loading I32Load8U m i32
+access_shape I32Load16S m = loading I32Load16S m i32
+access_shape I32Load16U m = loading I32Load16U m i32
+access_shape I64Load8S m = loading I64Load8S m i64
+access_shape I64Load8U m = loading I64Load8U m i64
+access_shape I64Load16S m = loading I64Load16S m i64
+access_shape I64Load16U m = loading I64Load16U m i64
+access_shape I64Load32S m = loading I64Load32S m i64
+access_shape I64Load32U m = loading I64Load32U m i64
+access_shape I32Store m = storing I32Store m i32
+access_shape I64Store m = storing I64Store m i64
+access_shape F32Store m = storing F32Store m f32
+access_shape F64Store m = storing F64Store m f64
+access_shape I32Store8 m = storing I32Store8 m i32
+access_shape I32Store16 m = storing I32Store16 m i32
+access_shape I64Store8 m = storing I64Store8 m i64
+access_shape I64Store16 m = storing I64Store16 m i64
+access_shape I64Store32 m = storing I64Store32 m i64
+
+abbrev pub memory_shape : BulkMemoryOperator → Shape
+memory_shape (MemorySize x) = plain [] nothing (memory_address x)
+memory_shape (MemoryGrow x) = plain [] (memory_address x) (memory_address x)
+memory_shape (MemoryFill x) = plain (has bulk_memory ∷ []) (joined (memory_address x) (joined (one i32) (memory_address x))) nothing
+memory_shape (MemoryCopy x y) = plain (has bulk_memory ∷ []) (joined (memory_address x) (joined (memory_address y) (lesser_memory_address x y))) nothing
+memory_shape (MemoryInit y x) = plain (has bulk_memory ∷ data_is_there y ∷ []) (with_i32s (memory_address x) (i32 ∷ i32 ∷ [])) nothing
+memory_shape (DataDrop y) = plain (has bulk_memory ∷ data_is_there y ∷ []) nothing nothing
+
+-- Numeric Instructions, and the constant of Vector Instructions
+abbrev pub constant_type : ConstantOperator → Val ℕ
+constant_type (I32Const n) = i32
+constant_type (I64Const n) = i64
+constant_type (F32Const n) = f32
+constant_type (F64Const n) = f64
+constant_type (V128Const n) = v128
+
+abbrev pub constant_shape : ConstantOperator → Shape
+constant_shape op = plain (allows (constant_type op) ∷ []) nothing (one (constant_type op))
+
+abbrev pub number_type : NumberType → Val ℕ
+number_type number.I32 = i32
+number_type number.I64 = i64
+number_type number.F32 = f32
+number_type number.F64 = f64
+
+abbrev pub computing : Signature → Shape
+computing (Unary a b) = plain (allows (number_type a) ∷ allows (number_type b) ∷ []) (one (number_type a)) (one (number_type b))
+computing (Binary a b) = plain (allows (number_type a) ∷ allows (number_type b) ∷ []) (these (number_type a ∷ number_type a ∷ [])) (one (number_type b))
+
+-- Reference Instructions, and branches on null
+abbrev pub reference_shape : Reference ℕ → Shape
+reference_shape (references.ref_null h) = plain (has reference_types ∷ allows (reference_to true h) ∷ []) nothing (one (reference_to true h))
+reference_shape references.ref_is_null = testing_null (has reference_types ∷ [])
+reference_shape references.ref_eq = comparing (has gc ∷ []) (one i32)
+reference_shape references.ref_as_non_null = asserting_non_null (has function_references ∷ [])
+reference_shape (references.ref_func x) = plain (has reference_types ∷ function_is_referenced x ∷ []) nothing (function_reference x)
+reference_shape (references.br_on_null l) = branching_on_null (has function_references ∷ []) l
+reference_shape (references.br_on_non_null l) = branching_on_non_null (has function_references ∷ []) l
+
+-- casts, and branches on a cast, to q from r: with a label whose last type is that of the reference that it gets
+abbrev pub cast_checks : Ref ℕ → List Check
+cast_checks q = has gc ∷ allows (reference q) ∷ []
+
+abbrev pub branch_checks : ℕ → Ref ℕ → Ref ℕ → Val ℕ → List Check
+branch_checks l r q sent = has gc ∷ allows (reference r) ∷ allows (reference q) ∷ may_be_cast r q ∷ each_matches (one sent) (last (label l)) ∷ []
+
+abbrev pub kept : ℕ → Val ℕ → Types
+kept l v = joined (front (label l)) (one v)
+
+abbrev pub cast_shape : Cast ℕ → Shape
+cast_shape (references.ref_test q) = plain (cast_checks q) (top q) (one i32)
+cast_shape (references.ref_cast q) = plain (cast_checks q) (top q) (one (reference q))
+cast_shape (references.br_on_cast l r q) = plain (branch_checks l r q (reference q)) (kept l (reference r)) (kept l (difference r q))
+cast_shape (references.br_on_cast_fail l r q) = plain (branch_checks l r q (difference r q)) (kept l (reference r)) (kept l (reference q))
+cast_shape (references.ref_get_desc x) = describing (has custom_descriptors ∷ []) x
+cast_shape (references.ref_cast_desc_eq q) = plain (has custom_descriptors ∷ cast_checks q) (joined (top q) (descriptor_of q)) (one (reference q))
+cast_shape (references.br_on_cast_desc_eq l r q) =
+    plain (has custom_descriptors ∷ branch_checks l r q (reference q)) (joined (kept l (reference r)) (descriptor_of q)) (kept l (difference r q))
+cast_shape (references.br_on_cast_desc_eq_fail l r q) =
+    plain (has custom_descriptors ∷ branch_checks l r q (difference r q)) (joined (kept l (reference r)) (descriptor_of q)) (kept l (reference q))
+
+-- External and unboxed references
+abbrev pub conversion_shape : ConversionOperator → Shape
+conversion_shape AnyConvertExtern = converting (has gc ∷ []) extern_heap any_heap
+conversion_shape ExternConvertAny = converting (has gc ∷ []) any_heap extern_heap
+conversion_shape RefI31 = plain (has gc ∷ []) (one i32) (one (reference_to false (abstract_heap false i31_heap)))
+conversion_shape RefI31Shared = plain (has shared_everything_threads ∷ []) (one i32) (one (reference_to false (abstract_heap true i31_heap)))
+conversion_shape I31GetS = measuring (has gc ∷ []) i31_heap (one i32)
+conversion_shape I31GetU = measuring (has gc ∷ []) i31_heap (one i32)
+
+-- Aggregate Instructions: structures. A packed field is read with a sign or without, another as it is.
+abbrev pub getting : Bool → ℕ → ℕ → Shape
+getting packed x i = plain (has gc ∷ field_is_packed packed x i ∷ []) (one (nullable_to x)) (field x i)
+
+abbrev pub struct_shape : StructOperator → Shape
+struct_shape (StructNew x) = plain (has gc ∷ has_no_descriptor x ∷ []) (fields x) (new_reference x)
+struct_shape (StructNewDefault x) = plain (has gc ∷ has_no_descriptor x ∷ fields_have_defaults x ∷ []) nothing (new_reference x)
+struct_shape (StructGet x i) = getting false x i
+struct_shape (StructGetS x i) = getting true x i
+struct_shape (StructGetU x i) = getting true x i
+struct_shape (StructSet x i) = plain (has gc ∷ field_is_mutable x i ∷ []) (joined (one (nullable_to x)) (field x i)) nothing
+struct_shape (StructNewDesc x) = plain (has custom_descriptors ∷ []) (joined (fields x) (descriptor_of (record { nullable = false; heap = exact x }))) (new_reference x)
+struct_shape (StructNewDefaultDesc x) =
+    plain (has custom_descriptors ∷ fields_have_defaults x ∷ []) (descriptor_of (record { nullable = false; heap = exact x })) (new_reference x)
+
+-- arrays
+abbrev pub item : Bool → ℕ → Shape
+item packed x = plain (has gc ∷ element_is_packed packed x ∷ []) (these (nullable_to x ∷ i32 ∷ [])) (element x)
+
+abbrev pub array_shape : ArrayOperator → Shape
+array_shape (ArrayNew x) = plain (has gc ∷ []) (joined (element x) (one i32)) (new_reference x)
+array_shape (ArrayNewDefault x) = plain (has gc ∷ element_has_default x ∷ []) (one i32) (new_reference x)
+array_shape (ArrayNewFixed x n) = plain (has gc ∷ []) (repeated n (element x)) (new_reference x)
+array_shape (ArrayNewData x y) = plain (has gc ∷ element_is_number x ∷ data_is_there y ∷ []) (these (i32 ∷ i32 ∷ [])) (new_reference x)
+array_shape (ArrayNewElem x y) = plain (has gc ∷ each_matches (segment y) (element x) ∷ []) (these (i32 ∷ i32 ∷ [])) (new_reference x)
+array_shape (ArrayGet x) = item false x
+array_shape (ArrayGetS x) = item true x
+array_shape (ArrayGetU x) = item true x
+array_shape (ArraySet x) = plain (has gc ∷ element_is_mutable x ∷ []) (joined (these (nullable_to x ∷ i32 ∷ [])) (element x)) nothing
+array_shape ArrayLen = measuring (has gc ∷ []) array_heap (one i32)
+array_shape (ArrayFill x) = plain (has gc ∷ element_is_mutable x ∷ []) (joined (these (nullable_to x ∷ i32 ∷ [])) (with_i32s (element x) (i32 ∷ []))) nothing
+array_shape (ArrayCopy x y) = plain (has gc ∷ element_is_mutable x ∷ element_is_storable y x ∷ []) (these (nullable_to x ∷ i32 ∷ nullable_to y ∷ i32 ∷ i32 ∷ [])) nothing
+array_shape (ArrayInitData x y) = plain (has gc ∷ element_is_mutable x ∷ element_is_number x ∷ data_is_there y ∷ []) (these (nullable_to x ∷ i32 ∷ i32 ∷ i32 ∷ [])) nothing
+array_shape (ArrayInitElem x y) = plain (has gc ∷ element_is_mutable x ∷ each_matches (segment y) (element x) ∷ []) (these (nullable_to x ∷ i32 ∷ i32 ∷ i32 ∷ [])) nothing
+
+-- all instructions
+abbrev pub shape_of : Instruction ℕ → Shape
+shape_of (instruction.control op) = control_shape op
+shape_of (instruction.call op) = call_shape op
+shape_of (instruction.parametric op) = parametric_shape op
+shape_of (instruction.variable op) = variable_shape op
+shape_of (instruction.table op) = table_shape op
+shape_of (instruction.access op m) = access_shape op m
+shape_of (instruction.memory op) = memory_shape op
+shape_of (instruction.constant op) = constant_shape op
+shape_of (instruction.numeric op) = computing (signature_of op)
+shape_of (instruction.saturating op) = computing (saturating_signature_of op)
+shape_of (instruction.reference op) = reference_shape op
+shape_of (instruction.cast op) = cast_shape op
+shape_of (instruction.conversion op) = conversion_shape op
+shape_of (instruction.structure op) = struct_shape op
+shape_of (instruction.array op) = array_shape op

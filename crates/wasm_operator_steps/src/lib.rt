@@ -1,0 +1,85 @@
+//! Steps of validation: what each operator does to the operands and the frames of a body or a constant expression, as
+//! definitions over any kind of identity of types (Core Specification 3.0, Validation, Instructions, and Appendix,
+//! Validation Algorithm).
+#![tactic(auto)]
+
+ghost use Rattle.wasm_operator_steps.specs.Laws.{StepsRename, NumericShapesByOpcode, VerdictsRename, ConstantsGiveReferences, WorldsAreRight};
+ghost use Rattle.wasm_operator_steps.specs.ControlExamples.{Blocks, NoBlocks, Branches, NoBranches, Calls, NoCalls, Exceptions, NoExceptions, Parametrics, NoParametrics, Variables, NoVariables, ControlNeedsFeatures, Constants, NoConstants, ConstantInstructions, NoConstantInstructions};
+ghost use Rattle.wasm_operator_steps.specs.HeapExamples.{Memories, NoMemories, Tables, NoTables, References, NoReferences, Casts, NoCasts, Conversions, NoConversions, Structures, NoStructures, Arrays, NoArrays, Descriptors, NoDescriptors, HeapNeedsFeatures};
+
+/// Steps over other identities of types are the same steps with each identity renamed, where the renaming keeps which
+/// are the same.
+#[tactic(auto, using(crate::proofs::StepsRenamed::steps_rename))]
+pub fn steps_rename<R, S>()
+    ensures renamed { StepsRename R S }
+{}
+
+/// Bodies of control, parametric and variable instructions, and constant expressions: valid ones, and ones that are not.
+#[tactic(auto, using(crate::proofs::ControlRuns::runs))]
+pub fn control_examples()
+    ensures blocks { Blocks }
+    ensures no_blocks { NoBlocks }
+    ensures branches { Branches }
+    ensures no_branches { NoBranches }
+    ensures calls { Calls }
+    ensures no_calls { NoCalls }
+    ensures exceptions { Exceptions }
+    ensures no_exceptions { NoExceptions }
+    ensures parametrics { Parametrics }
+    ensures no_parametrics { NoParametrics }
+    ensures variables { Variables }
+    ensures no_variables { NoVariables }
+    ensures control_needs_features { ControlNeedsFeatures }
+    ensures constants { Constants }
+    ensures no_constants { NoConstants }
+    ensures constant_instructions { ConstantInstructions }
+    ensures no_constant_instructions { NoConstantInstructions }
+{}
+
+/// Bodies of memory, table, reference and aggregate instructions: valid ones, and ones that are not.
+#[tactic(auto, using(crate::proofs::HeapRuns::heap_runs))]
+pub fn heap_examples()
+    ensures memories { Memories }
+    ensures no_memories { NoMemories }
+    ensures tables { Tables }
+    ensures no_tables { NoTables }
+    ensures references { References }
+    ensures no_references { NoReferences }
+    ensures casts { Casts }
+    ensures no_casts { NoCasts }
+    ensures conversions { Conversions }
+    ensures no_conversions { NoConversions }
+    ensures structures { Structures }
+    ensures no_structures { NoStructures }
+    ensures arrays { Arrays }
+    ensures no_arrays { NoArrays }
+    ensures descriptors { Descriptors }
+    ensures no_descriptors { NoDescriptors }
+    ensures heap_needs_features { HeapNeedsFeatures }
+{}
+
+/// Numeric operators take and give what their opcodes say.
+#[tactic(auto, using(crate::proofs::NumericShapes::numeric_shapes_by_opcode))]
+pub fn numeric_shapes_by_opcode()
+    ensures shapes { NumericShapesByOpcode }
+{}
+
+/// Verdicts do not depend on the identities of types: a renaming that is one-to-one on those of the context, the locals
+/// and the state changes none.
+#[tactic(auto, using(crate::proofs::VerdictsRenamed::verdicts_rename))]
+pub fn verdicts_rename<R, S>()
+    ensures renamed { VerdictsRename R S }
+{}
+
+/// Each operator of constant expressions gives exactly one reference, or takes none: constants, numeric operators and
+/// `global.get` take none, and the others give one.
+#[tactic(auto, using(crate::proofs::ConstantReferences::constants_give_references))]
+pub fn constants_give_references<R>()
+    ensures references { ConstantsGiveReferences R }
+{}
+
+/// What a context says of the order of types is right, where no ancestor is further away than there are types.
+#[tactic(auto, using(crate::proofs::WorldsDecided::worlds_are_right))]
+pub fn worlds_are_right<R>()
+    ensures right { WorldsAreRight R }
+{}
