@@ -104,7 +104,7 @@ module _ {A : Type 0} (c : Bool) where
 
 module _ {A : Type 0} where
   -- each place of the list is a member of a group
-  length-subs : (gs : List (List (SubType A))) (start : ℕ) → length (subs_by_ids start gs) ≡ length (all_in gs)
+  pub length-subs : (gs : List (List (SubType A))) (start : ℕ) → length (subs_by_ids start gs) ≡ length (all_in gs)
   length-subs [] start = refl
   length-subs (g ∷ gs) start =
       omega (arith, length-subs gs (start + length g), length-append (map (sub_by_ids start) g) (subs_by_ids (start + length g) gs), length-map g (sub_by_ids start), length-append g (all_in gs))

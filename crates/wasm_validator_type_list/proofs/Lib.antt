@@ -8,6 +8,7 @@ pub mod Sound
 pub mod Lookups
 pub mod Declares
 pub mod Chains
+pub mod Depths
 pub mod Relations
 pub mod Matches
 pub mod Grouped

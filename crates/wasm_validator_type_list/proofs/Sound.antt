@@ -1,6 +1,10 @@
 -- What is always true of a list of types, as groups are added.
-use Rattle.std.proofs.Common.{◌≡◌, refl, sym, ap, subst, ◌∙◌, ℕ, ◌+◌, ◌-◌, ◌<◌, ◌≤◌, ◌^◌, Bool, true, false, true≢false, cond, List, [], ◌∷◌, ◌++◌, length, slice_get, Option, Some, None, arith, length-append}
+use Rattle.std.proofs.Common.{◌≡◌, refl, sym, ap, subst, ◌∙◌, ℕ, ◌+◌, ◌-◌, ◌<◌, ◌≤◌, ◌^◌, Bool, true, false, true≢false, cond, nat_eq, List, [], ◌∷◌, ◌++◌, length, slice_get, Option, Some, None, arith, length-append}
+use Rattle.std.specs.Prelude.{OnErr}
 use Rattle.std.specs.HashMap as hash
+use Rattle.std.specs.declared.result.Result.{Result}
+use Rattle.std.specs.declared.result.Result.TheVariants.{Ok, Err}
+use Rattle.std.specs.Map.{lookup}
 use Rattle.std.specs.List.{slice_index_or}
 use Rattle.std.specs.Option.{option_map}
 use Rattle.std.specs.declared.ops.Range.{Range}
@@ -19,17 +23,30 @@ use Rattle.wasm_readers_types.specs.declared.types.SubType.{SubType}
 use Rattle.wasm_readers_types.specs.TypesExact.{group_equal, group-exact}
 use Rattle.wasm_validator_type_list.specs.declared.type_list.TypeList.TheInside.{Inside}
 use Rattle.wasm_validator_type_list.specs.Groups.{all_in, first_of, IsInGroup}
-use Rattle.wasm_validator_type_list.specs.Listing.{Listing, types_in}
+use Rattle.wasm_validator_type_list.specs.Listing.{Listing, no_groups, types_in, closed, with_depths}
 use Rattle.wasm_validator_type_list.specs.Listable.{IsListable}
 use Rattle.wasm_validator_type_list.specs.Interned.{IsNew, IsPlaceOf, Interns, InternsTypes}
+use Rattle.wasm_spec.specs.Declared.{IsDepth}
+use Rattle.wasm_validator_type_list.specs.Declares.{declares}
+use Rattle.wasm_validator_type_list.specs.Depths.{depth_of, in_order, with_depth, HasDepth, AreDepths}
 use Rattle.wasm_validator_type_list.specs.Sound.{shown, IsSound}
 use Rattle.wasm_validator_type_list.proofs.Flat.{all_in-push}
 use Rattle.wasm_validator_type_list.proofs.Places.{get-left, get-end, get-push}
 use Rattle.wasm_validator_type_list.proofs.Once.{once-push, listable-push, types-known, types-new}
+use Rattle.wasm_validator_type_list.proofs.Depths.{found-in_order, in_order-none, depths-push, depth-put}
 use Rattle.wasm_validator_type_list.proofs.Few.{few_groups, few-more, few-new}
 use Rattle.std.proofs.lemmas.Option.{slice_get_within, slice_get-get_or}
 
+-- what holds, of a refusal
+pub on_err : {X E P : Type 0} (r : Result X E) → P → OnErr r P
+on_err (Ok x) p = tt
+on_err (Err e) p = p
+
 module _ {A : Type 0} where
+  -- no depths
+  no_depths : (gs : List (List (SubType A))) (a : Inside A) → a.depths.entries ≡ [] → AreDepths gs (in_order a.depths.entries)
+  no_depths gs a e id n f = absurd (none-some n (sym (found-in_order a.depths.entries id ∙ ap (lookup (nat_eq id)) e) ∙ f))
+
   -- the number of groups fits
   pub group_room : (a : Inside A) → IsSound a → length a.groups < 2 ^ 32
   group_room a h = omega (arith, few_groups a.groups, h.room, h.few)
@@ -48,34 +65,51 @@ module _ {A : Type 0} where
   room_of a n m h e l = omega (arith, h.room, e, l)
 
   -- no groups
-  pub sound_none : (a : Inside A) → a.groups ≡ [] → a.known.entries ≡ [] → IsSound a
-  sound_none a e f = record {
+  pub sound_none : (a : Inside A) → a.groups ≡ [] → a.known.entries ≡ [] → a.depths.entries ≡ [] → IsSound a
+  sound_none a e f d = record {
     room = rw e (omega arith);
     few = rw e (omega arith);
     listable = rw e (λ k g h. absurd (none-some g h));
     once = λ _. rw e (record { groups = λ j k g h _. absurd (none-some g h); types = record { one_id = λ j k d h _. absurd (none-some d h) } });
     mapped = λ _ _ k. rw (e, f) (λ n h. none-some k.types h);
+    deep = no_depths a.groups a d;
   }
+
+  -- what is seen of no groups, of a copy that is closed, and of other depths
+  pub shown_none : (a : Inside A) (b : Bool) → a.groups ≡ [] → a.depths.entries ≡ [] → a.is_canonical ≡ b → a.is_open ≡ true → shown a ≡ no_groups b
+  shown_none a b e d c o = λ i. record { is_canonical = c i; is_open = o i; groups = e i; depths = (ap in_order d ∙ in_order-none) i }
+
+  pub shown_closed : (a b : Inside A) (l : Listing A) → shown a ≡ l → b.groups ≡ a.groups → b.depths.entries ≡ [] → b.is_canonical ≡ a.is_canonical → b.is_open ≡ false → shown b ≡ closed l
+  shown_closed a b l v e d c o = (λ i. record { is_canonical = c i; is_open = o i; groups = e i; depths = (ap in_order d ∙ in_order-none) i }) ∙ ap closed v
+
+  pub shown_depths : (a b : Inside A) (l : Listing A) (id n : ℕ) → shown a ≡ l → b.groups ≡ a.groups → b.is_canonical ≡ a.is_canonical → b.is_open ≡ a.is_open
+      → in_order b.depths.entries ≡ with_depth (in_order a.depths.entries) id n → shown b ≡ with_depths l (with_depth l.depths id n)
+  shown_depths a b l id n v e c o m = (λ i. record { is_canonical = c i; is_open = o i; groups = e i; depths = m i }) ∙ ap (λ (k : Listing A). with_depths k (with_depth k.depths id n)) v
+
+  pub shown_same : (a b : Inside A) (l : Listing A) → shown a ≡ l → b.groups ≡ a.groups → b.is_canonical ≡ a.is_canonical → b.is_open ≡ a.is_open → in_order b.depths.entries ≡ in_order a.depths.entries → shown b ≡ l
+  shown_same a b l v e c o m = (λ i. record { is_canonical = c i; is_open = o i; groups = e i; depths = m i }) ∙ v
 
   -- the same groups
   pub sound_same : (a b : Inside A) → IsSound a → b.groups ≡ a.groups → b.is_canonical ≡ a.is_canonical → b.is_open ≡ a.is_open
-      → ((q : RecGroup A) → hash.get group_equal b.known q ≡ hash.get group_equal a.known q) → IsSound b
-  sound_same a b h e c o m = record {
+      → ((q : RecGroup A) → hash.get group_equal b.known q ≡ hash.get group_equal a.known q) → in_order b.depths.entries ≡ in_order a.depths.entries → IsSound b
+  sound_same a b h e c o m s = record {
     room = rw e h.room;
     few = rw e h.few;
     listable = rw e h.listable;
     once = λ d. rw e (h.once (sym c ∙ d));
     mapped = λ d p k. rw (e, m k) (h.mapped (sym c ∙ d) (sym o ∙ p) k);
+    deep = rw (e, s) h.deep;
   }
 
   -- a copy that is closed
-  pub sound_closed : (a b : Inside A) → IsSound a → b.groups ≡ a.groups → b.is_canonical ≡ a.is_canonical → b.is_open ≡ false → IsSound b
-  sound_closed a b h e c o = record {
+  pub sound_closed : (a b : Inside A) → IsSound a → b.groups ≡ a.groups → b.is_canonical ≡ a.is_canonical → b.is_open ≡ false → b.depths.entries ≡ [] → IsSound b
+  sound_closed a b h e c o d = record {
     room = rw e h.room;
     few = rw e h.few;
     listable = rw e h.listable;
     once = λ d. rw e (h.once (sym c ∙ d));
     mapped = λ d p k. absurd (true≢false (sym p ∙ o));
+    deep = no_depths b.groups b d;
   }
 
   -- what the map says of a group, once the group k was put at the end
@@ -87,8 +121,8 @@ module _ {A : Type 0} where
   -- a new group, in a list that keeps equal ones once
   pub sound_known : (a b : Inside A) (k : RecGroup A) → IsSound a → IsListable (length (all_in a.groups)) k.types → length (all_in a.groups) + length k.types ≤ MAX_IDS
       → IsNew a.groups k.types → b.groups ≡ a.groups ++ k.types ∷ [] → b.is_canonical ≡ a.is_canonical → b.is_open ≡ a.is_open
-      → ((q : RecGroup A) → hash.get group_equal b.known q ≡ cond (group_equal k q) (Some (length a.groups)) (hash.get group_equal a.known q)) → IsSound b
-  sound_known a b k h l r n e c o m =
+      → ((q : RecGroup A) → hash.get group_equal b.known q ≡ cond (group_equal k q) (Some (length a.groups)) (hash.get group_equal a.known q)) → b.depths ≡ a.depths → IsSound b
+  sound_known a b k h l r n e c o m s =
       let gs = a.groups in
       record {
         room = rw e (omega (arith, r, ap length (all_in-push gs k.types), length-append (all_in gs) k.types));
@@ -96,12 +130,13 @@ module _ {A : Type 0} where
         listable = rw e (listable-push gs k.types h.listable l);
         once = λ d. rw e (once-push gs k.types h.listable l (h.once (sym c ∙ d)) n);
         mapped = λ d p q. rw (e, m q) (placed-push gs k q (hash.get group_equal a.known q) (group_equal k q) refl (h.mapped (sym c ∙ d) (sym o ∙ p) q));
+        deep = rw (e, s) (depths-push gs k.types (in_order a.depths.entries) h.listable h.deep);
       }
 
   -- a group with members, in a list of another mode
   pub sound_own : (a b : Inside A) (k : List (SubType A)) → IsSound a → IsListable (length (all_in a.groups)) k → length (all_in a.groups) + length k ≤ MAX_IDS
-      → 0 < length k → b.groups ≡ a.groups ++ k ∷ [] → b.is_canonical ≡ false → IsSound b
-  sound_own a b k h l r n e c =
+      → 0 < length k → b.groups ≡ a.groups ++ k ∷ [] → b.is_canonical ≡ false → b.depths ≡ a.depths → IsSound b
+  sound_own a b k h l r n e c s =
       let gs = a.groups in
       record {
         room = rw e (omega (arith, r, ap length (all_in-push gs k), length-append (all_in gs) k));
@@ -109,7 +144,30 @@ module _ {A : Type 0} where
         listable = rw e (listable-push gs k h.listable l);
         once = λ d. absurd (true≢false (sym d ∙ c));
         mapped = λ d p q. absurd (true≢false (sym d ∙ c));
+        deep = rw (e, s) (depths-push gs k (in_order a.depths.entries) h.listable h.deep);
       }
+
+  -- a depth more
+  pub sound_depth : (a b : Inside A) (id n : ℕ) → IsSound a → HasDepth a.groups id n → b.groups ≡ a.groups → b.is_canonical ≡ a.is_canonical → b.is_open ≡ a.is_open → b.known ≡ a.known
+      → in_order b.depths.entries ≡ with_depth (in_order a.depths.entries) id n → IsSound b
+  sound_depth a b id n h t e c o k m = record {
+    room = rw e h.room;
+    few = rw e h.few;
+    listable = rw e h.listable;
+    once = λ d. rw e (h.once (sym c ∙ d));
+    mapped = λ d p q. rw (e, k) (h.mapped (sym c ∙ d) (sym o ∙ p) q);
+    deep = rw (e, m) (depth-put a.groups (in_order a.depths.entries) id n h.deep t);
+  }
+
+  -- what is kept of an id
+  pub has_depth : (a : Inside A) (l : Listing A) (id n : ℕ) → shown a ≡ l → id < length (types_in l) → IsDepth (declares l.groups) id n → HasDepth a.groups id n
+  has_depth a l id n v h d = subst (λ (m : Listing A). HasDepth m.groups id n) (sym v) (record { there = h; depth = d })
+
+  pub kept_seen : (a : Inside A) (l : Listing A) (key id : ℕ) (o : Option ℕ) → shown a ≡ l → key ≡ id → o ≡ lookup (nat_eq key) a.depths.entries → o ≡ depth_of l.depths id
+  kept_seen a l key id o v k e = e ∙ ap (λ m. lookup (nat_eq m) a.depths.entries) k ∙ sym (found-in_order a.depths.entries id) ∙ ap (λ (m : Listing A). depth_of m.depths id) v
+
+  pub kept_right : (a : Inside A) (l : Listing A) (id n : ℕ) → shown a ≡ l → IsSound a → Some n ≡ depth_of l.depths id → HasDepth l.groups id n
+  kept_right a l id n v h e = subst (λ (m : Listing A). HasDepth m.groups id n) v (h.deep id n (ap (λ (m : Listing A). depth_of m.depths id) v ∙ sym e))
 
   -- the map's answers
   pub place_found : (a : Inside A) (k : RecGroup A) (n : ℕ) → IsSound a → a.is_canonical ≡ true → a.is_open ≡ true → hash.get group_equal a.known k ≡ Some n → slice_get a.groups n ≡ Some k.types
@@ -128,9 +186,9 @@ module _ {A : Type 0} where
       )
 
   pub interned_new : (a b : Inside A) (l : Listing A) (g : List (SubType A)) → shown a ≡ l → IsSound a → IsListable (length (types_in l)) g
-      → b.groups ≡ a.groups ++ g ∷ [] → b.is_canonical ≡ a.is_canonical → b.is_open ≡ a.is_open → (a.is_canonical ≡ true → IsNew a.groups g)
+      → b.groups ≡ a.groups ++ g ∷ [] → b.is_canonical ≡ a.is_canonical → b.is_open ≡ a.is_open → (a.is_canonical ≡ true → IsNew a.groups g) → b.depths ≡ a.depths
       → Interns l (shown b) g true (length a.groups) × InternsTypes l (shown b) g true (length a.groups)
-  interned_new a b l g e h k f c o n =
+  interned_new a b l g e h k f c o n s =
       let P : Listing A → Type 0 = λ l. IsListable (length (types_in l)) g → Interns l (shown b) g true (length a.groups) × InternsTypes l (shown b) g true (length a.groups) in
       subst P e
       (λ next. (
@@ -138,7 +196,7 @@ module _ {A : Type 0} where
           mode = λ w. absurd (true≢false w);
           known = λ w. absurd (true≢false w);
           there = λ w. absurd (true≢false w);
-          added = λ _ i. record { is_canonical = c i; is_open = o i; groups = f i };
+          added = λ _ i. record { is_canonical = c i; is_open = o i; groups = f i; depths = in_order (s i).entries };
           last = λ _. refl;
           absent = λ _ d. n d;
         },
@@ -147,9 +205,9 @@ module _ {A : Type 0} where
       k
 
   pub interned_own : (a b : Inside A) (l : Listing A) (g : List (SubType A)) → shown a ≡ l → IsSound a → IsListable (length (types_in l)) g
-      → b.groups ≡ a.groups ++ g ∷ [] → b.is_canonical ≡ a.is_canonical → b.is_open ≡ a.is_open → a.is_canonical ≡ false
+      → b.groups ≡ a.groups ++ g ∷ [] → b.is_canonical ≡ a.is_canonical → b.is_open ≡ a.is_open → a.is_canonical ≡ false → b.depths ≡ a.depths
       → Interns l (shown b) g true (length a.groups) × InternsTypes l (shown b) g true (length a.groups)
-  interned_own a b l g e h k f c o off = interned_new a b l g e h k f c o (λ on. absurd (true≢false (sym on ∙ off)))
+  interned_own a b l g e h k f c o off s = interned_new a b l g e h k f c o (λ on. absurd (true≢false (sym on ∙ off))) s
 
   -- the ids of a group fit
   pub span_room : (a : Inside A) (k : ℕ) (ids : Range CoreTypeId) → IsSound a → ids ≡ span (first_of a.groups k) (first_of a.groups (k + 1)) → (ids.start.index ≤ MAX_IDS) × (ids.end.index ≤ MAX_IDS)

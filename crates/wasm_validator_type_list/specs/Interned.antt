@@ -27,7 +27,7 @@ module _ {A : Type 0} where
     pub types : HasNoRepetition (standing true gs)
 
   abbrev pub with_one : Listing A → List (SubType A) → Listing A
-  with_one l g = record { is_canonical = l.is_canonical; is_open = l.is_open; groups = l.groups ++ g ∷ [] }
+  with_one l g = record { is_canonical = l.is_canonical; is_open = l.is_open; groups = l.groups ++ g ∷ []; depths = l.depths }
 
   -- The answer is the number of a group with these sub types: one that the list had, which happens only where equal
   -- groups are kept once, and then the list stays; or a new one at its end, and there equal groups are kept once only

@@ -5,6 +5,7 @@ pub mod Listing
 pub mod Listable
 pub mod Standing
 pub mod Interned
+pub mod Depths
 pub mod Sound
 pub mod Refused
 pub mod Lookups

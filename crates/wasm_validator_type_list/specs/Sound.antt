@@ -9,6 +9,7 @@ use Rattle.wasm_validator_type_list.specs.Groups.{all_in}
 use Rattle.wasm_validator_type_list.specs.Listing.{Listing}
 use Rattle.wasm_validator_type_list.specs.Listable.{AreListable}
 use Rattle.wasm_validator_type_list.specs.Interned.{IsPlaceOf, AreOnce}
+use Rattle.wasm_validator_type_list.specs.Depths.{in_order, AreDepths}
 
 -- how many of the groups have no members
 abbrev pub count_of_empty : {X : Type 0} → List (List X) → ℕ
@@ -18,13 +19,14 @@ count_of_empty ((x ∷ xs) ∷ gs) = count_of_empty gs
 
 module _ {A : Type 0} where
   abbrev pub shown : Inside A → Listing A
-  shown a = record { is_canonical = a.is_canonical; is_open = a.is_open; groups = a.groups }
+  shown a = record { is_canonical = a.is_canonical; is_open = a.is_open; groups = a.groups; depths = in_order a.depths.entries }
 
-  -- each id fits a packed index, at most one group is empty, references are known, and where equal groups are kept
-  -- once the map of an open list finds each group by its sub types
+  -- each id fits a packed index, at most one group is empty, references are known, where equal groups are kept once the
+  -- map of an open list finds each group by its sub types, and the depths that are kept are right
   pub record IsSound (a : Inside A) : Type 0 where
     pub room : length (all_in a.groups) ≤ MAX_IDS
     pub few : count_of_empty a.groups ≤ 1
     pub listable : AreListable a.groups
     pub once : a.is_canonical ≡ true → AreOnce a.groups
     pub mapped : a.is_canonical ≡ true → a.is_open ≡ true → (k : RecGroup A) → IsPlaceOf (hash.get group_equal a.known k) a.groups k.types
+    pub deep : AreDepths a.groups (in_order a.depths.entries)

@@ -14,6 +14,7 @@ use wasm_readers_types::{
     StorageType, StructType, SubType, ValType,
 };
 
+mod depths;
 mod subtyping;
 
 /// The function type that takes nothing and gives nothing.

@@ -19,6 +19,7 @@ use std::ops::{Index, Range};
 use wasm_readers_errors::{Fault, Refusal};
 use wasm_readers_types::{CoreTypeId, PackedIndex, RecGroup, SubType, UnpackedIndex};
 
+mod depths;
 mod interning;
 mod matching;
 mod relations;
@@ -26,15 +27,19 @@ mod relations;
 /// The number of each group, found by its sub types.
 type KnownGroups<A> = HashMap<RecGroup<A>, u32, BuildHasherDefault<FoldHasher>, A>;
 
+/// The depths of types, found by the numbers of their ids.
+type KeptDepths<A> = HashMap<u32, u8, BuildHasherDefault<FoldHasher>, A>;
+
 /// The types of all modules that one validator has seen, in recursion groups, each type under its
-/// id. A contract sees the mode of the list, whether groups may be added, and the sub types of each
-/// group in order; an id is a place in the list of all types.
+/// id. A contract sees the mode of the list, whether groups may be added, the sub types of each group in
+/// order, and the depths that are kept of types; an id is a place in the list of all types.
 ///
 /// Where the list is canonical equal groups are kept once, so that no two ids stand for one type.
 #[derive(Drop)]
 pub struct TypeList<A: Allocator = Global> {
     groups: GroupedList<SubType<A>, A>,
     known: KnownGroups<A>,
+    depths: KeptDepths<A>,
     is_canonical: bool,
     is_open: bool,
     alloc: A,
@@ -65,6 +70,7 @@ impl<A: Allocator + Copy> TypeList<A> {
         TypeList {
             groups: GroupedList::new(alloc),
             known: HashMap::new(alloc),
+            depths: HashMap::new(alloc),
             is_canonical,
             is_open: true,
             alloc,
@@ -227,8 +233,8 @@ impl<A: Allocator + Copy> TypeList<A> {
         }
     }
 
-    /// A list of its own with the groups of this one, to which none may be added. This one stays as
-    /// it was.
+    /// A list of its own with the groups of this one, to which none may be added, and which keeps no
+    /// depths. This one stays as it was.
     pub fn commit(&mut self) -> Result<TypeList<A>, AllocError>
         ensures same { self.new ≡ self.old }
         ensures copy { IfOk result (λ copy. copy ≡ closed self.old) }
@@ -237,6 +243,7 @@ impl<A: Allocator + Copy> TypeList<A> {
         Ok(TypeList {
             groups,
             known: HashMap::new(self.alloc),
+            depths: HashMap::new(self.alloc),
             is_canonical: self.is_canonical,
             is_open: false,
             alloc: self.alloc,
