@@ -1,0 +1,44 @@
+use Rattle.std.proofs.Common.{◌<◌, ◌≤◌, length, arith}
+use Rattle.wasm_spec.specs.References.{refs_field}
+use Rattle.wasm_spec.specs.Syntax.{map_field}
+use Rattle.wasm_validator_type_list.specs.Declares.{declares}
+use Rattle.wasm_readers_types.specs.SeenValues.{field_of}
+use Rattle.wasm_validator_type_list.specs.Grouped.{leads_in, AreIn, FieldsMatch}
+use Rattle.wasm_validator_type_list.proofs.Grouped.{item_holds, fields-short, fields-miss, fields-all, below-more}
+use Rattle.wasm_matches.proofs.composites.all_fields_match.Goals as goal
+
+pub matches-agree-requires-clause-sub : goal.matches-agree-requires-clause-sub
+matches-agree-requires-clause-sub g c =
+    let l : c.fields.i < length c.args.a.now = omega arith in
+    rw (c.new-sub.ensures.inner, c.new-sub.ensures.group) (item_holds (λ v. AreIn c.args.types.now.groups c.args.a_group.index (refs_field (field_of v))) c.args.a.now c.fields.i c.index-a-i.result c.requires.sub l c.index-a-i.is)
+
+pub matches-agree-requires-clause-sup : goal.matches-agree-requires-clause-sup
+matches-agree-requires-clause-sup g c =
+    let l : c.fields.i < length c.args.b.now = omega arith in
+    rw (c.new-sup.ensures.inner, c.new-sup.ensures.group) (item_holds (λ v. AreIn c.args.types.now.groups c.args.b_group.index (refs_field (field_of v))) c.args.b.now c.fields.i c.index-b-i.result c.requires.sup l c.index-b-i.is)
+
+pub returns-then-a-b : goal.returns-then-a-b
+returns-then-a-b g c =
+    let l : length c.args.a.now < length c.args.b.now = omega arith in
+    fields-short (declares c.args.types.now.groups) (λ f. map_field (leads_in c.args.types.now.groups c.args.a_group.index) (field_of f)) (λ f. map_field (leads_in c.args.types.now.groups c.args.b_group.index) (field_of f)) c.args.a.now c.args.b.now l
+
+pub returns-then-not-agree : goal.returns-then-not-agree
+returns-then-not-agree g c =
+    let l : c.fields.i < length c.args.b.now = omega arith in
+    fields-miss (declares c.args.types.now.groups) (λ f. map_field (leads_in c.args.types.now.groups c.args.a_group.index) (field_of f)) (λ f. map_field (leads_in c.args.types.now.groups c.args.b_group.index) (field_of f))
+    c.args.a.now c.args.b.now c.fields.i c.index-a-i.result c.index-b-i.result c.matches-agree.result l c.index-a-i.is c.index-b-i.is
+    (rw (c.new-sub.ensures.inner, c.new-sub.ensures.group, c.new-sup.ensures.inner, c.new-sup.ensures.group) at c.matches-agree.ensures) c.if-not-agree.true
+
+pub fields-preserved : goal.fields-preserved
+fields-preserved g c =
+    let l : c.fields.i < length c.args.a.now = omega arith in
+    let m : c.fields.i < length c.args.b.now = omega arith in
+    let here = rw (c.new-sub.ensures.inner, c.new-sub.ensures.group, c.new-sup.ensures.inner, c.new-sup.ensures.group) at c.matches-agree.ensures in
+    below-more (FieldsMatch c.args.types.now.groups c.args.a_group.index c.args.b_group.index) c.args.a.now c.args.b.now c.fields.i c.index-a-i.result c.index-b-i.result l m c.index-a-i.is c.index-b-i.is
+    (here.0 c.if-not-agree.false) c.fields.invariant
+
+pub returns : goal.returns
+returns g c =
+    let e : length c.args.b.now ≤ length c.args.a.now = omega arith in
+    let l : length c.args.b.now ≤ c.fields.i = omega arith in
+    fields-all (declares c.args.types.now.groups) (λ f. map_field (leads_in c.args.types.now.groups c.args.a_group.index) (field_of f)) (λ f. map_field (leads_in c.args.types.now.groups c.args.b_group.index) (field_of f)) c.args.a.now c.args.b.now c.fields.i e l c.fields.invariant
