@@ -1,0 +1,10 @@
+pub mod Listed
+pub mod Decided
+pub mod Allowed
+pub mod Rules
+pub mod Shared
+pub mod Depth
+pub mod Renamed
+pub mod Transported
+pub mod IdsAndTypes
+pub mod Standing

@@ -1,0 +1,19 @@
+//! The rules of the types of a recursion group, asked of types that stand in a list of types.
+#![tactic(auto)]
+
+mod composite_types;
+mod descriptors;
+mod groups;
+mod ids;
+mod laws;
+mod refusals;
+mod subtypes;
+
+pub use composite_types::check_composite_type;
+pub use descriptors::check_descriptors;
+pub use groups::{check_rec_group, check_type};
+pub use laws::{ids_keep_rules_as_types, sub_types_match_as_types};
+pub use subtypes::check_subtype;
+
+#[cfg(test)]
+mod tests;
