@@ -1,12 +1,11 @@
 -- How many parameters and results a type has is written in its recursive type.
-use Rattle.std.proofs.Common.{◌≡◌, refl, sym, ap, ◌∙◌, ℕ, Bool, List, map, length, slice_get, Option, Some, None}
+use Rattle.std.proofs.Common.{◌≡◌, refl, sym, ap, ◌∙◌, ℕ, length, slice_get, Option, Some, None}
 use Rattle.std.specs.Option.{option_map, option_and_then}
 use Rattle.std.proofs.lemmas.List.{length-map}
 use Rattle.wasm_spec.specs.Syntax.{Comp, func, array, struct, cont, map_comp, map_val, Sub, map_sub}
 use Rattle.wasm_spec.specs.Trees.{DefType, TypeUse, members, denote, declared}
 use Rattle.wasm_rules.specs.IndexSpaces.{signature}
-use Rattle.wasm_validator_canonical.specs.Arities.{arity, type_arity, arity_at, IdsKeepArities}
-use Rattle.wasm_validator_canonical.specs.Sections.{StandsFor}
+use Rattle.wasm_validator_canonical.specs.Arities.{arity, type_arity, IdsKeepArities}
 
 -- by what is written
 abbrev comp_arity : {R : Type 0} → Comp R → Option (ℕ × ℕ)

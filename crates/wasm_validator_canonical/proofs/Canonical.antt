@@ -1,19 +1,15 @@
 -- Types whose indices are written as the list has them.
-use Rattle.std.proofs.Common.{◌≡◌, refl, sym, ap, ◌∙◌, Bool, true, false, not, ◌&&◌, eqb, List, [], ◌∷◌, map, length, Option, Some, None}
-use Rattle.std.specs.Prelude.{is_none}
+use Rattle.std.proofs.Common.{◌≡◌, refl, ap, ◌∙◌, Bool, true, false, ◌&&◌, eqb, List, [], ◌∷◌, map, length, None}
 use Rattle.std.specs.List.{list_all, flat_map}
-use Rattle.std.proofs.lemmas.List.{nil_from_length}
 use Rattle.std.proofs.lemmas.List.Folds.{list_all-append}
-use Rattle.std.proofs.lemmas.Bool.{eqb-true}
-use Rattle.wasm_spec.specs.Syntax.{Heap, abstract_heap, concrete, exact, map_heap, Val, i32, i64, f32, f64, v128, reference, map_val, Field, Comp, func, struct, map_comp, Sub, map_sub}
+use Rattle.wasm_spec.specs.Syntax.{Heap, abstract_heap, concrete, exact, map_heap, Val, i32, i64, f32, f64, v128, reference, map_val, Field, Comp, func, struct, Sub}
 use Rattle.wasm_spec.specs.References.{refs_heap, refs_val, refs_field, refs_comp}
 use Rattle.wasm_readers_types.specs.declared.indices.UnpackedIndex.{UnpackedIndex}
 use Rattle.wasm_validator_canonical.specs.declared.type_canonicalizer.TypeCanonicalizer.{TypeCanonicalizer}
 use Rattle.wasm_readers_errors.specs.declared.error.Error.{Error}
 use Rattle.wasm_readers_errors.specs.declared.error.Error.TheVariants.{Refused, OutOfMemory}
 use Rattle.wasm_validator_canonical.specs.Answers.{Denies}
-use Rattle.wasm_validator_canonical.specs.Groups.{is_served_comp, is_served_sub}
-use Rattle.wasm_validator_canonical.specs.Indices.{has_no_index, is_known_by, knows_val, knows_field, knows_sub, canonical_by}
+use Rattle.wasm_validator_canonical.specs.Indices.{has_no_index, is_known_by, knows_val, knows_field, canonical_by}
 
 pub and_left : (a b : Bool) → (a && b) ≡ true → a ≡ true
 and_left true b e = refl
@@ -22,14 +18,6 @@ and_left false b e = absurd cc
 pub and_right : (a b : Bool) → (a && b) ≡ true → b ≡ true
 and_right true b e = e
 and_right false b e = absurd cc
-
-not_true : (b : Bool) → not b ≡ true → b ≡ false
-not_true true e = absurd cc
-not_true false e = refl
-
-none_is : {X : Type 0} (o : Option X) → is_none o ≡ true → o ≡ None
-none_is None e = refl
-none_is (Some x) e = absurd cc
 
 -- value types that refer to no type
 module _ (c : TypeCanonicalizer) where
@@ -83,50 +71,9 @@ module _ (c : TypeCanonicalizer) where
   pub structure_known : (xs : List (Field UnpackedIndex)) → list_all (is_known_by c) (refs_comp (struct xs)) ≡ list_all (knows_field c) xs
   structure_known xs = each_known refs_field xs
 
--- a served sub type is all but its composite type the same as any other
-pub record IsPlain {R : Type 0} (t : Sub R) : Type 0 where
-  pub final : t.is_final ≡ true
-  pub extends : t.supers ≡ []
-  pub unshared : t.shared ≡ false
-  pub descriptor : t.descriptor ≡ None
-  pub describes : t.describes ≡ None
-  pub served : is_served_comp t.comp ≡ true
-
-pub plain : {R : Type 0} (t : Sub R) → is_served_sub t ≡ true → IsPlain t
-plain t e =
-    let a = and_left _ (is_served_comp t.comp) e in
-    let b = and_left _ (is_none t.describes) a in
-    let c = and_left _ (is_none t.descriptor) b in
-    let d = and_left _ (not t.shared) c in
-    record {
-      final = and_left t.is_final (eqb (length t.supers) 0) d;
-      extends = nil_from_length t.supers (eqb-true _ 0 (and_right t.is_final (eqb (length t.supers) 0) d));
-      unshared = not_true t.shared (and_right _ (not t.shared) c);
-      descriptor = none_is t.descriptor (and_right _ (is_none t.descriptor) b);
-      describes = none_is t.describes (and_right _ (is_none t.describes) a);
-      served = and_right _ (is_served_comp t.comp) e;
-    }
-
 -- the final sub type of a composite type that extends nothing
 abbrev pub plain_sub : {R : Type 0} → Comp R → Sub R
 plain_sub x = record { is_final = true; supers = []; shared = false; comp = x; descriptor = None; describes = None }
-
-pub is_plain : {R : Type 0} (t : Sub R) → is_served_sub t ≡ true → t ≡ plain_sub t.comp
-is_plain t e =
-    let p = plain t e in
-    λ i. record { is_final = p.final i; supers = p.extends i; shared = p.unshared i; comp = t.comp; descriptor = p.descriptor i; describes = p.describes i }
-
-module _ (c : TypeCanonicalizer) where
-  pub plain_canonical : (t : Sub UnpackedIndex) → is_served_sub t ≡ true → plain_sub (map_comp (canonical_by c) t.comp) ≡ map_sub (canonical_by c) t
-  plain_canonical t e = sym (ap (map_sub (canonical_by c)) (is_plain t e))
-
-  pub plain_known : (t : Sub UnpackedIndex) → is_served_sub t ≡ true → knows_sub c t ≡ list_all (is_known_by c) (refs_comp t.comp)
-  plain_known t e = ap (knows_sub c) (is_plain t e)
-
-  pub plain_served : (t : Sub UnpackedIndex) → is_served_sub t ≡ true → is_served_comp t.comp ≡ true
-  plain_served t e = (plain t e).served
-
-pub ruleset plain_laws = (plain_canonical, plain_known, plain_served)
 
 -- a refusal of a part is one of the whole
 pub says_as : (e : Error) (b d : Bool) → (b ≡ false → d ≡ false) → Denies e b → Denies e d

@@ -1,6 +1,6 @@
 -- What types that are held with others leave of them.
 use Rattle.std.proofs.Common.{◌≡◌, refl, sym, ap, subst, ◌∙◌, ℕ, zero, suc, ◌+◌, ◌<◌, ◌≤◌, Bool, true, false, cond, List, [], ◌∷◌, ◌++◌, length, slice_get, Option, Some, None, All, arith, append-nil, length-append}
-use Rattle.std.proofs.lemmas.List.Elements.{All-nil, All-cons, All-head, All-tail}
+use Rattle.std.proofs.lemmas.List.Elements.{All-nil, All-cons, All-head, All-tail, All-append}
 use Rattle.std.proofs.lemmas.Option.{slice_get_within}
 use Rattle.wasm_spec.specs.Trees.{DefType}
 use Rattle.wasm_validator_type_list.specs.Elements.{numbers_from}
@@ -54,6 +54,14 @@ module _ (us : List DefType) (ids : List ℕ) (ds : List DefType) where
 
   pub held_front : (c : Bool) → (more : List DefType) × ((held c us ids ds).0 ≡ us ++ more)
   held_front c = front_at (cond c (place_of us ds) None)
+
+  -- what holds of the types of both holds of all
+  all_at_end : (P : DefType → Type 0) (o : Option ℕ) → All P us → All P ds → All P (held_at o us ids ds).0
+  all_at_end P (Some k) a b = a
+  all_at_end P None a b = All-append P us ds a b
+
+  pub all_held : (P : DefType → Type 0) (c : Bool) → All P us → All P ds → All P (held c us ids ds).0
+  all_held P c = all_at_end P (cond c (place_of us ds) None)
 
   -- where their types stand
   pub record NewIds (result : List DefType × List ℕ) : Type 0 where

@@ -1,8 +1,8 @@
 -- The groups of a type section, one after another: they are added exactly where they are valid and there are ids for them.
-use Rattle.std.proofs.Common.{◌≡◌, refl, sym, ap, subst, ◌∙◌, ℕ, ◌+◌, ◌≤◌, true, List, [], ◌∷◌, ◌++◌, length, slice_get, Option, Some, None, arith, append_assoc, append-nil, length-append}
+use Rattle.std.proofs.Common.{◌≡◌, refl, sym, ap, subst, ◌∙◌, ℕ, ◌+◌, ◌≤◌, List, [], ◌∷◌, ◌++◌, length, slice_get, Some, arith, append_assoc, append-nil, length-append}
 use Rattle.std.specs.Option.{option_map, option_and_then}
-use Rattle.std.specs.List.{list_all, All}
-use Rattle.std.proofs.lemmas.List.Elements.{All-nil, All-cons, All-head, All-tail}
+use Rattle.std.specs.List.{All}
+use Rattle.std.proofs.lemmas.List.Elements.{All-nil, All-append}
 use Rattle.std.proofs.lemmas.Option.{same_Some, slice_get_within}
 use Rattle.wasm_spec.specs.Syntax.{Rec, map_rec}
 use Rattle.wasm_spec.specs.Features.{Features, canonical}
@@ -12,26 +12,13 @@ use Rattle.wasm_spec.specs.GroupRules.{IsValidType}
 use Rattle.wasm_spec.proofs.Closing.{slice_get-append_left}
 use Rattle.wasm_rules.proofs.Tests.{map_some, then_some}
 use Rattle.wasm_readers_types.specs.declared.indices.TheConstants.{MAX_IDS}
-use Rattle.wasm_validator_canonical.specs.Groups.{placed, is_served_group, is_served_sub, with_written}
+use Rattle.wasm_validator_type_list.proofs.Grouped.{all-left, all-right}
+use Rattle.wasm_validator_canonical.specs.Groups.{placed, AreValid, with_written}
 use Rattle.wasm_validator_canonical.specs.Sections.{written, with_all_written, AddedSectionsAreValid, ValidSectionsAreAdded, OneIdForOneType}
-use Rattle.wasm_validator_canonical.proofs.Canonical.{and_left, and_right}
 use Rattle.wasm_validator_canonical.proofs.Held.{length-positions}
-use Rattle.wasm_validator_canonical.proofs.Kept.{held_front, held_at_most}
-use Rattle.wasm_validator_canonical.proofs.PlainTypes.{and_both}
-use Rattle.wasm_validator_canonical.proofs.Standing.{Stand, held_with, held_stand, closed_is, types_valid, types_allowed}
-use Rattle.wasm_validator_canonical.proofs.Steps.{Fits, fits_added, added_fits}
-
-all_append : {X : Type 0} (P : X → Type 0) (xs ys : List X) → All P xs → All P ys → All P (xs ++ ys)
-all_append P [] ys a b = b
-all_append P (x ∷ xs) ys a b = All-cons P x (xs ++ ys) (All-head P x xs a) (all_append P xs ys (All-tail P x xs a) b)
-
-all_front : {X : Type 0} (P : X → Type 0) (xs ys : List X) → All P (xs ++ ys) → All P xs
-all_front P [] ys a = All-nil P
-all_front P (x ∷ xs) ys a = All-cons P x xs (All-head P x (xs ++ ys) a) (all_front P xs ys (All-tail P x (xs ++ ys) a))
-
-all_behind : {X : Type 0} (P : X → Type 0) (xs ys : List X) → All P (xs ++ ys) → All P ys
-all_behind P [] ys a = a
-all_behind P (x ∷ xs) ys a = all_behind P xs ys (All-tail P x (xs ++ ys) a)
+use Rattle.wasm_validator_canonical.proofs.Kept.{held_front, held_at_most, all_held}
+use Rattle.wasm_validator_canonical.proofs.Standing.{Stand, held_with, held_stand, valid_placed}
+use Rattle.wasm_validator_canonical.proofs.Steps.{Fits, fits_added, added_fits, all_written_front}
 
 same_behind : {X : Type 0} (xs ys zs : List X) → xs ++ ys ≡ xs ++ zs → ys ≡ zs
 same_behind [] ys zs e = e
@@ -47,12 +34,11 @@ groups_go_on F (g ∷ gs) ts us e =
     (positions b.0 0 g.types ++ c.0, c.1 ∙ ap (λ xs. xs ++ c.0) (sym b.2) ∙ append_assoc ts (positions b.0 0 g.types) c.0)
 
 module _ (F : Features) where
-  -- what there is to know of groups that are added behind types of the module
+  -- what there is to know of groups that are added behind types of the module, where the types of the list are valid
   record GroupsHeld (us ts : List DefType) (gs : List (Rec ℕ)) (q : List DefType × List ℕ) : Type 0 where
     space : List DefType
     gives : with_groups F ts gs ≡ Some (ts ++ space)
-    served : list_all is_served_group gs ≡ true
-    valid : All (IsValidType F declared) space
+    valid : AreValid F space
     stand : Stand F q.0 q.1 (ts ++ space)
     more : List DefType
     front : q.0 ≡ us ++ more
@@ -61,7 +47,6 @@ module _ (F : Features) where
   nothing_held us ids ts a = record {
     space = [];
     gives = ap Some (sym (append-nil ts));
-    served = refl;
     valid = All-nil (IsValidType F declared);
     stand = subst (Stand F us ids) (sym (append-nil ts)) a;
     more = [];
@@ -73,36 +58,42 @@ module _ (F : Features) where
   one_held us ids ts a g gs t q f r =
       let here = positions t 0 g.types in
       let h = held_front us ids (positions (placed (canonical F) (length us) t) 0 g.types) (canonical F) in
-      let valid : All (IsValidType F declared) here = subst (λ u. All (IsValidType F declared) (positions u 0 g.types)) (closed_is F ts g t f.closes) (types_valid F ts g (and_right _ (list_all is_served_sub g.types) f.served) f.allowed) in
       record {
         space = here ++ r.space;
         gives = ap (λ o. option_and_then (λ xs. with_groups F xs gs) (option_map (λ u. ts ++ positions u 0 g.types) o)) f.closes ∙ r.gives ∙ ap Some (append_assoc ts here r.space);
-        served = and_both (is_served_group g) (list_all is_served_group gs) f.served r.served;
-        valid = all_append (IsValidType F declared) here r.space valid r.valid;
+        valid = All-append (IsValidType F declared) here r.space f.valid r.valid;
         stand = subst (Stand F q.0 q.1) (append_assoc ts here r.space) r.stand;
         more = h.0 ++ r.more;
         front = r.front ∙ ap (λ xs. xs ++ r.more) h.1 ∙ append_assoc us h.0 r.more;
       }
 
-  groups_held : (gs : List (Rec ℕ)) (us : List DefType) (ids : List ℕ) (ts : List DefType) → Stand F us ids ts → (q : List DefType × List ℕ) → with_all_written F us ids gs ≡ Some q → GroupsHeld us ts gs q
-  groups_held [] us ids ts a q e = subst (GroupsHeld us ts []) (same_Some (us, ids) q e) (nothing_held us ids ts a)
-  groups_held (g ∷ gs) us ids ts a q e =
+  groups_held : (gs : List (Rec ℕ)) (us : List DefType) (ids : List ℕ) (ts : List DefType) → Stand F us ids ts
+      → (q : List DefType × List ℕ) → with_all_written F us ids gs ≡ Some q → AreValid F q.0 → GroupsHeld us ts gs q
+  groups_held [] us ids ts a q e v = subst (GroupsHeld us ts []) (same_Some (us, ids) q e) (nothing_held us ids ts a)
+  groups_held (g ∷ gs) us ids ts a q e v =
       let x = then_some (λ (p : List DefType × List ℕ). with_all_written F p.0 p.1 gs) (with_written F us ids (map_rec written g)) q e in
-      let y = added_fits F us ids ts a g x.0 x.1 in
+      let later = all_written_front F gs x.0.0 x.0.1 q x.2 in
+      let y = added_fits F us ids ts a g x.0 x.1 (all-left (IsValidType F declared) x.0.0 later.0 (subst (AreValid F) later.1 v)) in
       let t = y.tree in
       let next = held_with F us ids g t in
       one_held us ids ts a g gs t q y.fits
-      (groups_held gs next.0 next.1 (ts ++ positions t 0 g.types) (held_stand F us ids ts g t a) q (ap (λ (p : List DefType × List ℕ). with_all_written F p.0 p.1 gs) y.is ∙ x.2))
+      (groups_held gs next.0 next.1 (ts ++ positions t 0 g.types) (held_stand F us ids ts g t a) q (ap (λ (p : List DefType × List ℕ). with_all_written F p.0 p.1 gs) y.is ∙ x.2) v)
 
   -- and the other way round
   record GroupsAdded (us : List DefType) (ids : List ℕ) (gs : List (Rec ℕ)) : Type 0 where
     end : List DefType × List ℕ
     run : with_all_written F us ids gs ≡ Some end
+    valid : AreValid F end.0
 
-  groups_added : (gs : List (Rec ℕ)) (us : List DefType) (ids : List ℕ) (ts space : List DefType) → Stand F us ids ts
-      → with_groups F ts gs ≡ Some (ts ++ space) → list_all is_served_group gs ≡ true → All (IsValidType F declared) space → length us + length space ≤ MAX_IDS → GroupsAdded us ids gs
-  groups_added [] us ids ts space a e served v room = record { end = (us, ids); run = refl }
-  groups_added (g ∷ gs) us ids ts space a e served v room =
+  then_added : (us : List DefType) (ids : List ℕ) (g : Rec ℕ) (gs : List (Rec ℕ)) (next q : List DefType × List ℕ)
+      → with_written F us ids (map_rec written g) ≡ Some next → with_all_written F next.0 next.1 gs ≡ Some q → with_all_written F us ids (g ∷ gs) ≡ Some q
+  then_added us ids g gs next q e f = ap (option_and_then (λ (p : List DefType × List ℕ). with_all_written F p.0 p.1 gs)) e ∙ f
+
+  groups_added : (gs : List (Rec ℕ)) (us : List DefType) (ids : List ℕ) (ts space : List DefType) → Stand F us ids ts → AreValid F us
+      → with_groups F ts gs ≡ Some (ts ++ space) → AreValid F space → length us + length space ≤ MAX_IDS → GroupsAdded us ids gs
+  groups_added [] us ids ts space a before e v room = record { end = (us, ids); run = refl; valid = before }
+  groups_added (g ∷ gs) us ids ts space a before e v room =
+      let V = IsValidType F declared in
       let x = then_some (λ xs. with_groups F xs gs) (with_group F ts g) (ts ++ space) e in
       let y = map_some (λ t. ts ++ positions t 0 g.types) (closed F ts g) x.0 x.1 in
       let t = y.0 in
@@ -110,24 +101,25 @@ module _ (F : Features) where
       let rest : with_groups F (ts ++ here) gs ≡ Some (ts ++ space) = ap (λ xs. with_groups F xs gs) y.2 ∙ x.2 in
       let z = groups_go_on F gs (ts ++ here) (ts ++ space) rest in
       let split : space ≡ here ++ z.0 = same_behind ts space (here ++ z.0) (z.1 ∙ append_assoc ts here z.0) in
-      let served_here = and_left (is_served_group g) (list_all is_served_group gs) served in
-      let valid = subst (All (IsValidType F declared)) split v in
+      let valid = subst (All V) split v in
       let many : length space ≡ length g.types + length z.0 = ap length split ∙ length-append here z.0 ∙ ap (λ n. n + length z.0) (length-positions t 0 g.types) in
-      let allowed = types_allowed F ts g (and_right _ (list_all is_served_sub g.types) served_here) (subst (λ u. All (IsValidType F declared) (positions u 0 g.types)) (sym (closed_is F ts g t y.1)) (all_front (IsValidType F declared) here z.0 valid)) in
-      let fits : Fits F us ids ts a g t = record { served = served_here; allowed = allowed; room = omega (arith, room, many); closes = y.1 } in
+      let now = all-left V here z.0 valid in
+      let fits : Fits F us ids ts a g t = record { room = omega (arith, room, many); closes = y.1; valid = now } in
       let next = held_with F us ids g t in
-      let h = held_at_most us ids (positions (placed (canonical F) (length us) t) 0 g.types) (canonical F) in
+      let listed = positions (placed (canonical F) (length us) t) 0 g.types in
+      let h = held_at_most us ids listed (canonical F) in
       let p = length-positions (placed (canonical F) (length us) t) 0 g.types in
-      let later = groups_added gs next.0 next.1 (ts ++ here) z.0 (held_stand F us ids ts g t a) (rest ∙ ap Some z.1) (and_right (is_served_group g) (list_all is_served_group gs) served) (all_behind (IsValidType F declared) here z.0 valid) (omega (arith, room, many, h, p)) in
-      record { end = later.end; run = ap (option_and_then (λ (r : List DefType × List ℕ). with_all_written F r.0 r.1 gs)) (fits_added F us ids ts a g t fits) ∙ later.run }
+      let after = all_held us ids listed V (canonical F) before (valid_placed F (length us) t g.types now) in
+      let later = groups_added gs next.0 next.1 (ts ++ here) z.0 (held_stand F us ids ts g t a) after (rest ∙ ap Some z.1) (all-right V here z.0 valid) (omega (arith, room, many, h, p)) in
+      record { end = later.end; run = then_added us ids g gs next later.end (fits_added F us ids ts a g t fits) later.run; valid = later.valid }
 
 pub added_sections_are_valid : AddedSectionsAreValid
-added_sections_are_valid F us gs held e =
-    let r = groups_held F gs us [] [] tt held e in
-    record { served = r.served; section = record { types = r.space; gives = r.gives; valid = r.valid }; stand = r.stand; more = r.more; front = r.front }
+added_sections_are_valid F us gs held e v =
+    let r = groups_held F gs us [] [] tt held e v in
+    record { section = record { types = r.space; gives = r.gives; valid = r.valid }; stand = r.stand; more = r.more; front = r.front }
 
 pub valid_sections_are_added : ValidSectionsAreAdded
-valid_sections_are_added F us gs served v room = let r = groups_added F gs us [] [] v.types tt v.gives served v.valid room in record { held = r.end; added = r.run }
+valid_sections_are_added F us gs before v room = let r = groups_added F gs us [] [] v.types tt before v.gives v.valid room in record { held = r.end; added = r.run; valid = r.valid }
 
 -- ids and the types that they stand for
 pub one_id_for_one_type : OneIdForOneType

@@ -29,7 +29,7 @@ use Rattle.wasm_validator_type_list.specs.Listing.{Listing}
 use Rattle.wasm_validator_type_list.specs.Standing.{listed_ref, listed_sub, listed_group, standing, tree_behind}
 use Rattle.wasm_validator_type_list.specs.Interned.{AreOnce, Interns, InternsTypes}
 use Rattle.wasm_validator_type_list.proofs.Places.{get-map}
-use Rattle.wasm_validator_canonical.specs.Groups.{nowhere, types_at, placed, held, is_served_group, allows_sub, with_written}
+use Rattle.wasm_validator_canonical.specs.Groups.{nowhere, types_at, placed, held, with_written}
 use Rattle.wasm_validator_canonical.specs.Indices.{use_of_index, canonical_index, canonical_group, is_written, is_written_sub, number_in}
 use Rattle.wasm_validator_canonical.proofs.Canonical.{and_left, and_right}
 use Rattle.wasm_validator_canonical.proofs.Held.{positions-map, interned_held}
@@ -103,22 +103,20 @@ module _ {A : Type 0} (F : Features) (old new : Listing A) (ids : List ℕ) (wri
   same_positions : (t : RecTree) → map sub_of g ≡ canonical_group ids written.types → positions t 0 g ≡ positions t 0 written.types
   same_positions t e = sym (positions-map sub_of t 0 g) ∙ ap (positions t 0) e ∙ positions-map (map_sub (canonical_index ids)) t 0 written.types
 
-  when_all : (a b c d : Bool) (o : Option (List DefType × List ℕ)) → a ≡ true → b ≡ true → c ≡ true → d ≡ true → cond (a && b && c && d) o None ≡ o
-  when_all true true true true o p q r s = refl
-  when_all true true true false o p q r s = absurd cc
-  when_all true true false d o p q r s = absurd cc
-  when_all true false c d o p q r s = absurd cc
-  when_all false b c d o p q r s = absurd cc
+  when_all : (a b : Bool) (o : Option (List DefType × List ℕ)) → a ≡ true → b ≡ true → cond (a && b) o None ≡ o
+  when_all true true o p q = refl
+  when_all true false o p q = absurd cc
+  when_all false b o p q = absurd cc
 
   pub written_added : canonical F ≡ old.is_canonical → All (λ id. id < length us) ids
-      → is_served_group written ≡ true → list_all is_written_sub written.types ≡ true → list_all (allows_sub F) written.types ≡ true
+      → list_all is_written_sub written.types ≡ true
       → length us + length written.types ≤ MAX_IDS → is_closable F (length (types_at us ids)) numbered ≡ true
       → map sub_of g ≡ canonical_group ids written.types → Interns old new g is_new n → InternsTypes old new g is_new n → (old.is_canonical ≡ true → AreOnce new.groups)
       → with_written F us ids written ≡ Some (standing (canonical F) new.groups, ids ++ numbers_from (first_of new.groups n) (length g))
-  written_added mode known served w allowed room closable e i j one =
+  written_added mode known w room closable e i j one =
       let c = canonical F in
       let t = same_tree known w e in
-      when_all (is_served_group written) (list_all is_written_sub written.types) (list_all (allows_sub F) written.types) (leb (length us + length written.types) MAX_IDS) _ served w allowed (le-leb (length us + length written.types) MAX_IDS room)
+      when_all (list_all is_written_sub written.types) (leb (length us + length written.types) MAX_IDS) _ w (le-leb (length us + length written.types) MAX_IDS room)
       ∙ ap (λ b. option_map (λ u. held c us ids (positions (placed c (length us) u) 0 written.types)) (cond b (Some tree) None)) closable
       ∙ ap (λ u. Some (held c us ids (positions u 0 written.types))) (sym t)
       ∙ ap (λ ds. Some (held c us ids ds)) (sym (same_positions (tree_behind c old.groups g) e))

@@ -1,10 +1,10 @@
 -- Type indices of a module as a list of types writes them. Core Specification 3.0, Validation, Types (Recursive Types):
 -- an index of the types so far stands for the type there, and one behind them for a position in the group.
-use Rattle.std.specs.Prelude.{ℕ, ◌+◌, ◌-◌, ◌==◌, ◌<◌, ◌≤◌, nat_lt, Bool, true, false, ◌&&◌, ◌||◌, List, map, length, slice_get, Option}
+use Rattle.std.specs.Prelude.{ℕ, ◌+◌, ◌-◌, ◌==◌, ◌<◌, ◌≤◌, nat_lt, nat_le, Bool, true, false, ◌&&◌, ◌||◌, List, [], ◌∷◌, ◌++◌, map, length, slice_get, Option}
 use Rattle.std.specs.declared.option.Option.TheVariants.{Some, None}
 use Rattle.std.specs.List.{All, list_all}
 use Rattle.wasm_spec.specs.Syntax.{Val, Field, Sub, map_sub}
-use Rattle.wasm_spec.specs.References.{refs_val, refs_field, refs_sub}
+use Rattle.wasm_spec.specs.References.{refs_option, refs_val, refs_field, refs_comp, refs_sub}
 use Rattle.wasm_readers_types.specs.declared.indices.CoreTypeId.{CoreTypeId}
 use Rattle.wasm_readers_types.specs.declared.indices.TheConstants.{MAX_IDS}
 use Rattle.wasm_readers_types.specs.declared.indices.UnpackedIndex.{UnpackedIndex}
@@ -52,6 +52,12 @@ is_known gc start end (Module k) = nat_lt k start || (gc && nat_lt k end)
 is_known gc start end (RecGroup i) = false
 is_known gc start end (Id id) = false
 
+-- the index is of a type before the one at the index n
+abbrev pub is_earlier : ℕ → UnpackedIndex → Bool
+is_earlier n (Module k) = nat_lt k n
+is_earlier n (RecGroup i) = false
+is_earlier n (Id id) = false
+
 -- the same of a group that is written as a list of types has it
 abbrev pub canonical_by : TypeCanonicalizer → UnpackedIndex → UnpackedIndex
 canonical_by c = canonical_index (numbers c.ids.now)
@@ -66,8 +72,25 @@ knows_val c v = list_all (is_known_by c) (refs_val v)
 abbrev pub knows_field : TypeCanonicalizer → Field UnpackedIndex → Bool
 knows_field c x = list_all (is_known_by c) (refs_field x)
 
-abbrev pub knows_sub : TypeCanonicalizer → Sub UnpackedIndex → Bool
-knows_sub c s = list_all (is_known_by c) (refs_sub s)
+-- a type at the index n: what it extends and what it describes come before it, and any other reference is known
+abbrev pub is_bound : Bool → ℕ → ℕ → ℕ → Sub UnpackedIndex → Bool
+is_bound gc start end n s =
+    list_all (is_earlier n) s.supers
+    && (list_all (is_earlier n) (refs_option s.describes) && list_all (is_known gc start end) (refs_option s.descriptor ++ refs_comp s.comp))
+
+-- types from the index n on
+abbrev pub are_bound : Bool → ℕ → ℕ → ℕ → List (Sub UnpackedIndex) → Bool
+are_bound gc start end n [] = true
+are_bound gc start end n (s ∷ ss) = is_bound gc start end n s && are_bound gc start end (n + 1) ss
+
+abbrev pub is_bound_by : TypeCanonicalizer → ℕ → Sub UnpackedIndex → Bool
+is_bound_by c = is_bound c.has_gc (length c.ids.now) c.end
+
+abbrev pub are_bound_by : TypeCanonicalizer → ℕ → List (Sub UnpackedIndex) → Bool
+are_bound_by c = are_bound c.has_gc (length c.ids.now) c.end
+
+abbrev pub extends_at_most_one : Sub UnpackedIndex → Bool
+extends_at_most_one s = nat_le (length s.supers) 1
 
 -- the value type refers to no type
 abbrev pub has_no_index : {R : Type 0} → Val R → Bool

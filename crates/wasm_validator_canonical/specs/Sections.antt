@@ -1,7 +1,7 @@
 -- The types of a type section, added to a list group by group. Core Specification 3.0, Validation, Modules (Types).
 use Rattle.std.specs.Prelude.{ℕ, ◌≡◌, ◌↔◌, ◌+◌, ◌≤◌, ◌++◌, Bool, true, List, [], ◌∷◌, length, slice_get, Option, Some, IsTrue}
 use Rattle.std.specs.Option.{option_and_then}
-use Rattle.std.specs.List.{list_all, AllZip}
+use Rattle.std.specs.List.{AllZip}
 use Rattle.wasm_spec.specs.Syntax.{Rec, map_rec}
 use Rattle.wasm_spec.specs.Features.{Features, canonical}
 use Rattle.wasm_spec.specs.Trees.{DefType, members}
@@ -10,7 +10,7 @@ use Rattle.wasm_spec.specs.TypeLaws.{HasNoRepetition}
 use Rattle.wasm_readers_types.specs.declared.indices.UnpackedIndex.{UnpackedIndex}
 use Rattle.wasm_readers_types.specs.declared.indices.UnpackedIndex.TheVariants.{Module}
 use Rattle.wasm_readers_types.specs.declared.indices.TheConstants.{MAX_IDS}
-use Rattle.wasm_validator_canonical.specs.Groups.{is_served_group, with_written}
+use Rattle.wasm_validator_canonical.specs.Groups.{AreValid, with_written}
 
 -- an index as a module writes it
 abbrev pub written : ℕ → UnpackedIndex
@@ -30,27 +30,27 @@ pub record StandsFor (is_canonical : Bool) (us : List DefType) (id : ℕ) (d : D
   pub same_members : members listed.tree ≡ members d.tree
   pub same : IsTrue is_canonical → listed ≡ d
 
--- The groups are of the forms that are served and a valid type section, each of its types stands in the list under
--- the id at its index, and the list begins with the types that it had.
+-- The groups are a valid type section, each of its types stands in the list under the id at its index, and the list
+-- begins with the types that it had.
 pub record HoldsSection (F : Features) (us : List DefType) (gs : List (Rec ℕ)) (held : List DefType × List ℕ) : Type 0 where
-  pub served : IsTrue (list_all is_served_group gs)
   pub section : IsValidTypeSection F gs
   pub stand : AllZip (StandsFor (canonical F) held.0) held.1 section.types
   pub more : List DefType
   pub front : held.0 ≡ us ++ more
 
--- Groups that are added are a valid type section, which the list then holds.
+-- Groups that are added so that the types of the list are valid are a valid type section, which the list then holds.
 abbrev pub AddedSectionsAreValid : Type 0
-AddedSectionsAreValid = (F : Features) (us : List DefType) (gs : List (Rec ℕ)) (held : List DefType × List ℕ) → with_all_written F us [] gs ≡ Some held → HoldsSection F us gs held
+AddedSectionsAreValid = (F : Features) (us : List DefType) (gs : List (Rec ℕ)) (held : List DefType × List ℕ) → with_all_written F us [] gs ≡ Some held → AreValid F held.0 → HoldsSection F us gs held
 
 -- what adding them gives
 pub record Adds (F : Features) (us : List DefType) (gs : List (Rec ℕ)) : Type 0 where
   pub held : List DefType × List ℕ
   pub added : with_all_written F us [] gs ≡ Some held
+  pub valid : AreValid F held.0
 
--- A valid type section of the forms that are served is added where there are ids for its types.
+-- A valid type section is added to a list of valid types where there are ids for its types, and then these are valid too.
 abbrev pub ValidSectionsAreAdded : Type 0
-ValidSectionsAreAdded = (F : Features) (us : List DefType) (gs : List (Rec ℕ)) → IsTrue (list_all is_served_group gs) → (v : IsValidTypeSection F gs) → length us + length v.types ≤ MAX_IDS → Adds F us gs
+ValidSectionsAreAdded = (F : Features) (us : List DefType) (gs : List (Rec ℕ)) → AreValid F us → (v : IsValidTypeSection F gs) → length us + length v.types ≤ MAX_IDS → Adds F us gs
 
 -- In a list where equal types are one, and in a longer one that begins with it, ids of two types are the same exactly
 -- where these types are.

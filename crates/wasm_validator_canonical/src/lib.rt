@@ -5,14 +5,17 @@
 ghost use Rattle.wasm_validator_canonical.specs.Sections.{AddedSectionsAreValid, ValidSectionsAreAdded, OneIdForOneType};
 ghost use Rattle.wasm_validator_canonical.specs.Arities.{IdsKeepArities};
 
+mod depths;
 mod intern_rec_group;
+mod modules;
 mod type_canonicalizer;
 
 pub use intern_rec_group::{canonicalize_and_intern_rec_group, needs_type_canonicalization};
+pub use modules::{InternRecGroup, intern_rec_group_of};
 pub use type_canonicalizer::TypeCanonicalizer;
 
 /// The groups of a module's type section, added one after another, are accepted exactly where the
-/// section is valid (Core Specification 3.0, Validation, Modules, Types), as far as its forms are served
+/// section is valid (Core Specification 3.0, Validation, Modules, Types)
 /// and there are ids for its types; and then each type stands in the list under the id at its index.
 pub fn type_sections_are_added_where_valid()
     ensures accepted { AddedSectionsAreValid }

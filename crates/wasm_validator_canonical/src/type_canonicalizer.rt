@@ -1,20 +1,24 @@
 ghost use Rattle.std.specs.Prelude.{◌≡◌, ◌+◌, ◌<◌, ◌^◌, [], map, length, is_ok, IfOk, IsTrue, true, false};
 ghost use Rattle.std.specs.List.{list_all, flat_map};
-ghost use Rattle.wasm_spec.specs.Syntax.{map_ref, map_val, map_field, map_comp, map_sub};
-ghost use Rattle.wasm_spec.specs.References.{refs_heap, refs_val, refs_field, refs_comp, refs_sub};
+ghost use Rattle.wasm_spec.specs.Syntax.{map_ref, map_val, map_field, map_comp};
+ghost use Rattle.wasm_spec.specs.References.{refs_heap, refs_val, refs_field, refs_comp};
+ghost use Rattle.wasm_readers_types.specs.declared.indices.TheConstants.{MAX_IDS};
 ghost use Rattle.wasm_readers_types.specs.Indices.{Fits};
-ghost use Rattle.wasm_readers_types.specs.SeenValues.{ref_of, val_of, field_of};
-ghost use Rattle.wasm_readers_types.specs.SeenTypes.{func_of, comp_of, sub_of};
-ghost use Rattle.wasm_validator_canonical.specs.Groups.{is_served_comp, is_served_sub};
+ghost use Rattle.wasm_readers_types.specs.SeenValues.{index_of, ref_of, val_of, field_of};
+ghost use Rattle.wasm_readers_types.specs.SeenTypes.{func_of, comp_of};
 ghost use Rattle.wasm_validator_canonical.specs.Answers.{Says};
 ghost use Rattle.wasm_validator_canonical.specs.Indices.{has_no_index};
 
 use std::alloc::Allocator;
 use wasm_readers_errors::{Error, Fault, Refusal};
 use wasm_readers_types::{
-    ArrayType, CompositeInnerType, CompositeType, CoreTypeId, FieldType, FuncType, HeapType, Items,
-    RefType, StorageType, StructType, SubType, UnpackedIndex, ValType,
+    ArrayType, CompositeInnerType, ContType, CoreTypeId, FieldType, FuncType, HeapType, Items,
+    PackedIndex, RefType, StorageType, StructType, UnpackedIndex, ValType,
 };
+
+mod sub_types;
+
+pub use sub_types::extend_at_most_one;
 
 /// Writes the types of one recursion group as a list of types has them: each type index of the
 /// module as the id of its type, or as a position in the group.
@@ -27,7 +31,7 @@ pub struct TypeCanonicalizer<'a> {
 }
 
 impl<'a> TypeCanonicalizer<'a> {
-    ghost use Rattle.wasm_validator_canonical.specs.Indices.{IsSmall, canonical_by, is_known_by, knows_val, knows_field, knows_sub};
+    ghost use Rattle.wasm_validator_canonical.specs.Indices.{IsSmall, canonical_by, is_known_by, knows_val, knows_field};
 
     /// Of a group of `count` types behind those of the module, which have these ids. With `has_gc` types
     /// of the group may refer to one another. `offset` is where the group stands in the input.
@@ -50,6 +54,21 @@ impl<'a> TypeCanonicalizer<'a> {
         }
     }
 
+    /// The type index as the list has it: the id of the module's type, or a position in the group.
+    fn resolved(&self, number: u32) -> UnpackedIndex
+        requires small { IsSmall self.now }
+        requires room { number < length self.now.ids.now + MAX_IDS }
+        ensures value { result ≡ canonical_by self.now (UnpackedIndex.Module number) }
+        ensures fits { Fits result }
+    {
+        let place = number as usize;
+        if place < self.ids.len() {
+            UnpackedIndex::Id(self.ids[place])
+        } else {
+            UnpackedIndex::RecGroup((place - self.ids.len()) as u32)
+        }
+    }
+
     /// The index as the list has it: the id of the module's type, or a position in the group.
     pub fn index(&self, index: UnpackedIndex) -> Result<UnpackedIndex, Refusal>
         requires { IsSmall self.now }
@@ -60,9 +79,8 @@ impl<'a> TypeCanonicalizer<'a> {
         let UnpackedIndex::Module(number) = index else {
             return Err(Refusal::new(Fault::UnknownType(0), self.offset));
         };
-        let place = number as usize;
-        if place < self.ids.len() {
-            return Ok(UnpackedIndex::Id(self.ids[place]));
+        if (number as usize) < self.ids.len() {
+            return Ok(self.resolved(number));
         }
         if number >= self.end {
             return Err(Refusal::new(Fault::UnknownType(number), self.offset));
@@ -70,7 +88,19 @@ impl<'a> TypeCanonicalizer<'a> {
         if !self.has_gc {
             return Err(Refusal::new(Fault::UnknownTypeWithoutGc(number), self.offset));
         }
-        Ok(UnpackedIndex::RecGroup((place - self.ids.len()) as u32))
+        Ok(self.resolved(number))
+    }
+
+    /// A packed index as the list has it.
+    fn packed(&self, index: PackedIndex) -> Result<PackedIndex, Refusal>
+        requires { IsSmall self.now }
+        ensures value { IfOk result (λ p. index_of p ≡ canonical_by self.now (index_of index)) }
+        ensures known { is_ok result ≡ is_known_by self.now (index_of index) }
+    {
+        match self.index(index.unpack())?.pack() {
+            Some(packed) => Ok(packed),
+            None => unreachable!(),
+        }
     }
 
     /// A reference type with its index as the list has it.
@@ -178,7 +208,7 @@ impl<'a> TypeCanonicalizer<'a> {
         }
     }
 
-    /// A composite type, other than of continuations, with its indices as the list has them.
+    /// A composite type with its indices as the list has them.
     #[tactic(auto, using(crate::proofs::Canonical::known_laws))]
     fn composite<A: Allocator + Copy>(
         &self,
@@ -186,7 +216,6 @@ impl<'a> TypeCanonicalizer<'a> {
         ty: CompositeInnerType<A>,
     ) -> Result<CompositeInnerType<A>, Error>
         requires small { IsSmall self.now }
-        requires served { IsTrue (is_served_comp (comp_of ty)) }
         ensures value { IfOk result (λ c. comp_of c ≡ map_comp (canonical_by self.now) (comp_of ty)) }
         ensures known { Says result (list_all (is_known_by self.now) (refs_comp (comp_of ty))) }
     {
@@ -207,52 +236,11 @@ impl<'a> TypeCanonicalizer<'a> {
                     Err(error) => Err(error),
                 }
             }
-            CompositeInnerType::Cont(_) => unreachable!(),
+            CompositeInnerType::Cont(continuation) => match self.packed(continuation.0) {
+                Ok(index) => Ok(CompositeInnerType::Cont(ContType(index))),
+                Err(refusal) => Err(Error::Refused(refusal)),
+            },
         }
-    }
-
-    /// A sub type of the forms that are served, with its indices as the list has them.
-    #[tactic(auto, using(crate::proofs::Canonical::plain_laws))]
-    fn sub_type<A: Allocator + Copy>(&self, alloc: A, ty: SubType<A>) -> Result<SubType<A>, Error>
-        requires small { IsSmall self.now }
-        requires served { IsTrue (is_served_sub (sub_of ty)) }
-        ensures value { IfOk result (λ s. sub_of s ≡ map_sub (canonical_by self.now) (sub_of ty)) }
-        ensures known { Says result (knows_sub self.now (sub_of ty)) }
-    {
-        match self.composite(alloc, ty.composite_type.inner) {
-            Ok(inner) => Ok(SubType {
-                is_final: true,
-                supertype_idxs: Items::new(alloc),
-                composite_type: CompositeType {
-                    inner,
-                    shared: false,
-                    descriptor_idx: None,
-                    describes_idx: None,
-                },
-            }),
-            Err(error) => Err(error),
-        }
-    }
-
-    /// The sub types of a group of the forms that are served, with their indices as the list has them.
-    pub fn sub_types<A: Allocator + Copy>(
-        &self,
-        alloc: A,
-        types: Vec<SubType<A>, A>,
-    ) -> Result<Vec<SubType<A>, A>, Error>
-        requires small { IsSmall self.now }
-        requires served { IsTrue (list_all is_served_sub (map sub_of types.items)) }
-        ensures value { IfOk result (λ ss. map sub_of ss.items ≡ map (map_sub (canonical_by self.now)) (map sub_of types.items)) }
-        ensures known { Says result (list_all (knows_sub self.now) (map sub_of types.items)) }
-    {
-        let mut canonical = Vec::new(alloc);
-        for ty in types {
-            match self.sub_type(alloc, ty) {
-                Ok(sub_type) => canonical.push(sub_type)?,
-                Err(error) => return Err(error),
-            }
-        }
-        Ok(canonical)
     }
 }
 

@@ -1,33 +1,38 @@
-use Rattle.std.proofs.Common.{◌≡◌, sym, ap, subst, ◌∙◌, ◌+◌, ◌<◌, ◌&&◌, true, map, length, arith, All}
+use Rattle.std.proofs.Common.{◌≡◌, sym, ap, subst, ◌∙◌, ◌+◌, ◌<◌, true, false, not, ◌&&◌, ◌||◌, map, length, arith, All}
 use Rattle.std.specs.Prelude.{IfOk}
 use Rattle.std.specs.List.{list_all}
 use Rattle.std.proofs.lemmas.List.{length-map}
 use Rattle.wasm_spec.specs.Syntax.{map_sub}
-use Rattle.wasm_spec.specs.References.{refs_sub}
 use Rattle.wasm_rules.specs.FeatureFlags.{features_of}
 use Rattle.wasm_readers_types.specs.SeenTypes.{sub_of, rec_of}
 use Rattle.wasm_readers_types.specs.declared.indices.CoreTypeId.{CoreTypeId}
 use Rattle.wasm_readers_types.specs.declared.indices.TheConstants.{MAX_IDS}
 use Rattle.wasm_validator_canonical.specs.Answers.{Says}
-use Rattle.wasm_validator_canonical.specs.Groups.{is_served_sub}
-use Rattle.wasm_validator_canonical.specs.Indices.{numbers, canonical_index, is_known}
-use Rattle.wasm_validator_canonical.proofs.Canonical.{and_right}
-use Rattle.wasm_validator_canonical.proofs.Closes.{closes_is}
+use Rattle.wasm_validator_canonical.specs.Indices.{numbers, canonical_index, are_bound, extends_at_most_one}
+use Rattle.wasm_validator_canonical.proofs.Canonical.{and_false}
+use Rattle.wasm_validator_canonical.proofs.Bounds.{closes_is}
 use Rattle.wasm_validator_canonical.proofs.intern_rec_group.canonical_types.Goals as goal
+
+pub returns-then-not-extend_at_most_one-clause-closes : goal.returns-then-not-extend_at_most_one-clause-closes
+returns-then-not-extend_at_most_one-clause-closes g c =
+    let F = features_of c.args.features in
+    let w = rec_of c.args.group in
+    let n = length c.args.ids.now in
+    let bound = are_bound F.gc n (n + length w.types) n w.types in
+    let many : false ≡ list_all extends_at_most_one w.types = c.if-not-extend_at_most_one.ensures ∙ ap (λ l. list_all extends_at_most_one (map sub_of l)) c.types.ensures in
+    let allowed = not w.is_explicit || F.gc in
+    sym (closes_is F n w) ∙ ap (λ b. allowed && (b && bound)) (sym many) ∙ and_false allowed
 
 pub sub_types-requires-clause-small : goal.sub_types-requires-clause-small
 sub_types-requires-clause-small g c =
     let same = c.new-canonicalizer.ensures.ids in
     let end = c.new-canonicalizer.ensures.end in
-    let many = ap length c.types.ensures in
+    let many = ap length c.types-2.ensures in
     let fits = c.requires.fits in
     record {
       ids = subst (All (λ (id : CoreTypeId). id.index < MAX_IDS)) (sym same) c.requires.small;
       end = omega (arith, end, many, fits, ap length same);
     }
-
-pub sub_types-requires-clause-served : goal.sub_types-requires-clause-served
-sub_types-requires-clause-served g c = subst (λ l. list_all is_served_sub (map sub_of l) ≡ true) (sym c.into_types.ensures) (and_right _ (list_all is_served_sub (map sub_of c.args.group.types)) c.requires.served)
 
 pub returns-clause-value : goal.returns-clause-value
 returns-clause-value g c =
@@ -41,11 +46,14 @@ returns-clause-closes g c =
     let n = length c.args.ids.now in
     let k = c.new-canonicalizer.result in
     let gc : k.has_gc ≡ F.gc = c.new-canonicalizer.ensures.gc ∙ c.contains-has_gc.ensures tt in
-    let many : length c.types.result.now ≡ length w.types = ap length c.types.ensures ∙ sym (length-map c.args.group.types sub_of) in
+    let many : length c.types-2.result.now ≡ length w.types = ap length c.types-2.ensures ∙ sym (length-map c.args.group.types sub_of) in
     let last = c.new-canonicalizer.ensures.end in
     let end : k.end ≡ n + length w.types = omega (arith, last, many) in
+    let bound = are_bound F.gc n (n + length w.types) n w.types in
+    let one : true ≡ list_all extends_at_most_one w.types = c.if-not-extend_at_most_one.ensures ∙ ap (λ l. list_all extends_at_most_one (map sub_of l)) c.types.ensures in
     subst (Says c.sub_types.result)
-    ((λ i. list_all (λ s. list_all (is_known (gc i) (length (c.new-canonicalizer.ensures.ids i)) (end i)) (refs_sub s)) (map sub_of (c.into_types.ensures i)))
-    ∙ ap (λ b. b && list_all (λ s. list_all (is_known F.gc n (n + length w.types)) (refs_sub s)) w.types) c.if-not-may_be_written.ensures
-    ∙ closes_is F n w c.requires.served)
+    ((λ i. are_bound (gc i) (length (c.new-canonicalizer.ensures.ids i)) (end i) (length (c.new-canonicalizer.ensures.ids i)) (map sub_of (c.into_types.ensures i)))
+    ∙ ap (λ b. b && bound) one
+    ∙ ap (λ b. b && (list_all extends_at_most_one w.types && bound)) c.if-not-may_be_written.ensures
+    ∙ closes_is F n w)
     c.sub_types.ensures.known

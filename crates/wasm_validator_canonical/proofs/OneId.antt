@@ -1,0 +1,47 @@
+-- Where equal types aren't one, each recursive type of a list has its place, so that none of its types is there twice.
+use Rattle.std.proofs.Common.{◌≡◌, sym, subst, ◌∙◌, ℕ, ◌+◌, false, List, [], ◌∷◌, map, length, slice_get, Some, arith}
+use Rattle.std.proofs.lemmas.Option.{none-some, same_Some}
+use Rattle.wasm_spec.specs.Syntax.{Sub, map_sub}
+use Rattle.wasm_spec.specs.Trees.{DefType, start_of}
+use Rattle.wasm_spec.specs.Closing.{positions}
+use Rattle.wasm_spec.specs.TypeLists.{ListedUse, resolve_listed, listed_tree, with_listed, with_all_listed}
+use Rattle.wasm_spec.specs.TypeLaws.{HasNoRepetition}
+use Rattle.wasm_spec.proofs.Numbering.{start_of-close}
+use Rattle.wasm_readers_types.specs.declared.types.SubType.{SubType}
+use Rattle.wasm_validator_type_list.specs.Standing.{listed_group, standing}
+use Rattle.wasm_validator_type_list.proofs.Places.{get-append}
+use Rattle.wasm_validator_type_list.proofs.Standing.{from-positions}
+
+-- the type's place is where its recursive type begins, and its position behind
+record IsPlaced (place : ℕ) (d : DefType) : Type 0 where
+  start : ℕ
+  begins : start_of d.tree ≡ Some start
+  behind : place ≡ start + d.position
+
+abbrev ArePlaced : List DefType → Type 0
+ArePlaced ts = (k : ℕ) (d : DefType) → slice_get ts k ≡ Some d → IsPlaced k d
+
+one_placed : (ts : List DefType) (g : List (Sub ListedUse)) → ArePlaced ts → ArePlaced (with_listed false ts g)
+one_placed ts g h k d e =
+    let t = listed_tree false ts g in
+    get-append ts (positions t 0 g) k d e (h k d)
+    (λ j at there.
+    subst (IsPlaced k) (sym (from-positions t g j d there)) (record { start = length ts; begins = start_of-close (Some (length ts)) (map (map_sub (resolve_listed ts)) g); behind = at }))
+
+all_placed : (gs : List (List (Sub ListedUse))) (ts : List DefType) → ArePlaced ts → ArePlaced (with_all_listed false ts gs)
+all_placed [] ts h = h
+all_placed (g ∷ gs) ts h = all_placed gs (with_listed false ts g) (one_placed ts g h)
+
+placed_once : (ts : List DefType) → ArePlaced ts → HasNoRepetition ts
+placed_once ts h = record {
+  one_id = λ j k d there here.
+      let a = h j d there in
+      let b = h k d here in
+      let same : a.start ≡ b.start = same_Some a.start b.start (sym a.begins ∙ b.begins) in
+      let left = a.behind in
+      let right = b.behind in
+      omega (arith, left, right, same);
+}
+
+pub no_repetition_where_not_canonical : {A : Type 0} (gs : List (List (SubType A))) → HasNoRepetition (standing false gs)
+no_repetition_where_not_canonical gs = placed_once (standing false gs) (all_placed (map listed_group gs) [] (λ k d e. absurd (none-some d e)))

@@ -1,0 +1,78 @@
+//! The depths of types, kept for the types that extend them.
+
+ghost use Rattle.std.specs.Prelude.{◌≡◌, ◌<◌, length, IfSome, IsTrue};
+ghost use Rattle.std.specs.List.{All};
+ghost use Rattle.wasm_spec.specs.Declared.{IsDepth};
+ghost use Rattle.wasm_validator_type_list.specs.Declares.{declares};
+ghost use Rattle.wasm_validator_type_list.specs.Elements.{ids_left};
+ghost use Rattle.wasm_validator_type_list.specs.Listing.{types_in};
+
+use std::alloc::{AllocError, Allocator};
+use wasm_readers_types::CoreTypeId;
+use wasm_validator_type_list::{RecGroupElements, TypeList};
+
+/// The number of proper ancestors of the type, where it extends nothing or the list keeps that of what
+/// it extends.
+fn known_depth<A: Allocator + Copy>(types: &TypeList<A>, id: CoreTypeId) -> Option<u8>
+    requires { id.index < length (types_in types.now) }
+    ensures { IfSome result (IsDepth (declares types.now.groups) id.index) }
+{
+    match types.supertype_of(id) {
+        Some(extended) => match types.subtyping_depth(extended) {
+            Some(depth) => depth.checked_add(1),
+            None => None,
+        },
+        None => Some(0),
+    }
+}
+
+/// Keeps the depth of the type, where none is kept and it is known.
+///
+/// # Errors
+///
+/// Refused where memory is.
+fn keep_depth<A: Allocator + Copy>(
+    types: &mut TypeList<A>,
+    id: CoreTypeId,
+) -> Result<(), AllocError>
+    requires open { IsTrue types.old.is_open }
+    requires there { id.index < length (types_in types.old) }
+    ensures same_groups { types.new.groups ≡ types.old.groups }
+    ensures same_open { types.new.is_open ≡ types.old.is_open }
+    ensures same_mode { types.new.is_canonical ≡ types.old.is_canonical }
+{
+    match types.subtyping_depth(id) {
+        Some(_) => Ok(()),
+        None => match known_depth(types, id) {
+            Some(depth) => types.set_subtyping_depth(id, depth),
+            None => Ok(()),
+        },
+    }
+}
+
+/// Keeps the depths of the types with these ids, where none is kept: the numbers of their proper
+/// ancestors, so that those of a type that extends one of them needn't be counted (Core Specification
+/// 3.0, Validation, Matching, Defined Types). The types of the list stay as they are.
+///
+/// # Errors
+///
+/// Refused where memory is.
+pub(crate) fn keep_depths<A: Allocator + Copy>(
+    types: &mut TypeList<A>,
+    elements: RecGroupElements,
+) -> Result<(), AllocError>
+    requires open { IsTrue types.old.is_open }
+    requires there { All (λ id. id < length (types_in types.old)) (ids_left elements) }
+    ensures same_groups { types.new.groups ≡ types.old.groups }
+    ensures same_open { types.new.is_open ≡ types.old.is_open }
+    ensures same_mode { types.new.is_canonical ≡ types.old.is_canonical }
+{
+    let mut elements = elements;
+    'ids: while let Some(id) = elements.next() {
+        match keep_depth(types, id) {
+            Ok(()) => {}
+            Err(error) => return Err(error),
+        }
+    }
+    Ok(())
+}

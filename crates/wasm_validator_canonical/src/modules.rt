@@ -1,0 +1,122 @@
+//! Modules whose types are in a list of types.
+
+ghost use Rattle.std.specs.Prelude.{◌≡◌, ◌+◌, ◌<◌, ◌^◌, true, Some, length, slice_get, nat_lt, is_ok, IfOk, OnOk, IsTrue};
+ghost use Rattle.std.specs.List.{All};
+ghost use Rattle.wasm_spec.specs.Features.{canonical};
+ghost use Rattle.wasm_rules.specs.FeatureFlags.{features_of};
+ghost use Rattle.wasm_readers_types.specs.SeenTypes.{rec_of};
+ghost use Rattle.wasm_validator_type_list.specs.Standing.{standing};
+ghost use Rattle.wasm_validator_canonical.specs.Groups.{has_form, AreValid, with_written};
+ghost use Rattle.wasm_validator_canonical.specs.Answers.{AddsGroup};
+ghost use Rattle.wasm_validator_canonical.specs.Indices.{numbers};
+
+use crate::intern_rec_group::canonicalize_and_intern_rec_group;
+use std::alloc::{AllocError, Allocator};
+use wasm_readers_errors::{Error, Fault, Refusal, WasmFeatures};
+use wasm_readers_types::{CoreTypeId, RecGroup};
+use wasm_validator_type_list::{RecGroupElements, TypeList};
+
+/// A module whose types are in a list of types: it has their ids, in the order of their indices.
+pub trait InternRecGroup<A: Allocator + Copy>: Sized {
+    ghost use Rattle.std.specs.Prelude.{ℕ, ◌≡◌, ◌+◌, ◌<◌, ◌^◌, ◌++◌, ◌∷◌, [], List, Some, length, slice_get, nat_lt, is_ok, IfOk, OnOk};
+    ghost use Rattle.wasm_validator_type_list.specs.Elements.{ids_left};
+    ghost use Rattle.wasm_validator_canonical.specs.Indices.{numbers};
+
+    ghost ids: { Self → List ℕ };
+
+    ghost others: { Self → Self };
+
+    /// The ids of its types.
+    fn type_ids(&self) -> &[CoreTypeId]
+        ensures { numbers result.now ≡ ids self.now };
+
+    /// Gives the type with this id the next index. Nothing else changes.
+    fn add_type_id(&mut self, id: CoreTypeId) -> Result<(), AllocError>
+        requires room { length (ids self.old) + 1 < 2 ^ 32 }
+        ensures ids { OnOk result (ids self.new ≡ ids self.old ++ id.index ∷ []) }
+        ensures others { others self.new ≡ others self.old };
+
+    /// Gives the types with these ids the next indices. Nothing else changes.
+    fn add_type_ids(&mut self, elements: RecGroupElements) -> Result<(), AllocError>
+        requires { length (ids self.old) + length (ids_left elements) < 2 ^ 32 }
+        ensures ids { OnOk result (ids self.new ≡ ids self.old ++ ids_left elements) }
+        ensures others { others self.new ≡ others self.old }
+    {
+        let mut elements = elements;
+        'ids: while let Some(id) = elements.next() {
+            match self.add_type_id(id) {
+                Ok(()) => {}
+                Err(error) => return Err(error),
+            }
+        }
+        Ok(())
+    }
+
+    /// The number of its types.
+    fn types_len(&self) -> u32
+        requires { length (ids self.now) < 2 ^ 32 }
+        ensures { result ≡ length (ids self.now) }
+    {
+        self.type_ids().len() as u32
+    }
+
+    /// The id of its type with this index. `offset` is where the index stands in the input.
+    ///
+    /// # Errors
+    ///
+    /// Refused where there is no such type.
+    fn type_id_at(&self, index: u32, offset: u64) -> Result<CoreTypeId, Refusal>
+        ensures id { IfOk result (λ id. slice_get (ids self.now) index ≡ Some id.index) }
+        ensures inside { is_ok result ≡ nat_lt index (length (ids self.now)) }
+    {
+        id_at(self.type_ids(), index, offset)
+    }
+}
+
+/// The id at this index.
+fn id_at(ids: &[CoreTypeId], index: u32, offset: u64) -> Result<CoreTypeId, Refusal>
+    ensures id { IfOk result (λ id. slice_get (numbers ids.now) index ≡ Some id.index) }
+    ensures inside { is_ok result ≡ nat_lt index (length (numbers ids.now)) }
+{
+    match ids.get(index as usize) {
+        Some(id) => Ok(*id),
+        None => Err(Refusal::new(Fault::UnknownType(index), offset)),
+    }
+}
+
+/// Adds the types of a recursion group behind those of the module, and to the list of types. The
+/// features are those that the module may use, and `offset` is where the group stands in the input.
+///
+/// # Errors
+///
+/// Refused where the group can't be added, as by `canonicalize_and_intern_rec_group`, and where memory
+/// is. The module and the list are then only to be dropped.
+pub fn intern_rec_group_of<A: Allocator + Copy, M: InternRecGroup<A>>(
+    target: &mut M,
+    features: WasmFeatures,
+    alloc: A,
+    types: &mut TypeList<A>,
+    group: RecGroup<A>,
+    offset: u64,
+) -> Result<(), Error>
+    requires open { IsTrue types.old.is_open }
+    requires mode { types.old.is_canonical ≡ canonical (features_of features) }
+    requires known { All (λ id. id < length (standing types.old.is_canonical types.old.groups)) (M.ids target.old) }
+    requires few { length (M.ids target.old) + length group.types < 2 ^ 31 }
+    requires form { has_form (rec_of group) ≡ true }
+    requires valid { AreValid (features_of features) (standing types.old.is_canonical types.old.groups) }
+    ensures added { AddsGroup (features_of features) result (with_written (features_of features) (standing types.old.is_canonical types.old.groups) (M.ids target.old) (rec_of group)) (standing types.new.is_canonical types.new.groups) (M.ids target.new) }
+    ensures valid { OnOk result (AreValid (features_of features) (standing types.new.is_canonical types.new.groups)) }
+    ensures others { M.others target.new ≡ M.others target.old }
+    ensures same_open { types.new.is_open ≡ types.old.is_open }
+    ensures same_mode { types.new.is_canonical ≡ types.old.is_canonical }
+{
+    let ids = target.type_ids();
+    match canonicalize_and_intern_rec_group(features, alloc, types, ids, group, offset) {
+        Ok(elements) => match target.add_type_ids(elements) {
+            Ok(()) => Ok(()),
+            Err(_) => Err(Error::OutOfMemory),
+        },
+        Err(error) => Err(error),
+    }
+}
