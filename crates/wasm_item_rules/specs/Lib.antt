@@ -1,0 +1,4 @@
+pub mod Answers
+pub mod ModuleTypes
+pub mod Items
+pub mod Laws
