@@ -6,6 +6,7 @@ use Rattle.std.specs.String.{string_bytes, string_eq}
 use Rattle.std.specs.declared.string.String.{String}
 use Rattle.indexmap.specs.IndexMap.{insert_entry}
 use Rattle.wasm_validator_types.specs.declared.entity_type.EntityType.{EntityType}
+use Rattle.wasm_validator_types.specs.Entities.{Entity, entity_of}
 use Rattle.wasm_validator_types.specs.Spaces.{is_exported}
 use Rattle.wasm_validator_types.specs.SpacesSeen.{shown_export}
 
@@ -20,7 +21,7 @@ module _ {A : Type 0} where
   looked (e ∷ es) name = looked_step (bytes_eq name (string_bytes e.0)) _ e.1 _ (looked es name)
 
   new_step :
-      (b c : Bool) (e : String A × EntityType) (es ins : List (String A × EntityType)) (rest : List (List ℕ × EntityType)) (entity : EntityType)
+      (b c : Bool) (e : String A × EntityType) (es ins : List (String A × EntityType)) (rest : List (List ℕ × Entity)) (entity : EntityType)
       → (b || c) ≡ false
       → (c ≡ false → map shown_export ins ≡ rest)
       → map shown_export (if b then (e.0, entity) ∷ es else e ∷ ins) ≡ shown_export e ∷ rest
@@ -30,13 +31,13 @@ module _ {A : Type 0} where
   -- a name that is not exported goes last
   pub new_export :
       (es : List (String A × EntityType)) (key : String A) (entity : EntityType) → is_exported (map shown_export es) (string_bytes key) ≡ false
-      → map shown_export (insert_entry string_eq es key entity) ≡ map shown_export es ++ (string_bytes key, entity) ∷ []
+      → map shown_export (insert_entry string_eq es key entity) ≡ map shown_export es ++ (string_bytes key, entity_of entity) ∷ []
   new_export [] key entity h = refl
   new_export (e ∷ es) key entity h = new_step (string_eq key e.0) _ e es _ _ entity h (new_export es key entity)
 
   pub new_export_at :
-      (es new : List (String A × EntityType)) (exports : List (List ℕ × EntityType)) (key : String A) (name : List ℕ) (entity : EntityType)
+      (es new : List (String A × EntityType)) (exports : List (List ℕ × Entity)) (key : String A) (name : List ℕ) (entity : EntityType)
       → map shown_export es ≡ exports → string_bytes key ≡ name → is_exported exports name ≡ false → new ≡ insert_entry string_eq es key entity
-      → map shown_export new ≡ exports ++ (name, entity) ∷ []
+      → map shown_export new ≡ exports ++ (name, entity_of entity) ∷ []
   new_export_at es new exports key name entity s n h i =
-      ap (map shown_export) i ∙ new_export es key entity ((λ j. is_exported (s j) (n j)) ∙ h) ∙ (λ j. s j ++ (n j, entity) ∷ [])
+      ap (map shown_export) i ∙ new_export es key entity ((λ j. is_exported (s j) (n j)) ∙ h) ∙ (λ j. s j ++ (n j, entity_of entity) ∷ [])

@@ -1,6 +1,7 @@
 -- An import added to the pairs of names.
 use Rattle.std.proofs.Common.{◌≡◌, ℕ, ◌+◌, arith, zero, suc, Bool, true, false, not, cond, ◌&&◌, if◌then◌else◌, List, [], ◌∷◌, ◌++◌, map, slice_get, position, Option, Some, is_some, unwrap_or, refl, ap, sym, true≢false, ◌∙◌}
 use Rattle.std.specs.List.{position_or_len}
+use Rattle.std.proofs.lemmas.List.{map-append}
 use Rattle.std.specs.Map.{keys_of, values_of, lookup}
 use Rattle.std.specs.String.{string_bytes, string_eq}
 use Rattle.std.specs.declared.string.String.{String}
@@ -8,6 +9,7 @@ use Rattle.indexmap.proofs.MapLemmas.{Found-position}
 use Rattle.indexmap.specs.IndexMap.{insert_entry}
 use Rattle.indexmap.specs.Layout.{set_value_at}
 use Rattle.wasm_validator_types.specs.declared.entity_type.EntityType.{EntityType}
+use Rattle.wasm_validator_types.specs.Entities.{Entity, entity_of}
 use Rattle.wasm_validator_types.specs.Spaces.{with_import}
 use Rattle.wasm_validator_types.specs.SpacesSeen.{shown_import, PutsAt}
 
@@ -23,16 +25,16 @@ module _ {A : Type 0} (key : String A × String A) (entity : EntityType) where
   abbrev same : String A × String A → Bool
   same k = string_eq key.0 k.0 && string_eq key.1 k.1
 
-  abbrev after : List ((String A × String A) × List EntityType) → List ((List ℕ × List ℕ) × List EntityType)
-  after es = with_import (map shown_import es) (string_bytes key.0) (string_bytes key.1) entity
+  abbrev after : List ((String A × String A) × List EntityType) → List ((List ℕ × List ℕ) × List Entity)
+  after es = with_import (map shown_import es) (string_bytes key.0) (string_bytes key.1) (entity_of entity)
 
   found_step :
       (b : Bool) (e : (String A × String A) × List EntityType) (es : List ((String A × String A) × List EntityType)) (n : ℕ) (v : List EntityType)
       → slice_get (values_of (e ∷ es)) (cond (not b) (1 + n) 0) ≡ Some v
       → (slice_get (values_of es) n ≡ Some v → map shown_import (set_value_at es n (v ++ entity ∷ [])) ≡ after es)
       → map shown_import (set_value_at (e ∷ es) (cond (not b) (1 + n) 0) (v ++ entity ∷ []))
-      ≡ (if b then ((shown_import e).0, e.1 ++ entity ∷ []) ∷ map shown_import es else shown_import e ∷ after es)
-  found_step true e es n v h rest = ap (λ r. ((shown_import e).0, unwrap_or r v ++ entity ∷ []) ∷ map shown_import es) (sym h)
+      ≡ (if b then ((shown_import e).0, map entity_of e.1 ++ entity_of entity ∷ []) ∷ map shown_import es else shown_import e ∷ after es)
+  found_step true e es n v h rest = ap (λ r. ((shown_import e).0, map entity_of (unwrap_or r v ++ entity ∷ [])) ∷ map shown_import es) (sym h) ∙ ap (λ l. ((shown_import e).0, l) ∷ map shown_import es) (map-append entity_of e.1 (entity ∷ []))
   found_step false e es n v h rest =
       let more : 1 + n ≡ suc n = omega arith in
       ap (λ k. map shown_import (set_value_at (e ∷ es) k (v ++ entity ∷ []))) more
@@ -58,7 +60,7 @@ module _ {A : Type 0} (key : String A × String A) (entity : EntityType) where
       → is_some (cond b (Some e.1) r) ≡ false
       → (is_some r ≡ false → map shown_import (insert_entry (λ x y. string_eq x.0 y.0 && string_eq x.1 y.1) es key (entity ∷ [])) ≡ after es)
       → map shown_import (if b then (e.0, entity ∷ []) ∷ es else e ∷ insert_entry (λ x y. string_eq x.0 y.0 && string_eq x.1 y.1) es key (entity ∷ []))
-      ≡ (if b then ((shown_import e).0, e.1 ++ entity ∷ []) ∷ map shown_import es else shown_import e ∷ after es)
+      ≡ (if b then ((shown_import e).0, map entity_of e.1 ++ entity_of entity ∷ []) ∷ map shown_import es else shown_import e ∷ after es)
   missing_step true e es r h rest = absurd (true≢false h)
   missing_step false e es r h rest = ap (λ l. shown_import e ∷ l) (rest h)
 

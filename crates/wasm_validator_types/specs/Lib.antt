@@ -1,3 +1,4 @@
+pub mod Entities
 pub mod Spaces
 pub mod SpacesSeen
 pub mod Rows

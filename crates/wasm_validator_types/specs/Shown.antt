@@ -1,6 +1,8 @@
 -- What the types of a validated module show.
 use Rattle.std.specs.Prelude.{ℕ, List}
-use Rattle.wasm_readers_types.specs.declared.types.SubType.{SubType}
+use Rattle.wasm_spec.specs.Trees.{DefType}
+use Rattle.wasm_validator_type_list.specs.Listing.{Listing}
+use Rattle.wasm_validator_type_list.specs.Standing.{standing}
 use Rattle.wasm_validator_types.specs.declared.shown.Types.{Types}
 use Rattle.wasm_validator_types.specs.declared.shown.TypesRef.{TypesRef}
 use Rattle.wasm_validator_types.specs.Spaces.{Spaces}
@@ -8,7 +10,7 @@ use Rattle.wasm_validator_types.specs.Spaces.{Spaces}
 -- the validator that made them, the list of all its types, and the index spaces of the module
 pub record Shown (A : Type 0) : Type 0 where
   pub id : ℕ
-  pub list : List (SubType A)
+  pub list : Listing A
   pub spaces : Spaces
 
 module _ {A : Type 0} where
@@ -17,3 +19,7 @@ module _ {A : Type 0} where
 
   abbrev pub shown_by : TypesRef A → Shown A
   shown_by t = record { id = t.id; list = t.list.now; spaces = t.spaces.now }
+
+  -- the types that the ids of a list stand for
+  abbrev pub types_of : Listing A → List DefType
+  types_of l = standing l.is_canonical l.groups

@@ -1,38 +1,62 @@
 -- The index spaces of a module, as far as it has been read.
-use Rattle.std.specs.Prelude.{ℕ, Bool, ◌&&◌, if◌then◌else◌, List, [], ◌∷◌, ◌++◌}
+use Rattle.std.specs.Prelude.{ℕ, Bool, true, ◌&&◌, if◌then◌else◌, List, [], ◌∷◌, ◌++◌, get_or}
 use Rattle.std.specs.List.{list_any}
 use Rattle.std.specs.Str.{bytes_eq}
-use Rattle.wasm_validator_types.specs.declared.entity_type.EntityType.{EntityType}
-use Rattle.wasm_validator_types.specs.declared.entity_type.EntityType.TheVariants.{Func}
+use Rattle.wasm_spec.specs.Syntax.{Table, Memory, Global, func_extern}
+use Rattle.wasm_readers_types.specs.declared.indices.UnpackedIndex.{UnpackedIndex}
+use Rattle.wasm_validator_types.specs.Entities.{Entity}
 
--- the numbers of the ids of its types; the type index of each function; the pairs of names (of a module and in it) that it imports from, in the order
--- in which they first came, each with what it imports from there; its exports; and its effective size, one and that
--- of all imports and exports
+-- The numbers of the ids of its types; the type index of each function, and of each imported one whether it is
+-- imported exactly; the types of its tables, memories and globals, and how many globals are imported; the type index
+-- of each tag; the pairs of names (of a module and in it) that it imports from, in the order in which they first came,
+-- each with what it imports from there; its exports; and its effective size, one and that of all imports and exports.
 pub record Spaces : Type 0 where
   pub types : List ℕ
   pub functions : List ℕ
-  pub imports : List ((List ℕ × List ℕ) × List EntityType)
-  pub exports : List (List ℕ × EntityType)
+  pub imported_functions : List Bool
+  pub tables : List (Table UnpackedIndex)
+  pub memories : List Memory
+  pub globals : List (Global UnpackedIndex)
+  pub imported_globals : ℕ
+  pub tags : List ℕ
+  pub imports : List ((List ℕ × List ℕ) × List Entity)
+  pub exports : List (List ℕ × Entity)
   pub size : ℕ
 
 -- those of a module of which nothing has been read
 abbrev pub no_spaces : Spaces
-no_spaces = record { types = []; functions = []; imports = []; exports = []; size = 1 }
+no_spaces = record {
+  types = [];
+  functions = [];
+  imported_functions = [];
+  tables = [];
+  memories = [];
+  globals = [];
+  imported_globals = 0;
+  tags = [];
+  imports = [];
+  exports = [];
+  size = 1;
+}
+
+-- the function has exactly its type: it is imported so, or it isn't among the imported ones
+abbrev pub is_exact : Spaces → ℕ → Bool
+is_exact s x = get_or s.imported_functions x true
 
 -- a function of the type whose id has this number
-abbrev pub function_with : ℕ → EntityType
-function_with n = Func (record { index = n })
+abbrev pub function_with : ℕ → Entity
+function_with n = func_extern n
 
 -- the pair has these names
 abbrev pub is_pair : List ℕ → List ℕ → List ℕ × List ℕ → Bool
 is_pair source name pair = bytes_eq source pair.0 && bytes_eq name pair.1
 
 -- the imports with one more: after the others of its pair of names, or as a new pair at the end
-abbrev pub with_import : List ((List ℕ × List ℕ) × List EntityType) → List ℕ → List ℕ → EntityType → List ((List ℕ × List ℕ) × List EntityType)
+abbrev pub with_import : List ((List ℕ × List ℕ) × List Entity) → List ℕ → List ℕ → Entity → List ((List ℕ × List ℕ) × List Entity)
 with_import [] source name entity = ((source, name), entity ∷ []) ∷ []
 with_import (p ∷ ps) source name entity =
     if is_pair source name p.0 then (p.0, p.1 ++ entity ∷ []) ∷ ps else p ∷ with_import ps source name entity
 
 -- one of the exports has the name
-abbrev pub is_exported : List (List ℕ × EntityType) → List ℕ → Bool
+abbrev pub is_exported : List (List ℕ × Entity) → List ℕ → Bool
 is_exported exports name = list_any (λ e. bytes_eq name e.0) exports

@@ -37,9 +37,10 @@ impl<'a, A: Allocator> Iterator for CoreImports<'a, A> {
     type Item = (&'a str, &'a str, EntityType);
 
     ghost use Rattle.std.specs.Iterator.{YieldsFirstBy, item_count};
+    ghost use Rattle.wasm_validator_types.specs.Entities.{entity_of};
     ghost use Rattle.wasm_validator_types.specs.Left.{imports_left};
 
-    ghost next_gives = { YieldsFirstBy (λ item. (item.0.now, item.1.now, item.2)) imports_left };
+    ghost next_gives = { YieldsFirstBy (λ item. (item.0.now, item.1.now, entity_of item.2)) imports_left };
 
     ghost remaining = { item_count imports_left };
 
@@ -78,9 +79,10 @@ impl<'a, A: Allocator> Iterator for CoreExports<'a, A> {
     type Item = (&'a str, EntityType);
 
     ghost use Rattle.std.specs.Iterator.{YieldsFirstBy, item_count};
+    ghost use Rattle.wasm_validator_types.specs.Entities.{entity_of};
     ghost use Rattle.wasm_validator_types.specs.Left.{exports_left};
 
-    ghost next_gives = { YieldsFirstBy (λ item. (item.0.now, item.1)) exports_left };
+    ghost next_gives = { YieldsFirstBy (λ item. (item.0.now, entity_of item.1)) exports_left };
 
     ghost remaining = { item_count exports_left };
 

@@ -1,13 +1,16 @@
 //! The index spaces of a module, as far as it has been read. The validator fills them; a user reads
 //! them through `Types` and `TypesRef`.
 
-ghost use Rattle.std.specs.Prelude.{◌≡◌, ◌+◌, ◌<◌, ◌^◌, ◌++◌, ◌∷◌, [], length, false, slice_index, map, OnOk, OnErr};
-ghost use Rattle.wasm_validator_types.specs.Spaces.{no_spaces, with_import, is_exported};
+ghost use Rattle.std.specs.Prelude.{◌≡◌, ◌+◌, ◌<◌, ◌^◌, ◌++◌, ◌∷◌, [], length, false, slice_index, slice_get, map, OnOk, OnErr};
+ghost use Rattle.std.specs.declared.option.Option.TheVariants.{Some};
+ghost use Rattle.wasm_readers_types.specs.SeenExterns.{table_of, memory_of, global_of};
+ghost use Rattle.wasm_validator_types.specs.Entities.{entity_of};
+ghost use Rattle.wasm_validator_types.specs.Spaces.{no_spaces, with_import, is_exported, is_exact};
 ghost use Rattle.indexmap.specs.IndexMap.{index_map_len};
 ghost use Rattle.std.specs.String.{string_bytes};
 ghost use Rattle.wasm_validator_types.specs.Left.{imports_left, exports_left};
 ghost use Rattle.wasm_validator_types.specs.Rows.{all_imports};
-ghost use Rattle.wasm_validator_types.specs.SpacesSeen.{shown_import, PutsAt};
+ghost use Rattle.wasm_validator_types.specs.SpacesSeen.{numbers, shown_import, PutsAt};
 
 use crate::entity_type::EntityType;
 use crate::imports_exports::{CoreExports, CoreImports};
@@ -15,7 +18,7 @@ use indexmap::IndexMap;
 use std::alloc::{AllocError, Allocator, Global};
 use std::hash::{BuildHasherDefault, FoldHasher};
 use std::marker::Model;
-use wasm_readers_types::{CoreTypeId, Items};
+use wasm_readers_types::{CoreTypeId, GlobalType, Items, MemoryType, TableType};
 
 /// What is imported under each pair of names.
 pub(crate) type ImportMap<A> = IndexMap<
@@ -29,14 +32,38 @@ pub(crate) type ImportMap<A> = IndexMap<
 pub(crate) type ExportMap<A> = IndexMap<String<A>, EntityType, BuildHasherDefault<FoldHasher>, A>;
 
 /// The index spaces of a module, as far as it has been read. A contract sees them as lists.
-#[derive(Drop)]
 pub struct IndexSpaces<A: Allocator = Global> {
     types: Vec<CoreTypeId, A>,
     functions: Vec<u32, A>,
+    imported_functions: Vec<bool, A>,
+    tables: Vec<TableType, A>,
+    memories: Vec<MemoryType, A>,
+    globals: Vec<GlobalType, A>,
+    imported_globals: u32,
+    tags: Vec<u32, A>,
     imports: ImportMap<A>,
     exports: ExportMap<A>,
     size: u32,
     alloc: A,
+}
+
+impl<A: Allocator> Drop for IndexSpaces<A> {
+    fn drop(self) {
+        let IndexSpaces {
+            types: _,
+            functions: _,
+            imported_functions: _,
+            tables: _,
+            memories: _,
+            globals: _,
+            imported_globals: _,
+            tags: _,
+            imports: _,
+            exports: _,
+            size: _,
+            alloc: _,
+        } = self;
+    }
 }
 
 impl<A: Allocator> Model for IndexSpaces<A> {
@@ -59,6 +86,12 @@ impl<A: Allocator + Copy> IndexSpaces<A> {
         IndexSpaces {
             types: Vec::new(alloc),
             functions: Vec::new(alloc),
+            imported_functions: Vec::new(alloc),
+            tables: Vec::new(alloc),
+            memories: Vec::new(alloc),
+            globals: Vec::new(alloc),
+            imported_globals: 0,
+            tags: Vec::new(alloc),
             imports: IndexMap::new(alloc),
             exports: IndexMap::new(alloc),
             size: 1,
@@ -79,6 +112,13 @@ impl<A: Allocator + Copy> IndexSpaces<A> {
         ensures { result.index ≡ slice_index self.now.types index }
     {
         self.types[index as usize]
+    }
+
+    /// The ids of the types, in order.
+    pub fn type_ids(&self) -> &[CoreTypeId]
+        ensures { numbers result.now ≡ self.now.types }
+    {
+        self.types.as_slice()
     }
 
     /// Gives the type with this id the next index. Where memory is refused, nothing changes.
@@ -124,6 +164,157 @@ impl<A: Allocator + Copy> IndexSpaces<A> {
         ensures err { OnErr result (self.new ≡ self.old) }
     {
         self.functions.push(type_index)?;
+        Ok(())
+    }
+
+    /// Notes that one more function is imported: exactly of its type, or of a subtype. The imported
+    /// functions are the first ones. Where memory is refused, nothing changes.
+    pub fn note_imported_function(&mut self, is_exact: bool) -> Result<(), AllocError>
+        ensures ok { OnOk result (self.new ≡ record self.old { imported_functions = self.old.imported_functions ++ is_exact ∷ [] }) }
+        ensures err { OnErr result (self.new ≡ self.old) }
+    {
+        self.imported_functions.push(is_exact)?;
+        Ok(())
+    }
+
+    /// Whether the function with this index has exactly its type: it is imported so, or it isn't among
+    /// the imported ones.
+    pub fn is_exact_function(&self, index: u32) -> bool
+        ensures { result ≡ is_exact self.now index }
+    {
+        match self.imported_functions.get(index as usize) {
+            Some(is_exact) => *is_exact,
+            None => true,
+        }
+    }
+
+    /// The number of tables.
+    pub fn table_count(&self) -> u32
+        ensures { result ≡ length self.now.tables }
+    {
+        self.tables.len() as u32
+    }
+
+    /// The type of the table with this index.
+    pub fn table_at(&self, index: u32) -> TableType
+        requires { index < length self.now.tables }
+        ensures { slice_get self.now.tables index ≡ Some (table_of result) }
+    {
+        self.tables[index as usize]
+    }
+
+    /// Gives a table of this type the next table index. Where memory is refused, nothing changes.
+    pub fn push_table(&mut self, ty: TableType) -> Result<(), AllocError>
+        requires room { length self.old.tables + 1 < 2 ^ 32 }
+        ensures ok { OnOk result (self.new ≡ record self.old { tables = self.old.tables ++ table_of ty ∷ [] }) }
+        ensures err { OnErr result (self.new ≡ self.old) }
+    {
+        self.tables.push(ty)?;
+        Ok(())
+    }
+
+    /// The number of memories.
+    pub fn memory_count(&self) -> u32
+        ensures { result ≡ length self.now.memories }
+    {
+        self.memories.len() as u32
+    }
+
+    /// The type of the memory with this index.
+    pub fn memory_at(&self, index: u32) -> MemoryType
+        requires { index < length self.now.memories }
+        ensures { slice_get self.now.memories index ≡ Some (memory_of result) }
+    {
+        self.memories[index as usize]
+    }
+
+    /// Gives a memory of this type the next memory index. Where memory is refused, nothing changes.
+    pub fn push_memory(&mut self, ty: MemoryType) -> Result<(), AllocError>
+        requires room { length self.old.memories + 1 < 2 ^ 32 }
+        ensures ok { OnOk result (self.new ≡ record self.old { memories = self.old.memories ++ memory_of ty ∷ [] }) }
+        ensures err { OnErr result (self.new ≡ self.old) }
+    {
+        self.memories.push(ty)?;
+        Ok(())
+    }
+
+    /// The number of globals.
+    pub fn global_count(&self) -> u32
+        ensures { result ≡ length self.now.globals }
+    {
+        self.globals.len() as u32
+    }
+
+    /// The type of the global with this index.
+    pub fn global_at(&self, index: u32) -> GlobalType
+        requires { index < length self.now.globals }
+        ensures { slice_get self.now.globals index ≡ Some (global_of result) }
+    {
+        self.globals[index as usize]
+    }
+
+    /// Gives a global of this type the next global index. Where memory is refused, nothing changes.
+    pub fn push_global(&mut self, ty: GlobalType) -> Result<(), AllocError>
+        requires room { length self.old.globals + 1 < 2 ^ 32 }
+        ensures ok { OnOk result (self.new ≡ record self.old { globals = self.old.globals ++ global_of ty ∷ [] }) }
+        ensures err { OnErr result (self.new ≡ self.old) }
+    {
+        self.globals.push(ty)?;
+        Ok(())
+    }
+
+    /// Gives an imported global of this type the next global index. The imported globals are the first
+    /// ones. Where memory is refused, nothing changes.
+    pub fn push_imported_global(&mut self, ty: GlobalType) -> Result<(), AllocError>
+        requires room { length self.old.globals + 1 < 2 ^ 32 }
+        ensures ok { OnOk result (self.new ≡ record self.old { globals = self.old.globals ++ global_of ty ∷ []; imported_globals = self.old.imported_globals + 1 }) }
+        ensures err { OnErr result (self.new ≡ self.old) }
+    {
+        self.globals.push(ty)?;
+        self.imported_globals += 1;
+        Ok(())
+    }
+
+    /// The number of globals that are imported.
+    pub fn imported_global_count(&self) -> u32
+        ensures { result ≡ self.now.imported_globals }
+    {
+        self.imported_globals
+    }
+
+    /// The number of tags.
+    pub fn tag_count(&self) -> u32
+        ensures { result ≡ length self.now.tags }
+    {
+        self.tags.len() as u32
+    }
+
+    /// The type index of the tag with this index.
+    pub fn tag_type_index(&self, index: u32) -> u32
+        requires { index < length self.now.tags }
+        ensures value { result ≡ slice_index self.now.tags index }
+        ensures within { result < length self.now.types }
+    {
+        self.tags[index as usize]
+    }
+
+    /// The id of the type of the tag with this index.
+    pub fn tag_type_id(&self, index: u32) -> CoreTypeId
+        requires { index < length self.now.tags }
+        ensures { result.index ≡ slice_index self.now.types (slice_index self.now.tags index) }
+    {
+        self.type_at(self.tag_type_index(index))
+    }
+
+    /// Gives a tag of the type with this index the next tag index. Where memory is refused, nothing
+    /// changes.
+    pub fn push_tag(&mut self, type_index: u32) -> Result<(), AllocError>
+        requires room { length self.old.tags + 1 < 2 ^ 32 }
+        requires within { type_index < length self.old.types }
+        ensures ok { OnOk result (self.new ≡ record self.old { tags = self.old.tags ++ type_index ∷ [] }) }
+        ensures err { OnErr result (self.new ≡ self.old) }
+    {
+        self.tags.push(type_index)?;
         Ok(())
     }
 
@@ -179,7 +370,7 @@ impl<A: Allocator + Copy> IndexSpaces<A> {
     /// Puts an export at the end. Where memory is refused, nothing changes.
     pub fn add_export(&mut self, name: &str, entity: EntityType) -> Result<(), AllocError>
         requires { is_exported self.old.exports name.now ≡ false }
-        ensures ok { OnOk result (self.new ≡ record self.old { exports = self.old.exports ++ (name.now, entity) ∷ [] }) }
+        ensures ok { OnOk result (self.new ≡ record self.old { exports = self.old.exports ++ (name.now, entity_of entity) ∷ [] }) }
         ensures err { OnErr result (self.new ≡ self.old) }
     {
         let key = String::from_str(self.alloc, name)?;
@@ -195,7 +386,7 @@ impl<A: Allocator + Copy> IndexSpaces<A> {
         name: &str,
         entity: EntityType,
     ) -> Result<(), AllocError>
-        ensures ok { OnOk result (self.new ≡ record self.old { imports = with_import self.old.imports source.now name.now entity }) }
+        ensures ok { OnOk result (self.new ≡ record self.old { imports = with_import self.old.imports source.now name.now (entity_of entity) }) }
         ensures err { OnErr result (self.new ≡ self.old) }
     {
         let source = String::from_str(self.alloc, source)?;
@@ -211,7 +402,7 @@ fn add_to_pair<A: Allocator + Copy>(
     pair: (String<A>, String<A>),
     entity: EntityType,
 ) -> Result<(), AllocError>
-    ensures ok { OnOk result (map shown_import imports.new.entries ≡ with_import (map shown_import imports.old.entries) (string_bytes pair.0) (string_bytes pair.1) entity) }
+    ensures ok { OnOk result (map shown_import imports.new.entries ≡ with_import (map shown_import imports.old.entries) (string_bytes pair.0) (string_bytes pair.1) (entity_of entity)) }
     ensures err { OnErr result (imports.new.entries ≡ imports.old.entries) }
 {
     match imports.get_index_of(&pair) {

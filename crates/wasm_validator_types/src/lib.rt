@@ -1,5 +1,5 @@
-//! What the validator knows of types: the list of all types, the index spaces of a module, and the
-//! views of both that outlive validation.
+//! What the validator knows of types: the index spaces of a module, and the views of them and of the list
+//! of all types that outlive validation.
 #![tactic(auto)]
 
 mod entity_type;
@@ -8,7 +8,6 @@ mod imports_exports;
 pub mod index_spaces;
 mod shown;
 mod snapshot_list;
-mod type_list;
 
 pub use entity_type::EntityType;
 pub use id::ValidatorId;
@@ -16,7 +15,9 @@ pub use imports_exports::{CoreExports, CoreImports};
 pub use index_spaces::IndexSpaces;
 pub use shown::{Types, TypesRef};
 pub use snapshot_list::SnapshotList;
-pub use type_list::TypeList;
+pub use wasm_validator_type_list::{
+    RecGroupElements, RecGroupId, TypeAlloc, TypeData, TypeIdentifier, TypeInfo, TypeList,
+};
 
 #[cfg(test)]
 mod tests;

@@ -1,4 +1,10 @@
-ghost use Rattle.std.specs.Prelude.{◌≡◌, ◌<◌, length, slice_index, slice_index_or, IfSome, IsSome, ◌↔◌};
+ghost use Rattle.std.specs.Prelude.{◌≡◌, ◌<◌, length, slice_get, slice_index, slice_index_or, IfSome, IsSome, ◌↔◌};
+ghost use Rattle.std.specs.declared.option.Option.TheVariants.{Some};
+ghost use Rattle.wasm_readers_types.specs.SeenExterns.{table_of, memory_of, global_of};
+ghost use Rattle.wasm_validator_type_list.specs.Groups.{IsInGroup};
+ghost use Rattle.wasm_validator_type_list.specs.Elements.{ids_left, ids_of_group};
+ghost use Rattle.wasm_validator_type_list.specs.Listing.{types_in};
+ghost use Rattle.wasm_validator_type_list.specs.Lookups.{IsSupertypeAt};
 ghost use Rattle.wasm_validator_types.specs.Left.{imports_left, exports_left};
 ghost use Rattle.wasm_validator_types.specs.Rows.{all_imports};
 ghost use Rattle.wasm_validator_types.specs.Shown.{shown_of, shown_by};
@@ -6,11 +12,11 @@ ghost use Rattle.wasm_validator_types.specs.Shown.{shown_of, shown_by};
 use crate::id::ValidatorId;
 use crate::imports_exports::{CoreExports, CoreImports};
 use crate::index_spaces::IndexSpaces;
-use crate::type_list::TypeList;
 use std::alloc::{Allocator, Global};
-use std::ops::Index;
+use std::ops::{Index, Range};
 use std::rc::Rc;
-use wasm_readers_types::{CoreTypeId, SubType};
+use wasm_readers_types::{CoreTypeId, GlobalType, MemoryType, SubType, TableType};
+use wasm_validator_type_list::{RecGroupElements, RecGroupId, TypeList};
 
 /// The types of a validated module, which outlive its validator.
 #[derive(Drop)]
@@ -45,14 +51,32 @@ impl<A: Allocator + Copy> Index<CoreTypeId> for Types<A> {
     type Output = SubType<A>;
 
     ghost use Rattle.std.specs.Prelude.{◌≡◌, ◌<◌, length, slice_index_or};
+    ghost use Rattle.wasm_validator_type_list.specs.Listing.{types_in};
     ghost use Rattle.wasm_validator_types.specs.Shown.{shown_of};
 
-    ghost can_index = { λ types id. id.index < length (shown_of types).list };
+    ghost can_index = { λ types id. id.index < length (types_in (shown_of types).list) };
 
-    ghost index_gives = { λ types id ty. ty ≡ slice_index_or (shown_of types).list id.index ty };
+    ghost index_gives = { λ types id ty. ty ≡ slice_index_or (types_in (shown_of types).list) id.index ty };
 
     fn index(&self, id: CoreTypeId) -> &SubType<A> {
         &self.types[id]
+    }
+}
+
+impl<A: Allocator + Copy> Index<RecGroupId> for Types<A> {
+    type Output = Range<CoreTypeId>;
+
+    ghost use Rattle.std.specs.Prelude.{◌≡◌, ◌<◌, ◌+◌, length};
+    ghost use Rattle.wasm_validator_type_list.specs.Groups.{first_of};
+    ghost use Rattle.wasm_validator_type_list.specs.Spans.{span};
+    ghost use Rattle.wasm_validator_types.specs.Shown.{shown_of};
+
+    ghost can_index = { λ types group. group.index < length (shown_of types).list.groups };
+
+    ghost index_gives = { λ types group ids. let groups = (shown_of types).list.groups in ids ≡ span (first_of groups group.index) (first_of groups (group.index + 1)) };
+
+    fn index(&self, group: RecGroupId) -> &Range<CoreTypeId> {
+        &self.types[group]
     }
 }
 
@@ -86,10 +110,41 @@ impl<'a, A: Allocator + Copy> TypesRef<'a, A> {
 
     /// The type with this id, if there is one.
     pub fn get(&self, id: CoreTypeId) -> Option<&'a SubType<A>>
-        ensures found { IfSome result (λ ty. ty.now ≡ slice_index_or (shown_by self.now).list id.index ty.now) }
-        ensures when { IsSome result ↔ (id.index < length (shown_by self.now).list) }
+        ensures found { IfSome result (λ ty. ty.now ≡ slice_index_or (types_in (shown_by self.now).list) id.index ty.now) }
+        ensures when { IsSome result ↔ (id.index < length (types_in (shown_by self.now).list)) }
     {
         self.list.get(id)
+    }
+
+    /// All types that the validator had when these were made, in recursion groups.
+    pub fn type_list(&self) -> &'a TypeList<A>
+        ensures { result.now ≡ (shown_by self.now).list }
+    {
+        self.list
+    }
+
+    /// The id of the recursion group that the type is in.
+    pub fn rec_group_id_of(&self, id: CoreTypeId) -> RecGroupId
+        requires { id.index < length (types_in (shown_by self.now).list) }
+        ensures { IsInGroup (shown_by self.now).list.groups result.index id.index }
+    {
+        self.list.rec_group_id_of(id)
+    }
+
+    /// The ids of the types of the recursion group, in order.
+    pub fn rec_group_elements(&self, group: RecGroupId) -> RecGroupElements
+        requires { group.index < length (shown_by self.now).list.groups }
+        ensures { ids_left result ≡ ids_of_group (shown_by self.now).list.groups group.index }
+    {
+        self.list.rec_group_elements(group)
+    }
+
+    /// The id of the type that the type with this id extends, if it extends one.
+    pub fn supertype_of(&self, id: CoreTypeId) -> Option<CoreTypeId>
+        requires { id.index < length (types_in (shown_by self.now).list) }
+        ensures { IsSupertypeAt (shown_by self.now).list.groups id.index result }
+    {
+        self.list.supertype_of(id)
     }
 
     /// The number of types that the module declares.
@@ -122,32 +177,64 @@ impl<'a, A: Allocator + Copy> TypesRef<'a, A> {
         self.spaces.function_type_id(index)
     }
 
-    /// The number of tables.
+    /// The number of tables, imported ones among them.
     pub fn table_count(&self) -> u32
-        ensures { result ≡ 0 }
+        ensures { result ≡ length (shown_by self.now).spaces.tables }
     {
-        0
+        self.spaces.table_count()
     }
 
-    /// The number of memories.
+    /// The type of the table with this index.
+    pub fn table_at(&self, index: u32) -> TableType
+        requires { index < length (shown_by self.now).spaces.tables }
+        ensures { slice_get (shown_by self.now).spaces.tables index ≡ Some (table_of result) }
+    {
+        self.spaces.table_at(index)
+    }
+
+    /// The number of memories, imported ones among them.
     pub fn memory_count(&self) -> u32
-        ensures { result ≡ 0 }
+        ensures { result ≡ length (shown_by self.now).spaces.memories }
     {
-        0
+        self.spaces.memory_count()
     }
 
-    /// The number of globals.
+    /// The type of the memory with this index.
+    pub fn memory_at(&self, index: u32) -> MemoryType
+        requires { index < length (shown_by self.now).spaces.memories }
+        ensures { slice_get (shown_by self.now).spaces.memories index ≡ Some (memory_of result) }
+    {
+        self.spaces.memory_at(index)
+    }
+
+    /// The number of globals, imported ones among them.
     pub fn global_count(&self) -> u32
-        ensures { result ≡ 0 }
+        ensures { result ≡ length (shown_by self.now).spaces.globals }
     {
-        0
+        self.spaces.global_count()
     }
 
-    /// The number of tags.
-    pub fn tag_count(&self) -> u32
-        ensures { result ≡ 0 }
+    /// The type of the global with this index.
+    pub fn global_at(&self, index: u32) -> GlobalType
+        requires { index < length (shown_by self.now).spaces.globals }
+        ensures { slice_get (shown_by self.now).spaces.globals index ≡ Some (global_of result) }
     {
-        0
+        self.spaces.global_at(index)
+    }
+
+    /// The number of tags, imported ones among them.
+    pub fn tag_count(&self) -> u32
+        ensures { result ≡ length (shown_by self.now).spaces.tags }
+    {
+        self.spaces.tag_count()
+    }
+
+    /// The id of the type of the tag with this index.
+    pub fn tag_at(&self, index: u32) -> CoreTypeId
+        requires { index < length (shown_by self.now).spaces.tags }
+        ensures { let spaces = (shown_by self.now).spaces in result.index ≡ slice_index spaces.types (slice_index spaces.tags index) }
+    {
+        self.spaces.tag_type_id(index)
     }
 
     /// The number of element segments.
@@ -178,13 +265,31 @@ impl<'a, A: Allocator + Copy> Index<CoreTypeId> for TypesRef<'a, A> {
     type Output = SubType<A>;
 
     ghost use Rattle.std.specs.Prelude.{◌≡◌, ◌<◌, length, slice_index_or};
+    ghost use Rattle.wasm_validator_type_list.specs.Listing.{types_in};
     ghost use Rattle.wasm_validator_types.specs.Shown.{shown_by};
 
-    ghost can_index = { λ types id. id.index < length (shown_by types).list };
+    ghost can_index = { λ types id. id.index < length (types_in (shown_by types).list) };
 
-    ghost index_gives = { λ types id ty. ty ≡ slice_index_or (shown_by types).list id.index ty };
+    ghost index_gives = { λ types id ty. ty ≡ slice_index_or (types_in (shown_by types).list) id.index ty };
 
     fn index(&self, id: CoreTypeId) -> &SubType<A> {
         &self.list[id]
+    }
+}
+
+impl<'a, A: Allocator + Copy> Index<RecGroupId> for TypesRef<'a, A> {
+    type Output = Range<CoreTypeId>;
+
+    ghost use Rattle.std.specs.Prelude.{◌≡◌, ◌<◌, ◌+◌, length};
+    ghost use Rattle.wasm_validator_type_list.specs.Groups.{first_of};
+    ghost use Rattle.wasm_validator_type_list.specs.Spans.{span};
+    ghost use Rattle.wasm_validator_types.specs.Shown.{shown_by};
+
+    ghost can_index = { λ types group. group.index < length (shown_by types).list.groups };
+
+    ghost index_gives = { λ types group ids. let groups = (shown_by types).list.groups in ids ≡ span (first_of groups group.index) (first_of groups (group.index + 1)) };
+
+    fn index(&self, group: RecGroupId) -> &Range<CoreTypeId> {
+        &self.list[group]
     }
 }

@@ -1,0 +1,18 @@
+-- What a module imports and exports, as contracts see it.
+use Rattle.wasm_spec.specs.Syntax.{Extern, func_extern, func_exact_extern, table_extern, memory_extern, global_extern, tag_extern}
+use Rattle.wasm_readers_types.specs.SeenExterns.{table_of, memory_of, global_of}
+use Rattle.wasm_readers_types.specs.declared.indices.UnpackedIndex.{UnpackedIndex}
+use Rattle.wasm_validator_types.specs.declared.entity_type.EntityType.{EntityType}
+use Rattle.wasm_validator_types.specs.declared.entity_type.EntityType.TheVariants.{Func, FuncExact, Table, Memory, Global, Tag}
+
+-- an external type, in which functions and tags have the numbers of the ids of their types in place of type indices
+abbrev pub Entity : Type 0
+Entity = Extern UnpackedIndex
+
+abbrev pub entity_of : EntityType → Entity
+entity_of (Func id) = func_extern id.index
+entity_of (FuncExact id) = func_exact_extern id.index
+entity_of (Table t) = table_extern (table_of t)
+entity_of (Memory m) = memory_extern (memory_of m)
+entity_of (Global g) = global_extern (global_of g)
+entity_of (Tag id) = tag_extern id.index
