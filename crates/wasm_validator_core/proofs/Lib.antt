@@ -1,0 +1,3 @@
+pub mod AddedGroups
+pub mod Arities
+pub mod Checked

@@ -1,0 +1,149 @@
+-- What one item of a section changes, but for types: the machine that a module's state is. `us` are the types of all
+-- modules so far. Core Specification 3.0, Validation, Modules.
+use Rattle.std.specs.Prelude.{ℕ, ◌+◌, ◌==◌, nat_lt, nat_le, Bool, true, false, not, ◌&&◌, if◌then◌else◌, List, [], ◌∷◌, ◌++◌, length, slice_get, slice_index, Option, Some, None}
+use Rattle.std.specs.Option.{option_map, option_and_then}
+use Rattle.wasm_spec.specs.Syntax.{Table, Memory, Global, Extern, func_extern, func_exact_extern, table_extern, memory_extern, global_extern, tag_extern, map_table, map_extern}
+use Rattle.wasm_spec.specs.BinaryModules.{Import, Export}
+use Rattle.wasm_spec.specs.Features.{Features}
+use Rattle.wasm_spec.specs.Trees.{DefType}
+use Rattle.wasm_rules.specs.Limits.{most_tables, most_memories}
+use Rattle.wasm_readers_types.specs.declared.indices.UnpackedIndex.{UnpackedIndex}
+use Rattle.wasm_validator_canonical.specs.Arities.{arity_at}
+use Rattle.wasm_validator_canonical.specs.Groups.{types_at}
+use Rattle.wasm_validator_canonical.specs.Indices.{canonical_index}
+use Rattle.wasm_item_rules.specs.Items.{is_function, is_valid_defined_table, is_valid_memory, is_valid_tag, is_importable, is_movable}
+use Rattle.wasm_validator_types.specs.Entities.{Entity}
+use Rattle.wasm_validator_types.specs.Spaces.{Spaces, with_import, is_exported, is_exact}
+use Rattle.wasm_validator_core.specs.declared.limits.TheConstants.{MAX_FUNCTIONS, MAX_GLOBALS, MAX_TAGS, MAX_EFFECTIVE_SIZE}
+use Rattle.wasm_validator_core.specs.Answers.{Types}
+
+-- the module's types, in the order of their indices
+abbrev pub types_of_module : Types → Spaces → List DefType
+types_of_module us s = types_at us s.types
+
+-- one more item, where so many keep to the limit
+abbrev pub limited : ℕ → ℕ → Spaces → Option Spaces
+limited count most s = if nat_le count most then Some s else None
+
+abbrev pub with_function : Spaces → ℕ → Option Spaces
+with_function s x = limited (length s.functions + 1) MAX_FUNCTIONS (record s { functions = s.functions ++ x ∷ [] })
+
+abbrev pub with_table : Features → Spaces → Table UnpackedIndex → Option Spaces
+with_table F s t = limited (length s.tables + 1) (most_tables F) (record s { tables = s.tables ++ t ∷ [] })
+
+abbrev pub with_memory : Features → Spaces → Memory → Option Spaces
+with_memory F s m = limited (length s.memories + 1) (most_memories F) (record s { memories = s.memories ++ m ∷ [] })
+
+abbrev pub with_imported_global : Spaces → Global UnpackedIndex → Option Spaces
+with_imported_global s g = limited (length s.globals + 1) MAX_GLOBALS (record s { globals = s.globals ++ g ∷ []; imported_globals = s.imported_globals + 1 })
+
+abbrev pub with_tag : Spaces → ℕ → Option Spaces
+with_tag s x = limited (length s.tags + 1) MAX_TAGS (record s { tags = s.tags ++ x ∷ [] })
+
+-- items that are defined
+abbrev pub add_function : Types → Spaces → ℕ → Option Spaces
+add_function us s x = if is_function (types_of_module us s) x then with_function s x else None
+
+-- a table without an initializer; the list of types has its references as ids
+abbrev pub add_table : Features → Types → Spaces → Table UnpackedIndex → Option Spaces
+add_table F us s t = if is_valid_defined_table F (types_of_module us s) t false then with_table F s (map_table (canonical_index s.types) t) else None
+
+abbrev pub add_memory : Features → Spaces → Memory → Option Spaces
+add_memory F s m = if is_valid_memory F m then with_memory F s m else None
+
+abbrev pub add_tag : Features → Types → Spaces → ℕ → Option Spaces
+add_tag F us s x = if is_valid_tag F (types_of_module us s) x then with_tag s x else None
+
+-- an external type of the module, with its references as the list of types has them
+abbrev pub listed : Spaces → Extern UnpackedIndex → Extern UnpackedIndex
+listed s x = map_extern (canonical_index s.types) x
+
+-- the same as an entity: functions and tags by the ids of their types
+abbrev pub entity : Spaces → Extern UnpackedIndex → Entity
+entity s (func_extern x) = func_extern (slice_index s.types x)
+entity s (func_exact_extern x) = func_exact_extern (slice_index s.types x)
+entity s (table_extern t) = table_extern t
+entity s (memory_extern m) = memory_extern m
+entity s (global_extern g) = global_extern g
+entity s (tag_extern x) = tag_extern (slice_index s.types x)
+
+-- how many types an entity counts as: functions and tags as many as they have parameters and results, and two,
+-- anything else as one
+abbrev pub function_size : Option (ℕ × ℕ) → ℕ
+function_size None = 2
+function_size (Some arity) = 2 + (arity.0 + arity.1)
+
+abbrev pub entity_size : Types → Entity → ℕ
+entity_size us (func_extern id) = function_size (arity_at us id)
+entity_size us (func_exact_extern id) = function_size (arity_at us id)
+entity_size us (table_extern t) = 1
+entity_size us (memory_extern m) = 1
+entity_size us (global_extern g) = 1
+entity_size us (tag_extern id) = function_size (arity_at us id)
+
+-- the effective size with so many more types, which stays below the limit
+abbrev pub grown : ℕ → ℕ → Option ℕ
+grown size more = if nat_lt (size + more) MAX_EFFECTIVE_SIZE then Some (size + more) else None
+
+-- an import at the end of its index space, where functions are noted as imported
+abbrev pub noted_function : Bool → Spaces → Spaces
+noted_function exactly s = record s { imported_functions = s.imported_functions ++ exactly ∷ [] }
+
+abbrev pub with_imported : Features → Spaces → Extern UnpackedIndex → Option Spaces
+with_imported F s (func_extern x) = option_map (noted_function false) (with_function s x)
+with_imported F s (func_exact_extern x) = option_map (noted_function true) (with_function s x)
+with_imported F s (table_extern t) = with_table F s t
+with_imported F s (memory_extern m) = with_memory F s m
+with_imported F s (global_extern g) = with_imported_global s g
+with_imported F s (tag_extern x) = with_tag s x
+
+-- an entity under the names of an import, and in the effective size
+abbrev pub with_named : Types → Import UnpackedIndex → Entity → Spaces → Option Spaces
+with_named us i e s = option_map (λ size. record s { imports = with_import s.imports i.module_name i.item_name e; size = size }) (grown s.size (entity_size us e))
+
+abbrev pub add_import : Features → Types → Spaces → Import UnpackedIndex → Option Spaces
+add_import F us s i =
+    if is_importable F (types_of_module us s) i.ty
+    then option_and_then (with_named us i (entity s (listed s i.ty))) (with_imported F s (listed s i.ty))
+    else None
+
+-- what an export names of each kind: a function has exactly its type where it is defined or imported so
+abbrev pub function_entity : Features → Spaces → ℕ → ℕ → Entity
+function_entity F s x type_index = if F.custom_descriptors && is_exact s x then func_exact_extern (slice_index s.types type_index) else func_extern (slice_index s.types type_index)
+
+abbrev pub exported_function : Features → Spaces → ℕ → Option Entity
+exported_function F s x = option_map (function_entity F s x) (slice_get s.functions x)
+
+abbrev pub exported_table : Spaces → ℕ → Option Entity
+exported_table s x = option_map table_extern (slice_get s.tables x)
+
+abbrev pub exported_memory : Spaces → ℕ → Option Entity
+exported_memory s x = option_map memory_extern (slice_get s.memories x)
+
+abbrev pub exported_global : Spaces → ℕ → Option Entity
+exported_global s x = option_map global_extern (slice_get s.globals x)
+
+abbrev pub exported_tag : Spaces → ℕ → Option Entity
+exported_tag s x = option_map (λ type_index. tag_extern (slice_index s.types type_index)) (slice_get s.tags x)
+
+-- by the kinds' numbers: functions, tables, memories, globals, tags
+abbrev pub exported_entity : Features → Spaces → Export → Option Entity
+exported_entity F s e =
+    if e.kind == 0 then exported_function F s e.index
+    else (if e.kind == 1 then exported_table s e.index
+    else (if e.kind == 2 then exported_memory s e.index
+    else (if e.kind == 3 then exported_global s e.index
+    else (if e.kind == 4 then exported_tag s e.index
+    else None))))
+
+-- an entity under the name of an export, and in the effective size
+abbrev pub with_export : Types → List ℕ → Entity → Spaces → Option Spaces
+with_export us name e s =
+    if is_exported s.exports name then None
+    else option_map (λ size. record s { exports = s.exports ++ (name, e) ∷ []; size = size }) (grown s.size (entity_size us e))
+
+abbrev pub export_movable : Features → Types → Spaces → List ℕ → Entity → Option Spaces
+export_movable F us s name e = if is_movable F e then with_export us name e s else None
+
+abbrev pub add_export : Features → Types → Spaces → Export → Option Spaces
+add_export F us s e = option_and_then (export_movable F us s e.name) (exported_entity F s e)

@@ -1,0 +1,36 @@
+-- What one item of a section changes: the machine that a module's state is.
+use Rattle.std.specs.Prelude.{ℕ, ◌+◌, ◌==◌, nat_lt, nat_le, not, ◌&&◌, if◌then◌else◌, List, [], ◌∷◌, ◌++◌, length, slice_get, slice_index, Option, Some, None}
+use Rattle.std.specs.Option.{option_map, option_and_then}
+use Rattle.wasm_spec.specs.Syntax.{Comp, func, array, struct, cont, Sub, Rec, Extern, func_extern, func_exact_extern, table_extern, memory_extern, global_extern, tag_extern}
+use Rattle.wasm_spec.specs.BinaryModules.{Import, Export}
+use Rattle.wasm_rules.specs.FeatureFlags.{features_of}
+use Rattle.wasm_readers_types.specs.declared.indices.UnpackedIndex.{UnpackedIndex}
+use Rattle.wasm_readers_errors.specs.declared.features.WasmFeatures.{WasmFeatures}
+use Rattle.wasm_validator_canonical.specs.Arities.{arity_at}
+use Rattle.wasm_validator_canonical.specs.Groups.{with_written}
+use Rattle.wasm_validator_types.specs.Spaces.{Spaces, with_import, is_exported}
+use Rattle.wasm_validator_types.specs.declared.entity_type.EntityType.{EntityType}
+use Rattle.wasm_validator_types.specs.declared.entity_type.EntityType.TheVariants.{Func}
+use Rattle.wasm_validator_core.specs.declared.limits.TheConstants.{MAX_TYPES, MAX_FUNCTIONS, MAX_EFFECTIVE_SIZE}
+use Rattle.wasm_validator_core.specs.Answers.{Types}
+
+-- a list of types with those of a group that a module writes, and the ids of the module's types
+abbrev pub with_ids : Spaces → Types × List ℕ → Types × Spaces
+with_ids s r = (r.0, record s { types = r.1 })
+
+-- a recursion group behind the types of the module, which keep to the limit
+abbrev pub add_group : WasmFeatures → Types × Spaces → Rec UnpackedIndex → Option (Types × Spaces)
+add_group features p g =
+    if nat_le (length p.1.types + length g.types) MAX_TYPES
+    then option_map (with_ids p.1) (with_written (features_of features) p.0 p.1.types g)
+    else None
+
+-- how many parameters and results a function type has, as it is written
+abbrev pub written_arity : {R : Type 0} → Comp R → Option (ℕ × ℕ)
+written_arity (func ps rs) = Some (length ps, length rs)
+written_arity (array x) = None
+written_arity (struct xs) = None
+written_arity (cont r) = None
+
+abbrev pub written_arity_at : List (Sub UnpackedIndex) → ℕ → Option (ℕ × ℕ)
+written_arity_at types id = option_and_then (λ (t : Sub UnpackedIndex). written_arity t.comp) (slice_get types id)

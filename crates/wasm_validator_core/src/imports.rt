@@ -1,0 +1,89 @@
+//! What a module imports (Core Specification 3.0, Validation, Modules, Imports).
+
+ghost use Rattle.std.specs.Prelude.{◌≡◌, length};
+ghost use Rattle.wasm_rules.specs.FeatureFlags.{features_of};
+ghost use Rattle.wasm_readers.specs.Items.{import_of};
+ghost use Rattle.wasm_readers_types.specs.SeenExterns.{extern_of};
+ghost use Rattle.wasm_validator_types.specs.Entities.{entity_of};
+ghost use Rattle.wasm_validator_types.specs.Shown.{types_of};
+ghost use Rattle.wasm_validator_core.specs.Answers.{Adds};
+ghost use Rattle.wasm_validator_core.specs.Items.{with_imported, with_named, add_import};
+ghost use Rattle.wasm_validator_core.specs.Ready.{AreHeld, IsTyped};
+
+use crate::entities::{entity_type, known_ids, listed_type_ref, size_with};
+use crate::error::Error;
+use crate::items::{place_function, place_imported_global, place_memory, place_table, place_tag};
+use std::alloc::Allocator;
+use wasm_item_rules::check_movable_global;
+use wasm_readers::{Fault, Import, Rule, TypeRef, WasmFeatures};
+use wasm_validator_types::{EntityType, IndexSpaces, TypeList};
+
+/// One more item at the end of its index space, which is imported. Its type index is as the list of types
+/// has it.
+fn place_imported<A: Allocator + Copy>(
+    features: WasmFeatures,
+    spaces: &mut IndexSpaces<A>,
+    ty: TypeRef,
+    offset: u64,
+) -> Result<(), Error<A>>
+    requires { IsTyped (length spaces.old.types) (extern_of ty) }
+    ensures added { Adds result (with_imported (features_of features) spaces.old (extern_of ty)) spaces.new }
+    ensures types { spaces.new.types ≡ spaces.old.types }
+{
+    match ty {
+        TypeRef::Func(index) => {
+            place_function(spaces, index, offset)?;
+            spaces.note_imported_function(false)?;
+            Ok(())
+        }
+        TypeRef::FuncExact(index) => {
+            place_function(spaces, index, offset)?;
+            spaces.note_imported_function(true)?;
+            Ok(())
+        }
+        TypeRef::Table(table) => place_table(features, spaces, table, offset),
+        TypeRef::Memory(memory) => place_memory(features, spaces, memory, offset),
+        TypeRef::Global(global) => place_imported_global(spaces, global, offset),
+        TypeRef::Tag(tag) => place_tag(spaces, tag.func_type_idx, offset),
+    }
+}
+
+/// Puts an entity under the names of an import.
+fn name_import<A: Allocator + Copy>(
+    list: &TypeList<A>,
+    spaces: &mut IndexSpaces<A>,
+    import: &Import,
+    entity: EntityType,
+    offset: u64,
+) -> Result<(), Error<A>>
+    ensures added { Adds result (with_named (types_of list.now) (import_of import.now) (entity_of entity) spaces.old) spaces.new }
+    ensures types { spaces.new.types ≡ spaces.old.types }
+{
+    let Some(size) = size_with(list, spaces.effective_size(), entity) else {
+        return Err(Error::new(Fault::Rule(Rule::EffectiveSize), offset));
+    };
+    spaces.add_import(import.module, import.name, entity)?;
+    spaces.set_effective_size(size);
+    Ok(())
+}
+
+/// Adds one import.
+pub(crate) fn add_one_import<A: Allocator + Copy>(
+    features: WasmFeatures,
+    list: &TypeList<A>,
+    spaces: &mut IndexSpaces<A>,
+    import: &Import,
+    offset: u64,
+) -> Result<(), Error<A>>
+    requires { AreHeld list.now spaces.old.types }
+    ensures added { Adds result (add_import (features_of features) (types_of list.now) spaces.old (import_of import.now)) spaces.new }
+    ensures types { spaces.new.types ≡ spaces.old.types }
+{
+    let ty = listed_type_ref(features, list, known_ids(list, spaces), import.ty, offset)?;
+    if let TypeRef::Global(global) = import.ty {
+        check_movable_global(features, global, offset)?;
+    }
+    let entity = entity_type(spaces, ty);
+    place_imported(features, spaces, ty, offset)?;
+    name_import(list, spaces, import, entity, offset)
+}

@@ -1,0 +1,160 @@
+//! Functions, tables, memories and tags that a module defines (Core Specification 3.0, Validation,
+//! Modules), and all items at the ends of their index spaces.
+
+ghost use Rattle.std.specs.Prelude.{◌≡◌, ◌<◌, length};
+ghost use Rattle.wasm_rules.specs.FeatureFlags.{features_of};
+ghost use Rattle.wasm_readers_types.specs.SeenExterns.{table_of, memory_of, global_of};
+ghost use Rattle.wasm_validator_types.specs.Shown.{types_of};
+ghost use Rattle.wasm_validator_core.specs.Answers.{Adds};
+ghost use Rattle.wasm_validator_core.specs.Items.{with_function, with_table, with_memory, with_imported_global, with_tag, add_function, add_table, add_memory, add_tag};
+ghost use Rattle.wasm_validator_core.specs.Ready.{AreHeld};
+
+use crate::entities::{known_ids, listed_table};
+use crate::error::Error;
+use crate::limits::{MAX_FUNCTIONS, MAX_GLOBALS, MAX_TAGS, check_max, max_memories, max_tables};
+use std::alloc::Allocator;
+use wasm_item_rules::{check_defined_table, check_memory_type, check_tag_type, func_type_at};
+use wasm_readers::{Counted, GlobalType, MemoryType, TableType, TagType, WasmFeatures};
+use wasm_validator_types::{IndexSpaces, TypeList};
+
+/// One more function, of the type with this index.
+pub(crate) fn place_function<A: Allocator + Copy>(
+    spaces: &mut IndexSpaces<A>,
+    type_index: u32,
+    offset: u64,
+) -> Result<(), Error<A>>
+    requires { type_index < length spaces.old.types }
+    ensures added { Adds result (with_function spaces.old type_index) spaces.new }
+    ensures types { spaces.new.types ≡ spaces.old.types }
+{
+    let count = spaces.function_count() as usize;
+    check_max(count, 1, MAX_FUNCTIONS, Counted::Functions, offset)?;
+    spaces.push_function(type_index)?;
+    Ok(())
+}
+
+/// One more table, whose type is as the list of types has it.
+pub(crate) fn place_table<A: Allocator + Copy>(
+    features: WasmFeatures,
+    spaces: &mut IndexSpaces<A>,
+    ty: TableType,
+    offset: u64,
+) -> Result<(), Error<A>>
+    ensures added { Adds result (with_table (features_of features) spaces.old (table_of ty)) spaces.new }
+    ensures types { spaces.new.types ≡ spaces.old.types }
+{
+    let count = spaces.table_count() as usize;
+    check_max(count, 1, max_tables(features), Counted::Tables, offset)?;
+    spaces.push_table(ty)?;
+    Ok(())
+}
+
+/// One more memory.
+pub(crate) fn place_memory<A: Allocator + Copy>(
+    features: WasmFeatures,
+    spaces: &mut IndexSpaces<A>,
+    ty: MemoryType,
+    offset: u64,
+) -> Result<(), Error<A>>
+    ensures added { Adds result (with_memory (features_of features) spaces.old (memory_of ty)) spaces.new }
+    ensures types { spaces.new.types ≡ spaces.old.types }
+{
+    let count = spaces.memory_count() as usize;
+    check_max(count, 1, max_memories(features), Counted::Memories, offset)?;
+    spaces.push_memory(ty)?;
+    Ok(())
+}
+
+/// One more global that is imported, whose type is as the list of types has it.
+pub(crate) fn place_imported_global<A: Allocator + Copy>(
+    spaces: &mut IndexSpaces<A>,
+    ty: GlobalType,
+    offset: u64,
+) -> Result<(), Error<A>>
+    ensures added { Adds result (with_imported_global spaces.old (global_of ty)) spaces.new }
+    ensures types { spaces.new.types ≡ spaces.old.types }
+{
+    let count = spaces.global_count() as usize;
+    check_max(count, 1, MAX_GLOBALS, Counted::Globals, offset)?;
+    spaces.push_imported_global(ty)?;
+    Ok(())
+}
+
+/// One more tag, of the type with this index.
+pub(crate) fn place_tag<A: Allocator + Copy>(
+    spaces: &mut IndexSpaces<A>,
+    type_index: u32,
+    offset: u64,
+) -> Result<(), Error<A>>
+    requires { type_index < length spaces.old.types }
+    ensures added { Adds result (with_tag spaces.old type_index) spaces.new }
+    ensures types { spaces.new.types ≡ spaces.old.types }
+{
+    let count = spaces.tag_count() as usize;
+    check_max(count, 1, MAX_TAGS, Counted::Tags, offset)?;
+    spaces.push_tag(type_index)?;
+    Ok(())
+}
+
+/// Adds a function that is defined.
+pub(crate) fn add_defined_function<A: Allocator + Copy>(
+    list: &TypeList<A>,
+    spaces: &mut IndexSpaces<A>,
+    type_index: u32,
+    offset: u64,
+) -> Result<(), Error<A>>
+    requires { AreHeld list.now spaces.old.types }
+    ensures added { Adds result (add_function (types_of list.now) spaces.old type_index) spaces.new }
+    ensures types { spaces.new.types ≡ spaces.old.types }
+{
+    func_type_at(list, known_ids(list, spaces), type_index, offset)?;
+    place_function(spaces, type_index, offset)
+}
+
+/// Adds a table that is defined without an initializer.
+pub(crate) fn add_defined_table<A: Allocator + Copy>(
+    features: WasmFeatures,
+    list: &TypeList<A>,
+    spaces: &mut IndexSpaces<A>,
+    ty: TableType,
+    offset: u64,
+) -> Result<(), Error<A>>
+    requires { AreHeld list.now spaces.old.types }
+    ensures added { Adds result (add_table (features_of features) (types_of list.now) spaces.old (table_of ty)) spaces.new }
+    ensures types { spaces.new.types ≡ spaces.old.types }
+{
+    let ids = known_ids(list, spaces);
+    check_defined_table(features, list, ids, ty, false, offset)?;
+    let ty = listed_table(ids, ty);
+    place_table(features, spaces, ty, offset)
+}
+
+/// Adds a memory that is defined.
+pub(crate) fn add_defined_memory<A: Allocator + Copy>(
+    features: WasmFeatures,
+    spaces: &mut IndexSpaces<A>,
+    ty: MemoryType,
+    offset: u64,
+) -> Result<(), Error<A>>
+    ensures added { Adds result (add_memory (features_of features) spaces.old (memory_of ty)) spaces.new }
+    ensures types { spaces.new.types ≡ spaces.old.types }
+{
+    check_memory_type(features, ty, offset)?;
+    place_memory(features, spaces, ty, offset)
+}
+
+/// Adds a tag that is defined.
+pub(crate) fn add_defined_tag<A: Allocator + Copy>(
+    features: WasmFeatures,
+    list: &TypeList<A>,
+    spaces: &mut IndexSpaces<A>,
+    ty: TagType,
+    offset: u64,
+) -> Result<(), Error<A>>
+    requires { AreHeld list.now spaces.old.types }
+    ensures added { Adds result (add_tag (features_of features) (types_of list.now) spaces.old ty.func_type_idx) spaces.new }
+    ensures types { spaces.new.types ≡ spaces.old.types }
+{
+    check_tag_type(features, list, known_ids(list, spaces), ty, offset)?;
+    place_tag(spaces, ty.func_type_idx, offset)
+}

@@ -1,0 +1,317 @@
+//! The state of a module as far as it has been read, and what items add to it.
+
+ghost use Rattle.std.specs.Prelude.{◌≡◌, true, OnOk, OnErr, IfOk, is_ok};
+ghost use Rattle.std.specs.Option.{option_map};
+ghost use Rattle.std.specs.declared.option.Option.TheVariants.{Some, None};
+ghost use Rattle.wasm_rules.specs.FeatureFlags.{features_of};
+ghost use Rattle.wasm_rules.specs.Limits.{most_tables, most_memories};
+ghost use Rattle.wasm_readers.specs.Items.{import_of, export_of};
+ghost use Rattle.wasm_readers_types.specs.SeenExterns.{table_of, memory_of, extern_of};
+ghost use Rattle.wasm_readers_types.specs.SeenTypes.{rec_of};
+ghost use Rattle.wasm_item_rules.specs.Items.{is_valid_extern};
+ghost use Rattle.wasm_validator_types.specs.Entities.{entity_of};
+ghost use Rattle.wasm_validator_types.specs.Shown.{types_of};
+ghost use Rattle.wasm_validator_types.specs.Spaces.{no_spaces};
+ghost use Rattle.wasm_validator_canonical.specs.Groups.{has_form, AreValid};
+ghost use Rattle.wasm_validator_core.specs.Answers.{Adds, AddsWhere, HasValidTypes};
+ghost use Rattle.wasm_validator_core.specs.Ready.{IsOpenFor, AreIdsOf, AreHeld};
+ghost use Rattle.wasm_validator_core.specs.Machine.{add_group};
+ghost use Rattle.wasm_validator_core.specs.Items.{types_of_module, listed, entity, exported_function, exported_entity, add_import, add_function, add_table, add_memory, add_tag, add_export};
+
+use crate::entities::{entity_type, known_ids, listed_type_ref};
+use crate::error::Error;
+use crate::exports::{add_one_export, exported, function_entity};
+use crate::imports::add_one_import;
+use crate::items::{add_defined_function, add_defined_memory, add_defined_table, add_defined_tag};
+use crate::limits::{MAX_TYPES, check_max, max_memories, max_tables};
+use std::alloc::{AllocError, Allocator, Global};
+use std::marker::Model;
+use wasm_readers::{
+    CoreTypeId, Counted, Export, Import, MemoryType, RecGroup, Refusal, TableType, TagType,
+    TypeRef, WasmFeatures,
+};
+use wasm_validator_canonical::{InternRecGroup, intern_rec_group_of};
+use wasm_validator_types::{EntityType, IndexSpaces, TypeList};
+
+/// A module as far as it has been read: its index spaces (Core Specification 3.0, Validation,
+/// Conventions, Contexts). A contract sees them as lists.
+#[derive(Drop)]
+pub struct Module<A: Allocator = Global> {
+    spaces: IndexSpaces<A>,
+}
+
+impl<A: Allocator> Model for Module<A> {
+    ghost use Rattle.wasm_validator_types.specs.Spaces.{Spaces};
+
+    ghost Value = { Spaces };
+
+    ghost view = { λ a. a.spaces };
+}
+
+impl<A: Allocator + Copy> Module<A> {
+    /// A module of which nothing has been read. It takes no memory yet.
+    pub fn new(alloc: A) -> Module<A>
+        ensures { result ≡ no_spaces }
+    {
+        Module {
+            spaces: IndexSpaces::new(alloc),
+        }
+    }
+
+    /// Its index spaces.
+    pub fn spaces(&self) -> &IndexSpaces<A>
+        ensures { result.now ≡ self.now }
+    {
+        &self.spaces
+    }
+
+    /// Its index spaces alone.
+    pub fn into_spaces(self) -> IndexSpaces<A>
+        ensures { result ≡ self }
+    {
+        self.spaces
+    }
+
+    /// Adds the types of a recursion group behind those of the module, and to the list of types.
+    /// `offset` is where the group stands in the input (Core Specification 3.0, Validation, Modules,
+    /// Types).
+    ///
+    /// # Errors
+    ///
+    /// Refused where the module would have too many types, where the group can't be added to the
+    /// list or one of its types isn't valid, and where memory is refused. The module and the list are
+    /// then only to be dropped.
+    pub fn add_types(
+        &mut self,
+        features: WasmFeatures,
+        alloc: A,
+        list: &mut TypeList<A>,
+        group: RecGroup<A>,
+        offset: u64,
+    ) -> Result<(), Error<A>>
+        requires open { IsOpenFor features list.old }
+        requires ids { AreIdsOf list.old self.old.types }
+        requires form { has_form (rec_of group) ≡ true }
+        requires valid { AreValid (features_of features) (types_of list.old) }
+        ensures added { AddsWhere (HasValidTypes features) result (add_group features (types_of list.old, self.old) (rec_of group)) (types_of list.new, self.new) }
+        ensures valid { OnOk result (AreValid (features_of features) (types_of list.new)) }
+        ensures open { IsOpenFor features list.new }
+        ensures ids { OnOk result (AreIdsOf list.new self.new.types) }
+    {
+        let more = group.types().len();
+        let count = self.spaces.type_count() as usize;
+        match check_max(count, more, MAX_TYPES, Counted::Types, offset) {
+            Ok(()) => {}
+            Err(refusal) => return Err(Error::Refused(refusal)),
+        }
+        match intern_rec_group_of(self, features, alloc, list, group, offset) {
+            Ok(()) => Ok(()),
+            Err(error) => Err(Error::from(error)),
+        }
+    }
+
+    /// Adds an import. `offset` is where it stands in the input (Core Specification 3.0, Validation,
+    /// Modules, Imports).
+    ///
+    /// # Errors
+    ///
+    /// Refused where the import keeps no rule on what was read so far, or passes a limit, and where
+    /// memory is refused. The module is then only to be dropped.
+    pub fn add_import(
+        &mut self,
+        features: WasmFeatures,
+        list: &TypeList<A>,
+        import: &Import,
+        offset: u64,
+    ) -> Result<(), Error<A>>
+        requires { AreHeld list.now self.old.types }
+        ensures added { Adds result (add_import (features_of features) (types_of list.now) self.old (import_of import.now)) self.new }
+        ensures types { self.new.types ≡ self.old.types }
+    {
+        add_one_import(features, list, &mut self.spaces, import, offset)
+    }
+
+    /// Adds a function of the type with this index. `offset` is where it stands in the input (Core
+    /// Specification 3.0, Validation, Modules, Functions).
+    ///
+    /// # Errors
+    ///
+    /// Refused where the index is not that of a function type of the module, where there would be too
+    /// many functions, and where memory is refused. The module is then only to be dropped.
+    pub fn add_function(
+        &mut self,
+        list: &TypeList<A>,
+        type_index: u32,
+        offset: u64,
+    ) -> Result<(), Error<A>>
+        requires { AreHeld list.now self.old.types }
+        ensures added { Adds result (add_function (types_of list.now) self.old type_index) self.new }
+        ensures types { self.new.types ≡ self.old.types }
+    {
+        add_defined_function(list, &mut self.spaces, type_index, offset)
+    }
+
+    /// Adds a table of this type that has no initializer. `offset` is where it stands in the input (Core
+    /// Specification 3.0, Validation, Modules, Tables).
+    ///
+    /// # Errors
+    ///
+    /// Refused where the type keeps no rule, where there would be too many tables, and where memory is
+    /// refused. The module is then only to be dropped.
+    pub fn add_table(
+        &mut self,
+        features: WasmFeatures,
+        list: &TypeList<A>,
+        ty: TableType,
+        offset: u64,
+    ) -> Result<(), Error<A>>
+        requires { AreHeld list.now self.old.types }
+        ensures added { Adds result (add_table (features_of features) (types_of list.now) self.old (table_of ty)) self.new }
+        ensures types { self.new.types ≡ self.old.types }
+    {
+        add_defined_table(features, list, &mut self.spaces, ty, offset)
+    }
+
+    /// Adds a memory of this type. `offset` is where it stands in the input (Core Specification 3.0,
+    /// Validation, Modules, Memories).
+    ///
+    /// # Errors
+    ///
+    /// Refused where the type keeps no rule, where there would be too many memories, and where memory is
+    /// refused. The module is then only to be dropped.
+    pub fn add_memory(
+        &mut self,
+        features: WasmFeatures,
+        ty: MemoryType,
+        offset: u64,
+    ) -> Result<(), Error<A>>
+        ensures added { Adds result (add_memory (features_of features) self.old (memory_of ty)) self.new }
+        ensures types { self.new.types ≡ self.old.types }
+    {
+        add_defined_memory(features, &mut self.spaces, ty, offset)
+    }
+
+    /// Adds a tag of this type. `offset` is where it stands in the input (Core Specification 3.0,
+    /// Validation, Modules, Tags).
+    ///
+    /// # Errors
+    ///
+    /// Refused where the type keeps no rule, where there would be too many tags, and where memory is
+    /// refused. The module is then only to be dropped.
+    pub fn add_tag(
+        &mut self,
+        features: WasmFeatures,
+        list: &TypeList<A>,
+        ty: TagType,
+        offset: u64,
+    ) -> Result<(), Error<A>>
+        requires { AreHeld list.now self.old.types }
+        ensures added { Adds result (add_tag (features_of features) (types_of list.now) self.old ty.func_type_idx) self.new }
+        ensures types { self.new.types ≡ self.old.types }
+    {
+        add_defined_tag(features, list, &mut self.spaces, ty, offset)
+    }
+
+    /// Adds an export. `offset` is where it stands in the input (Core Specification 3.0, Validation,
+    /// Modules, Exports).
+    ///
+    /// # Errors
+    ///
+    /// Refused where the export keeps no rule on what was read so far, or passes a limit, and where
+    /// memory is refused. The module is then only to be dropped.
+    pub fn add_export(
+        &mut self,
+        features: WasmFeatures,
+        alloc: A,
+        list: &TypeList<A>,
+        export: &Export,
+        offset: u64,
+    ) -> Result<(), Error<A>>
+        ensures added { Adds result (add_export (features_of features) (types_of list.now) self.old (export_of export.now)) self.new }
+        ensures types { self.new.types ≡ self.old.types }
+    {
+        add_one_export(features, alloc, list, &mut self.spaces, export, offset)
+    }
+
+    /// What an import of this type is (Core Specification 3.0, Validation, Types, External Types). Whether
+    /// a mutable global may be imported isn't asked here.
+    ///
+    /// # Errors
+    ///
+    /// Refused, at `offset`, where the type keeps no rule on the types of the module.
+    pub fn check_type_ref(
+        &self,
+        features: WasmFeatures,
+        list: &TypeList<A>,
+        ty: TypeRef,
+        offset: u64,
+    ) -> Result<EntityType, Refusal>
+        requires { AreHeld list.now self.now.types }
+        ensures allowed { is_ok result ≡ is_valid_extern (features_of features) (types_of_module (types_of list.now) self.now) (extern_of ty) }
+        ensures value { IfOk result (λ e. entity_of e ≡ entity self.now (listed self.now (extern_of ty))) }
+    {
+        let ty = listed_type_ref(features, list, known_ids(list, &self.spaces), ty, offset)?;
+        Ok(entity_type(&self.spaces, ty))
+    }
+
+    /// What an export names.
+    ///
+    /// # Errors
+    ///
+    /// Refused, at `offset`, where the index is not in the index space of its kind.
+    pub fn export_to_entity_type(
+        &self,
+        features: WasmFeatures,
+        export: &Export,
+        offset: u64,
+    ) -> Result<EntityType, Refusal>
+        ensures ok { IfOk result (λ e. exported_entity (features_of features) self.now (export_of export.now) ≡ Some (entity_of e)) }
+        ensures err { OnErr result (exported_entity (features_of features) self.now (export_of export.now) ≡ None) }
+    {
+        exported(features, &self.spaces, export, offset)
+    }
+
+    /// The type of the function with this index as an export has it, if there is such a function.
+    pub fn exported_function_type(&self, features: WasmFeatures, index: u32) -> Option<EntityType>
+        ensures { option_map entity_of result ≡ exported_function (features_of features) self.now index }
+    {
+        function_entity(features, &self.spaces, index)
+    }
+
+    /// The most tables that a module may have.
+    pub fn max_tables(&self, features: WasmFeatures) -> u32
+        ensures { result ≡ most_tables (features_of features) }
+    {
+        max_tables(features)
+    }
+
+    /// The most memories that a module may have.
+    pub fn max_memories(&self, features: WasmFeatures) -> u32
+        ensures { result ≡ most_memories (features_of features) }
+    {
+        max_memories(features)
+    }
+}
+
+impl<A: Allocator + Copy> InternRecGroup<A> for Module<A> {
+    ghost use Rattle.std.specs.Prelude.{◌≡◌, ◌+◌, ◌<◌, ◌^◌, ◌++◌, ◌∷◌, [], length, OnOk};
+    ghost use Rattle.wasm_validator_canonical.specs.Indices.{numbers};
+
+    ghost ids = { λ s. s.types };
+
+    ghost others = { λ s. record s { types = [] } };
+
+    fn type_ids(&self) -> &[CoreTypeId]
+        ensures { numbers result.now ≡ self.now.types }
+    {
+        self.spaces.type_ids()
+    }
+
+    fn add_type_id(&mut self, id: CoreTypeId) -> Result<(), AllocError>
+        requires room { length self.old.types + 1 < 2 ^ 32 }
+        ensures ids { OnOk result (self.new.types ≡ self.old.types ++ id.index ∷ []) }
+        ensures others { record self.new { types = [] } ≡ record self.old { types = [] } }
+    {
+        self.spaces.push_type(id)
+    }
+}
