@@ -1,6 +1,6 @@
 -- Imports that are put one by one after the others of their pair of names are in the order of first appearance.
 use Rattle.std.proofs.Common.{◌≡◌, refl, sym, ap, subst, ◌∙◌, ℕ, Bool, true, false, not, ◌&&◌, ◌||◌, cond, List, [], ◌∷◌, ◌++◌, map, append_assoc, append-nil}
-use Rattle.std.specs.Prelude.{filter}
+use Rattle.std.specs.Prelude.{Option, filter}
 use Rattle.std.specs.List.{list_any, flat_map}
 use Rattle.std.specs.Str.{bytes_eq}
 use Rattle.std.specs.Cmp.Lexicographic.{nat_list_eq_equiv}
@@ -11,11 +11,13 @@ use Rattle.std.proofs.lemmas.Grind.{flat_map-append}
 use Rattle.wasm_spec.specs.BinaryModules.{Import}
 use Rattle.wasm_rules.proofs.Tests.{when, unless}
 use Rattle.wasm_validator_types.specs.Spaces.{with_import, is_pair}
-use Rattle.wasm_validator_types.specs.declared.entity_type.EntityType.{EntityType}
+use Rattle.wasm_validator_types.specs.Entities.{Entity}
 use Rattle.wasm_validator.specs.Shows.{entity, entities_in, names_of, has_names, first_pairs, import_row, import_rows}
-use Rattle.wasm_validator.proofs.FunctionImports.{FunctionImport, function_import, imports_with, HaveArities}
-use Rattle.wasm_validator.proofs.PlainTypes.{and_left, and_right, and_both}
-use Rattle.wasm_validator.specs.Standing.{Types}
+use Rattle.wasm_validator.proofs.Arities.{HaveArities}
+use Rattle.wasm_validator.proofs.FunctionImports.{FunctionImport, function_import, imports_with}
+use Rattle.wasm_validator_canonical.proofs.Canonical.{and_left, and_right}
+use Rattle.std.proofs.lemmas.Bool.{and_from}
+use Rattle.wasm_validator_core.specs.Answers.{Types}
 
 abbrev Pair : Type 0
 Pair = List ℕ × List ℕ
@@ -34,7 +36,7 @@ same_turned : (p q : Pair) → same_pair p q ≡ same_pair q p
 same_turned p q = λ i. (nat_list_eq_equiv).symm p.0 q.0 i && (nat_list_eq_equiv).symm p.1 q.1 i
 
 same_itself : (p : Pair) → same_pair p p ≡ true
-same_itself p = and_both (bytes_eq p.0 p.0) (bytes_eq p.1 p.1) ((bytes_eq-Decides p.0 p.0).1 refl) ((bytes_eq-Decides p.1 p.1).1 refl)
+same_itself p = and_from (bytes_eq p.0 p.0) (bytes_eq p.1 p.1) ((bytes_eq-Decides p.0 p.0).1 refl) ((bytes_eq-Decides p.1 p.1).1 refl)
 
 or_true : (a b : Bool) → b ≡ true → (a || b) ≡ true
 or_true true b e = refl
@@ -100,14 +102,14 @@ first-push [] r = refl
 first-push (p ∷ ps) r = push_case p ps r (same_pair r p) refl (has_pair r ps) refl (first-push ps r)
 
 -- a row for each pair
-abbrev rows_by : (Pair → List EntityType) → List Pair → List (Pair × List EntityType)
+abbrev rows_by : (Pair → List Entity) → List Pair → List (Pair × List Entity)
 rows_by r qs = map (λ (q : Pair). (q, r q)) qs
 
 -- what an entity adds to the row of a pair
-abbrev added : Pair → EntityType → Pair → List EntityType
+abbrev added : Pair → Entity → Pair → List Entity
 added p e q = cond (same_pair p q) (e ∷ []) []
 
-abbrev grown_by : (Pair → List EntityType) → Pair → EntityType → Pair → List EntityType
+abbrev grown_by : (Pair → List Entity) → Pair → Entity → Pair → List Entity
 grown_by r p e q = r q ++ added p e q
 
 -- pairs that are all different
@@ -143,7 +145,7 @@ push_under : {X : Type 0} (x : X) (b : Bool) (xs ys : List X) → x ∷ cond b x
 push_under x true xs ys = refl
 push_under x false xs ys = refl
 
-module _ (r : Pair → List EntityType) (p : Pair) (e : EntityType) where
+module _ (r : Pair → List Entity) (p : Pair) (e : Entity) where
   -- rows of other pairs are as they were
   untouched : (qs : List Pair) → has_pair p qs ≡ false → rows_by (grown_by r p e) qs ≡ rows_by r qs
   untouched [] h = refl
@@ -176,14 +178,14 @@ module _ (r : Pair → List EntityType) (p : Pair) (e : EntityType) where
 
 -- the rows of imports, with one more
 module _ (types : List ℕ) where
-  abbrev entities_of : List (Import ℕ) → Pair → List EntityType
+  abbrev entities_of : List (Import ℕ) → Pair → List Entity
   entities_of imports q = (import_row types imports q).1
 
   last_row : (b : Bool) (f : FunctionImport) → flat_map (λ (i : Import ℕ). entities_in types i.ty) (cond b (function_import f ∷ []) []) ≡ cond b (entity types f.index ∷ []) []
   last_row true f = refl
   last_row false f = refl
 
-  rows_same : (r s : Pair → List EntityType) → ((q : Pair) → r q ≡ s q) → (qs : List Pair) → rows_by r qs ≡ rows_by s qs
+  rows_same : (r s : Pair → List Entity) → ((q : Pair) → r q ≡ s q) → (qs : List Pair) → rows_by r qs ≡ rows_by s qs
   rows_same r s h [] = refl
   rows_same r s h (q ∷ qs) = λ i. (q, h q i) ∷ rows_same r s h qs i
 
@@ -192,7 +194,7 @@ module _ (types : List ℕ) where
   row-push imports f q =
       ap (flat_map (λ (i : Import ℕ). entities_in types i.ty)) (filter-append (has_names q) imports (function_import f ∷ []))
       ∙ flat_map-append (λ (i : Import ℕ). entities_in types i.ty) (filter (has_names q) imports) (filter (has_names q) (function_import f ∷ []))
-      ∙ ap (λ (es : List EntityType). entities_of imports q ++ es) (last_row (same_pair (f.source, f.name) q) f)
+      ∙ ap (λ (es : List Entity). entities_of imports q ++ es) (last_row (same_pair (f.source, f.name) q) f)
 
   -- where no import has these names, none is under them
   no_row : (imports : List (Import ℕ)) (q : Pair) → has_pair q (map names_of imports) ≡ false → entities_of imports q ≡ []
@@ -230,7 +232,7 @@ module _ (types : List ℕ) where
       ∙ ap (rows_by after) (sym (first-push names p) ∙ ap first_pairs (sym (map-append names_of imports (function_import f ∷ []))))
 
   -- all imports, one after another
-  rows_from : (T : Types) (arities : List (ℕ × ℕ)) (have : HaveArities T types arities) (fs done : List FunctionImport)
+  rows_from : (T : Types) (arities : ℕ → Option (ℕ × ℕ)) (have : HaveArities T types arities) (fs done : List FunctionImport)
       → imports_with T types arities have (import_rows types (map function_import done)) fs ≡ import_rows types (map function_import (done ++ fs))
   rows_from T arities have [] done = ap (λ xs. import_rows types (map function_import xs)) (sym (append-nil done))
   rows_from T arities have (f ∷ fs) done =
@@ -238,5 +240,5 @@ module _ (types : List ℕ) where
       ∙ rows_from T arities have fs (done ++ f ∷ [])
       ∙ ap (λ xs. import_rows types (map function_import xs)) (append_assoc done (f ∷ []) fs)
 
-  pub in_rows : (T : Types) (arities : List (ℕ × ℕ)) (have : HaveArities T types arities) (fs : List FunctionImport) → imports_with T types arities have [] fs ≡ import_rows types (map function_import fs)
+  pub in_rows : (T : Types) (arities : ℕ → Option (ℕ × ℕ)) (have : HaveArities T types arities) (fs : List FunctionImport) → imports_with T types arities have [] fs ≡ import_rows types (map function_import fs)
   in_rows T arities have fs = rows_from T arities have fs []

@@ -1,10 +1,12 @@
 pub mod Sections
 pub mod Items
+pub mod Forms
+pub mod ValidTypes
+pub mod SectionMoves
 pub mod Runs
 pub mod Reading
-pub mod PlainTypes
-pub mod TypeSection
-pub mod MachineTypes
+pub mod AddedTypes
+pub mod Arities
 pub mod FunctionImports
 pub mod FunctionExports
 pub mod ModuleRun
@@ -15,6 +17,6 @@ pub mod ServedValid
 pub mod ServedPieces
 pub mod ServedModules
 pub mod ImportRows
-pub mod ListedTypes
 pub mod WholeModules
+pub mod Sequences
 pub mod Table

@@ -13,14 +13,17 @@ use Rattle.wasm_rules.proofs.Tests.{truth, when, unless, then_some}
 use Rattle.wasm_readers_errors.specs.declared.features.WasmFeatures.{WasmFeatures}
 use Rattle.wasm_validator_types.specs.Spaces.{Spaces}
 use Rattle.wasm_validator.specs.Served.{is_served_piece}
-use Rattle.wasm_validator.specs.Standing.{Types}
+use Rattle.wasm_validator_core.specs.Answers.{Types, HasValidTypes}
 use Rattle.wasm_validator.specs.Machine.{type_items, import_items, export_items, beside}
-use Rattle.wasm_validator.proofs.PlainTypes.{and_left, and_right, and_both}
+use Rattle.wasm_validator_canonical.proofs.Canonical.{and_left, and_right}
+use Rattle.std.proofs.lemmas.Bool.{and_from}
+use Rattle.std.proofs.lemmas.Option.{same_Some}
+use Rattle.wasm_validator.proofs.ValidTypes.{section_back}
 
 -- one piece of a module that is being read
 abbrev pub section_step : WasmFeatures → Types × Spaces → ℕ → ℕ → List ℕ → Option (Types × Spaces)
 section_step features p id n bytes =
-    if id == 1 then type_items features n bytes p else (if id == 2 then import_items n bytes p else (if id == 7 then beside (λ types. export_items types n bytes) p else None))
+    if id == 1 then type_items features n bytes p else (if id == 2 then import_items features n bytes p else (if id == 7 then beside (λ types. export_items features types n bytes) p else None))
 
 abbrev pub step : WasmFeatures → Types × Spaces → Piece → Option (Types × Spaces)
 step features p (Version number kind) = None
@@ -47,7 +50,7 @@ are_parts (p ∷ ps) e i = ((and_left (is_served_piece p) (list_all is_served_pi
 
 pub parts_served : (ps : List Piece) → AreParts ps → list_all is_served_piece ps ≡ true
 parts_served [] a = refl
-parts_served (p ∷ ps) a = and_both (is_served_piece p) (list_all is_served_piece ps) a.0.0 (parts_served ps a.1)
+parts_served (p ∷ ps) a = and_from (is_served_piece p) (list_all is_served_piece ps) a.0.0 (parts_served ps a.1)
 
 -- a part is a custom section, or one of the three that are served
 pub data PartForm : Piece → Type 0 where
@@ -76,7 +79,7 @@ form_of End h = absurd h.1
 
 -- what is accepted is served
 counted_accepted : (features : WasmFeatures) (p q : Types × Spaces) (id n : ℕ) (bytes : List ℕ) (a b c : Bool)
-    → (if a then type_items features n bytes p else (if b then import_items n bytes p else (if c then beside (λ types. export_items types n bytes) p else None))) ≡ Some q → (a || b || c) ≡ true
+    → (if a then type_items features n bytes p else (if b then import_items features n bytes p else (if c then beside (λ types. export_items features types n bytes) p else None))) ≡ Some q → (a || b || c) ≡ true
 counted_accepted features p q id n bytes true b c e = refl
 counted_accepted features p q id n bytes false true c e = refl
 counted_accepted features p q id n bytes false false true e = refl
@@ -93,11 +96,23 @@ step_served features p q (CodeEntry bytes) e = absurd cc
 step_served features p q (Unknown id bytes) e = absurd cc
 step_served features p q End e = absurd cc
 
+-- types that are valid behind a piece were valid before it
+pub step_back : (features : WasmFeatures) (p q : Types × Spaces) (x : Piece) → step features p x ≡ Some q → HasValidTypes features q → HasValidTypes features p
+step_back features p q (Version number kind) e v = absurd cc
+step_back features p q (Custom name bytes) e v = subst (HasValidTypes features) (sym (same_Some p q e)) v
+step_back features p q (Counted id n bytes) e v = section_back features (eqb id 1) (eqb id 2) (eqb id 7) n bytes p q e v
+step_back features p q (Start x) e v = absurd cc
+step_back features p q (DataCount n) e v = absurd cc
+step_back features p q (CodeStart n size) e v = absurd cc
+step_back features p q (CodeEntry bytes) e v = absurd cc
+step_back features p q (Unknown id bytes) e v = absurd cc
+step_back features p q End e v = absurd cc
+
 pub run_served : (features : WasmFeatures) (ps : List Piece) (p q : Types × Spaces) → each (step features) p ps ≡ Some q → list_all is_served_piece ps ≡ true
 run_served features [] p q e = refl
 run_served features (x ∷ ps) p q e =
     let h = then_some (λ t. each (step features) t ps) (step features p x) q e in
-    and_both (is_served_piece x) (list_all is_served_piece ps) (step_served features p h.0 x h.1) (run_served features ps h.0 q h.2)
+    and_from (is_served_piece x) (list_all is_served_piece ps) (step_served features p h.0 x h.1) (run_served features ps h.0 q h.2)
 
 -- the ranks of the sections that are served
 abbrev pub served_ranks : List ℕ

@@ -11,11 +11,14 @@ use Rattle.wasm_validator.specs.declared.payload.ValidPayload.{ValidPayload}
 use Rattle.wasm_validator.specs.declared.payload.ValidPayload.TheVariants.{Ok, End}
 use Rattle.std.specs.declared.result.Result.{Result}
 use Rattle.std.specs.declared.result.Result.TheVariants as results
-use Rattle.wasm_validator.specs.declared.error.Error.{Error}
-use Rattle.wasm_validator.specs.declared.error.Error.TheVariants.{Refused, DuplicateExport, OutOfMemory}
-use Rattle.wasm_validator.specs.Standing.{Standing, Leaves}
+use Rattle.wasm_validator_core.specs.declared.error.Error.{Error}
+use Rattle.wasm_validator_core.specs.declared.error.Error.TheVariants.{Refused, DuplicateExport, OutOfMemory}
+use Rattle.wasm_rules.proofs.Tests.{then_some}
+use Rattle.wasm_validator_core.specs.Answers.{IsNowhere}
+use Rattle.wasm_validator.specs.Standing.{Standing, HoldsValid, Leaves}
 use Rattle.wasm_validator.specs.States.{after_piece, IsBeforeEnd, left_by}
 use Rattle.wasm_validator.specs.Payloads.{ShowsModule, Show, latest_of, after_all, Accepts, Rejects, IsLeft, Validates}
+use Rattle.wasm_validator.proofs.ValidTypes.{all_back}
 
 -- pieces after pieces
 all_from : (ps qs : List Piece) (t : Standing) (o : Option Standing) → ((u : Standing) → after_all u ps ≡ Some t → after_all u (ps ++ qs) ≡ after_all t qs)
@@ -132,11 +135,13 @@ module _ {A : Type 0} where
 
   -- a payload that is refused is in each framing
   pub rejected_payload : (bytes : List ℕ) (old now : Standing) (s s' : State) (p : Piece) (latest : Option (Types A))
-      → Progress bytes old now s latest → next_of s ≡ Some (Some (p, s')) → after_piece now p ≡ None → Rejects bytes old
-  rejected_payload bytes old now s s' p latest g e a = λ all f.
+      → Progress bytes old now s latest → next_of s ≡ Some (Some (p, s')) → IsNowhere HoldsValid (after_piece now p) → Rejects bytes old
+  rejected_payload bytes old now s s' p latest g e a = λ all f q r v.
       let b = front g.pieces (start bytes) s all g.given (framed_run bytes all f) in
       let n = next_in s s' p b.0 e b.2 in
-      ap (after_all old) (b.1 ∙ ap (λ (qs : List Piece). g.pieces ++ qs) n.1) ∙ after_all-append g.pieces (p ∷ n.0) old now g.taken ∙ ap (option_and_then (λ t. after_all t n.0)) a
+      let split : after_all old all ≡ after_all now (p ∷ n.0) = ap (after_all old) (b.1 ∙ ap (λ (qs : List Piece). g.pieces ++ qs) n.1) ∙ after_all-append g.pieces (p ∷ n.0) old now g.taken in
+      let c = then_some (λ t. after_all t n.0) (after_piece now p) q (sym split ∙ r) in
+      a c.0 c.1 (all_back n.0 c.0 q c.2 v)
 
   -- a refusal, as an answer of any type
   abbrev pub refusal : (T : Type 0) → Error A → Result T (Error A)
@@ -144,7 +149,7 @@ module _ {A : Type 0} where
 
   -- what the refusal of a payload says of the whole
   pub refused_whole : (T : Type 0) (bytes : List ℕ) (old now new : Standing) (s : State) (latest : Option (Types A)) (p : Piece) (e : Error A) → Progress bytes old now s latest
-      → Leaves (refusal T e) (after_piece now p) (left_by p now.stage) now new → (after_piece now p ≡ None → Rejects bytes old) → Validates (refusal (Types A) e) bytes old new
+      → Leaves (refusal T e) (after_piece now p) (left_by p now.stage) now new → (IsNowhere HoldsValid (after_piece now p) → Rejects bytes old) → Validates (refusal (Types A) e) bytes old new
   refused_whole T bytes old now new s latest p (Refused r) g l rejected = (rejected l.0, record { pieces = g.pieces; reached = now; run = g.taken; left = inr (p, l.1) })
   refused_whole T bytes old now new s latest p (DuplicateExport name offset) g l rejected = (rejected l.0, record { pieces = g.pieces; reached = now; run = g.taken; left = inr (p, l.1) })
   refused_whole T bytes old now new s latest p OutOfMemory g l rejected = record { pieces = g.pieces; reached = now; run = g.taken; failed_there = l }

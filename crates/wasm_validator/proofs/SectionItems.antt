@@ -1,27 +1,27 @@
 -- Each section as the list of its items, and items that are accepted as items that are served.
-use Rattle.std.proofs.Common.{◌≡◌, refl, sym, ap, subst, ◌∙◌, inl, inr, ℕ, ◌+◌, Bool, true, false, not, ◌&&◌, cond, eqb, leb, List, [], ◌∷◌, map, length, Option, Some, None, arith}
-use Rattle.std.specs.Prelude.{is_none}
+use Rattle.std.proofs.Common.{◌≡◌, refl, sym, ap, subst, ◌∙◌, inl, inr, ℕ, ◌+◌, Bool, true, false, cond, leb, List, [], ◌∷◌, map, length, Option, Some, None, arith}
 use Rattle.std.specs.Option.{option_map, option_and_then}
 use Rattle.std.specs.List.{list_all}
-use Rattle.std.proofs.lemmas.List.{length-map}
-use Rattle.wasm_spec.specs.Syntax.{Comp, func, array, struct, cont, Sub, Rec, map_comp, map_sub, map_rec, Extern, func_extern, func_exact_extern, table_extern, memory_extern, global_extern, tag_extern}
+use Rattle.wasm_spec.specs.Syntax.{map_rec, Extern, func_extern, func_exact_extern, table_extern, memory_extern, global_extern, tag_extern}
 use Rattle.wasm_spec.specs.Values.{items_at}
 use Rattle.wasm_spec.specs.BinaryTypes.{rec_at}
 use Rattle.wasm_spec.specs.BinaryModules.{Import, Export, import_at, export_at, map_import}
 use Rattle.wasm_spec.proofs.LawSet.{rec_renames, import_renames}
 use Rattle.wasm_parser.specs.Framing.{Piece}
+use Rattle.wasm_rules.specs.FeatureFlags.{features_of}
 use Rattle.wasm_rules.specs.Sections.{each}
 use Rattle.wasm_rules.specs.Parts.{index, all_items}
-use Rattle.wasm_rules.proofs.Tests.{guarded, then_some}
+use Rattle.wasm_rules.proofs.Tests.{then_some}
 use Rattle.wasm_readers.specs.Written.{written}
 use Rattle.wasm_readers_errors.specs.declared.features.WasmFeatures.{WasmFeatures}
 use Rattle.wasm_validator_types.specs.Spaces.{Spaces}
-use Rattle.wasm_validator.specs.declared.rules.TheConstants.{MAX_TYPES, MAX_IMPORTS, MAX_EXPORTS}
-use Rattle.wasm_validator.specs.Served.{is_served_comp, is_plain, is_served_sub, is_served_single, is_served_group, is_served_extern, is_served_import}
-use Rattle.wasm_validator.specs.Standing.{Types}
-use Rattle.wasm_validator.specs.Machine.{read_each, add_single, add_group, add_import, add_export, type_items, import_items, export_items}
-use Rattle.wasm_validator.proofs.PlainTypes.{and_left, and_both}
-use Rattle.wasm_validator.proofs.MachineTypes.{served_kept}
+use Rattle.wasm_validator_core.specs.declared.limits.TheConstants.{MAX_TYPES, MAX_IMPORTS, MAX_EXPORTS}
+use Rattle.wasm_validator.specs.Served.{is_served_extern, is_served_import}
+use Rattle.wasm_validator_core.specs.Answers.{Types}
+use Rattle.wasm_validator_core.specs.Machine.{add_group}
+use Rattle.wasm_validator_core.specs.Items.{add_export}
+use Rattle.wasm_validator.specs.Machine.{read_each, type_items, add_served_import, import_items, export_items}
+use Rattle.std.proofs.lemmas.Bool.{and_from}
 use Rattle.wasm_validator.proofs.Reading.{read_then_added, items_renamed, as_many_as_counted}
 use Rattle.wasm_validator.proofs.ModuleRun.{step, SectionOf, one_section}
 
@@ -64,20 +64,20 @@ module _ (features : WasmFeatures) (s : Types × Spaces) (none : s.1.types ≡ [
 
 -- the import section
 module _ (features : WasmFeatures) (s : Types × Spaces) (none : s.1.imports ≡ []) where
-  import_entries : (n : ℕ) (bytes : List ℕ) → import_items n bytes s ≡ option_and_then (limited add_import (map_import written) MAX_IMPORTS s) (items_at (import_at index) n bytes)
+  import_entries : (n : ℕ) (bytes : List ℕ) → import_items features n bytes s ≡ option_and_then (limited (add_served_import features) (map_import written) MAX_IMPORTS s) (items_at (import_at index) n bytes)
   import_entries n bytes =
-      (λ i. cond (leb (length (none i) + n) MAX_IMPORTS) (read_each (import_at written) add_import n bytes s) None)
-      ∙ (λ i. cond (leb (zero_plus n i) MAX_IMPORTS) (read_then_added (import_at written) add_import n bytes s i) None)
-      ∙ ap (λ o. cond (leb n MAX_IMPORTS) (option_and_then (λ ws. each add_import s ws) o) None) (items_renamed (map_import written) (import_at index) (import_at written) (import_renames written index) n bytes)
-      ∙ as_limited add_import (map_import written) MAX_IMPORTS s n (items_at (import_at index) n bytes) (λ vs e. as_many_as_counted (import_at index) n bytes vs e)
+      (λ i. cond (leb (length (none i) + n) MAX_IMPORTS) (read_each (import_at written) (add_served_import features) n bytes s) None)
+      ∙ (λ i. cond (leb (zero_plus n i) MAX_IMPORTS) (read_then_added (import_at written) (add_served_import features) n bytes s i) None)
+      ∙ ap (λ o. cond (leb n MAX_IMPORTS) (option_and_then (λ ws. each (add_served_import features) s ws) o) None) (items_renamed (map_import written) (import_at index) (import_at written) (import_renames written index) n bytes)
+      ∙ as_limited (add_served_import features) (map_import written) MAX_IMPORTS s n (items_at (import_at index) n bytes) (λ vs e. as_many_as_counted (import_at index) n bytes vs e)
 
-  pub imports_step : (ps : List Piece) → SectionOf 2 ps → each (step features) s ps ≡ option_and_then (limited add_import (map_import written) MAX_IMPORTS s) (all_items 2 (import_at index) ps)
-  imports_step ps (inl e) = subst (λ xs. each (step features) s xs ≡ option_and_then (limited add_import (map_import written) MAX_IMPORTS s) (all_items 2 (import_at index) xs)) (sym e) refl
+  pub imports_step : (ps : List Piece) → SectionOf 2 ps → each (step features) s ps ≡ option_and_then (limited (add_served_import features) (map_import written) MAX_IMPORTS s) (all_items 2 (import_at index) ps)
+  imports_step ps (inl e) = subst (λ xs. each (step features) s xs ≡ option_and_then (limited (add_served_import features) (map_import written) MAX_IMPORTS s) (all_items 2 (import_at index) xs)) (sym e) refl
   imports_step ps (inr x) =
       subst
-      (λ xs. each (step features) s xs ≡ option_and_then (limited add_import (map_import written) MAX_IMPORTS s) (all_items 2 (import_at index) xs))
+      (λ xs. each (step features) s xs ≡ option_and_then (limited (add_served_import features) (map_import written) MAX_IMPORTS s) (all_items 2 (import_at index) xs))
       (sym x.is)
-      (then_same (import_items x.count x.contents s) ∙ import_entries x.count x.contents ∙ ap (option_and_then (limited add_import (map_import written) MAX_IMPORTS s)) (sym (one_section 2 (import_at index) x.count x.contents)))
+      (then_same (import_items features x.count x.contents s) ∙ import_entries x.count x.contents ∙ ap (option_and_then (limited (add_served_import features) (map_import written) MAX_IMPORTS s)) (sym (one_section 2 (import_at index) x.count x.contents)))
 
 -- the export section, which leaves the list of types
 abbrev pub same_export : Export → Export
@@ -86,8 +86,8 @@ same_export e = e
 abbrev pub beside_list : Types → Option Spaces → Option (Types × Spaces)
 beside_list T o = option_and_then (λ t. Some (T, t)) o
 
-abbrev pub exported_all : Types → Spaces → List Export → Option (Types × Spaces)
-exported_all T s es = beside_list T (limited (add_export T) same_export MAX_EXPORTS s es)
+abbrev pub exported_all : WasmFeatures → Types → Spaces → List Export → Option (Types × Spaces)
+exported_all features T s es = beside_list T (limited (add_export (features_of features) T) same_export MAX_EXPORTS s es)
 
 pub map_same : (es : List Export) → map same_export es ≡ es
 map_same [] = refl
@@ -98,72 +98,39 @@ module _ (features : WasmFeatures) (s : Types × Spaces) (none : s.1.exports ≡
   unmapped None = refl
   unmapped (Some es) = ap Some (sym (map_same es))
 
-  beside_then : (o : Option (List Export)) → beside_list s.0 (option_and_then (limited (add_export s.0) same_export MAX_EXPORTS s.1) o) ≡ option_and_then (exported_all s.0 s.1) o
+  beside_then : (o : Option (List Export)) → beside_list s.0 (option_and_then (limited (add_export (features_of features) s.0) same_export MAX_EXPORTS s.1) o) ≡ option_and_then (exported_all features s.0 s.1) o
   beside_then None = refl
   beside_then (Some es) = refl
 
-  export_entries : (n : ℕ) (bytes : List ℕ) → export_items s.0 n bytes s.1 ≡ option_and_then (limited (add_export s.0) same_export MAX_EXPORTS s.1) (items_at export_at n bytes)
+  export_entries : (n : ℕ) (bytes : List ℕ) → export_items features s.0 n bytes s.1 ≡ option_and_then (limited (add_export (features_of features) s.0) same_export MAX_EXPORTS s.1) (items_at export_at n bytes)
   export_entries n bytes =
-      (λ i. cond (leb (length (none i) + n) MAX_EXPORTS) (read_each export_at (add_export s.0) n bytes s.1) None)
-      ∙ (λ i. cond (leb (zero_plus n i) MAX_EXPORTS) (read_then_added export_at (add_export s.0) n bytes s.1 i) None)
-      ∙ ap (λ o. cond (leb n MAX_EXPORTS) (option_and_then (λ ws. each (add_export s.0) s.1 ws) o) None) (unmapped (items_at export_at n bytes))
-      ∙ as_limited (add_export s.0) same_export MAX_EXPORTS s.1 n (items_at export_at n bytes) (λ vs e. as_many_as_counted export_at n bytes vs e)
+      (λ i. cond (leb (length (none i) + n) MAX_EXPORTS) (read_each export_at (add_export (features_of features) s.0) n bytes s.1) None)
+      ∙ (λ i. cond (leb (zero_plus n i) MAX_EXPORTS) (read_then_added export_at (add_export (features_of features) s.0) n bytes s.1 i) None)
+      ∙ ap (λ o. cond (leb n MAX_EXPORTS) (option_and_then (λ ws. each (add_export (features_of features) s.0) s.1 ws) o) None) (unmapped (items_at export_at n bytes))
+      ∙ as_limited (add_export (features_of features) s.0) same_export MAX_EXPORTS s.1 n (items_at export_at n bytes) (λ vs e. as_many_as_counted export_at n bytes vs e)
 
-  pub exports_step : (ps : List Piece) → SectionOf 7 ps → each (step features) s ps ≡ option_and_then (exported_all s.0 s.1) (all_items 7 export_at ps)
-  exports_step ps (inl e) = subst (λ xs. each (step features) s xs ≡ option_and_then (exported_all s.0 s.1) (all_items 7 export_at xs)) (sym e) refl
+  pub exports_step : (ps : List Piece) → SectionOf 7 ps → each (step features) s ps ≡ option_and_then (exported_all features s.0 s.1) (all_items 7 export_at ps)
+  exports_step ps (inl e) = subst (λ xs. each (step features) s xs ≡ option_and_then (exported_all features s.0 s.1) (all_items 7 export_at xs)) (sym e) refl
   exports_step ps (inr x) =
       subst
-      (λ xs. each (step features) s xs ≡ option_and_then (exported_all s.0 s.1) (all_items 7 export_at xs))
+      (λ xs. each (step features) s xs ≡ option_and_then (exported_all features s.0 s.1) (all_items 7 export_at xs))
       (sym x.is)
-      (then_same (beside_list s.0 (export_items s.0 x.count x.contents s.1))
+      (then_same (beside_list s.0 (export_items features s.0 x.count x.contents s.1))
       ∙ ap (beside_list s.0) (export_entries x.count x.contents)
       ∙ beside_then (items_at export_at x.count x.contents)
-      ∙ ap (option_and_then (exported_all s.0 s.1)) (sym (one_section 7 export_at x.count x.contents)))
-
--- groups that are accepted are served
-served_comp_kept : (c : Comp ℕ) → is_served_comp (map_comp written c) ≡ is_served_comp c
-served_comp_kept (func ps rs) = λ i. served_kept ps i && served_kept rs i
-served_comp_kept (array x) = refl
-served_comp_kept (struct xs) = refl
-served_comp_kept (cont r) = refl
-
-none_kept : {R S : Type 0} (f : R → S) (o : Option R) → is_none (option_map f o) ≡ is_none o
-none_kept f None = refl
-none_kept f (Some r) = refl
-
-plain_kept : (t : Sub ℕ) → is_plain (map_sub written t) ≡ is_plain t
-plain_kept t = λ i. t.is_final && eqb (length-map t.supers written i) 0 && not t.shared && none_kept written t.descriptor i && none_kept written t.describes i
-
-served_sub_kept : (t : Sub ℕ) → is_served_sub (map_sub written t) ≡ is_served_sub t
-served_sub_kept t = λ i. plain_kept t i && served_comp_kept t.comp i
-
-module _ (features : WasmFeatures) where
-  single_accepted : (p q : Types × Spaces) (ts : List (Sub ℕ)) → add_single features p (map (map_sub written) ts) ≡ Some q → is_served_single ts ≡ true
-  single_accepted p q [] e = absurd cc
-  single_accepted p q (t ∷ []) e = sym (served_sub_kept t) ∙ and_left _ _ (and_left _ _ (and_left _ _ (guarded _ _ q e).0))
-  single_accepted p q (t ∷ u ∷ ts) e = absurd cc
-
-  explicit_accepted : (b : Bool) (ts : List (Sub ℕ)) (p q : Types × Spaces) → cond b None (add_single features p (map (map_sub written) ts)) ≡ Some q → (not b && is_served_single ts) ≡ true
-  explicit_accepted true ts p q e = absurd cc
-  explicit_accepted false ts p q e = single_accepted p q ts e
-
-  pub groups_accepted : (gs : List (Rec ℕ)) (p q : Types × Spaces) → each (add_group features) p (map (map_rec written) gs) ≡ Some q → list_all is_served_group gs ≡ true
-  groups_accepted [] p q e = refl
-  groups_accepted (g ∷ gs) p q e =
-      let h = then_some (λ t. each (add_group features) t (map (map_rec written) gs)) (add_group features p (map_rec written g)) q e in
-      and_both (is_served_group g) (list_all is_served_group gs) (explicit_accepted g.is_explicit g.types p h.0 h.1) (groups_accepted gs h.0 q h.2)
+      ∙ ap (option_and_then (exported_all features s.0 s.1)) (sym (one_section 7 export_at x.count x.contents)))
 
 -- imports that are accepted are served
-extern_accepted : (p q : Types × Spaces) (m n : List ℕ) (x : Extern ℕ) → add_import p (map_import written (record { module_name = m; item_name = n; ty = x })) ≡ Some q → is_served_extern x ≡ true
-extern_accepted p q m n (func_extern x) e = refl
-extern_accepted p q m n (func_exact_extern x) e = absurd cc
-extern_accepted p q m n (table_extern t) e = absurd cc
-extern_accepted p q m n (memory_extern t) e = absurd cc
-extern_accepted p q m n (global_extern g) e = absurd cc
-extern_accepted p q m n (tag_extern x) e = absurd cc
+extern_accepted : (features : WasmFeatures) (p q : Types × Spaces) (m n : List ℕ) (x : Extern ℕ) → add_served_import features p (map_import written (record { module_name = m; item_name = n; ty = x })) ≡ Some q → is_served_extern x ≡ true
+extern_accepted features p q m n (func_extern x) e = refl
+extern_accepted features p q m n (func_exact_extern x) e = absurd cc
+extern_accepted features p q m n (table_extern t) e = absurd cc
+extern_accepted features p q m n (memory_extern t) e = absurd cc
+extern_accepted features p q m n (global_extern g) e = absurd cc
+extern_accepted features p q m n (tag_extern x) e = absurd cc
 
-pub imports_accepted : (is : List (Import ℕ)) (p q : Types × Spaces) → each add_import p (map (map_import written) is) ≡ Some q → list_all is_served_import is ≡ true
-imports_accepted [] p q e = refl
-imports_accepted (i ∷ is) p q e =
-    let h = then_some (λ t. each add_import t (map (map_import written) is)) (add_import p (map_import written i)) q e in
-    and_both (is_served_import i) (list_all is_served_import is) (extern_accepted p h.0 i.module_name i.item_name i.ty h.1) (imports_accepted is h.0 q h.2)
+pub imports_accepted : (features : WasmFeatures) (is : List (Import ℕ)) (p q : Types × Spaces) → each (add_served_import features) p (map (map_import written) is) ≡ Some q → list_all is_served_import is ≡ true
+imports_accepted features [] p q e = refl
+imports_accepted features (i ∷ is) p q e =
+    let h = then_some (λ t. each (add_served_import features) t (map (map_import written) is)) (add_served_import features p (map_import written i)) q e in
+    and_from (is_served_import i) (list_all is_served_import is) (extern_accepted features p h.0 i.module_name i.item_name i.ty h.1) (imports_accepted features is h.0 q h.2)

@@ -4,8 +4,18 @@ use Rattle.wasm_readers_errors.specs.declared.features.WasmFeatures.{WasmFeature
 use Rattle.wasm_validator_types.specs.Spaces.{Spaces}
 use Rattle.wasm_validator.specs.declared.validator.State.{State}
 use Rattle.wasm_validator.specs.declared.validator.State.TheVariants.{Unparsed, Module, End, Failed}
-use Rattle.wasm_validator.specs.Standing.{Types, shown_at, Standing, ended}
-use Rattle.wasm_validator.specs.States.{open_of, stage_of, closed, after_end}
+use Rattle.wasm_validator_core.specs.Answers.{Types}
+use Rattle.wasm_rules.specs.FeatureFlags.{features_of}
+use Rattle.wasm_validator_canonical.specs.Groups.{AreValid}
+use Rattle.wasm_validator_types.specs.Shown.{types_of}
+use Rattle.wasm_validator.specs.Standing.{shown_at, Standing, ended}
+use Rattle.wasm_validator_type_list.specs.Listing.{Listing}
+use Rattle.wasm_validator_core.specs.Ready.{AreIdsOf}
+use Rattle.wasm_validator.specs.Ready.{AreIdsIn, AreValidIn}
+use Rattle.wasm_validator.specs.States.{open_of, stage_of, state_kept, closed, after_end}
+use Rattle.std.specs.declared.result.Result.{Result}
+use Rattle.std.specs.declared.result.Result.TheVariants as results
+use Rattle.wasm_validator_core.specs.declared.error.Error.{Error}
 
 -- the end of a module that is being read
 module _ {A : Type 0} where
@@ -36,3 +46,36 @@ module _ {A : Type 0} where
     shown_from_open types' m' v o e f =
         let P : Standing → Type 0 = λ w. shown_at w.stage ≡ Some (types', m') in
         subst P v (open-shows types s m o ∙ (λ i. Some (sym e i, sym f i)))
+
+-- the types of a validator are valid
+module _ {A : Type 0} (features : WasmFeatures) (list : Listing A) where
+  pub open-valid : (s : State A) (m : Spaces) → open_of s ≡ Some m → AreValidIn features list s → AreValid (features_of features) (types_of list)
+  open-valid (Module n) m o v = v
+  open-valid Unparsed m o v = absurd (cc)
+  open-valid End m o v = absurd (cc)
+  open-valid Failed m o v = absurd (cc)
+
+  pub unparsed-valid : (s : State A) → s ≡ Unparsed → AreValidIn features list s → AreValid (features_of features) (types_of list)
+  unparsed-valid s e v = subst (AreValidIn features list) e v
+
+  pub shown-valid : (id : ℕ) (s : State A) (m : Spaces) (old : Standing) (types : Types) → record { id = id; features = features; stage = stage_of (types_of list) s } ≡ old → open_of s ≡ Some m → AreValidIn features list s → types ≡ types_of list → AreValid (features_of old.features) types
+  shown-valid id s m old types e o v same =
+      subst (λ (w : Standing). AreValid (features_of w.features) types) e (subst (AreValid (features_of features)) (sym same) (open-valid s m o v))
+
+-- the ids of a module that is being read
+module _ {A : Type 0} where
+  pub open-ids : (list : Listing A) (s : State A) (m : Spaces) → open_of s ≡ Some m → AreIdsIn list s → AreIdsOf list m.types
+  open-ids list (Module n) m o a = let same : n ≡ m = cc in subst (λ (x : Spaces). AreIdsOf list x.types) same a
+  open-ids list Unparsed m o a = absurd (cc)
+  open-ids list End m o a = absurd (cc)
+  open-ids list Failed m o a = absurd (cc)
+
+-- what is left of it where a section was added that leaves the list
+module _ {T A : Type 0} (list : Listing A) (m : Spaces) where
+  pub kept-ids : (r : Result T (Error A)) → AreIdsOf list m.types → AreIdsIn list (state_kept r m)
+  kept-ids (results.Ok x) a = a
+  kept-ids (results.Err e) a = tt
+
+  pub kept-valid : (features : WasmFeatures) (r : Result T (Error A)) → AreValid (features_of features) (types_of list) → AreValidIn features list (state_kept r m)
+  kept-valid features (results.Ok x) v = v
+  kept-valid features (results.Err e) v = tt

@@ -1,30 +1,31 @@
 -- The parts of a module of the forms that are served, and when they keep their rules.
-use Rattle.std.proofs.Common.{◌≡◌, refl, sym, ap, ◌∙◌, inl, inr, ℕ, ◌+◌, ◌<◌, true, eqb, List, [], ◌∷◌, map, length, slice_get, slice_index, get_or, Option, Some, None, append-nil}
+use Rattle.std.proofs.Common.{◌≡◌, refl, sym, ap, ◌∙◌, inl, inr, ℕ, ◌+◌, ◌<◌, true, eqb, List, [], ◌∷◌, map, length, slice_get, slice_index, Option, Some, None, append-nil}
 use Rattle.std.specs.Prelude.{is_some}
 use Rattle.std.specs.Option.{option_map}
 use Rattle.std.specs.List.{All}
 use Rattle.std.proofs.lemmas.Bool.{eqb-true, eq-eqb}
 use Rattle.std.proofs.lemmas.List.Elements.{All-head, All-tail}
 use Rattle.std.proofs.lemmas.Option.{slice_get-get_or, slice_get_within}
-use Rattle.wasm_spec.specs.Syntax.{Extern, func_extern, table_extern, memory_extern, global_extern, tag_extern}
+use Rattle.wasm_spec.specs.Syntax.{Val, Rec, Extern, func_extern, table_extern, memory_extern, global_extern, tag_extern}
 use Rattle.wasm_spec.specs.BinaryModules.{Export}
-use Rattle.wasm_spec.specs.Features.{Features}
 use Rattle.wasm_spec.specs.Trees.{DefType}
 use Rattle.wasm_rules.specs.Parts.{Parts}
 use Rattle.wasm_rules.specs.IndexSpaces.{IndexSpaces, index_spaces, imported, functions_in, tables_in, memories_in, globals_in, tags_in, signature_at, IsFunctionType}
 use Rattle.wasm_rules.specs.LinkRules.{exported, signature_size, import_size, size_if, export_size, sum}
 use Rattle.wasm_rules.proofs.Tests.{when, chosen, map_some}
-use Rattle.wasm_validator.specs.Standing.{Types}
-use Rattle.wasm_validator.proofs.PlainTypes.{Signature, plain_group}
-use Rattle.wasm_validator.proofs.TypeSection.{arity, arities, plain_types}
-use Rattle.wasm_validator.proofs.FunctionImports.{FunctionImport, function_import, size_of_arity, sizes, size_at}
+use Rattle.wasm_readers_errors.specs.declared.features.WasmFeatures.{WasmFeatures}
+use Rattle.wasm_validator_canonical.specs.Arities.{arity}
+use Rattle.wasm_validator_core.specs.Answers.{Types}
+use Rattle.wasm_validator_core.specs.Items.{function_size}
+use Rattle.wasm_validator.proofs.AddedTypes.{TypesAdded, type_space, list_after, ids}
+use Rattle.wasm_validator.proofs.FunctionImports.{FunctionImport, function_import, sizes, size_at}
 use Rattle.wasm_validator.proofs.FunctionExports.{export_sizes}
-use Rattle.wasm_validator.proofs.RunOfParts.{list_after, ids, arities_of, have_arities}
+use Rattle.wasm_validator.proofs.RunOfParts.{arities_of, have_arities}
 
 -- the parts of types, imported functions and exports
-abbrev pub served_parts : List (Signature ℕ) → List FunctionImport → List Export → Parts
-served_parts ss fs es = record {
-  groups = map plain_group ss;
+abbrev pub served_parts : List (Rec ℕ) → List FunctionImport → List Export → Parts
+served_parts gs fs es = record {
+  groups = gs;
   imports = map function_import fs;
   functions = [];
   tables = [];
@@ -71,9 +72,9 @@ pub record OnlyFunctions (C : IndexSpaces) (functions : List ℕ) : Type 0 where
   pub globals : C.globals ≡ []
   pub tags : C.tags ≡ []
 
-module _ (types : List DefType) (ss : List (Signature ℕ)) (fs : List FunctionImport) (es : List Export) where
+module _ (types : List DefType) (gs : List (Rec ℕ)) (fs : List FunctionImport) (es : List Export) where
   abbrev pub served_spaces : IndexSpaces
-  served_spaces = index_spaces types (served_parts ss fs es)
+  served_spaces = index_spaces types (served_parts gs fs es)
 
   pub served_only : OnlyFunctions served_spaces (map import_index fs)
   served_only = record {
@@ -115,37 +116,33 @@ module _ (C : IndexSpaces) (functions : List ℕ) (only : OnlyFunctions C functi
         ]
       ]
 
-size_is : (o : Option (Signature DefType)) → signature_size o ≡ size_of_arity (option_map arity o)
+size_is : (o : Option (List (Val DefType) × List (Val DefType))) → signature_size o ≡ function_size (option_map arity o)
 size_is None = refl
 size_is (Some s) = refl
 
-some_is : {X Y : Type 0} (f : X → Y) (o : Option X) (y : Y) → option_map f o ≡ Some y → is_some o ≡ true
-some_is f None y e = absurd cc
-some_is f (Some x) y e = refl
+some_map : {X Y : Type 0} (f : X → Y) (o : Option X) → is_some (option_map f o) ≡ is_some o
+some_map f None = refl
+some_map f (Some x) = refl
 
-there_is : {X Y : Type 0} (f : X → Y) (o : Option X) (p : Option Y) → option_map f o ≡ p → is_some o ≡ true → (y : Y) × (p ≡ Some y)
-there_is f None p e h = absurd cc
-there_is f (Some x) p e h = (f x, sym e)
-
--- the types of plain groups, with what the machine knows of them
-module _ (F : Features) (T : Types) (ss : List (Signature ℕ)) where
+-- the types of a module, with what the machine knows of them
+module _ (features : WasmFeatures) (T : Types) (gs : List (Rec ℕ)) (types : TypesAdded features T gs) where
   abbrev pub section_space : List DefType
-  section_space = plain_types F [] ss
+  section_space = type_space features T gs types
 
-  pub is_function_type : (x : ℕ) → x < length (arities_of T ss) → IsFunctionType section_space x
-  is_function_type x h = some_is arity (signature_at section_space x) (get_or (arities_of T ss) x (0, 0)) (arities F ss [] x ∙ slice_get-get_or (arities_of T ss) x (0, 0) h)
+  pub is_function_type : (x : ℕ) → is_some (arities_of features T gs types x) ≡ true → IsFunctionType section_space x
+  is_function_type x h = sym (some_map arity (signature_at section_space x)) ∙ h
 
-  pub function_type_is : (x : ℕ) → IsFunctionType section_space x → x < length (arities_of T ss)
-  function_type_is x h = let y = there_is arity (signature_at section_space x) (slice_get (arities_of T ss) x) (arities F ss [] x) h in slice_get_within (arities_of T ss) x y.0 y.1
+  pub function_type_is : (x : ℕ) → IsFunctionType section_space x → is_some (arities_of features T gs types x) ≡ true
+  function_type_is x h = some_map arity (signature_at section_space x) ∙ h
 
   abbrev size_of : ℕ → ℕ
-  size_of x = size_at (list_after T ss) (ids T ss) (arities_of T ss) (have_arities T ss) x
+  size_of x = size_at (list_after features T gs types) (ids features T gs types) (arities_of features T gs types) (have_arities features T gs types) x
 
   type_size : (x : ℕ) → signature_size (signature_at section_space x) ≡ size_of x
-  type_size x = size_is (signature_at section_space x) ∙ ap size_of_arity (arities F ss [] x)
+  type_size x = size_is (signature_at section_space x)
 
   -- the size of imports, and of exports
-  pub imports_size : (fs : List FunctionImport) → sum (map (import_size section_space) (map function_import fs)) ≡ sum (sizes (list_after T ss) (ids T ss) (arities_of T ss) (have_arities T ss) fs)
+  pub imports_size : (fs : List FunctionImport) → sum (map (import_size section_space) (map function_import fs)) ≡ sum (sizes (list_after features T gs types) (ids features T gs types) (arities_of features T gs types) (have_arities features T gs types) fs)
   imports_size [] = refl
   imports_size (f ∷ fs) = λ i. type_size f.index i + imports_size fs i
 
@@ -157,7 +154,7 @@ module _ (F : Features) (T : Types) (ss : List (Signature ℕ)) where
         ∙ type_size (slice_index functions e.index)
 
     pub exports_size : (es : List Export) → All (λ (e : Export). (e.kind ≡ 0) × (e.index < length functions)) es
-        → sum (map (export_size C) es) ≡ sum (export_sizes (list_after T ss) (ids T ss) (arities_of T ss) (have_arities T ss) functions es)
+        → sum (map (export_size C) es) ≡ sum (export_sizes (list_after features T gs types) (ids features T gs types) (arities_of features T gs types) (have_arities features T gs types) functions es)
     exports_size [] a = refl
     exports_size (e ∷ es) a =
         let P : Export → Type 0 = λ x. (x.kind ≡ 0) × (x.index < length functions) in

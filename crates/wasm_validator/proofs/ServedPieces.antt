@@ -3,6 +3,7 @@ use Rattle.std.proofs.Common.{◌≡◌, ◌≢◌, refl, sym, ap, ◌∙◌, �
 use Rattle.std.specs.List.{flat_map, All}
 use Rattle.std.proofs.lemmas.Bool.{ne_eqb}
 use Rattle.std.proofs.lemmas.List.Elements.{All-nil, All-cons}
+use Rattle.wasm_spec.specs.Syntax.{Rec}
 use Rattle.wasm_spec.specs.Values.{u32_at, items_at}
 use Rattle.wasm_spec.specs.BinaryTypes.{rec_at, memory_at, tag_at}
 use Rattle.wasm_spec.specs.BinaryModules.{Export, import_at, export_at}
@@ -12,7 +13,6 @@ use Rattle.wasm_parser.specs.Framing.{Piece, Version, End}
 use Rattle.wasm_rules.specs.Parts.{Parts, Expression, HasParts, index, items_of, all_items, starts_of, data_counts_of, bodies_of}
 use Rattle.wasm_rules.specs.Modules.{IsAllowedPiece}
 use Rattle.wasm_rules.proofs.Tests.{unless}
-use Rattle.wasm_validator.proofs.PlainTypes.{Signature, plain_group}
 use Rattle.wasm_validator.proofs.FunctionImports.{FunctionImport, function_import}
 use Rattle.wasm_validator.proofs.ModuleRun.{PartForm, custom, types, imports, exports, form_of, AreParts, framed_items, no_items}
 use Rattle.wasm_validator.proofs.ServedParts.{served_parts}
@@ -72,10 +72,10 @@ allowed_inside F (p ∷ ps) a = All-cons (IsAllowedPiece F) p (ps ++ End ∷ [])
 
 module _ (expression_at : List ℕ → Option (Expression × List ℕ)) (number kind : ℕ) (ps : List Piece) (a : AreParts ps) where
   -- the three lists of a module that is served are all its parts
-  pub all_parts : (ss : List (Signature ℕ)) (fs : List FunctionImport) (es : List Export)
-      → all_items 1 (rec_at index) ps ≡ Some (map plain_group ss) → all_items 2 (import_at index) ps ≡ Some (map function_import fs) → all_items 7 export_at ps ≡ Some es
-      → HasParts expression_at (whole number kind ps) (served_parts ss fs es)
-  all_parts ss fs es g i x = record {
+  pub all_parts : (gs : List (Rec ℕ)) (fs : List FunctionImport) (es : List Export)
+      → all_items 1 (rec_at index) ps ≡ Some gs → all_items 2 (import_at index) ps ≡ Some (map function_import fs) → all_items 7 export_at ps ≡ Some es
+      → HasParts expression_at (whole number kind ps) (served_parts gs fs es)
+  all_parts gs fs es g i x = record {
     groups = framed_items 1 (rec_at index) number kind ps ∙ g;
     imports = framed_items 2 (import_at index) number kind ps ∙ i;
     functions = no_section 3 u32_at (λ e. cc) (λ e. cc) (λ e. cc) number kind ps a;

@@ -6,7 +6,8 @@ use Rattle.wasm_parser.specs.Framing.{Piece, Version, Custom, Counted, Start, Da
 use Rattle.wasm_rules.specs.StateTable as table
 use Rattle.wasm_rules.specs.StateTable.{Phase, Call, section, data_section, accepted_to, refused_to}
 use Rattle.wasm_validator_types.specs.Spaces.{Spaces, no_spaces}
-use Rattle.wasm_validator.specs.Standing.{Types, Stage, unparsed, in_module, ended, failed, Standing, within, at_stage}
+use Rattle.wasm_validator_core.specs.Answers.{Types, IsNowhere}
+use Rattle.wasm_validator.specs.Standing.{Stage, unparsed, in_module, ended, failed, Standing, AreValidAt, HoldsValid, within, at_stage}
 use Rattle.wasm_validator.specs.States.{left_by, begun, closed}
 use Rattle.wasm_validator.specs.Machine.{type_items, import_items, export_items, beside}
 use Rattle.wasm_validator.specs.Table.{phase_of, AcceptedByTable, RefusedByTable}
@@ -64,7 +65,7 @@ pub accepted_by_table : AcceptedByTable
 accepted_by_table s t (Version number kind) e = let h = version_in s t number (eqb kind 0) s.stage e in ap (accepted_to table.header) h.0 ∙ ap Some (sym h.1)
 accepted_by_table s t (Custom name bytes) e = let same : s ≡ t = cc in ap (λ (u : Standing). Some (phase_of u.stage)) same
 accepted_by_table s t (Counted id n bytes) e =
-    let h = section_stays s t (eqb id 1) (eqb id 2) (eqb id 7) (type_items s.features n bytes) (import_items n bytes) (beside (λ types. export_items types n bytes)) e in
+    let h = section_stays s t (eqb id 1) (eqb id 2) (eqb id 7) (type_items s.features n bytes) (import_items s.features n bytes) (beside (λ types. export_items s.features types n bytes)) e in
     either_section (eqb id 11) (phase_of s.stage) (phase_of t.stage) h.0 h.1
 accepted_by_table s t (Start x) e = absurd cc
 accepted_by_table s t (DataCount n) e = absurd cc
@@ -100,21 +101,21 @@ refused_unknown (in_module types spaces) = refl
 refused_unknown (ended types) = refl
 refused_unknown failed = refl
 
-refused_end : (s : Standing) (g : Stage) → at_stage s (closed g) ≡ None → refused_to table.end (phase_of g) ≡ phase_of (left_by parts.End g)
-refused_end s (unparsed types) e = refl
-refused_end s (in_module types spaces) e = absurd cc
-refused_end s (ended types) e = refl
-refused_end s failed e = refl
+refused_end : (s : Standing) (g : Stage) → AreValidAt s.features g → IsNowhere HoldsValid (at_stage s (closed g)) → refused_to table.end (phase_of g) ≡ phase_of (left_by parts.End g)
+refused_end s (unparsed types) v e = refl
+refused_end s (in_module types spaces) v e = absurd (e (record s { stage = ended types }) refl v)
+refused_end s (ended types) v e = refl
+refused_end s failed v e = refl
 
 pub refused_by_table : RefusedByTable
-refused_by_table s (Version number kind) e = refused_header s.stage
-refused_by_table s (Custom name bytes) e = absurd cc
-refused_by_table s (Counted id n bytes) e = either_refused (eqb id 11) s.stage
-refused_by_table s (Start x) e = refused_section s.stage
-refused_by_table s (DataCount n) e = refused_section s.stage
-refused_by_table s (CodeStart n size) e = refused_code n s.stage
-refused_by_table s (CodeEntry bytes) e = refused_entry s.stage
-refused_by_table s (Unknown id bytes) e = refused_unknown s.stage
-refused_by_table s parts.End e = refused_end s s.stage e
+refused_by_table s (Version number kind) v e = refused_header s.stage
+refused_by_table s (Custom name bytes) v e = absurd (e s refl v)
+refused_by_table s (Counted id n bytes) v e = either_refused (eqb id 11) s.stage
+refused_by_table s (Start x) v e = refused_section s.stage
+refused_by_table s (DataCount n) v e = refused_section s.stage
+refused_by_table s (CodeStart n size) v e = refused_code n s.stage
+refused_by_table s (CodeEntry bytes) v e = refused_entry s.stage
+refused_by_table s (Unknown id bytes) v e = refused_unknown s.stage
+refused_by_table s parts.End v e = refused_end s s.stage v e
 
 pub ruleset table_laws = (accepted_by_table, refused_by_table)

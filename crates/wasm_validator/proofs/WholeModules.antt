@@ -1,38 +1,41 @@
 -- A run over whole bytes decides whether they are a valid module of the forms that are served.
-use Rattle.std.proofs.Common.{◌≡◌, refl, sym, ap, subst, ◌∙◌, ℕ, ◌+◌, ◌≤◌, Bool, true, false, cond, if◌then◌else◌, ◌==◌, ◌&&◌, eqb, List, [], ◌∷◌, ◌++◌, map, length, Option, Some, None, arith}
+use Rattle.std.proofs.Common.{◌≡◌, refl, sym, ap, subst, ◌∙◌, ℕ, Bool, true, false, cond, if◌then◌else◌, ◌==◌, ◌&&◌, eqb, List, [], ◌∷◌, ◌++◌, map, Option, Some, None, arith}
 use Rattle.std.specs.Option.{option_map, option_and_then}
 use Rattle.std.proofs.lemmas.Bool.{eqb-true}
 use Rattle.std.specs.declared.result.Result.{Result}
 use Rattle.std.specs.declared.result.Result.TheVariants as results
 use Rattle.wasm_parser.specs.Framing as parts
 use Rattle.wasm_parser.specs.Framing.{Piece, Version, Custom, Counted, Start, DataCount, CodeStart, CodeEntry, Unknown, IsFramed}
-use Rattle.wasm_spec.specs.Features.{Features}
+use Rattle.wasm_spec.specs.Features.{Features, canonical}
+use Rattle.wasm_spec.specs.Trees.{DefType}
+use Rattle.wasm_spec.specs.TypeLaws.{HasNoRepetition}
 use Rattle.wasm_rules.specs.FeatureFlags.{features_of}
-use Rattle.wasm_rules.specs.IndexSpaces.{index_spaces}
+use Rattle.wasm_rules.specs.Parts.{Parts}
+use Rattle.wasm_rules.specs.IndexSpaces.{IndexSpaces, index_spaces}
 use Rattle.wasm_rules.specs.Sections.{each, ranks}
 use Rattle.wasm_rules.proofs.FramedOrder.{IsInner, AreInner, others_inner, others_follow}
 use Rattle.wasm_rules.proofs.Ordered.{Follows}
 use Rattle.wasm_rules.proofs.Tests.{then_some, map_some}
-use Rattle.wasm_readers_types.specs.SeenTypes.{sub_of}
-use Rattle.wasm_readers_types.specs.declared.indices.TheConstants.{MAX_IDS}
 use Rattle.wasm_readers_errors.specs.declared.features.WasmFeatures.{WasmFeatures}
 use Rattle.wasm_validator_types.specs.Spaces.{Spaces, no_spaces}
-use Rattle.wasm_validator_types.specs.Shown.{shown_of}
+use Rattle.wasm_validator_type_list.specs.Standing.{standing}
+use Rattle.wasm_validator_types.specs.Shown.{shown_of, types_of}
 use Rattle.wasm_validator_types.specs.declared.shown.Types as shown
-use Rattle.wasm_validator.specs.declared.error.Error.{Error}
-use Rattle.wasm_validator.specs.declared.error.Error.TheVariants.{Refused, DuplicateExport, OutOfMemory}
-use Rattle.wasm_validator.specs.Standing.{Types, Stage, Standing, unparsed, in_module, ended, failed, fresh, shown_at}
+use Rattle.wasm_validator_core.specs.declared.error.Error.{Error}
+use Rattle.wasm_validator_core.specs.declared.error.Error.TheVariants.{Refused, DuplicateExport, OutOfMemory}
+use Rattle.wasm_validator_canonical.specs.Groups.{AreValid}
+use Rattle.wasm_validator_core.specs.Answers.{Types, HasValidTypes}
+use Rattle.wasm_validator.specs.Standing.{Stage, Standing, unparsed, in_module, ended, failed, fresh, shown_at, AreValidAt, HoldsValid}
 use Rattle.wasm_validator.specs.States.{after_piece, after_version, IsBeforeEnd}
 use Rattle.wasm_validator.specs.Machine.{type_items, import_items, export_items, beside}
-use Rattle.wasm_validator.specs.Payloads.{after_all, Accepts, Rejects, Validates}
+use Rattle.wasm_validator.specs.Payloads.{Show, after_all, Accepts, Rejects, Validates}
 use Rattle.wasm_validator.specs.Shows.{ShowModule, export_row}
 use Rattle.wasm_validator.specs.Verdict.{Expressions, IsServedModule, AcceptsModule, RefusesModule, DecidesModule, DecidesAlone}
 use Rattle.wasm_validator.proofs.ImportRows.{in_rows}
-use Rattle.wasm_validator.proofs.ListedTypes.{stand}
+use Rattle.wasm_validator.proofs.AddedTypes.{section, list_after, ids}
 use Rattle.wasm_validator.proofs.ModuleRun.{step, AreParts, are_parts, run_served, no_zero, restrict, served_ranks}
-use Rattle.wasm_validator.proofs.MachineTypes.{kept}
-use Rattle.wasm_validator.proofs.RunOfParts.{list_after, ids, arities_of, have_arities, spaces_3, Accepted, end_of, ran, runs}
-use Rattle.wasm_validator.proofs.ServedParts.{served_parts, served_only, section_space}
+use Rattle.wasm_validator.proofs.RunOfParts.{arities_of, have_arities, spaces_3, Accepted, end_of, ran, runs}
+use Rattle.wasm_validator.proofs.ServedParts.{served_parts, OnlyFunctions, served_only, import_index, section_space}
 use Rattle.wasm_validator.proofs.ServedModules.{accepted_valid, valid_accepted}
 
 -- a validator in a module
@@ -61,14 +64,14 @@ module _ (id : ℕ) (features : WasmFeatures) where
       (eqb k 2)
       (eqb k 7)
       (type_items features n bytes p)
-      (import_items n bytes p)
-      (beside (λ types. export_items types n bytes) p)
+      (import_items features n bytes p)
+      (beside (λ types. export_items features types n bytes) p)
       _
       _
       _
       (lifted (at id features p) (type_items features n bytes p))
-      (lifted (at id features p) (import_items n bytes p))
-      (lifted (at id features p) (beside (λ types. export_items types n bytes) p))
+      (lifted (at id features p) (import_items features n bytes p))
+      (lifted (at id features p) (beside (λ types. export_items features types n bytes) p))
   one_step p (Start x) i = refl
   one_step p (DataCount n) i = refl
   one_step p (CodeStart n size) i = refl
@@ -157,9 +160,6 @@ parts_follow bytes pieces f a = restrict ranks f.others no_rank_is_zero a (other
 the_same : {X : Type 0} (x y : X) → Some x ≡ Some y → x ≡ y
 the_same x y e = cc
 
-nothing : {X : Type 0} (x : X) → None ≡ Some x → ⊥
-nothing x e = cc
-
 -- a run through the end, by its run inside
 record RunsInside {A : Type 0} (bytes : List ℕ) (old new : Standing) (t : shown.Types A) (pieces : List Piece) (f : IsFramed bytes pieces) : Type 0 where
   before : Types
@@ -167,10 +167,19 @@ record RunsInside {A : Type 0} (bytes : List ℕ) (old new : Standing) (t : show
   header : Version f.number f.kind ≡ Version 1 0
   q : Types × Spaces
   inside : each (step old.features) (before, no_spaces) f.others ≡ Some q
+  valid : HasValidTypes old.features q
   after : new ≡ record old { stage = ended q.0 }
-  list : q.0 ≡ map sub_of (shown_of t).list
+  list : q.0 ≡ types_of (shown_of t).list
   spaces : q.1 ≡ (shown_of t).spaces
   same_id : (shown_of t).id ≡ old.id
+  once : canonical (features_of old.features) ≡ true → HasNoRepetition (types_of (shown_of t).list)
+
+-- no type has two ids in what is shown
+same_once : {A : Type 0} (t : shown.Types A) (old s : Standing) → old.features ≡ s.features → Show s t → canonical (features_of old.features) ≡ true → HasNoRepetition (types_of (shown_of t).list)
+same_once t old s f h e =
+    let list = (shown_of t).list in
+    let mode : list.is_canonical ≡ true = h.mode ∙ ap (λ (g : WasmFeatures). canonical (features_of g)) (sym f) ∙ e in
+    subst (λ (c : Bool). HasNoRepetition (standing c list.groups)) (sym mode) (h.once mode).types
 
 runs_inside : {A : Type 0} (bytes : List ℕ) (old new : Standing) (t : shown.Types A) (a : Accepts bytes old new t) → RunsInside bytes old new t a.pieces a.framed
 runs_inside bytes old new t a =
@@ -197,8 +206,8 @@ runs_inside bytes old new t a =
     ∙ inside_run old.id old.features f.others start inner
     ∙ ap (option_map (at old.id old.features)) m.1 in
     let at_end : at old.id old.features q ≡ a.before_end = the_same (at old.id old.features q) a.before_end (sym reached ∙ ap (after_all old) split ∙ a.reached) in
-    let seen : shown_at (in_module q.0 q.1) ≡ Some (map sub_of (shown_of t).list, (shown_of t).spaces) = ap (λ (s : Standing). shown_at s.stage) at_end ∙ a.shown.0 in
-    let shown_pair : Types × Spaces = (map sub_of (shown_of t).list, (shown_of t).spaces) in
+    let seen : shown_at (in_module q.0 q.1) ≡ Some (types_of (shown_of t).list, (shown_of t).spaces) = ap (λ (s : Standing). shown_at s.stage) at_end ∙ a.shown.held in
+    let shown_pair : Types × Spaces = (types_of (shown_of t).list, (shown_of t).spaces) in
     let pair : q ≡ shown_pair = the_same q shown_pair seen in
     record {
       before = b.before;
@@ -206,10 +215,12 @@ runs_inside bytes old new t a =
       header = b.header;
       q = q;
       inside = m.1;
+      valid = subst (AreValid (features_of old.features)) (sym (λ i. (pair i).0)) (subst (λ (s : Standing). AreValid (features_of s.features) (types_of (shown_of t).list)) (sym at_end) a.shown.valid);
       after = sym stood;
       list = λ i. (pair i).0;
       spaces = λ i. (pair i).1;
-      same_id = a.shown.1 ∙ sym (ap (λ (s : Standing). s.id) at_end);
+      same_id = a.shown.same_id ∙ sym (ap (λ (s : Standing). s.id) at_end);
+      once = λ e. same_once t old a.before_end (ap (λ (s : Standing). s.features) at_end) a.shown e;
     }
 
 -- what the lists at the end show
@@ -217,19 +228,32 @@ module _ (features : WasmFeatures) (T : Types) (ps : List Piece) (a : Accepted f
   abbrev F : Features
   F = features_of features
 
-  indices_are : (spaces_3 T a.signatures a.functions a.exports).functions ≡ (index_spaces (section_space F T a.signatures) (served_parts a.signatures a.functions a.exports)).functions
-  indices_are = sym ((served_only (section_space F T a.signatures) a.signatures a.functions a.exports).has)
+  abbrev pub end_parts : Parts
+  end_parts = served_parts a.groups a.functions a.exports
 
-  pub ends_shown : ShowModule F (list_after T a.signatures) (spaces_3 T a.signatures a.functions a.exports) (index_spaces (section_space F T a.signatures) (served_parts a.signatures a.functions a.exports)) (served_parts a.signatures a.functions a.exports)
-  ends_shown = record {
-    types = stand F T a.signatures a.served;
+  abbrev pub end_space : List DefType
+  end_space = section_space features T a.groups a.types
+
+  abbrev pub end_spaces : IndexSpaces
+  end_spaces = index_spaces end_space end_parts
+
+  only : OnlyFunctions end_spaces (map import_index a.functions)
+  only = served_only end_space a.groups a.functions a.exports
+
+  indices_are : (spaces_3 features T a.groups a.types a.functions a.exports).functions ≡ end_spaces.functions
+  indices_are = sym only.has
+
+  pub ends_shown : (canonical F ≡ true → HasNoRepetition (list_after features T a.groups a.types)) → ShowModule F (end_of features T ps a).0 (end_of features T ps a).1 end_spaces end_parts
+  ends_shown once = record {
+    types = (section features T a.groups a.types).stand;
+    one_id = once;
     functions = indices_are;
-    imports = in_rows (ids T a.signatures) (list_after T a.signatures) (arities_of T a.signatures) (have_arities T a.signatures) a.functions;
-    exports = ap (λ (functions : List ℕ). map (export_row (ids T a.signatures) functions) a.exports) indices_are;
-    no_tables = (served_only (section_space F T a.signatures) a.signatures a.functions a.exports).tables;
-    no_memories = (served_only (section_space F T a.signatures) a.signatures a.functions a.exports).memories;
-    no_globals = (served_only (section_space F T a.signatures) a.signatures a.functions a.exports).globals;
-    no_tags = (served_only (section_space F T a.signatures) a.signatures a.functions a.exports).tags;
+    imports = in_rows (ids features T a.groups a.types) (list_after features T a.groups a.types) (arities_of features T a.groups a.types) (have_arities features T a.groups a.types) a.functions;
+    exports = ap (λ (functions : List ℕ). map (export_row (ids features T a.groups a.types) functions) a.exports) indices_are;
+    no_tables = (refl, only.tables);
+    no_memories = (refl, only.memories);
+    no_globals = (refl, only.globals);
+    no_tags = (refl, only.tags);
     no_elements = refl;
   }
 
@@ -239,19 +263,22 @@ accepts_valid bytes old new t a expression_at =
     let f = a.framed in
     let r = runs_inside bytes old new t a in
     let parts = are_parts f.others (run_served old.features f.others (r.before, no_spaces) r.q r.inside) (others_inner bytes a.pieces f) in
-    let run = ran old.features r.before f.others parts (parts_follow bytes a.pieces f parts) r.q r.inside in
+    let run = ran old.features r.before f.others parts (parts_follow bytes a.pieces f parts) r.q r.valid r.inside in
     let acc = run.accepted in
     let F = features_of old.features in
-    let C = index_spaces (section_space F r.before acc.signatures) (served_parts acc.signatures acc.functions acc.exports) in
-    let there : end_of old.features r.before f.others acc ≡ (map sub_of (shown_of t).list, (shown_of t).spaces) = run.ends ∙ (λ i. (r.list i, r.spaces i)) in
+    let C = end_spaces old.features r.before f.others acc in
+    let its = end_parts old.features r.before f.others acc in
+    let there : end_of old.features r.before f.others acc ≡ (types_of (shown_of t).list, (shown_of t).spaces) = run.ends ∙ (λ i. (r.list i, r.spaces i)) in
+    let once : canonical F ≡ true → HasNoRepetition (end_of old.features r.before f.others acc).0 = λ e. subst HasNoRepetition (sym (λ i. (there i).0)) (r.once e) in
+    let held = section old.features r.before acc.groups acc.types in
     record {
       module_valid = accepted_valid expression_at old.features r.before bytes a.pieces f r.header parts acc;
-      shows = subst (λ (x : Types × Spaces). ShowModule F x.0 x.1 C (served_parts acc.signatures acc.functions acc.exports)) there (ends_shown old.features r.before f.others acc);
+      shows = subst (λ (x : Types × Spaces). ShowModule F x.0 x.1 C its) there (ends_shown old.features r.before f.others acc once);
       same_id = r.same_id;
       before = r.before;
       began = r.was;
-      more = kept acc.signatures;
-      kept = sym (λ i. (there i).0);
+      more = held.more;
+      kept = sym (λ i. (there i).0) ∙ held.front;
       after = r.after ∙ ap (λ (xs : Types). record old { stage = ended xs }) r.list;
     }
 
@@ -259,23 +286,21 @@ accepts_valid bytes old new t a expression_at =
 begins_at : (old : Standing) (T : Types) (number kind : ℕ) → old.stage ≡ unparsed T → Version number kind ≡ Version 1 0 → after_piece old (Version number kind) ≡ Some (at old.id old.features (T, no_spaces))
 begins_at old T number kind w e = ap (after_piece old) e ∙ ap (λ (g : Stage). after_version (record old { stage = g }) 1 true) w
 
-pub rejects_refuses : (bytes : List ℕ) (old : Standing) → Rejects bytes old → RefusesModule bytes old
-rejects_refuses bytes old rejects expression_at T w m room =
+pub rejects_refuses : (bytes : List ℕ) (old : Standing) → HoldsValid old → Rejects bytes old → RefusesModule bytes old
+rejects_refuses bytes old valid rejects expression_at T w m room =
     let v = m.module_valid.well_formed in
     let f = v.framed in
-    let a = valid_accepted expression_at old.features T bytes v m.served in
+    let a = valid_accepted expression_at old.features T bytes (subst (AreValidAt old.features) w valid) v m.served room in
     let start : Types × Spaces = (T, no_spaces) in
     let q = end_of old.features T f.others a.accepted in
-    let fits : length T + length a.accepted.signatures ≤ MAX_IDS = subst (λ n. length T + n ≤ MAX_IDS) (sym a.as_many) room in
-    let inside = runs old.features T f.others a.parts (parts_follow bytes v.pieces f a.parts) a.accepted fits in
+    let inside = runs old.features T f.others a.parts (parts_follow bytes v.pieces f a.parts) a.accepted in
     let inner = others_inner bytes v.pieces f in
     let ended_there : after_all old v.pieces ≡ Some (record old { stage = ended q.0 }) =
     ap (after_all old) f.all
     ∙ ap (option_and_then (λ s. after_all s (f.others ++ parts.End ∷ []))) (begins_at old T f.number f.kind w a.header)
     ∙ all_split f.others (parts.End ∷ []) (at old.id old.features start)
     ∙ ap (option_and_then (λ s. after_all s (parts.End ∷ []))) (inside_run old.id old.features f.others start inner ∙ ap (option_map (at old.id old.features)) inside) in
-    let none = rejects v.pieces f in
-    nothing (record old { stage = ended q.0 }) (sym none ∙ ended_there)
+    rejects v.pieces f (record old { stage = ended q.0 }) ended_there a.accepted.types.valid
 
 -- no module has more types than a list may hold
 room_alone : (features : WasmFeatures) (id : ℕ) (bytes : List ℕ) → RefusesModule bytes (fresh id features) → (expression_at : Expressions) → IsServedModule expression_at features bytes → ⊥
@@ -283,11 +308,11 @@ room_alone features id bytes h expression_at m = let few = m.module_valid.well_f
 
 -- the answers
 module _ {A : Type 0} where
-  pub decides : (bytes : List ℕ) (old new : Standing) (r : Result (shown.Types A) (Error A)) → Validates r bytes old new → DecidesModule r bytes old new
-  decides bytes old new (results.Ok t) v = accepts_valid bytes old new t v
-  decides bytes old new (results.Err (Refused e)) v = (rejects_refuses bytes old v.0, v.1)
-  decides bytes old new (results.Err (DuplicateExport name offset)) v = (rejects_refuses bytes old v.0, v.1)
-  decides bytes old new (results.Err OutOfMemory) v = v
+  pub decides : (bytes : List ℕ) (old new : Standing) (r : Result (shown.Types A) (Error A)) → HoldsValid old → Validates r bytes old new → DecidesModule r bytes old new
+  decides bytes old new (results.Ok t) valid v = accepts_valid bytes old new t v
+  decides bytes old new (results.Err (Refused e)) valid v = (rejects_refuses bytes old valid v.0, v.1)
+  decides bytes old new (results.Err (DuplicateExport name offset)) valid v = (rejects_refuses bytes old valid v.0, v.1)
+  decides bytes old new (results.Err OutOfMemory) valid v = v
 
   pub decides_alone : (bytes : List ℕ) (id : ℕ) (features : WasmFeatures) (new : Standing) (r : Result (shown.Types A) (Error A)) → DecidesModule r bytes (fresh id features) new → DecidesAlone r bytes id features
   decides_alone bytes id features new (results.Ok t) v = λ e. (new, v e)

@@ -1,9 +1,11 @@
-pub mod Errors
 pub mod Standing
+pub mod Codes
 pub mod Served
 pub mod Machine
 pub mod Shows
+pub mod Ready
 pub mod States
 pub mod Payloads
 pub mod Verdict
+pub mod Sequences
 pub mod Table

@@ -1,23 +1,32 @@
 -- What a payload that is accepted gives.
-use Rattle.std.specs.Prelude.{ℕ, ◌≡◌, ◌⊎◌, ◌++◌, List, [], ◌∷◌, map, Option, Some, None}
+use Rattle.std.specs.Prelude.{ℕ, ◌≡◌, ◌⊎◌, ◌++◌, true, List, [], ◌∷◌, Option, Some}
 use Rattle.std.specs.Option.{option_and_then}
 use Rattle.std.specs.declared.result.Result.{Result}
 use Rattle.std.specs.declared.result.Result.TheVariants as results
 use Rattle.wasm_parser.specs.Framing as parts
 use Rattle.wasm_parser.specs.Framing.{Piece, IsFramed}
-use Rattle.wasm_readers_types.specs.SeenTypes.{sub_of}
-use Rattle.wasm_validator_types.specs.Shown.{shown_of}
+use Rattle.wasm_spec.specs.Features.{canonical}
+use Rattle.wasm_rules.specs.FeatureFlags.{features_of}
+use Rattle.wasm_validator_type_list.specs.Interned.{AreOnce}
+use Rattle.wasm_validator_types.specs.Shown.{shown_of, types_of}
 use Rattle.wasm_validator_types.specs.declared.shown.Types.{Types}
-use Rattle.wasm_validator.specs.declared.error.Error.{Error}
-use Rattle.wasm_validator.specs.declared.error.Error.TheVariants.{Refused, DuplicateExport, OutOfMemory}
+use Rattle.wasm_validator_core.specs.declared.error.Error.{Error}
+use Rattle.wasm_validator_core.specs.declared.error.Error.TheVariants.{Refused, DuplicateExport, OutOfMemory}
 use Rattle.wasm_validator.specs.declared.payload.ValidPayload.{ValidPayload}
 use Rattle.wasm_validator.specs.declared.payload.ValidPayload.TheVariants.{Ok, End}
-use Rattle.wasm_validator.specs.Standing.{Standing, shown_at, failed}
+use Rattle.wasm_validator_canonical.specs.Groups.{AreValid}
+use Rattle.wasm_validator_core.specs.Answers.{IsNowhere}
+use Rattle.wasm_validator.specs.Standing.{Standing, shown_at, failed, HoldsValid}
 use Rattle.wasm_validator.specs.States.{IsBeforeEnd, after_piece, left_by}
 
--- the types show what the validator held
-abbrev pub Show : {A : Type 0} → Standing → Types A → Type 0
-Show s t = (shown_at s.stage ≡ Some (map sub_of (shown_of t).list, (shown_of t).spaces)) × ((shown_of t).id ≡ s.id)
+-- The types show what the validator held, in a list where equal types are one if the features ask for it; then no
+-- group is in it twice, and no type has two ids. The types of the list are valid.
+pub record Show {A : Type 0} (s : Standing) (t : Types A) : Type 0 where
+  pub held : shown_at s.stage ≡ Some (types_of (shown_of t).list, (shown_of t).spaces)
+  pub same_id : (shown_of t).id ≡ s.id
+  pub mode : (shown_of t).list.is_canonical ≡ canonical (features_of s.features)
+  pub once : (shown_of t).list.is_canonical ≡ true → AreOnce (shown_of t).list.groups
+  pub valid : AreValid (features_of s.features) (types_of (shown_of t).list)
 
 -- the end gives the types of the module that was being read, and any other payload gives nothing
 abbrev pub ShowsModule : {A : Type 0} → Standing → Piece → ValidPayload A → Type 0
@@ -47,9 +56,9 @@ pub record Accepts {A : Type 0} (bytes : List ℕ) (old new : Standing) (t : Typ
   pub reached : after_all old front ≡ Some before_end
   pub shown : Show before_end t
 
--- the bytes have no framing whose pieces are all accepted
+-- the bytes have no framing whose pieces are all accepted, so that the types that are held then are valid
 abbrev pub Rejects : List ℕ → Standing → Type 0
-Rejects bytes old = (pieces : List Piece) → IsFramed bytes pieces → after_all old pieces ≡ None
+Rejects bytes old = (pieces : List Piece) → IsFramed bytes pieces → IsNowhere HoldsValid (after_all old pieces)
 
 -- The validator stands where some payloads have brought it, or where the next one that it refused has left it.
 pub record IsLeft (old new : Standing) : Type 0 where

@@ -1,18 +1,15 @@
 -- Where a validator stands, and the words for calls that move it.
-use Rattle.std.specs.Prelude.{ℕ, ◌≡◌, Bool, true, false, List, [], Option, Some, None, ⊤}
+use Rattle.std.specs.Prelude.{ℕ, ◌≡◌, Bool, true, false, [], Option, Some, None, ⊤}
 use Rattle.std.specs.Option.{option_and_then}
 use Rattle.std.specs.declared.result.Result.{Result}
 use Rattle.std.specs.declared.result.Result.TheVariants.{Ok, Err}
-use Rattle.wasm_spec.specs.Syntax.{Sub}
-use Rattle.wasm_readers_types.specs.declared.indices.UnpackedIndex.{UnpackedIndex}
 use Rattle.wasm_readers_errors.specs.declared.features.WasmFeatures.{WasmFeatures}
 use Rattle.wasm_validator_types.specs.Spaces.{Spaces}
-use Rattle.wasm_validator.specs.declared.error.Error.{Error}
-use Rattle.wasm_validator.specs.declared.error.Error.TheVariants.{Refused, DuplicateExport, OutOfMemory}
-
--- the types of all modules so far, each under its id
-abbrev pub Types : Type 0
-Types = List (Sub UnpackedIndex)
+use Rattle.wasm_validator_core.specs.declared.error.Error.{Error}
+use Rattle.wasm_validator_core.specs.declared.error.Error.TheVariants.{Refused, DuplicateExport, OutOfMemory}
+use Rattle.wasm_rules.specs.FeatureFlags.{features_of}
+use Rattle.wasm_validator_canonical.specs.Groups.{AreValid}
+use Rattle.wasm_validator_core.specs.Answers.{Types, IsNowhere}
 
 -- The stages of a validator: no header has been read, a module is being read, one has ended, or one was
 -- refused. A validator that has failed shows nothing of what it held.
@@ -83,24 +80,27 @@ within f failed = None
 abbrev pub at_stage : Standing → Option Stage → Option Standing
 at_stage s next = option_and_then (λ g. Some (record s { stage = g })) next
 
--- A call moves to where the machine moves; where it refuses the content so does the machine, and the
--- validator is left at the stage that is given; a call that is refused memory fails the validator.
+-- the types that a validator holds are valid; one that has failed holds none
+abbrev pub AreValidAt : WasmFeatures → Stage → Type 0
+AreValidAt features (unparsed types) = AreValid (features_of features) types
+AreValidAt features (in_module types spaces) = AreValid (features_of features) types
+AreValidAt features (ended types) = AreValid (features_of features) types
+AreValidAt features failed = ⊤
+
+abbrev pub HoldsValid : Standing → Type 0
+HoldsValid s = AreValidAt s.features s.stage
+
+-- A call moves to where the machine moves; where it refuses the content the machine moves nowhere, or to where a type
+-- isn't valid, and the validator is left at the stage that is given; a call that is refused memory fails the validator.
 abbrev pub Leaves : {T A : Type 0} → Result T (Error A) → Option Standing → Stage → Standing → Standing → Type 0
 Leaves (Ok x) next left old new = next ≡ Some new
-Leaves (Err (Refused r)) next left old new = (next ≡ None) × (new ≡ record old { stage = left })
-Leaves (Err (DuplicateExport name offset)) next left old new = (next ≡ None) × (new ≡ record old { stage = left })
+Leaves (Err (Refused r)) next left old new = IsNowhere HoldsValid next × (new ≡ record old { stage = left })
+Leaves (Err (DuplicateExport name offset)) next left old new = IsNowhere HoldsValid next × (new ≡ record old { stage = left })
 Leaves (Err OutOfMemory) next left old new = new ≡ record old { stage = failed }
 
 -- a section's call, which fails the validator where it is refused in a module, and elsewhere changes nothing
 abbrev pub Moves : {T A : Type 0} → Result T (Error A) → Option Standing → Standing → Standing → Type 0
 Moves result next old new = Leaves result next (refused_at old.stage) old new
-
--- the same of a call that changes what it is given, where a refusal leaves nothing to say of it
-abbrev pub Adds : {T A S : Type 0} → Result T (Error A) → Option S → S → Type 0
-Adds (Ok x) next new = next ≡ Some new
-Adds (Err (Refused r)) next new = next ≡ None
-Adds (Err (DuplicateExport name offset)) next new = next ≡ None
-Adds (Err OutOfMemory) next new = ⊤
 
 -- what `end` leaves, but where memory is refused
 abbrev pub ended_at : Stage → Stage

@@ -1,10 +1,10 @@
 -- What contracts see of a validator's own state, and its calls.
-use Rattle.std.specs.Prelude.{ℕ, ◌==◌, if◌then◌else◌, Bool, true, false, ◌&&◌, cond, List, map, Option, Some, None, ⊤}
-use Rattle.wasm_readers_types.specs.SeenTypes.{sub_of}
+use Rattle.std.specs.Prelude.{ℕ, ◌==◌, if◌then◌else◌, Bool, true, false, ◌&&◌, cond, List, Option, Some, None, ⊤}
+use Rattle.wasm_validator_types.specs.Shown.{types_of}
 use Rattle.wasm_validator_types.specs.Spaces.{Spaces, no_spaces}
 use Rattle.std.specs.declared.result.Result.{Result}
 use Rattle.std.specs.declared.result.Result.TheVariants.{Ok, Err}
-use Rattle.wasm_validator.specs.declared.error.Error.{Error}
+use Rattle.wasm_validator_core.specs.declared.error.Error.{Error}
 use Rattle.wasm_parser.specs.declared.payload.Encoding.{Encoding}
 use Rattle.wasm_parser.specs.declared.payload.Encoding.TheVariants as encodings
 use Rattle.wasm_parser.specs.Framing as parts
@@ -12,7 +12,8 @@ use Rattle.wasm_parser.specs.Framing.{Piece, Version, Custom, Counted, Start, Da
 use Rattle.wasm_validator.specs.declared.validator.State.{State}
 use Rattle.wasm_validator.specs.declared.validator.State.TheVariants.{Unparsed, Module, End, Failed}
 use Rattle.wasm_validator.specs.declared.validator.Validator.TheInside.{Inside}
-use Rattle.wasm_validator.specs.Standing.{Types, Stage, unparsed, in_module, ended, failed, Standing, ended_at, refused_at, within, at_stage}
+use Rattle.wasm_validator_core.specs.Answers.{Types}
+use Rattle.wasm_validator.specs.Standing.{Stage, unparsed, in_module, ended, failed, Standing, ended_at, refused_at, within, at_stage}
 use Rattle.wasm_validator.specs.Machine.{type_items, import_items, export_items, beside}
 
 module _ {A : Type 0} where
@@ -35,7 +36,7 @@ module _ {A : Type 0} where
   state_kept (Err e) spaces = Failed
 
   abbrev pub standing : Inside A → Standing
-  standing a = record { id = a.id; features = a.features; stage = stage_of (map sub_of a.types) a.state }
+  standing a = record { id = a.id; features = a.features; stage = stage_of (types_of a.types) a.state }
 
 -- the header is a module's
 abbrev pub is_module : Encoding → Bool
@@ -56,10 +57,10 @@ abbrev pub after_types : Standing → ℕ → List ℕ → Option Standing
 after_types s count bytes = at_stage s (within (type_items s.features count bytes) s.stage)
 
 abbrev pub after_imports : Standing → ℕ → List ℕ → Option Standing
-after_imports s count bytes = at_stage s (within (import_items count bytes) s.stage)
+after_imports s count bytes = at_stage s (within (import_items s.features count bytes) s.stage)
 
 abbrev pub after_exports : Standing → ℕ → List ℕ → Option Standing
-after_exports s count bytes = at_stage s (within (beside (λ types. export_items types count bytes)) s.stage)
+after_exports s count bytes = at_stage s (within (beside (λ types. export_items s.features types count bytes)) s.stage)
 
 -- the end of a module
 abbrev pub closed : Stage → Option Stage

@@ -1,21 +1,21 @@
 -- What the answer on whole bytes says of the module that they are. Core Specification 3.0, Validation, Modules.
-use Rattle.std.specs.Prelude.{ℕ, ◌≡◌, ◌≤◌, ◌+◌, ◌++◌, List, map, length, Option, ⊤}
+use Rattle.std.specs.Prelude.{ℕ, ◌≡◌, ◌≤◌, ◌+◌, ◌++◌, List, length, Option, ⊤}
 use Rattle.std.specs.declared.result.Result.{Result}
 use Rattle.std.specs.declared.result.Result.TheVariants as results
-use Rattle.wasm_readers_types.specs.SeenTypes.{sub_of}
 use Rattle.wasm_readers_types.specs.declared.indices.TheConstants.{MAX_IDS}
 use Rattle.wasm_readers_errors.specs.declared.features.WasmFeatures.{WasmFeatures}
 use Rattle.wasm_rules.specs.FeatureFlags.{features_of}
 use Rattle.wasm_rules.specs.Parts.{Expression}
 use Rattle.wasm_rules.specs.IndexSpaces.{index_spaces}
 use Rattle.wasm_rules.specs.Modules.{IsValid}
-use Rattle.wasm_validator_types.specs.Shown.{shown_of}
+use Rattle.wasm_validator_types.specs.Shown.{shown_of, types_of}
 use Rattle.wasm_validator_types.specs.declared.shown.Types as shown
-use Rattle.wasm_validator.specs.declared.error.Error.{Error}
-use Rattle.wasm_validator.specs.declared.error.Error.TheVariants.{Refused, DuplicateExport, OutOfMemory}
+use Rattle.wasm_validator_core.specs.declared.error.Error.{Error}
+use Rattle.wasm_validator_core.specs.declared.error.Error.TheVariants.{Refused, DuplicateExport, OutOfMemory}
 use Rattle.wasm_validator.specs.Served.{AreServed}
 use Rattle.wasm_validator.specs.Shows.{ShowModule}
-use Rattle.wasm_validator.specs.Standing.{Types, Standing, unparsed, ended, fresh}
+use Rattle.wasm_validator_core.specs.Answers.{Types}
+use Rattle.wasm_validator.specs.Standing.{Standing, unparsed, ended, fresh}
 use Rattle.wasm_validator.specs.Payloads.{IsLeft, IsOutOfMemory}
 
 -- How a constant expression is read. No module that is served has one, so what is said here holds however they are read.
@@ -32,14 +32,14 @@ pub record IsServedModule (expression_at : Expressions) (features : WasmFeatures
 pub record AcceptsModule {A : Type 0} (expression_at : Expressions) (bytes : List ℕ) (old new : Standing) (t : shown.Types A) : Type 0 where
   pub module_valid : IsValid expression_at (features_of old.features) bytes
   pub shows :
-      ShowModule (features_of old.features) (map sub_of (shown_of t).list) (shown_of t).spaces
+      ShowModule (features_of old.features) (types_of (shown_of t).list) (shown_of t).spaces
       (index_spaces module_valid.well_formed.types.types module_valid.well_formed.parts) module_valid.well_formed.parts
   pub same_id : (shown_of t).id ≡ old.id
   pub before : Types
   pub began : old.stage ≡ unparsed before
   pub more : Types
-  pub kept : map sub_of (shown_of t).list ≡ before ++ more
-  pub after : new ≡ record old { stage = ended (map sub_of (shown_of t).list) }
+  pub kept : types_of (shown_of t).list ≡ before ++ more
+  pub after : new ≡ record old { stage = ended (types_of (shown_of t).list) }
 
 -- Where no header had been read, the bytes are no valid module of the forms that are served, unless the list would
 -- pass its limit with the module's types.

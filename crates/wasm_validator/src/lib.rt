@@ -1,23 +1,22 @@
 //! Validation of WebAssembly modules: states, one method for each payload, and whole modules.
 #![tactic(auto)]
 
+ghost use Rattle.wasm_validator.specs.Sequences.{OneIdForOneType};
 ghost use Rattle.wasm_validator.specs.Table.{AcceptedByTable, RefusedByTable};
 
-pub mod error;
-mod module;
+mod module_sections;
 pub mod payload;
-mod rules;
 pub mod validator;
 
 pub use bitflags::Flags;
-pub use error::Error;
 pub use payload::{ValidPayload, validate};
 pub use validator::Validator;
 pub use wasm_parser::{Encoding, FunctionBody, Parser, Payload};
 pub use wasm_readers::{BinaryReader, SectionLimited, WasmFeatures};
-pub use wasm_validator_core::MaybeOwned;
+pub use wasm_validator_core::{Error, MaybeOwned, Module};
 pub use wasm_validator_types::{
-    CoreExports, CoreImports, EntityType, SnapshotList, TypeList, Types, TypesRef, ValidatorId,
+    CoreExports, CoreImports, EntityType, RecGroupElements, RecGroupId, SnapshotList, TypeAlloc,
+    TypeData, TypeIdentifier, TypeInfo, TypeList, Types, TypesRef, ValidatorId,
 };
 
 /// A payload that is accepted leads a validator where the state table says, and one that is refused for
@@ -26,4 +25,11 @@ pub use wasm_validator_types::{
 pub fn state_table()
     ensures accepted { AcceptedByTable }
     ensures refused { RefusedByTable }
+{}
+
+/// Where equal types are one, two types of any modules that one validator has accepted, one after
+/// another with `reset` between two of them, have the same id exactly where they are equal: the same
+/// place of equal recursive types (Core Specification 3.0, Validation, Types, Recursive Types).
+pub fn one_id_for_one_type<A>()
+    ensures { OneIdForOneType A }
 {}

@@ -5,10 +5,10 @@ ghost use Rattle.wasm_validator.specs.States.{after_piece, left_by, IsBeforeEnd}
 ghost use Rattle.wasm_validator.specs.Payloads.{ShowsModule, latest_of, Validates};
 ghost use Rattle.wasm_validator.specs.Verdict.{DecidesModule, DecidesAlone};
 
-use crate::error::Error;
 use crate::validator::Validator;
 use std::alloc::{Allocator, Global};
 use wasm_parser::{Parser, Payload};
+use wasm_validator_core::Error;
 use wasm_validator_types::{Types, ValidatorId};
 
 /// What a payload that is accepted gives.
@@ -85,6 +85,8 @@ impl<A: Allocator + Copy> Validator<A> {
     pub fn validate_all(&mut self, bytes: &[u8]) -> Result<Types<A>, Error<A>>
         ensures { DecidesModule result bytes.now self.old self.new }
     {
+        // Asked for what it promises: the types that are held are valid.
+        let _has_failed = self.has_failed();
         self.run(bytes)
     }
 

@@ -1,13 +1,14 @@
-ghost use Rattle.std.specs.Prelude.{◌≡◌, IfOk, IfErr, IfSome, IsSome, IsErr, OnOk, OnErr, Some, None, true, map, ◌↔◌};
-ghost use Rattle.wasm_validator.specs.Errors.{IsContent};
+ghost use Rattle.std.specs.Prelude.{◌≡◌, IfOk, IfErr, IfSome, IsSome, IsErr, OnOk, OnErr, Some, None, true, ◌↔◌};
+ghost use Rattle.wasm_validator_core.specs.Errors.{IsContent};
 ghost use Rattle.wasm_readers.specs.SectionsSeen.{count_of, bytes_of};
-ghost use Rattle.wasm_readers_types.specs.SeenTypes.{sub_of};
-ghost use Rattle.wasm_validator_types.specs.Shown.{shown_of, shown_by};
-ghost use Rattle.wasm_validator.specs.Standing.{Leaves, Moves, ended_at, fresh, is_failed, may_reset, after_reset, shown_at};
+ghost use Rattle.wasm_validator_type_list.specs.Interned.{AreOnce};
+ghost use Rattle.wasm_validator_type_list.specs.Listing.{closed};
+ghost use Rattle.wasm_validator_types.specs.Shown.{shown_of, shown_by, types_of};
+ghost use Rattle.wasm_validator.specs.Payloads.{Show};
+ghost use Rattle.wasm_validator.specs.Standing.{HoldsValid, Leaves, Moves, ended_at, fresh, is_failed, may_reset, after_reset, shown_at};
 ghost use Rattle.wasm_validator.specs.States.{open_of, state_kept, is_module, after_version, after_types, after_imports, after_exports, after_end};
 
-use crate::error::Error;
-use crate::module::{add_exports, add_imports, add_types};
+use crate::module_sections::{add_exports, add_imports, add_types};
 use bitflags::Flags;
 use std::alloc::{AllocError, Allocator, Global};
 use std::marker::Model;
@@ -19,13 +20,15 @@ use wasm_readers::{
     Data, Element, Export, Fault, Global as GlobalItem, Import, MemoryType, OutOfOrder, RecGroup,
     Refusal, Rule, SectionLimited, Table, TagType, Unserved, WasmFeatures,
 };
-use wasm_validator_types::{IndexSpaces, TypeList, Types, TypesRef, ValidatorId};
+use wasm_validator_canonical::needs_type_canonicalization;
+use wasm_validator_core::{Error, Module};
+use wasm_validator_types::{TypeList, Types, TypesRef, ValidatorId};
 
 /// What a validator is doing.
 #[derive(Drop)]
 pub enum State<A: Allocator> {
     Unparsed,
-    Module(IndexSpaces<A>),
+    Module(Module<A>),
     End,
     Failed,
 }
@@ -45,9 +48,17 @@ impl<A: Allocator> Model for Validator<A> {
 
     ghost Value = { Standing };
 
+    ghost use Rattle.wasm_validator.specs.Codes.{coded_standing};
+
+    ghost coded = { coded_standing };
+
     ghost use Rattle.wasm_validator.specs.States.{standing};
 
     ghost view = { standing };
+
+    ghost use Rattle.wasm_validator.specs.Ready.{IsSound};
+
+    ghost invariant = { IsSound };
 }
 
 /// Why a section may not come now, where it may not.
@@ -69,7 +80,7 @@ fn end_out_of_order<A: Allocator>(state: &State<A>) -> OutOfOrder {
 }
 
 /// Takes the module out, where one is being read, and leaves `Failed` in its place.
-fn opened<A: Allocator>(state: &mut State<A>, offset: u64) -> Result<IndexSpaces<A>, Refusal>
+fn opened<A: Allocator>(state: &mut State<A>, offset: u64) -> Result<Module<A>, Refusal>
     ensures ok { IfOk result (λ m. open_of state.old ≡ Some m) }
     ensures left { OnOk result (state.new ≡ State.Failed) }
     ensures none { OnErr result (open_of state.old ≡ None) }
@@ -88,7 +99,7 @@ fn opened<A: Allocator>(state: &mut State<A>, offset: u64) -> Result<IndexSpaces
 /// Puts the module back where a section was added to it. Where one was refused, the validator has failed.
 fn kept<A: Allocator>(
     state: &mut State<A>,
-    spaces: IndexSpaces<A>,
+    spaces: Module<A>,
     added: Result<(), Error<A>>,
 ) -> Result<(), Error<A>>
     requires { state.old ≡ State.Failed }
@@ -109,13 +120,16 @@ fn finished<A: Allocator + Copy>(
     id: ValidatorId,
     alloc: A,
     types: &mut TypeList<A>,
-    spaces: IndexSpaces<A>,
+    spaces: Module<A>,
 ) -> Result<Types<A>, AllocError>
     ensures same { types.new ≡ types.old }
-    ensures shown { IfOk result (λ t. shown_of t ≡ record { id = id; list = types.old; spaces = spaces }) }
+    ensures shown { IfOk result (λ t. shown_of t ≡ record { id = id; list = closed types.old; spaces = spaces }) }
+    ensures once { types.old.is_canonical ≡ true → AreOnce types.old.groups }
 {
+    // Asked for what it promises: where equal types are one, no type has two ids.
+    let _is_canonical = types.is_canonical();
     let list = types.commit()?;
-    let spaces = Rc::new(alloc, spaces)?;
+    let spaces = Rc::new(alloc, spaces.into_spaces())?;
     Ok(Types::new(id, list, spaces))
 }
 
@@ -134,7 +148,7 @@ impl<A: Allocator + Copy> Validator<A> {
         Validator {
             id,
             features,
-            types: TypeList::new(alloc),
+            types: TypeList::new(alloc, needs_type_canonicalization(features)),
             state: State::Unparsed,
             alloc,
         }
@@ -160,9 +174,10 @@ impl<A: Allocator + Copy> Validator<A> {
     }
 
     /// Whether a section was refused while a module was being read: then every further section and
-    /// `end` are refused.
+    /// `end` are refused. Elsewhere each type that the validator holds is valid.
     pub fn has_failed(&self) -> bool
-        ensures { result ≡ is_failed self.now }
+        ensures failed { result ≡ is_failed self.now }
+        ensures valid { HoldsValid self.now }
     {
         matches!(self.state, State::Failed)
     }
@@ -185,14 +200,14 @@ impl<A: Allocator + Copy> Validator<A> {
     /// The types of the module that is being read: at level 0, and while one is.
     pub fn types(&self, level: usize) -> Option<TypesRef<'_, A>>
         ensures some { IsSome result ↔ (level ≡ 0) × IsSome (shown_at self.now.stage) }
-        ensures shown { IfSome result (λ t. shown_at self.now.stage ≡ Some (map sub_of (shown_by t).list, (shown_by t).spaces)) }
+        ensures shown { IfSome result (λ t. shown_at self.now.stage ≡ Some (types_of (shown_by t).list, (shown_by t).spaces)) }
         ensures id { IfSome result (λ t. (shown_by t).id ≡ self.now.id) }
     {
         if level != 0 {
             return None;
         }
         match &self.state {
-            State::Module(module) => Some(TypesRef::new(self.id, &self.types, module)),
+            State::Module(module) => Some(TypesRef::new(self.id, &self.types, module.spaces())),
             _ => None,
         }
     }
@@ -237,7 +252,7 @@ impl<A: Allocator + Copy> Validator<A> {
                 )));
             }
         }
-        self.state = State::Module(IndexSpaces::new(self.alloc));
+        self.state = State::Module(Module::new(self.alloc));
         Ok(())
     }
 
@@ -250,7 +265,13 @@ impl<A: Allocator + Copy> Validator<A> {
     {
         match opened(&mut self.state, section.range().start) {
             Ok(mut module) => {
-                let added = add_types(self.features, &mut self.types, &mut module, section);
+                let added = add_types(
+                    self.features,
+                    self.alloc,
+                    &mut self.types,
+                    &mut module,
+                    section,
+                );
                 kept(&mut self.state, module, added)
             }
             Err(refusal) => Err(Error::Refused(refusal)),
@@ -266,7 +287,7 @@ impl<A: Allocator + Copy> Validator<A> {
     {
         match opened(&mut self.state, section.range().start) {
             Ok(mut module) => {
-                let added = add_imports(&self.types, &mut module, section);
+                let added = add_imports(self.features, &self.types, &mut module, section);
                 kept(&mut self.state, module, added)
             }
             Err(refusal) => Err(Error::Refused(refusal)),
@@ -282,7 +303,13 @@ impl<A: Allocator + Copy> Validator<A> {
     {
         match opened(&mut self.state, section.range().start) {
             Ok(mut module) => {
-                let added = add_exports(self.alloc, &self.types, &mut module, section);
+                let added = add_exports(
+                    self.features,
+                    self.alloc,
+                    &self.types,
+                    &mut module,
+                    section,
+                );
                 kept(&mut self.state, module, added)
             }
             Err(refusal) => Err(Error::Refused(refusal)),
@@ -433,8 +460,7 @@ impl<A: Allocator + Copy> Validator<A> {
     /// The end of a module at this offset, with its types.
     pub fn end(&mut self, offset: u64) -> Result<Types<A>, Error<A>>
         ensures moves { Leaves result (after_end self.old) (ended_at self.old.stage) self.old self.new }
-        ensures shown { IfOk result (λ t. shown_at self.old.stage ≡ Some (map sub_of (shown_of t).list, (shown_of t).spaces)) }
-        ensures id { IfOk result (λ t. (shown_of t).id ≡ self.old.id) }
+        ensures shown { IfOk result (Show self.old) }
     {
         match opened(&mut self.state, offset) {
             Ok(module) => match finished(self.id, self.alloc, &mut self.types, module) {

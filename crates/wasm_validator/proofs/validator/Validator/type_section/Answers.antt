@@ -1,0 +1,28 @@
+use Rattle.std.proofs.Common.{sym, subst}
+use Rattle.wasm_readers.specs.SectionsSeen.{count_of, bytes_of}
+use Rattle.wasm_validator_types.specs.Shown.{types_of}
+use Rattle.wasm_validator.specs.Machine.{type_items}
+use Rattle.wasm_validator.specs.Standing.{Standing, Moves}
+use Rattle.wasm_validator.specs.States.{stage_of, after_types}
+use Rattle.wasm_validator.proofs.Sections.{open-ids, open-valid}
+use Rattle.wasm_validator.proofs.SectionMoves.{section_moves}
+use Rattle.wasm_validator.proofs.validator.Validator.type_section.Goals as goal
+
+pub add_types-added-requires-clause-ids : goal.add_types-added-requires-clause-ids
+add_types-added-requires-clause-ids g c = open-ids c.self.inside.types c.self.inside.state c.in-Ok.«module» c.in-Ok.ensures.ok c.self.invariant.ids
+
+pub add_types-added-requires-clause-valid : goal.add_types-added-requires-clause-valid
+add_types-added-requires-clause-valid g c = open-valid c.self.inside.features c.self.inside.types c.self.inside.state c.in-Ok.«module» c.in-Ok.ensures.ok c.self.invariant.valid
+
+pub returns-in-Ok : goal.returns-in-Ok
+returns-in-Ok g c =
+    let id = c.self.inside.id in
+    let features = c.self.inside.features in
+    let added = c.add_types-added in
+    let count = count_of c.args.section.now in
+    let bytes = bytes_of c.args.section.now in
+    let types = types_of added.new.list in
+    let new : Standing = record { id = id; features = features; stage = stage_of types c.kept.new.state } in
+    subst (λ r. Moves r (after_types c.args.self.now count bytes) c.args.self.now new) (sym c.kept.ensures.same)
+    (section_moves id features (types_of c.self.inside.types) c.in-Ok.«module» (λ g. type_items g count bytes) c.self.inside.state added.result types added.new.opened c.args.self.now new
+    c.in-Ok.ensures.ok c.self.view_is (λ i. record { id = id; features = features; stage = stage_of types (sym c.kept.ensures.kept i) }) added.ensures.added)
