@@ -4,6 +4,8 @@
 #[cfg(test)]
 mod features;
 #[cfg(test)]
+mod groups;
+#[cfg(test)]
 mod modules;
 #[cfg(test)]
 mod robustness;
@@ -11,6 +13,8 @@ mod robustness;
 mod sizes;
 #[cfg(test)]
 mod states;
+#[cfg(test)]
+mod subtypes;
 
 use std::alloc::Allocator;
 use std::fmt::Write;
