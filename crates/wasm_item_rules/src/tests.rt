@@ -1,4 +1,6 @@
-ghost use Rattle.std.specs.Prelude.{◌<◌, length};
+ghost use Rattle.std.specs.Prelude.{◌<◌, ◌≡◌, length, true, IfOk};
+ghost use Rattle.wasm_readers_types.specs.SeenTypes.{rec_of};
+ghost use Rattle.wasm_validator_canonical.specs.Groups.{has_form};
 ghost use Rattle.wasm_validator_type_list.specs.Listing.{types_in};
 
 use super::*;
@@ -334,7 +336,9 @@ fn globals(rt: HostRuntime) {
 }
 
 /// The function type that takes nothing and gives one integer, written without `rec`.
-fn giving_one(alloc: Global) -> Result<RecGroup, AllocError> {
+fn giving_one(alloc: Global) -> Result<RecGroup, AllocError>
+    ensures { IfOk result (λ g. has_form (rec_of g) ≡ true) }
+{
     let mut results = Vec::new(alloc);
     results.push(ValType::I32)?;
     let signature = FuncType::new(Vec::new(alloc), results);
@@ -342,7 +346,9 @@ fn giving_one(alloc: Global) -> Result<RecGroup, AllocError> {
 }
 
 /// The structure type without fields, written without `rec`.
-fn empty_structure(alloc: Global) -> Result<RecGroup, AllocError> {
+fn empty_structure(alloc: Global) -> Result<RecGroup, AllocError>
+    ensures { IfOk result (λ g. has_form (rec_of g) ≡ true) }
+{
     let fields = Items::new(alloc);
     let composite_type = CompositeType {
         inner: CompositeInnerType::Struct(StructType { fields }),
