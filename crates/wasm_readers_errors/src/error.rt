@@ -191,6 +191,7 @@ pub enum Unserved {
     ImportKind,
     FunctionSection,
     TableSection,
+    TableInitializer,
     MemorySection,
     TagSection,
     GlobalSection,
@@ -208,6 +209,7 @@ impl Unserved {
             Unserved::ImportKind => "import kind",
             Unserved::FunctionSection => "function section",
             Unserved::TableSection => "table section",
+            Unserved::TableInitializer => "table initializer",
             Unserved::MemorySection => "memory section",
             Unserved::TagSection => "tag section",
             Unserved::GlobalSection => "global section",
@@ -232,7 +234,7 @@ pub enum Fault {
     Descriptor(DescriptorRule),
     /// A reference type without the proposal that it needs.
     ValueType(ValueTypeRule),
-    /// A rule of imports, tables, memories, tags or globals.
+    /// A rule of imports, tables, memories, tags, globals, start functions or data counts.
     Item(ItemRule),
     /// A type index that is not in the type index space.
     UnknownType(u32),
@@ -247,6 +249,8 @@ pub enum Fault {
     NotAFunctionId(u32),
     /// A memory of more than so many pages, each of so many bytes.
     MemorySize(u64, u64),
+    /// The index of a function that is not in the function index space.
+    UnknownFunction(u32),
     /// An export of an index that is not in its index space.
     UnknownExport(ItemKind, u32),
     /// More of something than may be.
@@ -275,10 +279,7 @@ impl fmt::Display for Fault {
                 "bounds because the GC proposal is disabled",
             ),
             Fault::OutOfGroup(index) => write_unknown_type(f, *index, "rec group bounds"),
-            Fault::SubtypesTooDeep(depth) => write!(
-                f,
-                "sub type hierarchy too deep: found depth {depth}, cannot exceed depth 63"
-            ),
+            Fault::SubtypesTooDeep(depth) => write_too_deep(f, *depth),
             Fault::NotAFunctionType(index) => write!(
                 f,
                 "type index {index} is not a function type"
@@ -288,6 +289,7 @@ impl fmt::Display for Fault {
                 f,
                 "memory size must be at most {pages:#x} {page}-byte pages"
             ),
+            Fault::UnknownFunction(index) => write_unknown_function(f, *index),
             Fault::UnknownExport(kind, index) => write_unknown_export(f, kind.text(), *index),
             Fault::Limit(what, limit) => write_limit(f, what.text(), *limit),
             Fault::UnknownSection(id) => write!(f, "malformed section id: {id}"),
@@ -307,6 +309,17 @@ fn write_unknown_type<W: fmt::Write>(
     bounds: &str,
 ) -> fmt::Result {
     write!(f, "unknown type {index}: type index out of {bounds}")
+}
+
+fn write_too_deep<W: fmt::Write>(f: &mut fmt::Formatter<W>, depth: u32) -> fmt::Result {
+    write!(
+        f,
+        "sub type hierarchy too deep: found depth {depth}, cannot exceed depth 63"
+    )
+}
+
+fn write_unknown_function<W: fmt::Write>(f: &mut fmt::Formatter<W>, index: u32) -> fmt::Result {
+    write!(f, "unknown function {index}: func index out of bounds")
 }
 
 fn write_unknown_export<W: fmt::Write>(

@@ -1,5 +1,5 @@
-/// Rules of imports, tables, memories, tags and globals whose texts name no number (Core Specification
-/// 3.0, Validation, Types and Modules).
+/// Rules of imports, tables, memories, tags, globals, start functions and data counts whose texts name
+/// no number (Core Specification 3.0, Validation, Types and Modules).
 #[derive(Clone, Copy, PartialEq, Eq, Debug)]
 pub enum ItemRule {
     ExactFunctionImports,
@@ -19,6 +19,9 @@ pub enum ItemRule {
     SharedGlobals,
     SharedContents,
     MutableGlobals,
+    StartType,
+    DataCounts,
+    DataCountLimit,
 }
 
 impl ItemRule {
@@ -46,6 +49,9 @@ impl ItemRule {
                 "shared globals require the shared-everything-threads proposal",
             ItemRule::SharedContents => "shared globals must have a shared value type",
             ItemRule::MutableGlobals => "mutable global support is not enabled",
+            ItemRule::StartType => "invalid start function type",
+            ItemRule::DataCounts => "data count section requires the bulk-memory proposal",
+            ItemRule::DataCountLimit => "data count section specifies too many data segments",
         }
     }
 }
