@@ -1,3 +1,4 @@
 pub mod Texts
 pub mod Powers
 pub mod Loops
+pub mod Tables

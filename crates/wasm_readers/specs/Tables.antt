@@ -1,6 +1,10 @@
--- What contracts see of the first part of a table, before its initializer.
-use Rattle.std.specs.Prelude.{ℕ, ◌≡◌, if◌then◌else◌, List, Option, Some, None}
-use Rattle.std.specs.Option.{option_map}
+-- What contracts see of the first part of a table, before its initializer. Core Specification 3.0, Binary Format,
+-- Modules, Table Section.
+use Rattle.std.specs.Prelude.{ℕ, ◌≡◌, ◌==◌, if◌then◌else◌, Bool, true, false, List, Option, Some, None}
+use Rattle.std.specs.Option.{option_map, option_and_then}
+use Rattle.wasm_spec.specs.Syntax.{Table}
+use Rattle.wasm_spec.specs.Values.{byte_at}
+use Rattle.wasm_spec.specs.BinaryTypes.{flags_at, table_at}
 use Rattle.wasm_spec.specs.BinarySections.{TableEntry, table_entry_at}
 use Rattle.wasm_readers_types.specs.SeenExterns.{table_of}
 use Rattle.wasm_readers_types.specs.declared.indices.UnpackedIndex.{UnpackedIndex}
@@ -11,16 +15,39 @@ use Rattle.wasm_readers.specs.declared.items.TableHead.{TableHead}
 abbrev pub ExpressionReading : Type 0
 ExpressionReading = List ℕ → Option (List ℕ × List ℕ)
 
+-- the first part of a table: its type, and whether an expression comes next
+pub record Head : Type 0 where
+  pub ty : Table UnpackedIndex
+  pub has_init : Bool
+
+abbrev pub head_of : TableHead → Head
+head_of h = record { ty = table_of h.ty; has_init = h.has_init }
+
+-- a table type, after which an expression comes or not
+abbrev pub head_with : Bool → List ℕ → Option (Head × List ℕ)
+head_with has_init bytes = option_map (λ t. (record { ty = t.0; has_init = has_init }, t.1)) (table_at written bytes)
+
+-- 40 and 00 and a table type begin a table with an initializer; a table type alone is one without
+abbrev pub table_head_from : ℕ → List ℕ → List ℕ → Option (Head × List ℕ)
+table_head_from b more bytes = if b == 0x40 then option_and_then (λ z. head_with true z.1) (flags_at 0 more) else head_with false bytes
+
+unfoldable pub table_head_at : List ℕ → Option (Head × List ℕ)
+table_head_at bytes = option_and_then (λ b. table_head_from b.0 b.1 bytes) (byte_at bytes)
+
 -- the table with what is behind its head: an expression, where it has an initializer
-abbrev pub table_behind : ExpressionReading → TableHead → List ℕ → Option (TableEntry (List ℕ) UnpackedIndex × List ℕ)
+abbrev pub table_behind : ExpressionReading → Head → List ℕ → Option (TableEntry (List ℕ) UnpackedIndex × List ℕ)
 table_behind expression_at h bytes =
-    if h.has_init then option_map (λ e. (record { ty = table_of h.ty; init = Some e.0 }, e.1)) (expression_at bytes)
-    else Some (record { ty = table_of h.ty; init = None }, bytes)
+    if h.has_init then option_map (λ e. (record { ty = h.ty; init = Some e.0 }, e.1)) (expression_at bytes)
+    else Some (record { ty = h.ty; init = None }, bytes)
 
 -- however expressions are read, a table goes on behind this head
 abbrev pub BeginsTable : TableHead → List ℕ → List ℕ → Type 0
-BeginsTable h bytes more = (expression_at : ExpressionReading) → table_entry_at expression_at written bytes ≡ table_behind expression_at h more
+BeginsTable h bytes more = (expression_at : ExpressionReading) → table_entry_at expression_at written bytes ≡ table_behind expression_at (head_of h) more
 
 -- however expressions are read, no table is encoded
 abbrev pub HasNoTable : List ℕ → Type 0
 HasNoTable bytes = (expression_at : ExpressionReading) → table_entry_at expression_at written bytes ≡ None
+
+-- However expressions are read, a table is its head and what is behind it.
+abbrev pub TableHeadsBeginTables : Type 0
+TableHeadsBeginTables = (expression_at : ExpressionReading) (bytes : List ℕ) → table_entry_at expression_at written bytes ≡ option_and_then (λ h. table_behind expression_at h.0 h.1) (table_head_at bytes)

@@ -1,6 +1,8 @@
 //! Reading of the items of WebAssembly modules: bytes, numbers, names, types, imports and exports.
 #![tactic(auto)]
 
+ghost use Rattle.wasm_readers.specs.Tables.{TableHeadsBeginTables};
+
 pub mod binary_reader;
 pub mod defined_types;
 pub mod externs;
@@ -27,3 +29,10 @@ pub use wasm_readers_types::{
     PackedIndex, RecGroup, RefType, StorageType, StructType, SubType, TableType, TagKind, TagType,
     TypeRef, UnpackedIndex, ValType,
 };
+
+/// However expressions are read, a table of the table section is its first part and what is behind it:
+/// an expression, where it has an initializer (Core Specification 3.0, Binary Format, Modules, Table
+/// Section).
+pub fn table_heads_begin_tables()
+    ensures { TableHeadsBeginTables }
+{}
