@@ -14,7 +14,7 @@ use Rattle.wasm_validator_canonical.specs.Indices.{canonical_index}
 use Rattle.wasm_item_rules.specs.Items.{is_function, is_valid_defined_table, is_valid_memory, is_valid_tag, is_importable, is_movable}
 use Rattle.wasm_validator_types.specs.Entities.{Entity}
 use Rattle.wasm_validator_types.specs.Spaces.{Spaces, with_import, is_exported, is_exact}
-use Rattle.wasm_validator_core.specs.declared.limits.TheConstants.{MAX_FUNCTIONS, MAX_GLOBALS, MAX_TAGS, MAX_EFFECTIVE_SIZE}
+use Rattle.wasm_validator_core.specs.declared.limits.TheConstants.{MAX_FUNCTIONS, MAX_GLOBALS, MAX_TAGS, MAX_DATA_SEGMENTS, MAX_EFFECTIVE_SIZE}
 use Rattle.wasm_validator_core.specs.Answers.{Types}
 
 -- the module's types, in the order of their indices
@@ -147,3 +147,21 @@ export_movable F us s name e = if is_movable F e then with_export us name e s el
 
 abbrev pub add_export : Features → Types → Spaces → Export → Option Spaces
 add_export F us s e = option_and_then (export_movable F us s e.name) (exported_entity F s e)
+
+-- how many parameters and results a function has, by its index, where the type of the function at this index is a
+-- function type
+abbrev pub arity_of_function : Types → Spaces → ℕ → Option (ℕ × ℕ)
+arity_of_function us s x = option_and_then (arity_at (types_of_module us s)) (slice_get s.functions x)
+
+-- neither parameters nor results
+abbrev pub takes_and_gives_nothing : Option (ℕ × ℕ) → Bool
+takes_and_gives_nothing None = false
+takes_and_gives_nothing (Some arity) = arity.0 == 0 && arity.1 == 0
+
+-- a function that is there and may be the start function
+abbrev pub is_startable : Types → Spaces → ℕ → Bool
+is_startable us s x = takes_and_gives_nothing (arity_of_function us s x)
+
+-- so many data segments may be said before the code
+abbrev pub is_data_count : Features → ℕ → Bool
+is_data_count F count = F.bulk_memory && nat_le count MAX_DATA_SEGMENTS

@@ -2,15 +2,15 @@
 ghost use Rattle.std.specs.Prelude.{IfOk};
 ghost use Rattle.wasm_validator_core.specs.Ready.{AreHeld};
 
-use crate::{Error, Module};
+use crate::{Error, Module, check_data_count};
 use bitflags::Flags;
 use std::alloc::Global;
 use std::fmt::Write;
 use std::test::Fail;
 use wasm_readers::{
     Export, ExternalKind, FuncType, GlobalType, HeapType, Import, MemoryType, PackedIndex,
-    RecGroup, RefType, SubType, TableType, TagKind, TagType, TypeRef, UnpackedIndex, ValType,
-    WasmFeatures,
+    RecGroup, RefType, Refusal, SubType, TableType, TagKind, TagType, TypeRef, UnpackedIndex,
+    ValType, WasmFeatures,
 };
 use wasm_validator_canonical::needs_type_canonicalization;
 use wasm_validator_types::{EntityType, TypeList};
@@ -22,7 +22,26 @@ fn all_but(off: WasmFeatures) -> WasmFeatures {
     features
 }
 
-/// A module, and a list of types, with the function type that takes so many integers and gives one.
+/// A module, and a list of types, with the function type that takes and gives so many integers.
+fn module_with(
+    alloc: Global,
+    features: WasmFeatures,
+    params: usize,
+    results: usize,
+) -> Result<(TypeList, Module), Error>
+    ensures { IfOk result (λ p. AreHeld p.0 p.1.types) }
+{
+    let params = vec![in alloc; ValType::I32; params]?;
+    let results = vec![in alloc; ValType::I32; results]?;
+    let ty = SubType::func(alloc, FuncType::new(params, results), false);
+    let group = RecGroup::implicit(alloc, ty)?;
+    let mut list = TypeList::new(alloc, needs_type_canonicalization(features));
+    let mut module = Module::new(alloc);
+    module.add_types(features, alloc, &mut list, group, 0)?;
+    Ok((list, module))
+}
+
+/// The same with the function type that takes so many integers and gives one.
 fn module_of(
     alloc: Global,
     features: WasmFeatures,
@@ -30,14 +49,7 @@ fn module_of(
 ) -> Result<(TypeList, Module), Error>
     ensures { IfOk result (λ p. AreHeld p.0 p.1.types) }
 {
-    let params = vec![in alloc; ValType::I32; params]?;
-    let results = vec![in alloc; ValType::I32]?;
-    let ty = SubType::func(alloc, FuncType::new(params, results), false);
-    let group = RecGroup::implicit(alloc, ty)?;
-    let mut list = TypeList::new(alloc, needs_type_canonicalization(features));
-    let mut module = Module::new(alloc);
-    module.add_types(features, alloc, &mut list, group, 0)?;
-    Ok((list, module))
+    module_with(alloc, features, params, 1)
 }
 
 /// Whether this is a refusal at byte 7 with this message.
@@ -429,4 +441,85 @@ fn definitions_keep_their_rules(rt: HostRuntime) -> Result<(), Fail> {
     let answer = defines_tag(fewer, &list, &mut module);
     assert!(rt; is_refused(alloc, &answer, "exceptions proposal not enabled"));
     Ok(())
+}
+
+/// Whether this is a refusal at byte 7 with this message, which this proposal would lift.
+fn is_refusal(
+    alloc: Global,
+    answer: Result<(), Refusal>,
+    message: &str,
+    missing: Option<WasmFeatures>,
+) -> bool {
+    match answer {
+        Ok(()) => false,
+        Err(refusal) => {
+            refusal.missing == missing && is_refused(alloc, &Err(Error::from(refusal)), message)
+        }
+    }
+}
+
+/// Whether the type of the function with this index takes so many values and gives one.
+fn takes(list: &TypeList, module: &Module, index: u32, params: usize) -> bool
+    requires { AreHeld list.now module.now.types }
+{
+    match module.get_func_type(list, index, 7) {
+        Ok(ty) => ty.params().len() == params && ty.results().len() == 1,
+        Err(_) => false,
+    }
+}
+
+#[test]
+fn functions_have_types(rt: HostRuntime) -> Result<(), Fail> {
+    let (list, mut module) = module_of(rt.alloc(), WasmFeatures::all(), 2)?;
+    imports(WasmFeatures::all(), &list, &mut module, TypeRef::Func(0))?;
+    defines_function(&list, &mut module, 0)?;
+    assert!(rt; takes(&list, &module, 0, 2));
+    assert!(rt; takes(&list, &module, 1, 2));
+    assert!(rt; !takes(&list, &module, 2, 2));
+    Ok(())
+}
+
+#[test]
+fn start_functions_are_there(rt: HostRuntime) -> Result<(), Fail> {
+    let alloc = rt.alloc();
+    let (list, mut module) = module_with(alloc, WasmFeatures::all(), 0, 0)?;
+    let answer = module.check_start(&list, 0, 7);
+    let message = "unknown function 0: func index out of bounds";
+    assert!(rt; is_refusal(alloc, answer, message, None));
+    defines_function(&list, &mut module, 0)?;
+    assert!(rt; module.check_start(&list, 0, 7).is_ok());
+    let answer = module.check_start(&list, 1, 7);
+    let message = "unknown function 1: func index out of bounds";
+    assert!(rt; is_refusal(alloc, answer, message, None));
+    Ok(())
+}
+
+/// What is said of a start function of so many parameters and results.
+fn starts(alloc: Global, params: usize, results: usize) -> Result<(), Error> {
+    let (list, mut module) = module_with(alloc, WasmFeatures::all(), params, results)?;
+    defines_function(&list, &mut module, 0)?;
+    module.check_start(&list, 0, 7)?;
+    Ok(())
+}
+
+#[test]
+fn start_functions_take_and_give_nothing(rt: HostRuntime) {
+    let alloc = rt.alloc();
+    let message = "invalid start function type";
+    assert!(rt; starts(alloc, 0, 0).is_ok());
+    assert!(rt; is_refused(alloc, &starts(alloc, 1, 0), message));
+    assert!(rt; is_refused(alloc, &starts(alloc, 0, 1), message));
+}
+
+#[test]
+fn data_counts_have_a_limit(rt: HostRuntime) {
+    let alloc = rt.alloc();
+    let bulk = WasmFeatures::BULK_MEMORY;
+    assert!(rt; check_data_count(bulk, 100_000, 7).is_ok());
+    let answer = check_data_count(bulk, 100_001, 7);
+    let message = "data count section specifies too many data segments";
+    assert!(rt; is_refusal(alloc, answer, message, None));
+    let answer = check_data_count(all_but(bulk), 0, 7);
+    let message = "data count section requires the bulk-memory proposal";
+    assert!(rt; is_refusal(alloc, answer, message, Some(bulk)));
 }

@@ -11,11 +11,12 @@ mod limits;
 mod maybe_owned;
 mod module;
 mod signatures;
+mod start;
 
 pub use error::Error;
 pub use limits::{
-    MAX_EFFECTIVE_SIZE, MAX_EXPORTS, MAX_FUNCTIONS, MAX_GLOBALS, MAX_IMPORTS, MAX_TAGS, MAX_TYPES,
-    check_max, max_memories, max_tables,
+    MAX_DATA_SEGMENTS, MAX_EFFECTIVE_SIZE, MAX_EXPORTS, MAX_FUNCTIONS, MAX_GLOBALS, MAX_IMPORTS,
+    MAX_TAGS, MAX_TYPES, check_data_count, check_max, max_memories, max_tables,
 };
 pub use maybe_owned::MaybeOwned;
 pub use module::Module;

@@ -1,11 +1,13 @@
 //! Limits on the items of a module.
 
-ghost use Rattle.std.specs.Prelude.{◌≡◌, ◌+◌, is_ok, nat_le};
+ghost use Rattle.std.specs.Prelude.{◌≡◌, ◌+◌, is_ok, nat_le, IfErr};
 ghost use Rattle.wasm_rules.specs.FeatureFlags.{features_of};
 ghost use Rattle.wasm_rules.specs.Limits.{most_tables, most_memories};
+ghost use Rattle.wasm_item_rules.specs.Answers.{IsRefusalAt};
+ghost use Rattle.wasm_validator_core.specs.Items.{is_data_count};
 
 use bitflags::Flags;
-use wasm_readers::{Counted, Fault, Refusal, WasmFeatures};
+use wasm_readers::{Counted, Fault, ItemRule, Refusal, WasmFeatures};
 
 /// The most types, groups of types, import entries, functions, globals, tags and exports of a module.
 pub const MAX_TYPES: u32 = 1_000_000;
@@ -19,6 +21,9 @@ pub const MAX_GLOBALS: u32 = 1_000_000;
 pub const MAX_TAGS: u32 = 1_000_000;
 
 pub const MAX_EXPORTS: u32 = 1_000_000;
+
+/// The most data segments of a module.
+pub const MAX_DATA_SEGMENTS: u32 = 100_000;
 
 /// The effective size of a module's type stays below this.
 pub const MAX_EFFECTIVE_SIZE: u32 = 1_000_000;
@@ -61,4 +66,24 @@ pub fn check_max(
     } else {
         Err(Refusal::new(Fault::Limit(what, limit), offset))
     }
+}
+
+/// Accepts the number of data segments that a data count section says (Core Specification 3.0, Binary
+/// Format, Modules, Data Count Section).
+///
+/// # Errors
+///
+/// Refuses, at `offset`, every number without `BULK_MEMORY`, and more segments than a module may have.
+pub fn check_data_count(features: WasmFeatures, count: u32, offset: u64) -> Result<(), Refusal>
+    ensures allowed { is_ok result ≡ is_data_count (features_of features) count }
+    ensures refusal { IfErr result (IsRefusalAt features offset) }
+{
+    if !features.contains(WasmFeatures::BULK_MEMORY) {
+        let fault = Fault::Item(ItemRule::DataCounts);
+        return Err(Refusal::missing(fault, offset, WasmFeatures::BULK_MEMORY));
+    }
+    if count > MAX_DATA_SEGMENTS {
+        return Err(Refusal::new(Fault::Item(ItemRule::DataCountLimit), offset));
+    }
+    Ok(())
 }

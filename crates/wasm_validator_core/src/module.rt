@@ -1,6 +1,6 @@
 //! The state of a module as far as it has been read, and what items add to it.
 
-ghost use Rattle.std.specs.Prelude.{◌≡◌, true, OnOk, OnErr, IfOk, is_ok};
+ghost use Rattle.std.specs.Prelude.{◌≡◌, true, length, slice_get, OnOk, OnErr, IfOk, IfErr, is_ok, is_some};
 ghost use Rattle.std.specs.Option.{option_map};
 ghost use Rattle.std.specs.declared.option.Option.TheVariants.{Some, None};
 ghost use Rattle.wasm_rules.specs.FeatureFlags.{features_of};
@@ -8,15 +8,17 @@ ghost use Rattle.wasm_rules.specs.Limits.{most_tables, most_memories};
 ghost use Rattle.wasm_readers.specs.Items.{import_of, export_of};
 ghost use Rattle.wasm_readers_types.specs.SeenExterns.{table_of, memory_of, extern_of};
 ghost use Rattle.wasm_readers_types.specs.SeenTypes.{rec_of};
+ghost use Rattle.wasm_item_rules.specs.Answers.{IsPlainRefusalAt};
 ghost use Rattle.wasm_item_rules.specs.Items.{is_valid_extern};
 ghost use Rattle.wasm_validator_types.specs.Entities.{entity_of};
 ghost use Rattle.wasm_validator_types.specs.Shown.{types_of};
 ghost use Rattle.wasm_validator_types.specs.Spaces.{no_spaces};
 ghost use Rattle.wasm_validator_canonical.specs.Groups.{has_form, AreValid};
 ghost use Rattle.wasm_validator_core.specs.Answers.{Adds, AddsWhere, HasValidTypes};
+ghost use Rattle.wasm_validator_core.specs.Functions.{IsTypeOfFunction, IsUnknownFunction};
 ghost use Rattle.wasm_validator_core.specs.Ready.{IsOpenFor, AreIdsOf, AreHeld};
 ghost use Rattle.wasm_validator_core.specs.Machine.{add_group};
-ghost use Rattle.wasm_validator_core.specs.Items.{types_of_module, listed, entity, exported_function, exported_entity, add_import, add_function, add_table, add_memory, add_tag, add_export};
+ghost use Rattle.wasm_validator_core.specs.Items.{types_of_module, listed, entity, exported_function, exported_entity, arity_of_function, is_startable, add_import, add_function, add_table, add_memory, add_tag, add_export};
 
 use crate::entities::{entity_type, known_ids, listed_type_ref};
 use crate::error::Error;
@@ -24,11 +26,12 @@ use crate::exports::{add_one_export, exported, function_entity};
 use crate::imports::add_one_import;
 use crate::items::{add_defined_function, add_defined_memory, add_defined_table, add_defined_tag};
 use crate::limits::{MAX_TYPES, check_max, max_memories, max_tables};
+use crate::start::{check_start_function, function_type};
 use std::alloc::{AllocError, Allocator, Global};
 use std::marker::Model;
 use wasm_readers::{
-    CoreTypeId, Counted, Export, Import, MemoryType, RecGroup, Refusal, TableType, TagType,
-    TypeRef, WasmFeatures,
+    CoreTypeId, Counted, Export, FuncType, Import, MemoryType, RecGroup, Refusal, TableType,
+    TagType, TypeRef, WasmFeatures,
 };
 use wasm_validator_canonical::{InternRecGroup, intern_rec_group_of};
 use wasm_validator_types::{EntityType, IndexSpaces, TypeList};
@@ -231,6 +234,41 @@ impl<A: Allocator + Copy> Module<A> {
         ensures types { self.new.types ≡ self.old.types }
     {
         add_one_export(features, alloc, list, &mut self.spaces, export, offset)
+    }
+
+    /// The type of the function with this index.
+    ///
+    /// # Errors
+    ///
+    /// Refused, at `offset`, where there is no such function.
+    pub fn get_func_type<'a>(
+        &self,
+        list: &'a TypeList<A>,
+        func_idx: u32,
+        offset: u64,
+    ) -> Result<&'a FuncType<A>, Refusal>
+        requires { AreHeld list.now self.now.types }
+        ensures there { is_ok result ≡ is_some (arity_of_function (types_of list.now) self.now func_idx) }
+        ensures arity { IfOk result (λ f. arity_of_function (types_of list.now) self.now func_idx ≡ Some (length f.now.params, length f.now.results)) }
+        ensures value { IfOk result (λ f. IsTypeOfFunction list.now self.now func_idx f.now) }
+        ensures refusal { IfErr result (IsPlainRefusalAt offset) }
+        ensures unknown { slice_get self.now.functions func_idx ≡ None → IfErr result (IsUnknownFunction func_idx offset) }
+    {
+        function_type(list, &self.spaces, func_idx, offset)
+    }
+
+    /// Accepts the start function with this index: it is there, and takes and gives nothing (Core
+    /// Specification 3.0, Validation, Modules, Start Function).
+    ///
+    /// # Errors
+    ///
+    /// Refused, at `offset`, where there is no such function, and where it has parameters or results.
+    pub fn check_start(&self, list: &TypeList<A>, func_idx: u32, offset: u64) -> Result<(), Refusal>
+        requires { AreHeld list.now self.now.types }
+        ensures allowed { is_ok result ≡ is_startable (types_of list.now) self.now func_idx }
+        ensures refusal { IfErr result (IsPlainRefusalAt offset) }
+    {
+        check_start_function(list, &self.spaces, func_idx, offset)
     }
 
     /// What an import of this type is (Core Specification 3.0, Validation, Types, External Types). Whether
