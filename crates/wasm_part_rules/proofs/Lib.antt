@@ -1,0 +1,13 @@
+pub mod Steps
+pub mod Fronts
+pub mod Sizes
+pub mod Rooms
+pub mod ImportRows
+pub mod AddedImports
+pub mod AddedItems
+pub mod AddedDefinitions
+pub mod ExportedEntities
+pub mod ExportNames
+pub mod AddedExports
+pub mod AllLists
+pub mod Starts
