@@ -1,36 +1,39 @@
 -- The machine over the pieces between the header and the end: section by section, in the order of the sections.
-use Rattle.std.proofs.Common.{◌≡◌, ◌≢◌, refl, sym, ap, subst, ◌∙◌, ◌⊎◌, inl, inr, ℕ, Bool, true, false, ◌||◌, cond, if◌then◌else◌, ◌==◌, eqb, List, [], ◌∷◌, ◌++◌, Option, Some, None, append-nil}
+use Rattle.std.proofs.Common.{◌≡◌, ◌≢◌, refl, sym, ap, subst, ◌∙◌, ◌⊎◌, inl, inr, ℕ, Bool, true, false, ◌||◌, cond, ◌==◌, eqb, List, [], ◌∷◌, ◌++◌, Option, Some, None, append-nil}
 use Rattle.std.specs.Option.{option_map, option_and_then}
-use Rattle.std.specs.List.{list_all}
+use Rattle.std.specs.Prelude.{IsTrue, nat_le}
+use Rattle.std.specs.List.{list_all, All, flat_map}
+use Rattle.std.proofs.lemmas.List.Elements.{All-nil, All-cons}
 use Rattle.std.proofs.lemmas.Bool.{eqb-true, eqb-false, eq-eqb, ne_eqb}
 use Rattle.wasm_spec.specs.Values.{items_at}
 use Rattle.wasm_parser.specs.Framing.{Piece, Version, Custom, Counted, Start, DataCount, CodeStart, CodeEntry, Unknown, End, place}
 use Rattle.wasm_rules.specs.Sections.{each, rank, rank_of_section, at_rank, by_rank}
-use Rattle.wasm_rules.specs.Parts.{items_of, all_items}
+use Rattle.wasm_rules.specs.Parts.{items_of, all_items, starts_of, data_counts_of}
+use Rattle.wasm_rules.specs.FeatureFlags.{features_of}
+use Rattle.wasm_rules.specs.Modules.{IsAllowedPiece}
+use Rattle.wasm_spec.specs.Features.{Features}
 use Rattle.wasm_rules.proofs.Ordered.{Follows, done, free, here, body, later, AreRanks, LeavesFree, IsOne, one_at_most, by_ranks}
 use Rattle.wasm_rules.proofs.FramedOrder.{IsInner, AreInner}
-use Rattle.wasm_rules.proofs.Tests.{truth, when, unless, then_some}
+use Rattle.wasm_rules.proofs.Tests.{truth, when, unless, guarded, then_some}
 use Rattle.wasm_readers_errors.specs.declared.features.WasmFeatures.{WasmFeatures}
 use Rattle.wasm_validator_types.specs.Spaces.{Spaces}
-use Rattle.wasm_validator.specs.Served.{is_served_piece}
+use Rattle.wasm_validator.specs.Served.{is_served_section, is_served_piece}
+use Rattle.wasm_validator_core.specs.declared.limits.TheConstants.{MAX_DATA_SEGMENTS}
+use Rattle.wasm_validator_core.specs.Items.{is_data_count}
 use Rattle.wasm_validator_core.specs.Answers.{Types, HasValidTypes}
-use Rattle.wasm_validator.specs.Machine.{type_items, import_items, export_items, beside}
+use Rattle.wasm_validator.specs.Machine.{type_items, import_items, function_items, table_items, memory_items, export_items, tag_items, other_items, section_items, start_item, data_count_item, beside}
 use Rattle.wasm_validator_canonical.proofs.Canonical.{and_left, and_right}
 use Rattle.std.proofs.lemmas.Bool.{and_from}
 use Rattle.std.proofs.lemmas.Option.{same_Some}
-use Rattle.wasm_validator.proofs.ValidTypes.{section_back}
+use Rattle.wasm_validator.proofs.ValidTypes.{beside_back, section_back}
 
 -- one piece of a module that is being read
-abbrev pub section_step : WasmFeatures → Types × Spaces → ℕ → ℕ → List ℕ → Option (Types × Spaces)
-section_step features p id n bytes =
-    if id == 1 then type_items features n bytes p else (if id == 2 then import_items features n bytes p else (if id == 7 then beside (λ types. export_items features types n bytes) p else None))
-
 abbrev pub step : WasmFeatures → Types × Spaces → Piece → Option (Types × Spaces)
 step features p (Version number kind) = None
 step features p (Custom name bytes) = Some p
-step features p (Counted id n bytes) = section_step features p id n bytes
-step features p (Start x) = None
-step features p (DataCount n) = None
+step features p (Counted id n bytes) = section_items features id n bytes p
+step features p (Start x) = beside (λ us s. start_item us s x) p
+step features p (DataCount n) = beside (λ us s. data_count_item (features_of features) s n) p
 step features p (CodeStart n size) = None
 step features p (CodeEntry bytes) = None
 step features p (Unknown id bytes) = None
@@ -52,45 +55,86 @@ pub parts_served : (ps : List Piece) → AreParts ps → list_all is_served_piec
 parts_served [] a = refl
 parts_served (p ∷ ps) a = and_from (is_served_piece p) (list_all is_served_piece ps) a.0.0 (parts_served ps a.1)
 
--- a part is a custom section, or one of the three that are served
+-- a part is a custom section, or one of those that are served
 pub data PartForm : Piece → Type 0 where
   custom : {name bytes : List ℕ} → PartForm (Custom name bytes)
   types : {n : ℕ} {bytes : List ℕ} → PartForm (Counted 1 n bytes)
   imports : {n : ℕ} {bytes : List ℕ} → PartForm (Counted 2 n bytes)
+  functions : {n : ℕ} {bytes : List ℕ} → PartForm (Counted 3 n bytes)
+  tables : {n : ℕ} {bytes : List ℕ} → PartForm (Counted 4 n bytes)
+  memories : {n : ℕ} {bytes : List ℕ} → PartForm (Counted 5 n bytes)
   exports : {n : ℕ} {bytes : List ℕ} → PartForm (Counted 7 n bytes)
+  tags : {n : ℕ} {bytes : List ℕ} → PartForm (Counted 13 n bytes)
+  start : {x : ℕ} → PartForm (Start x)
+  data_count : {n : ℕ} → PartForm (DataCount n)
 
-counted_form : (id n : ℕ) (bytes : List ℕ) → (eqb id 1 ≡ true) ⊎ (eqb id 1 ≡ false) → (eqb id 2 ≡ true) ⊎ (eqb id 2 ≡ false) → (eqb id 7 ≡ true) ⊎ (eqb id 7 ≡ false)
-    → (eqb id 1 || eqb id 2 || eqb id 7) ≡ true → PartForm (Counted id n bytes)
-counted_form id n bytes (inl a) b c e = subst (λ i. PartForm (Counted i n bytes)) (sym (eqb-true id 1 a)) types
-counted_form id n bytes (inr a) (inl b) c e = subst (λ i. PartForm (Counted i n bytes)) (sym (eqb-true id 2 b)) imports
-counted_form id n bytes (inr a) (inr b) (inl c) e = subst (λ i. PartForm (Counted i n bytes)) (sym (eqb-true id 7 c)) exports
-counted_form id n bytes (inr a) (inr b) (inr c) e = absurd (let h : false ≡ true = sym (λ i. a i || b i || c i) ∙ e in cc)
+-- one of two tests is passed
+either : (a b : Bool) → (a || b) ≡ true → (a ≡ true) ⊎ (b ≡ true)
+either true b e = inl refl
+either false b e = inr e
+
+-- the form of a section goes with its id
+counted_as : (id k n : ℕ) (bytes : List ℕ) → eqb id k ≡ true → PartForm (Counted k n bytes) → PartForm (Counted id n bytes)
+counted_as id k n bytes e f = subst (λ i. PartForm (Counted i n bytes)) (sym (eqb-true id k e)) f
+
+counted_form : (id n : ℕ) (bytes : List ℕ) → is_served_section id ≡ true → PartForm (Counted id n bytes)
+counted_form id n bytes e =
+    elim (either (eqb id 1) _ e) [
+      | inl a ↦ counted_as id 1 n bytes a types
+      | inr a ↦ elim (either (eqb id 2) _ a) [
+        | inl b ↦ counted_as id 2 n bytes b imports
+        | inr b ↦ elim (either (eqb id 3) _ b) [
+          | inl c ↦ counted_as id 3 n bytes c functions
+          | inr c ↦ elim (either (eqb id 4) _ c) [
+            | inl t ↦ counted_as id 4 n bytes t tables
+            | inr t ↦ elim (either (eqb id 5) _ t) [
+              | inl d ↦ counted_as id 5 n bytes d memories
+              | inr d ↦ elim (either (eqb id 7) _ d) [
+                | inl g ↦ counted_as id 7 n bytes g exports
+                | inr g ↦ counted_as id 13 n bytes g tags
+              ]
+            ]
+          ]
+        ]
+      ]
+    ]
 
 pub form_of : (p : Piece) → IsPart p → PartForm p
 form_of (Version number kind) h = absurd h.1
 form_of (Custom name bytes) h = custom
-form_of (Counted id n bytes) h = counted_form id n bytes (truth (eqb id 1)) (truth (eqb id 2)) (truth (eqb id 7)) h.0
-form_of (Start x) h = absurd (let e = h.0 in cc)
-form_of (DataCount n) h = absurd (let e = h.0 in cc)
+form_of (Counted id n bytes) h = counted_form id n bytes h.0
+form_of (Start x) h = start
+form_of (DataCount n) h = data_count
 form_of (CodeStart n size) h = absurd (let e = h.0 in cc)
 form_of (CodeEntry bytes) h = absurd (let e = h.0 in cc)
 form_of (Unknown id bytes) h = absurd (let e = h.0 in cc)
 form_of End h = absurd h.1
 
 -- what is accepted is served
-counted_accepted : (features : WasmFeatures) (p q : Types × Spaces) (id n : ℕ) (bytes : List ℕ) (a b c : Bool)
-    → (if a then type_items features n bytes p else (if b then import_items features n bytes p else (if c then beside (λ types. export_items features types n bytes) p else None))) ≡ Some q → (a || b || c) ≡ true
-counted_accepted features p q id n bytes true b c e = refl
-counted_accepted features p q id n bytes false true c e = refl
-counted_accepted features p q id n bytes false false true e = refl
-counted_accepted features p q id n bytes false false false e = absurd cc
+others_accepted : (F : Features) (us : Types) (n : ℕ) (bytes : List ℕ) (s t : Spaces) (a b c d e f : Bool)
+    → cond a (import_items F us n bytes s) (cond b (function_items us n bytes s) (cond c (table_items F us n bytes s) (cond d (memory_items F n bytes s) (cond e (export_items F us n bytes s) (cond f (tag_items F us n bytes s) None))))) ≡ Some t
+    → (a || (b || (c || (d || (e || f))))) ≡ true
+others_accepted F us n bytes s t true b c d e f h = refl
+others_accepted F us n bytes s t false true c d e f h = refl
+others_accepted F us n bytes s t false false true d e f h = refl
+others_accepted F us n bytes s t false false false true e f h = refl
+others_accepted F us n bytes s t false false false false true f h = refl
+others_accepted F us n bytes s t false false false false false true h = refl
+others_accepted F us n bytes s t false false false false false false h = absurd cc
+
+counted_accepted : (features : WasmFeatures) (p q : Types × Spaces) (id n : ℕ) (bytes : List ℕ) (first : Bool)
+    → cond first (type_items features n bytes p) (beside (λ us. other_items (features_of features) us id n bytes) p) ≡ Some q → (first || ((id == 2) || ((id == 3) || ((id == 4) || ((id == 5) || ((id == 7) || (id == 13))))))) ≡ true
+counted_accepted features p q id n bytes true e = refl
+counted_accepted features p q id n bytes false e =
+    let a = then_some (λ (s : Spaces). Some (p.0, s)) (other_items (features_of features) p.0 id n bytes p.1) q e in
+    others_accepted (features_of features) p.0 n bytes p.1 a.0 (eqb id 2) (eqb id 3) (eqb id 4) (eqb id 5) (eqb id 7) (eqb id 13) a.1
 
 step_served : (features : WasmFeatures) (p q : Types × Spaces) (x : Piece) → step features p x ≡ Some q → is_served_piece x ≡ true
 step_served features p q (Version number kind) e = absurd cc
 step_served features p q (Custom name bytes) e = refl
-step_served features p q (Counted id n bytes) e = counted_accepted features p q id n bytes (eqb id 1) (eqb id 2) (eqb id 7) e
-step_served features p q (Start x) e = absurd cc
-step_served features p q (DataCount n) e = absurd cc
+step_served features p q (Counted id n bytes) e = counted_accepted features p q id n bytes (eqb id 1) e
+step_served features p q (Start x) e = refl
+step_served features p q (DataCount n) e = refl
 step_served features p q (CodeStart n size) e = absurd cc
 step_served features p q (CodeEntry bytes) e = absurd cc
 step_served features p q (Unknown id bytes) e = absurd cc
@@ -100,9 +144,9 @@ step_served features p q End e = absurd cc
 pub step_back : (features : WasmFeatures) (p q : Types × Spaces) (x : Piece) → step features p x ≡ Some q → HasValidTypes features q → HasValidTypes features p
 step_back features p q (Version number kind) e v = absurd cc
 step_back features p q (Custom name bytes) e v = subst (HasValidTypes features) (sym (same_Some p q e)) v
-step_back features p q (Counted id n bytes) e v = section_back features (eqb id 1) (eqb id 2) (eqb id 7) n bytes p q e v
-step_back features p q (Start x) e v = absurd cc
-step_back features p q (DataCount n) e v = absurd cc
+step_back features p q (Counted id n bytes) e v = section_back features id n bytes p q e v
+step_back features p q (Start x) e v = beside_back features (λ us s. start_item us s x) p q e v
+step_back features p q (DataCount n) e v = beside_back features (λ us s. data_count_item (features_of features) s n) p q e v
 step_back features p q (CodeStart n size) e v = absurd cc
 step_back features p q (CodeEntry bytes) e v = absurd cc
 step_back features p q (Unknown id bytes) e v = absurd cc
@@ -114,33 +158,79 @@ run_served features (x ∷ ps) p q e =
     let h = then_some (λ t. each (step features) t ps) (step features p x) q e in
     and_from (is_served_piece x) (list_all is_served_piece ps) (step_served features p h.0 x h.1) (run_served features ps h.0 q h.2)
 
--- the ranks of the sections that are served
+-- what is accepted is allowed
+tags_allowed : (F : Features) (us : Types) (n : ℕ) (bytes : List ℕ) (s t : Spaces) → tag_items F us n bytes s ≡ Some t → IsTrue F.exceptions
+tags_allowed F us n bytes s t e = (guarded F.exceptions _ t e).0
+
+form_accepted : (features : WasmFeatures) (p q : Types × Spaces) (x : Piece) → PartForm x → step features p x ≡ Some q → IsAllowedPiece (features_of features) x
+form_accepted features p q x custom e = tt
+form_accepted features p q x types e = λ h. absurd cc
+form_accepted features p q x imports e = λ h. absurd cc
+form_accepted features p q x functions e = λ h. absurd cc
+form_accepted features p q x tables e = λ h. absurd cc
+form_accepted features p q x memories e = λ h. absurd cc
+form_accepted features p q x start e = tt
+form_accepted features p q x (data_count {n}) e =
+    let a = then_some (λ (s : Spaces). Some (p.0, s)) (data_count_item (features_of features) p.1 n) q e in
+    let b = guarded (is_data_count (features_of features) n) (Some p.1) a.0 a.1 in
+    and_left (features_of features).bulk_memory (nat_le n MAX_DATA_SEGMENTS) b.0
+form_accepted features p q x exports e = λ h. absurd cc
+form_accepted features p q x (tags {n} {bytes}) e = λ h.
+    let a = then_some (λ (s : Spaces). Some (p.0, s)) (tag_items (features_of features) p.0 n bytes p.1) q e in
+    tags_allowed (features_of features) p.0 n bytes p.1 a.0 a.1
+
+pub run_allowed : (features : WasmFeatures) (ps : List Piece) (p q : Types × Spaces) → AreParts ps → each (step features) p ps ≡ Some q → All (IsAllowedPiece (features_of features)) ps
+run_allowed features [] p q a e = All-nil (IsAllowedPiece (features_of features))
+run_allowed features (x ∷ ps) p q a e =
+    let h = then_some (λ t. each (step features) t ps) (step features p x) q e in
+    All-cons (IsAllowedPiece (features_of features)) x ps (form_accepted features p h.0 x (form_of x a.0) h.1) (run_allowed features ps h.0 q a.1 h.2)
+
+-- the ranks of the sections that are served: of types, imports, functions, tables, memories, tags, exports, and those of
+-- the start function and the data count
 abbrev pub served_ranks : List ℕ
-served_ranks = 1 ∷ 2 ∷ 8 ∷ []
+served_ranks = 1 ∷ 2 ∷ 3 ∷ 4 ∷ 5 ∷ 6 ∷ 8 ∷ 9 ∷ 11 ∷ []
 
-part_rank : (p : Piece) → PartForm p → (rank p ≡ 0) ⊎ ((rank p ≡ 1) ⊎ ((rank p ≡ 2) ⊎ (rank p ≡ 8)))
+abbrev is_served_rank : ℕ → Bool
+is_served_rank k = eqb k 1 || (eqb k 2 || (eqb k 3 || (eqb k 4 || (eqb k 5 || (eqb k 6 || (eqb k 8 || (eqb k 9 || eqb k 11)))))))
+
+-- those of items
+abbrev IsOfItems : ℕ → Type 0
+IsOfItems k = (0 ≢ k) × (9 ≢ k) × (11 ≢ k)
+
+-- the id of the section of a rank
+abbrev id_of_rank : ℕ → ℕ
+id_of_rank k = cond (eqb k 6) 13 (cond (eqb k 8) 7 k)
+
+part_rank : (p : Piece) → PartForm p → 0 ≢ rank p → is_served_rank (rank p) ≡ true
 unfolding place
-part_rank p custom = inl refl
-part_rank p types = inr (inl refl)
-part_rank p imports = inr (inr (inl refl))
-part_rank p exports = inr (inr (inr refl))
-
-apart : (n : ℕ) → n ≡ 13 → (n ≡ 13 → ⊥) → ⊥
-apart n e h = h e
+part_rank p custom z = absurd (z refl)
+part_rank p types z = refl
+part_rank p imports z = refl
+part_rank p functions z = refl
+part_rank p tables z = refl
+part_rank p memories z = refl
+part_rank p exports z = refl
+part_rank p tags z = refl
+part_rank p start z = refl
+part_rank p data_count z = refl
 
 no_body : (p : Piece) → PartForm p → rank p ≡ 13 → ⊥
-no_body p f e =
-    elim (part_rank p f) [
-      | inl a ↦ apart 0 (sym a ∙ e) (λ h. cc)
-      | inr (inl a) ↦ apart 1 (sym a ∙ e) (λ h. cc)
-      | inr (inr (inl a)) ↦ apart 2 (sym a ∙ e) (λ h. cc)
-      | inr (inr (inr a)) ↦ apart 8 (sym a ∙ e) (λ h. cc)
-    ]
+unfolding place
+no_body p custom e = cc
+no_body p types e = cc
+no_body p imports e = cc
+no_body p functions e = cc
+no_body p tables e = cc
+no_body p memories e = cc
+no_body p exports e = cc
+no_body p tags e = cc
+no_body p start e = cc
+no_body p data_count e = cc
 
 -- of these ranks, those that are served
 abbrev pub restricted : List ℕ → List ℕ
 restricted [] = []
-restricted (k ∷ ks) = cond (eqb k 1 || eqb k 2 || eqb k 8) (k ∷ restricted ks) (restricted ks)
+restricted (k ∷ ks) = cond (is_served_rank k) (k ∷ restricted ks) (restricted ks)
 
 abbrev pub no_zero : List ℕ → Type 0
 no_zero [] = Unit {0}
@@ -148,12 +238,8 @@ no_zero (k ∷ ks) = (0 ≢ k) × no_zero ks
 
 restrict_here : (k : ℕ) (ks : List ℕ) (p : Piece) (ps : List Piece) → 0 ≢ k → rank p ≡ k → PartForm p → Follows (restricted ks) ps → Follows (restricted (k ∷ ks)) (p ∷ ps)
 restrict_here k ks p ps z r f g =
-    elim (part_rank p f) [
-      | inl a ↦ absurd (z (sym a ∙ r))
-      | inr (inl a) ↦ subst (λ j. Follows (restricted (j ∷ ks)) (p ∷ ps)) (sym a ∙ r) (here a g)
-      | inr (inr (inl a)) ↦ subst (λ j. Follows (restricted (j ∷ ks)) (p ∷ ps)) (sym a ∙ r) (here a g)
-      | inr (inr (inr a)) ↦ subst (λ j. Follows (restricted (j ∷ ks)) (p ∷ ps)) (sym a ∙ r) (here a g)
-    ]
+    let served : is_served_rank k ≡ true = ap is_served_rank (sym r) ∙ part_rank p f (λ e. z (e ∙ r)) in
+    subst (λ (js : List ℕ). Follows js (p ∷ ps)) (sym (when (is_served_rank k) (k ∷ restricted ks) (restricted ks) served)) (here r g)
 
 restrict_later : (b : Bool) (k : ℕ) (ks : List ℕ) (ps : List Piece) → Follows ks ps → Follows (cond b (k ∷ ks) ks) ps
 restrict_later true k ks ps f = later f
@@ -164,7 +250,7 @@ restrict ks [] z a done = done
 restrict ks (p ∷ ps) z a (free r f) = free r (restrict ks ps z a.1 f)
 restrict (k ∷ ks) (p ∷ ps) z a (here r f) = restrict_here k ks p ps z.0 r (form_of p a.0) (restrict ks ps z.1 a.1 f)
 restrict (k ∷ ks) (p ∷ ps) z a (body r b f) = absurd (no_body p (form_of p a.0) (r ∙ b))
-restrict (k ∷ ks) ps z a (later f) = restrict_later (eqb k 1 || eqb k 2 || eqb k 8) k (restricted ks) ps (restrict ks ps z.1 a f)
+restrict (k ∷ ks) ps z a (later f) = restrict_later (is_served_rank k) k (restricted ks) ps (restrict ks ps z.1 a f)
 
 -- a custom section changes nothing
 part_free : (features : WasmFeatures) (p : Piece) → PartForm p → rank p ≡ 0 → (s : Types × Spaces) → step features s p ≡ Some s
@@ -172,18 +258,24 @@ unfolding place
 part_free features p custom r s = refl
 part_free features p types r s = absurd cc
 part_free features p imports r s = absurd cc
+part_free features p functions r s = absurd cc
+part_free features p tables r s = absurd cc
+part_free features p memories r s = absurd cc
 part_free features p exports r s = absurd cc
+part_free features p tags r s = absurd cc
+part_free features p start r s = absurd cc
+part_free features p data_count r s = absurd cc
 
 leaves_free : (features : WasmFeatures) (ps : List Piece) → AreParts ps → LeavesFree (step features) ps
 leaves_free features [] a = tt
 leaves_free features (p ∷ ps) a = (part_free features p (form_of p a.0), leaves_free features ps a.1)
 
 served_are_ranks : AreRanks served_ranks
-served_are_ranks = ((λ e. cc), (((λ e. cc), ((λ e. cc), tt)), ((λ e. cc), (((λ e. cc), tt), ((λ e. cc), (tt, tt))))))
+served_are_ranks = ((λ e. cc), (((λ e. cc), ((λ e. cc), ((λ e. cc), ((λ e. cc), ((λ e. cc), ((λ e. cc), ((λ e. cc), ((λ e. cc), tt)))))))), ((λ e. cc), (((λ e. cc), ((λ e. cc), ((λ e. cc), ((λ e. cc), ((λ e. cc), ((λ e. cc), ((λ e. cc), tt))))))), ((λ e. cc), (((λ e. cc), ((λ e. cc), ((λ e. cc), ((λ e. cc), ((λ e. cc), ((λ e. cc), tt)))))), ((λ e. cc), (((λ e. cc), ((λ e. cc), ((λ e. cc), ((λ e. cc), ((λ e. cc), tt))))), ((λ e. cc), (((λ e. cc), ((λ e. cc), ((λ e. cc), ((λ e. cc), tt)))), ((λ e. cc), (((λ e. cc), ((λ e. cc), ((λ e. cc), tt))), ((λ e. cc), (((λ e. cc), ((λ e. cc), tt)), ((λ e. cc), (((λ e. cc), tt), ((λ e. cc), (tt, tt))))))))))))))))))
 
--- parts in the order of the ranks, as their three sections
-pub three_sections : (features : WasmFeatures) (ps : List Piece) (s : Types × Spaces) → AreParts ps → Follows served_ranks ps → each (step features) s ps ≡ by_rank (step features) served_ranks s ps
-three_sections features ps s a f = by_ranks (step features) served_ranks ps s f served_are_ranks (leaves_free features ps a)
+-- parts in the order of the ranks, as their sections
+pub by_sections : (features : WasmFeatures) (ps : List Piece) (s : Types × Spaces) → AreParts ps → Follows served_ranks ps → each (step features) s ps ≡ by_rank (step features) served_ranks s ps
+by_sections features ps s a f = by_ranks (step features) served_ranks ps s f served_are_ranks (leaves_free features ps a)
 
 -- the section of this id, if it is there
 pub record IsSection (id : ℕ) (ps : List Piece) : Type 0 where
@@ -207,29 +299,83 @@ first_of : (k : ℕ) (ps : List Piece) (p : Piece) → AreParts ps → at_rank k
 first_of k [] p a e = absurd cc
 first_of k (q ∷ ps) p a e = first_case k q ps p (truth (eqb (rank q) k)) a e (λ b f. first_of k ps p b f)
 
-rank_form : (p : Piece) → PartForm p → (k id : ℕ) → rank p ≡ k → 0 ≢ k → (k ≡ 1 → id ≡ 1) → (k ≡ 2 → id ≡ 2) → (k ≡ 8 → id ≡ 7) → IsSection id (p ∷ [])
+rank_form : (p : Piece) → PartForm p → IsOfItems (rank p) → IsSection (id_of_rank (rank p)) (p ∷ [])
 unfolding place
-rank_form p (custom {name} {bytes}) k id r z a b c = absurd (z r)
-rank_form p (types {n} {bytes}) k id r z a b c = record { count = n; contents = bytes; is = ap (λ i. Counted i n bytes ∷ []) (sym (a (sym r))) }
-rank_form p (imports {n} {bytes}) k id r z a b c = record { count = n; contents = bytes; is = ap (λ i. Counted i n bytes ∷ []) (sym (b (sym r))) }
-rank_form p (exports {n} {bytes}) k id r z a b c = record { count = n; contents = bytes; is = ap (λ i. Counted i n bytes ∷ []) (sym (c (sym r))) }
+rank_form p custom z = absurd (z.0 refl)
+rank_form p (types {n} {bytes}) z = record { count = n; contents = bytes; is = refl }
+rank_form p (imports {n} {bytes}) z = record { count = n; contents = bytes; is = refl }
+rank_form p (functions {n} {bytes}) z = record { count = n; contents = bytes; is = refl }
+rank_form p (tables {n} {bytes}) z = record { count = n; contents = bytes; is = refl }
+rank_form p (memories {n} {bytes}) z = record { count = n; contents = bytes; is = refl }
+rank_form p (exports {n} {bytes}) z = record { count = n; contents = bytes; is = refl }
+rank_form p (tags {n} {bytes}) z = record { count = n; contents = bytes; is = refl }
+rank_form p start z = absurd (z.1 refl)
+rank_form p data_count z = absurd (z.2 refl)
 
-section_from : (k id : ℕ) (ps : List Piece) → AreParts ps → 0 ≢ k → (k ≡ 1 → id ≡ 1) → (k ≡ 2 → id ≡ 2) → (k ≡ 8 → id ≡ 7) → (at_rank k ps ≡ []) ⊎ IsOne (at_rank k ps) → SectionOf id (at_rank k ps)
-section_from k id ps a z x y w (inl e) = inl e
-section_from k id ps a z x y w (inr o) =
+section_from : (k : ℕ) (ps : List Piece) → AreParts ps → IsOfItems k → (at_rank k ps ≡ []) ⊎ IsOne (at_rank k ps) → SectionOf (id_of_rank k) (at_rank k ps)
+section_from k ps a z (inl e) = inl e
+section_from k ps a z (inr o) =
     let f = first_of k ps o.piece a o.is in
-    inr (subst (IsSection id) (sym o.is) (rank_form o.piece (form_of o.piece f.1) k id f.0 z x y w))
+    let here = rank_form o.piece (form_of o.piece f.1) (subst IsOfItems (sym f.0) z) in
+    inr (subst (λ (x : ℕ × List Piece). IsSection (id_of_rank x.0) x.1) (λ i. (f.0 i, sym o.is i)) here)
 
--- the three sections
+-- the start function, and the data count, if they are there
+abbrev pub StartOf : List Piece → Type 0
+StartOf ps = (ps ≡ []) ⊎ ((x : ℕ) × (ps ≡ Start x ∷ []))
+
+abbrev pub DataCountOf : List Piece → Type 0
+DataCountOf ps = (ps ≡ []) ⊎ ((n : ℕ) × (ps ≡ DataCount n ∷ []))
+
+start_form : (p : Piece) → PartForm p → rank p ≡ 9 → (x : ℕ) × (p ∷ [] ≡ Start x ∷ [])
+unfolding place
+start_form p custom e = absurd cc
+start_form p types e = absurd cc
+start_form p imports e = absurd cc
+start_form p functions e = absurd cc
+start_form p tables e = absurd cc
+start_form p memories e = absurd cc
+start_form p exports e = absurd cc
+start_form p tags e = absurd cc
+start_form p (start {x}) e = (x, refl)
+start_form p data_count e = absurd cc
+
+data_count_form : (p : Piece) → PartForm p → rank p ≡ 11 → (n : ℕ) × (p ∷ [] ≡ DataCount n ∷ [])
+unfolding place
+data_count_form p custom e = absurd cc
+data_count_form p types e = absurd cc
+data_count_form p imports e = absurd cc
+data_count_form p functions e = absurd cc
+data_count_form p tables e = absurd cc
+data_count_form p memories e = absurd cc
+data_count_form p exports e = absurd cc
+data_count_form p tags e = absurd cc
+data_count_form p start e = absurd cc
+data_count_form p (data_count {n}) e = (n, refl)
+
+start_from : (ps : List Piece) → AreParts ps → (at_rank 9 ps ≡ []) ⊎ IsOne (at_rank 9 ps) → StartOf (at_rank 9 ps)
+start_from ps a (inl e) = inl e
+start_from ps a (inr o) =
+    let f = first_of 9 ps o.piece a o.is in
+    let here = start_form o.piece (form_of o.piece f.1) f.0 in
+    inr (here.0, o.is ∙ here.1)
+
+data_count_from : (ps : List Piece) → AreParts ps → (at_rank 11 ps ≡ []) ⊎ IsOne (at_rank 11 ps) → DataCountOf (at_rank 11 ps)
+data_count_from ps a (inl e) = inl e
+data_count_from ps a (inr o) =
+    let f = first_of 11 ps o.piece a o.is in
+    let here = data_count_form o.piece (form_of o.piece f.1) f.0 in
+    inr (here.0, o.is ∙ here.1)
+
+-- the sections
 module _ (ps : List Piece) (a : AreParts ps) (f : Follows served_ranks ps) where
-  pub type_section : SectionOf 1 (at_rank 1 ps)
-  type_section = section_from 1 1 ps a (λ e. cc) (λ e. refl) (λ e. absurd cc) (λ e. absurd cc) (one_at_most served_ranks ps 1 f served_are_ranks (λ e. cc) (λ e. cc))
+  pub section_at : (k : ℕ) → IsOfItems k → k ≢ 13 → SectionOf (id_of_rank k) (at_rank k ps)
+  section_at k z b = section_from k ps a z (one_at_most served_ranks ps k f served_are_ranks z.0 b)
 
-  pub import_section : SectionOf 2 (at_rank 2 ps)
-  import_section = section_from 2 2 ps a (λ e. cc) (λ e. absurd cc) (λ e. refl) (λ e. absurd cc) (one_at_most served_ranks ps 2 f served_are_ranks (λ e. cc) (λ e. cc))
+  pub start_at : StartOf (at_rank 9 ps)
+  start_at = start_from ps a (one_at_most served_ranks ps 9 f served_are_ranks (λ e. cc) (λ e. cc))
 
-  pub export_section : SectionOf 7 (at_rank 8 ps)
-  export_section = section_from 8 7 ps a (λ e. cc) (λ e. absurd cc) (λ e. absurd cc) (λ e. refl) (one_at_most served_ranks ps 8 f served_are_ranks (λ e. cc) (λ e. cc))
+  pub data_count_at : DataCountOf (at_rank 11 ps)
+  data_count_at = data_count_from ps a (one_at_most served_ranks ps 11 f served_are_ranks (λ e. cc) (λ e. cc))
 
 -- the items of the sections of an id are those of the pieces of its rank
 module _ {V : Type 0} (id : ℕ) (reads : List ℕ → Option (V × List ℕ)) where
@@ -281,3 +427,41 @@ module _ {V : Type 0} (id : ℕ) (reads : List ℕ → Option (V × List ℕ)) w
   pub one_section : (n : ℕ) (bytes : List ℕ) → all_items id reads (Counted id n bytes ∷ []) ≡ items_at reads n bytes
   one_section n bytes =
       ap (option_and_then (λ (xs : List V). option_map (λ (ys : List V). xs ++ ys) (Some []))) (when (eqb id id) (items_at reads n bytes) (Some []) (eq-eqb id id refl)) ∙ append_empty (items_at reads n bytes)
+
+-- what pieces of one rank alone have is what those of this rank have
+module _ {V : Type 0} (f : Piece → List V) (k : ℕ) (elsewhere : (p : Piece) → rank p ≢ k → f p ≡ []) where
+  of_rank_case : (p : Piece) (ps : List Piece) → (eqb (rank p) k ≡ true) ⊎ (eqb (rank p) k ≡ false) → flat_map f ps ≡ flat_map f (at_rank k ps) → flat_map f (p ∷ ps) ≡ flat_map f (at_rank k (p ∷ ps))
+  of_rank_case p ps (inl b) h = ap (λ (xs : List V). f p ++ xs) h ∙ ap (flat_map f) (sym (when (eqb (rank p) k) (p ∷ at_rank k ps) (at_rank k ps) b))
+  of_rank_case p ps (inr b) h = (λ i. elsewhere p (eqb-false (rank p) k b) i ++ h i) ∙ ap (flat_map f) (sym (unless (eqb (rank p) k) (p ∷ at_rank k ps) (at_rank k ps) b))
+
+  pub of_rank : (ps : List Piece) → flat_map f ps ≡ flat_map f (at_rank k ps)
+  of_rank [] = refl
+  of_rank (p ∷ ps) = of_rank_case p ps (truth (eqb (rank p) k)) (of_rank ps)
+
+start_elsewhere : (p : Piece) → rank p ≢ 9 → starts_of p ≡ []
+start_elsewhere (Version number kind) h = refl
+start_elsewhere (Custom name bytes) h = refl
+start_elsewhere (Counted i n bytes) h = refl
+start_elsewhere (Start x) h = absurd (h refl)
+start_elsewhere (DataCount n) h = refl
+start_elsewhere (CodeStart n size) h = refl
+start_elsewhere (CodeEntry bytes) h = refl
+start_elsewhere (Unknown i bytes) h = refl
+start_elsewhere End h = refl
+
+data_count_elsewhere : (p : Piece) → rank p ≢ 11 → data_counts_of p ≡ []
+data_count_elsewhere (Version number kind) h = refl
+data_count_elsewhere (Custom name bytes) h = refl
+data_count_elsewhere (Counted i n bytes) h = refl
+data_count_elsewhere (Start x) h = refl
+data_count_elsewhere (DataCount n) h = absurd (h refl)
+data_count_elsewhere (CodeStart n size) h = refl
+data_count_elsewhere (CodeEntry bytes) h = refl
+data_count_elsewhere (Unknown i bytes) h = refl
+data_count_elsewhere End h = refl
+
+pub ranked_starts : (ps : List Piece) → flat_map starts_of ps ≡ flat_map starts_of (at_rank 9 ps)
+ranked_starts ps = of_rank starts_of 9 start_elsewhere ps
+
+pub ranked_data_counts : (ps : List Piece) → flat_map data_counts_of ps ≡ flat_map data_counts_of (at_rank 11 ps)
+ranked_data_counts ps = of_rank data_counts_of 11 data_count_elsewhere ps

@@ -1,20 +1,20 @@
 -- Framed bytes whose parts are of the forms that are served are a valid module exactly where the machine accepts them.
 use Rattle.std.proofs.Common.{◌≡◌, refl, sym, ap, subst, ◌∙◌, ℕ, ◌+◌, ◌≤◌, true, List, [], ◌∷◌, ◌++◌, length, slice_get, Option, Some}
-use Rattle.std.specs.List.{list_all, All}
+use Rattle.std.specs.List.{list_all, All, flat_map}
 use Rattle.std.proofs.lemmas.List.Folds.{list_all-append}
-use Rattle.std.proofs.lemmas.List.Elements.{All-cons}
+use Rattle.std.proofs.lemmas.List.Elements.{All-cons, All-head, All-tail}
 use Rattle.std.proofs.lemmas.Option.{same_Some}
-use Rattle.wasm_spec.specs.BinaryTypes.{rec_at}
-use Rattle.wasm_spec.specs.BinaryModules.{import_at, export_at}
 use Rattle.wasm_spec.specs.Syntax.{Rec}
 use Rattle.wasm_spec.specs.Features.{Features, canonical}
 use Rattle.wasm_spec.specs.Trees.{DefType}
 use Rattle.wasm_spec.specs.GroupRules.{IsValidTypeSection}
 use Rattle.wasm_parser.specs.Framing.{Piece, Version, End, IsFramed}
 use Rattle.wasm_rules.specs.FeatureFlags.{features_of}
-use Rattle.wasm_rules.specs.Parts.{Parts, Expression, HasParts, index}
+use Rattle.wasm_rules.specs.Parts.{Parts, Expression, HasParts}
 use Rattle.wasm_rules.specs.IndexSpaces.{index_spaces}
-use Rattle.wasm_rules.specs.Modules.{IsAllowedPiece, AreValidParts, IsWellFormed, IsValid}
+use Rattle.wasm_part_rules.specs.Lists.{has_no_init}
+use Rattle.wasm_spec.specs.BinarySections.{TableEntry}
+use Rattle.wasm_rules.specs.Modules.{table_expressions, IsAllowedPiece, AreValidParts, IsWellFormed, IsValid}
 use Rattle.wasm_rules.proofs.FramedOrder.{others_inner}
 use Rattle.wasm_readers_types.specs.declared.indices.TheConstants.{MAX_IDS}
 use Rattle.wasm_readers_errors.specs.declared.features.WasmFeatures.{WasmFeatures}
@@ -25,46 +25,53 @@ use Rattle.wasm_validator.specs.Served.{is_served_piece, AreServed}
 use Rattle.wasm_validator_canonical.specs.Groups.{AreValid}
 use Rattle.wasm_validator_core.specs.declared.limits.TheConstants.{MAX_TYPES}
 use Rattle.wasm_validator_core.specs.Answers.{Types}
-use Rattle.wasm_validator.proofs.AddedTypes.{TypesAdded, section, as_many_zipped}
-use Rattle.wasm_validator.proofs.FunctionImports.{function_imports}
-use Rattle.wasm_validator.proofs.ModuleRun.{AreParts, are_parts, framed_items}
+use Rattle.wasm_validator.proofs.AddedTypes.{TypesAdded, section, type_space, as_many_types, as_many_zipped}
+use Rattle.wasm_validator.proofs.ModuleRun.{AreParts, are_parts}
 use Rattle.wasm_validator.proofs.RunOfParts.{Accepted}
-use Rattle.wasm_validator.proofs.ServedParts.{served_parts}
-use Rattle.wasm_validator.proofs.ServedValid.{PartsFit, fit_valid, valid_fit}
-use Rattle.wasm_validator.proofs.ServedPieces.{whole, all_parts, same_parts, allowed_inside}
+use Rattle.wasm_validator.proofs.ServedLists.{Lists, parts_of}
+use Rattle.wasm_validator.proofs.ServedValid.{lists_valid, valid_lists}
+use Rattle.wasm_validator.proofs.ServedPieces.{whole, all_parts, lists_of, parts_are, same_parts, allowed_to_end, allowed_before_end}
 
 module _ (expression_at : List ℕ → Option (Expression × List ℕ)) (features : WasmFeatures) (T : Types) (bytes : List ℕ) where
   abbrev F : Features
   F = features_of features
 
   -- a module that is accepted is valid
-  module _ (pieces : List Piece) (f : IsFramed bytes pieces) (header : Version f.number f.kind ≡ Version 1 0) (parts : AreParts f.others) (a : Accepted features T f.others) where
+  module _ (pieces : List Piece) (f : IsFramed bytes pieces) (header : Version f.number f.kind ≡ Version 1 0) (parts : AreParts f.others) (allowed : All (IsAllowedPiece F) f.others) (a : Accepted expression_at features T f.others) where
     abbrev pub accepted_parts : Parts
-    accepted_parts = served_parts a.groups a.functions a.exports
+    accepted_parts = parts_of a.lists
 
-    abbrev pub accepted_fit : PartsFit features T a.groups a.types a.functions a.exports
-    accepted_fit = record { few_groups = a.few_groups; few_imports = a.few_imports; functions_fit = a.functions_fit; few_exports = a.few_exports; exports_fit = a.exports_fit }
+    pub few_types : length (type_space features T a.lists.groups a.types) ≤ MAX_TYPES
+    few_types = subst (λ n. n ≤ MAX_TYPES) (as_many_types features T a.lists.groups a.types) a.types.few
 
     abbrev pub accepted_formed : IsWellFormed expression_at F bytes
     accepted_formed = record {
       pieces = pieces;
       framed = f;
       first = ap (λ (ps : List Piece). slice_get ps 0) f.all ∙ ap Some header;
-      allowed = subst (All (IsAllowedPiece F)) (sym f.all) (All-cons (IsAllowedPiece F) (Version f.number f.kind) (f.others ++ End ∷ []) tt (allowed_inside F f.others parts));
+      allowed = subst (All (IsAllowedPiece F)) (sym f.all) (All-cons (IsAllowedPiece F) (Version f.number f.kind) (f.others ++ End ∷ []) tt (allowed_to_end F f.others allowed));
       parts = accepted_parts;
-      has_parts = subst (λ (ps : List Piece). HasParts expression_at ps accepted_parts) (sym f.all) (all_parts expression_at f.number f.kind f.others parts a.groups a.functions a.exports a.sections a.imports a.entries);
-      types = (section features T a.groups a.types).section;
-      rules = fit_valid features T a.groups a.types a.functions a.exports accepted_fit;
+      has_parts = subst (λ (ps : List Piece). HasParts expression_at ps accepted_parts) (sym f.all) (all_parts expression_at f.number f.kind f.others parts a.lists a.are);
+      types = (section features T a.lists.groups a.types).section;
+      rules = lists_valid F (type_space features T a.lists.groups a.types) a.lists a.few_groups few_types a.few_imports a.few_exports a.starts a.few_segments a.valid;
     }
 
+    -- tables without initializers have no expressions
+    pub none_in_tables : (ts : List (TableEntry Expression ℕ)) → All has_no_init ts → flat_map (λ (t : TableEntry Expression ℕ). table_expressions t.init) ts ++ [] ≡ []
+    none_in_tables [] n = refl
+    none_in_tables (t ∷ ts) n =
+        (λ i. (table_expressions (All-head has_no_init t ts n i) ++ flat_map (λ (u : TableEntry Expression ℕ). table_expressions u.init) ts) ++ [])
+        ∙ none_in_tables ts (All-tail has_no_init t ts n)
+
     abbrev pub accepted_valid : IsValid expression_at F bytes
-    accepted_valid = record { well_formed = accepted_formed; no_expressions = refl; no_bodies = refl }
+    accepted_valid = record { well_formed = accepted_formed; no_expressions = none_in_tables a.lists.tables (a.are).no_inits; no_bodies = refl }
 
   -- a valid module of the forms that are served is accepted, where there is room for its types
   pub record WouldBeAccepted (pieces : List Piece) (f : IsFramed bytes pieces) : Type 0 where
     pub header : Version f.number f.kind ≡ Version 1 0
     pub parts : AreParts f.others
-    pub accepted : Accepted features T f.others
+    pub allowed : All (IsAllowedPiece F) f.others
+    pub accepted : Accepted expression_at features T f.others
 
   -- its types can be added
   record SectionAdded (gs : List (Rec ℕ)) (types : List DefType) : Type 0 where
@@ -89,35 +96,28 @@ module _ (expression_at : List ℕ → Option (Expression × List ℕ)) (feature
       let header : Version f.number f.kind ≡ Version 1 0 = cc in
       let inside = and_right (is_served_piece (Version f.number f.kind)) (list_all is_served_piece (f.others ++ End ∷ [])) (sym (ap (list_all is_served_piece) f.all) ∙ s.pieces_served) in
       let parts = are_parts f.others (inside_served f.others inside) (others_inner bytes m.pieces f) in
-      let gs = m.parts.groups in
-      let fs = function_imports m.parts.imports s.imports_served in
-      let es = m.parts.exports in
+      let allowed = allowed_before_end F f.others (All-tail (IsAllowedPiece F) (Version f.number f.kind) (f.others ++ End ∷ []) (subst (All (IsAllowedPiece F)) f.all m.allowed)) in
       let has : HasParts expression_at (whole f.number f.kind f.others) m.parts = subst (λ (ps : List Piece). HasParts expression_at ps m.parts) f.all m.has_parts in
-      let sections = sym (framed_items 1 (rec_at index) f.number f.kind f.others) ∙ has.groups in
-      let imports = sym (framed_items 2 (import_at index) f.number f.kind f.others) ∙ has.imports ∙ ap Some fs.are in
-      let exports = sym (framed_items 7 export_at f.number f.kind f.others) ∙ has.exports in
-      let mine = all_parts expression_at f.number f.kind f.others parts gs fs.items es sections imports exports in
-      let same : m.parts ≡ served_parts gs fs.items es = same_parts expression_at f.number f.kind f.others parts m.parts (served_parts gs fs.items es) has mine in
-      let types = section_added before gs m.types room m.rules.limits.types in
-      let space = (section features T gs types.added).section.types in
-      let rules : AreValidParts F (index_spaces space (served_parts gs fs.items es)) (served_parts gs fs.items es) =
+      let lists : Lists = lists_of expression_at f.number f.kind f.others parts m.parts in
+      let are = parts_are expression_at f.number f.kind f.others parts m.parts s.tables_served has in
+      let same : m.parts ≡ parts_of lists = same_parts expression_at f.number f.kind f.others parts m.parts (parts_of lists) has (all_parts expression_at f.number f.kind f.others parts lists are) in
+      let types = section_added before m.parts.groups m.types room m.rules.limits.types in
+      let space = (section features T m.parts.groups types.added).section.types in
+      let rules : AreValidParts F (index_spaces space (parts_of lists)) (parts_of lists) =
       subst (λ (x : List DefType × Parts). AreValidParts F (index_spaces x.0 x.1) x.1) (λ i. (sym types.same i, same i)) m.rules in
-      let fit = valid_fit features T gs types.added fs.items es rules in
       record {
         header = header;
         parts = parts;
+        allowed = allowed;
         accepted = record {
-          groups = gs;
-          sections = sections;
-          few_groups = fit.few_groups;
+          lists = lists;
+          are = are;
+          few_groups = rules.limits.groups;
+          few_imports = rules.limits.imports;
+          few_exports = rules.limits.exports;
           types = types.added;
-          functions = fs.items;
-          imports = imports;
-          few_imports = fit.few_imports;
-          functions_fit = fit.functions_fit;
-          exports = es;
-          entries = exports;
-          few_exports = fit.few_exports;
-          exports_fit = fit.exports_fit;
+          valid = valid_lists F (index_spaces space (parts_of lists)) (parts_of lists) rules;
+          starts = rules.starts;
+          few_segments = rules.limits.data_counts;
         };
       }

@@ -1,29 +1,41 @@
 -- The parts of pieces that are served, and what validity says of them.
-use Rattle.std.proofs.Common.{◌≡◌, ◌≢◌, refl, sym, ap, ◌∙◌, ℕ, eqb, List, [], ◌∷◌, ◌++◌, map, Option, Some}
+use Rattle.std.proofs.Common.{◌≡◌, ◌≢◌, true, false, refl, sym, ap, ◌∙◌, ℕ, eqb, List, [], ◌∷◌, ◌++◌, Option, Some}
 use Rattle.std.specs.List.{flat_map, All}
 use Rattle.std.proofs.lemmas.Bool.{ne_eqb}
-use Rattle.std.proofs.lemmas.List.Elements.{All-nil, All-cons}
-use Rattle.wasm_spec.specs.Syntax.{Rec}
+use Rattle.std.proofs.lemmas.List.Elements.{All-nil, All-cons, All-head, All-tail}
 use Rattle.wasm_spec.specs.Values.{u32_at, items_at}
 use Rattle.wasm_spec.specs.BinaryTypes.{rec_at, memory_at, tag_at}
-use Rattle.wasm_spec.specs.BinaryModules.{Export, import_at, export_at}
+use Rattle.wasm_spec.specs.BinaryModules.{import_at, export_at}
 use Rattle.wasm_spec.specs.BinarySections.{table_entry_at, global_entry_at, element_at, data_at}
 use Rattle.wasm_spec.specs.Features.{Features}
-use Rattle.wasm_parser.specs.Framing.{Piece, Version, End}
+use Rattle.wasm_parser.specs.Framing.{Piece, Version, Counted, End}
 use Rattle.wasm_rules.specs.Parts.{Parts, Expression, HasParts, index, items_of, all_items, starts_of, data_counts_of, bodies_of}
 use Rattle.wasm_rules.specs.Modules.{IsAllowedPiece}
 use Rattle.wasm_rules.proofs.Tests.{unless}
-use Rattle.wasm_validator.proofs.FunctionImports.{FunctionImport, function_import}
-use Rattle.wasm_validator.proofs.ModuleRun.{PartForm, custom, types, imports, exports, form_of, AreParts, framed_items, no_items}
-use Rattle.wasm_validator.proofs.ServedParts.{served_parts}
+use Rattle.wasm_validator.specs.Served.{is_served_section}
+use Rattle.wasm_validator.proofs.ModuleRun.{PartForm, custom, types, imports, functions, tables, memories, exports, tags, start, data_count, form_of, AreParts, framed_items, no_items}
+use Rattle.wasm_part_rules.specs.Lists.{has_no_init}
+use Rattle.wasm_validator.proofs.ServedLists.{Lists, parts_of, AreOf}
 
 -- sections of other ids aren't there
-module _ {V : Type 0} (id : ℕ) (reads : List ℕ → Option (V × List ℕ)) (not_types : 1 ≢ id) (not_imports : 2 ≢ id) (not_exports : 7 ≢ id) where
+module _ {V : Type 0} (id : ℕ) (reads : List ℕ → Option (V × List ℕ)) (not_served : is_served_section id ≡ false) where
+  other_id : (k : ℕ) → is_served_section k ≡ true → k ≢ id
+  other_id k e h = let g : false ≡ true = sym not_served ∙ sym (ap is_served_section h) ∙ e in cc
+
+  other_section : (k n : ℕ) (bytes : List ℕ) → is_served_section k ≡ true → items_of id reads (Counted k n bytes) ≡ Some []
+  other_section k n bytes e = unless (eqb k id) (items_at reads n bytes) (Some []) (ne_eqb k id (other_id k e))
+
   other_form : (p : Piece) → PartForm p → items_of id reads p ≡ Some []
   other_form p custom = refl
-  other_form p (types {n} {bytes}) = unless (eqb 1 id) (items_at reads n bytes) (Some []) (ne_eqb 1 id not_types)
-  other_form p (imports {n} {bytes}) = unless (eqb 2 id) (items_at reads n bytes) (Some []) (ne_eqb 2 id not_imports)
-  other_form p (exports {n} {bytes}) = unless (eqb 7 id) (items_at reads n bytes) (Some []) (ne_eqb 7 id not_exports)
+  other_form p (types {n} {bytes}) = other_section 1 n bytes refl
+  other_form p (imports {n} {bytes}) = other_section 2 n bytes refl
+  other_form p (functions {n} {bytes}) = other_section 3 n bytes refl
+  other_form p (tables {n} {bytes}) = other_section 4 n bytes refl
+  other_form p (memories {n} {bytes}) = other_section 5 n bytes refl
+  other_form p (exports {n} {bytes}) = other_section 7 n bytes refl
+  other_form p (tags {n} {bytes}) = other_section 13 n bytes refl
+  other_form p start = refl
+  other_form p data_count = refl
 
   none_inside : (ps : List Piece) → AreParts ps → all_items id reads ps ≡ Some []
   none_inside [] a = refl
@@ -38,57 +50,71 @@ module _ {V : Type 0} (f : Piece → List V) (ends : f End ≡ []) (parts_none :
   no_pieces [] a = ap (λ xs. xs ++ []) ends
   no_pieces (p ∷ ps) a = λ i. parts_none p (form_of p a.0) i ++ no_pieces ps a.1 i
 
-no_starts : (p : Piece) → PartForm p → starts_of p ≡ []
-no_starts p custom = refl
-no_starts p types = refl
-no_starts p imports = refl
-no_starts p exports = refl
-
 no_bodies : (p : Piece) → PartForm p → bodies_of p ≡ []
 no_bodies p custom = refl
 no_bodies p types = refl
 no_bodies p imports = refl
+no_bodies p functions = refl
+no_bodies p tables = refl
+no_bodies p memories = refl
 no_bodies p exports = refl
+no_bodies p tags = refl
+no_bodies p start = refl
+no_bodies p data_count = refl
 
-no_data_counts : (p : Piece) → PartForm p → data_counts_of p ≡ []
-no_data_counts p custom = refl
-no_data_counts p types = refl
-no_data_counts p imports = refl
-no_data_counts p exports = refl
-
-form_allowed : (F : Features) (p : Piece) → PartForm p → IsAllowedPiece F p
-form_allowed F p custom = tt
-form_allowed F p types = λ e. absurd cc
-form_allowed F p imports = λ e. absurd cc
-form_allowed F p exports = λ e. absurd cc
+-- the header and the end have nothing of their own
+module _ {V : Type 0} (f : Piece → List V) (ends : f End ≡ []) where
+  pub before_end : (ps : List Piece) → flat_map f (ps ++ End ∷ []) ≡ flat_map f ps
+  before_end [] = ap (λ xs. xs ++ []) ends
+  before_end (p ∷ ps) = ap (λ xs. f p ++ xs) (before_end ps)
 
 -- the pieces of a module: its header, what is between, and the end
 abbrev pub whole : ℕ → ℕ → List Piece → List Piece
 whole number kind ps = Version number kind ∷ (ps ++ End ∷ [])
 
-pub allowed_inside : (F : Features) (ps : List Piece) → AreParts ps → All (IsAllowedPiece F) (ps ++ End ∷ [])
-allowed_inside F [] a = All-cons (IsAllowedPiece F) End [] tt (All-nil (IsAllowedPiece F))
-allowed_inside F (p ∷ ps) a = All-cons (IsAllowedPiece F) p (ps ++ End ∷ []) (form_allowed F p (form_of p a.0)) (allowed_inside F ps a.1)
+pub allowed_to_end : (F : Features) (ps : List Piece) → All (IsAllowedPiece F) ps → All (IsAllowedPiece F) (ps ++ End ∷ [])
+allowed_to_end F [] a = All-cons (IsAllowedPiece F) End [] tt (All-nil (IsAllowedPiece F))
+allowed_to_end F (p ∷ ps) a = All-cons (IsAllowedPiece F) p (ps ++ End ∷ []) (All-head (IsAllowedPiece F) p ps a) (allowed_to_end F ps (All-tail (IsAllowedPiece F) p ps a))
+
+pub allowed_before_end : (F : Features) (ps : List Piece) → All (IsAllowedPiece F) (ps ++ End ∷ []) → All (IsAllowedPiece F) ps
+allowed_before_end F [] a = All-nil (IsAllowedPiece F)
+allowed_before_end F (p ∷ ps) a = All-cons (IsAllowedPiece F) p ps (All-head (IsAllowedPiece F) p (ps ++ End ∷ []) a) (allowed_before_end F ps (All-tail (IsAllowedPiece F) p (ps ++ End ∷ []) a))
 
 module _ (expression_at : List ℕ → Option (Expression × List ℕ)) (number kind : ℕ) (ps : List Piece) (a : AreParts ps) where
-  -- the three lists of a module that is served are all its parts
-  pub all_parts : (gs : List (Rec ℕ)) (fs : List FunctionImport) (es : List Export)
-      → all_items 1 (rec_at index) ps ≡ Some gs → all_items 2 (import_at index) ps ≡ Some (map function_import fs) → all_items 7 export_at ps ≡ Some es
-      → HasParts expression_at (whole number kind ps) (served_parts gs fs es)
-  all_parts gs fs es g i x = record {
-    groups = framed_items 1 (rec_at index) number kind ps ∙ g;
-    imports = framed_items 2 (import_at index) number kind ps ∙ i;
-    functions = no_section 3 u32_at (λ e. cc) (λ e. cc) (λ e. cc) number kind ps a;
-    tables = no_section 4 (table_entry_at expression_at index) (λ e. cc) (λ e. cc) (λ e. cc) number kind ps a;
-    memories = no_section 5 memory_at (λ e. cc) (λ e. cc) (λ e. cc) number kind ps a;
-    globals = no_section 6 (global_entry_at expression_at index) (λ e. cc) (λ e. cc) (λ e. cc) number kind ps a;
-    exports = framed_items 7 export_at number kind ps ∙ x;
-    starts = no_pieces starts_of refl no_starts ps a;
-    elements = no_section 9 (element_at expression_at index) (λ e. cc) (λ e. cc) (λ e. cc) number kind ps a;
+  -- the lists of a module that is served are all its parts
+  pub all_parts : (l : Lists) → AreOf expression_at ps l → HasParts expression_at (whole number kind ps) (parts_of l)
+  all_parts l r = record {
+    groups = framed_items 1 (rec_at index) number kind ps ∙ r.groups;
+    imports = framed_items 2 (import_at index) number kind ps ∙ r.imports;
+    functions = framed_items 3 u32_at number kind ps ∙ r.functions;
+    tables = framed_items 4 (table_entry_at expression_at index) number kind ps ∙ r.tables;
+    memories = framed_items 5 memory_at number kind ps ∙ r.memories;
+    globals = no_section 6 (global_entry_at expression_at index) refl number kind ps a;
+    exports = framed_items 7 export_at number kind ps ∙ r.exports;
+    starts = before_end starts_of refl ps ∙ r.starts;
+    elements = no_section 9 (element_at expression_at index) refl number kind ps a;
     bodies = no_pieces bodies_of refl no_bodies ps a;
-    segments = no_section 11 (data_at expression_at) (λ e. cc) (λ e. cc) (λ e. cc) number kind ps a;
-    data_counts = no_pieces data_counts_of refl no_data_counts ps a;
-    tags = no_section 13 tag_at (λ e. cc) (λ e. cc) (λ e. cc) number kind ps a;
+    segments = no_section 11 (data_at expression_at) refl number kind ps a;
+    data_counts = before_end data_counts_of refl ps ∙ r.data_counts;
+    tags = framed_items 13 tag_at number kind ps ∙ r.tags;
+  }
+
+  -- and the lists of parts are those of the pieces
+  abbrev pub lists_of : Parts → Lists
+  lists_of p = record { groups = p.groups; imports = p.imports; functions = p.functions; tables = p.tables; memories = p.memories; tags = p.tags; exports = p.exports; starts = p.starts; data_counts = p.data_counts }
+
+  pub parts_are : (p : Parts) → All has_no_init p.tables → HasParts expression_at (whole number kind ps) p → AreOf expression_at ps (lists_of p)
+  parts_are p none h = record {
+    groups = sym (framed_items 1 (rec_at index) number kind ps) ∙ h.groups;
+    imports = sym (framed_items 2 (import_at index) number kind ps) ∙ h.imports;
+    functions = sym (framed_items 3 u32_at number kind ps) ∙ h.functions;
+    tables = sym (framed_items 4 (table_entry_at expression_at index) number kind ps) ∙ h.tables;
+    no_inits = none;
+    memories = sym (framed_items 5 memory_at number kind ps) ∙ h.memories;
+    tags = sym (framed_items 13 tag_at number kind ps) ∙ h.tags;
+    exports = sym (framed_items 7 export_at number kind ps) ∙ h.exports;
+    starts = sym (before_end starts_of refl ps) ∙ h.starts;
+    data_counts = sym (before_end data_counts_of refl ps) ∙ h.data_counts;
   }
 
   -- and there are no others

@@ -5,11 +5,12 @@ use Rattle.wasm_parser.specs.Framing as parts
 use Rattle.wasm_parser.specs.Framing.{Piece, Version, Custom, Counted, Start, DataCount, CodeStart, CodeEntry, Unknown}
 use Rattle.wasm_rules.specs.StateTable as table
 use Rattle.wasm_rules.specs.StateTable.{Phase, Call, section, data_section, accepted_to, refused_to}
+use Rattle.wasm_rules.specs.FeatureFlags.{features_of}
 use Rattle.wasm_validator_types.specs.Spaces.{Spaces, no_spaces}
 use Rattle.wasm_validator_core.specs.Answers.{Types, IsNowhere}
 use Rattle.wasm_validator.specs.Standing.{Stage, unparsed, in_module, ended, failed, Standing, AreValidAt, HoldsValid, within, at_stage}
 use Rattle.wasm_validator.specs.States.{left_by, begun, closed}
-use Rattle.wasm_validator.specs.Machine.{type_items, import_items, export_items, beside}
+use Rattle.wasm_validator.specs.Machine.{section_items, start_item, data_count_item, beside}
 use Rattle.wasm_validator.specs.Table.{phase_of, AcceptedByTable, RefusedByTable}
 
 stays : (s t : Standing) (o : Option (Types × Spaces)) → at_stage s (option_and_then (λ (p : Types × Spaces). Some (in_module p.0 p.1)) o) ≡ Some t → phase_of t.stage ≡ table.in_module
@@ -27,13 +28,6 @@ within_stays s t (unparsed types) f e = absurd cc
 within_stays s t (in_module types spaces) f e = (refl, stays s t (f (types, spaces)) e)
 within_stays s t (ended types) f e = absurd cc
 within_stays s t failed f e = absurd cc
-
-section_stays : (s t : Standing) (a b c : Bool) (f g h : Types × Spaces → Option (Types × Spaces)) → cond a (at_stage s (within f s.stage)) (cond b (at_stage s (within g s.stage)) (cond c (at_stage s (within h s.stage)) None)) ≡ Some t
-    → (phase_of s.stage ≡ table.in_module) × (phase_of t.stage ≡ table.in_module)
-section_stays s t true b c f g h e = within_stays s t s.stage f e
-section_stays s t false true c f g h e = within_stays s t s.stage g e
-section_stays s t false false true f g h e = within_stays s t s.stage h e
-section_stays s t false false false f g h e = absurd cc
 
 either_section : (b : Bool) (g h : Phase) → g ≡ table.in_module → h ≡ table.in_module → accepted_to (cond b data_section section) g ≡ Some h
 either_section true g h e f = ap (accepted_to data_section) e ∙ ap Some (sym f)
@@ -65,10 +59,14 @@ pub accepted_by_table : AcceptedByTable
 accepted_by_table s t (Version number kind) e = let h = version_in s t number (eqb kind 0) s.stage e in ap (accepted_to table.header) h.0 ∙ ap Some (sym h.1)
 accepted_by_table s t (Custom name bytes) e = let same : s ≡ t = cc in ap (λ (u : Standing). Some (phase_of u.stage)) same
 accepted_by_table s t (Counted id n bytes) e =
-    let h = section_stays s t (eqb id 1) (eqb id 2) (eqb id 7) (type_items s.features n bytes) (import_items s.features n bytes) (beside (λ types. export_items s.features types n bytes)) e in
+    let h = within_stays s t s.stage (section_items s.features id n bytes) e in
     either_section (eqb id 11) (phase_of s.stage) (phase_of t.stage) h.0 h.1
-accepted_by_table s t (Start x) e = absurd cc
-accepted_by_table s t (DataCount n) e = absurd cc
+accepted_by_table s t (Start x) e =
+    let h = within_stays s t s.stage (beside (λ us u. start_item us u x)) e in
+    either_section false (phase_of s.stage) (phase_of t.stage) h.0 h.1
+accepted_by_table s t (DataCount n) e =
+    let h = within_stays s t s.stage (beside (λ us u. data_count_item (features_of s.features) u n)) e in
+    either_section false (phase_of s.stage) (phase_of t.stage) h.0 h.1
 accepted_by_table s t (CodeStart n size) e = absurd cc
 accepted_by_table s t (CodeEntry bytes) e = absurd cc
 accepted_by_table s t (Unknown id bytes) e = absurd cc

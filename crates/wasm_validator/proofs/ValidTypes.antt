@@ -1,9 +1,8 @@
 -- Where the types of all modules are valid after a step, they were before it: a list of types only grows.
-use Rattle.std.proofs.Common.{◌≡◌, sym, ap, subst, ◌∙◌, ℕ, ◌+◌, Bool, true, false, ◌&&◌, cond, eqb, leb, List, [], ◌∷◌, length, Option, Some, None}
+use Rattle.std.proofs.Common.{◌≡◌, sym, ap, subst, ◌∙◌, ℕ, ◌+◌, Bool, true, false, ◌&&◌, cond, eqb, leb, List, [], ◌∷◌, length, Option, Some}
 use Rattle.std.specs.Option.{option_map}
 use Rattle.std.proofs.lemmas.Option.{none-some, same_Some}
 use Rattle.wasm_spec.specs.Syntax.{Rec}
-use Rattle.wasm_spec.specs.BinaryModules.{Import, import_at}
 use Rattle.wasm_spec.specs.BinaryTypes.{rec_at}
 use Rattle.wasm_spec.specs.GroupRules.{IsValidType}
 use Rattle.wasm_spec.specs.Trees.{declared}
@@ -18,12 +17,10 @@ use Rattle.wasm_validator_type_list.proofs.Grouped.{all-left}
 use Rattle.wasm_validator_canonical.specs.Groups.{AreValid, with_written}
 use Rattle.wasm_validator_canonical.proofs.Steps.{written_front}
 use Rattle.wasm_validator_types.specs.Spaces.{Spaces, no_spaces}
-use Rattle.wasm_validator_core.specs.declared.limits.TheConstants.{MAX_TYPES, MAX_IMPORTS}
+use Rattle.wasm_validator_core.specs.declared.limits.TheConstants.{MAX_TYPES}
 use Rattle.wasm_validator_core.specs.Answers.{Types, HasValidTypes}
 use Rattle.wasm_validator_core.specs.Machine.{with_ids, add_group}
-use Rattle.wasm_validator_core.specs.Items.{add_import}
-use Rattle.wasm_validator.specs.Served.{is_served_import}
-use Rattle.wasm_validator.specs.Machine.{read_each, type_items, add_served_import, import_items, export_items, beside}
+use Rattle.wasm_validator.specs.Machine.{read_each, type_items, other_items, section_items, start_item, data_count_item, beside}
 use Rattle.wasm_validator.specs.Standing.{Stage, unparsed, in_module, ended, failed, Standing, AreValidAt, HoldsValid, within, at_stage}
 use Rattle.wasm_validator.specs.States.{begun, closed, after_piece}
 use Rattle.wasm_validator.specs.Payloads.{after_all}
@@ -45,34 +42,24 @@ module _ (features : WasmFeatures) where
       let front = written_front (features_of features) p.0 p.1.types g b.0 b.1 in
       all-left (IsValidType (features_of features) declared) p.0 front.0 (subst (AreValid (features_of features)) (sym (ap (λ (x : Types × Spaces). x.0) b.2) ∙ front.1) v)
 
-  import_back : (p q : Types × Spaces) (i : Import UnpackedIndex) → add_served_import features p i ≡ Some q → V q → V p
-  import_back p q i e v =
-      let a = guarded (is_served_import i) (option_map (λ (s : Spaces). (p.0, s)) (add_import (features_of features) p.0 p.1 i)) q e in
-      let b = map_some (λ (s : Spaces). (p.0, s)) (add_import (features_of features) p.0 p.1 i) q a.1 in
-      stays p q (ap (λ (x : Types × Spaces). x.0) b.2) v
-
   -- sections
   types_back : (n : ℕ) (bytes : List ℕ) (p q : Types × Spaces) → type_items features n bytes p ≡ Some q → V q → V p
   types_back n bytes p q e v =
       let a = guarded (leb (length p.1.types + n) MAX_TYPES) (read_each (rec_at written) (add_group features) n bytes p) q e in
       read_back (rec_at written) (add_group features) V group_back n bytes p q a.1 v
 
-  imports_back : (n : ℕ) (bytes : List ℕ) (p q : Types × Spaces) → import_items features n bytes p ≡ Some q → V q → V p
-  imports_back n bytes p q e v =
-      let a = guarded (leb (length p.1.imports + n) MAX_IMPORTS) (read_each (import_at written) (add_served_import features) n bytes p) q e in
-      read_back (import_at written) (add_served_import features) V import_back n bytes p q a.1 v
-
-  beside_back : (f : Types → Spaces → Option Spaces) (p q : Types × Spaces) → beside f p ≡ Some q → V q → V p
+  pub beside_back : (f : Types → Spaces → Option Spaces) (p q : Types × Spaces) → beside f p ≡ Some q → V q → V p
   beside_back f p q e v =
       let a = then_some (λ (s : Spaces). Some (p.0, s)) (f p.0 p.1) q e in
       stays p q (ap (λ (x : Types × Spaces). x.0) (same_Some (p.0, a.0) q a.2)) v
 
-  pub section_back : (a b c : Bool) (n : ℕ) (bytes : List ℕ) (p q : Types × Spaces)
-      → cond a (type_items features n bytes p) (cond b (import_items features n bytes p) (cond c (beside (λ types. export_items features types n bytes) p) None)) ≡ Some q → V q → V p
-  section_back true b c n bytes p q e v = types_back n bytes p q e v
-  section_back false true c n bytes p q e v = imports_back n bytes p q e v
-  section_back false false true n bytes p q e v = beside_back (λ types. export_items features types n bytes) p q e v
-  section_back false false false n bytes p q e v = absurd (none-some q e)
+  section_of : (first : Bool) (id n : ℕ) (bytes : List ℕ) (p q : Types × Spaces)
+      → cond first (type_items features n bytes p) (beside (λ us. other_items (features_of features) us id n bytes) p) ≡ Some q → V q → V p
+  section_of true id n bytes p q e v = types_back n bytes p q e v
+  section_of false id n bytes p q e v = beside_back (λ us. other_items (features_of features) us id n bytes) p q e v
+
+  pub section_back : (id n : ℕ) (bytes : List ℕ) (p q : Types × Spaces) → section_items features id n bytes p ≡ Some q → V q → V p
+  section_back id n bytes p q e v = section_of (eqb id 1) id n bytes p q e v
 
 -- calls of a validator
 pub within_some : (s t : Standing) (types : Types) (spaces : Spaces) (f : Types × Spaces → Option (Types × Spaces)) → at_stage s (within f (in_module types spaces)) ≡ Some t
@@ -88,14 +75,6 @@ within_back s t (unparsed types) f back e v = absurd (none-some t e)
 within_back s t (in_module types spaces) f back e v = let a = within_some s t types spaces f e in back (types, spaces) a.0 a.1 (subst HoldsValid (sym a.2) v)
 within_back s t (ended types) f back e v = absurd (none-some t e)
 within_back s t failed f back e v = absurd (none-some t e)
-
-sections_back : (s t : Standing) (a b c : Bool) (n : ℕ) (bytes : List ℕ)
-    → cond a (at_stage s (within (type_items s.features n bytes) s.stage)) (cond b (at_stage s (within (import_items s.features n bytes) s.stage)) (cond c (at_stage s (within (beside (λ types. export_items s.features types n bytes)) s.stage)) None)) ≡ Some t
-    → HoldsValid t → HoldsValid s
-sections_back s t true b c n bytes e v = within_back s t s.stage (type_items s.features n bytes) (types_back s.features n bytes) e v
-sections_back s t false true c n bytes e v = within_back s t s.stage (import_items s.features n bytes) (imports_back s.features n bytes) e v
-sections_back s t false false true n bytes e v = within_back s t s.stage (beside (λ types. export_items s.features types n bytes)) (beside_back s.features (λ types. export_items s.features types n bytes)) e v
-sections_back s t false false false n bytes e v = absurd (none-some t e)
 
 version_back : (s t : Standing) (number : ℕ) (b : Bool) (g : Stage) → at_stage s (begun number b g) ≡ Some t → HoldsValid t → AreValidAt s.features g
 version_back s t number b (unparsed types) e v =
@@ -116,9 +95,9 @@ end_back s t failed e v = absurd (none-some t e)
 pub piece_back : (s t : Standing) (p : Piece) → after_piece s p ≡ Some t → HoldsValid t → HoldsValid s
 piece_back s t (Version number kind) e v = version_back s t number (eqb kind 0) s.stage e v
 piece_back s t (Custom name bytes) e v = subst HoldsValid (sym (same_Some s t e)) v
-piece_back s t (Counted id n bytes) e v = sections_back s t (eqb id 1) (eqb id 2) (eqb id 7) n bytes e v
-piece_back s t (Start x) e v = absurd (none-some t e)
-piece_back s t (DataCount n) e v = absurd (none-some t e)
+piece_back s t (Counted id n bytes) e v = within_back s t s.stage (section_items s.features id n bytes) (section_back s.features id n bytes) e v
+piece_back s t (Start x) e v = within_back s t s.stage (beside (λ us u. start_item us u x)) (beside_back s.features (λ us u. start_item us u x)) e v
+piece_back s t (DataCount n) e v = within_back s t s.stage (beside (λ us u. data_count_item (features_of s.features) u n)) (beside_back s.features (λ us u. data_count_item (features_of s.features) u n)) e v
 piece_back s t (CodeStart n size) e v = absurd (none-some t e)
 piece_back s t (CodeEntry bytes) e v = absurd (none-some t e)
 piece_back s t (Unknown id bytes) e v = absurd (none-some t e)

@@ -1,5 +1,5 @@
 -- A run over whole bytes decides whether they are a valid module of the forms that are served.
-use Rattle.std.proofs.Common.{◌≡◌, refl, sym, ap, subst, ◌∙◌, ℕ, Bool, true, false, cond, if◌then◌else◌, ◌==◌, ◌&&◌, eqb, List, [], ◌∷◌, ◌++◌, map, Option, Some, None, arith}
+use Rattle.std.proofs.Common.{◌≡◌, refl, sym, ap, subst, ◌∙◌, ℕ, Bool, true, false, cond, ◌==◌, ◌&&◌, eqb, List, [], ◌∷◌, ◌++◌, Option, Some, None, arith}
 use Rattle.std.specs.Option.{option_map, option_and_then}
 use Rattle.std.proofs.lemmas.Bool.{eqb-true}
 use Rattle.std.specs.declared.result.Result.{Result}
@@ -27,15 +27,14 @@ use Rattle.wasm_validator_canonical.specs.Groups.{AreValid}
 use Rattle.wasm_validator_core.specs.Answers.{Types, HasValidTypes}
 use Rattle.wasm_validator.specs.Standing.{Stage, Standing, unparsed, in_module, ended, failed, fresh, shown_at, AreValidAt, HoldsValid}
 use Rattle.wasm_validator.specs.States.{after_piece, after_version, IsBeforeEnd}
-use Rattle.wasm_validator.specs.Machine.{type_items, import_items, export_items, beside}
+use Rattle.wasm_validator.specs.Machine.{section_items, start_item, data_count_item, beside}
 use Rattle.wasm_validator.specs.Payloads.{Show, after_all, Accepts, Rejects, Validates}
-use Rattle.wasm_validator.specs.Shows.{ShowModule, export_row}
+use Rattle.wasm_validator.specs.Shows.{ShowModule}
 use Rattle.wasm_validator.specs.Verdict.{Expressions, IsServedModule, AcceptsModule, RefusesModule, DecidesModule, DecidesAlone}
-use Rattle.wasm_validator.proofs.ImportRows.{in_rows}
-use Rattle.wasm_validator.proofs.AddedTypes.{section, list_after, ids}
-use Rattle.wasm_validator.proofs.ModuleRun.{step, AreParts, are_parts, run_served, no_zero, restrict, served_ranks}
-use Rattle.wasm_validator.proofs.RunOfParts.{arities_of, have_arities, spaces_3, Accepted, end_of, ran, runs}
-use Rattle.wasm_validator.proofs.ServedParts.{served_parts, OnlyFunctions, served_only, import_index, section_space}
+use Rattle.wasm_validator.proofs.AddedTypes.{section, type_space, list_after}
+use Rattle.wasm_validator.proofs.ModuleRun.{step, AreParts, are_parts, run_served, run_allowed, no_zero, restrict, served_ranks}
+use Rattle.wasm_validator.proofs.ServedLists.{parts_of}
+use Rattle.wasm_validator.proofs.RunOfParts.{Accepted, end_of, ran, runs}
 use Rattle.wasm_validator.proofs.ServedModules.{accepted_valid, valid_accepted}
 
 -- a validator in a module
@@ -48,32 +47,12 @@ module _ (id : ℕ) (features : WasmFeatures) where
   lifted g None = refl
   lifted g (Some q) = refl
 
-  under_tests : (a b c : Bool) (x y z : Option (Types × Spaces)) (u v w : Option Standing) → u ≡ option_map (at id features) x → v ≡ option_map (at id features) y → w ≡ option_map (at id features) z
-      → (if a then u else (if b then v else (if c then w else None))) ≡ option_map (at id features) (if a then x else (if b then y else (if c then z else None)))
-  under_tests true b c x y z u v w e f g = e
-  under_tests false true c x y z u v w e f g = f
-  under_tests false false true x y z u v w e f g = g
-  under_tests false false false x y z u v w e f g = refl
-
   one_step : (p : Types × Spaces) (x : Piece) → IsInner x → after_piece (at id features p) x ≡ option_map (at id features) (step features p x)
   one_step p (Version number kind) i = absurd i
   one_step p (Custom name bytes) i = refl
-  one_step p (Counted k n bytes) i =
-      under_tests
-      (eqb k 1)
-      (eqb k 2)
-      (eqb k 7)
-      (type_items features n bytes p)
-      (import_items features n bytes p)
-      (beside (λ types. export_items features types n bytes) p)
-      _
-      _
-      _
-      (lifted (at id features p) (type_items features n bytes p))
-      (lifted (at id features p) (import_items features n bytes p))
-      (lifted (at id features p) (beside (λ types. export_items features types n bytes) p))
-  one_step p (Start x) i = refl
-  one_step p (DataCount n) i = refl
+  one_step p (Counted k n bytes) i = lifted (at id features p) (section_items features k n bytes p)
+  one_step p (Start x) i = lifted (at id features p) (beside (λ us s. start_item us s x) p)
+  one_step p (DataCount n) i = lifted (at id features p) (beside (λ us s. data_count_item (features_of features) s n) p)
   one_step p (CodeStart n size) i = refl
   one_step p (CodeEntry bytes) i = refl
   one_step p (Unknown k bytes) i = refl
@@ -224,36 +203,30 @@ runs_inside bytes old new t a =
     }
 
 -- what the lists at the end show
-module _ (features : WasmFeatures) (T : Types) (ps : List Piece) (a : Accepted features T ps) where
+module _ (expression_at : Expressions) (features : WasmFeatures) (T : Types) (ps : List Piece) (a : Accepted expression_at features T ps) where
   abbrev F : Features
   F = features_of features
 
   abbrev pub end_parts : Parts
-  end_parts = served_parts a.groups a.functions a.exports
+  end_parts = parts_of a.lists
 
   abbrev pub end_space : List DefType
-  end_space = section_space features T a.groups a.types
+  end_space = type_space features T a.lists.groups a.types
 
   abbrev pub end_spaces : IndexSpaces
   end_spaces = index_spaces end_space end_parts
 
-  only : OnlyFunctions end_spaces (map import_index a.functions)
-  only = served_only end_space a.groups a.functions a.exports
-
-  indices_are : (spaces_3 features T a.groups a.types a.functions a.exports).functions ≡ end_spaces.functions
-  indices_are = sym only.has
-
-  pub ends_shown : (canonical F ≡ true → HasNoRepetition (list_after features T a.groups a.types)) → ShowModule F (end_of features T ps a).0 (end_of features T ps a).1 end_spaces end_parts
+  pub ends_shown : (canonical F ≡ true → HasNoRepetition (list_after features T a.lists.groups a.types)) → ShowModule F (end_of expression_at features T ps a).0 (end_of expression_at features T ps a).1 end_spaces end_parts
   ends_shown once = record {
-    types = (section features T a.groups a.types).stand;
+    types = (section features T a.lists.groups a.types).stand;
     one_id = once;
-    functions = indices_are;
-    imports = in_rows (ids features T a.groups a.types) (list_after features T a.groups a.types) (arities_of features T a.groups a.types) (have_arities features T a.groups a.types) a.functions;
-    exports = ap (λ (functions : List ℕ). map (export_row (ids features T a.groups a.types) functions) a.exports) indices_are;
-    no_tables = (refl, only.tables);
-    no_memories = (refl, only.memories);
-    no_globals = (refl, only.globals);
-    no_tags = (refl, only.tags);
+    functions = refl;
+    tables = refl;
+    memories = refl;
+    globals = refl;
+    tags = refl;
+    imports = refl;
+    exports = refl;
     no_elements = refl;
   }
 
@@ -263,17 +236,18 @@ accepts_valid bytes old new t a expression_at =
     let f = a.framed in
     let r = runs_inside bytes old new t a in
     let parts = are_parts f.others (run_served old.features f.others (r.before, no_spaces) r.q r.inside) (others_inner bytes a.pieces f) in
-    let run = ran old.features r.before f.others parts (parts_follow bytes a.pieces f parts) r.q r.valid r.inside in
+    let allowed = run_allowed old.features f.others (r.before, no_spaces) r.q parts r.inside in
+    let run = ran expression_at old.features r.before f.others parts (parts_follow bytes a.pieces f parts) allowed r.q r.valid r.inside in
     let acc = run.accepted in
     let F = features_of old.features in
-    let C = end_spaces old.features r.before f.others acc in
-    let its = end_parts old.features r.before f.others acc in
-    let there : end_of old.features r.before f.others acc ≡ (types_of (shown_of t).list, (shown_of t).spaces) = run.ends ∙ (λ i. (r.list i, r.spaces i)) in
-    let once : canonical F ≡ true → HasNoRepetition (end_of old.features r.before f.others acc).0 = λ e. subst HasNoRepetition (sym (λ i. (there i).0)) (r.once e) in
-    let held = section old.features r.before acc.groups acc.types in
+    let C = end_spaces expression_at old.features r.before f.others acc in
+    let its = end_parts expression_at old.features r.before f.others acc in
+    let there : end_of expression_at old.features r.before f.others acc ≡ (types_of (shown_of t).list, (shown_of t).spaces) = run.ends ∙ (λ i. (r.list i, r.spaces i)) in
+    let once : canonical F ≡ true → HasNoRepetition (end_of expression_at old.features r.before f.others acc).0 = λ e. subst HasNoRepetition (sym (λ i. (there i).0)) (r.once e) in
+    let held = section old.features r.before acc.lists.groups acc.types in
     record {
-      module_valid = accepted_valid expression_at old.features r.before bytes a.pieces f r.header parts acc;
-      shows = subst (λ (x : Types × Spaces). ShowModule F x.0 x.1 C its) there (ends_shown old.features r.before f.others acc once);
+      module_valid = accepted_valid expression_at old.features r.before bytes a.pieces f r.header parts allowed acc;
+      shows = subst (λ (x : Types × Spaces). ShowModule F x.0 x.1 C its) there (ends_shown expression_at old.features r.before f.others acc once);
       same_id = r.same_id;
       before = r.before;
       began = r.was;
@@ -292,8 +266,8 @@ rejects_refuses bytes old valid rejects expression_at T w m room =
     let f = v.framed in
     let a = valid_accepted expression_at old.features T bytes (subst (AreValidAt old.features) w valid) v m.served room in
     let start : Types × Spaces = (T, no_spaces) in
-    let q = end_of old.features T f.others a.accepted in
-    let inside = runs old.features T f.others a.parts (parts_follow bytes v.pieces f a.parts) a.accepted in
+    let q = end_of expression_at old.features T f.others a.accepted in
+    let inside = runs expression_at old.features T f.others a.parts (parts_follow bytes v.pieces f a.parts) a.allowed a.accepted in
     let inner = others_inner bytes v.pieces f in
     let ended_there : after_all old v.pieces ≡ Some (record old { stage = ended q.0 }) =
     ap (after_all old) f.all

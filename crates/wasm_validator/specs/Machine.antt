@@ -1,38 +1,78 @@
 -- What one section changes: the machine that the validator is, over that of a module's state.
 use Rattle.std.specs.Prelude.{ℕ, zero, suc, ◌+◌, ◌==◌, nat_le, if◌then◌else◌, List, length, Option, Some, None}
-use Rattle.std.specs.Option.{option_map, option_and_then}
-use Rattle.wasm_spec.specs.BinaryModules.{Import, import_at, export_at}
-use Rattle.wasm_spec.specs.BinaryTypes.{rec_at}
+use Rattle.std.specs.Option.{option_and_then}
+use Rattle.wasm_spec.specs.Values.{u32_at}
+use Rattle.wasm_spec.specs.BinaryModules.{import_at, export_at}
+use Rattle.wasm_spec.specs.BinaryTypes.{rec_at, memory_at, tag_at}
+use Rattle.wasm_spec.specs.Features.{Features}
 use Rattle.wasm_rules.specs.FeatureFlags.{features_of}
+use Rattle.wasm_rules.specs.Limits.{most_tables, most_memories}
+use Rattle.wasm_readers.specs.Tables.{Head, table_head_at}
 use Rattle.wasm_readers.specs.Written.{written}
 use Rattle.wasm_readers_errors.specs.declared.features.WasmFeatures.{WasmFeatures}
-use Rattle.wasm_readers_types.specs.declared.indices.UnpackedIndex.{UnpackedIndex}
 use Rattle.wasm_validator_types.specs.Spaces.{Spaces}
-use Rattle.wasm_validator_core.specs.declared.limits.TheConstants.{MAX_TYPES, MAX_IMPORTS, MAX_EXPORTS}
+use Rattle.wasm_validator_core.specs.declared.limits.TheConstants.{MAX_TYPES, MAX_IMPORTS, MAX_FUNCTIONS, MAX_TAGS, MAX_EXPORTS}
 use Rattle.wasm_validator_core.specs.Machine.{add_group}
-use Rattle.wasm_validator_core.specs.Items.{add_import, add_export}
+use Rattle.wasm_validator_core.specs.Items.{is_startable, is_data_count, add_import, add_function, add_table, add_memory, add_tag, add_export}
 use Rattle.wasm_validator_core.specs.Answers.{Types}
-use Rattle.wasm_validator.specs.Served.{is_served_import}
 
 -- so many items, one after another, and nothing behind them
 abbrev pub read_each : {S V : Type 0} → (List ℕ → Option (V × List ℕ)) → (S → V → Option S) → ℕ → List ℕ → S → Option S
 read_each encoded add zero bytes s = if length bytes == 0 then Some s else None
 read_each encoded add (suc n) bytes s = option_and_then (λ x. option_and_then (λ t. read_each encoded add n x.1 t) (add s x.0)) (encoded bytes)
 
--- the sections: a count that keeps to the limit, and that many items
+-- a section: a count that keeps to the limit with what is there, and that many items
+abbrev pub read_section : {S V : Type 0} → (List ℕ → Option (V × List ℕ)) → (S → V → Option S) → ℕ → ℕ → ℕ → List ℕ → S → Option S
+read_section encoded add there most count bytes s = if nat_le (there + count) most then read_each encoded add count bytes s else None
+
 abbrev pub type_items : WasmFeatures → ℕ → List ℕ → Types × Spaces → Option (Types × Spaces)
-type_items features count bytes p = if nat_le (length p.1.types + count) MAX_TYPES then read_each (rec_at written) (add_group features) count bytes p else None
+type_items features count bytes p = read_section (rec_at written) (add_group features) (length p.1.types) MAX_TYPES count bytes p
 
--- an import of a kind that is served
-abbrev pub add_served_import : WasmFeatures → Types × Spaces → Import UnpackedIndex → Option (Types × Spaces)
-add_served_import features p i = if is_served_import i then option_map (λ s. (p.0, s)) (add_import (features_of features) p.0 p.1 i) else None
+abbrev pub import_items : Features → Types → ℕ → List ℕ → Spaces → Option Spaces
+import_items F us count bytes s = read_section (import_at written) (add_import F us) (length s.imports) MAX_IMPORTS count bytes s
 
-abbrev pub import_items : WasmFeatures → ℕ → List ℕ → Types × Spaces → Option (Types × Spaces)
-import_items features count bytes p = if nat_le (length p.1.imports + count) MAX_IMPORTS then read_each (import_at written) (add_served_import features) count bytes p else None
+abbrev pub function_items : Types → ℕ → List ℕ → Spaces → Option Spaces
+function_items us count bytes s = read_section u32_at (add_function us) (length s.functions) MAX_FUNCTIONS count bytes s
 
-abbrev pub export_items : WasmFeatures → Types → ℕ → List ℕ → Spaces → Option Spaces
-export_items features types count bytes s = if nat_le (length s.exports + count) MAX_EXPORTS then read_each export_at (add_export (features_of features) types) count bytes s else None
+-- a table by its first part; one with an initializer isn't served yet
+unfoldable pub add_table_head : Features → Types → Spaces → Head → Option Spaces
+add_table_head F us s h = if h.has_init then None else add_table F us s h.ty
+
+abbrev pub table_items : Features → Types → ℕ → List ℕ → Spaces → Option Spaces
+table_items F us count bytes s = read_section table_head_at (add_table_head F us) (length s.tables) (most_tables F) count bytes s
+
+abbrev pub memory_items : Features → ℕ → List ℕ → Spaces → Option Spaces
+memory_items F count bytes s = read_section memory_at (add_memory F) (length s.memories) (most_memories F) count bytes s
+
+abbrev pub export_items : Features → Types → ℕ → List ℕ → Spaces → Option Spaces
+export_items F us count bytes s = read_section export_at (add_export F us) (length s.exports) MAX_EXPORTS count bytes s
+
+-- tags, be they none, are there with exceptions alone
+abbrev pub tag_items : Features → Types → ℕ → List ℕ → Spaces → Option Spaces
+tag_items F us count bytes s = if F.exceptions then read_section tag_at (add_tag F us) (length s.tags) MAX_TAGS count bytes s else None
+
+-- a section by its id, where the types of all modules so far are these
+abbrev pub other_items : Features → Types → ℕ → ℕ → List ℕ → Spaces → Option Spaces
+other_items F us id count bytes s =
+    if id == 2 then import_items F us count bytes s
+    else (if id == 3 then function_items us count bytes s
+    else (if id == 4 then table_items F us count bytes s
+    else (if id == 5 then memory_items F count bytes s
+    else (if id == 7 then export_items F us count bytes s
+    else (if id == 13 then tag_items F us count bytes s
+    else None)))))
 
 -- the same where the types of other modules stand beside
 abbrev pub beside : (Types → Spaces → Option Spaces) → Types × Spaces → Option (Types × Spaces)
 beside f p = option_and_then (λ s. Some (p.0, s)) (f p.0 p.1)
+
+abbrev pub section_items : WasmFeatures → ℕ → ℕ → List ℕ → Types × Spaces → Option (Types × Spaces)
+section_items features id count bytes p =
+    if id == 1 then type_items features count bytes p else beside (λ us. other_items (features_of features) us id count bytes) p
+
+-- a start function, and the number of data segments: where it may be so, nothing changes
+abbrev pub start_item : Types → Spaces → ℕ → Option Spaces
+start_item us s x = if is_startable us s x then Some s else None
+
+abbrev pub data_count_item : Features → Spaces → ℕ → Option Spaces
+data_count_item F s n = if is_data_count F n then Some s else None

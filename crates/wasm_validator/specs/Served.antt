@@ -1,25 +1,21 @@
--- Modules of the forms that are served: custom sections, recursion groups, imported functions, and exports.
-use Rattle.std.specs.Prelude.{◌==◌, Bool, true, false, ◌||◌, List, IsTrue}
-use Rattle.std.specs.List.{list_all}
-use Rattle.wasm_spec.specs.Syntax.{Extern, func_extern}
-use Rattle.wasm_spec.specs.BinaryModules.{Import}
+-- Modules of the forms that are served: all that needs no constant expression and no body.
+use Rattle.std.specs.Prelude.{ℕ, ◌==◌, Bool, true, false, ◌||◌, List, IsTrue}
+use Rattle.std.specs.List.{list_all, All}
 use Rattle.wasm_parser.specs.Framing.{Piece, Version, Custom, Counted, Start, DataCount, CodeStart, CodeEntry, Unknown, End}
 use Rattle.wasm_rules.specs.Parts.{Parts}
+use Rattle.wasm_part_rules.specs.Lists.{has_no_init}
 
-abbrev pub is_served_extern : {R : Type 0} → Extern R → Bool
-is_served_extern (func_extern x) = true
-is_served_extern _ = false
+-- the sections of types, imports, functions, tables, memories, exports and tags, by their ids
+abbrev pub is_served_section : ℕ → Bool
+is_served_section id = (id == 1) || ((id == 2) || ((id == 3) || ((id == 4) || ((id == 5) || ((id == 7) || (id == 13))))))
 
-abbrev pub is_served_import : {R : Type 0} → Import R → Bool
-is_served_import i = is_served_extern i.ty
-
--- the header, the end, custom sections, and the sections of types, imports and exports
+-- these sections, the header, the start function, the data count, custom sections, and the end
 abbrev pub is_served_piece : Piece → Bool
 is_served_piece (Version number kind) = true
 is_served_piece (Custom name bytes) = true
-is_served_piece (Counted id n bytes) = (id == 1) || (id == 2) || (id == 7)
-is_served_piece (Start x) = false
-is_served_piece (DataCount n) = false
+is_served_piece (Counted id n bytes) = is_served_section id
+is_served_piece (Start x) = true
+is_served_piece (DataCount n) = true
 is_served_piece (CodeStart n size) = false
 is_served_piece (CodeEntry bytes) = false
 is_served_piece (Unknown id bytes) = false
@@ -28,4 +24,4 @@ is_served_piece End = true
 -- pieces with these parts are all of the forms that are served
 pub record AreServed (pieces : List Piece) (parts : Parts) : Type 0 where
   pub pieces_served : IsTrue (list_all is_served_piece pieces)
-  pub imports_served : IsTrue (list_all is_served_import parts.imports)
+  pub tables_served : All has_no_init parts.tables

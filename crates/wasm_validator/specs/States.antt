@@ -1,5 +1,6 @@
 -- What contracts see of a validator's own state, and its calls.
-use Rattle.std.specs.Prelude.{ℕ, ◌==◌, if◌then◌else◌, Bool, true, false, ◌&&◌, cond, List, Option, Some, None, ⊤}
+use Rattle.std.specs.Prelude.{ℕ, ◌==◌, Bool, true, false, ◌&&◌, cond, List, Option, Some, None, ⊤}
+use Rattle.wasm_rules.specs.FeatureFlags.{features_of}
 use Rattle.wasm_validator_types.specs.Shown.{types_of}
 use Rattle.wasm_validator_types.specs.Spaces.{Spaces, no_spaces}
 use Rattle.std.specs.declared.result.Result.{Result}
@@ -14,7 +15,7 @@ use Rattle.wasm_validator.specs.declared.validator.State.TheVariants.{Unparsed, 
 use Rattle.wasm_validator.specs.declared.validator.Validator.TheInside.{Inside}
 use Rattle.wasm_validator_core.specs.Answers.{Types}
 use Rattle.wasm_validator.specs.Standing.{Stage, unparsed, in_module, ended, failed, Standing, ended_at, refused_at, within, at_stage}
-use Rattle.wasm_validator.specs.Machine.{type_items, import_items, export_items, beside}
+use Rattle.wasm_validator.specs.Machine.{section_items, start_item, data_count_item, beside}
 
 module _ {A : Type 0} where
   -- the module that is being read
@@ -53,14 +54,16 @@ begun number is_module failed = None
 abbrev pub after_version : Standing → ℕ → Bool → Option Standing
 after_version s number is_module = at_stage s (begun number is_module s.stage)
 
-abbrev pub after_types : Standing → ℕ → List ℕ → Option Standing
-after_types s count bytes = at_stage s (within (type_items s.features count bytes) s.stage)
+-- a section by its id
+abbrev pub after_section : Standing → ℕ → ℕ → List ℕ → Option Standing
+after_section s id count bytes = at_stage s (within (section_items s.features id count bytes) s.stage)
 
-abbrev pub after_imports : Standing → ℕ → List ℕ → Option Standing
-after_imports s count bytes = at_stage s (within (import_items s.features count bytes) s.stage)
+-- the start function and the data count
+abbrev pub after_start : Standing → ℕ → Option Standing
+after_start s x = at_stage s (within (beside (λ us t. start_item us t x)) s.stage)
 
-abbrev pub after_exports : Standing → ℕ → List ℕ → Option Standing
-after_exports s count bytes = at_stage s (within (beside (λ types. export_items s.features types count bytes)) s.stage)
+abbrev pub after_data_count : Standing → ℕ → Option Standing
+after_data_count s n = at_stage s (within (beside (λ us t. data_count_item (features_of s.features) t n)) s.stage)
 
 -- the end of a module
 abbrev pub closed : Stage → Option Stage
@@ -72,21 +75,13 @@ closed failed = None
 abbrev pub after_end : Standing → Option Standing
 after_end s = at_stage s (closed s.stage)
 
--- a section by its id: types, imports and exports are served
-abbrev pub after_section : Standing → ℕ → ℕ → List ℕ → Option Standing
-after_section s id count bytes =
-    if id == 1 then after_types s count bytes
-    else (if id == 2 then after_imports s count bytes
-    else (if id == 7 then after_exports s count bytes
-    else None))
-
 -- a payload, without where it lies
 abbrev pub after_piece : Standing → Piece → Option Standing
 after_piece s (Version number kind) = after_version s number (kind == 0)
 after_piece s (Custom name bytes) = Some s
 after_piece s (Counted id count bytes) = after_section s id count bytes
-after_piece s (Start index) = None
-after_piece s (DataCount count) = None
+after_piece s (Start index) = after_start s index
+after_piece s (DataCount count) = after_data_count s count
 after_piece s (CodeStart count size) = None
 after_piece s (CodeEntry bytes) = None
 after_piece s (Unknown id bytes) = None

@@ -1,21 +1,23 @@
 //! The items of a module's sections, one by one.
 
-ghost use Rattle.std.specs.Prelude.{◌≡◌, OnOk};
+ghost use Rattle.std.specs.Prelude.{◌≡◌, OnOk, IsTrue};
 ghost use Rattle.wasm_rules.specs.FeatureFlags.{features_of};
-ghost use Rattle.wasm_readers.specs.Items.{import_of};
 ghost use Rattle.wasm_readers.specs.SectionsSeen.{count_of, bytes_of};
 ghost use Rattle.wasm_validator_types.specs.Shown.{types_of};
 ghost use Rattle.wasm_validator_canonical.specs.Groups.{AreValid};
 ghost use Rattle.wasm_validator_core.specs.Answers.{Adds, AddsWhere, HasValidTypes};
 ghost use Rattle.wasm_validator_core.specs.Ready.{IsOpenFor, AreHeld, AreIdsOf};
-ghost use Rattle.wasm_validator.specs.Machine.{type_items, add_served_import, import_items, export_items};
+ghost use Rattle.wasm_validator.specs.Machine.{type_items, import_items, function_items, add_table_head, table_items, memory_items, tag_items, export_items};
+ghost use Rattle.wasm_readers.specs.Tables.{head_of};
 
 use std::alloc::Allocator;
 use wasm_readers::{
-    Counted, Export, Fault, Import, RecGroup, Refusal, SectionLimited, TypeRef, Unserved,
-    WasmFeatures,
+    Counted, Export, Fault, Import, MemoryType, RecGroup, Refusal, SectionLimited, Table,
+    TableHead, TagType, Unserved, WasmFeatures,
 };
-use wasm_validator_core::{Error, MAX_EXPORTS, MAX_IMPORTS, MAX_TYPES, Module, check_max};
+use wasm_validator_core::{
+    Error, MAX_EXPORTS, MAX_FUNCTIONS, MAX_IMPORTS, MAX_TAGS, MAX_TYPES, Module, check_max,
+};
 use wasm_validator_types::TypeList;
 
 /// Adds the types of a type section.
@@ -51,27 +53,6 @@ pub fn add_types<'a, A: Allocator + Copy>(
     Ok(())
 }
 
-/// Adds one import, which is of a function: other kinds are not served yet.
-fn add_served_import<A: Allocator + Copy>(
-    features: WasmFeatures,
-    list: &TypeList<A>,
-    opened: &mut Module<A>,
-    import: &Import,
-    offset: u64,
-) -> Result<(), Error<A>>
-    requires { AreHeld list.now opened.old.types }
-    ensures added { Adds result (add_served_import features (types_of list.now, opened.old) (import_of import.now)) (types_of list.now, opened.new) }
-    ensures types { opened.new.types ≡ opened.old.types }
-{
-    match import.ty {
-        TypeRef::Func(_) => opened.add_import(features, list, import, offset),
-        _ => {
-            let fault = Fault::NotServed(Unserved::ImportKind);
-            Err(Error::Refused(Refusal::new(fault, offset)))
-        }
-    }
-}
-
 /// Adds the imports of an import section.
 pub fn add_imports<'a, A: Allocator + Copy>(
     features: WasmFeatures,
@@ -80,7 +61,7 @@ pub fn add_imports<'a, A: Allocator + Copy>(
     section: &SectionLimited<'a, Import<'a>, A>,
 ) -> Result<(), Error<A>>
     requires { AreHeld list.now opened.old.types }
-    ensures added { Adds result (import_items features (count_of section.now) (bytes_of section.now) (types_of list.now, opened.old)) (types_of list.now, opened.new) }
+    ensures added { Adds result (import_items (features_of features) (types_of list.now) (count_of section.now) (bytes_of section.now) opened.old) opened.new }
     ensures types { opened.new.types ≡ opened.old.types }
 {
     check_max(
@@ -92,7 +73,126 @@ pub fn add_imports<'a, A: Allocator + Copy>(
     )?;
     let mut imports = section.items();
     'imports: while let Some((offset, import)) = imports.read_next()? {
-        add_served_import(features, list, opened, &import, offset)?;
+        opened.add_import(features, list, &import, offset)?;
+    }
+    Ok(())
+}
+
+/// Adds the functions of a function section.
+pub fn add_functions<A: Allocator + Copy>(
+    list: &TypeList<A>,
+    opened: &mut Module<A>,
+    section: &SectionLimited<'_, u32, A>,
+) -> Result<(), Error<A>>
+    requires { AreHeld list.now opened.old.types }
+    ensures added { Adds result (function_items (types_of list.now) (count_of section.now) (bytes_of section.now) opened.old) opened.new }
+    ensures types { opened.new.types ≡ opened.old.types }
+{
+    check_max(
+        opened.spaces().function_count() as usize,
+        section.count() as usize,
+        MAX_FUNCTIONS,
+        Counted::Functions,
+        section.range().start,
+    )?;
+    let mut functions = section.items();
+    'functions: while let Some((offset, type_index)) = functions.read_next()? {
+        opened.add_function(list, type_index, offset)?;
+    }
+    Ok(())
+}
+
+/// Adds the tables of a table section, which have no initializers: those with one are not served yet.
+pub fn add_tables<'a, A: Allocator + Copy>(
+    features: WasmFeatures,
+    list: &TypeList<A>,
+    opened: &mut Module<A>,
+    section: &SectionLimited<'a, Table<'a>, A>,
+) -> Result<(), Error<A>>
+    requires { AreHeld list.now opened.old.types }
+    ensures added { Adds result (table_items (features_of features) (types_of list.now) (count_of section.now) (bytes_of section.now) opened.old) opened.new }
+    ensures types { opened.new.types ≡ opened.old.types }
+{
+    check_max(
+        opened.spaces().table_count() as usize,
+        section.count() as usize,
+        opened.max_tables(features),
+        Counted::Tables,
+        section.range().start,
+    )?;
+    let heads = section.heads();
+    let mut tables = heads.items();
+    'tables: while let Some((offset, head)) = tables.read_next()? {
+        add_table_head(features, list, opened, head, offset)?;
+    }
+    Ok(())
+}
+
+/// Adds the table that this is the first part of, where it has no initializer.
+#[tactic(auto, unfolding(crate::specs::Machine::add_table_head))]
+fn add_table_head<A: Allocator + Copy>(
+    features: WasmFeatures,
+    list: &TypeList<A>,
+    opened: &mut Module<A>,
+    head: TableHead,
+    offset: u64,
+) -> Result<(), Error<A>>
+    requires { AreHeld list.now opened.old.types }
+    ensures added { Adds result (add_table_head (features_of features) (types_of list.now) opened.old (head_of head)) opened.new }
+    ensures types { opened.new.types ≡ opened.old.types }
+{
+    if head.has_init {
+        let fault = Fault::NotServed(Unserved::TableInitializer);
+        return Err(Error::Refused(Refusal::new(fault, offset)));
+    }
+    opened.add_table(features, list, head.ty, offset)
+}
+
+/// Adds the memories of a memory section.
+pub fn add_memories<A: Allocator + Copy>(
+    features: WasmFeatures,
+    opened: &mut Module<A>,
+    section: &SectionLimited<'_, MemoryType, A>,
+) -> Result<(), Error<A>>
+    ensures added { Adds result (memory_items (features_of features) (count_of section.now) (bytes_of section.now) opened.old) opened.new }
+    ensures types { opened.new.types ≡ opened.old.types }
+{
+    check_max(
+        opened.spaces().memory_count() as usize,
+        section.count() as usize,
+        opened.max_memories(features),
+        Counted::Memories,
+        section.range().start,
+    )?;
+    let mut memories = section.items();
+    'memories: while let Some((offset, ty)) = memories.read_next()? {
+        opened.add_memory(features, ty, offset)?;
+    }
+    Ok(())
+}
+
+/// Adds the tags of a tag section, where the exceptions proposal is on.
+pub fn add_tags<A: Allocator + Copy>(
+    features: WasmFeatures,
+    list: &TypeList<A>,
+    opened: &mut Module<A>,
+    section: &SectionLimited<'_, TagType, A>,
+) -> Result<(), Error<A>>
+    requires held { AreHeld list.now opened.old.types }
+    requires exceptions { IsTrue (features_of features).exceptions }
+    ensures added { Adds result (tag_items (features_of features) (types_of list.now) (count_of section.now) (bytes_of section.now) opened.old) opened.new }
+    ensures types { opened.new.types ≡ opened.old.types }
+{
+    check_max(
+        opened.spaces().tag_count() as usize,
+        section.count() as usize,
+        MAX_TAGS,
+        Counted::Tags,
+        section.range().start,
+    )?;
+    let mut tags = section.items();
+    'tags: while let Some((offset, ty)) = tags.read_next()? {
+        opened.add_tag(features, list, ty, offset)?;
     }
     Ok(())
 }
@@ -105,7 +205,7 @@ pub fn add_exports<'a, A: Allocator + Copy>(
     opened: &mut Module<A>,
     section: &SectionLimited<'a, Export<'a>, A>,
 ) -> Result<(), Error<A>>
-    ensures added { Adds result (export_items features (types_of list.now) (count_of section.now) (bytes_of section.now) opened.old) opened.new }
+    ensures added { Adds result (export_items (features_of features) (types_of list.now) (count_of section.now) (bytes_of section.now) opened.old) opened.new }
     ensures types { opened.new.types ≡ opened.old.types }
 {
     check_max(

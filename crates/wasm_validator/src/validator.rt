@@ -1,4 +1,4 @@
-ghost use Rattle.std.specs.Prelude.{◌≡◌, IfOk, IfErr, IfSome, IsSome, IsErr, OnOk, OnErr, Some, None, true, ◌↔◌};
+ghost use Rattle.std.specs.Prelude.{◌≡◌, IfOk, IfErr, IfSome, IsSome, IsErr, OnOk, OnErr, Some, None, true, is_ok, ◌↔◌};
 ghost use Rattle.wasm_validator_core.specs.Errors.{IsContent};
 ghost use Rattle.wasm_readers.specs.SectionsSeen.{count_of, bytes_of};
 ghost use Rattle.wasm_validator_type_list.specs.Interned.{AreOnce};
@@ -6,9 +6,11 @@ ghost use Rattle.wasm_validator_type_list.specs.Listing.{closed};
 ghost use Rattle.wasm_validator_types.specs.Shown.{shown_of, shown_by, types_of};
 ghost use Rattle.wasm_validator.specs.Payloads.{Show};
 ghost use Rattle.wasm_validator.specs.Standing.{HoldsValid, Leaves, Moves, ended_at, fresh, is_failed, may_reset, after_reset, shown_at};
-ghost use Rattle.wasm_validator.specs.States.{open_of, state_kept, is_module, after_version, after_types, after_imports, after_exports, after_end};
+ghost use Rattle.wasm_validator.specs.States.{open_of, state_kept, is_module, after_version, after_section, after_start, after_data_count, after_end};
 
-use crate::module_sections::{add_exports, add_imports, add_types};
+use crate::module_sections::{
+    add_exports, add_functions, add_imports, add_memories, add_tables, add_tags, add_types,
+};
 use bitflags::Flags;
 use std::alloc::{AllocError, Allocator, Global};
 use std::marker::Model;
@@ -21,7 +23,7 @@ use wasm_readers::{
     Refusal, Rule, SectionLimited, Table, TagType, Unserved, WasmFeatures,
 };
 use wasm_validator_canonical::needs_type_canonicalization;
-use wasm_validator_core::{Error, Module};
+use wasm_validator_core::{Error, Module, check_data_count};
 use wasm_validator_types::{TypeList, Types, TypesRef, ValidatorId};
 
 /// What a validator is doing.
@@ -112,6 +114,17 @@ fn kept<A: Allocator>(
             Ok(())
         }
         Err(error) => Err(error),
+    }
+}
+
+/// What a check of a module says, as the answer of a section.
+fn checked<A: Allocator>(answer: Result<(), Refusal>) -> Result<(), Error<A>>
+    ensures same { is_ok result ≡ is_ok answer }
+    ensures content { IfErr result IsContent }
+{
+    match answer {
+        Ok(()) => Ok(()),
+        Err(refusal) => Err(Error::Refused(refusal)),
     }
 }
 
@@ -261,7 +274,7 @@ impl<A: Allocator + Copy> Validator<A> {
         &mut self,
         section: &SectionLimited<'_, RecGroup<A>, A>,
     ) -> Result<(), Error<A>>
-        ensures { Moves result (after_types self.old (count_of section.now) (bytes_of section.now)) self.old self.new }
+        ensures { Moves result (after_section self.old 1 (count_of section.now) (bytes_of section.now)) self.old self.new }
     {
         match opened(&mut self.state, section.range().start) {
             Ok(mut module) => {
@@ -283,7 +296,7 @@ impl<A: Allocator + Copy> Validator<A> {
         &mut self,
         section: &SectionLimited<'a, Import<'a>, A>,
     ) -> Result<(), Error<A>>
-        ensures { Moves result (after_imports self.old (count_of section.now) (bytes_of section.now)) self.old self.new }
+        ensures { Moves result (after_section self.old 2 (count_of section.now) (bytes_of section.now)) self.old self.new }
     {
         match opened(&mut self.state, section.range().start) {
             Ok(mut module) => {
@@ -299,7 +312,7 @@ impl<A: Allocator + Copy> Validator<A> {
         &mut self,
         section: &SectionLimited<'a, Export<'a>, A>,
     ) -> Result<(), Error<A>>
-        ensures { Moves result (after_exports self.old (count_of section.now) (bytes_of section.now)) self.old self.new }
+        ensures { Moves result (after_section self.old 7 (count_of section.now) (bytes_of section.now)) self.old self.new }
     {
         match opened(&mut self.state, section.range().start) {
             Ok(mut module) => {
@@ -327,41 +340,55 @@ impl<A: Allocator + Copy> Validator<A> {
         }
     }
 
-    /// The functions of a module, by their type indices. Not served yet.
+    /// The functions of a module, by their type indices.
     pub fn function_section(&mut self, section: &SectionLimited<'_, u32, A>) -> Result<(), Error<A>>
-        ensures moves { Moves result None self.old self.new }
-        ensures refused { IsErr result }
+        ensures { Moves result (after_section self.old 3 (count_of section.now) (bytes_of section.now)) self.old self.new }
     {
-        self.unserved(Unserved::FunctionSection, section.range().start)
+        match opened(&mut self.state, section.range().start) {
+            Ok(mut module) => {
+                let added = add_functions(&self.types, &mut module, section);
+                kept(&mut self.state, module, added)
+            }
+            Err(refusal) => Err(Error::Refused(refusal)),
+        }
     }
 
-    /// The tables of a module. Not served yet.
+    /// The tables of a module. Those with initializers are not served yet.
     pub fn table_section<'a>(
         &mut self,
         section: &SectionLimited<'a, Table<'a>, A>,
     ) -> Result<(), Error<A>>
-        ensures moves { Moves result None self.old self.new }
-        ensures refused { IsErr result }
+        ensures { Moves result (after_section self.old 4 (count_of section.now) (bytes_of section.now)) self.old self.new }
     {
-        self.unserved(Unserved::TableSection, section.range().start)
+        match opened(&mut self.state, section.range().start) {
+            Ok(mut module) => {
+                let added = add_tables(self.features, &self.types, &mut module, section);
+                kept(&mut self.state, module, added)
+            }
+            Err(refusal) => Err(Error::Refused(refusal)),
+        }
     }
 
-    /// The memories of a module. Not served yet.
+    /// The memories of a module.
     pub fn memory_section(
         &mut self,
         section: &SectionLimited<'_, MemoryType, A>,
     ) -> Result<(), Error<A>>
-        ensures moves { Moves result None self.old self.new }
-        ensures refused { IsErr result }
+        ensures { Moves result (after_section self.old 5 (count_of section.now) (bytes_of section.now)) self.old self.new }
     {
-        self.unserved(Unserved::MemorySection, section.range().start)
+        match opened(&mut self.state, section.range().start) {
+            Ok(mut module) => {
+                let added = add_memories(self.features, &mut module, section);
+                kept(&mut self.state, module, added)
+            }
+            Err(refusal) => Err(Error::Refused(refusal)),
+        }
     }
 
-    /// The tags of a module. Not served yet. Without the exceptions proposal it is refused for that
-    /// before anything else.
+    /// The tags of a module. Without the exceptions proposal it is refused for that before anything
+    /// else.
     pub fn tag_section(&mut self, section: &SectionLimited<'_, TagType, A>) -> Result<(), Error<A>>
-        ensures moves { Moves result None self.old self.new }
-        ensures refused { IsErr result }
+        ensures { Moves result (after_section self.old 13 (count_of section.now) (bytes_of section.now)) self.old self.new }
     {
         let offset = section.range().start;
         if !self.features.contains(WasmFeatures::EXCEPTIONS) {
@@ -374,7 +401,13 @@ impl<A: Allocator + Copy> Validator<A> {
                 WasmFeatures::EXCEPTIONS,
             )));
         }
-        self.unserved(Unserved::TagSection, offset)
+        match opened(&mut self.state, offset) {
+            Ok(mut module) => {
+                let added = add_tags(self.features, &self.types, &mut module, section);
+                kept(&mut self.state, module, added)
+            }
+            Err(refusal) => Err(Error::Refused(refusal)),
+        }
     }
 
     /// The globals of a module. Not served yet.
@@ -388,12 +421,17 @@ impl<A: Allocator + Copy> Validator<A> {
         self.unserved(Unserved::GlobalSection, section.range().start)
     }
 
-    /// The function that starts a module, by its index. Not served yet.
-    pub fn start_section(&mut self, _function: u32, range: &Range<u64>) -> Result<(), Error<A>>
-        ensures moves { Moves result None self.old self.new }
-        ensures refused { IsErr result }
+    /// The function that starts a module, by its index.
+    pub fn start_section(&mut self, function: u32, range: &Range<u64>) -> Result<(), Error<A>>
+        ensures { Moves result (after_start self.old function) self.old self.new }
     {
-        self.unserved(Unserved::StartSection, range.start)
+        match opened(&mut self.state, range.start) {
+            Ok(module) => {
+                let accepted = checked(module.check_start(&self.types, function, range.start));
+                kept(&mut self.state, module, accepted)
+            }
+            Err(refusal) => Err(Error::Refused(refusal)),
+        }
     }
 
     /// The element segments of a module. Not served yet.
@@ -407,12 +445,17 @@ impl<A: Allocator + Copy> Validator<A> {
         self.unserved(Unserved::ElementSection, section.range().start)
     }
 
-    /// The number of data segments that the data section is to have. Not served yet.
-    pub fn data_count_section(&mut self, _count: u32, range: &Range<u64>) -> Result<(), Error<A>>
-        ensures moves { Moves result None self.old self.new }
-        ensures refused { IsErr result }
+    /// The number of data segments that the data section is to have.
+    pub fn data_count_section(&mut self, count: u32, range: &Range<u64>) -> Result<(), Error<A>>
+        ensures { Moves result (after_data_count self.old count) self.old self.new }
     {
-        self.unserved(Unserved::DataCountSection, range.start)
+        match opened(&mut self.state, range.start) {
+            Ok(module) => {
+                let accepted = checked(check_data_count(self.features, count, range.start));
+                kept(&mut self.state, module, accepted)
+            }
+            Err(refusal) => Err(Error::Refused(refusal)),
+        }
     }
 
     /// The start of the code section. Not served yet.

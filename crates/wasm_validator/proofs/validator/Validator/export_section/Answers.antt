@@ -3,10 +3,11 @@ use Rattle.wasm_readers.specs.SectionsSeen.{count_of, bytes_of}
 use Rattle.wasm_validator_types.specs.Shown.{types_of}
 use Rattle.wasm_validator_core.specs.Answers.{HasValidTypes}
 use Rattle.wasm_validator_core.specs.Ready.{AreIdsOf}
-use Rattle.wasm_validator.specs.Machine.{export_items, beside}
+use Rattle.wasm_rules.specs.FeatureFlags.{features_of}
+use Rattle.wasm_validator.specs.Machine.{other_items, section_items}
 use Rattle.wasm_validator.specs.Ready.{AreIdsIn, AreValidIn}
 use Rattle.wasm_validator.specs.Standing.{Standing, Moves}
-use Rattle.wasm_validator.specs.States.{stage_of, after_exports}
+use Rattle.wasm_validator.specs.States.{stage_of, after_section}
 use Rattle.wasm_validator.proofs.SectionMoves.{adds_beside, section_moves}
 use Rattle.wasm_validator.proofs.Sections.{open-ids, open-valid, kept-ids, kept-valid}
 use Rattle.wasm_validator.proofs.validator.Validator.export_section.Goals as goal
@@ -35,7 +36,7 @@ returns-in-Ok g c =
     let types = types_of c.self.inside.types in
     let before = c.in-Ok.«module» in
     let new : Standing = record { id = id; features = features; stage = stage_of types c.kept.new.state } in
-    subst (λ r. Moves r (after_exports c.args.self.now count bytes) c.args.self.now new) (sym c.kept.ensures.same)
-    (section_moves id features types before (λ g. beside (λ ts. export_items g ts count bytes)) c.self.inside.state added.result types added.new.opened c.args.self.now new
+    subst (λ r. Moves r (after_section c.args.self.now 7 count bytes) c.args.self.now new) (sym c.kept.ensures.same)
+    (section_moves id features types before (λ g. section_items g 7 count bytes) c.self.inside.state added.result types added.new.opened c.args.self.now new
     c.in-Ok.ensures.ok c.self.view_is (λ i. record { id = id; features = features; stage = stage_of types (sym c.kept.ensures.kept i) })
-    (adds_beside (HasValidTypes features) types added.result (export_items features types count bytes before) added.new.opened added.ensures.added))
+    (adds_beside (HasValidTypes features) types added.result (other_items (features_of features) types 7 count bytes before) added.new.opened added.ensures.added))

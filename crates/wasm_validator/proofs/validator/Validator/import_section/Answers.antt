@@ -1,6 +1,14 @@
 use Rattle.std.proofs.Common.{sym, subst}
+use Rattle.wasm_readers.specs.SectionsSeen.{count_of, bytes_of}
+use Rattle.wasm_validator_types.specs.Shown.{types_of}
+use Rattle.wasm_validator_core.specs.Answers.{HasValidTypes}
 use Rattle.wasm_validator_core.specs.Ready.{AreIdsOf}
+use Rattle.wasm_rules.specs.FeatureFlags.{features_of}
+use Rattle.wasm_validator.specs.Machine.{other_items, section_items}
 use Rattle.wasm_validator.specs.Ready.{AreIdsIn, AreValidIn}
+use Rattle.wasm_validator.specs.Standing.{Standing, Moves}
+use Rattle.wasm_validator.specs.States.{stage_of, after_section}
+use Rattle.wasm_validator.proofs.SectionMoves.{adds_beside, section_moves}
 use Rattle.wasm_validator.proofs.Sections.{open-ids, open-valid, kept-ids, kept-valid}
 use Rattle.wasm_validator.proofs.validator.Validator.import_section.Goals as goal
 
@@ -20,3 +28,18 @@ invariant_of-self g c =
       ids = subst (AreIdsIn list) (sym c.kept.ensures.kept) (kept-ids list added.new.opened added.result (subst (AreIdsOf list) (sym added.ensures.types) ids));
       valid = subst (AreValidIn features list) (sym c.kept.ensures.kept) (kept-valid list added.new.opened features added.result valid);
     }
+
+pub returns-in-Ok : goal.returns-in-Ok
+returns-in-Ok g c =
+    let id = c.self.inside.id in
+    let features = c.self.inside.features in
+    let added = c.add_imports-added in
+    let count = count_of c.args.section.now in
+    let bytes = bytes_of c.args.section.now in
+    let types = types_of c.self.inside.types in
+    let before = c.in-Ok.«module» in
+    let new : Standing = record { id = id; features = features; stage = stage_of types c.kept.new.state } in
+    subst (λ r. Moves r (after_section c.args.self.now 2 count bytes) c.args.self.now new) (sym c.kept.ensures.same)
+    (section_moves id features types before (λ g. section_items g 2 count bytes) c.self.inside.state added.result types added.new.opened c.args.self.now new
+    c.in-Ok.ensures.ok c.self.view_is (λ i. record { id = id; features = features; stage = stage_of types (sym c.kept.ensures.kept i) })
+    (adds_beside (HasValidTypes features) types added.result (other_items (features_of features) types 2 count bytes before) added.new.opened added.ensures.added))

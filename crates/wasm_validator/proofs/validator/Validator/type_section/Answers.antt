@@ -1,9 +1,9 @@
 use Rattle.std.proofs.Common.{sym, subst}
 use Rattle.wasm_readers.specs.SectionsSeen.{count_of, bytes_of}
 use Rattle.wasm_validator_types.specs.Shown.{types_of}
-use Rattle.wasm_validator.specs.Machine.{type_items}
+use Rattle.wasm_validator.specs.Machine.{section_items}
 use Rattle.wasm_validator.specs.Standing.{Standing, Moves}
-use Rattle.wasm_validator.specs.States.{stage_of, after_types}
+use Rattle.wasm_validator.specs.States.{stage_of, after_section}
 use Rattle.wasm_validator.proofs.Sections.{open-ids, open-valid}
 use Rattle.wasm_validator.proofs.SectionMoves.{section_moves}
 use Rattle.wasm_validator.proofs.validator.Validator.type_section.Goals as goal
@@ -23,6 +23,6 @@ returns-in-Ok g c =
     let bytes = bytes_of c.args.section.now in
     let types = types_of added.new.list in
     let new : Standing = record { id = id; features = features; stage = stage_of types c.kept.new.state } in
-    subst (λ r. Moves r (after_types c.args.self.now count bytes) c.args.self.now new) (sym c.kept.ensures.same)
-    (section_moves id features (types_of c.self.inside.types) c.in-Ok.«module» (λ g. type_items g count bytes) c.self.inside.state added.result types added.new.opened c.args.self.now new
+    subst (λ r. Moves r (after_section c.args.self.now 1 count bytes) c.args.self.now new) (sym c.kept.ensures.same)
+    (section_moves id features (types_of c.self.inside.types) c.in-Ok.«module» (λ g. section_items g 1 count bytes) c.self.inside.state added.result types added.new.opened c.args.self.now new
     c.in-Ok.ensures.ok c.self.view_is (λ i. record { id = id; features = features; stage = stage_of types (sym c.kept.ensures.kept i) }) added.ensures.added)
