@@ -6,6 +6,8 @@ mod features;
 #[cfg(test)]
 mod groups;
 #[cfg(test)]
+mod items;
+#[cfg(test)]
 mod modules;
 #[cfg(test)]
 mod robustness;

@@ -138,18 +138,12 @@ fn a_component_is_refused(rt: HostRuntime) {
 
 #[test]
 fn what_is_not_served_is_said(rt: HostRuntime) {
-    let table = is_refused_with(
+    let global = is_refused_with(
         &rt,
-        b"\0asm\x01\0\0\0\x04\x04\x01\x70\0\0",
-        "not served yet: table section",
+        b"\0asm\x01\0\0\0\x06\x06\x01\x7f\0\x41\0\x0b",
+        "not served yet: global section",
     );
-    assert!(rt; table);
-    let import = is_refused_with(
-        &rt,
-        b"\0asm\x01\0\0\0\x02\x08\x01\x01a\x01b\x03\x7f\0",
-        "not served yet: import kind",
-    );
-    assert!(rt; import);
+    assert!(rt; global);
 }
 
 #[test]
@@ -166,6 +160,24 @@ fn counts_keep_to_their_limits(rt: HostRuntime) {
         "imports count exceeds limit of 1000000",
     );
     assert!(rt; imports);
+    let functions = is_refused_with(
+        &rt,
+        b"\0asm\x01\0\0\0\x03\x03\xc1\x84\x3d",
+        "functions count exceeds limit of 1000000",
+    );
+    assert!(rt; functions);
+    let tables = is_refused_with(
+        &rt,
+        b"\0asm\x01\0\0\0\x04\x01\x65",
+        "tables count exceeds limit of 100",
+    );
+    assert!(rt; tables);
+    let memories = is_refused_with(
+        &rt,
+        b"\0asm\x01\0\0\0\x05\x01\x65",
+        "memories count exceeds limit of 100",
+    );
+    assert!(rt; memories);
     let exports = is_refused_with(
         &rt,
         b"\0asm\x01\0\0\0\x07\x03\xc1\x84\x3d",

@@ -149,51 +149,23 @@ fn tags_need_their_feature_in_every_state(rt: HostRuntime) -> Result<(), Fail> {
 #[test]
 fn sections_that_are_not_served_fail_the_validator(rt: HostRuntime) -> Result<(), Fail> {
     let alloc = rt.alloc();
-    let functions = SectionLimited::new(alloc, BinaryReader::new(b"\0", 8))
+    let globals = SectionLimited::new(alloc, BinaryReader::new(b"\0", 8))
         .ok()
         .ok_or("no section")?;
     let mut validator = Validator::new(alloc, ValidatorId::from_number(0));
     validator.version(1, Encoding::Module, &(0..8))?;
-    let function = says(
+    let global = says(
         alloc,
-        &validator.function_section(&functions),
-        "not served yet: function section",
+        &validator.global_section(&globals),
+        "not served yet: global section",
     );
-    assert!(rt; function);
+    assert!(rt; global);
     let again = says(
         alloc,
-        &validator.function_section(&functions),
+        &validator.global_section(&globals),
         "validator failed: an earlier section was refused",
     );
     assert!(rt; again);
-    Ok(())
-}
-
-#[test]
-fn start_sections_are_not_served(rt: HostRuntime) -> Result<(), Fail> {
-    let alloc = rt.alloc();
-    let mut validator = Validator::new(alloc, ValidatorId::from_number(0));
-    validator.version(1, Encoding::Module, &(0..8))?;
-    let start = says(
-        alloc,
-        &validator.start_section(0, &(8..9)),
-        "not served yet: start section",
-    );
-    assert!(rt; start);
-    Ok(())
-}
-
-#[test]
-fn data_count_sections_are_not_served(rt: HostRuntime) -> Result<(), Fail> {
-    let alloc = rt.alloc();
-    let mut validator = Validator::new(alloc, ValidatorId::from_number(0));
-    validator.version(1, Encoding::Module, &(0..8))?;
-    let count = says(
-        alloc,
-        &validator.data_count_section(3, &(8..9)),
-        "not served yet: data count section",
-    );
-    assert!(rt; count);
     Ok(())
 }
 
