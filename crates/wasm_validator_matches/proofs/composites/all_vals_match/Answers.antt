@@ -3,7 +3,7 @@ use Rattle.wasm_spec.specs.References.{refs_val}
 use Rattle.wasm_readers_types.specs.SeenValues.{val_of}
 use Rattle.wasm_validator_type_list.specs.Grouped.{AreIn, ValsMatch}
 use Rattle.wasm_validator_type_list.proofs.Grouped.{item_holds, zip-miss, zip-all, below-more}
-use Rattle.wasm_matches.proofs.composites.all_vals_match.Goals as goal
+use Rattle.wasm_validator_matches.proofs.composites.all_vals_match.Goals as goal
 
 pub matches-agree-requires-clause-sub : goal.matches-agree-requires-clause-sub
 matches-agree-requires-clause-sub g c =

@@ -17,7 +17,7 @@ use Rattle.wasm_readers_types.specs.SeenValues.{ref_of, val_of, storage_of, fiel
 use Rattle.wasm_readers_types.specs.SeenTypes.{array_of, cont_of, comp_of, sub_of}
 use Rattle.wasm_validator_type_list.specs.Declares.{declares}
 use Rattle.wasm_validator_type_list.specs.Grouped.{leads_in, AreIn, ValsMatch, FieldsMatch}
-use Rattle.wasm_matches.specs.declared.with_rec_group.WithRecGroup.{WithRecGroup}
+use Rattle.wasm_validator_matches.specs.declared.with_rec_group.WithRecGroup.{WithRecGroup}
 
 module _ {A : Type 0} (gs : List (List (SubType A))) where
   -- the references of the part may stand in its group

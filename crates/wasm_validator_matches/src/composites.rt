@@ -10,7 +10,7 @@ ghost use Rattle.wasm_readers_types.specs.SeenValues.{val_of, field_of};
 ghost use Rattle.wasm_readers_types.specs.SeenTypes.{comp_of};
 ghost use Rattle.wasm_validator_type_list.specs.Declares.{declares};
 ghost use Rattle.wasm_validator_type_list.specs.Grouped.{leads_in, AreIn, ValsMatch};
-ghost use Rattle.wasm_matches.specs.Parts.{ListStands, vals_by_ids};
+ghost use Rattle.wasm_validator_matches.specs.Parts.{ListStands, vals_by_ids};
 
 use crate::matches::Matches;
 use crate::references::id_at;

@@ -1,5 +1,5 @@
-use Rattle.wasm_matches.proofs.Signatures.{signatures_match, signatures_differ}
-use Rattle.wasm_matches.proofs.composites.func_signature_matches.Goals as goal
+use Rattle.wasm_validator_matches.proofs.Signatures.{signatures_match, signatures_differ}
+use Rattle.wasm_validator_matches.proofs.composites.func_signature_matches.Goals as goal
 
 pub returns-then-all_vals_match : goal.returns-then-all_vals_match
 returns-then-all_vals_match g c =

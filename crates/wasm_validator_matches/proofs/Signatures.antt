@@ -10,7 +10,7 @@ use Rattle.wasm_readers_types.specs.declared.types.SubType.{SubType}
 use Rattle.wasm_validator_type_list.specs.Declares.{declares}
 use Rattle.wasm_validator_type_list.specs.Grouped.{leads_in, ValsMatch}
 use Rattle.wasm_validator_type_list.proofs.Grouped.{zip-seen, zip-unseen}
-use Rattle.wasm_matches.specs.Parts.{vals_by_ids}
+use Rattle.wasm_validator_matches.specs.Parts.{vals_by_ids}
 
 module _ {A : Type 0} (gs : List (List (SubType A))) where
   seen : (j k : ℕ) (vs ws : List ValType) → AllZip (ValsMatch gs j k) vs ws → AllZip (MatchesVal (declares gs)) (vals_by_ids gs j vs) (vals_by_ids gs k ws)

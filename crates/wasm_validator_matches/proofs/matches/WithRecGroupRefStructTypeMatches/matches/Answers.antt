@@ -2,7 +2,7 @@ use Rattle.std.proofs.Common.{refl}
 use Rattle.wasm_readers_types.specs.declared.types.CompositeInnerType.TheVariants.{Struct}
 use Rattle.wasm_validator_type_list.proofs.Grouped.{fields_in}
 use Rattle.wasm_validator_type_list.proofs.Composite.{structs_match}
-use Rattle.wasm_matches.proofs.matches.WithRecGroupRefStructTypeMatches.matches.Goals as goal
+use Rattle.wasm_validator_matches.proofs.matches.WithRecGroupRefStructTypeMatches.matches.Goals as goal
 
 pub all_fields_match-requires-clause-sub : goal.all_fields_match-requires-clause-sub
 all_fields_match-requires-clause-sub g c = fields_in c.args.types.now.groups c.args.a.rec_group.index (Struct c.args.a.inner.now) c.args.a.inner.now c.as_slice.result.now c.requires.sub refl c.as_slice.ensures

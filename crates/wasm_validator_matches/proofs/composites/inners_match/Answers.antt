@@ -1,6 +1,6 @@
 use Rattle.wasm_validator_type_list.proofs.Grouped.{fields_in}
 use Rattle.wasm_validator_type_list.proofs.Composite.{structs_match}
-use Rattle.wasm_matches.proofs.composites.inners_match.Goals as goal
+use Rattle.wasm_validator_matches.proofs.composites.inners_match.Goals as goal
 
 pub all_fields_match-requires-clause-sub : goal.all_fields_match-requires-clause-sub
 all_fields_match-requires-clause-sub g c = fields_in c.args.types.now.groups c.args.a_group.index c.args.a.now c.in-Struct-Struct.sub c.as_slice.result.now c.requires.sub c.in-Struct-Struct.is-0 c.as_slice.ensures

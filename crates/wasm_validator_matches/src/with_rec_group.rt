@@ -2,7 +2,7 @@
 
 ghost use Rattle.std.specs.Prelude.{◌≡◌};
 ghost use Rattle.std.specs.Borrow.{Lends, sem};
-ghost use Rattle.wasm_matches.specs.contracts.with_rec_group.WithRecGroup.{the_row};
+ghost use Rattle.wasm_validator_matches.specs.contracts.with_rec_group.WithRecGroup.{the_row};
 
 use std::ops::{Deref, DerefMut};
 use wasm_validator_type_list::RecGroupId;

@@ -5,7 +5,7 @@ use Rattle.wasm_validator_type_list.specs.Declares.{declares}
 use Rattle.wasm_readers_types.specs.SeenValues.{field_of}
 use Rattle.wasm_validator_type_list.specs.Grouped.{leads_in, AreIn, FieldsMatch}
 use Rattle.wasm_validator_type_list.proofs.Grouped.{item_holds, fields-short, fields-miss, fields-all, below-more}
-use Rattle.wasm_matches.proofs.composites.all_fields_match.Goals as goal
+use Rattle.wasm_validator_matches.proofs.composites.all_fields_match.Goals as goal
 
 pub matches-agree-requires-clause-sub : goal.matches-agree-requires-clause-sub
 matches-agree-requires-clause-sub g c =
