@@ -1,4 +1,5 @@
--- Modules of the forms that are served: all that needs no constant expression and no body.
+-- Modules of the forms that are served: those without the sections of globals, element segments, code and data, and
+-- whose tables have no initializers.
 use Rattle.std.specs.Prelude.{ℕ, ◌==◌, Bool, true, false, ◌||◌, List, IsTrue}
 use Rattle.std.specs.List.{list_all, All}
 use Rattle.wasm_parser.specs.Framing.{Piece, Version, Custom, Counted, Start, DataCount, CodeStart, CodeEntry, Unknown, End}
