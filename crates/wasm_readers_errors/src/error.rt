@@ -187,36 +187,20 @@ impl ItemKind {
 /// What this version reads and doesn't validate yet.
 #[derive(Clone, Copy, PartialEq, Eq, Debug)]
 pub enum Unserved {
-    TypeForm,
-    ImportKind,
-    FunctionSection,
-    TableSection,
     TableInitializer,
-    MemorySection,
-    TagSection,
     GlobalSection,
-    StartSection,
     ElementSection,
-    DataCountSection,
-    CodeSection,
+    FunctionBody,
     DataSection,
 }
 
 impl Unserved {
     fn text<'a>(self) -> &'a str {
         match self {
-            Unserved::TypeForm => "type form",
-            Unserved::ImportKind => "import kind",
-            Unserved::FunctionSection => "function section",
-            Unserved::TableSection => "table section",
             Unserved::TableInitializer => "table initializer",
-            Unserved::MemorySection => "memory section",
-            Unserved::TagSection => "tag section",
             Unserved::GlobalSection => "global section",
-            Unserved::StartSection => "start section",
             Unserved::ElementSection => "element section",
-            Unserved::DataCountSection => "data count section",
-            Unserved::CodeSection => "code section",
+            Unserved::FunctionBody => "function body",
             Unserved::DataSection => "data section",
         }
     }
