@@ -1,4 +1,4 @@
-ghost use Rattle.std.specs.Prelude.{◌≡◌, ℕ, ◌≤◌, ◌+◌, List, length, Option, Some, None, IfOk, OnErr, map, IfErr};
+ghost use Rattle.std.specs.Prelude.{◌≡◌, ◌==◌, ◌&&◌, ℕ, ◌≤◌, ◌+◌, List, length, Option, Some, None, IfOk, OnErr, map, IfErr};
 ghost use Rattle.std.specs.Option.{option_map};
 ghost use Rattle.wasm_spec.specs.Values.{u32_at, items_at};
 ghost use Rattle.wasm_readers.specs.Reader.{input, SameInput, position_in, original, rest, RefusedFrom, FailedFrom};
@@ -79,6 +79,13 @@ impl<'a, T, A: Allocator + Copy> SectionLimited<'a, T, A> {
         ensures { result ≡ count_of self.now }
     {
         self.count
+    }
+
+    /// Whether the section says that it has no items, and no bytes follow.
+    pub fn is_empty(&self) -> bool
+        ensures { result ≡ (count_of self.now == 0 && length (bytes_of self.now) == 0) }
+    {
+        self.count == 0 && self.reader.is_empty()
     }
 
     /// The offset of the first item in the whole input.
