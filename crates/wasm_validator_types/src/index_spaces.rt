@@ -177,6 +177,13 @@ impl<A: Allocator + Copy> IndexSpaces<A> {
         Ok(())
     }
 
+    /// The number of functions that are imported.
+    pub fn imported_function_count(&self) -> usize
+        ensures { result ≡ length self.now.imported_functions }
+    {
+        self.imported_functions.len()
+    }
+
     /// Whether the function with this index has exactly its type: it is imported so, or it isn't among
     /// the imported ones.
     pub fn is_exact_function(&self, index: u32) -> bool
