@@ -10,6 +10,7 @@ mod items;
 mod limits;
 mod maybe_owned;
 mod module;
+pub mod module_state;
 mod signatures;
 mod start;
 
@@ -20,6 +21,7 @@ pub use limits::{
 };
 pub use maybe_owned::MaybeOwned;
 pub use module::Module;
+pub use module_state::ModuleState;
 
 #[cfg(test)]
 mod item_tests;
