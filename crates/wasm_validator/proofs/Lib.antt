@@ -14,6 +14,10 @@ pub mod ServedAdded
 pub mod RunOfParts
 pub mod ServedValid
 pub mod ServedPieces
+pub mod EmptyPieces
+pub mod EmptyParts
+pub mod CodeOrder
+pub mod PieceRuns
 pub mod ServedModules
 pub mod WholeModules
 pub mod Sequences

@@ -1,8 +1,8 @@
 -- The machine over the pieces between the header and the end: section by section, in the order of the sections.
-use Rattle.std.proofs.Common.{◌≡◌, ◌≢◌, refl, sym, ap, subst, ◌∙◌, ◌⊎◌, inl, inr, ℕ, Bool, true, false, ◌||◌, cond, ◌==◌, eqb, List, [], ◌∷◌, ◌++◌, Option, Some, None, append-nil}
+use Rattle.std.proofs.Common.{◌≡◌, ◌≢◌, refl, sym, ap, subst, ◌∙◌, ◌⊎◌, inl, inr, ℕ, Bool, true, false, ◌||◌, cond, eqb, List, [], ◌∷◌, ◌++◌, Option, Some, None, append-nil}
 use Rattle.std.specs.Option.{option_map, option_and_then}
 use Rattle.std.specs.Prelude.{IsTrue, nat_le}
-use Rattle.std.specs.List.{list_all, All, flat_map}
+use Rattle.std.specs.List.{All, flat_map}
 use Rattle.std.proofs.lemmas.List.Elements.{All-nil, All-cons}
 use Rattle.std.proofs.lemmas.Bool.{eqb-true, eqb-false, eq-eqb, ne_eqb}
 use Rattle.wasm_spec.specs.Values.{items_at}
@@ -13,17 +13,16 @@ use Rattle.wasm_rules.specs.FeatureFlags.{features_of}
 use Rattle.wasm_rules.specs.Modules.{IsAllowedPiece}
 use Rattle.wasm_spec.specs.Features.{Features}
 use Rattle.wasm_rules.proofs.Ordered.{Follows, done, free, here, body, later, AreRanks, LeavesFree, IsOne, one_at_most, by_ranks}
-use Rattle.wasm_rules.proofs.FramedOrder.{IsInner, AreInner}
+use Rattle.wasm_rules.proofs.FramedOrder.{IsInner}
 use Rattle.wasm_rules.proofs.Tests.{truth, when, unless, guarded, then_some}
 use Rattle.wasm_readers_errors.specs.declared.features.WasmFeatures.{WasmFeatures}
 use Rattle.wasm_validator_types.specs.Spaces.{Spaces}
-use Rattle.wasm_validator.specs.Served.{is_served_section, is_served_piece}
+use Rattle.wasm_validator.specs.Served.{is_served_section}
 use Rattle.wasm_validator_core.specs.declared.limits.TheConstants.{MAX_DATA_SEGMENTS}
 use Rattle.wasm_validator_core.specs.Items.{is_data_count}
 use Rattle.wasm_validator_core.specs.Answers.{Types, HasValidTypes}
-use Rattle.wasm_validator.specs.Machine.{type_items, import_items, function_items, table_items, memory_items, export_items, tag_items, other_items, section_items, start_item, data_count_item, beside}
-use Rattle.wasm_validator_canonical.proofs.Canonical.{and_left, and_right}
-use Rattle.std.proofs.lemmas.Bool.{and_from}
+use Rattle.wasm_validator.specs.Machine.{tag_items, section_items, start_item, data_count_item, beside}
+use Rattle.wasm_validator_canonical.proofs.Canonical.{and_left}
 use Rattle.std.proofs.lemmas.Option.{same_Some}
 use Rattle.wasm_validator.proofs.ValidTypes.{beside_back, section_back}
 
@@ -34,26 +33,30 @@ step features p (Custom name bytes) = Some p
 step features p (Counted id n bytes) = section_items features id n bytes p
 step features p (Start x) = beside (λ us s. start_item us s x) p
 step features p (DataCount n) = beside (λ us s. data_count_item (features_of features) s n) p
-step features p (CodeStart n size) = None
+step features p (CodeStart n size) = Some p
 step features p (CodeEntry bytes) = None
 step features p (Unknown id bytes) = None
 step features p End = None
 
--- pieces that are served, between the header and the end
+-- pieces that are served and may have items
+abbrev pub is_item_piece : Piece → Bool
+is_item_piece (Version number kind) = true
+is_item_piece (Custom name bytes) = true
+is_item_piece (Counted id n bytes) = is_served_section id
+is_item_piece (Start x) = true
+is_item_piece (DataCount n) = true
+is_item_piece (CodeStart n size) = false
+is_item_piece (CodeEntry bytes) = false
+is_item_piece (Unknown id bytes) = false
+is_item_piece End = true
+
+-- such pieces between the header and the end
 abbrev pub IsPart : Piece → Type 0
-IsPart p = (is_served_piece p ≡ true) × IsInner p
+IsPart p = (is_item_piece p ≡ true) × IsInner p
 
 abbrev pub AreParts : List Piece → Type 0
 AreParts [] = Unit {0}
 AreParts (p ∷ ps) = IsPart p × AreParts ps
-
-pub are_parts : (ps : List Piece) → list_all is_served_piece ps ≡ true → AreInner ps → AreParts ps
-are_parts [] e i = tt
-are_parts (p ∷ ps) e i = ((and_left (is_served_piece p) (list_all is_served_piece ps) e, i.0), are_parts ps (and_right (is_served_piece p) (list_all is_served_piece ps) e) i.1)
-
-pub parts_served : (ps : List Piece) → AreParts ps → list_all is_served_piece ps ≡ true
-parts_served [] a = refl
-parts_served (p ∷ ps) a = and_from (is_served_piece p) (list_all is_served_piece ps) a.0.0 (parts_served ps a.1)
 
 -- a part is a custom section, or one of those that are served
 pub data PartForm : Piece → Type 0 where
@@ -110,36 +113,6 @@ form_of (CodeEntry bytes) h = absurd (let e = h.0 in cc)
 form_of (Unknown id bytes) h = absurd (let e = h.0 in cc)
 form_of End h = absurd h.1
 
--- what is accepted is served
-others_accepted : (F : Features) (us : Types) (n : ℕ) (bytes : List ℕ) (s t : Spaces) (a b c d e f : Bool)
-    → cond a (import_items F us n bytes s) (cond b (function_items us n bytes s) (cond c (table_items F us n bytes s) (cond d (memory_items F n bytes s) (cond e (export_items F us n bytes s) (cond f (tag_items F us n bytes s) None))))) ≡ Some t
-    → (a || (b || (c || (d || (e || f))))) ≡ true
-others_accepted F us n bytes s t true b c d e f h = refl
-others_accepted F us n bytes s t false true c d e f h = refl
-others_accepted F us n bytes s t false false true d e f h = refl
-others_accepted F us n bytes s t false false false true e f h = refl
-others_accepted F us n bytes s t false false false false true f h = refl
-others_accepted F us n bytes s t false false false false false true h = refl
-others_accepted F us n bytes s t false false false false false false h = absurd cc
-
-counted_accepted : (features : WasmFeatures) (p q : Types × Spaces) (id n : ℕ) (bytes : List ℕ) (first : Bool)
-    → cond first (type_items features n bytes p) (beside (λ us. other_items (features_of features) us id n bytes) p) ≡ Some q → (first || ((id == 2) || ((id == 3) || ((id == 4) || ((id == 5) || ((id == 7) || (id == 13))))))) ≡ true
-counted_accepted features p q id n bytes true e = refl
-counted_accepted features p q id n bytes false e =
-    let a = then_some (λ (s : Spaces). Some (p.0, s)) (other_items (features_of features) p.0 id n bytes p.1) q e in
-    others_accepted (features_of features) p.0 n bytes p.1 a.0 (eqb id 2) (eqb id 3) (eqb id 4) (eqb id 5) (eqb id 7) (eqb id 13) a.1
-
-step_served : (features : WasmFeatures) (p q : Types × Spaces) (x : Piece) → step features p x ≡ Some q → is_served_piece x ≡ true
-step_served features p q (Version number kind) e = absurd cc
-step_served features p q (Custom name bytes) e = refl
-step_served features p q (Counted id n bytes) e = counted_accepted features p q id n bytes (eqb id 1) e
-step_served features p q (Start x) e = refl
-step_served features p q (DataCount n) e = refl
-step_served features p q (CodeStart n size) e = absurd cc
-step_served features p q (CodeEntry bytes) e = absurd cc
-step_served features p q (Unknown id bytes) e = absurd cc
-step_served features p q End e = absurd cc
-
 -- types that are valid behind a piece were valid before it
 pub step_back : (features : WasmFeatures) (p q : Types × Spaces) (x : Piece) → step features p x ≡ Some q → HasValidTypes features q → HasValidTypes features p
 step_back features p q (Version number kind) e v = absurd cc
@@ -147,16 +120,10 @@ step_back features p q (Custom name bytes) e v = subst (HasValidTypes features) 
 step_back features p q (Counted id n bytes) e v = section_back features id n bytes p q e v
 step_back features p q (Start x) e v = beside_back features (λ us s. start_item us s x) p q e v
 step_back features p q (DataCount n) e v = beside_back features (λ us s. data_count_item (features_of features) s n) p q e v
-step_back features p q (CodeStart n size) e v = absurd cc
+step_back features p q (CodeStart n size) e v = subst (HasValidTypes features) (sym (same_Some p q e)) v
 step_back features p q (CodeEntry bytes) e v = absurd cc
 step_back features p q (Unknown id bytes) e v = absurd cc
 step_back features p q End e v = absurd cc
-
-pub run_served : (features : WasmFeatures) (ps : List Piece) (p q : Types × Spaces) → each (step features) p ps ≡ Some q → list_all is_served_piece ps ≡ true
-run_served features [] p q e = refl
-run_served features (x ∷ ps) p q e =
-    let h = then_some (λ t. each (step features) t ps) (step features p x) q e in
-    and_from (is_served_piece x) (list_all is_served_piece ps) (step_served features p h.0 x h.1) (run_served features ps h.0 q h.2)
 
 -- what is accepted is allowed
 tags_allowed : (F : Features) (us : Types) (n : ℕ) (bytes : List ℕ) (s t : Spaces) → tag_items F us n bytes s ≡ Some t → IsTrue F.exceptions

@@ -9,7 +9,8 @@ use Rattle.wasm_validator_core.specs.declared.error.Error.{Error}
 use Rattle.wasm_validator_core.specs.declared.error.Error.TheVariants.{Refused, DuplicateExport, OutOfMemory}
 use Rattle.wasm_validator_core.specs.Answers.{Types, IsNowhere, Adds, AddsWhere, HasValidTypes}
 use Rattle.wasm_validator.specs.declared.validator.State.{State}
-use Rattle.wasm_validator.specs.declared.validator.State.TheVariants.{Unparsed, Module, End, Failed}
+use Rattle.wasm_validator.specs.declared.validator.State.TheVariants.{Unparsed, Module, Code, End, Failed}
+use Rattle.wasm_validator_core.specs.declared.module_state.ModuleState.{ModuleState}
 use Rattle.wasm_validator.specs.Standing.{in_module, Standing, HoldsValid, within, at_stage, Moves}
 use Rattle.wasm_validator.specs.States.{open_of, stage_of, state_kept}
 use Rattle.wasm_validator.proofs.Items.{none_nowhere}
@@ -26,7 +27,7 @@ module _ (id : ℕ) (features : WasmFeatures) (types : Types) (m : Spaces) where
     nowhere_within : IsNowhere (HasValidTypes features) (f (types, m)) → IsNowhere HoldsValid (at_stage before (within f (in_module types m)))
     nowhere_within h q e v = let a = within_some before q types m f e in h a.0 a.1 (subst HoldsValid (sym a.2) v)
 
-    moves_here : {T A : Type 0} (r : Result T (Error A)) (types' : Types) (m' : Spaces) → AddsWhere (HasValidTypes features) r (f (types, m)) (types', m') → Moves r (at_stage before (within f (in_module types m))) before (after types' (state_kept r m'))
+    moves_here : {T A : Type 0} (r : Result T (Error A)) (types' : Types) (m' : ModuleState A) → AddsWhere (HasValidTypes features) r (f (types, m)) (types', m'.«module») → Moves r (at_stage before (within f (in_module types m))) before (after types' (state_kept r m'))
     moves_here (results.Ok x) types' m' a = ap (λ o. at_stage before (option_and_then (λ (p : Types × Spaces). Some (in_module p.0 p.1)) o)) a
     moves_here (results.Err (Refused r)) types' m' a = (nowhere_within a, refl)
     moves_here (results.Err (DuplicateExport name offset)) types' m' a = (nowhere_within a, refl)
@@ -37,13 +38,14 @@ module _ {T A : Type 0} (id : ℕ) (features : WasmFeatures) (types : Types) (m 
   moves_by r old new = Moves r (at_stage old (within (f old.features) old.stage)) old new
 
   -- the same of the state that a validator has
-  pub section_moves : (s : State A) (r : Result T (Error A)) (types' : Types) (m' : Spaces) (old new : Standing) → open_of s ≡ Some m → record { id = id; features = features; stage = stage_of types s } ≡ old
-      → record { id = id; features = features; stage = stage_of types' (state_kept r m') } ≡ new → AddsWhere (HasValidTypes features) r (f features (types, m)) (types', m') → moves_by r old new
+  pub section_moves : (s : State A) (r : Result T (Error A)) (types' : Types) (m' : ModuleState A) (old new : Standing) → open_of s ≡ Some m → record { id = id; features = features; stage = stage_of types s } ≡ old
+      → record { id = id; features = features; stage = stage_of types' (state_kept r m') } ≡ new → AddsWhere (HasValidTypes features) r (f features (types, m)) (types', m'.«module») → moves_by r old new
   section_moves (Module n) r types' m' old new o was is a =
-      let same : n ≡ m = cc in
+      let same : n.«module» ≡ m = cc in
       let start : Standing = record { id = id; features = features; stage = in_module types m } in
       let here : start ≡ old = (λ i. record { id = id; features = features; stage = in_module types (sym same i) }) ∙ was in
       subst (λ (s : Standing). moves_by r s new) here (subst (λ (t : Standing). moves_by r start t) is (moves_here id features types m (f features) r types' m' a))
+  section_moves (Code n) r types' m' old new o was is a = absurd (cc)
   section_moves Unparsed r types' m' old new o was is a = absurd (cc)
   section_moves End r types' m' old new o was is a = absurd (cc)
   section_moves Failed r types' m' old new o was is a = absurd (cc)

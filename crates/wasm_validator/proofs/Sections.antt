@@ -3,7 +3,7 @@ use Rattle.std.proofs.Common.{◌≡◌, refl, sym, ap, subst, ◌∙◌, ℕ, S
 use Rattle.wasm_readers_errors.specs.declared.features.WasmFeatures.{WasmFeatures}
 use Rattle.wasm_validator_types.specs.Spaces.{Spaces}
 use Rattle.wasm_validator.specs.declared.validator.State.{State}
-use Rattle.wasm_validator.specs.declared.validator.State.TheVariants.{Unparsed, Module, End, Failed}
+use Rattle.wasm_validator.specs.declared.validator.State.TheVariants.{Unparsed, Module, Code, End, Failed}
 use Rattle.wasm_validator_core.specs.Answers.{Types}
 use Rattle.wasm_rules.specs.FeatureFlags.{features_of}
 use Rattle.wasm_validator_canonical.specs.Groups.{AreValid}
@@ -11,22 +11,25 @@ use Rattle.wasm_validator_types.specs.Shown.{types_of}
 use Rattle.wasm_validator.specs.Standing.{shown_at, Standing, ended}
 use Rattle.wasm_validator_type_list.specs.Listing.{Listing}
 use Rattle.wasm_validator_core.specs.Ready.{AreIdsOf}
+use Rattle.wasm_validator_core.specs.declared.module_state.ModuleState.{ModuleState}
 use Rattle.wasm_validator.specs.Ready.{AreIdsIn, AreValidIn}
-use Rattle.wasm_validator.specs.States.{open_of, stage_of, state_kept, closed, after_end}
+use Rattle.wasm_validator.specs.States.{open_of, read_of, stage_of, state_kept, closed, after_end}
 use Rattle.std.specs.declared.result.Result.{Result}
 use Rattle.std.specs.declared.result.Result.TheVariants as results
 use Rattle.wasm_validator_core.specs.declared.error.Error.{Error}
 
 -- the end of a module that is being read
 module _ {A : Type 0} where
-  pub open-closes : (types : Types) (s : State A) (m : Spaces) → open_of s ≡ Some m → closed (stage_of types s) ≡ Some (ended types)
+  pub open-closes : (types : Types) (s : State A) (m : Spaces) → read_of s ≡ Some m → closed (stage_of types s) ≡ Some (ended types)
   open-closes types (Module n) m o = refl
+  open-closes types (Code n) m o = refl
   open-closes types Unparsed m o = absurd (cc)
   open-closes types End m o = absurd (cc)
   open-closes types Failed m o = absurd (cc)
 
-  pub open-shows : (types : Types) (s : State A) (m : Spaces) → open_of s ≡ Some m → shown_at (stage_of types s) ≡ Some (types, m)
-  open-shows types (Module n) m o = let same : n ≡ m = cc in ap (λ x. Some (types, x)) same
+  pub open-shows : (types : Types) (s : State A) (m : Spaces) → read_of s ≡ Some m → shown_at (stage_of types s) ≡ Some (types, m)
+  open-shows types (Module n) m o = let same : n.«module» ≡ m = cc in ap (λ x. Some (types, x)) same
+  open-shows types (Code n) m o = let same : n.«module» ≡ m = cc in ap (λ x. Some (types, x)) same
   open-shows types Unparsed m o = absurd (cc)
   open-shows types End m o = absurd (cc)
   open-shows types Failed m o = absurd (cc)
@@ -36,13 +39,13 @@ module _ {A : Type 0} where
     abbrev here : Standing
     here = record { id = id; features = features; stage = stage_of types s }
 
-    pub ended_from_open : (types' : Types) → here ≡ old → open_of s ≡ Some m → types' ≡ types → after_end old ≡ Some (record { id = id; features = features; stage = ended types' })
+    pub ended_from_open : (types' : Types) → here ≡ old → read_of s ≡ Some m → types' ≡ types → after_end old ≡ Some (record { id = id; features = features; stage = ended types' })
     ended_from_open types' v o e =
         let new : Standing = record { id = id; features = features; stage = ended types' } in
         let P : Standing → Type 0 = λ w. after_end w ≡ Some new in
         subst P v (rw (open-closes types s m o, e) refl)
 
-    pub shown_from_open : (types' : Types) (m' : Spaces) → here ≡ old → open_of s ≡ Some m → types' ≡ types → m' ≡ m → shown_at old.stage ≡ Some (types', m')
+    pub shown_from_open : (types' : Types) (m' : Spaces) → here ≡ old → read_of s ≡ Some m → types' ≡ types → m' ≡ m → shown_at old.stage ≡ Some (types', m')
     shown_from_open types' m' v o e f =
         let P : Standing → Type 0 = λ w. shown_at w.stage ≡ Some (types', m') in
         subst P v (open-shows types s m o ∙ (λ i. Some (sym e i, sym f i)))
@@ -51,28 +54,37 @@ module _ {A : Type 0} where
 module _ {A : Type 0} (features : WasmFeatures) (list : Listing A) where
   pub open-valid : (s : State A) (m : Spaces) → open_of s ≡ Some m → AreValidIn features list s → AreValid (features_of features) (types_of list)
   open-valid (Module n) m o v = v
+  open-valid (Code n) m o v = absurd (cc)
   open-valid Unparsed m o v = absurd (cc)
   open-valid End m o v = absurd (cc)
   open-valid Failed m o v = absurd (cc)
 
+  pub read-valid : (s : State A) (m : Spaces) → read_of s ≡ Some m → AreValidIn features list s → AreValid (features_of features) (types_of list)
+  read-valid (Module n) m o v = v
+  read-valid (Code n) m o v = v
+  read-valid Unparsed m o v = absurd (cc)
+  read-valid End m o v = absurd (cc)
+  read-valid Failed m o v = absurd (cc)
+
   pub unparsed-valid : (s : State A) → s ≡ Unparsed → AreValidIn features list s → AreValid (features_of features) (types_of list)
   unparsed-valid s e v = subst (AreValidIn features list) e v
 
-  pub shown-valid : (id : ℕ) (s : State A) (m : Spaces) (old : Standing) (types : Types) → record { id = id; features = features; stage = stage_of (types_of list) s } ≡ old → open_of s ≡ Some m → AreValidIn features list s → types ≡ types_of list → AreValid (features_of old.features) types
+  pub shown-valid : (id : ℕ) (s : State A) (m : Spaces) (old : Standing) (types : Types) → record { id = id; features = features; stage = stage_of (types_of list) s } ≡ old → read_of s ≡ Some m → AreValidIn features list s → types ≡ types_of list → AreValid (features_of old.features) types
   shown-valid id s m old types e o v same =
-      subst (λ (w : Standing). AreValid (features_of w.features) types) e (subst (AreValid (features_of features)) (sym same) (open-valid s m o v))
+      subst (λ (w : Standing). AreValid (features_of w.features) types) e (subst (AreValid (features_of features)) (sym same) (read-valid s m o v))
 
 -- the ids of a module that is being read
 module _ {A : Type 0} where
   pub open-ids : (list : Listing A) (s : State A) (m : Spaces) → open_of s ≡ Some m → AreIdsIn list s → AreIdsOf list m.types
-  open-ids list (Module n) m o a = let same : n ≡ m = cc in subst (λ (x : Spaces). AreIdsOf list x.types) same a
+  open-ids list (Module n) m o a = let same : n.«module» ≡ m = cc in subst (λ (x : Spaces). AreIdsOf list x.types) same a
+  open-ids list (Code n) m o a = absurd (cc)
   open-ids list Unparsed m o a = absurd (cc)
   open-ids list End m o a = absurd (cc)
   open-ids list Failed m o a = absurd (cc)
 
 -- what is left of it where a section was added that leaves the list
-module _ {T A : Type 0} (list : Listing A) (m : Spaces) where
-  pub kept-ids : (r : Result T (Error A)) → AreIdsOf list m.types → AreIdsIn list (state_kept r m)
+module _ {T A : Type 0} (list : Listing A) (m : ModuleState A) where
+  pub kept-ids : (r : Result T (Error A)) → AreIdsOf list m.«module».types → AreIdsIn list (state_kept r m)
   kept-ids (results.Ok x) a = a
   kept-ids (results.Err e) a = tt
 

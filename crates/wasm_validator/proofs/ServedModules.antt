@@ -26,7 +26,9 @@ use Rattle.wasm_validator_canonical.specs.Groups.{AreValid}
 use Rattle.wasm_validator_core.specs.declared.limits.TheConstants.{MAX_TYPES}
 use Rattle.wasm_validator_core.specs.Answers.{Types}
 use Rattle.wasm_validator.proofs.AddedTypes.{TypesAdded, section, type_space, as_many_types, as_many_zipped}
-use Rattle.wasm_validator.proofs.ModuleRun.{AreParts, are_parts}
+use Rattle.wasm_validator.proofs.ModuleRun.{AreParts}
+use Rattle.wasm_validator.proofs.EmptyPieces.{with_items, served_parts, all_with_items, all_allowed}
+use Rattle.wasm_validator.proofs.EmptyParts.{all_pieces_have, item_pieces_have}
 use Rattle.wasm_validator.proofs.RunOfParts.{Accepted}
 use Rattle.wasm_validator.proofs.ServedLists.{Lists, parts_of}
 use Rattle.wasm_validator.proofs.ServedValid.{lists_valid, valid_lists}
@@ -37,7 +39,7 @@ module _ (expression_at : List ℕ → Option (Expression × List ℕ)) (feature
   F = features_of features
 
   -- a module that is accepted is valid
-  module _ (pieces : List Piece) (f : IsFramed bytes pieces) (header : Version f.number f.kind ≡ Version 1 0) (parts : AreParts f.others) (allowed : All (IsAllowedPiece F) f.others) (a : Accepted expression_at features T f.others) where
+  module _ (pieces : List Piece) (f : IsFramed bytes pieces) (header : Version f.number f.kind ≡ Version 1 0) (parts : AreParts (with_items f.others)) (allowed : All (IsAllowedPiece F) (with_items f.others)) (a : Accepted expression_at features T (with_items f.others)) where
     abbrev pub accepted_parts : Parts
     accepted_parts = parts_of a.lists
 
@@ -49,9 +51,9 @@ module _ (expression_at : List ℕ → Option (Expression × List ℕ)) (feature
       pieces = pieces;
       framed = f;
       first = ap (λ (ps : List Piece). slice_get ps 0) f.all ∙ ap Some header;
-      allowed = subst (All (IsAllowedPiece F)) (sym f.all) (All-cons (IsAllowedPiece F) (Version f.number f.kind) (f.others ++ End ∷ []) tt (allowed_to_end F f.others allowed));
+      allowed = subst (All (IsAllowedPiece F)) (sym f.all) (All-cons (IsAllowedPiece F) (Version f.number f.kind) (f.others ++ End ∷ []) tt (allowed_to_end F f.others (all_allowed F f.others allowed)));
       parts = accepted_parts;
-      has_parts = subst (λ (ps : List Piece). HasParts expression_at ps accepted_parts) (sym f.all) (all_parts expression_at f.number f.kind f.others parts a.lists a.are);
+      has_parts = subst (λ (ps : List Piece). HasParts expression_at ps accepted_parts) (sym f.all) (all_pieces_have expression_at f.number f.kind f.others accepted_parts (all_parts expression_at f.number f.kind (with_items f.others) parts a.lists a.are));
       types = (section features T a.lists.groups a.types).section;
       rules = lists_valid F (type_space features T a.lists.groups a.types) a.lists a.few_groups few_types a.few_imports a.few_exports a.starts a.few_segments a.valid;
     }
@@ -69,9 +71,9 @@ module _ (expression_at : List ℕ → Option (Expression × List ℕ)) (feature
   -- a valid module of the forms that are served is accepted, where there is room for its types
   pub record WouldBeAccepted (pieces : List Piece) (f : IsFramed bytes pieces) : Type 0 where
     pub header : Version f.number f.kind ≡ Version 1 0
-    pub parts : AreParts f.others
-    pub allowed : All (IsAllowedPiece F) f.others
-    pub accepted : Accepted expression_at features T f.others
+    pub parts : AreParts (with_items f.others)
+    pub allowed : All (IsAllowedPiece F) (with_items f.others)
+    pub accepted : Accepted expression_at features T (with_items f.others)
 
   -- its types can be added
   record SectionAdded (gs : List (Rec ℕ)) (types : List DefType) : Type 0 where
@@ -95,12 +97,13 @@ module _ (expression_at : List ℕ → Option (Expression × List ℕ)) (feature
       let here : Some (Version f.number f.kind) ≡ Some (Version 1 0) = sym (ap (λ (ps : List Piece). slice_get ps 0) f.all) ∙ m.first in
       let header : Version f.number f.kind ≡ Version 1 0 = cc in
       let inside = and_right (is_served_piece (Version f.number f.kind)) (list_all is_served_piece (f.others ++ End ∷ [])) (sym (ap (list_all is_served_piece) f.all) ∙ s.pieces_served) in
-      let parts = are_parts f.others (inside_served f.others inside) (others_inner bytes m.pieces f) in
-      let allowed = allowed_before_end F f.others (All-tail (IsAllowedPiece F) (Version f.number f.kind) (f.others ++ End ∷ []) (subst (All (IsAllowedPiece F)) f.all m.allowed)) in
-      let has : HasParts expression_at (whole f.number f.kind f.others) m.parts = subst (λ (ps : List Piece). HasParts expression_at ps m.parts) f.all m.has_parts in
-      let lists : Lists = lists_of expression_at f.number f.kind f.others parts m.parts in
-      let are = parts_are expression_at f.number f.kind f.others parts m.parts s.tables_served has in
-      let same : m.parts ≡ parts_of lists = same_parts expression_at f.number f.kind f.others parts m.parts (parts_of lists) has (all_parts expression_at f.number f.kind f.others parts lists are) in
+      let ps = with_items f.others in
+      let parts = served_parts f.others (inside_served f.others inside) (others_inner bytes m.pieces f) in
+      let allowed = all_with_items (IsAllowedPiece F) f.others (allowed_before_end F f.others (All-tail (IsAllowedPiece F) (Version f.number f.kind) (f.others ++ End ∷ []) (subst (All (IsAllowedPiece F)) f.all m.allowed))) in
+      let has : HasParts expression_at (whole f.number f.kind ps) m.parts = item_pieces_have expression_at f.number f.kind f.others m.parts (subst (λ (ps : List Piece). HasParts expression_at ps m.parts) f.all m.has_parts) in
+      let lists : Lists = lists_of expression_at f.number f.kind ps parts m.parts in
+      let are = parts_are expression_at f.number f.kind ps parts m.parts s.tables_served has in
+      let same : m.parts ≡ parts_of lists = same_parts expression_at f.number f.kind ps parts m.parts (parts_of lists) has (all_parts expression_at f.number f.kind ps parts lists are) in
       let types = section_added before m.parts.groups m.types room m.rules.limits.types in
       let space = (section features T m.parts.groups types.added).section.types in
       let rules : AreValidParts F (index_spaces space (parts_of lists)) (parts_of lists) =

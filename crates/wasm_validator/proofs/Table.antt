@@ -1,17 +1,22 @@
 -- The machine keeps the state table.
-use Rattle.std.proofs.Common.{◌≡◌, refl, sym, ap, ◌∙◌, ℕ, Bool, true, false, ◌&&◌, cond, eqb, [], Option, Some, None}
+use Rattle.std.proofs.Common.{◌≡◌, refl, sym, ap, subst, ◌∙◌, inl, inr, ℕ, zero, suc, Bool, true, false, ◌&&◌, cond, eqb, List, length, Option, Some, None}
 use Rattle.std.specs.Option.{option_and_then}
+use Rattle.std.proofs.lemmas.Bool.{eqb-true, ne_eqb}
+use Rattle.std.proofs.lemmas.Option.{same_Some}
+use Rattle.wasm_rules.proofs.Tests.{truth, when, unless, guarded, then_some}
 use Rattle.wasm_parser.specs.Framing as parts
 use Rattle.wasm_parser.specs.Framing.{Piece, Version, Custom, Counted, Start, DataCount, CodeStart, CodeEntry, Unknown}
 use Rattle.wasm_rules.specs.StateTable as table
-use Rattle.wasm_rules.specs.StateTable.{Phase, Call, section, data_section, accepted_to, refused_to}
+use Rattle.wasm_rules.specs.StateTable.{Phase, Call, section, data_section, code_start, accepted_to, refused_to}
+use Rattle.wasm_validator_core.specs.Bodies.{expected_bodies}
 use Rattle.wasm_rules.specs.FeatureFlags.{features_of}
+use Rattle.wasm_readers_errors.specs.declared.features.WasmFeatures.{WasmFeatures}
 use Rattle.wasm_validator_types.specs.Spaces.{Spaces, no_spaces}
 use Rattle.wasm_validator_core.specs.Answers.{Types, IsNowhere}
-use Rattle.wasm_validator.specs.Standing.{Stage, unparsed, in_module, ended, failed, Standing, AreValidAt, HoldsValid, within, at_stage}
-use Rattle.wasm_validator.specs.States.{left_by, begun, closed}
-use Rattle.wasm_validator.specs.Machine.{section_items, start_item, data_count_item, beside}
-use Rattle.wasm_validator.specs.Table.{phase_of, AcceptedByTable, RefusedByTable}
+use Rattle.wasm_validator.specs.Standing.{Stage, unparsed, in_module, in_code, ended, failed, Standing, AreValidAt, HoldsValid, refused_at, data_refused_at, body_refused_at, ended_at, within, within_all, at_stage}
+use Rattle.wasm_validator.specs.States.{begun, code_started, closed, after_piece}
+use Rattle.wasm_validator.specs.Machine.{no_items, section_items, start_item, data_count_item, beside}
+use Rattle.wasm_validator.specs.Table.{phase_of, bodies_at, call_of, AcceptedByTable, RefusedByTable}
 
 stays : (s t : Standing) (o : Option (Types × Spaces)) → at_stage s (option_and_then (λ (p : Types × Spaces). Some (in_module p.0 p.1)) o) ≡ Some t → phase_of t.stage ≡ table.in_module
 stays s t None e = absurd cc
@@ -26,93 +31,144 @@ begins s t false b types e = absurd cc
 within_stays : (s t : Standing) (g : Stage) (f : Types × Spaces → Option (Types × Spaces)) → at_stage s (within f g) ≡ Some t → (phase_of g ≡ table.in_module) × (phase_of t.stage ≡ table.in_module)
 within_stays s t (unparsed types) f e = absurd cc
 within_stays s t (in_module types spaces) f e = (refl, stays s t (f (types, spaces)) e)
+within_stays s t (in_code types spaces) f e = absurd cc
 within_stays s t (ended types) f e = absurd cc
 within_stays s t failed f e = absurd cc
 
-either_section : (b : Bool) (g h : Phase) → g ≡ table.in_module → h ≡ table.in_module → accepted_to (cond b data_section section) g ≡ Some h
-either_section true g h e f = ap (accepted_to data_section) e ∙ ap Some (sym f)
-either_section false g h e f = ap (accepted_to section) e ∙ ap Some (sym f)
+section_accepted : (s t : Standing) (g : Stage) (f : Types × Spaces → Option (Types × Spaces)) → at_stage s (within f g) ≡ Some t → accepted_to section (phase_of g) ≡ Some (phase_of t.stage)
+section_accepted s t g f e = let h = within_stays s t g f e in ap (accepted_to section) h.0 ∙ ap Some (sym h.1)
 
-either_refused : (b : Bool) (g : Stage) → refused_to (cond b data_section section) (phase_of g) ≡ phase_of (left_by (Counted 1 0 []) g)
-either_refused true (unparsed types) = refl
-either_refused true (in_module types spaces) = refl
-either_refused true (ended types) = refl
-either_refused true failed = refl
-either_refused false (unparsed types) = refl
-either_refused false (in_module types spaces) = refl
-either_refused false (ended types) = refl
-either_refused false failed = refl
+-- a data section has no items, and changes nothing
+no_items_stay : (n : ℕ) (bytes : List ℕ) (p q : Types × Spaces) → beside (λ us. no_items n bytes) p ≡ Some q → p ≡ q
+no_items_stay n bytes p q e =
+    let a = then_some (λ (s : Spaces). Some (p.0, s)) (no_items n bytes p.1) q e in
+    let b = guarded (eqb n 0 && eqb (length bytes) 0) (Some p.1) a.0 a.1 in
+    (λ i. (p.0, same_Some p.1 a.0 b.1 i)) ∙ same_Some (p.0, a.0) q a.2
+
+data_stays : (features : WasmFeatures) (id n : ℕ) (bytes : List ℕ) (p q : Types × Spaces) → id ≡ 11 → section_items features id n bytes p ≡ Some q → p ≡ q
+data_stays features id n bytes p q h e = no_items_stay n bytes p q (subst (λ k. section_items features k n bytes p ≡ Some q) h e)
+
+-- a step that changes nothing, before the start of the code or behind it
+within_all_stays : (s t : Standing) (g : Stage) (f : Types × Spaces → Option (Types × Spaces)) → ((p q : Types × Spaces) → f p ≡ Some q → p ≡ q) → at_stage s (within_all f g) ≡ Some t → accepted_to data_section (phase_of g) ≡ Some (phase_of t.stage)
+within_all_stays s t (unparsed types) f h e = absurd cc
+within_all_stays s t (in_module types spaces) f h e = ap Some (sym (stays s t (f (types, spaces)) e))
+within_all_stays s t (in_code types spaces) f h e =
+    let a = then_some (λ (g : Stage). Some (record s { stage = g })) (within_all f (in_code types spaces)) t e in
+    let b = then_some (λ (p : Types × Spaces). Some (in_code p.0 p.1)) (f (types, spaces)) a.0 a.1 in
+    ap (λ (p : Types × Spaces). Some (phase_of (in_code p.0 p.1))) (h (types, spaces) b.0 b.1)
+    ∙ ap (λ g. Some (phase_of g)) (same_Some (in_code b.0.0 b.0.1) a.0 b.2)
+    ∙ ap (λ (u : Standing). Some (phase_of u.stage)) (same_Some (record s { stage = a.0 }) t a.2)
+within_all_stays s t (ended types) f h e = absurd cc
+within_all_stays s t failed f h e = absurd cc
+
+counted_accepted : (s t : Standing) (id n : ℕ) (bytes : List ℕ) → after_piece s (Counted id n bytes) ≡ Some t → accepted_to (call_of s.stage (Counted id n bytes)) (phase_of s.stage) ≡ Some (phase_of t.stage)
+counted_accepted s t id n bytes e =
+    let f = section_items s.features id n bytes in
+    elim (truth (eqb id 11)) [
+      | inl a ↦ ap (λ c. accepted_to c (phase_of s.stage)) (when (eqb id 11) data_section section a)
+          ∙ within_all_stays s t s.stage f (λ p q. data_stays s.features id n bytes p q (eqb-true id 11 a)) (sym (ap (at_stage s) (when (eqb id 11) (within_all f s.stage) (within f s.stage) a)) ∙ e)
+      | inr a ↦ ap (λ c. accepted_to c (phase_of s.stage)) (unless (eqb id 11) data_section section a)
+          ∙ section_accepted s t s.stage f (sym (ap (at_stage s) (unless (eqb id 11) (within_all f s.stage) (within f s.stage) a)) ∙ e)
+    ]
 
 version_in : (s t : Standing) (number : ℕ) (b : Bool) (g : Stage) → at_stage s (begun number b g) ≡ Some t → (phase_of g ≡ table.unparsed) × (phase_of t.stage ≡ table.in_module)
 version_in s t number b (unparsed types) e = (refl, begins s t (eqb number 1) b types e)
 version_in s t number b (in_module types spaces) e = absurd cc
+version_in s t number b (in_code types spaces) e = absurd cc
 version_in s t number b (ended types) e = absurd cc
 version_in s t number b failed e = absurd cc
 
-end_in : (s t : Standing) (g : Stage) → at_stage s (closed g) ≡ Some t → (phase_of g ≡ table.in_module) × (phase_of t.stage ≡ table.ended)
-end_in s t (unparsed types) e = absurd cc
-end_in s t (in_module types spaces) e = let same : record s { stage = ended types } ≡ t = cc in (refl, ap (λ (u : Standing). phase_of u.stage) (sym same))
-end_in s t (ended types) e = absurd cc
-end_in s t failed e = absurd cc
+code_starts : (s t : Standing) (g : Stage) → at_stage s (code_started g) ≡ Some t → accepted_to (code_start (bodies_at g)) (phase_of g) ≡ Some (phase_of t.stage)
+code_starts s t (unparsed types) e = absurd cc
+code_starts s t (in_module types spaces) e = let same : record s { stage = in_code types spaces } ≡ t = cc in ap (λ (u : Standing). Some (phase_of u.stage)) same
+code_starts s t (in_code types spaces) e = absurd cc
+code_starts s t (ended types) e = absurd cc
+code_starts s t failed e = absurd cc
+
+ends : (s t : Standing) (g : Stage) → at_stage s (closed g) ≡ Some t → accepted_to table.end (phase_of g) ≡ Some (phase_of t.stage)
+ends s t (unparsed types) e = absurd cc
+ends s t (in_module types spaces) e = let same : record s { stage = ended types } ≡ t = cc in ap (λ (u : Standing). Some (phase_of u.stage)) same
+ends s t (in_code types spaces) e = let same : record s { stage = ended types } ≡ t = cc in ap (λ (u : Standing). Some (phase_of u.stage)) same
+ends s t (ended types) e = absurd cc
+ends s t failed e = absurd cc
 
 pub accepted_by_table : AcceptedByTable
 accepted_by_table s t (Version number kind) e = let h = version_in s t number (eqb kind 0) s.stage e in ap (accepted_to table.header) h.0 ∙ ap Some (sym h.1)
 accepted_by_table s t (Custom name bytes) e = let same : s ≡ t = cc in ap (λ (u : Standing). Some (phase_of u.stage)) same
-accepted_by_table s t (Counted id n bytes) e =
-    let h = within_stays s t s.stage (section_items s.features id n bytes) e in
-    either_section (eqb id 11) (phase_of s.stage) (phase_of t.stage) h.0 h.1
-accepted_by_table s t (Start x) e =
-    let h = within_stays s t s.stage (beside (λ us u. start_item us u x)) e in
-    either_section false (phase_of s.stage) (phase_of t.stage) h.0 h.1
-accepted_by_table s t (DataCount n) e =
-    let h = within_stays s t s.stage (beside (λ us u. data_count_item (features_of s.features) u n)) e in
-    either_section false (phase_of s.stage) (phase_of t.stage) h.0 h.1
-accepted_by_table s t (CodeStart n size) e = absurd cc
+accepted_by_table s t (Counted id n bytes) e = counted_accepted s t id n bytes e
+accepted_by_table s t (Start x) e = section_accepted s t s.stage (beside (λ us u. start_item us u x)) e
+accepted_by_table s t (DataCount n) e = section_accepted s t s.stage (beside (λ us u. data_count_item (features_of s.features) u n)) e
+accepted_by_table s t (CodeStart n size) e = code_starts s t s.stage e
 accepted_by_table s t (CodeEntry bytes) e = absurd cc
 accepted_by_table s t (Unknown id bytes) e = absurd cc
-accepted_by_table s t parts.End e = let h = end_in s t s.stage e in ap (accepted_to table.end) h.0 ∙ ap Some (sym h.1)
+accepted_by_table s t parts.End e = ends s t s.stage e
 
-refused_section : (g : Stage) → refused_to section (phase_of g) ≡ phase_of (left_by (Start 0) g)
-refused_section g = either_refused false g
+refused_section : (g : Stage) → refused_to section (phase_of g) ≡ phase_of (refused_at g)
+refused_section (unparsed types) = refl
+refused_section (in_module types spaces) = refl
+refused_section (in_code types spaces) = refl
+refused_section (ended types) = refl
+refused_section failed = refl
 
-refused_code : (n : ℕ) (g : Stage) → refused_to (table.code_start n) (phase_of g) ≡ phase_of (left_by (CodeStart n 0) g)
+refused_data : (g : Stage) → refused_to data_section (phase_of g) ≡ phase_of (data_refused_at g)
+refused_data (unparsed types) = refl
+refused_data (in_module types spaces) = refl
+refused_data (in_code types spaces) = refl
+refused_data (ended types) = refl
+refused_data failed = refl
+
+refused_counted : (b : Bool) (g : Stage) → refused_to (cond b data_section section) (phase_of g) ≡ phase_of (cond b (data_refused_at g) (refused_at g))
+refused_counted true g = refused_data g
+refused_counted false g = refused_section g
+
+refused_code : (n : ℕ) (g : Stage) → refused_to (code_start n) (phase_of g) ≡ phase_of (refused_at g)
 refused_code n (unparsed types) = refl
 refused_code n (in_module types spaces) = refl
+refused_code n (in_code types spaces) = refl
 refused_code n (ended types) = refl
 refused_code n failed = refl
 
 refused_header : (g : Stage) → refused_to table.header (phase_of g) ≡ phase_of g
 refused_header (unparsed types) = refl
 refused_header (in_module types spaces) = refl
+refused_header (in_code types spaces) = refl
 refused_header (ended types) = refl
 refused_header failed = refl
 
-refused_entry : (g : Stage) → refused_to table.code_entry (phase_of g) ≡ phase_of g
-refused_entry (unparsed types) = refl
-refused_entry (in_module types spaces) = refl
-refused_entry (ended types) = refl
-refused_entry failed = refl
+-- a body, where so many are to come
+body_turn : (types : Types) (spaces : Spaces) (n : ℕ) → expected_bodies spaces ≡ n → refused_to table.code_entry (table.in_code n) ≡ phase_of (cond (eqb n 0) (in_code types spaces) failed)
+body_turn types spaces zero e = ap table.in_code (sym e)
+body_turn types spaces (suc n) e = ap phase_of (sym (unless (eqb (suc n) 0) (in_code types spaces) failed (ne_eqb (suc n) 0 (λ h. cc))))
+
+refused_body : (g : Stage) → refused_to table.code_entry (phase_of g) ≡ phase_of (body_refused_at g)
+refused_body (unparsed types) = refl
+refused_body (in_module types spaces) = refl
+refused_body (in_code types spaces) = body_turn types spaces (expected_bodies spaces) refl
+refused_body (ended types) = refl
+refused_body failed = refl
 
 refused_unknown : (g : Stage) → refused_to table.unknown (phase_of g) ≡ phase_of g
 refused_unknown (unparsed types) = refl
 refused_unknown (in_module types spaces) = refl
+refused_unknown (in_code types spaces) = refl
 refused_unknown (ended types) = refl
 refused_unknown failed = refl
 
-refused_end : (s : Standing) (g : Stage) → AreValidAt s.features g → IsNowhere HoldsValid (at_stage s (closed g)) → refused_to table.end (phase_of g) ≡ phase_of (left_by parts.End g)
+refused_end : (s : Standing) (g : Stage) → AreValidAt s.features g → IsNowhere HoldsValid (at_stage s (closed g)) → refused_to table.end (phase_of g) ≡ phase_of (ended_at g)
 refused_end s (unparsed types) v e = refl
 refused_end s (in_module types spaces) v e = absurd (e (record s { stage = ended types }) refl v)
+refused_end s (in_code types spaces) v e = absurd (e (record s { stage = ended types }) refl v)
 refused_end s (ended types) v e = refl
 refused_end s failed v e = refl
 
 pub refused_by_table : RefusedByTable
 refused_by_table s (Version number kind) v e = refused_header s.stage
 refused_by_table s (Custom name bytes) v e = absurd (e s refl v)
-refused_by_table s (Counted id n bytes) v e = either_refused (eqb id 11) s.stage
+refused_by_table s (Counted id n bytes) v e = refused_counted (eqb id 11) s.stage
 refused_by_table s (Start x) v e = refused_section s.stage
 refused_by_table s (DataCount n) v e = refused_section s.stage
-refused_by_table s (CodeStart n size) v e = refused_code n s.stage
-refused_by_table s (CodeEntry bytes) v e = refused_entry s.stage
+refused_by_table s (CodeStart n size) v e = refused_code (bodies_at s.stage) s.stage
+refused_by_table s (CodeEntry bytes) v e = refused_body s.stage
 refused_by_table s (Unknown id bytes) v e = refused_unknown s.stage
 refused_by_table s parts.End v e = refused_end s s.stage v e
 

@@ -21,8 +21,8 @@ use Rattle.wasm_validator_core.specs.declared.limits.TheConstants.{MAX_TYPES}
 use Rattle.wasm_validator_core.specs.Answers.{Types, HasValidTypes}
 use Rattle.wasm_validator_core.specs.Machine.{with_ids, add_group}
 use Rattle.wasm_validator.specs.Machine.{read_each, type_items, other_items, section_items, start_item, data_count_item, beside}
-use Rattle.wasm_validator.specs.Standing.{Stage, unparsed, in_module, ended, failed, Standing, AreValidAt, HoldsValid, within, at_stage}
-use Rattle.wasm_validator.specs.States.{begun, closed, after_piece}
+use Rattle.wasm_validator.specs.Standing.{Stage, unparsed, in_module, in_code, ended, failed, Standing, AreValidAt, HoldsValid, within, within_all, at_stage}
+use Rattle.wasm_validator.specs.States.{begun, code_started, closed, after_piece}
 use Rattle.wasm_validator.specs.Payloads.{after_all}
 use Rattle.wasm_validator.proofs.Items.{read_back}
 
@@ -73,8 +73,33 @@ within_back : (s t : Standing) (g : Stage) (f : Types × Spaces → Option (Type
     → at_stage s (within f g) ≡ Some t → HoldsValid t → AreValidAt s.features g
 within_back s t (unparsed types) f back e v = absurd (none-some t e)
 within_back s t (in_module types spaces) f back e v = let a = within_some s t types spaces f e in back (types, spaces) a.0 a.1 (subst HoldsValid (sym a.2) v)
+within_back s t (in_code types spaces) f back e v = absurd (none-some t e)
 within_back s t (ended types) f back e v = absurd (none-some t e)
 within_back s t failed f back e v = absurd (none-some t e)
+
+within_all_back : (s t : Standing) (g : Stage) (f : Types × Spaces → Option (Types × Spaces)) → ((p q : Types × Spaces) → f p ≡ Some q → HasValidTypes s.features q → HasValidTypes s.features p)
+    → at_stage s (within_all f g) ≡ Some t → HoldsValid t → AreValidAt s.features g
+within_all_back s t (unparsed types) f back e v = absurd (none-some t e)
+within_all_back s t (in_module types spaces) f back e v = within_back s t (in_module types spaces) f back e v
+within_all_back s t (in_code types spaces) f back e v =
+    let a = then_some (λ (h : Stage). Some (record s { stage = h })) (within_all f (in_code types spaces)) t e in
+    let b = then_some (λ (p : Types × Spaces). Some (in_code p.0 p.1)) (f (types, spaces)) a.0 a.1 in
+    let there : record s { stage = in_code b.0.0 b.0.1 } ≡ t = ap (λ (h : Stage). record s { stage = h }) (same_Some (in_code b.0.0 b.0.1) a.0 b.2) ∙ same_Some (record s { stage = a.0 }) t a.2 in
+    back (types, spaces) b.0 b.1 (subst HoldsValid (sym there) v)
+within_all_back s t (ended types) f back e v = absurd (none-some t e)
+within_all_back s t failed f back e v = absurd (none-some t e)
+
+section_step_back : (b : Bool) (s t : Standing) (g : Stage) (f : Types × Spaces → Option (Types × Spaces)) → ((p q : Types × Spaces) → f p ≡ Some q → HasValidTypes s.features q → HasValidTypes s.features p)
+    → at_stage s (cond b (within_all f g) (within f g)) ≡ Some t → HoldsValid t → AreValidAt s.features g
+section_step_back true s t g f back e v = within_all_back s t g f back e v
+section_step_back false s t g f back e v = within_back s t g f back e v
+
+code_back : (s t : Standing) (g : Stage) → at_stage s (code_started g) ≡ Some t → HoldsValid t → AreValidAt s.features g
+code_back s t (unparsed types) e v = absurd (none-some t e)
+code_back s t (in_module types spaces) e v = subst HoldsValid (sym (same_Some (record s { stage = in_code types spaces }) t e)) v
+code_back s t (in_code types spaces) e v = absurd (none-some t e)
+code_back s t (ended types) e v = absurd (none-some t e)
+code_back s t failed e v = absurd (none-some t e)
 
 version_back : (s t : Standing) (number : ℕ) (b : Bool) (g : Stage) → at_stage s (begun number b g) ≡ Some t → HoldsValid t → AreValidAt s.features g
 version_back s t number b (unparsed types) e v =
@@ -83,22 +108,24 @@ version_back s t number b (unparsed types) e v =
     let there : record s { stage = in_module types no_spaces } ≡ t = ap (λ (h : Stage). record s { stage = h }) (same_Some (in_module types no_spaces) a.0 c.1) ∙ same_Some (record s { stage = a.0 }) t a.2 in
     subst HoldsValid (sym there) v
 version_back s t number b (in_module types spaces) e v = absurd (none-some t e)
+version_back s t number b (in_code types spaces) e v = absurd (none-some t e)
 version_back s t number b (ended types) e v = absurd (none-some t e)
 version_back s t number b failed e v = absurd (none-some t e)
 
 end_back : (s t : Standing) (g : Stage) → at_stage s (closed g) ≡ Some t → HoldsValid t → AreValidAt s.features g
 end_back s t (unparsed types) e v = absurd (none-some t e)
 end_back s t (in_module types spaces) e v = subst HoldsValid (sym (same_Some (record s { stage = ended types }) t e)) v
+end_back s t (in_code types spaces) e v = subst HoldsValid (sym (same_Some (record s { stage = ended types }) t e)) v
 end_back s t (ended types) e v = absurd (none-some t e)
 end_back s t failed e v = absurd (none-some t e)
 
 pub piece_back : (s t : Standing) (p : Piece) → after_piece s p ≡ Some t → HoldsValid t → HoldsValid s
 piece_back s t (Version number kind) e v = version_back s t number (eqb kind 0) s.stage e v
 piece_back s t (Custom name bytes) e v = subst HoldsValid (sym (same_Some s t e)) v
-piece_back s t (Counted id n bytes) e v = within_back s t s.stage (section_items s.features id n bytes) (section_back s.features id n bytes) e v
+piece_back s t (Counted id n bytes) e v = section_step_back (eqb id 11) s t s.stage (section_items s.features id n bytes) (section_back s.features id n bytes) e v
 piece_back s t (Start x) e v = within_back s t s.stage (beside (λ us u. start_item us u x)) (beside_back s.features (λ us u. start_item us u x)) e v
 piece_back s t (DataCount n) e v = within_back s t s.stage (beside (λ us u. data_count_item (features_of s.features) u n)) (beside_back s.features (λ us u. data_count_item (features_of s.features) u n)) e v
-piece_back s t (CodeStart n size) e v = absurd (none-some t e)
+piece_back s t (CodeStart n size) e v = code_back s t s.stage e v
 piece_back s t (CodeEntry bytes) e v = absurd (none-some t e)
 piece_back s t (Unknown id bytes) e v = absurd (none-some t e)
 piece_back s t parts.End e v = end_back s t s.stage e v

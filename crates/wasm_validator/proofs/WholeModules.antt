@@ -1,6 +1,7 @@
 -- A run over whole bytes decides whether they are a valid module of the forms that are served.
 use Rattle.std.proofs.Common.{◌≡◌, refl, sym, ap, subst, ◌∙◌, ℕ, Bool, true, false, cond, ◌==◌, ◌&&◌, eqb, List, [], ◌∷◌, ◌++◌, Option, Some, None, arith}
-use Rattle.std.specs.Option.{option_map, option_and_then}
+use Rattle.std.specs.Option.{option_and_then}
+use Rattle.std.specs.List.{list_all}
 use Rattle.std.proofs.lemmas.Bool.{eqb-true}
 use Rattle.std.specs.declared.result.Result.{Result}
 use Rattle.std.specs.declared.result.Result.TheVariants as results
@@ -15,7 +16,7 @@ use Rattle.wasm_rules.specs.IndexSpaces.{IndexSpaces, index_spaces}
 use Rattle.wasm_rules.specs.Sections.{each, ranks}
 use Rattle.wasm_rules.proofs.FramedOrder.{IsInner, AreInner, others_inner, others_follow}
 use Rattle.wasm_rules.proofs.Ordered.{Follows}
-use Rattle.wasm_rules.proofs.Tests.{then_some, map_some}
+use Rattle.wasm_rules.proofs.Tests.{then_some}
 use Rattle.wasm_readers_errors.specs.declared.features.WasmFeatures.{WasmFeatures}
 use Rattle.wasm_validator_types.specs.Spaces.{Spaces, no_spaces}
 use Rattle.wasm_validator_type_list.specs.Standing.{standing}
@@ -25,49 +26,20 @@ use Rattle.wasm_validator_core.specs.declared.error.Error.{Error}
 use Rattle.wasm_validator_core.specs.declared.error.Error.TheVariants.{Refused, DuplicateExport, OutOfMemory}
 use Rattle.wasm_validator_canonical.specs.Groups.{AreValid}
 use Rattle.wasm_validator_core.specs.Answers.{Types, HasValidTypes}
-use Rattle.wasm_validator.specs.Standing.{Stage, Standing, unparsed, in_module, ended, failed, fresh, shown_at, AreValidAt, HoldsValid}
+use Rattle.wasm_validator.specs.Served.{is_served_piece}
+use Rattle.wasm_validator.specs.Standing.{Stage, Standing, unparsed, in_module, in_code, ended, failed, fresh, shown_at, AreValidAt, HoldsValid}
 use Rattle.wasm_validator.specs.States.{after_piece, after_version, IsBeforeEnd}
-use Rattle.wasm_validator.specs.Machine.{section_items, start_item, data_count_item, beside}
 use Rattle.wasm_validator.specs.Payloads.{Show, after_all, Accepts, Rejects, Validates}
 use Rattle.wasm_validator.specs.Shows.{ShowModule}
 use Rattle.wasm_validator.specs.Verdict.{Expressions, IsServedModule, AcceptsModule, RefusesModule, DecidesModule, DecidesAlone}
 use Rattle.wasm_validator.proofs.AddedTypes.{section, type_space, list_after}
-use Rattle.wasm_validator.proofs.ModuleRun.{step, AreParts, are_parts, run_served, run_allowed, no_zero, restrict, served_ranks}
+use Rattle.wasm_validator.proofs.ModuleRun.{step, AreParts, run_allowed, no_zero, restrict, served_ranks}
+use Rattle.wasm_validator.proofs.EmptyPieces.{with_items, run_with_items, served_parts, follow_with_items}
+use Rattle.wasm_validator.proofs.CodeOrder.{ranks_in_order}
+use Rattle.wasm_validator.proofs.PieceRuns.{at, shown_in, ends_in, went, goes}
 use Rattle.wasm_validator.proofs.ServedLists.{parts_of}
 use Rattle.wasm_validator.proofs.RunOfParts.{Accepted, end_of, ran, runs}
 use Rattle.wasm_validator.proofs.ServedModules.{accepted_valid, valid_accepted}
-
--- a validator in a module
-abbrev at : ℕ → WasmFeatures → Types × Spaces → Standing
-at id features p = record { id = id; features = features; stage = in_module p.0 p.1 }
-
-module _ (id : ℕ) (features : WasmFeatures) where
-  lifted : (g : Standing) (o : Option (Types × Spaces)) → option_and_then (λ (h : Stage). Some (record g { stage = h })) (option_and_then (λ (q : Types × Spaces). Some (in_module q.0 q.1)) o)
-      ≡ option_map (λ (q : Types × Spaces). record g { stage = in_module q.0 q.1 }) o
-  lifted g None = refl
-  lifted g (Some q) = refl
-
-  one_step : (p : Types × Spaces) (x : Piece) → IsInner x → after_piece (at id features p) x ≡ option_map (at id features) (step features p x)
-  one_step p (Version number kind) i = absurd i
-  one_step p (Custom name bytes) i = refl
-  one_step p (Counted k n bytes) i = lifted (at id features p) (section_items features k n bytes p)
-  one_step p (Start x) i = lifted (at id features p) (beside (λ us s. start_item us s x) p)
-  one_step p (DataCount n) i = lifted (at id features p) (beside (λ us s. data_count_item (features_of features) s n) p)
-  one_step p (CodeStart n size) i = refl
-  one_step p (CodeEntry bytes) i = refl
-  one_step p (Unknown k bytes) i = refl
-  one_step p parts.End i = absurd i
-
-  under_map : (o : Option (Types × Spaces)) (f : Standing → Option Standing) (g : Types × Spaces → Option (Types × Spaces)) → ((q : Types × Spaces) → f (at id features q) ≡ option_map (at id features) (g q))
-      → option_and_then f (option_map (at id features) o) ≡ option_map (at id features) (option_and_then g o)
-  under_map None f g h = refl
-  under_map (Some q) f g h = h q
-
-  inside_run : (ps : List Piece) (p : Types × Spaces) → AreInner ps → after_all (at id features p) ps ≡ option_map (at id features) (each (step features) p ps)
-  inside_run [] p i = refl
-  inside_run (x ∷ ps) p i =
-      ap (option_and_then (λ t. after_all t ps)) (one_step p x i.0)
-      ∙ under_map (step features p x) (λ t. after_all t ps) (λ q. each (step features) q ps) (λ q. inside_run ps q i.1)
 
 -- pieces and then others
 nested_all : (o : Option Standing) (ps qs : List Piece) → ((s : Standing) → after_all s (ps ++ qs) ≡ option_and_then (λ t. after_all t qs) (after_all s ps))
@@ -98,7 +70,7 @@ record Begins (old : Standing) (number kind : ℕ) (s : Standing) : Type 0 where
   before : Types
   was : old.stage ≡ unparsed before
   header : Version number kind ≡ Version 1 0
-  now : s ≡ at old.id old.features (before, no_spaces)
+  now : s ≡ at old.id old.features false (before, no_spaces)
 
 begun_is : (a b : Bool) (old : Standing) (g : Stage) (s : Standing) → option_and_then (λ (h : Stage). Some (record old { stage = h })) (cond (a && b) (Some g) None) ≡ Some s → (a ≡ true) × (b ≡ true) × (record old { stage = g } ≡ s)
 begun_is true true old g s e = (refl, refl, cc)
@@ -115,6 +87,7 @@ begin_case old number kind s (unparsed before) w e =
       now = sym b.2;
     }
 begin_case old number kind s (in_module types spaces) w e = absurd cc
+begin_case old number kind s (in_code types spaces) w e = absurd cc
 begin_case old number kind s (ended types) w e = absurd cc
 begin_case old number kind s failed w e = absurd cc
 
@@ -133,8 +106,8 @@ front_is header xs (y ∷ front) behind i e b =
     λ j. sym same j ∷ unique_end xs front behind i rest j
 
 -- parts in the order of the ranks of the sections that are served
-parts_follow : (bytes : List ℕ) (pieces : List Piece) (f : IsFramed bytes pieces) → AreParts f.others → Follows served_ranks f.others
-parts_follow bytes pieces f a = restrict ranks f.others no_rank_is_zero a (others_follow bytes pieces f)
+parts_follow : (bytes : List ℕ) (pieces : List Piece) (f : IsFramed bytes pieces) → AreParts (with_items f.others) → Follows served_ranks (with_items f.others)
+parts_follow bytes pieces f a = restrict ranks (with_items f.others) no_rank_is_zero a (follow_with_items ranks f.others (others_follow bytes pieces f))
 
 the_same : {X : Type 0} (x y : X) → Some x ≡ Some y → x ≡ y
 the_same x y e = cc
@@ -145,7 +118,8 @@ record RunsInside {A : Type 0} (bytes : List ℕ) (old new : Standing) (t : show
   was : old.stage ≡ unparsed before
   header : Version f.number f.kind ≡ Version 1 0
   q : Types × Spaces
-  inside : each (step old.features) (before, no_spaces) f.others ≡ Some q
+  inside : each (step old.features) (before, no_spaces) (with_items f.others) ≡ Some q
+  served : list_all is_served_piece f.others ≡ true
   valid : HasValidTypes old.features q
   after : new ≡ record old { stage = ended q.0 }
   list : q.0 ≡ types_of (shown_of t).list
@@ -169,23 +143,18 @@ runs_inside bytes old new t a =
     let b = begins old f.number f.kind first.0 first.1 in
     let start : Types × Spaces = (b.before, no_spaces) in
     let inner = others_inner bytes a.pieces f in
-    let rest : option_and_then (λ s. after_all s (parts.End ∷ [])) (option_map (at old.id old.features) (each (step old.features) start f.others)) ≡ Some new =
-    sym (all_split f.others (parts.End ∷ []) (at old.id old.features start) ∙ ap (option_and_then (λ s. after_all s (parts.End ∷ []))) (inside_run old.id old.features f.others start inner))
-    ∙ sym (ap (λ s. after_all s (f.others ++ parts.End ∷ [])) b.now)
-    ∙ first.2 in
-    let last = then_some (λ s. after_all s (parts.End ∷ [])) (option_map (at old.id old.features) (each (step old.features) start f.others)) new rest in
-    let m = map_some (at old.id old.features) (each (step old.features) start f.others) last.0 last.1 in
-    let q = m.0 in
-    let closing : after_all (at old.id old.features q) (parts.End ∷ []) ≡ Some new = ap (λ s. after_all s (parts.End ∷ [])) m.2 ∙ last.2 in
+    let rest : option_and_then (λ s. after_all s (parts.End ∷ [])) (after_all (at old.id old.features false start) f.others) ≡ Some new =
+    sym (all_split f.others (parts.End ∷ []) (at old.id old.features false start)) ∙ sym (ap (λ s. after_all s (f.others ++ parts.End ∷ [])) b.now) ∙ first.2 in
+    let last = then_some (λ s. after_all s (parts.End ∷ [])) (after_all (at old.id old.features false start) f.others) new rest in
+    let m = went old.id old.features f.others false start last.0 inner last.1 in
+    let q = m.q in
+    let closing : Some (record old { stage = ended q.0 }) ≡ Some new = sym (ends_in old.id old.features m.code q) ∙ ap (λ s. after_all s (parts.End ∷ [])) m.there ∙ last.2 in
     let stood : record old { stage = ended q.0 } ≡ new = the_same (record old { stage = ended q.0 }) new closing in
     let split : header ∷ f.others ≡ a.front = sym (front_is header f.others a.front a.behind inner (sym f.all ∙ a.split) tt) in
-    let reached : after_all old (header ∷ f.others) ≡ Some (at old.id old.features q) =
-    ap (option_and_then (λ s. after_all s f.others)) first.1
-    ∙ ap (λ s. after_all s f.others) b.now
-    ∙ inside_run old.id old.features f.others start inner
-    ∙ ap (option_map (at old.id old.features)) m.1 in
-    let at_end : at old.id old.features q ≡ a.before_end = the_same (at old.id old.features q) a.before_end (sym reached ∙ ap (after_all old) split ∙ a.reached) in
-    let seen : shown_at (in_module q.0 q.1) ≡ Some (types_of (shown_of t).list, (shown_of t).spaces) = ap (λ (s : Standing). shown_at s.stage) at_end ∙ a.shown.held in
+    let reached : after_all old (header ∷ f.others) ≡ Some (at old.id old.features m.code q) =
+    ap (option_and_then (λ s. after_all s f.others)) first.1 ∙ ap (λ s. after_all s f.others) b.now ∙ last.1 ∙ ap Some (sym m.there) in
+    let at_end : at old.id old.features m.code q ≡ a.before_end = the_same (at old.id old.features m.code q) a.before_end (sym reached ∙ ap (after_all old) split ∙ a.reached) in
+    let seen : Some q ≡ Some (types_of (shown_of t).list, (shown_of t).spaces) = sym (shown_in m.code q) ∙ ap (λ (s : Standing). shown_at s.stage) at_end ∙ a.shown.held in
     let shown_pair : Types × Spaces = (types_of (shown_of t).list, (shown_of t).spaces) in
     let pair : q ≡ shown_pair = the_same q shown_pair seen in
     record {
@@ -193,7 +162,8 @@ runs_inside bytes old new t a =
       was = b.was;
       header = b.header;
       q = q;
-      inside = m.1;
+      inside = sym (run_with_items old.features f.others start) ∙ m.ran;
+      served = m.served;
       valid = subst (AreValid (features_of old.features)) (sym (λ i. (pair i).0)) (subst (λ (s : Standing). AreValid (features_of s.features) (types_of (shown_of t).list)) (sym at_end) a.shown.valid);
       after = sym stood;
       list = λ i. (pair i).0;
@@ -235,19 +205,20 @@ pub accepts_valid : {A : Type 0} (bytes : List ℕ) (old new : Standing) (t : sh
 accepts_valid bytes old new t a expression_at =
     let f = a.framed in
     let r = runs_inside bytes old new t a in
-    let parts = are_parts f.others (run_served old.features f.others (r.before, no_spaces) r.q r.inside) (others_inner bytes a.pieces f) in
-    let allowed = run_allowed old.features f.others (r.before, no_spaces) r.q parts r.inside in
-    let run = ran expression_at old.features r.before f.others parts (parts_follow bytes a.pieces f parts) allowed r.q r.valid r.inside in
+    let ps = with_items f.others in
+    let parts = served_parts f.others r.served (others_inner bytes a.pieces f) in
+    let allowed = run_allowed old.features ps (r.before, no_spaces) r.q parts r.inside in
+    let run = ran expression_at old.features r.before ps parts (parts_follow bytes a.pieces f parts) allowed r.q r.valid r.inside in
     let acc = run.accepted in
     let F = features_of old.features in
-    let C = end_spaces expression_at old.features r.before f.others acc in
-    let its = end_parts expression_at old.features r.before f.others acc in
-    let there : end_of expression_at old.features r.before f.others acc ≡ (types_of (shown_of t).list, (shown_of t).spaces) = run.ends ∙ (λ i. (r.list i, r.spaces i)) in
-    let once : canonical F ≡ true → HasNoRepetition (end_of expression_at old.features r.before f.others acc).0 = λ e. subst HasNoRepetition (sym (λ i. (there i).0)) (r.once e) in
+    let C = end_spaces expression_at old.features r.before ps acc in
+    let its = end_parts expression_at old.features r.before ps acc in
+    let there : end_of expression_at old.features r.before ps acc ≡ (types_of (shown_of t).list, (shown_of t).spaces) = run.ends ∙ (λ i. (r.list i, r.spaces i)) in
+    let once : canonical F ≡ true → HasNoRepetition (end_of expression_at old.features r.before ps acc).0 = λ e. subst HasNoRepetition (sym (λ i. (there i).0)) (r.once e) in
     let held = section old.features r.before acc.lists.groups acc.types in
     record {
       module_valid = accepted_valid expression_at old.features r.before bytes a.pieces f r.header parts allowed acc;
-      shows = subst (λ (x : Types × Spaces). ShowModule F x.0 x.1 C its) there (ends_shown expression_at old.features r.before f.others acc once);
+      shows = subst (λ (x : Types × Spaces). ShowModule F x.0 x.1 C its) there (ends_shown expression_at old.features r.before ps acc once);
       same_id = r.same_id;
       before = r.before;
       began = r.was;
@@ -257,7 +228,7 @@ accepts_valid bytes old new t a expression_at =
     }
 
 -- what has no accepted run is no valid module of the forms that are served
-begins_at : (old : Standing) (T : Types) (number kind : ℕ) → old.stage ≡ unparsed T → Version number kind ≡ Version 1 0 → after_piece old (Version number kind) ≡ Some (at old.id old.features (T, no_spaces))
+begins_at : (old : Standing) (T : Types) (number kind : ℕ) → old.stage ≡ unparsed T → Version number kind ≡ Version 1 0 → after_piece old (Version number kind) ≡ Some (at old.id old.features false (T, no_spaces))
 begins_at old T number kind w e = ap (after_piece old) e ∙ ap (λ (g : Stage). after_version (record old { stage = g }) 1 true) w
 
 pub rejects_refuses : (bytes : List ℕ) (old : Standing) → HoldsValid old → Rejects bytes old → RefusesModule bytes old
@@ -266,14 +237,17 @@ rejects_refuses bytes old valid rejects expression_at T w m room =
     let f = v.framed in
     let a = valid_accepted expression_at old.features T bytes (subst (AreValidAt old.features) w valid) v m.served room in
     let start : Types × Spaces = (T, no_spaces) in
-    let q = end_of expression_at old.features T f.others a.accepted in
-    let inside = runs expression_at old.features T f.others a.parts (parts_follow bytes v.pieces f a.parts) a.allowed a.accepted in
+    let ps = with_items f.others in
+    let q = end_of expression_at old.features T ps a.accepted in
+    let inside = run_with_items old.features f.others start ∙ runs expression_at old.features T ps a.parts (parts_follow bytes v.pieces f a.parts) a.allowed a.accepted in
     let inner = others_inner bytes v.pieces f in
+    let through = goes old.id old.features f.others start q inner (ranks_in_order f.others (others_follow bytes v.pieces f)) inside in
     let ended_there : after_all old v.pieces ≡ Some (record old { stage = ended q.0 }) =
     ap (after_all old) f.all
     ∙ ap (option_and_then (λ s. after_all s (f.others ++ parts.End ∷ []))) (begins_at old T f.number f.kind w a.header)
-    ∙ all_split f.others (parts.End ∷ []) (at old.id old.features start)
-    ∙ ap (option_and_then (λ s. after_all s (parts.End ∷ []))) (inside_run old.id old.features f.others start inner ∙ ap (option_map (at old.id old.features)) inside) in
+    ∙ all_split f.others (parts.End ∷ []) (at old.id old.features false start)
+    ∙ ap (option_and_then (λ s. after_all s (parts.End ∷ []))) through.1
+    ∙ ends_in old.id old.features through.0 q in
     rejects v.pieces f (record old { stage = ended q.0 }) ended_there a.accepted.types.valid
 
 -- no module has more types than a list may hold

@@ -1,5 +1,5 @@
 -- What one section changes: the machine that the validator is, over that of a module's state.
-use Rattle.std.specs.Prelude.{ℕ, zero, suc, ◌+◌, ◌==◌, nat_le, if◌then◌else◌, List, length, Option, Some, None}
+use Rattle.std.specs.Prelude.{ℕ, zero, suc, ◌+◌, ◌==◌, ◌&&◌, nat_le, if◌then◌else◌, List, length, Option, Some, None}
 use Rattle.std.specs.Option.{option_and_then}
 use Rattle.wasm_spec.specs.Values.{u32_at}
 use Rattle.wasm_spec.specs.BinaryModules.{import_at, export_at}
@@ -51,6 +51,10 @@ export_items F us count bytes s = read_section export_at (add_export F us) (leng
 abbrev pub tag_items : Features → Types → ℕ → List ℕ → Spaces → Option Spaces
 tag_items F us count bytes s = if F.exceptions then read_section tag_at (add_tag F us) (length s.tags) MAX_TAGS count bytes s else None
 
+-- globals, element segments and data segments need constant expressions, which aren't served yet: none of them
+abbrev pub no_items : ℕ → List ℕ → Spaces → Option Spaces
+no_items count bytes s = if count == 0 && length bytes == 0 then Some s else None
+
 -- a section by its id, where the types of all modules so far are these
 abbrev pub other_items : Features → Types → ℕ → ℕ → List ℕ → Spaces → Option Spaces
 other_items F us id count bytes s =
@@ -58,9 +62,12 @@ other_items F us id count bytes s =
     else (if id == 3 then function_items us count bytes s
     else (if id == 4 then table_items F us count bytes s
     else (if id == 5 then memory_items F count bytes s
+    else (if id == 6 then no_items count bytes s
     else (if id == 7 then export_items F us count bytes s
+    else (if id == 9 then no_items count bytes s
+    else (if id == 11 then no_items count bytes s
     else (if id == 13 then tag_items F us count bytes s
-    else None)))))
+    else None))))))))
 
 -- the same where the types of other modules stand beside
 abbrev pub beside : (Types → Spaces → Option Spaces) → Types × Spaces → Option (Types × Spaces)

@@ -7,20 +7,22 @@ use Rattle.wasm_validator_canonical.specs.Groups.{AreValid}
 use Rattle.wasm_validator_types.specs.Shown.{types_of}
 use Rattle.wasm_validator_core.specs.Ready.{IsOpenFor, AreIdsOf}
 use Rattle.wasm_validator.specs.declared.validator.State.{State}
-use Rattle.wasm_validator.specs.declared.validator.State.TheVariants.{Unparsed, Module, End, Failed}
+use Rattle.wasm_validator.specs.declared.validator.State.TheVariants.{Unparsed, Module, Code, End, Failed}
 use Rattle.wasm_validator.specs.declared.validator.Validator.TheInside.{Inside}
 
 module _ {A : Type 0} where
   -- the ids of the module that is being read, if there is one, are of the list
   abbrev pub AreIdsIn : Listing A → State A → Type 0
-  AreIdsIn list (Module spaces) = AreIdsOf list spaces.types
+  AreIdsIn list (Module m) = AreIdsOf list m.«module».types
+  AreIdsIn list (Code m) = AreIdsOf list m.«module».types
   AreIdsIn list Unparsed = ⊤
   AreIdsIn list End = ⊤
   AreIdsIn list Failed = ⊤
 
   -- the types of the list are valid, unless one was refused
   abbrev pub AreValidIn : WasmFeatures → Listing A → State A → Type 0
-  AreValidIn features list (Module spaces) = AreValid (features_of features) (types_of list)
+  AreValidIn features list (Module m) = AreValid (features_of features) (types_of list)
+  AreValidIn features list (Code m) = AreValid (features_of features) (types_of list)
   AreValidIn features list Unparsed = AreValid (features_of features) (types_of list)
   AreValidIn features list End = AreValid (features_of features) (types_of list)
   AreValidIn features list Failed = ⊤

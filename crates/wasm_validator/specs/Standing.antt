@@ -1,5 +1,5 @@
 -- Where a validator stands, and the words for calls that move it.
-use Rattle.std.specs.Prelude.{ℕ, ◌≡◌, Bool, true, false, [], Option, Some, None, ⊤}
+use Rattle.std.specs.Prelude.{ℕ, ◌≡◌, ◌==◌, if◌then◌else◌, Bool, true, false, [], Option, Some, None, ⊤}
 use Rattle.std.specs.Option.{option_and_then}
 use Rattle.std.specs.declared.result.Result.{Result}
 use Rattle.std.specs.declared.result.Result.TheVariants.{Ok, Err}
@@ -10,12 +10,14 @@ use Rattle.wasm_validator_core.specs.declared.error.Error.TheVariants.{Refused, 
 use Rattle.wasm_rules.specs.FeatureFlags.{features_of}
 use Rattle.wasm_validator_canonical.specs.Groups.{AreValid}
 use Rattle.wasm_validator_core.specs.Answers.{Types, IsNowhere}
+use Rattle.wasm_validator_core.specs.Bodies.{expected_bodies}
 
--- The stages of a validator: no header has been read, a module is being read, one has ended, or one was
--- refused. A validator that has failed shows nothing of what it held.
+-- The stages of a validator: no header has been read, a module is being read, its code section has started, one has
+-- ended, or one was refused. A validator that has failed shows nothing of what it held.
 pub data Stage : Type 0 where
   unparsed : Types → Stage
   in_module : Types → Spaces → Stage
+  in_code : Types → Spaces → Stage
   ended : Types → Stage
   failed : Stage
 
@@ -27,16 +29,35 @@ pub record Standing : Type 0 where
 abbrev pub fresh : ℕ → WasmFeatures → Standing
 fresh id features = record { id = id; features = features; stage = unparsed [] }
 
--- a refusal in a module fails the validator, and elsewhere changes nothing
+-- a refusal in a module fails the validator, and elsewhere changes nothing: no section but the data section comes
+-- behind the start of the code
 abbrev pub refused_at : Stage → Stage
 refused_at (unparsed types) = unparsed types
 refused_at (in_module types spaces) = failed
+refused_at (in_code types spaces) = in_code types spaces
 refused_at (ended types) = ended types
 refused_at failed = failed
+
+-- that of a data section
+abbrev pub data_refused_at : Stage → Stage
+data_refused_at (unparsed types) = unparsed types
+data_refused_at (in_module types spaces) = failed
+data_refused_at (in_code types spaces) = failed
+data_refused_at (ended types) = ended types
+data_refused_at failed = failed
+
+-- that of a body fails the validator where it was a body's turn
+abbrev pub body_refused_at : Stage → Stage
+body_refused_at (unparsed types) = unparsed types
+body_refused_at (in_module types spaces) = in_module types spaces
+body_refused_at (in_code types spaces) = if expected_bodies spaces == 0 then in_code types spaces else failed
+body_refused_at (ended types) = ended types
+body_refused_at failed = failed
 
 abbrev pub is_failed_at : Stage → Bool
 is_failed_at (unparsed types) = false
 is_failed_at (in_module types spaces) = false
+is_failed_at (in_code types spaces) = false
 is_failed_at (ended types) = false
 is_failed_at failed = true
 
@@ -47,6 +68,7 @@ is_failed s = is_failed_at s.stage
 abbrev pub can_reset_at : Stage → Bool
 can_reset_at (unparsed types) = true
 can_reset_at (in_module types spaces) = false
+can_reset_at (in_code types spaces) = false
 can_reset_at (ended types) = true
 can_reset_at failed = false
 
@@ -56,6 +78,7 @@ may_reset s = can_reset_at s.stage
 abbrev pub reset_at : Stage → Stage
 reset_at (unparsed types) = unparsed types
 reset_at (in_module types spaces) = in_module types spaces
+reset_at (in_code types spaces) = in_code types spaces
 reset_at (ended types) = unparsed types
 reset_at failed = failed
 
@@ -66,15 +89,25 @@ after_reset s = record s { stage = reset_at s.stage }
 abbrev pub shown_at : Stage → Option (Types × Spaces)
 shown_at (unparsed types) = None
 shown_at (in_module types spaces) = Some (types, spaces)
+shown_at (in_code types spaces) = Some (types, spaces)
 shown_at (ended types) = None
 shown_at failed = None
 
--- one step of a module that is being read
+-- one step of a module that is being read, before the start of the code
 abbrev pub within : (Types × Spaces → Option (Types × Spaces)) → Stage → Option Stage
 within f (unparsed types) = None
 within f (in_module types spaces) = option_and_then (λ p. Some (in_module p.0 p.1)) (f (types, spaces))
+within f (in_code types spaces) = None
 within f (ended types) = None
 within f failed = None
+
+-- and one that may come behind it as well
+abbrev pub within_all : (Types × Spaces → Option (Types × Spaces)) → Stage → Option Stage
+within_all f (unparsed types) = None
+within_all f (in_module types spaces) = option_and_then (λ p. Some (in_module p.0 p.1)) (f (types, spaces))
+within_all f (in_code types spaces) = option_and_then (λ p. Some (in_code p.0 p.1)) (f (types, spaces))
+within_all f (ended types) = None
+within_all f failed = None
 
 -- the same validator at another stage
 abbrev pub at_stage : Standing → Option Stage → Option Standing
@@ -84,6 +117,7 @@ at_stage s next = option_and_then (λ g. Some (record s { stage = g })) next
 abbrev pub AreValidAt : WasmFeatures → Stage → Type 0
 AreValidAt features (unparsed types) = AreValid (features_of features) types
 AreValidAt features (in_module types spaces) = AreValid (features_of features) types
+AreValidAt features (in_code types spaces) = AreValid (features_of features) types
 AreValidAt features (ended types) = AreValid (features_of features) types
 AreValidAt features failed = ⊤
 
@@ -106,6 +140,7 @@ Moves result next old new = Leaves result next (refused_at old.stage) old new
 abbrev pub ended_at : Stage → Stage
 ended_at (unparsed types) = ended types
 ended_at (in_module types spaces) = ended types
+ended_at (in_code types spaces) = ended types
 ended_at (ended types) = ended types
 ended_at failed = failed
 
@@ -113,5 +148,6 @@ ended_at failed = failed
 abbrev pub IsEnded : Stage → Type 0
 IsEnded (unparsed types) = ⊥
 IsEnded (in_module types spaces) = ⊥
+IsEnded (in_code types spaces) = ⊥
 IsEnded (ended types) = ⊤
 IsEnded failed = ⊥

@@ -1,5 +1,5 @@
 -- What contracts see of a validator's own state, and its calls.
-use Rattle.std.specs.Prelude.{ℕ, ◌==◌, Bool, true, false, ◌&&◌, cond, List, Option, Some, None, ⊤}
+use Rattle.std.specs.Prelude.{ℕ, ◌==◌, Bool, true, false, ◌&&◌, cond, if◌then◌else◌, List, Option, Some, None, ⊤}
 use Rattle.wasm_rules.specs.FeatureFlags.{features_of}
 use Rattle.wasm_validator_types.specs.Shown.{types_of}
 use Rattle.wasm_validator_types.specs.Spaces.{Spaces, no_spaces}
@@ -11,30 +11,41 @@ use Rattle.wasm_parser.specs.declared.payload.Encoding.TheVariants as encodings
 use Rattle.wasm_parser.specs.Framing as parts
 use Rattle.wasm_parser.specs.Framing.{Piece, Version, Custom, Counted, Start, DataCount, CodeStart, CodeEntry, Unknown}
 use Rattle.wasm_validator.specs.declared.validator.State.{State}
-use Rattle.wasm_validator.specs.declared.validator.State.TheVariants.{Unparsed, Module, End, Failed}
+use Rattle.wasm_validator_core.specs.declared.module_state.ModuleState.{ModuleState}
+use Rattle.wasm_validator.specs.declared.validator.State.TheVariants.{Unparsed, Module, Code, End, Failed}
 use Rattle.wasm_validator.specs.declared.validator.Validator.TheInside.{Inside}
 use Rattle.wasm_validator_core.specs.Answers.{Types}
-use Rattle.wasm_validator.specs.Standing.{Stage, unparsed, in_module, ended, failed, Standing, ended_at, refused_at, within, at_stage}
+use Rattle.wasm_validator.specs.Standing.{Stage, unparsed, in_module, in_code, ended, failed, Standing, ended_at, refused_at, data_refused_at, body_refused_at, within, within_all, at_stage}
 use Rattle.wasm_validator.specs.Machine.{section_items, start_item, data_count_item, beside}
 
 module _ {A : Type 0} where
-  -- the module that is being read
+  -- the module that is being read, before the start of its code
   abbrev pub open_of : State A → Option Spaces
-  open_of (Module spaces) = Some spaces
+  open_of (Module m) = Some m.«module»
+  open_of (Code m) = None
   open_of Unparsed = None
   open_of End = None
   open_of Failed = None
 
+  -- the module that is being read
+  abbrev pub read_of : State A → Option Spaces
+  read_of (Module m) = Some m.«module»
+  read_of (Code m) = Some m.«module»
+  read_of Unparsed = None
+  read_of End = None
+  read_of Failed = None
+
   abbrev pub stage_of : Types → State A → Stage
   stage_of types Unparsed = unparsed types
-  stage_of types (Module spaces) = in_module types spaces
+  stage_of types (Module m) = in_module types m.«module»
+  stage_of types (Code m) = in_code types m.«module»
   stage_of types End = ended types
   stage_of types Failed = failed
 
   -- what a section leaves: the module with what was added, or a failed validator
-  abbrev pub state_kept : {T : Type 0} → Result T (Error A) → Spaces → State A
-  state_kept (Ok x) spaces = Module spaces
-  state_kept (Err e) spaces = Failed
+  abbrev pub state_kept : {T : Type 0} → Result T (Error A) → ModuleState A → State A
+  state_kept (Ok x) m = Module m
+  state_kept (Err e) m = Failed
 
   abbrev pub standing : Inside A → Standing
   standing a = record { id = a.id; features = a.features; stage = stage_of (types_of a.types) a.state }
@@ -48,15 +59,19 @@ is_module encodings.Component = false
 abbrev pub begun : ℕ → Bool → Stage → Option Stage
 begun number is_module (unparsed types) = cond (number == 1 && is_module) (Some (in_module types no_spaces)) None
 begun number is_module (in_module types spaces) = None
+begun number is_module (in_code types spaces) = None
 begun number is_module (ended types) = None
 begun number is_module failed = None
 
 abbrev pub after_version : Standing → ℕ → Bool → Option Standing
 after_version s number is_module = at_stage s (begun number is_module s.stage)
 
--- a section by its id
+-- a section by its id: the data section may come behind the start of the code
+abbrev pub within_by : ℕ → (Types × Spaces → Option (Types × Spaces)) → Stage → Option Stage
+within_by id f g = if id == 11 then within_all f g else within f g
+
 abbrev pub after_section : Standing → ℕ → ℕ → List ℕ → Option Standing
-after_section s id count bytes = at_stage s (within (section_items s.features id count bytes) s.stage)
+after_section s id count bytes = at_stage s (within_by id (section_items s.features id count bytes) s.stage)
 
 -- the start function and the data count
 abbrev pub after_start : Standing → ℕ → Option Standing
@@ -65,10 +80,22 @@ after_start s x = at_stage s (within (beside (λ us t. start_item us t x)) s.sta
 abbrev pub after_data_count : Standing → ℕ → Option Standing
 after_data_count s n = at_stage s (within (beside (λ us t. data_count_item (features_of s.features) t n)) s.stage)
 
+-- the start of the code
+abbrev pub code_started : Stage → Option Stage
+code_started (unparsed types) = None
+code_started (in_module types spaces) = Some (in_code types spaces)
+code_started (in_code types spaces) = None
+code_started (ended types) = None
+code_started failed = None
+
+abbrev pub after_code_start : Standing → Option Standing
+after_code_start s = at_stage s (code_started s.stage)
+
 -- the end of a module
 abbrev pub closed : Stage → Option Stage
 closed (unparsed types) = None
 closed (in_module types spaces) = Some (ended types)
+closed (in_code types spaces) = Some (ended types)
 closed (ended types) = None
 closed failed = None
 
@@ -82,20 +109,24 @@ after_piece s (Custom name bytes) = Some s
 after_piece s (Counted id count bytes) = after_section s id count bytes
 after_piece s (Start index) = after_start s index
 after_piece s (DataCount count) = after_data_count s count
-after_piece s (CodeStart count size) = None
+after_piece s (CodeStart count size) = after_code_start s
 after_piece s (CodeEntry bytes) = None
 after_piece s (Unknown id bytes) = None
 after_piece s parts.End = after_end s
+
+-- what a refused section leaves, by its id
+abbrev pub section_refused_at : ℕ → Stage → Stage
+section_refused_at id g = if id == 11 then data_refused_at g else refused_at g
 
 -- what a refused payload leaves: the header, an unknown section and a body out of place change nothing
 abbrev pub left_by : Piece → Stage → Stage
 left_by (Version number kind) g = g
 left_by (Custom name bytes) g = g
-left_by (Counted id count bytes) g = refused_at g
+left_by (Counted id count bytes) g = section_refused_at id g
 left_by (Start index) g = refused_at g
 left_by (DataCount count) g = refused_at g
 left_by (CodeStart count size) g = refused_at g
-left_by (CodeEntry bytes) g = g
+left_by (CodeEntry bytes) g = body_refused_at g
 left_by (Unknown id bytes) g = g
 left_by parts.End g = ended_at g
 

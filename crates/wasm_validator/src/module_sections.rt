@@ -1,6 +1,6 @@
 //! The items of a module's sections, one by one.
 
-ghost use Rattle.std.specs.Prelude.{◌≡◌, OnOk, IsTrue};
+ghost use Rattle.std.specs.Prelude.{◌≡◌, ◌==◌, ◌&&◌, OnOk, IsTrue, is_ok, length};
 ghost use Rattle.wasm_rules.specs.FeatureFlags.{features_of};
 ghost use Rattle.wasm_readers.specs.SectionsSeen.{count_of, bytes_of};
 ghost use Rattle.wasm_validator_types.specs.Shown.{types_of};
@@ -12,11 +12,12 @@ ghost use Rattle.wasm_readers.specs.Tables.{head_of};
 
 use std::alloc::Allocator;
 use wasm_readers::{
-    Counted, Export, Fault, Import, MemoryType, RecGroup, Refusal, SectionLimited, Table,
-    TableHead, TagType, Unserved, WasmFeatures,
+    Counted, Export, Fault, Import, Malformed, MemoryType, RecGroup, Refusal, SectionLimited,
+    Table, TableHead, TagType, Unserved, WasmFeatures,
 };
 use wasm_validator_core::{
-    Error, MAX_EXPORTS, MAX_FUNCTIONS, MAX_IMPORTS, MAX_TAGS, MAX_TYPES, Module, check_max,
+    Error, MAX_EXPORTS, MAX_FUNCTIONS, MAX_IMPORTS, MAX_TAGS, MAX_TYPES, Module, ModuleState,
+    check_max,
 };
 use wasm_validator_types::TypeList;
 
@@ -106,17 +107,17 @@ pub fn add_functions<A: Allocator + Copy>(
 pub fn add_tables<'a, A: Allocator + Copy>(
     features: WasmFeatures,
     list: &TypeList<A>,
-    opened: &mut Module<A>,
+    opened: &mut ModuleState<A>,
     section: &SectionLimited<'a, Table<'a>, A>,
 ) -> Result<(), Error<A>>
-    requires { AreHeld list.now opened.old.types }
-    ensures added { Adds result (table_items (features_of features) (types_of list.now) (count_of section.now) (bytes_of section.now) opened.old) opened.new }
-    ensures types { opened.new.types ≡ opened.old.types }
+    requires { AreHeld list.now opened.old.«module».types }
+    ensures added { Adds result (table_items (features_of features) (types_of list.now) (count_of section.now) (bytes_of section.now) opened.old.«module») opened.new.«module» }
+    ensures types { opened.new.«module».types ≡ opened.old.«module».types }
 {
     check_max(
-        opened.spaces().table_count() as usize,
+        opened.module.spaces().table_count() as usize,
         section.count() as usize,
-        opened.max_tables(features),
+        opened.module.max_tables(features),
         Counted::Tables,
         section.range().start,
     )?;
@@ -133,13 +134,13 @@ pub fn add_tables<'a, A: Allocator + Copy>(
 fn add_table_head<A: Allocator + Copy>(
     features: WasmFeatures,
     list: &TypeList<A>,
-    opened: &mut Module<A>,
+    opened: &mut ModuleState<A>,
     head: TableHead,
     offset: u64,
 ) -> Result<(), Error<A>>
-    requires { AreHeld list.now opened.old.types }
-    ensures added { Adds result (add_table_head (features_of features) (types_of list.now) opened.old (head_of head)) opened.new }
-    ensures types { opened.new.types ≡ opened.old.types }
+    requires { AreHeld list.now opened.old.«module».types }
+    ensures added { Adds result (add_table_head (features_of features) (types_of list.now) opened.old.«module» (head_of head)) opened.new.«module» }
+    ensures types { opened.new.«module».types ≡ opened.old.«module».types }
 {
     if head.has_init {
         let fault = Fault::NotServed(Unserved::TableInitializer);
@@ -220,4 +221,21 @@ pub fn add_exports<'a, A: Allocator + Copy>(
         opened.add_export(features, alloc, list, &export, offset)?;
     }
     Ok(())
+}
+
+/// Accepts a section without items. One that has items of this kind is not served yet.
+pub fn check_empty<T, A: Allocator + Copy>(
+    section: &SectionLimited<'_, T, A>,
+    what: Unserved,
+) -> Result<(), Refusal>
+    ensures { is_ok result ≡ (count_of section.now == 0 && length (bytes_of section.now) == 0) }
+{
+    if section.is_empty() {
+        return Ok(());
+    }
+    if section.count() == 0 {
+        let fault = Fault::Malformed(Malformed::SectionSize);
+        return Err(Refusal::new(fault, section.original_position()));
+    }
+    Err(Refusal::new(Fault::NotServed(what), section.range().start))
 }

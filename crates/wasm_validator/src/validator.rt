@@ -1,15 +1,16 @@
-ghost use Rattle.std.specs.Prelude.{◌≡◌, IfOk, IfErr, IfSome, IsSome, IsErr, OnOk, OnErr, Some, None, true, is_ok, ◌↔◌};
+ghost use Rattle.std.specs.Prelude.{◌≡◌, IfOk, IfErr, IfSome, IsSome, IsErr, OnOk, OnErr, Some, None, true, is_ok, if◌then◌else◌, ◌↔◌};
 ghost use Rattle.wasm_validator_core.specs.Errors.{IsContent};
 ghost use Rattle.wasm_readers.specs.SectionsSeen.{count_of, bytes_of};
 ghost use Rattle.wasm_validator_type_list.specs.Interned.{AreOnce};
 ghost use Rattle.wasm_validator_type_list.specs.Listing.{closed};
 ghost use Rattle.wasm_validator_types.specs.Shown.{shown_of, shown_by, types_of};
 ghost use Rattle.wasm_validator.specs.Payloads.{Show};
-ghost use Rattle.wasm_validator.specs.Standing.{HoldsValid, Leaves, Moves, ended_at, fresh, is_failed, may_reset, after_reset, shown_at};
-ghost use Rattle.wasm_validator.specs.States.{open_of, state_kept, is_module, after_version, after_section, after_start, after_data_count, after_end};
+ghost use Rattle.wasm_validator.specs.Standing.{HoldsValid, Leaves, Moves, at_stage, within, data_refused_at, body_refused_at, ended_at, fresh, is_failed, may_reset, after_reset, shown_at};
+ghost use Rattle.wasm_validator.specs.States.{open_of, read_of, state_kept, is_module, after_version, after_section, after_start, after_data_count, after_code_start, after_end};
 
 use crate::module_sections::{
     add_exports, add_functions, add_imports, add_memories, add_tables, add_tags, add_types,
+    check_empty,
 };
 use bitflags::Flags;
 use std::alloc::{AllocError, Allocator, Global};
@@ -23,14 +24,16 @@ use wasm_readers::{
     Refusal, Rule, SectionLimited, Table, TagType, Unserved, WasmFeatures,
 };
 use wasm_validator_canonical::needs_type_canonicalization;
-use wasm_validator_core::{Error, Module, check_data_count};
+use wasm_validator_core::{Error, ModuleState, check_data_count};
 use wasm_validator_types::{TypeList, Types, TypesRef, ValidatorId};
 
 /// What a validator is doing.
 #[derive(Drop)]
 pub enum State<A: Allocator> {
     Unparsed,
-    Module(Module<A>),
+    Module(ModuleState<A>),
+    /// The code section has started.
+    Code(ModuleState<A>),
     End,
     Failed,
 }
@@ -67,6 +70,7 @@ impl<A: Allocator> Model for Validator<A> {
 fn out_of_order<A: Allocator>(state: &State<A>) -> OutOfOrder {
     match state {
         State::Unparsed => OutOfOrder::SectionBeforeHeader,
+        State::Code(_) => OutOfOrder::SectionAfterCodeStart,
         State::End => OutOfOrder::SectionAfterEnd,
         State::Module(_) | State::Failed => OutOfOrder::SectionAfterFailure,
     }
@@ -77,13 +81,14 @@ fn end_out_of_order<A: Allocator>(state: &State<A>) -> OutOfOrder {
     match state {
         State::Unparsed => OutOfOrder::EndBeforeHeader,
         State::End => OutOfOrder::EndAfterEnd,
-        State::Module(_) | State::Failed => OutOfOrder::SectionAfterFailure,
+        State::Module(_) | State::Code(_) | State::Failed => OutOfOrder::SectionAfterFailure,
     }
 }
 
-/// Takes the module out, where one is being read, and leaves `Failed` in its place.
-fn opened<A: Allocator>(state: &mut State<A>, offset: u64) -> Result<Module<A>, Refusal>
-    ensures ok { IfOk result (λ m. open_of state.old ≡ Some m) }
+/// Takes the module out, where one is being read whose code has not started, and leaves `Failed` in its
+/// place.
+fn opened<A: Allocator>(state: &mut State<A>, offset: u64) -> Result<ModuleState<A>, Refusal>
+    ensures ok { IfOk result (λ m. open_of state.old ≡ Some m.«module») }
     ensures left { OnOk result (state.new ≡ State.Failed) }
     ensures none { OnErr result (open_of state.old ≡ None) }
     ensures unchanged { OnErr result (state.new ≡ state.old) }
@@ -98,19 +103,37 @@ fn opened<A: Allocator>(state: &mut State<A>, offset: u64) -> Result<Module<A>, 
     }
 }
 
+/// Takes the module out, where one is being read, and leaves `Failed` in its place.
+fn closing<A: Allocator>(state: &mut State<A>) -> Result<ModuleState<A>, OutOfOrder>
+    ensures ok { IfOk result (λ m. read_of state.old ≡ Some m.«module») }
+    ensures left { OnOk result (state.new ≡ State.Failed) }
+    ensures none { OnErr result (read_of state.old ≡ None) }
+    ensures unchanged { OnErr result (state.new ≡ state.old) }
+{
+    match mem::replace(state, State::Failed) {
+        State::Module(module) => Ok(module),
+        State::Code(module) => Ok(module),
+        other => {
+            let order = end_out_of_order(&other);
+            *state = other;
+            Err(order)
+        }
+    }
+}
+
 /// Puts the module back where a section was added to it. Where one was refused, the validator has failed.
 fn kept<A: Allocator>(
     state: &mut State<A>,
-    spaces: Module<A>,
+    read: ModuleState<A>,
     added: Result<(), Error<A>>,
 ) -> Result<(), Error<A>>
     requires { state.old ≡ State.Failed }
     ensures same { result ≡ added }
-    ensures kept { state.new ≡ state_kept added spaces }
+    ensures kept { state.new ≡ state_kept added read }
 {
     match added {
         Ok(()) => {
-            *state = State::Module(spaces);
+            *state = State::Module(read);
             Ok(())
         }
         Err(error) => Err(error),
@@ -133,16 +156,16 @@ fn finished<A: Allocator + Copy>(
     id: ValidatorId,
     alloc: A,
     types: &mut TypeList<A>,
-    spaces: Module<A>,
+    state: ModuleState<A>,
 ) -> Result<Types<A>, AllocError>
     ensures same { types.new ≡ types.old }
-    ensures shown { IfOk result (λ t. shown_of t ≡ record { id = id; list = closed types.old; spaces = spaces }) }
+    ensures shown { IfOk result (λ t. shown_of t ≡ record { id = id; list = closed types.old; spaces = state.«module» }) }
     ensures once { types.old.is_canonical ≡ true → AreOnce types.old.groups }
 {
     // Asked for what it promises: where equal types are one, no type has two ids.
     let _is_canonical = types.is_canonical();
     let list = types.commit()?;
-    let spaces = Rc::new(alloc, spaces.into_spaces())?;
+    let spaces = Rc::new(alloc, state.module.into_spaces())?;
     Ok(Types::new(id, list, spaces))
 }
 
@@ -220,7 +243,11 @@ impl<A: Allocator + Copy> Validator<A> {
             return None;
         }
         match &self.state {
-            State::Module(module) => Some(TypesRef::new(self.id, &self.types, module.spaces())),
+            State::Module(state) | State::Code(state) => Some(TypesRef::new(
+                self.id,
+                &self.types,
+                state.module.spaces(),
+            )),
             _ => None,
         }
     }
@@ -265,7 +292,7 @@ impl<A: Allocator + Copy> Validator<A> {
                 )));
             }
         }
-        self.state = State::Module(Module::new(self.alloc));
+        self.state = State::Module(ModuleState::new(self.alloc));
         Ok(())
     }
 
@@ -277,15 +304,15 @@ impl<A: Allocator + Copy> Validator<A> {
         ensures { Moves result (after_section self.old 1 (count_of section.now) (bytes_of section.now)) self.old self.new }
     {
         match opened(&mut self.state, section.range().start) {
-            Ok(mut module) => {
+            Ok(mut state) => {
                 let added = add_types(
                     self.features,
                     self.alloc,
                     &mut self.types,
-                    &mut module,
+                    &mut state.module,
                     section,
                 );
-                kept(&mut self.state, module, added)
+                kept(&mut self.state, state, added)
             }
             Err(refusal) => Err(Error::Refused(refusal)),
         }
@@ -299,9 +326,9 @@ impl<A: Allocator + Copy> Validator<A> {
         ensures { Moves result (after_section self.old 2 (count_of section.now) (bytes_of section.now)) self.old self.new }
     {
         match opened(&mut self.state, section.range().start) {
-            Ok(mut module) => {
-                let added = add_imports(self.features, &self.types, &mut module, section);
-                kept(&mut self.state, module, added)
+            Ok(mut state) => {
+                let added = add_imports(self.features, &self.types, &mut state.module, section);
+                kept(&mut self.state, state, added)
             }
             Err(refusal) => Err(Error::Refused(refusal)),
         }
@@ -315,28 +342,35 @@ impl<A: Allocator + Copy> Validator<A> {
         ensures { Moves result (after_section self.old 7 (count_of section.now) (bytes_of section.now)) self.old self.new }
     {
         match opened(&mut self.state, section.range().start) {
-            Ok(mut module) => {
+            Ok(mut state) => {
                 let added = add_exports(
                     self.features,
                     self.alloc,
                     &self.types,
-                    &mut module,
+                    &mut state.module,
                     section,
                 );
-                kept(&mut self.state, module, added)
+                kept(&mut self.state, state, added)
             }
             Err(refusal) => Err(Error::Refused(refusal)),
         }
     }
 
-    /// A section that isn't served yet: while a module is being read, it fails the validator.
-    fn unserved(&mut self, what: Unserved, offset: u64) -> Result<(), Error<A>>
-        ensures moves { Moves result None self.old self.new }
-        ensures refused { IsErr result }
+    /// What a check that needs nothing of the module says of a section: where it refuses while a module
+    /// is being read, the validator has failed.
+    fn answered(&mut self, offset: u64, answer: Result<(), Refusal>) -> Result<(), Error<A>>
+        ensures { Moves result (at_stage self.old (within (λ p. if is_ok answer then Some p else None) self.old.stage)) self.old self.new }
     {
-        match opened(&mut self.state, offset) {
-            Ok(_module) => Err(Error::Refused(Refusal::new(Fault::NotServed(what), offset))),
-            Err(refusal) => Err(Error::Refused(refusal)),
+        if !matches!(self.state, State::Module(_)) {
+            let order = out_of_order(&self.state);
+            return Err(Error::Refused(Refusal::new(Fault::OutOfOrder(order), offset)));
+        }
+        match answer {
+            Ok(()) => Ok(()),
+            Err(refusal) => {
+                self.state = State::Failed;
+                Err(Error::Refused(refusal))
+            }
         }
     }
 
@@ -345,9 +379,9 @@ impl<A: Allocator + Copy> Validator<A> {
         ensures { Moves result (after_section self.old 3 (count_of section.now) (bytes_of section.now)) self.old self.new }
     {
         match opened(&mut self.state, section.range().start) {
-            Ok(mut module) => {
-                let added = add_functions(&self.types, &mut module, section);
-                kept(&mut self.state, module, added)
+            Ok(mut state) => {
+                let added = add_functions(&self.types, &mut state.module, section);
+                kept(&mut self.state, state, added)
             }
             Err(refusal) => Err(Error::Refused(refusal)),
         }
@@ -361,9 +395,9 @@ impl<A: Allocator + Copy> Validator<A> {
         ensures { Moves result (after_section self.old 4 (count_of section.now) (bytes_of section.now)) self.old self.new }
     {
         match opened(&mut self.state, section.range().start) {
-            Ok(mut module) => {
-                let added = add_tables(self.features, &self.types, &mut module, section);
-                kept(&mut self.state, module, added)
+            Ok(mut state) => {
+                let added = add_tables(self.features, &self.types, &mut state, section);
+                kept(&mut self.state, state, added)
             }
             Err(refusal) => Err(Error::Refused(refusal)),
         }
@@ -377,9 +411,9 @@ impl<A: Allocator + Copy> Validator<A> {
         ensures { Moves result (after_section self.old 5 (count_of section.now) (bytes_of section.now)) self.old self.new }
     {
         match opened(&mut self.state, section.range().start) {
-            Ok(mut module) => {
-                let added = add_memories(self.features, &mut module, section);
-                kept(&mut self.state, module, added)
+            Ok(mut state) => {
+                let added = add_memories(self.features, &mut state.module, section);
+                kept(&mut self.state, state, added)
             }
             Err(refusal) => Err(Error::Refused(refusal)),
         }
@@ -402,23 +436,25 @@ impl<A: Allocator + Copy> Validator<A> {
             )));
         }
         match opened(&mut self.state, offset) {
-            Ok(mut module) => {
-                let added = add_tags(self.features, &self.types, &mut module, section);
-                kept(&mut self.state, module, added)
+            Ok(mut state) => {
+                let added = add_tags(self.features, &self.types, &mut state.module, section);
+                kept(&mut self.state, state, added)
             }
             Err(refusal) => Err(Error::Refused(refusal)),
         }
     }
 
-    /// The globals of a module. Not served yet.
+    /// The globals of a module. A section that has any is not served yet.
     pub fn global_section<'a>(
         &mut self,
         section: &SectionLimited<'a, GlobalItem<'a>, A>,
     ) -> Result<(), Error<A>>
-        ensures moves { Moves result None self.old self.new }
-        ensures refused { IsErr result }
+        ensures { Moves result (after_section self.old 6 (count_of section.now) (bytes_of section.now)) self.old self.new }
     {
-        self.unserved(Unserved::GlobalSection, section.range().start)
+        self.answered(
+            section.range().start,
+            check_empty(section, Unserved::GlobalSection),
+        )
     }
 
     /// The function that starts a module, by its index.
@@ -426,23 +462,25 @@ impl<A: Allocator + Copy> Validator<A> {
         ensures { Moves result (after_start self.old function) self.old self.new }
     {
         match opened(&mut self.state, range.start) {
-            Ok(module) => {
-                let accepted = checked(module.check_start(&self.types, function, range.start));
-                kept(&mut self.state, module, accepted)
+            Ok(state) => {
+                let answer = state.module.check_start(&self.types, function, range.start);
+                kept(&mut self.state, state, checked(answer))
             }
             Err(refusal) => Err(Error::Refused(refusal)),
         }
     }
 
-    /// The element segments of a module. Not served yet.
+    /// The element segments of a module. A section that has any is not served yet.
     pub fn element_section<'a>(
         &mut self,
         section: &SectionLimited<'a, Element<'a>, A>,
     ) -> Result<(), Error<A>>
-        ensures moves { Moves result None self.old self.new }
-        ensures refused { IsErr result }
+        ensures { Moves result (after_section self.old 9 (count_of section.now) (bytes_of section.now)) self.old self.new }
     {
-        self.unserved(Unserved::ElementSection, section.range().start)
+        self.answered(
+            section.range().start,
+            check_empty(section, Unserved::ElementSection),
+        )
     }
 
     /// The number of data segments that the data section is to have.
@@ -450,45 +488,69 @@ impl<A: Allocator + Copy> Validator<A> {
         ensures { Moves result (after_data_count self.old count) self.old self.new }
     {
         match opened(&mut self.state, range.start) {
-            Ok(module) => {
+            Ok(state) => {
                 let accepted = checked(check_data_count(self.features, count, range.start));
-                kept(&mut self.state, module, accepted)
+                kept(&mut self.state, state, accepted)
             }
             Err(refusal) => Err(Error::Refused(refusal)),
         }
     }
 
-    /// The start of the code section. Not served yet.
+    /// The start of the code section.
     pub fn code_section_start(&mut self, range: &Range<u64>) -> Result<(), Error<A>>
-        ensures moves { Moves result None self.old self.new }
-        ensures refused { IsErr result }
+        ensures { Moves result (after_code_start self.old) self.old self.new }
     {
-        self.unserved(Unserved::CodeSection, range.start)
+        match opened(&mut self.state, range.start) {
+            Ok(state) => {
+                self.state = State::Code(state);
+                Ok(())
+            }
+            Err(refusal) => Err(Error::Refused(refusal)),
+        }
     }
 
-    /// The body of a function. It is refused before the code section has started, which changes
-    /// nothing.
+    /// The body of a function. Bodies are not served yet. One that comes where none may is refused for
+    /// that, which changes nothing.
     pub fn code_section_entry(&mut self, body: &FunctionBody<'_>) -> Result<(), Error<A>>
-        ensures moves { Leaves result None self.old.stage self.old self.new }
+        ensures moves { Leaves result None (body_refused_at self.old.stage) self.old self.new }
         ensures content { IfErr result IsContent }
         ensures refused { IsErr result }
     {
-        let order = match &self.state {
-            State::Module(_) => OutOfOrder::CodeEntryBeforeCodeStart,
-            other => out_of_order(other),
+        let fault = match &self.state {
+            State::Module(_) => Fault::OutOfOrder(OutOfOrder::CodeEntryBeforeCodeStart),
+            State::Code(state) => {
+                if state.expected_bodies() == 0 {
+                    Fault::OutOfOrder(OutOfOrder::CodeEntryWithoutFunction)
+                } else {
+                    Fault::NotServed(Unserved::FunctionBody)
+                }
+            }
+            other => Fault::OutOfOrder(out_of_order(other)),
         };
-        Err(Error::Refused(Refusal::new(Fault::OutOfOrder(order), body.range().start)))
+        if matches!(fault, Fault::NotServed(_)) {
+            self.state = State::Failed;
+        }
+        Err(Error::Refused(Refusal::new(fault, body.range().start)))
     }
 
-    /// The data segments of a module. Not served yet.
+    /// The data segments of a module. A section that has any is not served yet.
     pub fn data_section<'a>(
         &mut self,
         section: &SectionLimited<'a, Data<'a>, A>,
     ) -> Result<(), Error<A>>
-        ensures moves { Moves result None self.old self.new }
-        ensures refused { IsErr result }
+        ensures { Leaves result (after_section self.old 11 (count_of section.now) (bytes_of section.now)) (data_refused_at self.old.stage) self.old self.new }
     {
-        self.unserved(Unserved::DataSection, section.range().start)
+        if !matches!(self.state, State::Module(_) | State::Code(_)) {
+            let fault = Fault::OutOfOrder(out_of_order(&self.state));
+            return Err(Error::Refused(Refusal::new(fault, section.range().start)));
+        }
+        match check_empty(section, Unserved::DataSection) {
+            Ok(()) => Ok(()),
+            Err(refusal) => {
+                self.state = State::Failed;
+                Err(Error::Refused(refusal))
+            }
+        }
     }
 
     /// A section of an id that the standard does not know, which is refused and changes nothing.
@@ -505,16 +567,15 @@ impl<A: Allocator + Copy> Validator<A> {
         ensures moves { Leaves result (after_end self.old) (ended_at self.old.stage) self.old self.new }
         ensures shown { IfOk result (Show self.old) }
     {
-        match opened(&mut self.state, offset) {
-            Ok(module) => match finished(self.id, self.alloc, &mut self.types, module) {
+        match closing(&mut self.state) {
+            Ok(state) => match finished(self.id, self.alloc, &mut self.types, state) {
                 Ok(types) => {
                     self.state = State::End;
                     Ok(types)
                 }
                 Err(_) => Err(Error::OutOfMemory),
             },
-            Err(_) => {
-                let order = end_out_of_order(&self.state);
+            Err(order) => {
                 if !matches!(self.state, State::Failed) {
                     self.state = State::End;
                 }

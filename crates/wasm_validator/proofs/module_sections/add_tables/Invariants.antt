@@ -9,10 +9,10 @@ use Rattle.wasm_validator.proofs.module_sections.add_tables.Given as goal
 
 abbrev pub invariant-tables : goal.invariant-tables
 invariant-tables g l =
-    (read_each table_head_at (add_table_head (features_of l.features) (types_of l.list)) (items_left l.tables) (items_rest l.tables) l.opened
-    ≡ read_each table_head_at (add_table_head (features_of l.features) (types_of l.list)) (count_of l.section) (bytes_of l.section) l.fn.opened)
-    × (l.opened.types ≡ l.fn.opened.types)
-    × AreHeld l.list l.opened.types
+    (read_each table_head_at (add_table_head (features_of l.features) (types_of l.list)) (items_left l.tables) (items_rest l.tables) l.opened.«module»
+    ≡ read_each table_head_at (add_table_head (features_of l.features) (types_of l.list)) (count_of l.section) (bytes_of l.section) l.fn.opened.«module»)
+    × (l.opened.«module».types ≡ l.fn.opened.«module».types)
+    × AreHeld l.list l.opened.«module».types
 
 abbrev pub decreases-tables : goal.decreases-tables
 decreases-tables g l = items_left l.tables

@@ -7,9 +7,9 @@ pub invariant_of-self : goal.invariant_of-self
 invariant_of-self g c =
     let list = c.self.inside.types in
     let features = c.self.inside.features in
-    let before = c.in-Ok.«module» in
+    let before = c.in-Ok.state in
     record {
       list = c.self.invariant.list;
-      ids = subst (AreIdsIn list) (sym c.kept.ensures.kept) (kept-ids list before _ (open-ids list c.self.inside.state before c.in-Ok.ensures.ok c.self.invariant.ids));
-      valid = subst (AreValidIn features list) (sym c.kept.ensures.kept) (kept-valid list before features _ (open-valid features list c.self.inside.state before c.in-Ok.ensures.ok c.self.invariant.valid));
+      ids = subst (AreIdsIn list) (sym c.kept.ensures.kept) (kept-ids list before _ (open-ids list c.self.inside.state before.«module» c.in-Ok.ensures.ok c.self.invariant.ids));
+      valid = subst (AreValidIn features list) (sym c.kept.ensures.kept) (kept-valid list before features _ (open-valid features list c.self.inside.state before.«module» c.in-Ok.ensures.ok c.self.invariant.valid));
     }

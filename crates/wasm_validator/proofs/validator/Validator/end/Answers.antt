@@ -6,7 +6,7 @@ use Rattle.wasm_validator_canonical.specs.Groups.{AreValid}
 use Rattle.wasm_validator_types.specs.Shown.{types_of}
 use Rattle.wasm_validator_core.specs.Ready.{IsOpenFor}
 use Rattle.wasm_validator.specs.Standing.{Standing}
-use Rattle.wasm_validator.proofs.Sections.{ended_from_open, shown_from_open, open-valid, shown-valid}
+use Rattle.wasm_validator.proofs.Sections.{ended_from_open, shown_from_open, read-valid, shown-valid}
 use Rattle.wasm_validator.proofs.validator.Validator.end.Goals as goal
 
 pub invariant_of-self : goal.invariant_of-self
@@ -16,19 +16,19 @@ invariant_of-self g c =
     record {
       list = subst (IsOpenFor features) same c.self.invariant.list;
       ids = tt;
-      valid = subst (λ l. AreValid (features_of features) (types_of l)) same (open-valid features c.self.inside.types c.self.inside.state c.in-Ok.«module» c.in-Ok.ensures.ok c.self.invariant.valid);
+      valid = subst (λ l. AreValid (features_of features) (types_of l)) same (read-valid features c.self.inside.types c.self.inside.state c.in-Ok.state.«module» c.in-Ok.ensures.ok c.self.invariant.valid);
     }
 
 pub returns-in-Ok-finished-clause-moves : goal.returns-in-Ok-finished-clause-moves
-returns-in-Ok-finished-clause-moves g c = ended_from_open c.self.inside.id c.self.inside.features (types_of c.self.inside.types) c.self.inside.state c.in-Ok.«module» c.args.self.now (types_of c.finished.new.types) c.self.view_is c.in-Ok.ensures.ok (ap types_of c.finished.ensures.same)
+returns-in-Ok-finished-clause-moves g c = ended_from_open c.self.inside.id c.self.inside.features (types_of c.self.inside.types) c.self.inside.state c.in-Ok.state.«module» c.args.self.now (types_of c.finished.new.types) c.self.view_is c.in-Ok.ensures.ok (ap types_of c.finished.ensures.same)
 
 pub returns-in-Ok-finished-clause-shown : goal.returns-in-Ok-finished-clause-shown
 returns-in-Ok-finished-clause-shown g c =
     let shown = c.in-Ok-finished.ensures.shown in
     record {
-      held = shown_from_open c.self.inside.id c.self.inside.features (types_of c.self.inside.types) c.self.inside.state c.in-Ok.«module» c.args.self.now (types_of c.in-Ok-finished.types.types) c.in-Ok-finished.types.spaces.value c.self.view_is c.in-Ok.ensures.ok (ap (λ w. types_of w.list) shown) (ap (λ w. w.spaces) shown);
+      held = shown_from_open c.self.inside.id c.self.inside.features (types_of c.self.inside.types) c.self.inside.state c.in-Ok.state.«module» c.args.self.now (types_of c.in-Ok-finished.types.types) c.in-Ok-finished.types.spaces.value c.self.view_is c.in-Ok.ensures.ok (ap (λ w. types_of w.list) shown) (ap (λ w. w.spaces) shown);
       same_id = ap (λ w. w.id) shown ∙ ap (λ (s : Standing). s.id) c.self.view_is;
       mode = ap (λ w. w.list.is_canonical) shown ∙ c.self.invariant.list.mode ∙ ap (λ (s : Standing). canonical (features_of s.features)) c.self.view_is;
-      valid = shown-valid c.self.inside.features c.self.inside.types c.self.inside.id c.self.inside.state c.in-Ok.«module» c.args.self.now (types_of c.in-Ok-finished.types.types) c.self.view_is c.in-Ok.ensures.ok c.self.invariant.valid (ap (λ w. types_of w.list) shown);
+      valid = shown-valid c.self.inside.features c.self.inside.types c.self.inside.id c.self.inside.state c.in-Ok.state.«module» c.args.self.now (types_of c.in-Ok-finished.types.types) c.self.view_is c.in-Ok.ensures.ok c.self.invariant.valid (ap (λ w. types_of w.list) shown);
       once = λ e. subst AreOnce (sym (ap (λ w. w.list.groups) shown)) (c.finished.ensures.once (sym (ap (λ w. w.list.is_canonical) shown) ∙ e));
     }

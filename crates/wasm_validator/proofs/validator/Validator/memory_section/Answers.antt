@@ -17,13 +17,13 @@ invariant_of-self g c =
     let list = c.self.inside.types in
     let features = c.self.inside.features in
     let added = c.add_memories-added in
-    let before = c.in-Ok.«module» in
+    let before = c.in-Ok.state.«module» in
     let ids = open-ids list c.self.inside.state before c.in-Ok.ensures.ok c.self.invariant.ids in
     let valid = open-valid features list c.self.inside.state before c.in-Ok.ensures.ok c.self.invariant.valid in
     record {
       list = c.self.invariant.list;
-      ids = subst (AreIdsIn list) (sym c.kept.ensures.kept) (kept-ids list added.new.opened added.result (subst (AreIdsOf list) (sym added.ensures.types) ids));
-      valid = subst (AreValidIn features list) (sym c.kept.ensures.kept) (kept-valid list added.new.opened features added.result valid);
+      ids = subst (AreIdsIn list) (sym c.kept.ensures.kept) (kept-ids list (record { «module» = added.new.opened }) added.result (subst (AreIdsOf list) (sym added.ensures.types) ids));
+      valid = subst (AreValidIn features list) (sym c.kept.ensures.kept) (kept-valid list (record { «module» = added.new.opened }) features added.result valid);
     }
 
 pub returns-in-Ok : goal.returns-in-Ok
@@ -34,9 +34,9 @@ returns-in-Ok g c =
     let count = count_of c.args.section.now in
     let bytes = bytes_of c.args.section.now in
     let types = types_of c.self.inside.types in
-    let before = c.in-Ok.«module» in
+    let before = c.in-Ok.state.«module» in
     let new : Standing = record { id = id; features = features; stage = stage_of types c.kept.new.state } in
     subst (λ r. Moves r (after_section c.args.self.now 5 count bytes) c.args.self.now new) (sym c.kept.ensures.same)
-    (section_moves id features types before (λ g. section_items g 5 count bytes) c.self.inside.state added.result types added.new.opened c.args.self.now new
+    (section_moves id features types before (λ g. section_items g 5 count bytes) c.self.inside.state added.result types (record { «module» = added.new.opened }) c.args.self.now new
     c.in-Ok.ensures.ok c.self.view_is (λ i. record { id = id; features = features; stage = stage_of types (sym c.kept.ensures.kept i) })
     (adds_beside (HasValidTypes features) types added.result (other_items (features_of features) types 5 count bytes before) added.new.opened added.ensures.added))

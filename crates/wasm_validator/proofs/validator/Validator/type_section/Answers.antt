@@ -9,10 +9,10 @@ use Rattle.wasm_validator.proofs.SectionMoves.{section_moves}
 use Rattle.wasm_validator.proofs.validator.Validator.type_section.Goals as goal
 
 pub add_types-added-requires-clause-ids : goal.add_types-added-requires-clause-ids
-add_types-added-requires-clause-ids g c = open-ids c.self.inside.types c.self.inside.state c.in-Ok.«module» c.in-Ok.ensures.ok c.self.invariant.ids
+add_types-added-requires-clause-ids g c = open-ids c.self.inside.types c.self.inside.state c.in-Ok.state.«module» c.in-Ok.ensures.ok c.self.invariant.ids
 
 pub add_types-added-requires-clause-valid : goal.add_types-added-requires-clause-valid
-add_types-added-requires-clause-valid g c = open-valid c.self.inside.features c.self.inside.types c.self.inside.state c.in-Ok.«module» c.in-Ok.ensures.ok c.self.invariant.valid
+add_types-added-requires-clause-valid g c = open-valid c.self.inside.features c.self.inside.types c.self.inside.state c.in-Ok.state.«module» c.in-Ok.ensures.ok c.self.invariant.valid
 
 pub returns-in-Ok : goal.returns-in-Ok
 returns-in-Ok g c =
@@ -24,5 +24,5 @@ returns-in-Ok g c =
     let types = types_of added.new.list in
     let new : Standing = record { id = id; features = features; stage = stage_of types c.kept.new.state } in
     subst (λ r. Moves r (after_section c.args.self.now 1 count bytes) c.args.self.now new) (sym c.kept.ensures.same)
-    (section_moves id features (types_of c.self.inside.types) c.in-Ok.«module» (λ g. section_items g 1 count bytes) c.self.inside.state added.result types added.new.opened c.args.self.now new
+    (section_moves id features (types_of c.self.inside.types) c.in-Ok.state.«module» (λ g. section_items g 1 count bytes) c.self.inside.state added.result types (record { «module» = added.new.opened }) c.args.self.now new
     c.in-Ok.ensures.ok c.self.view_is (λ i. record { id = id; features = features; stage = stage_of types (sym c.kept.ensures.kept i) }) added.ensures.added)
