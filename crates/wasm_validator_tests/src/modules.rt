@@ -144,6 +144,36 @@ fn what_is_not_served_is_said(rt: HostRuntime) {
         "not served yet: global section",
     );
     assert!(rt; global);
+    let element = is_refused_with(
+        &rt,
+        b"\0asm\x01\0\0\0\x09\x04\x01\x01\0\0",
+        "not served yet: element section",
+    );
+    assert!(rt; element);
+    let body = is_refused_with(
+        &rt,
+        b"\0asm\x01\0\0\0\x01\x04\x01\x60\0\0\x03\x02\x01\0\x0a\x04\x01\x02\0\x0b",
+        "not served yet: function body",
+    );
+    assert!(rt; body);
+    let data = is_refused_with(
+        &rt,
+        b"\0asm\x01\0\0\0\x0b\x03\x01\x01\0",
+        "not served yet: data section",
+    );
+    assert!(rt; data);
+}
+
+#[test]
+fn sections_without_items_are_accepted(rt: HostRuntime) -> Result<(), Fail> {
+    let bytes =
+        b"\0asm\x01\0\0\0\x03\x01\0\x06\x01\0\x09\x01\0\x0c\x01\0\x0a\x01\0\x0b\x01\0";
+    let types = check(rt.alloc(), bytes)?;
+    let shown = types.as_ref();
+    assert_eq!(rt; shown.function_count(), 0);
+    assert_eq!(rt; shown.global_count(), 0);
+    assert_eq!(rt; shown.element_count(), 0);
+    Ok(())
 }
 
 #[test]
