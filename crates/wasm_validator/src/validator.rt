@@ -143,7 +143,7 @@ fn kept<A: Allocator>(
 /// What a check of a module says, as the answer of a section.
 fn checked<A: Allocator>(answer: Result<(), Refusal>) -> Result<(), Error<A>>
     ensures same { is_ok result ≡ is_ok answer }
-    ensures content { IfErr result IsContent }
+    ensures refusal { IfErr answer (λ r. IfErr result (λ e. e ≡ Error.Refused r)) }
 {
     match answer {
         Ok(()) => Ok(()),
