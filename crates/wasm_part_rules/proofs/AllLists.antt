@@ -17,7 +17,7 @@ use Rattle.wasm_rules.proofs.Tests.{then_some}
 use Rattle.wasm_item_rules.specs.Laws.{Stand}
 use Rattle.wasm_validator_types.specs.Spaces.{Spaces}
 use Rattle.wasm_part_rules.specs.Shown.{spaces_of}
-use Rattle.wasm_part_rules.specs.Lists.{only_types, only_imports, listed_parts, add_imports, add_functions, add_tables, add_memories, add_tags, add_exports, add_lists, HasNoInitializer, AreValidLists}
+use Rattle.wasm_part_rules.specs.Lists.{only_types, only_imports, up_to_functions, up_to_tables, up_to_memories, up_to_tags, listed_parts, add_imports, add_functions, add_tables, add_memories, add_tags, add_exports, add_lists, HasNoInitializer, AreValidLists}
 use Rattle.wasm_part_rules.specs.Laws.{AreValidImports, ImportsAreAdded, ExportsAreAdded, ValidListsAreAdded}
 use Rattle.wasm_part_rules.proofs.Fronts.{front, alone}
 use Rattle.wasm_part_rules.proofs.AddedItems.{for_each}
@@ -73,23 +73,11 @@ module _ (F : Features) (types : List DefType) where
 
 -- the lists one after another, each behind those before it
 module _ (F : Features) (us : List DefType) (ids : List ℕ) (types : List DefType) (s : Stand (canonical F) us ids types) (parts : Parts) where
-  abbrev with_functions : Parts
-  with_functions = record (only_imports parts.imports) { functions = parts.functions }
-
-  abbrev with_tables : Parts
-  with_tables = record with_functions { tables = parts.tables }
-
-  abbrev with_memories : Parts
-  with_memories = record with_tables { memories = parts.memories }
-
-  abbrev with_tags : Parts
-  with_tags = record with_memories { tags = parts.tags }
-
   abbrev shown : Parts → Spaces
   shown p = spaces_of F types ids p
 
   abbrev C : IndexSpaces
-  C = index_spaces types with_tags
+  C = index_spaces types (up_to_tags parts)
 
   -- what is asked of each list
   abbrev FunctionsFit : Type 0
@@ -111,38 +99,38 @@ module _ (F : Features) (us : List DefType) (ids : List ℕ) (types : List DefTy
   ImportsFit = AreValidImports F types parts.imports
 
   -- the laws of the lists, last to first
-  pub exports_law : ExportsAreAdded → ImportsFit → FunctionsFit → TagsFit → StepLaw (add_exports F us (shown with_tags) parts.exports) ExportsFit (shown (listed_parts parts))
+  pub exports_law : ExportsAreAdded → ImportsFit → FunctionsFit → TagsFit → StepLaw (add_exports F us (shown (up_to_tags parts)) parts.exports) ExportsFit (shown (listed_parts parts))
   exports_law added i f g =
       let functions = All-append (IsFunctionType types) (imported functions_in parts.imports) parts.functions (all_imported F types functions_in (function_of_extern F types) parts.imports i.valid) f.0 in
       let of_tags = for_each (IsValidTag F types) (IsFunctionType types) parts.tags (λ x (v : IsValidTag F types x). v.is_of_function_type) g.0 in
       let tags = All-append (IsFunctionType types) (imported tags_in parts.imports) parts.tags (all_imported F types tags_in (tag_of_extern F types) parts.imports i.valid) of_tags in
-      added F us ids types s with_tags refl functions tags i.size parts.exports
+      added F us ids types s (up_to_tags parts) refl functions tags i.size parts.exports
 
   abbrev from_tags : Spaces → Option Spaces
   from_tags d = option_and_then (λ e. add_exports F us e parts.exports) (add_tags F us d parts.tags)
 
-  tags_law : ExportsAreAdded → ImportsFit → FunctionsFit → StepLaw (from_tags (shown with_memories)) (TagsFit × ExportsFit) (shown (listed_parts parts))
+  tags_law : ExportsAreAdded → ImportsFit → FunctionsFit → StepLaw (from_tags (shown (up_to_memories parts))) (TagsFit × ExportsFit) (shown (listed_parts parts))
   tags_law added i f =
-      then_law (add_tags F us (shown with_memories) parts.tags) (shown with_tags) (λ e. add_exports F us e parts.exports) (shown (listed_parts parts))
-      (tags_are_added F us ids types s with_memories refl refl (alone (imported tags_in parts.imports) 1000000 i.few_tags) parts.tags)
+      then_law (add_tags F us (shown (up_to_memories parts)) parts.tags) (shown (up_to_tags parts)) (λ e. add_exports F us e parts.exports) (shown (listed_parts parts))
+      (tags_are_added F us ids types s (up_to_memories parts) refl refl (alone (imported tags_in parts.imports) 1000000 i.few_tags) parts.tags)
       (exports_law added i f)
 
   abbrev from_memories : Spaces → Option Spaces
   from_memories c = option_and_then from_tags (add_memories F c parts.memories)
 
-  memories_law : ExportsAreAdded → ImportsFit → FunctionsFit → StepLaw (from_memories (shown with_tables)) (MemoriesFit × (TagsFit × ExportsFit)) (shown (listed_parts parts))
+  memories_law : ExportsAreAdded → ImportsFit → FunctionsFit → StepLaw (from_memories (shown (up_to_tables parts))) (MemoriesFit × (TagsFit × ExportsFit)) (shown (listed_parts parts))
   memories_law added i f =
-      then_law (add_memories F (shown with_tables) parts.memories) (shown with_memories) from_tags (shown (listed_parts parts))
-      (memories_are_added F ids types with_tables refl refl (alone (imported memories_in parts.imports) (most_memories F) i.few_memories) parts.memories)
+      then_law (add_memories F (shown (up_to_tables parts)) parts.memories) (shown (up_to_memories parts)) from_tags (shown (listed_parts parts))
+      (memories_are_added F ids types (up_to_tables parts) refl refl (alone (imported memories_in parts.imports) (most_memories F) i.few_memories) parts.memories)
       (λ m. tags_law added i f)
 
   abbrev from_tables : Spaces → Option Spaces
   from_tables b = option_and_then from_memories (add_tables F us b parts.tables)
 
-  tables_law : ExportsAreAdded → HasNoInitializer parts → ImportsFit → FunctionsFit → StepLaw (from_tables (shown with_functions)) (TablesFit × (MemoriesFit × (TagsFit × ExportsFit))) (shown (listed_parts parts))
+  tables_law : ExportsAreAdded → HasNoInitializer parts → ImportsFit → FunctionsFit → StepLaw (from_tables (shown (up_to_functions parts))) (TablesFit × (MemoriesFit × (TagsFit × ExportsFit))) (shown (listed_parts parts))
   tables_law added none i f =
-      then_law (add_tables F us (shown with_functions) parts.tables) (shown with_tables) from_memories (shown (listed_parts parts))
-      (tables_are_added F us ids types s with_functions refl refl (alone (imported tables_in parts.imports) (most_tables F) i.few_tables) parts.tables none.tables)
+      then_law (add_tables F us (shown (up_to_functions parts)) parts.tables) (shown (up_to_tables parts)) from_memories (shown (listed_parts parts))
+      (tables_are_added F us ids types s (up_to_functions parts) refl refl (alone (imported tables_in parts.imports) (most_tables F) i.few_tables) parts.tables none.tables)
       (λ t. memories_law added i f)
 
   abbrev from_functions : Spaces → Option Spaces
@@ -153,7 +141,7 @@ module _ (F : Features) (us : List DefType) (ids : List ℕ) (types : List DefTy
 
   functions_law : ExportsAreAdded → HasNoInitializer parts → ImportsFit → StepLaw (from_functions (shown (only_imports parts.imports))) DefinitionsFit (shown (listed_parts parts))
   functions_law added none i =
-      then_law (add_functions us (shown (only_imports parts.imports)) parts.functions) (shown with_functions) from_tables (shown (listed_parts parts))
+      then_law (add_functions us (shown (only_imports parts.imports)) parts.functions) (shown (up_to_functions parts)) from_tables (shown (listed_parts parts))
       (functions_are_added F us ids types s (only_imports parts.imports) refl refl (alone (imported functions_in parts.imports) 1000000 i.few_functions) parts.functions)
       (tables_law added none i)
 

@@ -64,9 +64,21 @@ only_imports is = record {
   segments = [];
 }
 
--- these lists alone
+-- the lists of these parts up to the functions, the tables, the memories, the tags and the exports, one after another
+abbrev pub up_to_functions : Parts → Parts
+up_to_functions parts = record (only_imports parts.imports) { functions = parts.functions }
+
+abbrev pub up_to_tables : Parts → Parts
+up_to_tables parts = record (up_to_functions parts) { tables = parts.tables }
+
+abbrev pub up_to_memories : Parts → Parts
+up_to_memories parts = record (up_to_tables parts) { memories = parts.memories }
+
+abbrev pub up_to_tags : Parts → Parts
+up_to_tags parts = record (up_to_memories parts) { tags = parts.tags }
+
 abbrev pub listed_parts : Parts → Parts
-listed_parts parts = record (only_imports parts.imports) { functions = parts.functions; tables = parts.tables; memories = parts.memories; tags = parts.tags; exports = parts.exports }
+listed_parts parts = record (up_to_tags parts) { exports = parts.exports }
 
 abbrev pub has_no_init : TableEntry Expression ℕ → Type 0
 has_no_init t = t.init ≡ None

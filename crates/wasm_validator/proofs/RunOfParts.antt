@@ -32,7 +32,7 @@ use Rattle.wasm_validator_core.specs.Answers.{Types, HasValidTypes}
 use Rattle.wasm_validator_core.specs.Machine.{add_group}
 use Rattle.wasm_validator_core.specs.Items.{is_startable, is_data_count, add_import, add_function, add_table, add_memory, add_tag, add_export}
 use Rattle.wasm_part_rules.specs.Shown.{listed_table, spaces_of}
-use Rattle.wasm_part_rules.specs.Lists.{has_no_init, only_types, add_imports, add_functions, add_tables, add_memories, add_tags, add_exports, add_lists, AreValidLists}
+use Rattle.wasm_part_rules.specs.Lists.{has_no_init, only_types, only_imports, up_to_functions, up_to_tables, up_to_memories, up_to_tags, listed_parts, add_imports, add_functions, add_tables, add_memories, add_tags, add_exports, add_lists, AreValidLists}
 use Rattle.wasm_validator.specs.Machine.{read_section, start_item, data_count_item, beside}
 use Rattle.wasm_validator.proofs.AddedTypes.{TypesAdded, section, type_space, list_after, ids, runs_to, ends_at}
 use Rattle.wasm_validator.proofs.Items.{each_back}
@@ -43,7 +43,7 @@ use Rattle.wasm_part_rules.proofs.AllLists.{valid_lists_are_added}
 use Rattle.wasm_part_rules.proofs.Starts.{starts_are_decided}
 use Rattle.wasm_validator.proofs.ServedAdded.{lists_are_added}
 use Rattle.wasm_validator.proofs.PlainTables.{plain_at, plain_renames, heads_are_plain, bare, all_plain, all_entries, bare_types, bare_inits}
-use Rattle.wasm_validator.proofs.ServedLists.{Lists, Reading, imports_alone, with_functions, with_tables, with_memories, with_tags, with_exports, parts_of, AreOf}
+use Rattle.wasm_validator.proofs.ServedLists.{Lists, Reading, parts_of, AreOf}
 
 -- What there is to know of pieces that the machine accepts: their lists, which keep to the limits, and are valid.
 pub record Accepted (expression_at : Reading) (features : WasmFeatures) (T : Types) (ps : List Piece) : Type 0 where
@@ -59,7 +59,7 @@ pub record Accepted (expression_at : Reading) (features : WasmFeatures) (T : Typ
 
 abbrev pub end_of : (expression_at : Reading) (features : WasmFeatures) (T : Types) (ps : List Piece) → Accepted expression_at features T ps → Types × Spaces
 end_of expression_at features T ps a =
-    (list_after features T a.lists.groups a.types, spaces_of (features_of features) (type_space features T a.lists.groups a.types) (ids features T a.lists.groups a.types) (with_exports a.lists))
+    (list_after features T a.lists.groups a.types, spaces_of (features_of features) (type_space features T a.lists.groups a.types) (ids features T a.lists.groups a.types) (listed_parts (parts_of a.lists)))
 
 -- what holds of all pieces holds of those of a rank
 ranked_case : (P : Piece → Type 0) (k : ℕ) (p : Piece) (ps : List Piece) → All P (p ∷ ps) → All P (at_rank k ps) → All P (at_rank k (p ∷ ps))
@@ -389,8 +389,8 @@ module _ (expression_at : Reading) (features : WasmFeatures) (T : Types) (ps : L
       let stand = (section features T r.gs r.types).stand in
       let lists : Lists = record (l.others) { groups = r.gs } in
       let v = (valid_lists_are_added G us is space stand (parts_of lists) (record { tables = (l.are).no_inits; globals = refl; elements = refl; segments = refl }) l.after).0 l.added in
-      let ends : (us, spaces_of G space is (with_exports lists)) ≡ q = (λ j. (us, v.1 j)) ∙ l.gives in
-      let here : All (λ x. is_startable us (spaces_of G space is (with_exports lists)) x ≡ true) lists.starts = subst (λ (p : Types × Spaces). All (λ x. is_startable p.0 p.1 x ≡ true) lists.starts) (sym ends) startable in
+      let ends : (us, spaces_of G space is (listed_parts (parts_of lists))) ≡ q = (λ j. (us, v.1 j)) ∙ l.gives in
+      let here : All (λ x. is_startable us (spaces_of G space is (listed_parts (parts_of lists))) x ≡ true) lists.starts = subst (λ (p : Types × Spaces). All (λ x. is_startable p.0 p.1 x ≡ true) lists.starts) (sym ends) startable in
       record {
         accepted = record {
           lists = lists;
@@ -400,7 +400,7 @@ module _ (expression_at : Reading) (features : WasmFeatures) (T : Types) (ps : L
           few_exports = l.few_exports;
           types = r.types;
           valid = v.0;
-          starts = for_each (λ x. is_startable us (spaces_of G space is (with_exports lists)) x ≡ true) (IsValidStart (index_spaces space (parts_of lists))) lists.starts (λ x e. (starts_are_decided G us is space stand (with_exports lists) x).0 e) here;
+          starts = for_each (λ x. is_startable us (spaces_of G space is (listed_parts (parts_of lists))) x ≡ true) (IsValidStart (index_spaces space (parts_of lists))) lists.starts (λ x e. (starts_are_decided G us is space stand (listed_parts (parts_of lists)) x).0 e) here;
           few_segments = few;
         };
         ends = ends;
@@ -463,12 +463,12 @@ module _ (expression_at : Reading) (features : WasmFeatures) (T : Types) (ps : L
       let added = lists_are_added G us is space stand l (a.are).no_inits valid in
       let few_tables = valid.few_tables in
       let s1 : Spaces = only_types is in
-      let s2 = spaces_of G space is (imports_alone l) in
-      let s3 = spaces_of G space is (with_functions l) in
-      let s4 = spaces_of G space is (with_tables l) in
-      let s5 = spaces_of G space is (with_memories l) in
-      let s6 = spaces_of G space is (with_tags l) in
-      let s8 = spaces_of G space is (with_exports l) in
+      let s2 = spaces_of G space is (only_imports l.imports) in
+      let s3 = spaces_of G space is (up_to_functions (parts_of l)) in
+      let s4 = spaces_of G space is (up_to_tables (parts_of l)) in
+      let s5 = spaces_of G space is (up_to_memories (parts_of l)) in
+      let s6 = spaces_of G space is (up_to_tags (parts_of l)) in
+      let s8 = spaces_of G space is (listed_parts (parts_of l)) in
       let run1 : each (step features) start (at_rank 1 ps) ≡ Some (us, s1) = groups_read features ps parts follows allowed start (us, s1) gs a.are.groups (omega (arith, few_groups)) (runs_to features gs start types.end types.ran types.few) in
       let run2 : each (step features) (us, s1) (at_rank 2 ps) ≡ Some (us, s2) = imports_read features ps parts follows allowed (us, s1) (us, s2) l.imports a.are.imports (omega (arith, few_imports)) (beside_left (λ (us : Types). add_import G us) us s1 s2 (map (map_import written) l.imports) added.imports) in
       let run3 : each (step features) (us, s2) (at_rank 3 ps) ≡ Some (us, s3) = functions_read features ps parts follows allowed (us, s2) (us, s3) l.functions a.are.functions (front_fits (imported functions_in l.imports) l.functions few_functions) (beside_left add_function us s2 s3 (map same_item l.functions) (mapped (add_function us) s2 s3 l.functions added.functions)) in
@@ -477,7 +477,7 @@ module _ (expression_at : Reading) (features : WasmFeatures) (T : Types) (ps : L
       let run5 : each (step features) (us, s4) (at_rank 5 ps) ≡ Some (us, s5) = memories_read features ps parts follows allowed (us, s4) (us, s5) l.memories (a.are).memories (front_fits (imported memories_in l.imports) l.memories few_memories) (beside_left (λ (us : Types). add_memory G) us s4 s5 (map same_item l.memories) (mapped (add_memory G) s4 s5 l.memories added.memories)) in
       let run6 : each (step features) (us, s5) (at_rank 6 ps) ≡ Some (us, s6) = tags_read features ps parts follows allowed (us, s5) (us, s6) l.tags a.are.tags (front_fits (imported tags_in l.imports) l.tags few_tags) (beside_left (λ (us : Types). add_tag G us) us s5 s6 (map same_item l.tags) (mapped (add_tag G us) s5 s6 l.tags added.tags)) in
       let run8 : each (step features) (us, s6) (at_rank 8 ps) ≡ Some (us, s8) = exports_read features ps parts follows allowed (us, s6) (us, s8) l.exports a.are.exports (omega (arith, few_exports)) (beside_left (λ (us : Types). add_export G us) us s6 s8 (map same_item l.exports) (mapped (add_export G us) s6 s8 l.exports added.exports)) in
-      let startable = for_each (IsValidStart (index_spaces space (parts_of l))) (λ x. is_startable us s8 x ≡ true) l.starts (λ x v. (starts_are_decided G us is space stand (with_exports l) x).1 v) a.starts in
+      let startable = for_each (IsValidStart (index_spaces space (parts_of l))) (λ x. is_startable us s8 x ≡ true) l.starts (λ x v. (starts_are_decided G us is space stand (listed_parts (parts_of l)) x).1 v) a.starts in
       let run9 : each (step features) (us, s8) (at_rank 9 ps) ≡ Some (us, s8) = starts_read features ps parts follows allowed (us, s8) (subst (λ (xs : List ℕ). All (λ x. is_startable us s8 x ≡ true) xs) (sym (a.are).starts) startable) in
       let run11 : each (step features) (us, s8) (at_rank 11 ps) ≡ Some (us, s8) = counts_read features ps parts follows allowed (us, s8) (subst (λ (ns : List ℕ). All (λ n. n ≤ MAX_DATA_SEGMENTS) ns) (sym (a.are).data_counts) a.few_segments) in
       by_sections features ps start parts follows

@@ -8,13 +8,13 @@ use Rattle.wasm_rules.specs.Limits.{most_tables, most_memories}
 use Rattle.wasm_item_rules.specs.Laws.{Stand}
 use Rattle.wasm_validator_core.specs.Answers.{Types}
 use Rattle.wasm_part_rules.specs.Shown.{spaces_of}
-use Rattle.wasm_part_rules.specs.Lists.{has_no_init, AreValidLists}
+use Rattle.wasm_part_rules.specs.Lists.{only_imports, up_to_functions, up_to_tables, up_to_memories, up_to_tags, listed_parts, has_no_init, AreValidLists}
 use Rattle.wasm_part_rules.proofs.AddedImports.{imports_are_added}
 use Rattle.wasm_part_rules.proofs.AddedDefinitions.{functions_are_added, tables_are_added, memories_are_added, tags_are_added}
 use Rattle.wasm_part_rules.proofs.Fronts.{alone}
 use Rattle.wasm_part_rules.proofs.AllLists.{fit_from, exports_law}
 use Rattle.wasm_part_rules.proofs.AddedExports.{exports_are_added}
-use Rattle.wasm_validator.proofs.ServedLists.{Lists, imports_alone, with_functions, with_tables, with_memories, with_tags, with_exports, parts_of, AreAdded}
+use Rattle.wasm_validator.proofs.ServedLists.{Lists, parts_of, AreAdded}
 
 module _ (F : Features) (us : Types) (ids : List ℕ) (types : List DefType) (stand : Stand (canonical F) us ids types) (l : Lists) where
   pub lists_are_added : All has_no_init l.tables → AreValidLists F (index_spaces types (parts_of l)) (parts_of l) → AreAdded F us ids types l
@@ -23,10 +23,10 @@ module _ (F : Features) (us : Types) (ids : List ℕ) (types : List DefType) (st
       let i = fit.0 in
       let d = fit.1 in
       record {
-        imports = (imports_are_added F us ids types stand l.imports (spaces_of F types ids (imports_alone l))).1 (i, refl);
-        functions = (functions_are_added F us ids types stand (imports_alone l) refl refl (alone (imported functions_in l.imports) 1000000 i.few_functions) l.functions (spaces_of F types ids (with_functions l))).1 (d.0, refl);
-        tables = (tables_are_added F us ids types stand (with_functions l) refl refl (alone (imported tables_in l.imports) (most_tables F) i.few_tables) l.tables no_inits (spaces_of F types ids (with_tables l))).1 (d.1.0, refl);
-        memories = (memories_are_added F ids types (with_tables l) refl refl (alone (imported memories_in l.imports) (most_memories F) i.few_memories) l.memories (spaces_of F types ids (with_memories l))).1 (d.1.1.0, refl);
-        tags = (tags_are_added F us ids types stand (with_memories l) refl refl (alone (imported tags_in l.imports) 1000000 i.few_tags) l.tags (spaces_of F types ids (with_tags l))).1 (d.1.1.1.0, refl);
-        exports = (exports_law F us ids types stand (parts_of l) exports_are_added i d.0 d.1.1.1.0 (spaces_of F types ids (with_exports l))).1 (d.1.1.1.1, refl);
+        imports = (imports_are_added F us ids types stand l.imports (spaces_of F types ids (only_imports l.imports))).1 (i, refl);
+        functions = (functions_are_added F us ids types stand (only_imports l.imports) refl refl (alone (imported functions_in l.imports) 1000000 i.few_functions) l.functions (spaces_of F types ids (up_to_functions (parts_of l)))).1 (d.0, refl);
+        tables = (tables_are_added F us ids types stand (up_to_functions (parts_of l)) refl refl (alone (imported tables_in l.imports) (most_tables F) i.few_tables) l.tables no_inits (spaces_of F types ids (up_to_tables (parts_of l)))).1 (d.1.0, refl);
+        memories = (memories_are_added F ids types (up_to_tables (parts_of l)) refl refl (alone (imported memories_in l.imports) (most_memories F) i.few_memories) l.memories (spaces_of F types ids (up_to_memories (parts_of l)))).1 (d.1.1.0, refl);
+        tags = (tags_are_added F us ids types stand (up_to_memories (parts_of l)) refl refl (alone (imported tags_in l.imports) 1000000 i.few_tags) l.tags (spaces_of F types ids (up_to_tags (parts_of l)))).1 (d.1.1.1.0, refl);
+        exports = (exports_law F us ids types stand (parts_of l) exports_are_added i d.0 d.1.1.1.0 (spaces_of F types ids (listed_parts (parts_of l)))).1 (d.1.1.1.1, refl);
       }

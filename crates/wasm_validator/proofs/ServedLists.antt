@@ -13,7 +13,7 @@ use Rattle.wasm_parser.specs.Framing.{Piece}
 use Rattle.wasm_rules.specs.Parts.{Parts, Expression, index, all_items, starts_of, data_counts_of}
 use Rattle.wasm_validator_core.specs.Answers.{Types}
 use Rattle.wasm_part_rules.specs.Shown.{spaces_of}
-use Rattle.wasm_part_rules.specs.Lists.{only_types, only_imports, has_no_init, add_imports, add_functions, add_tables, add_memories, add_tags, add_exports}
+use Rattle.wasm_part_rules.specs.Lists.{only_types, only_imports, up_to_functions, up_to_tables, up_to_memories, up_to_tags, listed_parts, has_no_init, add_imports, add_functions, add_tables, add_memories, add_tags, add_exports}
 
 -- the lists that may not be empty
 pub record Lists : Type 0 where
@@ -27,28 +27,18 @@ pub record Lists : Type 0 where
   pub starts : List ℕ
   pub data_counts : List ℕ
 
--- the parts, as far as the imports, then with the functions, the tables, the memories and the tags
-abbrev pub imports_alone : Lists → Parts
-imports_alone l = only_imports l.imports
-
-abbrev pub with_functions : Lists → Parts
-with_functions l = record (imports_alone l) { functions = l.functions }
-
-abbrev pub with_tables : Lists → Parts
-with_tables l = record (with_functions l) { tables = l.tables }
-
-abbrev pub with_memories : Lists → Parts
-with_memories l = record (with_tables l) { memories = l.memories }
-
-abbrev pub with_tags : Lists → Parts
-with_tags l = record (with_memories l) { tags = l.tags }
-
-abbrev pub with_exports : Lists → Parts
-with_exports l = record (with_tags l) { exports = l.exports }
-
--- all parts
+-- the parts that they are
 abbrev pub parts_of : Lists → Parts
-parts_of l = record (with_exports l) { groups = l.groups; starts = l.starts; data_counts = l.data_counts }
+parts_of l = record (only_imports l.imports) {
+  groups = l.groups;
+  functions = l.functions;
+  tables = l.tables;
+  memories = l.memories;
+  tags = l.tags;
+  exports = l.exports;
+  starts = l.starts;
+  data_counts = l.data_counts;
+}
 
 -- how a constant expression is read
 abbrev pub Reading : Type 0
@@ -69,9 +59,9 @@ pub record AreOf (expression_at : Reading) (ps : List Piece) (l : Lists) : Type 
 
 -- Lists that are valid are added one after another, each behind the state that the lists before it have left.
 pub record AreAdded (F : Features) (us : Types) (ids : List ℕ) (types : List DefType) (l : Lists) : Type 0 where
-  pub imports : add_imports F us (only_types ids) l.imports ≡ Some (spaces_of F types ids (imports_alone l))
-  pub functions : add_functions us (spaces_of F types ids (imports_alone l)) l.functions ≡ Some (spaces_of F types ids (with_functions l))
-  pub tables : add_tables F us (spaces_of F types ids (with_functions l)) l.tables ≡ Some (spaces_of F types ids (with_tables l))
-  pub memories : add_memories F (spaces_of F types ids (with_tables l)) l.memories ≡ Some (spaces_of F types ids (with_memories l))
-  pub tags : add_tags F us (spaces_of F types ids (with_memories l)) l.tags ≡ Some (spaces_of F types ids (with_tags l))
-  pub exports : add_exports F us (spaces_of F types ids (with_tags l)) l.exports ≡ Some (spaces_of F types ids (with_exports l))
+  pub imports : add_imports F us (only_types ids) l.imports ≡ Some (spaces_of F types ids (only_imports l.imports))
+  pub functions : add_functions us (spaces_of F types ids (only_imports l.imports)) l.functions ≡ Some (spaces_of F types ids (up_to_functions (parts_of l)))
+  pub tables : add_tables F us (spaces_of F types ids (up_to_functions (parts_of l))) l.tables ≡ Some (spaces_of F types ids (up_to_tables (parts_of l)))
+  pub memories : add_memories F (spaces_of F types ids (up_to_tables (parts_of l))) l.memories ≡ Some (spaces_of F types ids (up_to_memories (parts_of l)))
+  pub tags : add_tags F us (spaces_of F types ids (up_to_memories (parts_of l))) l.tags ≡ Some (spaces_of F types ids (up_to_tags (parts_of l)))
+  pub exports : add_exports F us (spaces_of F types ids (up_to_tags (parts_of l))) l.exports ≡ Some (spaces_of F types ids (listed_parts (parts_of l)))
