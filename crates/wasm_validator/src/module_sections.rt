@@ -1,8 +1,8 @@
 //! The items of a module's sections, one by one.
 
-ghost use Rattle.std.specs.Prelude.{◌≡◌, ◌==◌, ◌&&◌, OnOk, IsTrue, is_ok, length};
+ghost use Rattle.std.specs.Prelude.{◌≡◌, ◌==◌, ◌&&◌, OnOk, IfErr, IsTrue, is_ok, length, None};
 ghost use Rattle.wasm_rules.specs.FeatureFlags.{features_of};
-ghost use Rattle.wasm_readers.specs.SectionsSeen.{count_of, bytes_of};
+ghost use Rattle.wasm_readers.specs.SectionsSeen.{count_of, bytes_of, first_item_at, section_start};
 ghost use Rattle.wasm_validator_types.specs.Shown.{types_of};
 ghost use Rattle.wasm_validator_canonical.specs.Groups.{AreValid};
 ghost use Rattle.wasm_validator_core.specs.Answers.{Adds, AddsWhere, HasValidTypes};
@@ -228,7 +228,9 @@ pub fn check_empty<T, A: Allocator + Copy>(
     section: &SectionLimited<'_, T, A>,
     what: Unserved,
 ) -> Result<(), Refusal>
-    ensures { is_ok result ≡ (count_of section.now == 0 && length (bytes_of section.now) == 0) }
+    ensures accepted { is_ok result ≡ (count_of section.now == 0 && length (bytes_of section.now) == 0) }
+    ensures behind { count_of section.now ≡ 0 → IfErr result (λ r. r ≡ record { fault = Fault.Malformed Malformed.SectionSize; offset = first_item_at section.now; missing = None }) }
+    ensures unserved { (count_of section.now ≡ 0 → ⊥) → IfErr result (λ r. r ≡ record { fault = Fault.NotServed what; offset = section_start section.now; missing = None }) }
 {
     if section.is_empty() {
         return Ok(());

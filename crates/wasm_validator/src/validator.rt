@@ -556,7 +556,7 @@ impl<A: Allocator + Copy> Validator<A> {
     /// A section of an id that the standard does not know, which is refused and changes nothing.
     pub fn unknown_section(&mut self, id: u8, range: &Range<u64>) -> Result<(), Error<A>>
         ensures moves { Leaves result None self.old.stage self.old self.new }
-        ensures content { IfErr result IsContent }
+        ensures refusal { IfErr result (λ e. e ≡ Error.Refused (record { fault = Fault.UnknownSection id; offset = range.now.start; missing = None })) }
         ensures refused { IsErr result }
     {
         Err(Error::Refused(Refusal::new(Fault::UnknownSection(id), range.start)))

@@ -267,3 +267,56 @@ fn tags_are_of_functions_without_results(rt: HostRuntime) -> Result<(), Fail> {
     assert!(rt; is_refused(alloc, features, bytes, 18, message));
     Ok(())
 }
+
+#[test]
+fn exactly_imported_functions_are_exported_exactly(rt: HostRuntime) -> Result<(), Fail> {
+    let alloc = rt.alloc();
+    let features = with(WasmFeatures::CUSTOM_DESCRIPTORS);
+    let bytes =
+        b"\0asm\x01\0\0\0\x01\x04\x01\x60\0\0\x02\x0d\x02\x01a\x01b\x20\0\x01a\x01c\0\0\x07\x09\x02\x01d\0\0\x01e\0\x01";
+    let types = answer(alloc, features, bytes)?;
+    let mut exports = types.as_ref().core_exports().ok_or("no exports")?;
+    let (_, exactly) = exports.next().ok_or("no export")?;
+    let (_, at_most) = exports.next().ok_or("no export")?;
+    let is_exact = matches!(exactly, EntityType::FuncExact(_));
+    assert!(rt; is_exact);
+    let is_function = matches!(at_most, EntityType::Func(_));
+    assert!(rt; is_function);
+    Ok(())
+}
+
+#[test]
+fn defined_functions_are_exported_exactly(rt: HostRuntime) -> Result<(), Fail> {
+    let alloc = rt.alloc();
+    let types = SectionLimited::new(alloc, BinaryReader::new(b"\x01\x60\0\0", 8))
+        .ok()
+        .ok_or("no section")?;
+    let functions = SectionLimited::new(alloc, BinaryReader::new(b"\x01\0", 14))
+        .ok()
+        .ok_or("no section")?;
+    let exports = SectionLimited::new(alloc, BinaryReader::new(b"\x01\x01a\0\0", 20))
+        .ok()
+        .ok_or("no section")?;
+    let mut validator = begun(alloc, with(WasmFeatures::CUSTOM_DESCRIPTORS))?;
+    validator.type_section(&types)?;
+    validator.function_section(&functions)?;
+    validator.export_section(&exports)?;
+    let shown = validator.end(30)?;
+    let mut exports = shown.as_ref().core_exports().ok_or("no exports")?;
+    let (_, entity) = exports.next().ok_or("no export")?;
+    let is_exact = matches!(entity, EntityType::FuncExact(_));
+    assert!(rt; is_exact);
+    let mut validator = begun(alloc, without(WasmFeatures::CUSTOM_DESCRIPTORS))?;
+    let exports = SectionLimited::new(alloc, BinaryReader::new(b"\x01\x01a\0\0", 20))
+        .ok()
+        .ok_or("no section")?;
+    validator.type_section(&types)?;
+    validator.function_section(&functions)?;
+    validator.export_section(&exports)?;
+    let shown = validator.end(30)?;
+    let mut exports = shown.as_ref().core_exports().ok_or("no exports")?;
+    let (_, entity) = exports.next().ok_or("no export")?;
+    let is_function = matches!(entity, EntityType::Func(_));
+    assert!(rt; is_function);
+    Ok(())
+}

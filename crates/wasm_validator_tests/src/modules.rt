@@ -166,8 +166,7 @@ fn what_is_not_served_is_said(rt: HostRuntime) {
 
 #[test]
 fn sections_without_items_are_accepted(rt: HostRuntime) -> Result<(), Fail> {
-    let bytes =
-        b"\0asm\x01\0\0\0\x03\x01\0\x06\x01\0\x09\x01\0\x0c\x01\0\x0a\x01\0\x0b\x01\0";
+    let bytes = b"\0asm\x01\0\0\0\x03\x01\0\x06\x01\0\x09\x01\0\x0c\x01\0\x0a\x01\0\x0b\x01\0";
     let types = check(rt.alloc(), bytes)?;
     let shown = types.as_ref();
     assert_eq!(rt; shown.function_count(), 0);
