@@ -1,5 +1,5 @@
 ghost use Rattle.std.specs.Prelude.{◌≡◌, IfOk, IfErr, IfSome, IsSome, IsErr, OnOk, OnErr, Some, None, true, is_ok, if◌then◌else◌, ◌↔◌};
-ghost use Rattle.wasm_validator_core.specs.Errors.{IsContent};
+ghost use Rattle.wasm_validator_core.specs.Errors.{IsContent, offset_of};
 ghost use Rattle.wasm_readers.specs.SectionsSeen.{count_of, bytes_of};
 ghost use Rattle.wasm_validator_type_list.specs.Interned.{AreOnce};
 ghost use Rattle.wasm_validator_type_list.specs.Listing.{closed};
@@ -91,6 +91,7 @@ fn opened<A: Allocator>(state: &mut State<A>, offset: u64) -> Result<ModuleState
     ensures ok { IfOk result (λ m. open_of state.old ≡ Some m.«module») }
     ensures left { OnOk result (state.new ≡ State.Failed) }
     ensures none { OnErr result (open_of state.old ≡ None) }
+    ensures place { IfErr result (λ r. r.offset ≡ offset) }
     ensures unchanged { OnErr result (state.new ≡ state.old) }
 {
     match mem::replace(state, State::Failed) {
@@ -261,6 +262,7 @@ impl<A: Allocator + Copy> Validator<A> {
     ) -> Result<(), Error<A>>
         ensures moves { Leaves result (after_version self.old number (is_module encoding)) self.old.stage self.old self.new }
         ensures content { IfErr result IsContent }
+        ensures place { IfErr result (λ e. offset_of e ≡ range.now.start) }
     {
         if !matches!(self.state, State::Unparsed) {
             return Err(Error::Refused(Refusal::new(
@@ -459,7 +461,8 @@ impl<A: Allocator + Copy> Validator<A> {
 
     /// The function that starts a module, by its index.
     pub fn start_section(&mut self, function: u32, range: &Range<u64>) -> Result<(), Error<A>>
-        ensures { Moves result (after_start self.old function) self.old self.new }
+        ensures moves { Moves result (after_start self.old function) self.old self.new }
+        ensures place { IfErr result (λ e. offset_of e ≡ range.now.start) }
     {
         match opened(&mut self.state, range.start) {
             Ok(state) => {
@@ -485,7 +488,8 @@ impl<A: Allocator + Copy> Validator<A> {
 
     /// The number of data segments that the data section is to have.
     pub fn data_count_section(&mut self, count: u32, range: &Range<u64>) -> Result<(), Error<A>>
-        ensures { Moves result (after_data_count self.old count) self.old self.new }
+        ensures moves { Moves result (after_data_count self.old count) self.old self.new }
+        ensures place { IfErr result (λ e. offset_of e ≡ range.now.start) }
     {
         match opened(&mut self.state, range.start) {
             Ok(state) => {
@@ -498,7 +502,8 @@ impl<A: Allocator + Copy> Validator<A> {
 
     /// The start of the code section.
     pub fn code_section_start(&mut self, range: &Range<u64>) -> Result<(), Error<A>>
-        ensures { Moves result (after_code_start self.old) self.old self.new }
+        ensures moves { Moves result (after_code_start self.old) self.old self.new }
+        ensures place { IfErr result (λ e. offset_of e ≡ range.now.start) }
     {
         match opened(&mut self.state, range.start) {
             Ok(state) => {
@@ -565,6 +570,7 @@ impl<A: Allocator + Copy> Validator<A> {
     /// The end of a module at this offset, with its types.
     pub fn end(&mut self, offset: u64) -> Result<Types<A>, Error<A>>
         ensures moves { Leaves result (after_end self.old) (ended_at self.old.stage) self.old self.new }
+        ensures place { IfErr result (λ e. IsContent e → offset_of e ≡ offset) }
         ensures shown { IfOk result (Show self.old) }
     {
         match closing(&mut self.state) {
