@@ -12,7 +12,7 @@ use Rattle.wasm_readers_errors.specs.declared.error.Refusal.{Refusal}
 use Rattle.wasm_readers_types.specs.declared.indices.UnpackedIndex.{UnpackedIndex}
 use Rattle.wasm_readers.specs.Written.{written}
 use Rattle.wasm_readers.specs.declared.items.TableHead.{TableHead}
-use Rattle.wasm_readers.specs.Tables.{ExpressionReading, Head, head_of, head_with, table_head_from, table_head_at, table_behind, BeginsTable, HasNoTable, TableHeadsBeginTables}
+use Rattle.wasm_readers.specs.Tables.{ExpressionReading, Head, head_of, head_with, table_head_from, table_head_at, table_behind, TableHeadsBeginTables}
 
 module _ (expression_at : ExpressionReading) where
   -- a table that goes on behind a head
@@ -48,12 +48,3 @@ module _ (expression_at : ExpressionReading) where
 
 pub heads_begin_tables : TableHeadsBeginTables
 heads_begin_tables expression_at bytes = head_first expression_at bytes
-
--- a call that gives a head gives the beginning of a table
-pub begins_table : (r : Result TableHead Refusal) (bytes more : List ℕ) → IfOk r (λ h. table_head_at bytes ≡ Some (head_of h, more)) → IfOk r (λ h. BeginsTable h bytes more)
-begins_table (Ok h) bytes more e = λ expression_at. head_first expression_at bytes ∙ ap (behind expression_at) e
-begins_table (Err r) bytes more e = tt
-
-pub has_no_table : (r : Result TableHead Refusal) (bytes : List ℕ) → OnErr r (table_head_at bytes ≡ None) → OnErr r (HasNoTable bytes)
-has_no_table (Ok h) bytes e = tt
-has_no_table (Err r) bytes e = λ expression_at. head_first expression_at bytes ∙ ap (behind expression_at) e

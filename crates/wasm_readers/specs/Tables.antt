@@ -40,14 +40,6 @@ table_behind expression_at h bytes =
     if h.has_init then option_map (λ e. (record { ty = h.ty; init = Some e.0 }, e.1)) (expression_at bytes)
     else Some (record { ty = h.ty; init = None }, bytes)
 
--- however expressions are read, a table goes on behind this head
-abbrev pub BeginsTable : TableHead → List ℕ → List ℕ → Type 0
-BeginsTable h bytes more = (expression_at : ExpressionReading) → table_entry_at expression_at written bytes ≡ table_behind expression_at (head_of h) more
-
--- however expressions are read, no table is encoded
-abbrev pub HasNoTable : List ℕ → Type 0
-HasNoTable bytes = (expression_at : ExpressionReading) → table_entry_at expression_at written bytes ≡ None
-
 -- However expressions are read, a table is its head and what is behind it.
 abbrev pub TableHeadsBeginTables : Type 0
 TableHeadsBeginTables = (expression_at : ExpressionReading) (bytes : List ℕ) → table_entry_at expression_at written bytes ≡ option_and_then (λ h. table_behind expression_at h.0 h.1) (table_head_at bytes)

@@ -6,7 +6,7 @@ ghost use Rattle.wasm_spec.specs.BinaryModules.{import_at, export_at, extern_at}
 ghost use Rattle.wasm_readers.specs.Reader.{input, SameInput, position_in, rest, RefusedFrom};
 ghost use Rattle.wasm_readers.specs.Written.{written};
 ghost use Rattle.wasm_readers.specs.Limits.{limits_of};
-ghost use Rattle.wasm_readers.specs.Tables.{head_of, table_head_at, BeginsTable, HasNoTable};
+ghost use Rattle.wasm_readers.specs.Tables.{head_of, table_head_at};
 ghost use Rattle.wasm_readers_types.specs.SeenExterns.{table_of, memory_of, global_of, extern_of, kind_of};
 
 use crate::binary_reader::BinaryReader;
@@ -113,9 +113,10 @@ impl<'a> BinaryReader<'a> {
         })
     }
 
-    /// The first part of a table: its type, and whether an initializer follows.
+    /// What stands of a table of the table section before its initializer: its type, and whether an
+    /// initializer follows (Core Specification 3.0, Binary Format, Table Section).
     #[tactic(auto, unfolding(crate::specs::Tables::table_head_at))]
-    fn read_head(&mut self) -> Result<TableHead, Refusal>
+    pub fn read_table_head(&mut self) -> Result<TableHead, Refusal>
         ensures same { SameInput self.old self.new }
         ensures onward { position_in self.old ≤ position_in self.new }
         ensures refusal { IfErr result (RefusedFrom self.old) }
@@ -131,18 +132,6 @@ impl<'a> BinaryReader<'a> {
         }
         let ty = self.read_table_type()?;
         Ok(TableHead { ty, has_init })
-    }
-
-    /// What stands of a table of the table section before its initializer: its type, and whether an
-    /// initializer follows (Core Specification 3.0, Binary Format, Table Section).
-    pub fn read_table_head(&mut self) -> Result<TableHead, Refusal>
-        ensures same { SameInput self.old self.new }
-        ensures onward { position_in self.old ≤ position_in self.new }
-        ensures refusal { IfErr result (RefusedFrom self.old) }
-        ensures ok { IfOk result (λ h. BeginsTable h (rest self.old) (rest self.new)) }
-        ensures err { OnErr result (HasNoTable (rest self.old)) }
-    {
-        self.read_head()
     }
 
     /// A memory type.
@@ -252,7 +241,7 @@ impl<'a, A: Allocator> FromReader<'a, A> for TableHead {
     ghost value = { head_of };
 
     fn from_reader(_alloc: A, reader: &mut BinaryReader<'a>) -> Result<TableHead, Error> {
-        Ok(reader.read_head()?)
+        Ok(reader.read_table_head()?)
     }
 }
 
