@@ -7,4 +7,3 @@ pub mod Depth
 pub mod Renamed
 pub mod Transported
 pub mod IdsAndTypes
-pub mod Standing

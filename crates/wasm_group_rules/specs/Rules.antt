@@ -9,7 +9,7 @@ use Rattle.wasm_spec.specs.ValueTypes.{implies, allows_storage}
 use Rattle.wasm_spec.specs.Matching.{is_shared_storage}
 use Rattle.wasm_spec.specs.GroupRules.{storages, has_many_results, is_array, is_struct, is_cont, IsContinuationOfFunction, IsValidType}
 use Rattle.wasm_readers_types.specs.declared.types.SubType.{SubType}
-use Rattle.wasm_validator_type_list.specs.Groups.{IsInGroup}
+use Rattle.wasm_grouped_list.specs.Groups.{IsInGroup}
 use Rattle.wasm_validator_type_list.specs.Declares.{declares}
 use Rattle.wasm_validator_type_list.specs.Grouped.{MatchesDeclared}
 

@@ -14,6 +14,3 @@ pub use descriptors::check_descriptors;
 pub use groups::{check_rec_group, check_type};
 pub use laws::{ids_keep_rules_as_types, sub_types_match_as_types};
 pub use subtypes::check_subtype;
-
-#[cfg(test)]
-mod tests;

@@ -2,7 +2,6 @@
 use Rattle.std.proofs.Common.{◌≡◌, refl, sym, ap, ◌∙◌, ℕ, ◌+◌, ◌<◌, List, [], ◌∷◌, map, length, slice_get, slice_index_or, get_or, Option, Some, None, arith}
 use Rattle.std.specs.Option.{option_map, option_and_then}
 use Rattle.std.proofs.lemmas.List.{length-map}
-use Rattle.std.proofs.lemmas.List.Elements.{All-nil, All-cons}
 use Rattle.std.proofs.lemmas.Option.{none-some, slice_get_within, slice_get_read, slice_get-get_or, get_or_from_slice_get}
 use Rattle.wasm_spec.specs.Syntax.{Comp, func, array, struct, cont, map_comp, map_val, Sub, map_sub}
 use Rattle.wasm_spec.specs.Trees.{DefType, declared}
@@ -15,13 +14,13 @@ use Rattle.wasm_readers_types.specs.declared.types.CompositeInnerType.{Composite
 use Rattle.wasm_readers_types.specs.declared.types.CompositeInnerType.TheVariants.{Func, Array, Struct, Cont}
 use Rattle.wasm_readers_types.specs.declared.types.SubType.{SubType}
 use Rattle.wasm_validator_type_list.specs.Declares.{sub_by_ids, subs_by_ids, declares}
-use Rattle.wasm_validator_type_list.specs.Groups.{all_in}
+use Rattle.wasm_grouped_list.specs.Groups.{all_in}
 use Rattle.wasm_validator_type_list.specs.Laws.{type_of_id}
 use Rattle.wasm_validator_type_list.specs.Listable.{AreListable}
 use Rattle.wasm_validator_type_list.specs.Listing.{Listing, types_in}
 use Rattle.wasm_validator_type_list.specs.Lookups.{leads_to}
 use Rattle.wasm_validator_type_list.proofs.Joined.{types_declare_what_ids_declare}
-use Rattle.wasm_validator_type_list.proofs.Places.{get-left, get-right, get-map, get-append}
+use Rattle.wasm_grouped_list.proofs.Places.{get-left, get-right, get-map, get-append}
 use Rattle.wasm_validator_type_list.proofs.Standing.{length-standing}
 use Rattle.wasm_validator_canonical.specs.Arities.{arity, type_arity}
 use Rattle.wasm_validator_canonical.specs.Groups.{nowhere}
@@ -116,9 +115,3 @@ module _ {A : Type 0} where
 
   pub sub_type_found : (list : Listing A) (ids : List CoreTypeId) (x : ℕ) (d : CoreTypeId) (ty : SubType A) → AreKnown list ids → x < length ids → ty ≡ slice_index_or (types_in list) (slice_index_or ids x d).index ty → IsSubTypeAt list ids x ty
   sub_type_found list ids x d ty h l e = sub_type_there list ids x (slice_index_or ids x d) ty (slice_get-get_or ids x d l) (known_listed list ids h x d l) e
-
-  -- the one id of a type that the list has
-  pub one_known : (list : Listing A) (id : CoreTypeId) → id.index < length (types_in list) → AreKnown list (id ∷ [])
-  one_known list id l =
-      let P = λ (i : CoreTypeId). i.index < length (types_of_list list) in
-      All-cons P id [] (omega (arith, l, length-standing list.is_canonical list.groups)) (All-nil P)

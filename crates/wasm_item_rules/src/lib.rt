@@ -12,6 +12,3 @@ pub use items::{
 };
 pub use laws::{functions_are_decided, items_are_decided};
 pub use module_types::func_type_at;
-
-#[cfg(test)]
-mod tests;

@@ -15,14 +15,14 @@ use Rattle.wasm_spec.specs.TypeLaws.{HasNoRepetition}
 use Rattle.wasm_readers_errors.specs.declared.error.Error.{Error}
 use Rattle.wasm_readers_errors.specs.declared.error.Error.TheVariants.{Refused, OutOfMemory}
 use Rattle.wasm_readers_types.specs.declared.types.SubType.{SubType}
-use Rattle.wasm_validator_type_list.specs.declared.group_id.RecGroupId.{RecGroupId}
+use Rattle.wasm_grouped_list.specs.declared.group_id.RecGroupId.{RecGroupId}
 use Rattle.wasm_validator_type_list.specs.Interned.{AreOnce, Interns}
 use Rattle.wasm_validator_type_list.specs.Listable.{AreListable}
 use Rattle.wasm_validator_type_list.specs.Listing.{Listing, types_in}
 use Rattle.wasm_validator_type_list.specs.Refused.{RefusesTooMany}
 use Rattle.wasm_validator_type_list.specs.Standing.{standing, tree_behind, listed_group, listed_sub}
-use Rattle.wasm_validator_type_list.proofs.Flat.{first_of-stays, first_of-all}
-use Rattle.wasm_validator_type_list.proofs.Places.{get-end, get-right}
+use Rattle.wasm_grouped_list.proofs.Flat.{first_of-stays, first_of-all}
+use Rattle.wasm_grouped_list.proofs.Places.{get-end, get-right}
 use Rattle.wasm_validator_type_list.proofs.Standing.{standing-push, length-standing, first_of-within}
 use Rattle.wasm_group_rules.specs.Rules.{IsValidGroupAt}
 use Rattle.wasm_group_rules.proofs.IdsAndTypes.{ids_keep_rules_as_types}

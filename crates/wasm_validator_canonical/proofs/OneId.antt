@@ -9,7 +9,7 @@ use Rattle.wasm_spec.specs.TypeLaws.{HasNoRepetition}
 use Rattle.wasm_spec.proofs.Numbering.{start_of-close}
 use Rattle.wasm_readers_types.specs.declared.types.SubType.{SubType}
 use Rattle.wasm_validator_type_list.specs.Standing.{listed_group, standing}
-use Rattle.wasm_validator_type_list.proofs.Places.{get-append}
+use Rattle.wasm_grouped_list.proofs.Places.{get-append}
 use Rattle.wasm_validator_type_list.proofs.Standing.{from-positions}
 
 -- the type's place is where its recursive type begins, and its position behind

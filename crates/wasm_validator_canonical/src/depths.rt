@@ -4,7 +4,7 @@ ghost use Rattle.std.specs.Prelude.{◌≡◌, ◌<◌, length, IfSome, IsTrue};
 ghost use Rattle.std.specs.List.{All};
 ghost use Rattle.wasm_spec.specs.Declared.{IsDepth};
 ghost use Rattle.wasm_validator_type_list.specs.Declares.{declares};
-ghost use Rattle.wasm_validator_type_list.specs.Elements.{ids_left};
+ghost use Rattle.wasm_grouped_list.specs.Elements.{ids_left};
 ghost use Rattle.wasm_validator_type_list.specs.Listing.{types_in};
 
 use std::alloc::{AllocError, Allocator};

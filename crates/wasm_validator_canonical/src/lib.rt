@@ -32,6 +32,3 @@ pub fn equal_types_have_one_id()
 pub fn ids_keep_arities()
     ensures { IdsKeepArities }
 {}
-
-#[cfg(test)]
-mod tests;

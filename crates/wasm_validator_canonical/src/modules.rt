@@ -19,7 +19,7 @@ use wasm_validator_type_list::{RecGroupElements, TypeList};
 /// A module whose types are in a list of types: it has their ids, in the order of their indices.
 pub trait InternRecGroup<A: Allocator + Copy>: Sized {
     ghost use Rattle.std.specs.Prelude.{ℕ, ◌≡◌, ◌+◌, ◌<◌, ◌^◌, ◌++◌, ◌∷◌, [], List, Some, length, slice_get, nat_lt, is_ok, IfOk, OnOk};
-    ghost use Rattle.wasm_validator_type_list.specs.Elements.{ids_left};
+    ghost use Rattle.wasm_grouped_list.specs.Elements.{ids_left};
     ghost use Rattle.wasm_validator_canonical.specs.Indices.{numbers};
 
     ghost ids: { Self → List ℕ };

@@ -9,7 +9,7 @@ use Rattle.wasm_readers_types.specs.declared.indices.UnpackedIndex.{UnpackedInde
 use Rattle.wasm_readers_types.specs.declared.types.SubType.{SubType}
 use Rattle.wasm_readers_types.specs.SeenTypes.{sub_of}
 use Rattle.wasm_validator_type_list.specs.Declares.{declares, sub_by_ids, subs_by_ids}
-use Rattle.wasm_validator_type_list.specs.Groups.{all_in}
+use Rattle.wasm_grouped_list.specs.Groups.{all_in}
 use Rattle.wasm_validator_type_list.specs.Laws.{type_of_id}
 use Rattle.wasm_validator_type_list.specs.Listable.{AreListable}
 use Rattle.wasm_validator_type_list.specs.Lookups.{leads_to}

@@ -22,8 +22,3 @@ pub use limits::{
 pub use maybe_owned::MaybeOwned;
 pub use module::Module;
 pub use module_state::ModuleState;
-
-#[cfg(test)]
-mod item_tests;
-#[cfg(test)]
-mod tests;

@@ -18,6 +18,8 @@ mod states;
 #[cfg(test)]
 mod subtypes;
 
+ghost use Rattle.std.specs.Prelude.{◌≡◌, None, is_ok, IsTrue};
+
 use std::alloc::Allocator;
 use std::fmt::Write;
 use wasm_validator::{Error, Types, ValidatorId, validate};
@@ -26,7 +28,9 @@ use wasm_validator::{Error, Types, ValidatorId, validate};
 pub fn message_of<A: Allocator + Copy>(
     alloc: A,
     answer: &Result<Types<A>, Error<A>>,
-) -> Option<String<A>> {
+) -> Option<String<A>>
+    ensures { IsTrue (is_ok answer.now) → result ≡ None }
+{
     match answer {
         Ok(_) => None,
         Err(error) => {

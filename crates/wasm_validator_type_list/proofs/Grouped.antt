@@ -21,8 +21,8 @@ use Rattle.wasm_readers_types.specs.declared.types.CompositeInnerType.{Composite
 use Rattle.wasm_readers_types.specs.declared.types.CompositeInnerType.TheVariants.{Func, Struct}
 use Rattle.wasm_readers_types.specs.declared.types.SubType.{SubType}
 use Rattle.wasm_validator_type_list.specs.declared.type_list.TypeList.TheInside.{Inside}
-use Rattle.wasm_validator_type_list.specs.Groups.{all_in, first_of}
-use Rattle.wasm_validator_type_list.specs.Spans.{span}
+use Rattle.wasm_grouped_list.specs.Groups.{all_in, first_of}
+use Rattle.wasm_grouped_list.specs.Spans.{span}
 use Rattle.wasm_validator_type_list.specs.Listing.{Listing, types_in}
 use Rattle.wasm_validator_type_list.specs.Lookups.{leads_to}
 use Rattle.wasm_validator_type_list.specs.Grouped.{leads_in, IsKnownIn, AreIn}

@@ -1,5 +1,3 @@
-pub mod Flat
-pub mod Places
 pub mod Listed
 pub mod Standing
 pub mod Once
@@ -16,5 +14,3 @@ pub mod Composite
 pub mod Joined
 pub mod Worlds
 pub mod Order
-pub mod Counting
-pub mod Examples

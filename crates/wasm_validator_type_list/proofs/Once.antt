@@ -7,13 +7,13 @@ use Rattle.wasm_spec.specs.Closing.{positions}
 use Rattle.wasm_spec.specs.TypeLaws.{HasNoRepetition}
 use Rattle.wasm_spec.proofs.Listed.{equal_trees_equal_listed_groups}
 use Rattle.wasm_readers_types.specs.declared.types.SubType.{SubType}
-use Rattle.wasm_validator_type_list.specs.Groups.{all_in, first_of}
+use Rattle.wasm_grouped_list.specs.Groups.{all_in, first_of}
 use Rattle.wasm_validator_type_list.specs.Listable.{IsListable, AreListable}
 use Rattle.wasm_validator_type_list.specs.Standing.{listed_sub, listed_group, standing, tree_behind, IsTreeOfOne, StandFor}
 use Rattle.wasm_validator_type_list.specs.Listing.{Listing}
 use Rattle.wasm_validator_type_list.specs.Interned.{IsNew, AreOnce, InternsTypes}
-use Rattle.wasm_validator_type_list.proofs.Flat.{all_in-push, first_of-stays, first_of-all}
-use Rattle.wasm_validator_type_list.proofs.Places.{get-left, get-right, get-push, get-append, split-at}
+use Rattle.wasm_grouped_list.proofs.Flat.{all_in-push, first_of-stays, first_of-all}
+use Rattle.wasm_grouped_list.proofs.Places.{get-left, get-right, get-push, get-append, split-at}
 use Rattle.wasm_validator_type_list.proofs.Listed.{mentions_known, listed_apart}
 use Rattle.wasm_validator_type_list.proofs.Standing.{place_in, get-positions, from-positions, standing-push, length-standing, front, first_of-within, tree_at, of_one}
 

@@ -10,7 +10,7 @@ use Rattle.wasm_readers_types.specs.declared.types.SubType.{SubType}
 use Rattle.wasm_readers_types.specs.declared.values.ValType.{ValType}
 use Rattle.wasm_readers_types.specs.declared.values.FieldType.{FieldType}
 use Rattle.wasm_readers_types.specs.SeenValues.{val_of, field_of}
-use Rattle.wasm_validator_type_list.specs.Groups.{first_of}
+use Rattle.wasm_grouped_list.specs.Groups.{first_of}
 use Rattle.wasm_validator_type_list.specs.Listable.{IsKnown}
 use Rattle.wasm_validator_type_list.specs.Lookups.{leads_to}
 use Rattle.wasm_validator_type_list.specs.Declares.{declares}

@@ -1,6 +1,3 @@
-pub mod Groups
-pub mod Spans
-pub mod Flat
 pub mod Listing
 pub mod Listable
 pub mod Standing
@@ -10,7 +7,6 @@ pub mod Sound
 pub mod Refused
 pub mod Lookups
 pub mod Sizes
-pub mod Elements
 pub mod Declares
 pub mod Reading
 pub mod Subtyping

@@ -6,7 +6,7 @@ use Rattle.wasm_readers_types.specs.declared.indices.PackedIndex.{PackedIndex}
 use Rattle.wasm_readers_types.specs.declared.indices.UnpackedIndex.{UnpackedIndex}
 use Rattle.wasm_readers_types.specs.declared.indices.UnpackedIndex.TheVariants.{Module, RecGroup, Id}
 use Rattle.wasm_readers_types.specs.declared.types.SubType.{SubType}
-use Rattle.wasm_validator_type_list.specs.Groups.{all_in, first_of, IsInGroup}
+use Rattle.wasm_grouped_list.specs.Groups.{all_in, first_of, IsInGroup}
 
 -- the number of the id that a reference in a group leads to, where the group's first id has this number; a module's index isn't in lists
 abbrev pub leads_to : ℕ → UnpackedIndex → ℕ

@@ -5,7 +5,7 @@ use Rattle.wasm_readers_types.specs.declared.indices.TheConstants.{MAX_IDS}
 use Rattle.wasm_readers_types.specs.declared.types.RecGroup.{RecGroup}
 use Rattle.wasm_readers_types.specs.TypesExact.{group_equal}
 use Rattle.wasm_validator_type_list.specs.declared.type_list.TypeList.TheInside.{Inside}
-use Rattle.wasm_validator_type_list.specs.Groups.{all_in}
+use Rattle.wasm_grouped_list.specs.Groups.{all_in}
 use Rattle.wasm_validator_type_list.specs.Listing.{Listing}
 use Rattle.wasm_validator_type_list.specs.Listable.{AreListable}
 use Rattle.wasm_validator_type_list.specs.Interned.{IsPlaceOf, AreOnce}

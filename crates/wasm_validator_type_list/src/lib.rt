@@ -2,10 +2,6 @@
 //! once where references are canonicalized.
 #![tactic(auto)]
 
-mod copies;
-mod elements;
-mod group_id;
-mod grouped_list;
 mod laws;
 mod link_count;
 mod subtyping;
@@ -14,13 +10,9 @@ mod type_info;
 mod type_list;
 mod with_rec_group;
 
-pub use elements::RecGroupElements;
-pub use group_id::RecGroupId;
 pub use laws::{ids_are_a_world, ids_match_as_types, types_declare_what_ids_declare};
 pub use link_count::LinkCount;
 pub use type_alloc::TypeAlloc;
 pub use type_info::{TypeData, TypeIdentifier, TypeInfo};
 pub use type_list::TypeList;
-
-#[cfg(test)]
-mod tests;
+pub use wasm_grouped_list::{RecGroupElements, RecGroupId};

@@ -3,10 +3,10 @@ ghost use Rattle.std.specs.Borrow.{Lends, sem};
 ghost use Rattle.wasm_validator_type_list.specs.contracts.type_list.TypeList.{the_row as list_row};
 ghost use Rattle.wasm_validator_type_list.specs.contracts.type_alloc.TypeAlloc.{the_row};
 
-use crate::group_id::RecGroupId;
 use crate::type_list::TypeList;
 use std::alloc::{Allocator, Global};
 use std::ops::{Deref, DerefMut, Index, Range};
+use wasm_grouped_list::RecGroupId;
 use wasm_readers_types::{CoreTypeId, SubType};
 
 /// The list of types to which a validator adds.
@@ -68,8 +68,8 @@ impl<A: Allocator + Copy> Index<RecGroupId> for TypeAlloc<A> {
     type Output = Range<CoreTypeId>;
 
     ghost use Rattle.std.specs.Prelude.{◌≡◌, ◌<◌, ◌+◌, length};
-    ghost use Rattle.wasm_validator_type_list.specs.Groups.{first_of};
-    ghost use Rattle.wasm_validator_type_list.specs.Spans.{span};
+    ghost use Rattle.wasm_grouped_list.specs.Groups.{first_of};
+    ghost use Rattle.wasm_grouped_list.specs.Spans.{span};
 
     ghost can_index = { λ types group. group.index < length types.list.groups };
 

@@ -1,11 +1,11 @@
 ghost use Rattle.std.specs.Prelude.{◌≡◌, ◌<◌, ◌≤◌, ◌^◌, ℕ, List};
 ghost use Rattle.wasm_validator_type_list.specs.Sizes.{size_of_inner};
 
-use crate::group_id::RecGroupId;
 use crate::type_list::TypeList;
 use std::alloc::Allocator;
 use std::fmt::Debug;
 use std::ops::Range;
+use wasm_grouped_list::RecGroupId;
 use wasm_readers_types::{CompositeInnerType, CoreTypeId, SubType};
 
 /// What is known of a type before it is looked at: how large it is.
@@ -141,7 +141,7 @@ impl<A: Allocator> TypeData<A> for Range<CoreTypeId> {
 impl<A: Allocator + Copy> TypeIdentifier<A> for RecGroupId {
     type Data = Range<CoreTypeId>;
 
-    ghost use Rattle.wasm_validator_type_list.specs.Spans.{spans_of};
+    ghost use Rattle.wasm_grouped_list.specs.Spans.{spans_of};
 
     ghost number = { λ id. id.index };
 

@@ -2,20 +2,18 @@ ghost use Rattle.std.specs.Prelude.{◌≡◌, ◌+◌, ◌<◌, ◌≤◌, true
 ghost use Rattle.std.specs.declared.option.Option.TheVariants.{None};
 ghost use Rattle.wasm_readers_types.specs.Indices.{number_of, module_of};
 ghost use Rattle.wasm_readers_types.specs.declared.indices.TheConstants.{MAX_IDS};
-ghost use Rattle.wasm_validator_type_list.specs.Groups.{first_of, IsInGroup};
-ghost use Rattle.wasm_validator_type_list.specs.Spans.{spans_of};
-ghost use Rattle.wasm_validator_type_list.specs.Elements.{ids_left, ids_of_group};
+ghost use Rattle.wasm_grouped_list.specs.Groups.{first_of, IsInGroup};
+ghost use Rattle.wasm_grouped_list.specs.Spans.{spans_of};
+ghost use Rattle.wasm_grouped_list.specs.Elements.{ids_left, ids_of_group};
 ghost use Rattle.wasm_validator_type_list.specs.Refused.{not_in_group};
 ghost use Rattle.wasm_validator_type_list.specs.Lookups.{leads_to, Leads};
 
-use crate::elements::RecGroupElements;
-use crate::group_id::RecGroupId;
-use crate::grouped_list::GroupedList;
 use std::alloc::{AllocError, Allocator, Global};
 use std::collections::HashMap;
 use std::hash::{BuildHasherDefault, FoldHasher};
 use std::marker::Model;
 use std::ops::{Index, Range};
+use wasm_grouped_list::{GroupedList, RecGroupElements, RecGroupId};
 use wasm_readers_errors::{Fault, Refusal};
 use wasm_readers_types::{CoreTypeId, PackedIndex, RecGroup, SubType, UnpackedIndex};
 
@@ -301,8 +299,8 @@ impl<A: Allocator + Copy> Index<RecGroupId> for TypeList<A> {
     type Output = Range<CoreTypeId>;
 
     ghost use Rattle.std.specs.Prelude.{◌≡◌, ◌<◌, ◌+◌, length};
-    ghost use Rattle.wasm_validator_type_list.specs.Groups.{first_of};
-    ghost use Rattle.wasm_validator_type_list.specs.Spans.{span};
+    ghost use Rattle.wasm_grouped_list.specs.Groups.{first_of};
+    ghost use Rattle.wasm_grouped_list.specs.Spans.{span};
 
     ghost can_index = { λ list group. group.index < length list.groups };
 

@@ -1,6 +1,6 @@
 ghost use Rattle.std.specs.Prelude.{◌≡◌};
 
-use crate::group_id::RecGroupId;
+use wasm_grouped_list::RecGroupId;
 
 /// A part of a type, with the group that its references stand in.
 #[derive(Clone, Copy)]

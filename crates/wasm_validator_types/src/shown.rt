@@ -1,8 +1,8 @@
 ghost use Rattle.std.specs.Prelude.{◌≡◌, ◌<◌, length, slice_get, slice_index, slice_index_or, IfSome, IsSome, ◌↔◌};
 ghost use Rattle.std.specs.declared.option.Option.TheVariants.{Some};
 ghost use Rattle.wasm_readers_types.specs.SeenExterns.{table_of, memory_of, global_of};
-ghost use Rattle.wasm_validator_type_list.specs.Groups.{IsInGroup};
-ghost use Rattle.wasm_validator_type_list.specs.Elements.{ids_left, ids_of_group};
+ghost use Rattle.wasm_grouped_list.specs.Groups.{IsInGroup};
+ghost use Rattle.wasm_grouped_list.specs.Elements.{ids_left, ids_of_group};
 ghost use Rattle.wasm_validator_type_list.specs.Listing.{types_in};
 ghost use Rattle.wasm_validator_type_list.specs.Lookups.{IsSupertypeAt};
 ghost use Rattle.wasm_validator_types.specs.Left.{imports_left, exports_left};
@@ -67,8 +67,8 @@ impl<A: Allocator + Copy> Index<RecGroupId> for Types<A> {
     type Output = Range<CoreTypeId>;
 
     ghost use Rattle.std.specs.Prelude.{◌≡◌, ◌<◌, ◌+◌, length};
-    ghost use Rattle.wasm_validator_type_list.specs.Groups.{first_of};
-    ghost use Rattle.wasm_validator_type_list.specs.Spans.{span};
+    ghost use Rattle.wasm_grouped_list.specs.Groups.{first_of};
+    ghost use Rattle.wasm_grouped_list.specs.Spans.{span};
     ghost use Rattle.wasm_validator_types.specs.Shown.{shown_of};
 
     ghost can_index = { λ types group. group.index < length (shown_of types).list.groups };
@@ -281,8 +281,8 @@ impl<'a, A: Allocator + Copy> Index<RecGroupId> for TypesRef<'a, A> {
     type Output = Range<CoreTypeId>;
 
     ghost use Rattle.std.specs.Prelude.{◌≡◌, ◌<◌, ◌+◌, length};
-    ghost use Rattle.wasm_validator_type_list.specs.Groups.{first_of};
-    ghost use Rattle.wasm_validator_type_list.specs.Spans.{span};
+    ghost use Rattle.wasm_grouped_list.specs.Groups.{first_of};
+    ghost use Rattle.wasm_grouped_list.specs.Spans.{span};
     ghost use Rattle.wasm_validator_types.specs.Shown.{shown_by};
 
     ghost can_index = { λ types group. group.index < length (shown_by types).list.groups };

@@ -7,6 +7,3 @@ mod value_types;
 
 pub use composite_types::check_composite_type;
 pub use value_types::{check_ref_type, check_value_type};
-
-#[cfg(test)]
-mod tests;

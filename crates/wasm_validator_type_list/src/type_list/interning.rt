@@ -6,17 +6,15 @@ ghost use Rattle.wasm_spec.specs.References.{refs_comp};
 ghost use Rattle.wasm_readers_types.specs.declared.types.RecGroup.{RecGroup};
 ghost use Rattle.wasm_readers_types.specs.SeenTypes.{func_of, final_func};
 ghost use Rattle.wasm_readers_types.specs.TypesExact.{group_equal};
-ghost use Rattle.wasm_validator_type_list.specs.Groups.{all_in};
+ghost use Rattle.wasm_grouped_list.specs.Groups.{all_in};
 ghost use Rattle.wasm_validator_type_list.specs.Listing.{types_in};
 ghost use Rattle.wasm_validator_type_list.specs.Listable.{IsKnown, IsListable};
 ghost use Rattle.wasm_validator_type_list.specs.Interned.{Interns, InternsTypes, InternsOne, InternsSeen};
 ghost use Rattle.wasm_validator_type_list.specs.Refused.{RefusesTooMany};
 
-use crate::copies::copy_of;
-use crate::group_id::RecGroupId;
-use crate::grouped_list::GroupedList;
 use crate::type_list::{KnownGroups, TypeList};
 use std::alloc::{AllocError, Allocator};
+use wasm_grouped_list::{GroupedList, RecGroupId, copy_of};
 use wasm_readers_errors::{Error, Fault, Refusal, Rule};
 use wasm_readers_types::{CoreTypeId, FuncType, MAX_IDS, RecGroup, SubType};
 

@@ -11,10 +11,10 @@ ghost use Rattle.wasm_validator_type_list.specs.Declares.{declares};
 ghost use Rattle.wasm_validator_type_list.specs.Subtyping.{IsHeapOver, heap_by_ids};
 ghost use Rattle.wasm_validator_type_list.specs.Grouped.{leads_in, IsKnownIn, AreIn, ValsMatch, FieldsMatch, MatchesDeclared};
 
-use crate::group_id::RecGroupId;
 use crate::type_list::{TypeList, id_from};
 use crate::with_rec_group::WithRecGroup;
 use std::alloc::Allocator;
+use wasm_grouped_list::RecGroupId;
 use wasm_readers_types::{
     CompositeInnerType, CoreTypeId, FieldType, HeapType, RefType, StorageType, SubType,
     UnpackedIndex, ValType,

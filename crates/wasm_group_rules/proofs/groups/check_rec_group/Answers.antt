@@ -1,7 +1,7 @@
 use Rattle.std.proofs.Common.{◌≡◌, ◌<◌, ◌+◌, length, ap, arith}
 use Rattle.std.specs.declared.ops.Range.{Range}
 use Rattle.wasm_readers_types.specs.declared.indices.CoreTypeId.{CoreTypeId}
-use Rattle.wasm_validator_type_list.specs.Groups.{first_of}
+use Rattle.wasm_grouped_list.specs.Groups.{first_of}
 use Rattle.wasm_validator_type_list.specs.Listing.{types_in}
 use Rattle.wasm_validator_type_list.proofs.Standing.{first_of-within}
 use Rattle.wasm_group_rules.proofs.groups.check_rec_group.Goals as goal

@@ -1,7 +1,7 @@
 use Rattle.std.proofs.Common.{ℕ, ◌≤◌, ◌<◌}
 use Rattle.wasm_spec.specs.GroupRules.{IsValidType}
 use Rattle.wasm_rules.specs.FeatureFlags.{features_of}
-use Rattle.wasm_validator_type_list.specs.Groups.{first_of}
+use Rattle.wasm_grouped_list.specs.Groups.{first_of}
 use Rattle.wasm_validator_type_list.specs.Declares.{declares}
 use Rattle.wasm_group_rules.proofs.groups.check_rec_group.Given as goal
 

@@ -1,6 +1,6 @@
 use Rattle.std.proofs.Common.{◌<◌, ◌∙◌, length, subst, All}
 use Rattle.std.proofs.lemmas.List.Elements.{All-tail}
-use Rattle.wasm_validator_type_list.specs.Elements.{ids_left}
+use Rattle.wasm_grouped_list.specs.Elements.{ids_left}
 use Rattle.wasm_validator_type_list.specs.Listing.{types_in}
 use Rattle.wasm_validator_canonical.proofs.depths.keep_depths.Goals as goal
 

@@ -1,5 +1,5 @@
 use Rattle.std.proofs.Common.{◌≡◌, ◌<◌, length, All}
-use Rattle.wasm_validator_type_list.specs.Elements.{ids_left}
+use Rattle.wasm_grouped_list.specs.Elements.{ids_left}
 use Rattle.wasm_validator_type_list.specs.Listing.{types_in}
 use Rattle.wasm_validator_canonical.proofs.depths.keep_depths.Given as goal
 

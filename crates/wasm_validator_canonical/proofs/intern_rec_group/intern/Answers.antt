@@ -1,8 +1,8 @@
 use Rattle.std.proofs.Common.{◌≡◌, refl, ◌∙◌, true, length}
 use Rattle.std.proofs.lemmas.Option.{slice_get_within}
 use Rattle.wasm_rules.specs.FeatureFlags.{features_of}
-use Rattle.wasm_validator_type_list.specs.Elements.{numbers_from, ids_left}
-use Rattle.wasm_validator_type_list.specs.Groups.{first_of}
+use Rattle.wasm_grouped_list.specs.Elements.{numbers_from, ids_left}
+use Rattle.wasm_grouped_list.specs.Groups.{first_of}
 use Rattle.wasm_validator_type_list.specs.Interned.{AreOnce}
 use Rattle.wasm_validator_canonical.proofs.Checked.{checked, refused, nothing_interned}
 use Rattle.wasm_validator_canonical.proofs.Interning.{there, interned_under}

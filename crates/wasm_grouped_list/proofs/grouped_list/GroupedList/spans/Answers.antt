@@ -1,0 +1,9 @@
+use Rattle.std.proofs.Common.{ap, ◌∙◌}
+use Rattle.wasm_grouped_list.specs.Spans.{spans_of}
+use Rattle.wasm_grouped_list.proofs.Flat.{spans_are}
+use Rattle.wasm_grouped_list.proofs.grouped_list.GroupedList.spans.Goals as goal
+
+pub returns : goal.returns
+returns g c =
+    let a = c.self.inside in
+    c.as_slice.ensures.value ∙ spans_are a.items.items a.spans.items a.owners.items c.self.invariant ∙ ap spans_of c.self.view_is

@@ -1,0 +1,183 @@
+ghost use Rattle.std.specs.Prelude.{◌≡◌, ◌+◌, ◌<◌, ◌^◌, ◌++◌, ◌∷◌, [], ℕ, length, replicate, slice_index_or, IfOk, IfSome, OnOk, OnErr, IsSome, ◌↔◌};
+ghost use Rattle.wasm_grouped_list.specs.Groups.{all_in, first_of, IsInGroup};
+ghost use Rattle.wasm_grouped_list.specs.Spans.{span, spans_of};
+
+use crate::copies::copy_of;
+use std::alloc::{AllocError, Allocator, Global};
+use std::marker::Model;
+use std::ops::Range;
+use wasm_readers_types::{CoreTypeId, Faithful};
+
+/// Groups of items, one behind another, in one flat list. A contract sees the list of groups; the
+/// place of an item is counted over all groups.
+#[derive(Drop)]
+pub struct GroupedList<T, A: Allocator = Global> {
+    items: Vec<T, A>,
+    spans: Vec<Range<CoreTypeId>, A>,
+    owners: Vec<u32, A>,
+    alloc: A,
+}
+
+impl<T, A: Allocator> Model for GroupedList<T, A> {
+    ghost use Rattle.std.specs.Prelude.{List};
+
+    ghost Value = { List (List T) };
+
+    ghost use Rattle.wasm_grouped_list.specs.Flat.{groups_of, IsParted};
+
+    ghost view = { groups_of };
+
+    ghost invariant = { IsParted };
+}
+
+impl<T, A: Allocator + Copy> GroupedList<T, A> {
+    /// The list of no groups. It takes no memory until the first `push`.
+    pub fn new(alloc: A) -> GroupedList<T, A>
+        ensures { result ≡ [] }
+    {
+        GroupedList {
+            items: Vec::new(alloc),
+            spans: Vec::new(alloc),
+            owners: Vec::new(alloc),
+            alloc,
+        }
+    }
+
+    /// The number of groups.
+    pub fn group_count(&self) -> usize
+        ensures { result ≡ length self.now }
+    {
+        self.spans.len()
+    }
+
+    /// The number of items in all groups.
+    pub fn item_count(&self) -> usize
+        ensures { result ≡ length (all_in self.now) }
+    {
+        self.items.len()
+    }
+
+    /// The items of all groups.
+    pub fn items(&self) -> &[T]
+        ensures { result.now ≡ all_in self.now }
+    {
+        self.items.as_slice()
+    }
+
+    /// The ids of the members of each group.
+    pub fn spans(&self) -> &[Range<CoreTypeId>]
+        ensures { result.now ≡ spans_of self.now }
+    {
+        self.spans.as_slice()
+    }
+
+    /// The item at the place, if there is one.
+    pub fn get(&self, place: usize) -> Option<&T>
+        ensures found { IfSome result (λ item. item.now ≡ slice_index_or (all_in self.now) place item.now) }
+        ensures when { IsSome result ↔ (place < length (all_in self.now)) }
+    {
+        self.items.get(place)
+    }
+
+    /// The item at the place.
+    pub fn at(&self, place: usize) -> &T
+        requires { place < length (all_in self.now) }
+        ensures { result.now ≡ slice_index_or (all_in self.now) place result.now }
+    {
+        &self.items[place]
+    }
+
+    /// The ids of the members of the group with this number.
+    pub fn members(&self, group: usize) -> &Range<CoreTypeId>
+        requires { group < length self.now }
+        ensures { result.now ≡ span (first_of self.now group) (first_of self.now (group + 1)) }
+    {
+        &self.spans[group]
+    }
+
+    /// The number of the group that the item at the place is in.
+    pub fn group_at(&self, place: usize) -> u32
+        requires { place < length (all_in self.now) }
+        ensures { IsInGroup self.now result place }
+    {
+        self.owners[place]
+    }
+
+    /// Puts a group at the end. Where memory is refused, the list stays as it was.
+    pub fn push(&mut self, group: Vec<T, A>) -> Result<(), AllocError>
+    where
+        T: Drop,
+        requires room { length (all_in self.old) + length group.items < 2 ^ 32 }
+        requires group_room { length self.old < 2 ^ 32 }
+        ensures ok { OnOk result (self.new ≡ self.old ++ group.items ∷ []) }
+        ensures err { OnErr result (self.new ≡ self.old) }
+    {
+        push_flat(
+            self.alloc,
+            &mut self.items,
+            &mut self.spans,
+            &mut self.owners,
+            group,
+        )?;
+        Ok(())
+    }
+}
+
+/// Puts a group behind those that are there: all of it, or where memory is refused nothing.
+fn push_flat<T: Drop, A: Allocator + Copy>(
+    alloc: A,
+    items: &mut Vec<T, A>,
+    spans: &mut Vec<Range<CoreTypeId>, A>,
+    owners: &mut Vec<u32, A>,
+    group: Vec<T, A>,
+) -> Result<(), AllocError>
+    requires room { length items.old.items + length group.items < 2 ^ 32 }
+    requires group_room { length spans.old.items < 2 ^ 32 }
+    ensures items { OnOk result (items.new.items ≡ items.old.items ++ group.items) }
+    ensures spans { OnOk result (spans.new.items ≡ spans.old.items ++ span (length items.old.items) (length items.old.items + length group.items) ∷ []) }
+    ensures owners { OnOk result (owners.new.items ≡ owners.old.items ++ replicate (length group.items) (length spans.old.items)) }
+    ensures same_items { OnErr result (items.new.items ≡ items.old.items) }
+    ensures same_spans { OnErr result (spans.new.items ≡ spans.old.items) }
+    ensures same_owners { OnErr result (owners.new.items ≡ owners.old.items) }
+{
+    let start = items.len() as u32;
+    let mut group = group;
+    let count = group.len();
+    let ids = CoreTypeId::from_index(start)..CoreTypeId::from_index(start + count as u32);
+    let mut numbers = vec![in alloc; spans.len() as u32; count]?;
+    items.reserve(count)?;
+    owners.reserve(count)?;
+    spans.push(ids)?;
+    items.append(&mut group).unwrap();
+    owners.append(&mut numbers).unwrap();
+    Ok(())
+}
+
+impl<T: Faithful + Drop, A: Allocator + Copy> GroupedList<T, A> {
+    /// A list of its own with the groups of this one, which stays as it was.
+    pub fn commit(&mut self) -> Result<GroupedList<T, A>, AllocError>
+        ensures same { self.new ≡ self.old }
+        ensures copy { IfOk result (λ copy. copy ≡ self.old) }
+    {
+        Ok(GroupedList {
+            items: copy_of(self.alloc, self.items.as_slice())?,
+            spans: copy_of_spans(self.alloc, self.spans.as_slice())?,
+            owners: copy_of(self.alloc, self.owners.as_slice())?,
+            alloc: self.alloc,
+        })
+    }
+}
+
+/// A list of the same ranges.
+fn copy_of_spans<A: Allocator>(
+    alloc: A,
+    spans: &[Range<CoreTypeId>],
+) -> Result<Vec<Range<CoreTypeId>, A>, AllocError>
+    ensures { IfOk result (λ copy. copy.items ≡ spans.now) }
+{
+    let mut copy = Vec::new(alloc);
+    'spans: for ids in spans {
+        copy.push(ids.start..ids.end)?;
+    }
+    Ok(copy)
+}

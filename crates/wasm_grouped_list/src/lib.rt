@@ -1,0 +1,13 @@
+//! Groups of items in one flat list: the group and the place of each item, and the ids of groups and of
+//! what is in them.
+#![tactic(auto)]
+
+mod copies;
+mod elements;
+mod group_id;
+mod grouped_list;
+
+pub use copies::copy_of;
+pub use elements::RecGroupElements;
+pub use group_id::RecGroupId;
+pub use grouped_list::GroupedList;
