@@ -1,5 +1,5 @@
 -- What contracts see of an error.
-use Rattle.std.specs.Prelude.{ℕ, Option, None, ⊤}
+use Rattle.std.specs.Prelude.{ℕ, ◌≡◌, Option, None, ⊤}
 use Rattle.wasm_validator_core.specs.declared.error.Error.{Error}
 use Rattle.wasm_validator_core.specs.declared.error.Error.TheVariants.{Refused, DuplicateExport, OutOfMemory}
 use Rattle.wasm_readers_errors.specs.declared.error.Error as below
@@ -22,6 +22,12 @@ abbrev pub offset_of : {A : Type 0} → Error A → ℕ
 offset_of (Refused r) = r.offset
 offset_of (DuplicateExport name offset) = offset
 offset_of OutOfMemory = 0
+
+-- the content is refused at this offset, or memory was
+abbrev pub IsAt : {A : Type 0} → ℕ → Error A → Type 0
+IsAt place (Refused r) = r.offset ≡ place
+IsAt place (DuplicateExport name offset) = offset ≡ place
+IsAt place OutOfMemory = ⊤
 
 abbrev pub missing_of : {A : Type 0} → Error A → Option WasmFeatures
 missing_of (Refused r) = r.missing

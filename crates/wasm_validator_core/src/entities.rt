@@ -1,7 +1,8 @@
 //! What a module imports and exports: external types with the ids of types in place of type indices, and
 //! how much they count in the effective size (Core Specification 3.0, Validation, Types, External Types).
 
-ghost use Rattle.std.specs.Prelude.{◌≡◌, ◌+◌, length, IsTrue, is_ok, IfOk};
+ghost use Rattle.std.specs.Prelude.{◌≡◌, ◌+◌, length, IsTrue, is_ok, IfOk, IfErr};
+ghost use Rattle.wasm_item_rules.specs.Answers.{IsRefusalAt};
 ghost use Rattle.std.specs.List.{All};
 ghost use Rattle.wasm_spec.specs.Syntax.{map_ref, map_val, map_table, map_global, map_extern};
 ghost use Rattle.wasm_rules.specs.FeatureFlags.{features_of};
@@ -111,6 +112,7 @@ pub(crate) fn listed_type_ref<A: Allocator + Copy>(
     ensures allowed { is_ok result ≡ is_valid_extern (features_of features) (module_types list.now ids.now) (extern_of ty) }
     ensures listed { IfOk result (λ r. extern_of r ≡ map_extern (canonical_index (numbers ids.now)) (extern_of ty)) }
     ensures typed { IfOk result (λ r. IsTyped (length ids.now) (extern_of r)) }
+    ensures refusal { IfErr result (IsRefusalAt features offset) }
 {
     check_type_ref(features, list, ids, ty, offset)?;
     match ty {

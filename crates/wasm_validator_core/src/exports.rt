@@ -1,12 +1,14 @@
 //! What a module exports (Core Specification 3.0, Validation, Modules, Exports).
 
-ghost use Rattle.std.specs.Prelude.{◌≡◌, OnErr, IfOk};
+ghost use Rattle.std.specs.Prelude.{◌≡◌, OnErr, IfOk, IfErr};
 ghost use Rattle.std.specs.declared.option.Option.TheVariants.{Some, None};
 ghost use Rattle.std.specs.Option.{option_map};
 ghost use Rattle.wasm_rules.specs.FeatureFlags.{features_of};
 ghost use Rattle.wasm_readers.specs.Items.{export_of};
+ghost use Rattle.wasm_item_rules.specs.Answers.{IsPlainRefusalAt};
 ghost use Rattle.wasm_validator_types.specs.Entities.{entity_of};
 ghost use Rattle.wasm_validator_types.specs.Shown.{types_of};
+ghost use Rattle.wasm_validator_core.specs.Errors.{IsAt};
 ghost use Rattle.wasm_validator_core.specs.Answers.{Adds};
 ghost use Rattle.wasm_validator_core.specs.Items.{exported_function, exported_table, exported_memory, exported_global, exported_tag, exported_entity, with_export, add_export};
 
@@ -90,6 +92,7 @@ pub(crate) fn exported<A: Allocator + Copy>(
 ) -> Result<EntityType, Refusal>
     ensures ok { IfOk result (λ e. exported_entity (features_of features) spaces.now (export_of export.now) ≡ Some (entity_of e)) }
     ensures err { OnErr result (exported_entity (features_of features) spaces.now (export_of export.now) ≡ None) }
+    ensures place { IfErr result (IsPlainRefusalAt offset) }
 {
     let index = export.index;
     let (kind, entity) = match export.kind {
@@ -116,6 +119,7 @@ fn name_export<A: Allocator + Copy>(
 ) -> Result<(), Error<A>>
     ensures added { Adds result (with_export (types_of list.now) name.now (entity_of entity) spaces.old) spaces.new }
     ensures types { spaces.new.types ≡ spaces.old.types }
+    ensures place { IfErr result (IsAt offset) }
 {
     let Some(size) = size_with(list, spaces.effective_size(), entity) else {
         return Err(Error::new(Fault::Rule(Rule::EffectiveSize), offset));
@@ -140,6 +144,7 @@ pub(crate) fn add_one_export<A: Allocator + Copy>(
 ) -> Result<(), Error<A>>
     ensures added { Adds result (add_export (features_of features) (types_of list.now) spaces.old (export_of export.now)) spaces.new }
     ensures types { spaces.new.types ≡ spaces.old.types }
+    ensures place { IfErr result (IsAt offset) }
 {
     let entity = exported(features, spaces, export, offset)?;
     if let EntityType::Global(global) = entity {

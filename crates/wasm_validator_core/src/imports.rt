@@ -1,11 +1,12 @@
 //! What a module imports (Core Specification 3.0, Validation, Modules, Imports).
 
-ghost use Rattle.std.specs.Prelude.{◌≡◌, length};
+ghost use Rattle.std.specs.Prelude.{◌≡◌, length, IfErr};
 ghost use Rattle.wasm_rules.specs.FeatureFlags.{features_of};
 ghost use Rattle.wasm_readers.specs.Items.{import_of};
 ghost use Rattle.wasm_readers_types.specs.SeenExterns.{extern_of};
 ghost use Rattle.wasm_validator_types.specs.Entities.{entity_of};
 ghost use Rattle.wasm_validator_types.specs.Shown.{types_of};
+ghost use Rattle.wasm_validator_core.specs.Errors.{IsAt};
 ghost use Rattle.wasm_validator_core.specs.Answers.{Adds};
 ghost use Rattle.wasm_validator_core.specs.Items.{with_imported, with_named, add_import};
 ghost use Rattle.wasm_validator_core.specs.Ready.{AreHeld, IsTyped};
@@ -29,6 +30,7 @@ fn place_imported<A: Allocator + Copy>(
     requires { IsTyped (length spaces.old.types) (extern_of ty) }
     ensures added { Adds result (with_imported (features_of features) spaces.old (extern_of ty)) spaces.new }
     ensures types { spaces.new.types ≡ spaces.old.types }
+    ensures place { IfErr result (IsAt offset) }
 {
     match ty {
         TypeRef::Func(index) => {
@@ -58,6 +60,7 @@ fn name_import<A: Allocator + Copy>(
 ) -> Result<(), Error<A>>
     ensures added { Adds result (with_named (types_of list.now) (import_of import.now) (entity_of entity) spaces.old) spaces.new }
     ensures types { spaces.new.types ≡ spaces.old.types }
+    ensures place { IfErr result (IsAt offset) }
 {
     let Some(size) = size_with(list, spaces.effective_size(), entity) else {
         return Err(Error::new(Fault::Rule(Rule::EffectiveSize), offset));
@@ -78,6 +81,7 @@ pub(crate) fn add_one_import<A: Allocator + Copy>(
     requires { AreHeld list.now spaces.old.types }
     ensures added { Adds result (add_import (features_of features) (types_of list.now) spaces.old (import_of import.now)) spaces.new }
     ensures types { spaces.new.types ≡ spaces.old.types }
+    ensures place { IfErr result (IsAt offset) }
 {
     let ty = listed_type_ref(features, list, known_ids(list, spaces), import.ty, offset)?;
     if let TypeRef::Global(global) = import.ty {

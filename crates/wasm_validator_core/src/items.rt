@@ -1,10 +1,11 @@
 //! Functions, tables, memories and tags that a module defines (Core Specification 3.0, Validation,
 //! Modules), and all items at the ends of their index spaces.
 
-ghost use Rattle.std.specs.Prelude.{◌≡◌, ◌<◌, length};
+ghost use Rattle.std.specs.Prelude.{◌≡◌, ◌<◌, length, IfErr};
 ghost use Rattle.wasm_rules.specs.FeatureFlags.{features_of};
 ghost use Rattle.wasm_readers_types.specs.SeenExterns.{table_of, memory_of, global_of};
 ghost use Rattle.wasm_validator_types.specs.Shown.{types_of};
+ghost use Rattle.wasm_validator_core.specs.Errors.{IsAt};
 ghost use Rattle.wasm_validator_core.specs.Answers.{Adds};
 ghost use Rattle.wasm_validator_core.specs.Items.{with_function, with_table, with_memory, with_imported_global, with_tag, add_function, add_table, add_memory, add_tag};
 ghost use Rattle.wasm_validator_core.specs.Ready.{AreHeld};
@@ -26,6 +27,7 @@ pub(crate) fn place_function<A: Allocator + Copy>(
     requires { type_index < length spaces.old.types }
     ensures added { Adds result (with_function spaces.old type_index) spaces.new }
     ensures types { spaces.new.types ≡ spaces.old.types }
+    ensures place { IfErr result (IsAt offset) }
 {
     let count = spaces.function_count() as usize;
     check_max(count, 1, MAX_FUNCTIONS, Counted::Functions, offset)?;
@@ -42,6 +44,7 @@ pub(crate) fn place_table<A: Allocator + Copy>(
 ) -> Result<(), Error<A>>
     ensures added { Adds result (with_table (features_of features) spaces.old (table_of ty)) spaces.new }
     ensures types { spaces.new.types ≡ spaces.old.types }
+    ensures place { IfErr result (IsAt offset) }
 {
     let count = spaces.table_count() as usize;
     check_max(count, 1, max_tables(features), Counted::Tables, offset)?;
@@ -58,6 +61,7 @@ pub(crate) fn place_memory<A: Allocator + Copy>(
 ) -> Result<(), Error<A>>
     ensures added { Adds result (with_memory (features_of features) spaces.old (memory_of ty)) spaces.new }
     ensures types { spaces.new.types ≡ spaces.old.types }
+    ensures place { IfErr result (IsAt offset) }
 {
     let count = spaces.memory_count() as usize;
     check_max(count, 1, max_memories(features), Counted::Memories, offset)?;
@@ -73,6 +77,7 @@ pub(crate) fn place_imported_global<A: Allocator + Copy>(
 ) -> Result<(), Error<A>>
     ensures added { Adds result (with_imported_global spaces.old (global_of ty)) spaces.new }
     ensures types { spaces.new.types ≡ spaces.old.types }
+    ensures place { IfErr result (IsAt offset) }
 {
     let count = spaces.global_count() as usize;
     check_max(count, 1, MAX_GLOBALS, Counted::Globals, offset)?;
@@ -89,6 +94,7 @@ pub(crate) fn place_tag<A: Allocator + Copy>(
     requires { type_index < length spaces.old.types }
     ensures added { Adds result (with_tag spaces.old type_index) spaces.new }
     ensures types { spaces.new.types ≡ spaces.old.types }
+    ensures place { IfErr result (IsAt offset) }
 {
     let count = spaces.tag_count() as usize;
     check_max(count, 1, MAX_TAGS, Counted::Tags, offset)?;
@@ -106,6 +112,7 @@ pub(crate) fn add_defined_function<A: Allocator + Copy>(
     requires { AreHeld list.now spaces.old.types }
     ensures added { Adds result (add_function (types_of list.now) spaces.old type_index) spaces.new }
     ensures types { spaces.new.types ≡ spaces.old.types }
+    ensures place { IfErr result (IsAt offset) }
 {
     func_type_at(list, known_ids(list, spaces), type_index, offset)?;
     place_function(spaces, type_index, offset)
@@ -122,6 +129,7 @@ pub(crate) fn add_defined_table<A: Allocator + Copy>(
     requires { AreHeld list.now spaces.old.types }
     ensures added { Adds result (add_table (features_of features) (types_of list.now) spaces.old (table_of ty)) spaces.new }
     ensures types { spaces.new.types ≡ spaces.old.types }
+    ensures place { IfErr result (IsAt offset) }
 {
     let ids = known_ids(list, spaces);
     check_defined_table(features, list, ids, ty, false, offset)?;
@@ -138,6 +146,7 @@ pub(crate) fn add_defined_memory<A: Allocator + Copy>(
 ) -> Result<(), Error<A>>
     ensures added { Adds result (add_memory (features_of features) spaces.old (memory_of ty)) spaces.new }
     ensures types { spaces.new.types ≡ spaces.old.types }
+    ensures place { IfErr result (IsAt offset) }
 {
     check_memory_type(features, ty, offset)?;
     place_memory(features, spaces, ty, offset)
@@ -154,6 +163,7 @@ pub(crate) fn add_defined_tag<A: Allocator + Copy>(
     requires { AreHeld list.now spaces.old.types }
     ensures added { Adds result (add_tag (features_of features) (types_of list.now) spaces.old ty.func_type_idx) spaces.new }
     ensures types { spaces.new.types ≡ spaces.old.types }
+    ensures place { IfErr result (IsAt offset) }
 {
     check_tag_type(features, list, known_ids(list, spaces), ty, offset)?;
     place_tag(spaces, ty.func_type_idx, offset)

@@ -58,7 +58,8 @@ pub fn check_max(
     what: Counted,
     offset: u64,
 ) -> Result<(), Refusal>
-    ensures { is_ok result ≡ nat_le (there + more) limit }
+    ensures fits { is_ok result ≡ nat_le (there + more) limit }
+    ensures refusal { IfErr result (λ r. r ≡ record { fault = Fault.Limit what limit; offset = offset; missing = None }) }
 {
     let most = limit as usize;
     if there <= most && more <= most - there {

@@ -8,12 +8,13 @@ ghost use Rattle.wasm_rules.specs.Limits.{most_tables, most_memories};
 ghost use Rattle.wasm_readers.specs.Items.{import_of, export_of};
 ghost use Rattle.wasm_readers_types.specs.SeenExterns.{table_of, memory_of, extern_of};
 ghost use Rattle.wasm_readers_types.specs.SeenTypes.{rec_of};
-ghost use Rattle.wasm_item_rules.specs.Answers.{IsPlainRefusalAt};
+ghost use Rattle.wasm_item_rules.specs.Answers.{IsRefusalAt, IsPlainRefusalAt};
 ghost use Rattle.wasm_item_rules.specs.Items.{is_valid_extern};
 ghost use Rattle.wasm_validator_types.specs.Entities.{entity_of};
 ghost use Rattle.wasm_validator_types.specs.Shown.{types_of};
 ghost use Rattle.wasm_validator_types.specs.Spaces.{no_spaces};
 ghost use Rattle.wasm_validator_canonical.specs.Groups.{has_form, AreValid};
+ghost use Rattle.wasm_validator_core.specs.Errors.{IsAt};
 ghost use Rattle.wasm_validator_core.specs.Answers.{Adds, AddsWhere, HasValidTypes};
 ghost use Rattle.wasm_validator_core.specs.Functions.{IsTypeOfFunction, IsUnknownFunction};
 ghost use Rattle.wasm_validator_core.specs.Ready.{IsOpenFor, AreIdsOf, AreHeld};
@@ -130,6 +131,7 @@ impl<A: Allocator + Copy> Module<A> {
         requires { AreHeld list.now self.old.types }
         ensures added { Adds result (add_import (features_of features) (types_of list.now) self.old (import_of import.now)) self.new }
         ensures types { self.new.types ≡ self.old.types }
+        ensures place { IfErr result (IsAt offset) }
     {
         add_one_import(features, list, &mut self.spaces, import, offset)
     }
@@ -150,6 +152,7 @@ impl<A: Allocator + Copy> Module<A> {
         requires { AreHeld list.now self.old.types }
         ensures added { Adds result (add_function (types_of list.now) self.old type_index) self.new }
         ensures types { self.new.types ≡ self.old.types }
+        ensures place { IfErr result (IsAt offset) }
     {
         add_defined_function(list, &mut self.spaces, type_index, offset)
     }
@@ -171,6 +174,7 @@ impl<A: Allocator + Copy> Module<A> {
         requires { AreHeld list.now self.old.types }
         ensures added { Adds result (add_table (features_of features) (types_of list.now) self.old (table_of ty)) self.new }
         ensures types { self.new.types ≡ self.old.types }
+        ensures place { IfErr result (IsAt offset) }
     {
         add_defined_table(features, list, &mut self.spaces, ty, offset)
     }
@@ -190,6 +194,7 @@ impl<A: Allocator + Copy> Module<A> {
     ) -> Result<(), Error<A>>
         ensures added { Adds result (add_memory (features_of features) self.old (memory_of ty)) self.new }
         ensures types { self.new.types ≡ self.old.types }
+        ensures place { IfErr result (IsAt offset) }
     {
         add_defined_memory(features, &mut self.spaces, ty, offset)
     }
@@ -211,6 +216,7 @@ impl<A: Allocator + Copy> Module<A> {
         requires { AreHeld list.now self.old.types }
         ensures added { Adds result (add_tag (features_of features) (types_of list.now) self.old ty.func_type_idx) self.new }
         ensures types { self.new.types ≡ self.old.types }
+        ensures place { IfErr result (IsAt offset) }
     {
         add_defined_tag(features, list, &mut self.spaces, ty, offset)
     }
@@ -232,6 +238,7 @@ impl<A: Allocator + Copy> Module<A> {
     ) -> Result<(), Error<A>>
         ensures added { Adds result (add_export (features_of features) (types_of list.now) self.old (export_of export.now)) self.new }
         ensures types { self.new.types ≡ self.old.types }
+        ensures place { IfErr result (IsAt offset) }
     {
         add_one_export(features, alloc, list, &mut self.spaces, export, offset)
     }
@@ -287,6 +294,7 @@ impl<A: Allocator + Copy> Module<A> {
         requires { AreHeld list.now self.now.types }
         ensures allowed { is_ok result ≡ is_valid_extern (features_of features) (types_of_module (types_of list.now) self.now) (extern_of ty) }
         ensures value { IfOk result (λ e. entity_of e ≡ entity self.now (listed self.now (extern_of ty))) }
+        ensures refusal { IfErr result (IsRefusalAt features offset) }
     {
         let ty = listed_type_ref(features, list, known_ids(list, &self.spaces), ty, offset)?;
         Ok(entity_type(&self.spaces, ty))
@@ -305,6 +313,7 @@ impl<A: Allocator + Copy> Module<A> {
     ) -> Result<EntityType, Refusal>
         ensures ok { IfOk result (λ e. exported_entity (features_of features) self.now (export_of export.now) ≡ Some (entity_of e)) }
         ensures err { OnErr result (exported_entity (features_of features) self.now (export_of export.now) ≡ None) }
+        ensures place { IfErr result (IsPlainRefusalAt offset) }
     {
         exported(features, &self.spaces, export, offset)
     }

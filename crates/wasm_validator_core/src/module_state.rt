@@ -1,10 +1,11 @@
 //! What is kept of a module while its sections are read.
 
-ghost use Rattle.std.specs.Prelude.{◌≡◌};
+ghost use Rattle.std.specs.Prelude.{◌≡◌, IfErr};
 ghost use Rattle.wasm_rules.specs.FeatureFlags.{features_of};
 ghost use Rattle.wasm_readers_types.specs.SeenExterns.{table_of};
 ghost use Rattle.wasm_validator_types.specs.Shown.{types_of};
 ghost use Rattle.wasm_validator_types.specs.Spaces.{no_spaces};
+ghost use Rattle.wasm_validator_core.specs.Errors.{IsAt};
 ghost use Rattle.wasm_validator_core.specs.Answers.{Adds};
 ghost use Rattle.wasm_validator_core.specs.Ready.{AreHeld};
 ghost use Rattle.wasm_validator_core.specs.Bodies.{expected_bodies};
@@ -50,6 +51,7 @@ impl<A: Allocator + Copy> ModuleState<A> {
         requires { AreHeld list.now self.old.module.types }
         ensures added { Adds result (add_table (features_of features) (types_of list.now) self.old.module (table_of ty)) self.new.module }
         ensures types { self.new.module.types ≡ self.old.module.types }
+        ensures place { IfErr result (IsAt offset) }
     {
         self.module.add_table(features, list, ty, offset)
     }
