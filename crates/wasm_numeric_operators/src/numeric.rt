@@ -154,7 +154,7 @@ pub enum SaturatingOperator {
 }
 
 /// The numeric operator of this opcode, if there is one.
-#[inline]
+#[inline(always)]
 pub fn numeric_from_opcode(opcode: u8) -> Option<NumericOperator>
     ensures { result ≡ numeric_from opcode }
 {
@@ -162,6 +162,7 @@ pub fn numeric_from_opcode(opcode: u8) -> Option<NumericOperator>
 }
 
 /// The numeric operator that has this opcode, or none where none has.
+#[inline(always)]
 fn numeric_with_opcode(opcode: u8) -> Option<NumericOperator>
     ensures some { IfSome result (λ op. numeric_opcode op ≡ opcode) }
     ensures none { IfNone result ((op : NumericOperator) → numeric_opcode op ≢ opcode) }

@@ -3,6 +3,7 @@
 
 mod control;
 mod expressions;
+mod frequent;
 pub mod laws;
 mod lists;
 mod operators;

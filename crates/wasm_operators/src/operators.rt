@@ -8,6 +8,7 @@ ghost use Rattle.wasm_operators.specs.Instructions.{aggregate_from, bulk_from, p
 ghost use Rattle.wasm_operators.specs.SeenOperators.{operator_of};
 
 use crate::control::{ControlOperator, ParametricOperator, read_control, read_parametric};
+use crate::frequent::next_frequent;
 use crate::references::{CastOperator, ReferenceOperator, read_cast, read_reference};
 use wasm_flat_operators::{
     ArrayOperator, BulkMemoryOperator, CallOperator, ConstantOperator, ConversionOperator, MemArg,
@@ -180,9 +181,10 @@ fn read_plain<'a>(
     }
 }
 
-/// The next operator.
+/// The next operator, whatever it is.
+#[inline(never)]
 #[tactic(auto, unfolding(crate::specs::Instructions::instruction_at))]
-pub fn read_operator<'a>(reader: &mut BinaryReader<'a>) -> Result<Operator<'a>, Refusal>
+fn read_any<'a>(reader: &mut BinaryReader<'a>) -> Result<Operator<'a>, Refusal>
     ensures same { SameInput reader.old reader.new }
     ensures onward { position_in reader.old ≤ position_in reader.new }
     ensures refusal { IfErr result (RefusedFrom reader.old) }
@@ -197,5 +199,29 @@ pub fn read_operator<'a>(reader: &mut BinaryReader<'a>) -> Result<Operator<'a>, 
     } else {
         let code = reader.read_var_u32()?;
         read_prefixed(reader, opcode, code, offset)
+    }
+}
+
+/// The next operator.
+#[inline]
+pub fn read_operator<'a>(reader: &mut BinaryReader<'a>) -> Result<Operator<'a>, Refusal>
+    ensures same { SameInput reader.old reader.new }
+    ensures onward { position_in reader.old ≤ position_in reader.new }
+    ensures refusal { IfErr result (RefusedFrom reader.old) }
+    ensures ok { IfOk result (λ op. instruction_at written (rest reader.old) ≡ Some (operator_of op, rest reader.new)) }
+    ensures further { OnOk result (position_in reader.old < position_in reader.new) }
+    ensures err { OnErr result (instruction_at written (rest reader.old) ≡ None) }
+{
+    let mut ahead = *reader;
+    match next_frequent(&mut ahead) {
+        Some(op) => {
+            reader.go_on_from(&ahead);
+            Ok(op)
+        }
+        None => {
+            // A place of its own, so that the operators above can be kept in registers.
+            let found = read_any(reader);
+            found
+        }
     }
 }

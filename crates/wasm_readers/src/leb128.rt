@@ -38,7 +38,30 @@ pub(crate) fn signed_at(bytes: &[u8], bits: u8) -> Option<(i64, usize)>
     }
 }
 
+/// The same, where more than one byte is likely.
+#[inline(always)]
+#[tactic(auto, using(crate::proofs::Powers::signed_powers))]
+pub(crate) fn long_signed_at(bytes: &[u8], bits: u8) -> Option<(i64, usize)>
+    requires low { 0 < bits }
+    requires high { bits ≤ 64 }
+    ensures found { IfSome result (λ r. encoded_at bits bytes.now ≡ Some (r.0, drop r.1 bytes.now)) }
+    ensures within { IfSome result (λ r. r.1 ≤ length bytes.now) }
+    ensures some { IfSome result (λ r. 0 < r.1) }
+    ensures at_least { IfSome result (λ r. (pos 0 -ℤ pos (2 ^ (bits - 1))) ≤ℤ r.0) }
+    ensures below { IfSome result (λ r. r.0 <ℤ pos (2 ^ (bits - 1))) }
+    ensures none { IfNone result (encoded_at bits bytes.now ≡ None) }
+{
+    match bytes {
+        [low, more @ ..] if *low >= 128 && bits > 7 => {
+            let (high, used) = signed_at(more, bits - 7)?;
+            Some((joined(high, *low), used + 1))
+        }
+        _ => signed_at(bytes, bits),
+    }
+}
+
 /// A number of its low seven bits and what stands above them.
+#[inline(always)]
 #[tactic(auto, using(crate::proofs::Powers::whole))]
 fn joined(high: i64, low: u8) -> i64
     requires at_least { (pos 0 -ℤ pos (2 ^ 56)) ≤ℤ high }
