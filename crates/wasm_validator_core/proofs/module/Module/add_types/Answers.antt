@@ -12,7 +12,7 @@ use Rattle.wasm_validator_core.proofs.module.Module.add_types.Goals as goal
 pub returns-in-Ok-intern_rec_group_of-clause-ids : goal.returns-in-Ok-intern_rec_group_of-clause-ids
 returns-in-Ok-intern_rec_group_of-clause-ids g c =
     let s = c.args.self.now in
-    let few = (λ i. leb (length s.types + length-map c.args.group.types sub_of i) MAX_TYPES) ∙ (λ i. leb (length s.types + length (sym c.types-more.ensures i)) MAX_TYPES) ∙ (λ i. leb (length ((sym c.self.view_is i).types) + length c.types-more.result.now) MAX_TYPES) ∙ (λ i. leb (sym c.type_count-count.ensures i + length c.types-more.result.now) MAX_TYPES) ∙ sym c.in-Ok.ensures in
+    let few = (λ i. leb (length s.types + length-map c.args.group.types sub_of i) MAX_TYPES) ∙ (λ i. leb (length s.types + length (sym c.types-more.ensures i)) MAX_TYPES) ∙ (λ i. leb (length ((sym c.self.view_is i).types) + length c.types-more.result.now) MAX_TYPES) ∙ (λ i. leb (sym c.type_count-count.ensures i + length c.types-more.result.now) MAX_TYPES) ∙ sym c.in-Ok.ensures.fits in
     ids_of_new c.args.features c.args.list.now c.intern_rec_group_of.new.types s c.intern_rec_group_of.new.target (rec_of c.args.group) few c.in-Ok-intern_rec_group_of.ensures.added c.requires.ids
 
 pub returns-in-Err-intern_rec_group_of-clause-added : goal.returns-in-Err-intern_rec_group_of-clause-added
