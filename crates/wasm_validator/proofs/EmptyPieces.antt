@@ -19,7 +19,7 @@ use Rattle.wasm_validator_types.specs.Spaces.{Spaces}
 use Rattle.wasm_validator_core.specs.Answers.{Types}
 use Rattle.wasm_validator.specs.Machine.{no_items, type_items, import_items, function_items, table_items, memory_items, export_items, tag_items, other_items, section_items, beside}
 use Rattle.wasm_validator.specs.Served.{is_served_section, is_empty_section, is_served_piece}
-use Rattle.wasm_validator.proofs.ModuleRun.{step, is_item_piece, AreParts}
+use Rattle.wasm_validator.proofs.ModuleRun.{either, step, is_item_piece, AreParts}
 
 abbrev pub has_no_items : Piece → Bool
 has_no_items (Version number kind) = false
@@ -36,11 +36,6 @@ has_no_items End = false
 abbrev pub with_items : List Piece → List Piece
 with_items [] = []
 with_items (p ∷ ps) = cond (has_no_items p) (with_items ps) (p ∷ with_items ps)
-
--- one of two tests is passed
-pub either : (a b : Bool) → (a || b) ≡ true → (a ≡ true) ⊎ (b ≡ true)
-either true b e = inl refl
-either false b e = inr e
 
 or_true : (b : Bool) → (b || true) ≡ true
 or_true true = refl

@@ -72,7 +72,7 @@ pub data PartForm : Piece → Type 0 where
   data_count : {n : ℕ} → PartForm (DataCount n)
 
 -- one of two tests is passed
-either : (a b : Bool) → (a || b) ≡ true → (a ≡ true) ⊎ (b ≡ true)
+pub either : (a b : Bool) → (a || b) ≡ true → (a ≡ true) ⊎ (b ≡ true)
 either true b e = inl refl
 either false b e = inr e
 

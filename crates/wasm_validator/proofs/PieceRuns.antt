@@ -19,8 +19,8 @@ use Rattle.wasm_validator.specs.Served.{is_served_section, is_empty_section, is_
 use Rattle.wasm_validator.specs.Standing.{Stage, Standing, in_module, in_code, ended, shown_at, within, within_all, at_stage}
 use Rattle.wasm_validator.specs.States.{after_piece}
 use Rattle.wasm_validator.specs.Payloads.{after_all}
-use Rattle.wasm_validator.proofs.ModuleRun.{step}
-use Rattle.wasm_validator.proofs.EmptyPieces.{either, section_served}
+use Rattle.wasm_validator.proofs.ModuleRun.{either, step}
+use Rattle.wasm_validator.proofs.EmptyPieces.{section_served}
 use Rattle.wasm_validator.proofs.CodeOrder.{IsLate, InOrder}
 
 -- a validator in a module, before the start of its code or behind it
