@@ -3,7 +3,7 @@
 ghost use Rattle.std.specs.Prelude.{◌≡◌, ◌≤◌, ◌<◌, ◌+◌, Some, None, IfOk, IfErr, OnOk, OnErr};
 ghost use Rattle.wasm_spec.specs.Values.{list_at};
 ghost use Rattle.wasm_spec.specs.BinaryTypes.{val_at};
-ghost use Rattle.wasm_readers.specs.Reader.{SameInput, position_in, original, rest, RefusedFrom};
+ghost use Rattle.wasm_binary_reader.specs.Reader.{SameInput, position_in, original, rest, RefusedFrom};
 ghost use Rattle.wasm_readers.specs.Written.{written};
 ghost use Rattle.wasm_flat_operators.specs.Refusals.{RefusedBetween};
 ghost use Rattle.wasm_operators.specs.Control.{block_at, catch_at, br_table_at, try_table_at, control_from, parametric_from};
@@ -11,6 +11,7 @@ ghost use Rattle.wasm_operators.specs.SeenControl.{block_of, labels_of, catches_
 
 use crate::lists::{Immediate, Listed, read_listed};
 use wasm_readers::BinaryReader;
+use wasm_readers::types::read_val_type;
 use wasm_readers_errors::{Fault, Malformed, Refusal};
 use wasm_readers_types::ValType;
 
@@ -146,7 +147,7 @@ impl<'a> Immediate<'a> for ValType {
     ghost value = { val_of };
 
     fn read(reader: &mut BinaryReader<'a>) -> Result<ValType, Refusal> {
-        reader.read_val_type()
+        read_val_type(reader)
     }
 }
 
@@ -168,7 +169,7 @@ pub fn read_block_type(reader: &mut BinaryReader) -> Result<BlockType, Refusal>
     }
     *reader = start;
     if 0x40 <= byte && byte < 0x80 {
-        Ok(BlockType::Value(reader.read_val_type()?))
+        Ok(BlockType::Value(read_val_type(reader)?))
     } else {
         Ok(BlockType::FuncType(reader.read_var_s33_index()?))
     }

@@ -1,7 +1,7 @@
 //! Operators on references, and casts.
 
 ghost use Rattle.std.specs.Prelude.{◌≡◌, ◌≤◌, ◌+◌, Some, None, IfOk, IfErr, OnErr};
-ghost use Rattle.wasm_readers.specs.Reader.{SameInput, position_in, original, rest, RefusedFrom};
+ghost use Rattle.wasm_binary_reader.specs.Reader.{SameInput, position_in, original, rest, RefusedFrom};
 ghost use Rattle.wasm_readers.specs.Written.{written};
 ghost use Rattle.wasm_spec.specs.BinaryTypes.{heap_at};
 ghost use Rattle.wasm_readers_types.specs.SeenValues.{ref_of};
@@ -10,6 +10,7 @@ ghost use Rattle.wasm_operators.specs.References.{cast_flags_at, branch_at, refe
 ghost use Rattle.wasm_operators.specs.SeenReferences.{reference_of, cast_of};
 
 use wasm_readers::BinaryReader;
+use wasm_readers::types::read_heap_type;
 use wasm_readers_errors::{Fault, Malformed, Refusal};
 use wasm_readers_types::{HeapType, RefType};
 
@@ -90,7 +91,7 @@ pub(crate) fn read_reference(
 {
     match opcode {
         0xd0 => Ok(ReferenceOperator::RefNull {
-            hty: reader.read_heap_type()?,
+            hty: read_heap_type(reader)?,
         }),
         0xd1 => Ok(ReferenceOperator::RefIsNull),
         0xd2 => Ok(ReferenceOperator::RefFunc {
@@ -136,7 +137,7 @@ fn read_type(reader: &mut BinaryReader, nullable: bool) -> Result<RefType, Refus
     ensures null { IfOk result (λ x. (ref_of x).nullable ≡ nullable) }
     ensures err { OnErr result (heap_at written (rest reader.old) ≡ None) }
 {
-    let heap_type = reader.read_heap_type()?;
+    let heap_type = read_heap_type(reader)?;
     match RefType::new(nullable, heap_type) {
         Some(ty) => Ok(ty),
         None => unreachable!(),
@@ -175,16 +176,16 @@ pub(crate) fn read_cast(
 {
     match code {
         20 => Ok(CastOperator::RefTestNonNull {
-            hty: reader.read_heap_type()?,
+            hty: read_heap_type(reader)?,
         }),
         21 => Ok(CastOperator::RefTestNullable {
-            hty: reader.read_heap_type()?,
+            hty: read_heap_type(reader)?,
         }),
         22 => Ok(CastOperator::RefCastNonNull {
-            hty: reader.read_heap_type()?,
+            hty: read_heap_type(reader)?,
         }),
         23 => Ok(CastOperator::RefCastNullable {
-            hty: reader.read_heap_type()?,
+            hty: read_heap_type(reader)?,
         }),
         24 => {
             let (relative_depth, from_ref_type, to_ref_type) = read_branch(reader)?;
@@ -206,10 +207,10 @@ pub(crate) fn read_cast(
             type_index: reader.read_var_u32()?,
         }),
         35 => Ok(CastOperator::RefCastDescEqNonNull {
-            hty: reader.read_heap_type()?,
+            hty: read_heap_type(reader)?,
         }),
         36 => Ok(CastOperator::RefCastDescEqNullable {
-            hty: reader.read_heap_type()?,
+            hty: read_heap_type(reader)?,
         }),
         37 => {
             let (relative_depth, from_ref_type, to_ref_type) = read_branch(reader)?;

@@ -1,4 +1,2 @@
-pub mod Texts
-pub mod Powers
 pub mod Loops
 pub mod Tables

@@ -1,4 +1,3 @@
-pub mod Reader
 pub mod Sections
 pub mod SectionsSeen
 pub mod Written

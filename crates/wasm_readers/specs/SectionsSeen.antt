@@ -2,7 +2,7 @@
 use Rattle.std.specs.Prelude.{◌≤◌, ◌+◌, ℕ, List, Bool, length}
 use Rattle.wasm_readers.specs.declared.section_limited.SectionLimited.{SectionLimited}
 use Rattle.wasm_readers.specs.declared.section_limited.SectionItems.{SectionItems}
-use Rattle.wasm_readers.specs.Reader.{input, position_in, original, rest, SameInput, FailedFrom}
+use Rattle.wasm_binary_reader.specs.Reader.{input, position_in, original, rest, SameInput, FailedFrom}
 use Rattle.wasm_readers_errors.specs.declared.error.Error.{Error}
 
 -- the number of items that a section says it has

@@ -3,72 +3,74 @@
 ghost use Rattle.std.specs.Prelude.{◌≡◌, ◌≤◌, ◌<◌, OnOk, OnErr, IfOk, Some, None, map, IfErr};
 ghost use Rattle.wasm_spec.specs.Values.{list_at};
 ghost use Rattle.wasm_spec.specs.BinaryTypes.{index_at, func_at, comp_at, marked_at, marked_index_at, field_at, final_or_not, sub_at, rec_at};
-ghost use Rattle.wasm_readers.specs.Reader.{input, SameInput, position_in, rest, RefusedFrom, FailedFrom};
+ghost use Rattle.wasm_binary_reader.specs.Reader.{input, SameInput, position_in, rest, RefusedFrom, FailedFrom};
 ghost use Rattle.wasm_readers_errors.specs.Errors.{Reads};
 ghost use Rattle.wasm_readers.specs.Written.{written};
 ghost use Rattle.wasm_readers_types.specs.SeenTypes.{func_of, comp_of, sub_of, rec_of};
 ghost use Rattle.std.specs.Option.{option_map};
 ghost use Rattle.wasm_readers_types.specs.SeenValues.{index_of, field_of};
 
-use crate::binary_reader::BinaryReader;
 use crate::lists::read_list;
 use crate::section_limited::FromReader;
+use crate::types::read_field_type;
 use std::alloc::Allocator;
+use wasm_binary_reader::BinaryReader;
 use wasm_readers_errors::{Error, Fault, Malformed, Refusal};
 use wasm_readers_types::{
     ArrayType, CompositeInnerType, CompositeType, ContType, FieldType, FuncType, Items,
     PackedIndex, RecGroup, StructType, SubType, ValType,
 };
 
-impl<'a> BinaryReader<'a> {
-    /// A type index.
-    pub fn read_type_index(&mut self) -> Result<PackedIndex, Refusal>
-        ensures same { SameInput self.old self.new }
-        ensures onward { position_in self.old ≤ position_in self.new }
-        ensures refusal { IfErr result (RefusedFrom self.old) }
-        ensures ok { IfOk result (λ x. index_at written (rest self.old) ≡ Some (index_of x, rest self.new)) }
-        ensures further { OnOk result (position_in self.old < position_in self.new) }
-        ensures err { OnErr result (index_at written (rest self.old) ≡ None) }
-    {
-        Ok(PackedIndex::from_module_index(self.read_var_u32()?))
-    }
+/// A type index.
+pub fn read_type_index(reader: &mut BinaryReader<'_>) -> Result<PackedIndex, Refusal>
+    ensures same { SameInput reader.old reader.new }
+    ensures onward { position_in reader.old ≤ position_in reader.new }
+    ensures refusal { IfErr result (RefusedFrom reader.old) }
+    ensures ok { IfOk result (λ x. index_at written (rest reader.old) ≡ Some (index_of x, rest reader.new)) }
+    ensures further { OnOk result (position_in reader.old < position_in reader.new) }
+    ensures err { OnErr result (index_at written (rest reader.old) ≡ None) }
+{
+    Ok(PackedIndex::from_module_index(reader.read_var_u32()?))
+}
 
-    /// Whether the next byte is this mark, which is then read.
-    fn read_mark(&mut self, mark: u8) -> bool
-        ensures same { SameInput self.old self.new }
-        ensures onward { position_in self.old ≤ position_in self.new }
-        ensures marked { marked_at mark (rest self.old) ≡ (result, rest self.new) }
-    {
-        let start = *self;
-        match self.read_u8() {
-            Ok(byte) => {
-                if byte == mark {
-                    return true;
-                }
-                *self = start;
-                false
+/// Whether the next byte is this mark, which is then read.
+fn read_mark(reader: &mut BinaryReader<'_>, mark: u8) -> bool
+    ensures same { SameInput reader.old reader.new }
+    ensures onward { position_in reader.old ≤ position_in reader.new }
+    ensures marked { marked_at mark (rest reader.old) ≡ (result, rest reader.new) }
+{
+    let start = *reader;
+    match reader.read_u8() {
+        Ok(byte) => {
+            if byte == mark {
+                return true;
             }
-            Err(_) => {
-                *self = start;
-                false
-            }
+            *reader = start;
+            false
+        }
+        Err(_) => {
+            *reader = start;
+            false
         }
     }
+}
 
-    /// A type index behind this mark, where the mark stands.
-    #[tactic(auto, unfolding(wasm_spec::specs::BinaryTypes::marked_index_at))]
-    fn read_marked_index(&mut self, mark: u8) -> Result<Option<PackedIndex>, Refusal>
-        ensures same { SameInput self.old self.new }
-        ensures onward { position_in self.old ≤ position_in self.new }
-        ensures refusal { IfErr result (RefusedFrom self.old) }
-        ensures ok { IfOk result (λ x. marked_index_at written mark (rest self.old) ≡ Some (option_map index_of x, rest self.new)) }
-        ensures err { OnErr result (marked_index_at written mark (rest self.old) ≡ None) }
-    {
-        if self.read_mark(mark) {
-            Ok(Some(self.read_type_index()?))
-        } else {
-            Ok(None)
-        }
+/// A type index behind this mark, where the mark stands.
+#[tactic(auto, unfolding(wasm_spec::specs::BinaryTypes::marked_index_at))]
+fn read_marked_index(
+    reader: &mut BinaryReader<'_>,
+    mark: u8,
+) -> Result<Option<PackedIndex>, Refusal>
+    ensures same { SameInput reader.old reader.new }
+    ensures onward { position_in reader.old ≤ position_in reader.new }
+    ensures refusal { IfErr result (RefusedFrom reader.old) }
+    ensures ok { IfOk result (λ x. marked_index_at written mark (rest reader.old) ≡ Some (option_map index_of x, rest reader.new)) }
+    ensures err { OnErr result (marked_index_at written mark (rest reader.old) ≡ None) }
+{
+    if read_mark(reader, mark) {
+        Ok(Some(read_type_index(reader)?))
+    } else {
+        Ok(None)
     }
 }
 
@@ -82,7 +84,7 @@ impl<'a, A: Allocator> FromReader<'a, A> for PackedIndex {
     ghost value = { index_of };
 
     fn from_reader(_alloc: A, reader: &mut BinaryReader<'a>) -> Result<PackedIndex, Error> {
-        Ok(reader.read_type_index()?)
+        Ok(read_type_index(reader)?)
     }
 }
 
@@ -133,8 +135,8 @@ fn read_composite_inner_type<'a, A: Allocator + Copy>(
     match reader.read_u8()? {
         0x60 => Ok(CompositeInnerType::Func(read_func_type(alloc, reader)?)),
         0x5f => Ok(CompositeInnerType::Struct(read_struct_type(alloc, reader)?)),
-        0x5e => Ok(CompositeInnerType::Array(ArrayType(reader.read_field_type()?))),
-        0x5d => Ok(CompositeInnerType::Cont(ContType(reader.read_type_index()?))),
+        0x5e => Ok(CompositeInnerType::Array(ArrayType(read_field_type(reader)?))),
+        0x5d => Ok(CompositeInnerType::Cont(ContType(read_type_index(reader)?))),
         _ => Err(Error::Refused(Refusal::new(Fault::Malformed(Malformed::CompositeType), offset))),
     }
 }
@@ -152,9 +154,9 @@ fn read_final_or_not<'a, A: Allocator + Copy>(
     ensures failure { IfErr result (FailedFrom reader.old) }
     ensures reads { Reads sub_of result (final_or_not written is_final (map index_of supertypes.items) (rest reader.old)) (rest reader.new) }
 {
-    let shared = reader.read_mark(0x65);
-    let describes_idx = reader.read_marked_index(0x4c)?;
-    let descriptor_idx = reader.read_marked_index(0x4d)?;
+    let shared = read_mark(reader, 0x65);
+    let describes_idx = read_marked_index(reader, 0x4c)?;
+    let descriptor_idx = read_marked_index(reader, 0x4d)?;
     let inner = read_composite_inner_type(alloc, reader)?;
     Ok(SubType {
         is_final,

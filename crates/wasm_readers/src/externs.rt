@@ -3,16 +3,17 @@
 ghost use Rattle.std.specs.Prelude.{◌≡◌, ◌≤◌, ◌<◌, OnOk, OnErr, IfOk, Some, None, IfErr};
 ghost use Rattle.wasm_spec.specs.BinaryTypes.{flags_at, limits_at, number_if, page_size_if, table_at, memory_at, global_at, tag_at};
 ghost use Rattle.wasm_spec.specs.BinaryModules.{import_at, export_at, extern_at};
-ghost use Rattle.wasm_readers.specs.Reader.{input, SameInput, position_in, rest, RefusedFrom};
+ghost use Rattle.wasm_binary_reader.specs.Reader.{input, SameInput, position_in, rest, RefusedFrom};
 ghost use Rattle.wasm_readers.specs.Written.{written};
 ghost use Rattle.wasm_readers.specs.Limits.{limits_of};
 ghost use Rattle.wasm_readers.specs.Tables.{head_of, table_head_at};
 ghost use Rattle.wasm_readers_types.specs.SeenExterns.{table_of, memory_of, global_of, extern_of, kind_of};
 
-use crate::binary_reader::BinaryReader;
 use crate::items::{Export, Import, TableHead};
 use crate::section_limited::FromReader;
+use crate::types::{read_ref_type, read_val_type};
 use std::alloc::Allocator;
+use wasm_binary_reader::BinaryReader;
 use wasm_readers_errors::{Error, Fault, Malformed, Refusal};
 use wasm_readers_types::{
     ExternalKind, GlobalType, MemoryType, TableType, TagKind, TagType, TypeRef,
@@ -26,208 +27,206 @@ pub struct Limits {
     maximum: Option<u64>,
 }
 
-impl<'a> BinaryReader<'a> {
-    /// Flags: a byte that is at most this one.
-    #[tactic(auto, unfolding(wasm_spec::specs::BinaryTypes::flags_at))]
-    fn read_flags(&mut self, most: u8, malformed: Malformed) -> Result<u8, Refusal>
-        ensures same { SameInput self.old self.new }
-        ensures onward { position_in self.old ≤ position_in self.new }
-        ensures refusal { IfErr result (RefusedFrom self.old) }
-        ensures ok { IfOk result (λ x. flags_at most (rest self.old) ≡ Some (x, rest self.new)) }
-        ensures err { OnErr result (flags_at most (rest self.old) ≡ None) }
-    {
-        let offset = self.original_position();
-        let flags = self.read_u8()?;
-        if flags > most {
-            return Err(Refusal::new(Fault::Malformed(malformed), offset));
-        }
-        Ok(flags)
+/// Flags: a byte that is at most this one.
+#[tactic(auto, unfolding(wasm_spec::specs::BinaryTypes::flags_at))]
+fn read_flags(reader: &mut BinaryReader<'_>, most: u8, malformed: Malformed) -> Result<u8, Refusal>
+    ensures same { SameInput reader.old reader.new }
+    ensures onward { position_in reader.old ≤ position_in reader.new }
+    ensures refusal { IfErr result (RefusedFrom reader.old) }
+    ensures ok { IfOk result (λ x. flags_at most (rest reader.old) ≡ Some (x, rest reader.new)) }
+    ensures err { OnErr result (flags_at most (rest reader.old) ≡ None) }
+{
+    let offset = reader.original_position();
+    let flags = reader.read_u8()?;
+    if flags > most {
+        return Err(Refusal::new(Fault::Malformed(malformed), offset));
     }
+    Ok(flags)
+}
 
-    /// A number of 64 bits, where there is one.
-    fn read_number_if(&mut self, there: bool) -> Result<Option<u64>, Refusal>
-        ensures same { SameInput self.old self.new }
-        ensures onward { position_in self.old ≤ position_in self.new }
-        ensures refusal { IfErr result (RefusedFrom self.old) }
-        ensures ok { IfOk result (λ x. number_if there (rest self.old) ≡ Some (x, rest self.new)) }
-        ensures err { OnErr result (number_if there (rest self.old) ≡ None) }
-    {
-        if there {
-            Ok(Some(self.read_var_u64()?))
-        } else {
-            Ok(None)
-        }
+/// A number of 64 bits, where there is one.
+fn read_number_if(reader: &mut BinaryReader<'_>, there: bool) -> Result<Option<u64>, Refusal>
+    ensures same { SameInput reader.old reader.new }
+    ensures onward { position_in reader.old ≤ position_in reader.new }
+    ensures refusal { IfErr result (RefusedFrom reader.old) }
+    ensures ok { IfOk result (λ x. number_if there (rest reader.old) ≡ Some (x, rest reader.new)) }
+    ensures err { OnErr result (number_if there (rest reader.old) ≡ None) }
+{
+    if there {
+        Ok(Some(reader.read_var_u64()?))
+    } else {
+        Ok(None)
     }
+}
 
-    /// The logarithm of a page size, where there is one.
-    fn read_page_size_if(&mut self, there: bool) -> Result<Option<u32>, Refusal>
-        ensures same { SameInput self.old self.new }
-        ensures onward { position_in self.old ≤ position_in self.new }
-        ensures refusal { IfErr result (RefusedFrom self.old) }
-        ensures ok { IfOk result (λ x. page_size_if there (rest self.old) ≡ Some (x, rest self.new)) }
-        ensures err { OnErr result (page_size_if there (rest self.old) ≡ None) }
-    {
-        if there {
-            Ok(Some(self.read_var_u32()?))
-        } else {
-            Ok(None)
-        }
+/// The logarithm of a page size, where there is one.
+fn read_page_size_if(reader: &mut BinaryReader<'_>, there: bool) -> Result<Option<u32>, Refusal>
+    ensures same { SameInput reader.old reader.new }
+    ensures onward { position_in reader.old ≤ position_in reader.new }
+    ensures refusal { IfErr result (RefusedFrom reader.old) }
+    ensures ok { IfOk result (λ x. page_size_if there (rest reader.old) ≡ Some (x, rest reader.new)) }
+    ensures err { OnErr result (page_size_if there (rest reader.old) ≡ None) }
+{
+    if there {
+        Ok(Some(reader.read_var_u32()?))
+    } else {
+        Ok(None)
     }
+}
 
-    /// Flags that are at most these, with a minimum, and a maximum where the flags have one.
-    #[tactic(auto, unfolding(wasm_spec::specs::BinaryTypes::limits_at))]
-    fn read_limits(&mut self, most: u8) -> Result<Limits, Refusal>
-        ensures same { SameInput self.old self.new }
-        ensures onward { position_in self.old ≤ position_in self.new }
-        ensures refusal { IfErr result (RefusedFrom self.old) }
-        ensures ok { IfOk result (λ x. limits_at most (rest self.old) ≡ Some (limits_of x, rest self.new)) }
-        ensures err { OnErr result (limits_at most (rest self.old) ≡ None) }
-    {
-        let flags = self.read_flags(most, Malformed::LimitsFlags)?;
-        let minimum = self.read_var_u64()?;
-        let maximum = self.read_number_if(flags & 1 != 0)?;
-        Ok(Limits {
-            flags,
-            minimum,
-            maximum,
-        })
+/// Flags that are at most these, with a minimum, and a maximum where the flags have one.
+#[tactic(auto, unfolding(wasm_spec::specs::BinaryTypes::limits_at))]
+fn read_limits(reader: &mut BinaryReader<'_>, most: u8) -> Result<Limits, Refusal>
+    ensures same { SameInput reader.old reader.new }
+    ensures onward { position_in reader.old ≤ position_in reader.new }
+    ensures refusal { IfErr result (RefusedFrom reader.old) }
+    ensures ok { IfOk result (λ x. limits_at most (rest reader.old) ≡ Some (limits_of x, rest reader.new)) }
+    ensures err { OnErr result (limits_at most (rest reader.old) ≡ None) }
+{
+    let flags = read_flags(reader, most, Malformed::LimitsFlags)?;
+    let minimum = reader.read_var_u64()?;
+    let maximum = read_number_if(reader, flags & 1 != 0)?;
+    Ok(Limits {
+        flags,
+        minimum,
+        maximum,
+    })
+}
+
+/// A table type.
+#[tactic(auto, unfolding(wasm_spec::specs::BinaryTypes::table_at))]
+pub fn read_table_type(reader: &mut BinaryReader<'_>) -> Result<TableType, Refusal>
+    ensures same { SameInput reader.old reader.new }
+    ensures onward { position_in reader.old ≤ position_in reader.new }
+    ensures refusal { IfErr result (RefusedFrom reader.old) }
+    ensures ok { IfOk result (λ x. table_at written (rest reader.old) ≡ Some (table_of x, rest reader.new)) }
+    ensures err { OnErr result (table_at written (rest reader.old) ≡ None) }
+{
+    let element_type = read_ref_type(reader)?;
+    let limits = read_limits(reader, 7)?;
+    Ok(TableType {
+        element_type,
+        table64: limits.flags & 4 != 0,
+        initial: limits.minimum,
+        maximum: limits.maximum,
+        shared: limits.flags & 2 != 0,
+    })
+}
+
+/// What stands of a table of the table section before its initializer: its type, and whether an
+/// initializer follows (Core Specification 3.0, Binary Format, Table Section).
+#[tactic(auto, unfolding(crate::specs::Tables::table_head_at))]
+pub fn read_table_head(reader: &mut BinaryReader<'_>) -> Result<TableHead, Refusal>
+    ensures same { SameInput reader.old reader.new }
+    ensures onward { position_in reader.old ≤ position_in reader.new }
+    ensures refusal { IfErr result (RefusedFrom reader.old) }
+    ensures ok { IfOk result (λ h. table_head_at (rest reader.old) ≡ Some (head_of h, rest reader.new)) }
+    ensures err { OnErr result (table_head_at (rest reader.old) ≡ None) }
+{
+    let start = *reader;
+    let has_init = reader.read_u8()? == 0x40;
+    if has_init {
+        read_flags(reader, 0, Malformed::ReferenceType)?;
+    } else {
+        *reader = start;
     }
+    let ty = read_table_type(reader)?;
+    Ok(TableHead { ty, has_init })
+}
 
-    /// A table type.
-    #[tactic(auto, unfolding(wasm_spec::specs::BinaryTypes::table_at))]
-    pub fn read_table_type(&mut self) -> Result<TableType, Refusal>
-        ensures same { SameInput self.old self.new }
-        ensures onward { position_in self.old ≤ position_in self.new }
-        ensures refusal { IfErr result (RefusedFrom self.old) }
-        ensures ok { IfOk result (λ x. table_at written (rest self.old) ≡ Some (table_of x, rest self.new)) }
-        ensures err { OnErr result (table_at written (rest self.old) ≡ None) }
-    {
-        let element_type = self.read_ref_type()?;
-        let limits = self.read_limits(7)?;
-        Ok(TableType {
-            element_type,
-            table64: limits.flags & 4 != 0,
-            initial: limits.minimum,
-            maximum: limits.maximum,
-            shared: limits.flags & 2 != 0,
-        })
+/// A memory type.
+#[tactic(auto, unfolding(wasm_spec::specs::BinaryTypes::memory_at))]
+pub fn read_memory_type(reader: &mut BinaryReader<'_>) -> Result<MemoryType, Refusal>
+    ensures same { SameInput reader.old reader.new }
+    ensures onward { position_in reader.old ≤ position_in reader.new }
+    ensures refusal { IfErr result (RefusedFrom reader.old) }
+    ensures ok { IfOk result (λ x. memory_at (rest reader.old) ≡ Some (memory_of x, rest reader.new)) }
+    ensures err { OnErr result (memory_at (rest reader.old) ≡ None) }
+{
+    let limits = read_limits(reader, 15)?;
+    let page_size_log2 = read_page_size_if(reader, limits.flags & 8 != 0)?;
+    Ok(MemoryType {
+        memory64: limits.flags & 4 != 0,
+        shared: limits.flags & 2 != 0,
+        initial: limits.minimum,
+        maximum: limits.maximum,
+        page_size_log2,
+    })
+}
+
+/// A global type.
+#[tactic(auto, unfolding(wasm_spec::specs::BinaryTypes::global_at))]
+pub fn read_global_type(reader: &mut BinaryReader<'_>) -> Result<GlobalType, Refusal>
+    ensures same { SameInput reader.old reader.new }
+    ensures onward { position_in reader.old ≤ position_in reader.new }
+    ensures refusal { IfErr result (RefusedFrom reader.old) }
+    ensures ok { IfOk result (λ x. global_at written (rest reader.old) ≡ Some (global_of x, rest reader.new)) }
+    ensures err { OnErr result (global_at written (rest reader.old) ≡ None) }
+{
+    let content_type = read_val_type(reader)?;
+    let flags = read_flags(reader, 3, Malformed::GlobalFlags)?;
+    Ok(GlobalType {
+        content_type,
+        mutable: flags & 1 != 0,
+        shared: flags & 2 != 0,
+    })
+}
+
+/// A tag type.
+#[tactic(auto, unfolding(wasm_spec::specs::BinaryTypes::tag_at))]
+pub fn read_tag_type(reader: &mut BinaryReader<'_>) -> Result<TagType, Refusal>
+    ensures same { SameInput reader.old reader.new }
+    ensures onward { position_in reader.old ≤ position_in reader.new }
+    ensures refusal { IfErr result (RefusedFrom reader.old) }
+    ensures ok { IfOk result (λ x. tag_at (rest reader.old) ≡ Some (x.func_type_idx, rest reader.new)) }
+    ensures err { OnErr result (tag_at (rest reader.old) ≡ None) }
+{
+    read_flags(reader, 0, Malformed::TagAttribute)?;
+    let func_type_idx = reader.read_var_u32()?;
+    Ok(TagType {
+        kind: TagKind::Exception,
+        func_type_idx,
+    })
+}
+
+/// What an import is: its kind, and its type or type index.
+#[tactic(auto, unfolding(wasm_spec::specs::BinaryModules::extern_at))]
+pub fn read_type_ref(reader: &mut BinaryReader<'_>) -> Result<TypeRef, Refusal>
+    ensures same { SameInput reader.old reader.new }
+    ensures onward { position_in reader.old ≤ position_in reader.new }
+    ensures refusal { IfErr result (RefusedFrom reader.old) }
+    ensures ok { IfOk result (λ x. extern_at written (rest reader.old) ≡ Some (extern_of x, rest reader.new)) }
+    ensures err { OnErr result (extern_at written (rest reader.old) ≡ None) }
+{
+    let offset = reader.original_position();
+    match reader.read_u8()? {
+        0 => Ok(TypeRef::Func(reader.read_var_u32()?)),
+        1 => Ok(TypeRef::Table(read_table_type(reader)?)),
+        2 => Ok(TypeRef::Memory(read_memory_type(reader)?)),
+        3 => Ok(TypeRef::Global(read_global_type(reader)?)),
+        4 => Ok(TypeRef::Tag(read_tag_type(reader)?)),
+        0x20 => Ok(TypeRef::FuncExact(reader.read_var_u32()?)),
+        _ => Err(Refusal::new(Fault::Malformed(Malformed::ImportKind), offset)),
     }
+}
 
-    /// What stands of a table of the table section before its initializer: its type, and whether an
-    /// initializer follows (Core Specification 3.0, Binary Format, Table Section).
-    #[tactic(auto, unfolding(crate::specs::Tables::table_head_at))]
-    pub fn read_table_head(&mut self) -> Result<TableHead, Refusal>
-        ensures same { SameInput self.old self.new }
-        ensures onward { position_in self.old ≤ position_in self.new }
-        ensures refusal { IfErr result (RefusedFrom self.old) }
-        ensures ok { IfOk result (λ h. table_head_at (rest self.old) ≡ Some (head_of h, rest self.new)) }
-        ensures err { OnErr result (table_head_at (rest self.old) ≡ None) }
-    {
-        let start = *self;
-        let has_init = self.read_u8()? == 0x40;
-        if has_init {
-            self.read_flags(0, Malformed::ReferenceType)?;
-        } else {
-            *self = start;
-        }
-        let ty = self.read_table_type()?;
-        Ok(TableHead { ty, has_init })
-    }
-
-    /// A memory type.
-    #[tactic(auto, unfolding(wasm_spec::specs::BinaryTypes::memory_at))]
-    pub fn read_memory_type(&mut self) -> Result<MemoryType, Refusal>
-        ensures same { SameInput self.old self.new }
-        ensures onward { position_in self.old ≤ position_in self.new }
-        ensures refusal { IfErr result (RefusedFrom self.old) }
-        ensures ok { IfOk result (λ x. memory_at (rest self.old) ≡ Some (memory_of x, rest self.new)) }
-        ensures err { OnErr result (memory_at (rest self.old) ≡ None) }
-    {
-        let limits = self.read_limits(15)?;
-        let page_size_log2 = self.read_page_size_if(limits.flags & 8 != 0)?;
-        Ok(MemoryType {
-            memory64: limits.flags & 4 != 0,
-            shared: limits.flags & 2 != 0,
-            initial: limits.minimum,
-            maximum: limits.maximum,
-            page_size_log2,
-        })
-    }
-
-    /// A global type.
-    #[tactic(auto, unfolding(wasm_spec::specs::BinaryTypes::global_at))]
-    pub fn read_global_type(&mut self) -> Result<GlobalType, Refusal>
-        ensures same { SameInput self.old self.new }
-        ensures onward { position_in self.old ≤ position_in self.new }
-        ensures refusal { IfErr result (RefusedFrom self.old) }
-        ensures ok { IfOk result (λ x. global_at written (rest self.old) ≡ Some (global_of x, rest self.new)) }
-        ensures err { OnErr result (global_at written (rest self.old) ≡ None) }
-    {
-        let content_type = self.read_val_type()?;
-        let flags = self.read_flags(3, Malformed::GlobalFlags)?;
-        Ok(GlobalType {
-            content_type,
-            mutable: flags & 1 != 0,
-            shared: flags & 2 != 0,
-        })
-    }
-
-    /// A tag type.
-    #[tactic(auto, unfolding(wasm_spec::specs::BinaryTypes::tag_at))]
-    pub fn read_tag_type(&mut self) -> Result<TagType, Refusal>
-        ensures same { SameInput self.old self.new }
-        ensures onward { position_in self.old ≤ position_in self.new }
-        ensures refusal { IfErr result (RefusedFrom self.old) }
-        ensures ok { IfOk result (λ x. tag_at (rest self.old) ≡ Some (x.func_type_idx, rest self.new)) }
-        ensures err { OnErr result (tag_at (rest self.old) ≡ None) }
-    {
-        self.read_flags(0, Malformed::TagAttribute)?;
-        let func_type_idx = self.read_var_u32()?;
-        Ok(TagType {
-            kind: TagKind::Exception,
-            func_type_idx,
-        })
-    }
-
-    /// What an import is: its kind, and its type or type index.
-    #[tactic(auto, unfolding(wasm_spec::specs::BinaryModules::extern_at))]
-    pub fn read_type_ref(&mut self) -> Result<TypeRef, Refusal>
-        ensures same { SameInput self.old self.new }
-        ensures onward { position_in self.old ≤ position_in self.new }
-        ensures refusal { IfErr result (RefusedFrom self.old) }
-        ensures ok { IfOk result (λ x. extern_at written (rest self.old) ≡ Some (extern_of x, rest self.new)) }
-        ensures err { OnErr result (extern_at written (rest self.old) ≡ None) }
-    {
-        let offset = self.original_position();
-        match self.read_u8()? {
-            0 => Ok(TypeRef::Func(self.read_var_u32()?)),
-            1 => Ok(TypeRef::Table(self.read_table_type()?)),
-            2 => Ok(TypeRef::Memory(self.read_memory_type()?)),
-            3 => Ok(TypeRef::Global(self.read_global_type()?)),
-            4 => Ok(TypeRef::Tag(self.read_tag_type()?)),
-            0x20 => Ok(TypeRef::FuncExact(self.read_var_u32()?)),
-            _ => Err(Refusal::new(Fault::Malformed(Malformed::ImportKind), offset)),
-        }
-    }
-
-    /// The kind of an export.
-    #[tactic(auto, unfolding(wasm_spec::specs::BinaryTypes::flags_at))]
-    pub fn read_external_kind(&mut self) -> Result<ExternalKind, Refusal>
-        ensures same { SameInput self.old self.new }
-        ensures onward { position_in self.old ≤ position_in self.new }
-        ensures refusal { IfErr result (RefusedFrom self.old) }
-        ensures ok { IfOk result (λ x. flags_at 4 (rest self.old) ≡ Some (kind_of x, rest self.new)) }
-        ensures err { OnErr result (flags_at 4 (rest self.old) ≡ None) }
-    {
-        let offset = self.original_position();
-        match self.read_u8()? {
-            0 => Ok(ExternalKind::Func),
-            1 => Ok(ExternalKind::Table),
-            2 => Ok(ExternalKind::Memory),
-            3 => Ok(ExternalKind::Global),
-            4 => Ok(ExternalKind::Tag),
-            _ => Err(Refusal::new(Fault::Malformed(Malformed::ExportKind), offset)),
-        }
+/// The kind of an export.
+#[tactic(auto, unfolding(wasm_spec::specs::BinaryTypes::flags_at))]
+pub fn read_external_kind(reader: &mut BinaryReader<'_>) -> Result<ExternalKind, Refusal>
+    ensures same { SameInput reader.old reader.new }
+    ensures onward { position_in reader.old ≤ position_in reader.new }
+    ensures refusal { IfErr result (RefusedFrom reader.old) }
+    ensures ok { IfOk result (λ x. flags_at 4 (rest reader.old) ≡ Some (kind_of x, rest reader.new)) }
+    ensures err { OnErr result (flags_at 4 (rest reader.old) ≡ None) }
+{
+    let offset = reader.original_position();
+    match reader.read_u8()? {
+        0 => Ok(ExternalKind::Func),
+        1 => Ok(ExternalKind::Table),
+        2 => Ok(ExternalKind::Memory),
+        3 => Ok(ExternalKind::Global),
+        4 => Ok(ExternalKind::Tag),
+        _ => Err(Refusal::new(Fault::Malformed(Malformed::ExportKind), offset)),
     }
 }
 
@@ -241,7 +240,7 @@ impl<'a, A: Allocator> FromReader<'a, A> for TableHead {
     ghost value = { head_of };
 
     fn from_reader(_alloc: A, reader: &mut BinaryReader<'a>) -> Result<TableHead, Error> {
-        Ok(reader.read_table_head()?)
+        Ok(read_table_head(reader)?)
     }
 }
 
@@ -255,7 +254,7 @@ impl<'a, A: Allocator> FromReader<'a, A> for MemoryType {
     ghost value = { memory_of };
 
     fn from_reader(_alloc: A, reader: &mut BinaryReader<'a>) -> Result<MemoryType, Error> {
-        Ok(reader.read_memory_type()?)
+        Ok(read_memory_type(reader)?)
     }
 }
 
@@ -269,7 +268,7 @@ impl<'a, A: Allocator> FromReader<'a, A> for TagType {
     ghost value = { λ x. x.func_type_idx };
 
     fn from_reader(_alloc: A, reader: &mut BinaryReader<'a>) -> Result<TagType, Error> {
-        Ok(reader.read_tag_type()?)
+        Ok(read_tag_type(reader)?)
     }
 }
 
@@ -288,7 +287,7 @@ impl<'a, A: Allocator> FromReader<'a, A> for Import<'a> {
     fn from_reader(_alloc: A, reader: &mut BinaryReader<'a>) -> Result<Import<'a>, Error> {
         let module = reader.read_string()?;
         let name = reader.read_string()?;
-        let ty = reader.read_type_ref()?;
+        let ty = read_type_ref(reader)?;
         Ok(Import { module, name, ty })
     }
 }
@@ -306,7 +305,7 @@ impl<'a, A: Allocator> FromReader<'a, A> for Export<'a> {
     #[tactic(auto, unfolding(wasm_spec::specs::BinaryModules::export_at))]
     fn from_reader(_alloc: A, reader: &mut BinaryReader<'a>) -> Result<Export<'a>, Error> {
         let name = reader.read_string()?;
-        let kind = reader.read_external_kind()?;
+        let kind = read_external_kind(reader)?;
         let index = reader.read_var_u32()?;
         Ok(Export { name, kind, index })
     }

@@ -1,24 +1,22 @@
-//! Reading of the items of WebAssembly modules: bytes, numbers, names, types, imports and exports.
+//! Reading of the items of WebAssembly modules: types, imports, exports, and sections of items.
 #![tactic(auto)]
 
 ghost use Rattle.wasm_readers.specs.Tables.{TableHeadsBeginTables};
 
-pub mod binary_reader;
 pub mod defined_types;
 pub mod externs;
 pub mod items;
-mod leb128;
 pub mod lists;
 pub mod section_limited;
 pub mod types;
 
-pub use binary_reader::BinaryReader;
 pub use items::{
     ConstExpr, Data, DataKind, Element, ElementItems, ElementKind, Export, Global, Import, Table,
     TableHead, TableInit,
 };
 pub use lists::read_list;
 pub use section_limited::{FromReader, SectionItems, SectionLimited};
+pub use wasm_binary_reader::BinaryReader;
 pub use wasm_readers_errors::{
     Counted, DescriptorRule, Error, Fault, GroupRule, ItemKind, ItemRule, Malformed, OutOfOrder,
     Refusal, Rule, Unserved, ValueTypeRule, WasmFeatures,

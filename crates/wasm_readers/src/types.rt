@@ -6,14 +6,14 @@ ghost use Rattle.wasm_spec.specs.Values.{list_at};
 ghost use Rattle.std.specs.Prelude.{true};
 ghost use Rattle.wasm_spec.specs.Syntax.{abstract_heap};
 ghost use Rattle.wasm_spec.specs.BinaryTypes.{abstract_heap_from, abstract_heap_at, flag_at, heap_at, ref_at, val_at, storage_at, field_at};
-ghost use Rattle.wasm_readers.specs.Reader.{input, SameInput, position_in, rest, RefusedFrom};
+ghost use Rattle.wasm_binary_reader.specs.Reader.{input, SameInput, position_in, rest, RefusedFrom};
 ghost use Rattle.wasm_readers_errors.specs.Errors.{Reads};
 ghost use Rattle.wasm_readers.specs.Written.{written};
 ghost use Rattle.wasm_readers_types.specs.SeenValues.{abstract_heap_of, heap_of, HeapFits, ref_of, val_of, storage_of, field_of};
 
-use crate::binary_reader::BinaryReader;
 use crate::section_limited::FromReader;
 use std::alloc::Allocator;
+use wasm_binary_reader::BinaryReader;
 use wasm_readers_errors::{Error, Fault, Malformed, Refusal};
 use wasm_readers_types::{
     AbstractHeapType, FieldType, HeapType, RefType, StorageType, UnpackedIndex, ValType,
@@ -52,170 +52,168 @@ fn abstract_reference(shared: bool, ty: AbstractHeapType) -> RefType
     }
 }
 
-impl<'a> BinaryReader<'a> {
-    /// An abstract heap type.
-    #[tactic(auto, unfolding(wasm_spec::specs::BinaryTypes::abstract_heap_at))]
-    pub fn read_abstract_heap_type(&mut self) -> Result<AbstractHeapType, Refusal>
-        ensures same { SameInput self.old self.new }
-        ensures onward { position_in self.old ≤ position_in self.new }
-        ensures refusal { IfErr result (RefusedFrom self.old) }
-        ensures ok { IfOk result (λ a. abstract_heap_at (rest self.old) ≡ Some (abstract_heap_of a, rest self.new)) }
-        ensures further { OnOk result (position_in self.old < position_in self.new) }
-        ensures err { OnErr result (abstract_heap_at (rest self.old) ≡ None) }
-    {
-        let offset = self.original_position();
-        let byte = self.read_u8()?;
-        match abstract_heap_type(byte) {
-            Some(ty) => Ok(ty),
-            None => Err(Refusal::new(Fault::Malformed(Malformed::HeapType), offset)),
-        }
+/// An abstract heap type.
+#[tactic(auto, unfolding(wasm_spec::specs::BinaryTypes::abstract_heap_at))]
+pub fn read_abstract_heap_type(reader: &mut BinaryReader<'_>) -> Result<AbstractHeapType, Refusal>
+    ensures same { SameInput reader.old reader.new }
+    ensures onward { position_in reader.old ≤ position_in reader.new }
+    ensures refusal { IfErr result (RefusedFrom reader.old) }
+    ensures ok { IfOk result (λ a. abstract_heap_at (rest reader.old) ≡ Some (abstract_heap_of a, rest reader.new)) }
+    ensures further { OnOk result (position_in reader.old < position_in reader.new) }
+    ensures err { OnErr result (abstract_heap_at (rest reader.old) ≡ None) }
+{
+    let offset = reader.original_position();
+    let byte = reader.read_u8()?;
+    match abstract_heap_type(byte) {
+        Some(ty) => Ok(ty),
+        None => Err(Refusal::new(Fault::Malformed(Malformed::HeapType), offset)),
     }
+}
 
-    /// A heap type.
-    #[tactic(auto, unfolding(wasm_spec::specs::BinaryTypes::heap_at))]
-    pub fn read_heap_type(&mut self) -> Result<HeapType, Refusal>
-        ensures same { SameInput self.old self.new }
-        ensures onward { position_in self.old ≤ position_in self.new }
-        ensures refusal { IfErr result (RefusedFrom self.old) }
-        ensures ok { IfOk result (λ h. heap_at written (rest self.old) ≡ Some (heap_of h, rest self.new)) }
-        ensures further { OnOk result (position_in self.old < position_in self.new) }
-        ensures fits { IfOk result HeapFits }
-        ensures err { OnErr result (heap_at written (rest self.old) ≡ None) }
-    {
-        let start = *self;
-        match self.read_u8()? {
-            0x62 => Ok(HeapType::Exact(UnpackedIndex::Module(self.read_var_u32()?))),
-            0x65 => Ok(HeapType::Abstract {
-                shared: true,
-                ty: self.read_abstract_heap_type()?,
-            }),
-            byte => match abstract_heap_type(byte) {
-                Some(ty) => Ok(HeapType::Abstract { shared: false, ty }),
-                None => {
-                    *self = start;
-                    Ok(HeapType::Concrete(UnpackedIndex::Module(self.read_var_s33_index()?)))
-                }
-            },
-        }
-    }
-
-    /// A reference type.
-    #[tactic(auto, unfolding(wasm_spec::specs::BinaryTypes::ref_at))]
-    pub fn read_ref_type(&mut self) -> Result<RefType, Refusal>
-        ensures same { SameInput self.old self.new }
-        ensures onward { position_in self.old ≤ position_in self.new }
-        ensures refusal { IfErr result (RefusedFrom self.old) }
-        ensures ok { IfOk result (λ x. ref_at written (rest self.old) ≡ Some (ref_of x, rest self.new)) }
-        ensures further { OnOk result (position_in self.old < position_in self.new) }
-        ensures err { OnErr result (ref_at written (rest self.old) ≡ None) }
-    {
-        let offset = self.original_position();
-        match self.read_u8()? {
-            0x63 => self.read_reference(true),
-            0x64 => self.read_reference(false),
-            0x65 => Ok(abstract_reference(true, self.read_abstract_heap_type()?)),
-            byte => match abstract_heap_type(byte) {
-                Some(ty) => Ok(abstract_reference(false, ty)),
-                None => Err(Refusal::new(Fault::Malformed(Malformed::ReferenceType), offset)),
-            },
-        }
-    }
-
-    /// A reference type's heap type.
-    fn read_reference(&mut self, nullable: bool) -> Result<RefType, Refusal>
-        ensures same { SameInput self.old self.new }
-        ensures onward { position_in self.old ≤ position_in self.new }
-        ensures refusal { IfErr result (RefusedFrom self.old) }
-        ensures ok { IfOk result (λ x. heap_at written (rest self.old) ≡ Some ((ref_of x).heap, rest self.new)) }
-        ensures null { IfOk result (λ x. (ref_of x).nullable ≡ nullable) }
-        ensures err { OnErr result (heap_at written (rest self.old) ≡ None) }
-    {
-        let heap_type = self.read_heap_type()?;
-        match RefType::new(nullable, heap_type) {
-            Some(ty) => Ok(ty),
-            None => unreachable!(),
-        }
-    }
-
-    /// A value type.
-    #[tactic(auto, unfolding(wasm_spec::specs::BinaryTypes::val_at))]
-    pub fn read_val_type(&mut self) -> Result<ValType, Refusal>
-        ensures same { SameInput self.old self.new }
-        ensures onward { position_in self.old ≤ position_in self.new }
-        ensures refusal { IfErr result (RefusedFrom self.old) }
-        ensures ok { IfOk result (λ x. val_at written (rest self.old) ≡ Some (val_of x, rest self.new)) }
-        ensures further { OnOk result (position_in self.old < position_in self.new) }
-        ensures err { OnErr result (val_at written (rest self.old) ≡ None) }
-    {
-        let start = *self;
-        match self.read_u8()? {
-            0x7f => Ok(ValType::I32),
-            0x7e => Ok(ValType::I64),
-            0x7d => Ok(ValType::F32),
-            0x7c => Ok(ValType::F64),
-            0x7b => Ok(ValType::V128),
-            _ => {
-                *self = start;
-                Ok(ValType::Ref(self.read_ref_type()?))
+/// A heap type.
+#[tactic(auto, unfolding(wasm_spec::specs::BinaryTypes::heap_at))]
+pub fn read_heap_type(reader: &mut BinaryReader<'_>) -> Result<HeapType, Refusal>
+    ensures same { SameInput reader.old reader.new }
+    ensures onward { position_in reader.old ≤ position_in reader.new }
+    ensures refusal { IfErr result (RefusedFrom reader.old) }
+    ensures ok { IfOk result (λ h. heap_at written (rest reader.old) ≡ Some (heap_of h, rest reader.new)) }
+    ensures further { OnOk result (position_in reader.old < position_in reader.new) }
+    ensures fits { IfOk result HeapFits }
+    ensures err { OnErr result (heap_at written (rest reader.old) ≡ None) }
+{
+    let start = *reader;
+    match reader.read_u8()? {
+        0x62 => Ok(HeapType::Exact(UnpackedIndex::Module(reader.read_var_u32()?))),
+        0x65 => Ok(HeapType::Abstract {
+            shared: true,
+            ty: read_abstract_heap_type(reader)?,
+        }),
+        byte => match abstract_heap_type(byte) {
+            Some(ty) => Ok(HeapType::Abstract { shared: false, ty }),
+            None => {
+                *reader = start;
+                Ok(HeapType::Concrete(UnpackedIndex::Module(reader.read_var_s33_index()?)))
             }
+        },
+    }
+}
+
+/// A reference type.
+#[tactic(auto, unfolding(wasm_spec::specs::BinaryTypes::ref_at))]
+pub fn read_ref_type(reader: &mut BinaryReader<'_>) -> Result<RefType, Refusal>
+    ensures same { SameInput reader.old reader.new }
+    ensures onward { position_in reader.old ≤ position_in reader.new }
+    ensures refusal { IfErr result (RefusedFrom reader.old) }
+    ensures ok { IfOk result (λ x. ref_at written (rest reader.old) ≡ Some (ref_of x, rest reader.new)) }
+    ensures further { OnOk result (position_in reader.old < position_in reader.new) }
+    ensures err { OnErr result (ref_at written (rest reader.old) ≡ None) }
+{
+    let offset = reader.original_position();
+    match reader.read_u8()? {
+        0x63 => read_reference(reader, true),
+        0x64 => read_reference(reader, false),
+        0x65 => Ok(abstract_reference(true, read_abstract_heap_type(reader)?)),
+        byte => match abstract_heap_type(byte) {
+            Some(ty) => Ok(abstract_reference(false, ty)),
+            None => Err(Refusal::new(Fault::Malformed(Malformed::ReferenceType), offset)),
+        },
+    }
+}
+
+/// A reference type's heap type.
+fn read_reference(reader: &mut BinaryReader<'_>, nullable: bool) -> Result<RefType, Refusal>
+    ensures same { SameInput reader.old reader.new }
+    ensures onward { position_in reader.old ≤ position_in reader.new }
+    ensures refusal { IfErr result (RefusedFrom reader.old) }
+    ensures ok { IfOk result (λ x. heap_at written (rest reader.old) ≡ Some ((ref_of x).heap, rest reader.new)) }
+    ensures null { IfOk result (λ x. (ref_of x).nullable ≡ nullable) }
+    ensures err { OnErr result (heap_at written (rest reader.old) ≡ None) }
+{
+    let heap_type = read_heap_type(reader)?;
+    match RefType::new(nullable, heap_type) {
+        Some(ty) => Ok(ty),
+        None => unreachable!(),
+    }
+}
+
+/// A value type.
+#[tactic(auto, unfolding(wasm_spec::specs::BinaryTypes::val_at))]
+pub fn read_val_type(reader: &mut BinaryReader<'_>) -> Result<ValType, Refusal>
+    ensures same { SameInput reader.old reader.new }
+    ensures onward { position_in reader.old ≤ position_in reader.new }
+    ensures refusal { IfErr result (RefusedFrom reader.old) }
+    ensures ok { IfOk result (λ x. val_at written (rest reader.old) ≡ Some (val_of x, rest reader.new)) }
+    ensures further { OnOk result (position_in reader.old < position_in reader.new) }
+    ensures err { OnErr result (val_at written (rest reader.old) ≡ None) }
+{
+    let start = *reader;
+    match reader.read_u8()? {
+        0x7f => Ok(ValType::I32),
+        0x7e => Ok(ValType::I64),
+        0x7d => Ok(ValType::F32),
+        0x7c => Ok(ValType::F64),
+        0x7b => Ok(ValType::V128),
+        _ => {
+            *reader = start;
+            Ok(ValType::Ref(read_ref_type(reader)?))
         }
     }
+}
 
-    /// A storage type.
-    #[tactic(auto, unfolding(wasm_spec::specs::BinaryTypes::storage_at))]
-    pub fn read_storage_type(&mut self) -> Result<StorageType, Refusal>
-        ensures same { SameInput self.old self.new }
-        ensures onward { position_in self.old ≤ position_in self.new }
-        ensures refusal { IfErr result (RefusedFrom self.old) }
-        ensures ok { IfOk result (λ x. storage_at written (rest self.old) ≡ Some (storage_of x, rest self.new)) }
-        ensures further { OnOk result (position_in self.old < position_in self.new) }
-        ensures err { OnErr result (storage_at written (rest self.old) ≡ None) }
-    {
-        let start = *self;
-        match self.read_u8()? {
-            0x78 => Ok(StorageType::I8),
-            0x77 => Ok(StorageType::I16),
-            _ => {
-                *self = start;
-                Ok(StorageType::Val(self.read_val_type()?))
-            }
+/// A storage type.
+#[tactic(auto, unfolding(wasm_spec::specs::BinaryTypes::storage_at))]
+pub fn read_storage_type(reader: &mut BinaryReader<'_>) -> Result<StorageType, Refusal>
+    ensures same { SameInput reader.old reader.new }
+    ensures onward { position_in reader.old ≤ position_in reader.new }
+    ensures refusal { IfErr result (RefusedFrom reader.old) }
+    ensures ok { IfOk result (λ x. storage_at written (rest reader.old) ≡ Some (storage_of x, rest reader.new)) }
+    ensures further { OnOk result (position_in reader.old < position_in reader.new) }
+    ensures err { OnErr result (storage_at written (rest reader.old) ≡ None) }
+{
+    let start = *reader;
+    match reader.read_u8()? {
+        0x78 => Ok(StorageType::I8),
+        0x77 => Ok(StorageType::I16),
+        _ => {
+            *reader = start;
+            Ok(StorageType::Val(read_val_type(reader)?))
         }
     }
+}
 
-    /// A field type.
-    #[tactic(auto, unfolding(wasm_spec::specs::BinaryTypes::field_at))]
-    pub fn read_field_type(&mut self) -> Result<FieldType, Refusal>
-        ensures same { SameInput self.old self.new }
-        ensures onward { position_in self.old ≤ position_in self.new }
-        ensures refusal { IfErr result (RefusedFrom self.old) }
-        ensures ok { IfOk result (λ x. field_at written (rest self.old) ≡ Some (field_of x, rest self.new)) }
-        ensures further { OnOk result (position_in self.old < position_in self.new) }
-        ensures err { OnErr result (field_at written (rest self.old) ≡ None) }
-    {
-        let element_type = self.read_storage_type()?;
-        let mutable = self.read_flag()?;
-        Ok(FieldType {
-            element_type,
-            mutable,
-        })
-    }
+/// A field type.
+#[tactic(auto, unfolding(wasm_spec::specs::BinaryTypes::field_at))]
+pub fn read_field_type(reader: &mut BinaryReader<'_>) -> Result<FieldType, Refusal>
+    ensures same { SameInput reader.old reader.new }
+    ensures onward { position_in reader.old ≤ position_in reader.new }
+    ensures refusal { IfErr result (RefusedFrom reader.old) }
+    ensures ok { IfOk result (λ x. field_at written (rest reader.old) ≡ Some (field_of x, rest reader.new)) }
+    ensures further { OnOk result (position_in reader.old < position_in reader.new) }
+    ensures err { OnErr result (field_at written (rest reader.old) ≡ None) }
+{
+    let element_type = read_storage_type(reader)?;
+    let mutable = read_flag(reader)?;
+    Ok(FieldType {
+        element_type,
+        mutable,
+    })
+}
 
-    /// A flag: a byte that is 0 or 1.
-    #[tactic(auto, unfolding(wasm_spec::specs::BinaryTypes::flag_at))]
-    pub fn read_flag(&mut self) -> Result<bool, Refusal>
-        ensures same { SameInput self.old self.new }
-        ensures onward { position_in self.old ≤ position_in self.new }
-        ensures refusal { IfErr result (RefusedFrom self.old) }
-        ensures ok { IfOk result (λ f. flag_at (rest self.old) ≡ Some (f, rest self.new)) }
-        ensures further { OnOk result (position_in self.old < position_in self.new) }
-        ensures err { OnErr result (flag_at (rest self.old) ≡ None) }
-    {
-        let offset = self.original_position();
-        match self.read_u8()? {
-            0 => Ok(false),
-            1 => Ok(true),
-            _ => Err(Refusal::new(Fault::Malformed(Malformed::Flag), offset)),
-        }
+/// A flag: a byte that is 0 or 1.
+#[tactic(auto, unfolding(wasm_spec::specs::BinaryTypes::flag_at))]
+pub fn read_flag(reader: &mut BinaryReader<'_>) -> Result<bool, Refusal>
+    ensures same { SameInput reader.old reader.new }
+    ensures onward { position_in reader.old ≤ position_in reader.new }
+    ensures refusal { IfErr result (RefusedFrom reader.old) }
+    ensures ok { IfOk result (λ f. flag_at (rest reader.old) ≡ Some (f, rest reader.new)) }
+    ensures further { OnOk result (position_in reader.old < position_in reader.new) }
+    ensures err { OnErr result (flag_at (rest reader.old) ≡ None) }
+{
+    let offset = reader.original_position();
+    match reader.read_u8()? {
+        0 => Ok(false),
+        1 => Ok(true),
+        _ => Err(Refusal::new(Fault::Malformed(Malformed::Flag), offset)),
     }
 }
 
@@ -230,7 +228,7 @@ impl<'a, A: Allocator> FromReader<'a, A> for ValType {
     ghost value = { val_of };
 
     fn from_reader(_alloc: A, reader: &mut BinaryReader<'a>) -> Result<ValType, Error> {
-        Ok(reader.read_val_type()?)
+        Ok(read_val_type(reader)?)
     }
 }
 
@@ -245,6 +243,6 @@ impl<'a, A: Allocator> FromReader<'a, A> for FieldType {
     ghost value = { field_of };
 
     fn from_reader(_alloc: A, reader: &mut BinaryReader<'a>) -> Result<FieldType, Error> {
-        Ok(reader.read_field_type()?)
+        Ok(read_field_type(reader)?)
     }
 }

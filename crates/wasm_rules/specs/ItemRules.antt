@@ -11,8 +11,13 @@ use Rattle.wasm_spec.specs.Matching.{is_shared_heap, is_shared_val}
 use Rattle.wasm_rules.specs.IndexSpaces.{IsFunctionType, signature_at, ref_over, val_over, IsRefInRange, IsValInRange}
 use Rattle.wasm_rules.specs.Parts.{Expression}
 
--- a reference type that is written where `funcref` always may be
+-- a reference type that is written: the features allow it, and its index is one of a type
 pub record IsAllowedRef (F : Features) (types : List DefType) (r : Ref ℕ) : Type 0 where
+  pub allowed : IsTrue (allows_ref F r)
+  pub in_range : IsRefInRange types r
+
+-- the same of a table's element type, which may always be `funcref`
+pub record IsAllowedElement (F : Features) (types : List DefType) (r : Ref ℕ) : Type 0 where
   pub allowed : r ≢ funcref → IsTrue (allows_ref F r)
   pub in_range : IsRefInRange types r
 
@@ -25,7 +30,7 @@ abbrev pub most_entries : Table ℕ → ℕ
 most_entries t = if t.is_64 then 2 ^ 64 - 1 else 2 ^ 32 - 1
 
 pub record IsValidTable (F : Features) (types : List DefType) (t : Table ℕ) : Type 0 where
-  pub element : IsAllowedRef F types t.element
+  pub element : IsAllowedElement F types t.element
   pub minimum_at_most_maximum : IfSome t.maximum (λ m. t.minimum ≤ m)
   pub of_64_bits_needs_memory64 : IsTrue t.is_64 → IsTrue F.memory64
   pub shared_needs_shared_everything_threads : IsTrue t.shared → IsTrue F.shared_everything_threads

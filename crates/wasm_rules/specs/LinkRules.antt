@@ -9,7 +9,7 @@ use Rattle.wasm_spec.specs.BinaryModules.{Import, Export}
 use Rattle.wasm_spec.specs.BinarySections.{Element, ElementItems, functions, expressions}
 use Rattle.wasm_spec.specs.Features.{Features}
 use Rattle.wasm_spec.specs.Trees.{DefType}
-use Rattle.wasm_rules.specs.Parts.{Parts, Expression}
+use Rattle.wasm_rules.specs.Parts.{Parts, Expression, expressions_of}
 use Rattle.wasm_rules.specs.IndexSpaces.{IndexSpaces, IsFunctionType, signature_at}
 use Rattle.wasm_rules.specs.ItemRules.{IsValidTable, IsValidMemory, IsValidTag, IsValidGlobal}
 
@@ -95,18 +95,14 @@ pub record IsValidStart (C : IndexSpaces) (x : ℕ) : Type 0 where
 abbrev pub exported_functions : Export → List ℕ
 exported_functions e = if e.kind == 0 then e.index ∷ [] else []
 
--- the functions that an element segment names, where `named` are those that an expression names
-abbrev pub functions_of_items : (Expression → List ℕ) → ElementItems Expression ℕ → List ℕ
-functions_of_items named (functions xs) = xs
-functions_of_items named (expressions ty es) = flat_map named es
+-- the functions that an element segment lists
+abbrev pub listed_functions : ElementItems Expression ℕ → List ℕ
+listed_functions (functions xs) = xs
+listed_functions (expressions ty es) = []
 
-abbrev pub element_functions : (Expression → List ℕ) → Element Expression ℕ → List ℕ
-element_functions named e = functions_of_items named e.items
-
--- the functions that count as referenced: those that exports, element segments and the first values of globals
--- and tables name (Core Specification 3.0, Validation, Modules, the set refs)
-abbrev pub initial_expressions : Parts → List Expression
-initial_expressions parts = flat_map (λ t. elim t.init [ None ↦ [] | Some e ↦ e ∷ [] ]) parts.tables ++ map (λ g. g.init) parts.globals
-
+-- the functions that count as referenced: those that exports name, that element segments list, and that constant
+-- expressions name, where `named` are those of one (Core Specification 3.0, Validation, Modules, the set refs)
 abbrev pub referenced : (Expression → List ℕ) → Parts → List ℕ
-referenced named parts = flat_map exported_functions parts.exports ++ (flat_map (element_functions named) parts.elements ++ flat_map named (initial_expressions parts))
+referenced named parts =
+    flat_map exported_functions parts.exports
+    ++ (flat_map (λ (e : Element Expression ℕ). listed_functions e.items) parts.elements ++ flat_map named (expressions_of parts))

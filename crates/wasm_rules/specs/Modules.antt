@@ -1,11 +1,11 @@
 -- When a module is valid. Core Specification 3.0, Validation, Modules.
-use Rattle.std.specs.Prelude.{ℕ, ◌≡◌, ◌<◌, ◌==◌, List, [], ◌∷◌, ◌++◌, map, slice_get, Option, Some, None, IsTrue, ⊤}
-use Rattle.std.specs.List.{All, flat_map}
+use Rattle.std.specs.Prelude.{ℕ, ◌≡◌, ◌<◌, ◌==◌, List, [], slice_get, Option, Some, IsTrue, ⊤}
+use Rattle.std.specs.List.{All}
 use Rattle.wasm_spec.specs.Features.{Features}
-use Rattle.wasm_spec.specs.BinarySections.{TableEntry, GlobalEntry, Element, ElementItems, functions, expressions, Data, SegmentMode, passive, active, declarative}
+use Rattle.wasm_spec.specs.BinarySections.{GlobalEntry}
 use Rattle.wasm_spec.specs.GroupRules.{IsValidTypeSection}
 use Rattle.wasm_parser.specs.Framing.{Piece, Version, Counted, DataCount, Unknown, IsFramed}
-use Rattle.wasm_rules.specs.Parts.{Parts, Expression, HasParts}
+use Rattle.wasm_rules.specs.Parts.{Parts, Expression, HasParts, expressions_of}
 use Rattle.wasm_rules.specs.IndexSpaces.{IndexSpaces, index_spaces, IsFunctionType}
 use Rattle.wasm_rules.specs.ItemRules.{IsValidTableEntry, IsValidMemory, IsValidTag, IsValidGlobal}
 use Rattle.wasm_rules.specs.LinkRules.{IsValidImport, IsValidExport, HasDistinctNames, effective_size, IsValidStart}
@@ -46,27 +46,6 @@ pub record IsWellFormed (expression_at : List ℕ → Option (Expression × List
   pub has_parts : HasParts expression_at pieces parts
   pub types : IsValidTypeSection F parts.groups
   pub rules : AreValidParts F (index_spaces types.types parts) parts
-
--- the constant expressions of a module
-abbrev pub mode_expressions : SegmentMode Expression → List Expression
-mode_expressions passive = []
-mode_expressions declarative = []
-mode_expressions (active x e) = e ∷ []
-
-abbrev pub items_expressions : ElementItems Expression ℕ → List Expression
-items_expressions (functions xs) = []
-items_expressions (expressions ty es) = es
-
-abbrev pub table_expressions : Option Expression → List Expression
-table_expressions None = []
-table_expressions (Some e) = e ∷ []
-
-abbrev pub expressions_of : Parts → List Expression
-expressions_of parts =
-    flat_map (λ (t : TableEntry Expression ℕ). table_expressions t.init) parts.tables
-    ++ (map (λ (g : GlobalEntry Expression ℕ). g.init) parts.globals
-    ++ (flat_map (λ (e : Element Expression ℕ). mode_expressions e.mode ++ items_expressions e.items) parts.elements
-    ++ flat_map (λ (d : Data Expression). mode_expressions d.mode) parts.segments))
 
 -- The bytes are a valid module without constant expressions and bodies. The typing of these isn't defined yet, so
 -- a module that has any is spoken of by no theorem.

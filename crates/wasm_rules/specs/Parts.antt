@@ -1,13 +1,13 @@
 -- What a module is made of: the items of its sections, each in the order in which they are written.
 -- Core Specification 3.0, Structure, Modules, and Binary Format, Modules.
-use Rattle.std.specs.Prelude.{ℕ, ◌≡◌, ◌==◌, if◌then◌else◌, List, [], ◌∷◌, ◌++◌, Option, Some}
+use Rattle.std.specs.Prelude.{ℕ, ◌≡◌, ◌==◌, if◌then◌else◌, List, [], ◌∷◌, ◌++◌, map, Option, Some, None}
 use Rattle.std.specs.Option.{option_map, option_and_then}
 use Rattle.std.specs.List.{flat_map}
 use Rattle.wasm_spec.specs.Syntax.{Rec, Memory}
 use Rattle.wasm_spec.specs.Values.{u32_at, items_at}
 use Rattle.wasm_spec.specs.BinaryTypes.{rec_at, memory_at, tag_at}
 use Rattle.wasm_spec.specs.BinaryModules.{Import, Export, import_at, export_at}
-use Rattle.wasm_spec.specs.BinarySections.{TableEntry, GlobalEntry, Element, Data, table_entry_at, global_entry_at, element_at, data_at}
+use Rattle.wasm_spec.specs.BinarySections.{TableEntry, GlobalEntry, Element, ElementItems, functions, expressions, Data, SegmentMode, passive, active, declarative, table_entry_at, global_entry_at, element_at, data_at}
 use Rattle.wasm_parser.specs.Framing.{Piece, Counted, Start, DataCount, CodeEntry}
 
 -- a constant expression, as the bytes of its instructions
@@ -72,3 +72,25 @@ pub record HasParts (expression_at : List ℕ → Option (Expression × List ℕ
   pub segments : all_items 11 (data_at expression_at) pieces ≡ Some parts.segments
   pub data_counts : flat_map data_counts_of pieces ≡ parts.data_counts
   pub tags : all_items 13 tag_at pieces ≡ Some parts.tags
+
+-- the constant expressions of an offset, of a segment's items and of a table
+abbrev pub mode_expressions : SegmentMode Expression → List Expression
+mode_expressions passive = []
+mode_expressions declarative = []
+mode_expressions (active x e) = e ∷ []
+
+abbrev pub items_expressions : ElementItems Expression ℕ → List Expression
+items_expressions (functions xs) = []
+items_expressions (expressions ty es) = es
+
+abbrev pub table_expressions : Option Expression → List Expression
+table_expressions None = []
+table_expressions (Some e) = e ∷ []
+
+-- all constant expressions of a module: of tables, globals, element segments and data
+abbrev pub expressions_of : Parts → List Expression
+expressions_of parts =
+    flat_map (λ (t : TableEntry Expression ℕ). table_expressions t.init) parts.tables
+    ++ (map (λ (g : GlobalEntry Expression ℕ). g.init) parts.globals
+    ++ (flat_map (λ (e : Element Expression ℕ). mode_expressions e.mode ++ items_expressions e.items) parts.elements
+    ++ flat_map (λ (d : Data Expression). mode_expressions d.mode) parts.segments))

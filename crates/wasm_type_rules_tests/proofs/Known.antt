@@ -4,7 +4,7 @@ use Rattle.std.proofs.lemmas.List.Elements.{All-nil, All-cons}
 use Rattle.wasm_readers_types.specs.declared.indices.CoreTypeId.{CoreTypeId}
 use Rattle.wasm_validator_type_list.specs.Listing.{Listing, types_in}
 use Rattle.wasm_validator_type_list.proofs.Standing.{length-standing}
-use Rattle.wasm_item_rules.specs.ModuleTypes.{types_of_list, AreKnown}
+use Rattle.wasm_item_checks.specs.ModuleTypes.{types_of_list, AreKnown}
 
 pub one_known : {A : Type 0} (list : Listing A) (id : CoreTypeId) → id.index < length (types_in list) → AreKnown list (id ∷ [])
 one_known list id l =

@@ -9,7 +9,7 @@ use crate::{all_but, is_refused};
 use bitflags::Flags;
 use std::alloc::{AllocError, Global};
 use std::test::Fail;
-use wasm_item_rules::{check_defined_table, check_movable_global, check_type_ref};
+use wasm_item_checks::{check_defined_table, check_movable_global, check_type_ref};
 use wasm_readers_errors::{Refusal, WasmFeatures};
 use wasm_readers_types::{
     AbstractHeapType, CompositeInnerType, CompositeType, CoreTypeId, FuncType, GlobalType,

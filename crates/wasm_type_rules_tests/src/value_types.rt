@@ -9,7 +9,7 @@ use wasm_readers_types::{
     AbstractHeapType, ArrayType, CompositeInnerType, ContType, FieldType, FuncType, HeapType,
     Items, PackedIndex, RefType, StorageType, StructType, UnpackedIndex, ValType,
 };
-use wasm_value_types::{check_composite_type, check_ref_type, check_value_type};
+use wasm_value_checks::{check_composite_type, check_ref_type, check_value_type};
 
 /// Whether a value type is refused with this message where this proposal alone is off.
 fn needs(alloc: Global, feature: WasmFeatures, ty: ValType, message: &str) -> bool {

@@ -20,7 +20,7 @@ use Rattle.wasm_readers.specs.Tables.{ExpressionReading, Head, head_with, table_
 use Rattle.wasm_validator_types.specs.Spaces.{Spaces}
 use Rattle.wasm_validator_core.specs.Items.{add_table}
 use Rattle.wasm_validator_core.specs.Answers.{Types}
-use Rattle.wasm_part_rules.specs.Lists.{has_no_init}
+use Rattle.wasm_validator_core_laws.specs.Lists.{has_no_init}
 use Rattle.wasm_validator.specs.Machine.{read_each, add_table_head}
 use Rattle.wasm_validator.proofs.ModuleRun.{SectionOf, one_section}
 

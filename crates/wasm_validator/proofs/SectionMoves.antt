@@ -10,7 +10,7 @@ use Rattle.wasm_validator_core.specs.declared.error.Error.TheVariants.{Refused, 
 use Rattle.wasm_validator_core.specs.Answers.{Types, IsNowhere, Adds, AddsWhere, HasValidTypes}
 use Rattle.wasm_validator.specs.declared.validator.State.{State}
 use Rattle.wasm_validator.specs.declared.validator.State.TheVariants.{Unparsed, Module, Code, End, Failed}
-use Rattle.wasm_validator_core.specs.declared.module_state.ModuleState.{ModuleState}
+use Rattle.wasm_validator_module_state.specs.declared.module_state.ModuleState.{ModuleState}
 use Rattle.wasm_validator.specs.Standing.{in_module, Standing, HoldsValid, within, at_stage, Moves}
 use Rattle.wasm_validator.specs.States.{open_of, stage_of, state_kept}
 use Rattle.wasm_validator.proofs.Items.{none_nowhere}

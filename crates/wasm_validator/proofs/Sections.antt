@@ -11,7 +11,7 @@ use Rattle.wasm_validator_types.specs.Shown.{types_of}
 use Rattle.wasm_validator.specs.Standing.{shown_at, Standing, ended}
 use Rattle.wasm_validator_type_list.specs.Listing.{Listing}
 use Rattle.wasm_validator_core.specs.Ready.{AreIdsOf}
-use Rattle.wasm_validator_core.specs.declared.module_state.ModuleState.{ModuleState}
+use Rattle.wasm_validator_module_state.specs.declared.module_state.ModuleState.{ModuleState}
 use Rattle.wasm_validator.specs.Ready.{AreIdsIn, AreValidIn}
 use Rattle.wasm_validator.specs.States.{open_of, read_of, stage_of, state_kept, closed, after_end}
 use Rattle.std.specs.declared.result.Result.{Result}

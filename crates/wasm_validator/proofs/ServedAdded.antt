@@ -5,15 +5,15 @@ use Rattle.wasm_spec.specs.Features.{Features, canonical}
 use Rattle.wasm_spec.specs.Trees.{DefType}
 use Rattle.wasm_rules.specs.IndexSpaces.{index_spaces, imported, functions_in, tables_in, memories_in, tags_in}
 use Rattle.wasm_rules.specs.Limits.{most_tables, most_memories}
-use Rattle.wasm_item_rules.specs.Laws.{Stand}
+use Rattle.wasm_item_checks.specs.Laws.{Stand}
 use Rattle.wasm_validator_core.specs.Answers.{Types}
-use Rattle.wasm_part_rules.specs.Shown.{spaces_of}
-use Rattle.wasm_part_rules.specs.Lists.{only_imports, up_to_functions, up_to_tables, up_to_memories, up_to_tags, listed_parts, has_no_init, AreValidLists}
-use Rattle.wasm_part_rules.proofs.AddedImports.{imports_are_added}
-use Rattle.wasm_part_rules.proofs.AddedDefinitions.{functions_are_added, tables_are_added, memories_are_added, tags_are_added}
-use Rattle.wasm_part_rules.proofs.Fronts.{alone}
-use Rattle.wasm_part_rules.proofs.AllLists.{fit_from, exports_law}
-use Rattle.wasm_part_rules.proofs.AddedExports.{exports_are_added}
+use Rattle.wasm_validator_core_laws.specs.Shown.{spaces_of}
+use Rattle.wasm_validator_core_laws.specs.Lists.{only_imports, up_to_functions, up_to_tables, up_to_memories, up_to_tags, listed_parts, has_no_init, AreValidLists}
+use Rattle.wasm_validator_core_laws.proofs.AddedImports.{imports_are_added}
+use Rattle.wasm_validator_core_laws.proofs.AddedDefinitions.{functions_are_added, tables_are_added, memories_are_added, tags_are_added}
+use Rattle.wasm_validator_core_laws.proofs.Fronts.{alone}
+use Rattle.wasm_validator_core_laws.proofs.AllLists.{fit_from, exports_law}
+use Rattle.wasm_validator_core_laws.proofs.AddedExports.{exports_are_added}
 use Rattle.wasm_validator.proofs.ServedLists.{Lists, parts_of, AreAdded}
 
 module _ (F : Features) (us : Types) (ids : List ℕ) (types : List DefType) (stand : Stand (canonical F) us ids types) (l : Lists) where

@@ -12,8 +12,8 @@ use Rattle.wasm_spec.specs.Trees.{DefType}
 use Rattle.wasm_parser.specs.Framing.{Piece}
 use Rattle.wasm_rules.specs.Parts.{Parts, Expression, index, all_items, starts_of, data_counts_of}
 use Rattle.wasm_validator_core.specs.Answers.{Types}
-use Rattle.wasm_part_rules.specs.Shown.{spaces_of}
-use Rattle.wasm_part_rules.specs.Lists.{only_types, only_imports, up_to_functions, up_to_tables, up_to_memories, up_to_tags, listed_parts, has_no_init, add_imports, add_functions, add_tables, add_memories, add_tags, add_exports}
+use Rattle.wasm_validator_core_laws.specs.Shown.{spaces_of}
+use Rattle.wasm_validator_core_laws.specs.Lists.{only_types, only_imports, up_to_functions, up_to_tables, up_to_memories, up_to_tags, listed_parts, has_no_init, add_imports, add_functions, add_tables, add_memories, add_tags, add_exports}
 
 -- the lists that may not be empty
 pub record Lists : Type 0 where

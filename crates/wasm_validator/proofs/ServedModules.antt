@@ -12,9 +12,10 @@ use Rattle.wasm_parser.specs.Framing.{Piece, Version, End, IsFramed}
 use Rattle.wasm_rules.specs.FeatureFlags.{features_of}
 use Rattle.wasm_rules.specs.Parts.{Parts, Expression, HasParts}
 use Rattle.wasm_rules.specs.IndexSpaces.{index_spaces}
-use Rattle.wasm_part_rules.specs.Lists.{has_no_init}
+use Rattle.wasm_validator_core_laws.specs.Lists.{has_no_init}
 use Rattle.wasm_spec.specs.BinarySections.{TableEntry}
-use Rattle.wasm_rules.specs.Modules.{table_expressions, IsAllowedPiece, AreValidParts, IsWellFormed, IsValid}
+use Rattle.wasm_rules.specs.Parts.{table_expressions}
+use Rattle.wasm_rules.specs.Modules.{IsAllowedPiece, AreValidParts, IsWellFormed, IsValid}
 use Rattle.wasm_rules.proofs.FramedOrder.{others_inner}
 use Rattle.wasm_readers_types.specs.declared.indices.TheConstants.{MAX_IDS}
 use Rattle.wasm_readers_errors.specs.declared.features.WasmFeatures.{WasmFeatures}

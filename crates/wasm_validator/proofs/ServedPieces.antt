@@ -14,7 +14,7 @@ use Rattle.wasm_rules.specs.Modules.{IsAllowedPiece}
 use Rattle.wasm_rules.proofs.Tests.{unless}
 use Rattle.wasm_validator.specs.Served.{is_served_section}
 use Rattle.wasm_validator.proofs.ModuleRun.{PartForm, custom, types, imports, functions, tables, memories, exports, tags, start, data_count, form_of, AreParts, framed_items, no_items}
-use Rattle.wasm_part_rules.specs.Lists.{has_no_init}
+use Rattle.wasm_validator_core_laws.specs.Lists.{has_no_init}
 use Rattle.wasm_validator.proofs.ServedLists.{Lists, parts_of, AreOf}
 
 -- sections of other ids aren't there

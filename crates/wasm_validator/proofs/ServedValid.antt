@@ -11,7 +11,7 @@ use Rattle.wasm_rules.specs.ItemRules.{IsValidGlobal}
 use Rattle.wasm_rules.specs.LinkRules.{IsValidStart}
 use Rattle.wasm_rules.specs.SegmentRules.{IsValidElement, IsValidData}
 use Rattle.wasm_rules.specs.Modules.{AreValidParts}
-use Rattle.wasm_part_rules.specs.Lists.{AreValidLists}
+use Rattle.wasm_validator_core_laws.specs.Lists.{AreValidLists}
 use Rattle.wasm_validator.proofs.ServedLists.{Lists, parts_of}
 
 module _ (F : Features) (types : List DefType) (l : Lists) where

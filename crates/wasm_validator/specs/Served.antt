@@ -4,7 +4,7 @@ use Rattle.std.specs.Prelude.{ℕ, ◌==◌, Bool, true, false, ◌&&◌, ◌||�
 use Rattle.std.specs.List.{list_all, All}
 use Rattle.wasm_parser.specs.Framing.{Piece, Version, Custom, Counted, Start, DataCount, CodeStart, CodeEntry, Unknown, End}
 use Rattle.wasm_rules.specs.Parts.{Parts}
-use Rattle.wasm_part_rules.specs.Lists.{has_no_init}
+use Rattle.wasm_validator_core_laws.specs.Lists.{has_no_init}
 
 -- the sections of types, imports, functions, tables, memories, exports and tags, by their ids
 abbrev pub is_served_section : ℕ → Bool

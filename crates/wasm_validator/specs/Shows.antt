@@ -8,7 +8,7 @@ use Rattle.wasm_rules.specs.IndexSpaces.{IndexSpaces}
 use Rattle.wasm_validator_canonical.specs.Sections.{StandsFor}
 use Rattle.wasm_validator_types.specs.Spaces.{Spaces}
 use Rattle.wasm_validator_core.specs.Answers.{Types}
-use Rattle.wasm_part_rules.specs.Shown.{listed_table, listed_global, import_rows, export_rows, exact_functions}
+use Rattle.wasm_validator_core_laws.specs.Shown.{listed_table, listed_global, import_rows, export_rows, exact_functions}
 
 -- The list of types and the lists of a module show its index spaces: each type under an id that stands for it, in a
 -- list where no type has two ids if equal types are one; each function and tag with its type's index, each table,

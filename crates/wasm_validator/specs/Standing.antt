@@ -10,7 +10,7 @@ use Rattle.wasm_validator_core.specs.declared.error.Error.TheVariants.{Refused, 
 use Rattle.wasm_rules.specs.FeatureFlags.{features_of}
 use Rattle.wasm_validator_canonical.specs.Groups.{AreValid}
 use Rattle.wasm_validator_core.specs.Answers.{Types, IsNowhere}
-use Rattle.wasm_validator_core.specs.Bodies.{expected_bodies}
+use Rattle.wasm_validator_module_state.specs.Bodies.{expected_bodies}
 
 -- The stages of a validator: no header has been read, a module is being read, its code section has started, one has
 -- ended, or one was refused. A validator that has failed shows nothing of what it held.

@@ -11,7 +11,7 @@ use Rattle.wasm_parser.specs.declared.payload.Encoding.TheVariants as encodings
 use Rattle.wasm_parser.specs.Framing as parts
 use Rattle.wasm_parser.specs.Framing.{Piece, Version, Custom, Counted, Start, DataCount, CodeStart, CodeEntry, Unknown}
 use Rattle.wasm_validator.specs.declared.validator.State.{State}
-use Rattle.wasm_validator_core.specs.declared.module_state.ModuleState.{ModuleState}
+use Rattle.wasm_validator_module_state.specs.declared.module_state.ModuleState.{ModuleState}
 use Rattle.wasm_validator.specs.declared.validator.State.TheVariants.{Unparsed, Module, Code, End, Failed}
 use Rattle.wasm_validator.specs.declared.validator.Validator.TheInside.{Inside}
 use Rattle.wasm_validator_core.specs.Answers.{Types}

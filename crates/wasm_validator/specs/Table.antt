@@ -5,7 +5,7 @@ use Rattle.wasm_parser.specs.Framing.{Piece, Version, Custom, Counted, Start, Da
 use Rattle.wasm_rules.specs.StateTable as table
 use Rattle.wasm_rules.specs.StateTable.{Phase, Call, header, section, code_start, code_entry, data_section, custom, unknown, accepted_to, refused_to}
 use Rattle.wasm_validator_core.specs.Answers.{IsNowhere}
-use Rattle.wasm_validator_core.specs.Bodies.{expected_bodies}
+use Rattle.wasm_validator_module_state.specs.Bodies.{expected_bodies}
 use Rattle.wasm_validator.specs.Standing.{Stage, unparsed, in_module, in_code, ended, failed, Standing, HoldsValid}
 use Rattle.wasm_validator.specs.States.{after_piece, left_by}
 

@@ -13,8 +13,9 @@ pub use payload::{ValidPayload, validate};
 pub use validator::Validator;
 pub use wasm_parser::{Encoding, FunctionBody, Parser, Payload};
 pub use wasm_readers::{BinaryReader, SectionLimited, WasmFeatures};
-pub use wasm_validator_core::{Error, MaybeOwned, Module};
+pub use wasm_validator_core::{Error, Module};
 pub use wasm_validator_matches::{Matches, WithRecGroup, func_signature_matches};
+pub use wasm_validator_module_state::{MaybeOwned, ModuleState};
 pub use wasm_validator_types::{
     CoreExports, CoreImports, EntityType, RecGroupElements, RecGroupId, SnapshotList, TypeAlloc,
     TypeData, TypeIdentifier, TypeInfo, TypeList, Types, TypesRef, ValidatorId,

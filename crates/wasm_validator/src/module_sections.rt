@@ -16,9 +16,9 @@ use wasm_readers::{
     Table, TableHead, TagType, Unserved, WasmFeatures,
 };
 use wasm_validator_core::{
-    Error, MAX_EXPORTS, MAX_FUNCTIONS, MAX_IMPORTS, MAX_TAGS, MAX_TYPES, Module, ModuleState,
-    check_max,
+    Error, MAX_EXPORTS, MAX_FUNCTIONS, MAX_IMPORTS, MAX_TAGS, MAX_TYPES, Module, check_max,
 };
+use wasm_validator_module_state::ModuleState;
 use wasm_validator_types::TypeList;
 
 /// Adds the types of a type section.

@@ -24,7 +24,8 @@ use wasm_readers::{
     Refusal, Rule, SectionLimited, Table, TagType, Unserved, WasmFeatures,
 };
 use wasm_validator_canonical::needs_type_canonicalization;
-use wasm_validator_core::{Error, ModuleState, check_data_count};
+use wasm_validator_core::{Error, check_data_count};
+use wasm_validator_module_state::ModuleState;
 use wasm_validator_types::{TypeList, Types, TypesRef, ValidatorId};
 
 /// What a validator is doing.

@@ -24,8 +24,8 @@ use Rattle.wasm_validator_type_list.specs.Standing.{standing, tree_behind, liste
 use Rattle.wasm_grouped_list.proofs.Flat.{first_of-stays, first_of-all}
 use Rattle.wasm_grouped_list.proofs.Places.{get-end, get-right}
 use Rattle.wasm_validator_type_list.proofs.Standing.{standing-push, length-standing, first_of-within}
-use Rattle.wasm_group_rules.specs.Rules.{IsValidGroupAt}
-use Rattle.wasm_group_rules.proofs.IdsAndTypes.{ids_keep_rules_as_types}
+use Rattle.wasm_group_checks.specs.Rules.{IsValidGroupAt}
+use Rattle.wasm_group_checks.proofs.IdsAndTypes.{ids_keep_rules_as_types}
 use Rattle.wasm_validator_canonical.specs.Groups.{AreValid}
 use Rattle.wasm_validator_canonical.specs.Interned.{InternsValid}
 use Rattle.wasm_validator_canonical.proofs.Interning.{first_of_next}

@@ -7,8 +7,8 @@ use Rattle.wasm_spec.specs.Trees.{DefType}
 use Rattle.wasm_readers_types.specs.declared.indices.UnpackedIndex.{UnpackedIndex}
 use Rattle.wasm_validator_canonical.specs.Arities.{type_arity}
 use Rattle.wasm_validator_canonical.proofs.Canonical.{and_left, and_right}
-use Rattle.wasm_item_rules.specs.ModuleTypes.{arity_at}
-use Rattle.wasm_item_rules.specs.Items.{is_ref_in_range, is_val_in_range, is_function, is_valid_table, is_valid_defined_table, is_valid_tag, is_valid_global, is_valid_extern, allows_tag}
+use Rattle.wasm_item_checks.specs.ModuleTypes.{arity_at}
+use Rattle.wasm_item_checks.specs.Items.{is_ref_in_range, is_val_in_range, is_function, is_valid_table, is_valid_defined_table, is_valid_tag, is_valid_global, is_valid_extern, allows_tag}
 use Rattle.wasm_validator_core.specs.Ready.{IsTyped}
 use Rattle.std.specs.Option.{option_and_then}
 

@@ -2,7 +2,7 @@
 //! how much they count in the effective size (Core Specification 3.0, Validation, Types, External Types).
 
 ghost use Rattle.std.specs.Prelude.{◌≡◌, ◌+◌, length, IsTrue, is_ok, IfOk, IfErr};
-ghost use Rattle.wasm_item_rules.specs.Answers.{IsRefusalAt};
+ghost use Rattle.wasm_item_checks.specs.Answers.{IsRefusalAt};
 ghost use Rattle.std.specs.List.{All};
 ghost use Rattle.wasm_spec.specs.Syntax.{map_ref, map_val, map_table, map_global, map_extern};
 ghost use Rattle.wasm_rules.specs.FeatureFlags.{features_of};
@@ -10,8 +10,8 @@ ghost use Rattle.wasm_readers_types.specs.Indices.{Fits};
 ghost use Rattle.wasm_readers_types.specs.SeenValues.{ref_of, val_of};
 ghost use Rattle.wasm_readers_types.specs.SeenExterns.{table_of, global_of, extern_of};
 ghost use Rattle.wasm_validator_canonical.specs.Indices.{numbers, canonical_index};
-ghost use Rattle.wasm_item_rules.specs.ModuleTypes.{AreKnown, module_types};
-ghost use Rattle.wasm_item_rules.specs.Items.{is_in_range, is_ref_in_range, is_val_in_range, is_valid_extern};
+ghost use Rattle.wasm_item_checks.specs.ModuleTypes.{AreKnown, module_types};
+ghost use Rattle.wasm_item_checks.specs.Items.{is_in_range, is_ref_in_range, is_val_in_range, is_valid_extern};
 ghost use Rattle.wasm_validator_types.specs.Entities.{entity_of};
 ghost use Rattle.wasm_validator_types.specs.Shown.{types_of};
 ghost use Rattle.wasm_validator_core.specs.Items.{entity, entity_size, grown};
@@ -20,7 +20,7 @@ ghost use Rattle.wasm_validator_core.specs.Ready.{AreHeld, AreSmall, IsTyped};
 use crate::limits::MAX_EFFECTIVE_SIZE;
 use crate::signatures::function_arity;
 use std::alloc::Allocator;
-use wasm_item_rules::check_type_ref;
+use wasm_item_checks::check_type_ref;
 use wasm_readers::{
     CoreTypeId, GlobalType, HeapType, RefType, Refusal, TableType, TypeRef, UnpackedIndex, ValType,
     WasmFeatures,

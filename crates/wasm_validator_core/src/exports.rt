@@ -5,7 +5,7 @@ ghost use Rattle.std.specs.declared.option.Option.TheVariants.{Some, None};
 ghost use Rattle.std.specs.Option.{option_map};
 ghost use Rattle.wasm_rules.specs.FeatureFlags.{features_of};
 ghost use Rattle.wasm_readers.specs.Items.{export_of};
-ghost use Rattle.wasm_item_rules.specs.Answers.{IsPlainRefusalAt};
+ghost use Rattle.wasm_item_checks.specs.Answers.{IsPlainRefusalAt};
 ghost use Rattle.wasm_validator_types.specs.Entities.{entity_of};
 ghost use Rattle.wasm_validator_types.specs.Shown.{types_of};
 ghost use Rattle.wasm_validator_core.specs.Errors.{IsAt};
@@ -16,7 +16,7 @@ use crate::entities::size_with;
 use crate::error::Error;
 use bitflags::Flags;
 use std::alloc::Allocator;
-use wasm_item_rules::check_movable_global;
+use wasm_item_checks::check_movable_global;
 use wasm_readers::{Export, ExternalKind, Fault, ItemKind, Refusal, Rule, WasmFeatures};
 use wasm_validator_types::{EntityType, IndexSpaces, TypeList};
 

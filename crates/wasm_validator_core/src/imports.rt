@@ -15,7 +15,7 @@ use crate::entities::{entity_type, known_ids, listed_type_ref, size_with};
 use crate::error::Error;
 use crate::items::{place_function, place_imported_global, place_memory, place_table, place_tag};
 use std::alloc::Allocator;
-use wasm_item_rules::check_movable_global;
+use wasm_item_checks::check_movable_global;
 use wasm_readers::{Fault, Import, Rule, TypeRef, WasmFeatures};
 use wasm_validator_types::{EntityType, IndexSpaces, TypeList};
 

@@ -14,7 +14,7 @@ use crate::entities::{known_ids, listed_table};
 use crate::error::Error;
 use crate::limits::{MAX_FUNCTIONS, MAX_GLOBALS, MAX_TAGS, check_max, max_memories, max_tables};
 use std::alloc::Allocator;
-use wasm_item_rules::{check_defined_table, check_memory_type, check_tag_type, func_type_at};
+use wasm_item_checks::{check_defined_table, check_memory_type, check_tag_type, func_type_at};
 use wasm_readers::{Counted, GlobalType, MemoryType, TableType, TagType, WasmFeatures};
 use wasm_validator_types::{IndexSpaces, TypeList};
 

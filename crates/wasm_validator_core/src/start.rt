@@ -3,7 +3,7 @@
 
 ghost use Rattle.std.specs.Prelude.{◌≡◌, length, slice_get, is_ok, is_some, IfOk, IfErr};
 ghost use Rattle.std.specs.declared.option.Option.TheVariants.{Some, None};
-ghost use Rattle.wasm_item_rules.specs.Answers.{IsPlainRefusalAt};
+ghost use Rattle.wasm_item_checks.specs.Answers.{IsPlainRefusalAt};
 ghost use Rattle.wasm_validator_types.specs.Shown.{types_of};
 ghost use Rattle.wasm_validator_core.specs.Functions.{IsTypeOfFunction, IsUnknownFunction};
 ghost use Rattle.wasm_validator_core.specs.Items.{arity_of_function, is_startable};
@@ -11,7 +11,7 @@ ghost use Rattle.wasm_validator_core.specs.Ready.{AreHeld};
 
 use crate::entities::known_ids;
 use std::alloc::Allocator;
-use wasm_item_rules::func_type_at;
+use wasm_item_checks::func_type_at;
 use wasm_readers::{Fault, FuncType, ItemRule, Refusal};
 use wasm_validator_types::{IndexSpaces, TypeList};
 

@@ -3,7 +3,7 @@
 use crate::owners::{set, set_and_share};
 use std::rc::Rc;
 use std::test::Fail;
-use wasm_validator_core::MaybeOwned;
+use wasm_validator_module_state::MaybeOwned;
 
 #[test]
 fn written_while_it_is_owned(rt: HostRuntime) -> Result<(), Fail> {

@@ -1,11 +1,11 @@
 //! Callers of `MaybeOwned` that learn from its contracts what it did.
 
 ghost use Rattle.std.specs.Prelude.{◌≡◌, OnOk, true};
-ghost use Rattle.wasm_validator_core.specs.Held.{is_owned, owned, shared, value_of};
+ghost use Rattle.wasm_validator_module_state.specs.Held.{is_owned, owned, shared, value_of};
 
 use std::alloc::{AllocError, Global};
 use std::rc::Rc;
-use wasm_validator_core::MaybeOwned;
+use wasm_validator_module_state::MaybeOwned;
 
 /// Writes `number` where that may be done, and says whether it was.
 pub fn set(value: &mut MaybeOwned<u32>, number: u32) -> bool

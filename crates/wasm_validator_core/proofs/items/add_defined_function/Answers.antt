@@ -1,6 +1,6 @@
 use Rattle.std.proofs.Common.{sym, arith}
-use Rattle.wasm_item_rules.specs.ModuleTypes.{module_types}
-use Rattle.wasm_item_rules.proofs.Listed.{length_module_types}
+use Rattle.wasm_item_checks.specs.ModuleTypes.{module_types}
+use Rattle.wasm_item_checks.proofs.Listed.{length_module_types}
 use Rattle.wasm_validator_core.proofs.Checked.{function_inside}
 use Rattle.wasm_validator_core.proofs.items.add_defined_function.Goals as goal
 

@@ -2,9 +2,9 @@ use Rattle.std.proofs.Common.{sym, subst, IsTrue}
 use Rattle.wasm_rules.specs.FeatureFlags.{features_of}
 use Rattle.std.specs.Prelude.{false}
 use Rattle.wasm_readers_types.specs.SeenExterns.{table_of}
-use Rattle.wasm_item_rules.specs.ModuleTypes.{module_types}
-use Rattle.wasm_item_rules.specs.Items.{is_ref_in_range}
-use Rattle.wasm_item_rules.proofs.Listed.{length_module_types}
+use Rattle.wasm_item_checks.specs.ModuleTypes.{module_types}
+use Rattle.wasm_item_checks.specs.Items.{is_ref_in_range}
+use Rattle.wasm_item_checks.proofs.Listed.{length_module_types}
 use Rattle.wasm_validator_core.proofs.Checked.{defined_table_inside}
 use Rattle.wasm_validator_core.proofs.items.add_defined_table.Goals as goal
 

@@ -1,0 +1,43 @@
+-- What contracts see of a reader.
+use Rattle.std.specs.Prelude.{◌≡◌, ◌≤◌, ◌+◌, ℕ, List, length, drop, None, ⊤}
+use Rattle.wasm_readers_errors.specs.declared.error.Fault.{Fault}
+use Rattle.wasm_readers_errors.specs.declared.error.Fault.TheVariants.{Malformed}
+use Rattle.wasm_readers_errors.specs.declared.error.Refusal.{Refusal}
+use Rattle.wasm_readers_errors.specs.declared.error.Error.{Error}
+use Rattle.wasm_readers_errors.specs.declared.error.Error.TheVariants.{Refused, OutOfMemory}
+use Rattle.wasm_binary_reader.specs.declared.binary_reader.BinaryReader.{BinaryReader}
+
+-- all bytes of its part of the input
+abbrev pub input : BinaryReader → List ℕ
+input r = r.buffer.now
+
+-- how many of them have been read
+abbrev pub position_in : BinaryReader → ℕ
+position_in r = r.position
+
+-- the offset in the whole input where its part begins
+abbrev pub original : BinaryReader → ℕ
+original r = r.original_offset
+
+-- what is left to read
+abbrev pub rest : BinaryReader → List ℕ
+rest r = drop r.position r.buffer.now
+
+-- the same part of the input, however far it is read
+abbrev pub SameInput : BinaryReader → BinaryReader → Type 0
+SameInput old new = (input new ≡ input old) × (original new ≡ original old)
+
+-- the bytes don't follow the format
+abbrev pub IsMalformed : Fault → Type 0
+IsMalformed (Malformed m) = ⊤
+IsMalformed f = ⊥
+
+-- A refusal for the format, which no proposal lifts, at an offset from where this reader stands to the end of its part.
+abbrev pub RefusedFrom : BinaryReader → Refusal → Type 0
+RefusedFrom r refusal =
+    IsMalformed refusal.fault × (refusal.missing ≡ None) × (original r + position_in r ≤ refusal.offset) × (refusal.offset ≤ original r + length (input r))
+
+-- the same, unless memory was refused
+abbrev pub FailedFrom : BinaryReader → Error → Type 0
+FailedFrom r (Refused refusal) = RefusedFrom r refusal
+FailedFrom r OutOfMemory = ⊤

@@ -1,0 +1,7 @@
+//! Reading of bytes, numbers and names, from the front of a part of an input.
+#![tactic(auto)]
+
+pub mod binary_reader;
+mod leb128;
+
+pub use binary_reader::BinaryReader;

@@ -1,0 +1,231 @@
+//! Composite types with their shared flags.
+
+ghost use Rattle.std.specs.Prelude.{◌≡◌, ◌<◌, ◌&&◌, length, is_ok, IsTrue};
+ghost use Rattle.std.specs.Bool.{Decides};
+ghost use Rattle.std.specs.List.{All, list_all};
+ghost use Rattle.wasm_spec.specs.Syntax.{map_heap, map_val, map_storage, map_comp};
+ghost use Rattle.wasm_spec.specs.References.{refs_heap, refs_val, refs_storage, refs_field, refs_comp};
+ghost use Rattle.wasm_spec.specs.Matching.{is_shared_type, is_shared_heap, is_shared_val, is_shared_storage};
+ghost use Rattle.wasm_spec.specs.ValueTypes.{implies};
+ghost use Rattle.wasm_spec.specs.GroupRules.{storages, is_func, IsFunction, IsContinuationOfFunction};
+ghost use Rattle.wasm_rules.specs.FeatureFlags.{features_of};
+ghost use Rattle.wasm_readers_types.specs.SeenValues.{heap_of, val_of, storage_of, field_of};
+ghost use Rattle.wasm_readers_types.specs.SeenTypes.{comp_of};
+ghost use Rattle.wasm_validator_type_list.specs.Listing.{types_in};
+ghost use Rattle.wasm_validator_type_list.specs.Declares.{declares};
+ghost use Rattle.wasm_validator_type_list.specs.Grouped.{leads_in, AreIn};
+ghost use Rattle.wasm_group_checks.specs.Rules.{Declares, CompositeRules};
+
+use crate::ids::{group_of, id_at};
+use crate::refusals::{hold, require};
+use std::alloc::Allocator;
+use wasm_readers_errors::{Fault, GroupRule, Refusal, WasmFeatures};
+use wasm_readers_types::{
+    CompositeInnerType, CompositeType, CoreTypeId, FieldType, HeapType, StorageType, ValType,
+};
+use wasm_validator_type_list::{RecGroupId, TypeList};
+use wasm_value_checks as value_types;
+
+/// Accepts a shared type where the proposal for them is on.
+fn check_shared_flag(features: WasmFeatures, shared: bool, offset: u64) -> Result<(), Refusal>
+    ensures { is_ok result ≡ implies shared (features_of features).shared_everything_threads }
+{
+    if !shared {
+        return Ok(());
+    }
+    let fault = Fault::Group(GroupRule::SharedComposites);
+    require(
+        features,
+        WasmFeatures::SHARED_EVERYTHING_THREADS,
+        fault,
+        offset,
+    )
+}
+
+/// Whether the type is shared.
+fn is_type_shared<A: Allocator + Copy>(types: &TypeList<A>, id: CoreTypeId) -> bool
+    requires { id.index < length (types_in types.now) }
+    ensures { result ≡ is_shared_type (declares types.now.groups) id.index }
+{
+    types[id].composite_type.shared
+}
+
+/// Whether what the heap type, which stands in the group, describes may be shared.
+fn is_heap_shared<A: Allocator + Copy>(
+    types: &TypeList<A>,
+    group: RecGroupId,
+    heap: HeapType,
+) -> bool
+    requires { AreIn types.now.groups group.index (refs_heap (heap_of heap)) }
+    ensures { result ≡ is_shared_heap (declares types.now.groups) (map_heap (leads_in types.now.groups group.index) (heap_of heap)) }
+{
+    match heap {
+        HeapType::Abstract { shared, .. } => shared,
+        HeapType::Concrete(index) => is_type_shared(types, id_at(types, group, index)),
+        HeapType::Exact(index) => is_type_shared(types, id_at(types, group, index)),
+    }
+}
+
+/// Whether values of the type, which stands in the group, may be shared.
+fn is_shared<A: Allocator + Copy>(types: &TypeList<A>, group: RecGroupId, ty: ValType) -> bool
+    requires { AreIn types.now.groups group.index (refs_val (val_of ty)) }
+    ensures { result ≡ is_shared_val (declares types.now.groups) (map_val (leads_in types.now.groups group.index) (val_of ty)) }
+{
+    match ty {
+        ValType::Ref(reference) => is_heap_shared(types, group, reference.heap_type()),
+        ValType::I32 | ValType::I64 | ValType::F32 | ValType::F64 | ValType::V128 => true,
+    }
+}
+
+/// Whether what is stored so, in a type of the group, may be shared.
+fn is_stored_shared<A: Allocator + Copy>(
+    types: &TypeList<A>,
+    group: RecGroupId,
+    ty: StorageType,
+) -> bool
+    requires { AreIn types.now.groups group.index (refs_storage (storage_of ty)) }
+    ensures { result ≡ is_shared_storage (declares types.now.groups) (map_storage (leads_in types.now.groups group.index) (storage_of ty)) }
+{
+    match ty {
+        StorageType::Val(value) => is_shared(types, group, value),
+        StorageType::I8 | StorageType::I16 => true,
+    }
+}
+
+/// Whether values of each of the types, which stand in the group, may be shared.
+fn are_shared<A: Allocator + Copy>(
+    types: &TypeList<A>,
+    group: RecGroupId,
+    values: &[ValType],
+) -> bool
+    requires { All (λ v. AreIn types.now.groups group.index (refs_val (val_of v))) values.now }
+    ensures { result ≡ list_all (λ v. is_shared_val (declares types.now.groups) (map_val (leads_in types.now.groups group.index) (val_of v))) values.now }
+{
+    'values: for i in 0..values.len() {
+        if !is_shared(types, group, values[i]) {
+            return false;
+        }
+    }
+    true
+}
+
+/// Whether what each of the fields, which stand in the group, holds may be shared.
+fn are_fields_shared<A: Allocator + Copy>(
+    types: &TypeList<A>,
+    group: RecGroupId,
+    fields: &[FieldType],
+) -> bool
+    requires { All (λ f. AreIn types.now.groups group.index (refs_field (field_of f))) fields.now }
+    ensures { result ≡ list_all (λ f. is_shared_storage (declares types.now.groups) (map_storage (leads_in types.now.groups group.index) (storage_of f.element_type))) fields.now }
+{
+    'fields: for i in 0..fields.len() {
+        let field = fields[i];
+        if !is_stored_shared(types, group, field.element_type) {
+            return false;
+        }
+    }
+    true
+}
+
+/// Whether all that is in the composite type, which stands in the group, may be shared.
+fn are_members_shared<A: Allocator + Copy>(
+    types: &TypeList<A>,
+    group: RecGroupId,
+    inner: &CompositeInnerType<A>,
+) -> bool
+    requires { AreIn types.now.groups group.index (refs_comp (comp_of inner.now)) }
+    ensures { result ≡ list_all (is_shared_storage (declares types.now.groups)) (storages (map_comp (leads_in types.now.groups group.index) (comp_of inner.now))) }
+{
+    match inner {
+        CompositeInnerType::Func(signature) => {
+            are_shared(types, group, signature.params())
+                && are_shared(types, group, signature.results())
+        }
+        CompositeInnerType::Array(array) => is_stored_shared(types, group, array.0.element_type),
+        CompositeInnerType::Struct(structure) => {
+            are_fields_shared(types, group, structure.fields.as_slice())
+        }
+        CompositeInnerType::Cont(_) => true,
+    }
+}
+
+/// Whether it is a function type.
+fn is_function_type<A: Allocator>(inner: &CompositeInnerType<A>) -> bool
+    ensures { result ≡ is_func (comp_of inner.now) }
+{
+    matches!(inner, CompositeInnerType::Func(_))
+}
+
+/// Whether the type is a function's.
+fn is_function<A: Allocator + Copy>(types: &TypeList<A>, id: CoreTypeId) -> bool
+    requires { id.index < length (types_in types.now) }
+    ensures { Decides result (IsFunction (declares types.now.groups) id.index) }
+{
+    let _group = group_of(types, id);
+    is_function_type(&types[id].composite_type.inner)
+}
+
+/// Accepts a composite type, which stands in the group, but for a continuation's of what is no
+/// function.
+fn check_continuation<A: Allocator + Copy>(
+    types: &TypeList<A>,
+    group: RecGroupId,
+    inner: &CompositeInnerType<A>,
+    offset: u64,
+) -> Result<(), Refusal>
+    requires { AreIn types.now.groups group.index (refs_comp (comp_of inner.now)) }
+    ensures { Decides (is_ok result) (IsContinuationOfFunction (declares types.now.groups) (map_comp (leads_in types.now.groups group.index) (comp_of inner.now))) }
+{
+    match inner {
+        CompositeInnerType::Cont(continuation) => {
+            let id = id_at(types, group, continuation.0.unpack());
+            let fault = Fault::NotAFunctionId(id.index() as u32);
+            hold(is_function(types, id), fault, offset)
+        }
+        CompositeInnerType::Func(_)
+        | CompositeInnerType::Array(_)
+        | CompositeInnerType::Struct(_) => Ok(()),
+    }
+}
+
+/// Accepts a composite type, which stands in the group, whose members may be shared if it is.
+fn check_members<A: Allocator + Copy>(
+    types: &TypeList<A>,
+    group: RecGroupId,
+    ty: &CompositeType<A>,
+    offset: u64,
+) -> Result<(), Refusal>
+    requires { AreIn types.now.groups group.index (refs_comp (comp_of ty.now.inner)) }
+    ensures { is_ok result ≡ implies ty.now.shared (list_all (is_shared_storage (declares types.now.groups)) (storages (map_comp (leads_in types.now.groups group.index) (comp_of ty.now.inner)))) }
+{
+    if !ty.shared {
+        return Ok(());
+    }
+    let fault = Fault::Group(GroupRule::SharedMembers);
+    hold(are_members_shared(types, group, &ty.inner), fault, offset)
+}
+
+/// Checks the composite type of a type of a list with its shared flag (Core Specification 3.0,
+/// Validation, Types, Composite Types): the proposals that its form and its members need, that a shared
+/// type has shared members, and that a continuation is of a function. `offset` is where the type's
+/// group stands in the input.
+///
+/// # Errors
+///
+/// Refuses a type that breaks one of the rules, with the first of them.
+pub fn check_composite_type<A: Allocator + Copy>(
+    features: WasmFeatures,
+    types: &TypeList<A>,
+    id: CoreTypeId,
+    offset: u64,
+) -> Result<(), Refusal>
+    requires { id.index < length (types_in types.now) }
+    ensures { Decides (is_ok result) (Declares (declares types.now.groups) id.index (CompositeRules (features_of features) (declares types.now.groups))) }
+{
+    let group = group_of(types, id);
+    let ty = &types[id].composite_type;
+    check_shared_flag(features, ty.shared, offset)?;
+    value_types::check_composite_type(features, &ty.inner, offset)?;
+    check_members(types, group, ty, offset)?;
+    check_continuation(types, group, &ty.inner, offset)
+}
