@@ -13,10 +13,10 @@ use Rattle.wasm_operator_steps.specs.Attempts.{guard, among, passes, last_of, fr
 use Rattle.wasm_operator_steps.specs.Matching.{matches_vals, matches_storage}
 use Rattle.wasm_operator_steps.specs.Bodies.{Surroundings, map_local, map_surroundings}
 use Rattle.wasm_operator_steps.specs.Machine.{Operand, bottom, bottom_reference, open_reference, known, Kind, block_kind, loop_kind, if_kind, else_kind, try_table_kind, Frame, State, map_operand, map_frame, map_state, map_popped, push_operand, push_vals, pop_any, pop_reference, same_number, chosen, become_unreachable, push_frame, set_local, pop_vals}
-use Rattle.wasm_operator_steps.specs.Actions.{Signed, of_type, of_function, of_tag, Types, these, params, results, label, returned, local, global, function_reference, new_reference, fields, element, field, table_address, memory_address, table_element, segment, lesser_table_address, lesser_memory_address, top, descriptor_of, repeated, front, last, joined, Check, has, allows, global_is_mutable, local_is_set, function_is_referenced, is_exception, each_matches, may_be_cast, is_aligned, fields_have_defaults, has_no_descriptor, field_is_mutable, field_is_packed, element_is_mutable, element_has_default, element_is_number, element_is_packed, element_is_storable, data_is_there, segment_is_there, Action, need, refuse, take, give, take_any, take_reference, take_comparable, make_non_null, choose, stop, turn_to_else, leave, take_below, convert, describe, enter, set, branch_on_null, branch_to_one_of}
-use Rattle.wasm_operator_steps.specs.Meanings.{Signature, ref_to, resolve_heap, resolve_ref, resolve_val, resolve_vals, resolve_block, signature_of, fields_of, element_of, unpack, unpack_field, is_packed, has_default, all_have_defaults, copies, one, address, both, label_by, sub_at, comp_at, type_signature, block_signature, frame_signature, label_at, returned_at, signature_at, fields_at, element_at, field_at, exact_if, function_heap, descriptor_at, descriptor_heap, top_heap, table_is_64, memory_is_64, types_at, casts, holds, is_below_either, agree, converted, described, pop_frame, may_end, leave_in, turn_in, labels_fit, act, run}
+use Rattle.wasm_operator_steps.specs.Actions.{Signed, of_type, of_function, of_tag, Types, these, params, results, label, returned, local, global, function_reference, new_reference, fields, element, field, table_address, memory_address, table_element, segment, lesser_table_address, lesser_memory_address, top, descriptor_of, repeated, front, last, joined, Check, has, allows, global_is_mutable, local_is_set, function_is_referenced, is_exception, each_matches, may_be_cast, is_aligned, fields_have_defaults, has_no_descriptor, field_is_mutable, field_is_packed, element_is_mutable, element_has_default, element_is_number, element_is_packed, element_is_storable, data_is_there, segment_is_there, Action, need, refuse, take, give, take_any, take_reference, take_comparable, make_non_null, choose, stop, turn_to_else, leave, take_below, convert, enter, set, branch_on_null, branch_to_one_of}
+use Rattle.wasm_operator_steps.specs.Meanings.{Signature, ref_to, resolve_heap, resolve_ref, resolve_val, resolve_vals, resolve_block, signature_of, fields_of, element_of, unpack, unpack_field, is_packed, has_default, all_have_defaults, copies, one, address, both, label_by, sub_at, comp_at, type_signature, block_signature, frame_signature, label_at, returned_at, signature_at, fields_at, element_at, field_at, exact_if, function_heap, descriptor_at, top_heap, table_is_64, memory_is_64, types_at, casts, holds, is_below_either, agree, converted, pop_frame, may_end, leave_in, turn_in, labels_fit, act, run}
 use Rattle.wasm_operator_steps.specs.Renaming.{Renames}
-use Rattle.wasm_operator_steps.proofs.Attempts.{bind-map, bind-same, then-map, passes-map, guard-map, if-map, is_some-map, last_of-map, front_of-map}
+use Rattle.wasm_operator_steps.proofs.Attempts.{bind-map, bind-same, then-map, passes-map, guard-map, is_some-map, last_of-map, front_of-map}
 use Rattle.wasm_operator_steps.proofs.MatchingRenamed.{matches_heap-map, matches_ref-map, matches_vals-map, matches_storage-map, is_shared_heap-map, top_of_heap-map}
 use Rattle.wasm_operator_steps.proofs.MachineRenamed.{map_vals, push_vals-map, pop_any-map, pop_reference-map, non_null-map, same_number-map, chosen-map, become_unreachable-map, push_frame-map, set_local-map, pop_vals-map}
 
@@ -188,11 +188,6 @@ module _ {R S : Type 0} (f : R → S) (W : World R) (V : World S) (h : Renames f
   descriptor_at-map : (n : ℕ) → descriptor_at V N n ≡ option_map f (descriptor_at W B n)
   descriptor_at-map n = bind-map (map_sub f) f _ _ (λ d. refl) (sub_at W B n) (sub_at-map n)
 
-  descriptor_heap-map : (x : Heap ℕ) → descriptor_heap V N x ≡ option_map (map_heap f) (descriptor_heap W B x)
-  descriptor_heap-map (concrete n) = then-map f (map_heap f) concrete concrete (λ a. refl) (descriptor_at W B n) (descriptor_at-map n)
-  descriptor_heap-map (exact n) = then-map f (map_heap f) exact exact (λ a. refl) (descriptor_at W B n) (descriptor_at-map n)
-  descriptor_heap-map (abstract_heap s k) = refl
-
   top_heap-map : (x : Heap ℕ) → top_heap V N x ≡ option_map (map_heap f) (top_heap W B x)
   top_heap-map x =
       bind-map (map_heap f) (map_heap f) (top_of_heap W.declared) (top_of_heap V.declared) (top_of_heap-map f W V h) (resolve_heap B.context.types x) (resolve_heap-map f B.context.types x)
@@ -234,7 +229,7 @@ module _ {R S : Type 0} (f : R → S) (W : World R) (V : World S) (h : Renames f
       (λ i. one (option_map address (both (table_is_64-map m i) (table_is_64-map n i)))) ∙ addressed-map f (both (table_is_64 W B m) (table_is_64 W B n))
   types_at-map s (lesser_memory_address m n) = addressed-map f (both (memory_is_64 W B m) (memory_is_64 W B n))
   types_at-map s (top r) = type_of-map (top_heap W B r.heap) true (top_heap-map r.heap)
-  types_at-map s (descriptor_of r) = type_of-map (descriptor_heap W B r.heap) true (descriptor_heap-map r.heap)
+  types_at-map s (descriptor_of n) = one-map f _ (then-map f (map_val f) _ _ (λ a. refl) (descriptor_at W B n) (descriptor_at-map n))
   types_at-map s (repeated n t) = then-map (map_vals f) (map_vals f) _ _ (copies-map f n) (types_at W B s t) (types_at-map s t)
   types_at-map s (front t) = then-map (map_vals f) (map_vals f) front_of front_of (front_of-map (map_val f)) (types_at W B s t) (types_at-map s t)
   types_at-map s (last t) = one-map f _ (bind-map (map_vals f) (map_val f) last_of last_of (last_of-map (map_val f)) (types_at W B s t) (types_at-map s t))
@@ -306,23 +301,6 @@ module _ {R S : Type 0} (f : R → S) (W : World R) (V : World S) (h : Renames f
   converted-map k (known f64) = refl
   converted-map k (known v128) = refl
 
-  described-map : (a b : R) (x : Operand R) → described V N (f a) (f b) (map_operand f x) ≡ option_map (map_operand f) (described W B a b x)
-  described-map a b (known (reference r)) =
-      if-map (map_operand f) (Some (known (ref_to false (exact b)))) (if matches_heap W r.heap (concrete a) then Some (known (ref_to false (concrete b))) else None)
-      (matches_heap-map f W V h r.heap (exact a)) refl
-      (if-map (map_operand f) (Some (known (ref_to false (concrete b)))) None (matches_heap-map f W V h r.heap (concrete a)) refl refl)
-  described-map a b (open_reference k) =
-      guard-map (map_operand f) (known (ref_to false (exact b)))
-      ((λ i. matches_heap V (abstract_heap (is_shared_heap-map f W V h (concrete a) i) k) (concrete (f a))) ∙ matches_heap-map f W V h (abstract_heap (is_shared_heap W.declared (concrete a)) k) (concrete a))
-      refl
-  described-map a b bottom_reference = refl
-  described-map a b bottom = refl
-  described-map a b (known i32) = refl
-  described-map a b (known i64) = refl
-  described-map a b (known f32) = refl
-  described-map a b (known f64) = refl
-  described-map a b (known v128) = refl
-
   pop_frame-map : (x : Frame R) (xs : List (Frame R)) (g : Signature R) (s : State R) → pop_frame V N (map_frame f x) (map (map_frame f) xs) (map_signature f g) (map_state f s) ≡ option_map (map_state f) (pop_frame W B x xs g s)
   pop_frame-map x xs g s =
       bind-map (map_state f) (map_state f) _ _
@@ -377,14 +355,6 @@ module _ {R S : Type 0} (f : R → S) (W : World R) (V : World S) (h : Renames f
       bind-map (map_popped f) (map_state f) _ _
       (λ p. guard-map (map_state f) (push_operand (converted W B k p.0) p.1) (is_below_either-map j p.0) (λ i. push_operand (converted-map k p.0 i) (map_state f p.1)))
       (pop_reference s) (pop_reference-map f s)
-  act-map (describe n) s =
-      bind-map f (map_state f) _ _
-      (λ a. bind-map f (map_state f) _ _
-      (λ b. bind-map (map_popped f) (map_state f) _ _
-      (λ p. bind-map (map_operand f) (map_state f) _ _ (λ x. refl) (described W B a b p.0) (described-map a b p.0))
-      (pop_reference s) (pop_reference-map f s))
-      (descriptor_at W B n) (descriptor_at-map n))
-      (slice_get B.context.types n) (slice_get-map f B.context.types n)
   act-map choose s =
       bind-map (map_popped f) (map_state f) _ _
       (λ p. bind-map (map_popped f) (map_state f) _ _

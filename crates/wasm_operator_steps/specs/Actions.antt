@@ -15,18 +15,17 @@ pub data Signed : Type 0 where
 -- written types; the parameters or results of a signature; what a label takes, and what the body returns; the type of a local or a
 -- global; a reference to a function, and to a new value of a type; the unpacked types of all fields of a structure, of one of them, and
 -- of an array's elements; what addresses a table or a memory, and the lesser of two; a table's elements, and a segment's; the greatest
--- type, with null, of a reference type's hierarchy; the descriptor, or null, of a type that a reference type names; and lists made of
--- others: so many times, without the last, the last alone, and one after another.
+-- type, with null, of a reference type's hierarchy; the descriptor, or null, of exactly a type; and lists made of others: so many times, without the last, the last alone, and one after another.
 pub data Types : Type 0 where
   these : List (Val ℕ) → Types
   params results : Signed → Types
   label : ℕ → Types
   returned : Types
-  local global function_reference new_reference fields element : ℕ → Types
+  local global function_reference new_reference descriptor_of fields element : ℕ → Types
   field : ℕ → ℕ → Types
   table_address memory_address table_element segment : ℕ → Types
   lesser_table_address lesser_memory_address : ℕ → ℕ → Types
-  top descriptor_of : Ref ℕ → Types
+  top : Ref ℕ → Types
   repeated : ℕ → Types → Types
   front last : Types → Types
   joined : Types → Types → Types
@@ -59,7 +58,7 @@ pub data Check : Type 0 where
 -- Actions:
 -- go on only where a check holds, or not at all; take operands of these types, or give them; take any operand; take a reference; take a
 -- reference below an abstract heap type, shared or not; take two references that may be compared; know that a reference isn't null; turn a
--- reference of one hierarchy into one of another; turn a reference to a structure into one to its descriptor; choose one of two operands;
+-- reference of one hierarchy into one of another; choose one of two operands;
 -- know that what follows isn't reached; turn to `else`; leave a frame, or enter one; know that a local is set; branch where a reference is
 -- null; branch to one of several labels.
 pub data Action : Type 0 where
@@ -69,7 +68,6 @@ pub data Action : Type 0 where
   take_any take_reference take_comparable make_non_null choose stop turn_to_else leave : Action
   take_below : AbstractHeap → Action
   convert : AbstractHeap → AbstractHeap → Action
-  describe : ℕ → Action
   enter : Kind → Block ℕ → Action
   set : ℕ → Action
   branch_on_null : ℕ → Action

@@ -4,7 +4,7 @@ use Rattle.std.specs.Prelude.{ℕ, ◌≡◌, ◌^◌, ◌-◌, true, false, Boo
 use Rattle.wasm_spec.specs.Syntax.{any_heap, eq_heap, i31_heap, none_heap, func_heap, nofunc_heap, extern_heap, Heap, abstract_heap, concrete, exact, i32}
 use Rattle.wasm_spec.specs.TypeExamples.{features}
 use Rattle.wasm_operators.specs.Control.{empty_block, value_block}
-use Rattle.wasm_operators.specs.References.{ref_is_null, ref_eq, ref_as_non_null, ref_func, br_on_null, br_on_non_null, ref_test, ref_cast, ref_cast_desc_eq, br_on_cast, br_on_cast_fail, br_on_cast_desc_eq, br_on_cast_desc_eq_fail, ref_get_desc}
+use Rattle.wasm_operators.specs.References.{ref_is_null, ref_eq, ref_as_non_null, ref_func, br_on_null, br_on_non_null, ref_test, ref_cast, br_on_cast, br_on_cast_fail}
 use Rattle.wasm_operators.specs.References as references
 use Rattle.wasm_operators.specs.Instructions.{Instruction, variable, table, access, memory, constant, reference, cast, conversion, structure, array}
 use Rattle.wasm_flat_operators.specs.declared.variables.VariableOperator.TheVariants.{LocalGet, LocalSet}
@@ -16,7 +16,7 @@ use Rattle.wasm_flat_operators.specs.declared.constants.ConstantOperator.TheVari
 use Rattle.wasm_flat_operators.specs.declared.conversions.ConversionOperator.TheVariants.{AnyConvertExtern, ExternConvertAny, RefI31, I31GetS, I31GetU, RefI31Shared}
 use Rattle.wasm_flat_operators.specs.declared.structs.StructOperator.TheVariants.{StructNew, StructNewDefault, StructGet, StructGetS, StructGetU, StructSet, StructNewDesc, StructNewDefaultDesc}
 use Rattle.wasm_flat_operators.specs.declared.arrays.ArrayOperator.TheVariants.{ArrayNew, ArrayNewDefault, ArrayNewFixed, ArrayNewData, ArrayNewElem, ArrayGet, ArrayGetS, ArrayGetU, ArraySet, ArrayLen, ArrayFill, ArrayCopy, ArrayInitData, ArrayInitElem}
-use Rattle.wasm_operator_steps.specs.Samples.{ref, ref_null, ref_of, plain_heap, body, runs, gives_i32, an_i32, an_i64, dropped, trap, closed, in_block, all_pass, none_pass}
+use Rattle.wasm_operator_steps.specs.Samples.{ref, ref_of, plain_heap, body, runs, gives_i32, an_i32, an_i64, dropped, trap, closed, in_block, all_pass, none_pass}
 
 -- with every feature, descriptors too, and with none
 abbrev pub described : List (Instruction ℕ) → Bool
@@ -235,11 +235,6 @@ Descriptors =
     all_pass (
     described (null (exact 12) ∷ structure (StructNewDesc 11) ∷ dropped ∷ []) ∷
     described (null (exact 12) ∷ structure (StructNewDefaultDesc 11) ∷ dropped ∷ []) ∷
-    described (null (concrete 11) ∷ cast (ref_get_desc 11) ∷ dropped ∷ []) ∷
-    described (null (exact 11) ∷ cast (ref_get_desc 11) ∷ structure (StructNewDesc 11) ∷ dropped ∷ []) ∷
-    described (null (plain_heap any_heap) ∷ null (concrete 12) ∷ cast (ref_cast_desc_eq (ref_of true (concrete 11))) ∷ dropped ∷ []) ∷
-    described (in_block (value_block (ref (exact 11))) ∷ null (plain_heap any_heap) ∷ null (exact 12) ∷ cast (br_on_cast_desc_eq 0 (ref_of true (plain_heap any_heap)) (ref_of false (exact 11))) ∷ trap ∷ closed ∷ dropped ∷ []) ∷
-    described (in_block (value_block (ref_null (plain_heap any_heap))) ∷ null (plain_heap any_heap) ∷ null (exact 12) ∷ cast (br_on_cast_desc_eq_fail 0 (ref_of true (plain_heap any_heap)) (ref_of false (exact 11))) ∷ trap ∷ closed ∷ dropped ∷ []) ∷
     described (structure (StructNewDefault 5) ∷ cast (ref_cast (ref_of false (exact 5))) ∷ dropped ∷ []) ∷
     described (in_block (value_block (ref (concrete 7))) ∷ variable (LocalGet 0) ∷ cast (br_on_cast 0 (ref_of false (concrete 5)) (ref_of false (concrete 7))) ∷ trap ∷ closed ∷ dropped ∷ []) ∷
     []) ≡ true
@@ -252,10 +247,6 @@ NoDescriptors =
     described (structure (StructNew 11) ∷ dropped ∷ []) ∷
     described (structure (StructNewDefault 11) ∷ dropped ∷ []) ∷
     described (null (exact 12) ∷ structure (StructNewDefaultDesc 5) ∷ dropped ∷ []) ∷
-    described (null (concrete 5) ∷ cast (ref_get_desc 11) ∷ dropped ∷ []) ∷
-    described (null (concrete 11) ∷ cast (ref_get_desc 11) ∷ structure (StructNewDesc 11) ∷ dropped ∷ []) ∷
-    described (null (plain_heap any_heap) ∷ null (concrete 12) ∷ cast (ref_cast_desc_eq (ref_of true (exact 11))) ∷ dropped ∷ []) ∷
-    described (in_block (value_block (ref (exact 11))) ∷ null (plain_heap any_heap) ∷ null (exact 12) ∷ cast (br_on_cast_desc_eq 0 (ref_of true (plain_heap any_heap)) (ref_of true (exact 11))) ∷ trap ∷ closed ∷ dropped ∷ []) ∷
     described (in_block (value_block (ref (concrete 0))) ∷ variable (LocalGet 0) ∷ cast (br_on_cast 0 (ref_of false (concrete 5)) (ref_of false (concrete 0))) ∷ trap ∷ closed ∷ dropped ∷ []) ∷
     []) ≡ true
 
@@ -292,5 +283,4 @@ HeapNeedsFeatures =
     bare (structure (StructNewDefault 5) ∷ dropped ∷ []) ∷
     bare (trap ∷ array (ArrayGet 7) ∷ dropped ∷ []) ∷
     bare (trap ∷ array ArrayLen ∷ dropped ∷ []) ∷
-    runs (trap ∷ cast (ref_get_desc 11) ∷ []) ∷
     []) ≡ true

@@ -1,7 +1,7 @@
 -- The first table: each instruction has one of few shapes, with what it checks, takes and gives.
 -- Core Specification 3.0, Validation, Instructions, and the proposals for shared references and for custom descriptors.
 use Rattle.std.specs.Prelude.{ℕ, Bool, true, false, if◌then◌else◌, List, [], ◌∷◌, ◌++◌}
-use Rattle.wasm_spec.specs.Syntax.{AbstractHeap, any_heap, i31_heap, array_heap, func_heap, extern_heap, exn_heap, Heap, abstract_heap, concrete, exact, Ref, Val, i32, i64, f32, f64, v128, reference}
+use Rattle.wasm_spec.specs.Syntax.{AbstractHeap, any_heap, i31_heap, array_heap, func_heap, extern_heap, exn_heap, Heap, abstract_heap, concrete, Ref, Val, i32, i64, f32, f64, v128, reference}
 use Rattle.wasm_numeric_operators.specs.Signatures.{signature_of, saturating_signature_of}
 use Rattle.wasm_numeric_operators.specs.declared.signatures.NumberType.{NumberType}
 use Rattle.wasm_numeric_operators.specs.declared.signatures.NumberType.TheVariants as number
@@ -40,7 +40,7 @@ use Rattle.wasm_operator_steps.specs.Actions.{of_type, of_function, of_tag, Type
 -- Shapes: takes some operands and gives others; takes some, and what follows isn't reached; takes some and enters a block; `end`; `else`;
 -- takes any operand; chooses one of two; tests a reference for null; asserts that it isn't null; branches where it is null; branches
 -- where it isn't; branches by a table; sets a local; sets it and gives it back; takes a reference below an abstract heap type, shared
--- or not; takes two that may be compared; turns a reference of one hierarchy into one of another; gives a descriptor; is never valid.
+-- or not; takes two that may be compared; turns a reference of one hierarchy into one of another; is never valid.
 pub data Shape : Type 0 where
   plain : List Check → Types → Types → Shape
   ending : List Check → Types → Shape
@@ -53,7 +53,6 @@ pub data Shape : Type 0 where
   measuring : List Check → AbstractHeap → Types → Shape
   comparing : List Check → Types → Shape
   converting : List Check → AbstractHeap → AbstractHeap → Shape
-  describing : List Check → ℕ → Shape
 
 -- words on types
 abbrev pub nothing : Types
@@ -241,12 +240,6 @@ cast_shape (references.ref_test q) = plain (cast_checks q) (top q) (one i32)
 cast_shape (references.ref_cast q) = plain (cast_checks q) (top q) (one (reference q))
 cast_shape (references.br_on_cast l r q) = plain (branch_checks l r q (reference q)) (kept l (reference r)) (kept l (difference r q))
 cast_shape (references.br_on_cast_fail l r q) = plain (branch_checks l r q (difference r q)) (kept l (reference r)) (kept l (reference q))
-cast_shape (references.ref_get_desc x) = describing (has custom_descriptors ∷ []) x
-cast_shape (references.ref_cast_desc_eq q) = plain (has custom_descriptors ∷ cast_checks q) (joined (top q) (descriptor_of q)) (one (reference q))
-cast_shape (references.br_on_cast_desc_eq l r q) =
-    plain (has custom_descriptors ∷ branch_checks l r q (reference q)) (joined (kept l (reference r)) (descriptor_of q)) (kept l (difference r q))
-cast_shape (references.br_on_cast_desc_eq_fail l r q) =
-    plain (has custom_descriptors ∷ branch_checks l r q (difference r q)) (joined (kept l (reference r)) (descriptor_of q)) (kept l (reference q))
 
 -- External and unboxed references
 abbrev pub conversion_shape : ConversionOperator → Shape
@@ -268,9 +261,8 @@ struct_shape (StructGet x i) = getting false x i
 struct_shape (StructGetS x i) = getting true x i
 struct_shape (StructGetU x i) = getting true x i
 struct_shape (StructSet x i) = plain (has gc ∷ field_is_mutable x i ∷ []) (joined (one (nullable_to x)) (field x i)) nothing
-struct_shape (StructNewDesc x) = plain (has custom_descriptors ∷ []) (joined (fields x) (descriptor_of (record { nullable = false; heap = exact x }))) (new_reference x)
-struct_shape (StructNewDefaultDesc x) =
-    plain (has custom_descriptors ∷ fields_have_defaults x ∷ []) (descriptor_of (record { nullable = false; heap = exact x })) (new_reference x)
+struct_shape (StructNewDesc x) = plain (has custom_descriptors ∷ []) (joined (fields x) (descriptor_of x)) (new_reference x)
+struct_shape (StructNewDefaultDesc x) = plain (has custom_descriptors ∷ fields_have_defaults x ∷ []) (descriptor_of x) (new_reference x)
 
 -- arrays
 abbrev pub item : Bool → ℕ → Shape
