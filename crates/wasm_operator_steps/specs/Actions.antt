@@ -37,15 +37,17 @@ pub data Needed : Type 0 where
 -- Checks:
 -- a feature is on; a written type is one that the features allow; a global is mutable; a local is set; a function counts as referenced;
 -- a tag has no results, so that it is one of exceptions; each type of one list matches that of another; a reference type may be cast
--- to another; a load or a store may have its memory argument; all fields of a structure have a default, and it has no descriptor; a
--- field is mutable, and is packed or isn't; the same of an array's elements, and they are numbers or vectors; the elements of one array
--- may be stored in another; a data segment or an element segment is there.
+-- to another; references of its hierarchy can be tested, which those to continuations can't; a load or a store may have its memory
+-- argument; all fields of a structure have a default, and it has no descriptor; a field is mutable, and is packed or isn't; the same of
+-- an array's elements, and they are numbers or vectors; the elements of one array may be stored in another; a data segment or an element
+-- segment is there.
 pub data Check : Type 0 where
   has : Needed → Check
   allows : Val ℕ → Check
   global_is_mutable local_is_set function_is_referenced is_exception : ℕ → Check
   each_matches : Types → Types → Check
   may_be_cast : Ref ℕ → Ref ℕ → Check
+  can_be_tested : Ref ℕ → Check
   is_aligned : MemoryOperator → MemArg → Check
   fields_have_defaults has_no_descriptor : ℕ → Check
   field_is_mutable : ℕ → ℕ → Check

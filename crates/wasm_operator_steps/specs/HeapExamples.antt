@@ -1,7 +1,7 @@
 -- Bodies that are valid and bodies that aren't: memory, table, reference and aggregate instructions, casts and conversions. In each pair of
 -- statements, what the first accepts and what the second refuses differ in one place.
 use Rattle.std.specs.Prelude.{ℕ, ◌≡◌, ◌^◌, ◌-◌, true, false, Bool, List, [], ◌∷◌, ◌++◌}
-use Rattle.wasm_spec.specs.Syntax.{any_heap, eq_heap, i31_heap, none_heap, func_heap, nofunc_heap, extern_heap, Heap, abstract_heap, concrete, exact, i32}
+use Rattle.wasm_spec.specs.Syntax.{any_heap, eq_heap, i31_heap, none_heap, func_heap, nofunc_heap, extern_heap, exn_heap, cont_heap, nocont_heap, Heap, abstract_heap, concrete, exact, i32}
 use Rattle.wasm_spec.specs.TypeExamples.{features}
 use Rattle.wasm_operators.specs.Control.{empty_block, value_block}
 use Rattle.wasm_operators.specs.References.{ref_is_null, ref_eq, ref_as_non_null, ref_func, br_on_null, br_on_non_null, ref_test, ref_cast, br_on_cast, br_on_cast_fail}
@@ -16,7 +16,7 @@ use Rattle.wasm_flat_operators.specs.declared.constants.ConstantOperator.TheVari
 use Rattle.wasm_flat_operators.specs.declared.conversions.ConversionOperator.TheVariants.{AnyConvertExtern, ExternConvertAny, RefI31, I31GetS, I31GetU, RefI31Shared}
 use Rattle.wasm_flat_operators.specs.declared.structs.StructOperator.TheVariants.{StructNew, StructNewDefault, StructGet, StructGetS, StructGetU, StructSet, StructNewDesc, StructNewDefaultDesc}
 use Rattle.wasm_flat_operators.specs.declared.arrays.ArrayOperator.TheVariants.{ArrayNew, ArrayNewDefault, ArrayNewFixed, ArrayNewData, ArrayNewElem, ArrayGet, ArrayGetS, ArrayGetU, ArraySet, ArrayLen, ArrayFill, ArrayCopy, ArrayInitData, ArrayInitElem}
-use Rattle.wasm_operator_steps.specs.Samples.{ref, ref_of, plain_heap, body, runs, gives_i32, an_i32, an_i64, dropped, trap, closed, in_block, all_pass, none_pass}
+use Rattle.wasm_operator_steps.specs.Samples.{ref, ref_null, ref_of, plain_heap, body, runs, gives_i32, an_i32, an_i64, dropped, trap, closed, in_block, all_pass, none_pass}
 
 -- with every feature, descriptors too, and with none
 abbrev pub described : List (Instruction ℕ) → Bool
@@ -106,7 +106,7 @@ References =
 abbrev pub NoReferences : Type 0
 NoReferences =
     none_pass (
-    runs (null (concrete 13) ∷ dropped ∷ []) ∷
+    runs (null (concrete 14) ∷ dropped ∷ []) ∷
     gives_i32 (an_i32 ∷ reference ref_is_null ∷ []) ∷
     gives_i32 (null (concrete 5) ∷ null (plain_heap func_heap) ∷ reference ref_eq ∷ []) ∷
     described (null (abstract_heap true i31_heap) ∷ null (plain_heap i31_heap) ∷ reference ref_eq ∷ dropped ∷ []) ∷
@@ -129,6 +129,9 @@ Casts =
     all_pass (
     gives_i32 (null (plain_heap eq_heap) ∷ cast (ref_test (ref_of false (concrete 5))) ∷ []) ∷
     runs (null (plain_heap any_heap) ∷ cast (ref_cast (ref_of false (concrete 5))) ∷ variable (LocalSet 2) ∷ []) ∷
+    described (null (plain_heap exn_heap) ∷ cast (ref_test (ref_of false (plain_heap exn_heap))) ∷ dropped ∷ []) ∷
+    described (null (plain_heap exn_heap) ∷ cast (ref_cast (ref_of true (plain_heap exn_heap))) ∷ dropped ∷ []) ∷
+    described (in_block (value_block (ref_null (plain_heap cont_heap))) ∷ null (plain_heap cont_heap) ∷ cast (br_on_cast 0 (ref_of true (plain_heap cont_heap)) (ref_of true (plain_heap nocont_heap))) ∷ closed ∷ dropped ∷ []) ∷
     around (concrete 6) (cast (br_on_cast 0 (ref_of false (concrete 5)) (ref_of false (concrete 6))) ∷ variable (LocalSet 2) ∷ []) ∷
     around (concrete 5) (cast (br_on_cast_fail 0 (ref_of false (concrete 5)) (ref_of false (concrete 6))) ∷ dropped ∷ []) ∷
     around (concrete 5) (null (concrete 5) ∷ cast (br_on_cast_fail 0 (ref_of true (concrete 5)) (ref_of true (concrete 6))) ∷ dropped ∷ []) ∷
@@ -138,8 +141,13 @@ abbrev pub NoCasts : Type 0
 NoCasts =
     none_pass (
     gives_i32 (null (plain_heap func_heap) ∷ cast (ref_test (ref_of false (concrete 5))) ∷ []) ∷
-    gives_i32 (null (plain_heap eq_heap) ∷ cast (ref_test (ref_of false (concrete 13))) ∷ []) ∷
+    gives_i32 (null (plain_heap eq_heap) ∷ cast (ref_test (ref_of false (concrete 14))) ∷ []) ∷
     runs (null (plain_heap any_heap) ∷ cast (ref_cast (ref_of true (concrete 5))) ∷ variable (LocalSet 2) ∷ []) ∷
+    described (null (plain_heap cont_heap) ∷ cast (ref_test (ref_of false (plain_heap cont_heap))) ∷ dropped ∷ []) ∷
+    described (null (plain_heap cont_heap) ∷ cast (ref_test (ref_of true (plain_heap nocont_heap))) ∷ dropped ∷ []) ∷
+    described (null (plain_heap cont_heap) ∷ cast (ref_cast (ref_of true (plain_heap cont_heap))) ∷ dropped ∷ []) ∷
+    described (trap ∷ cast (ref_cast (ref_of false (plain_heap nocont_heap))) ∷ dropped ∷ []) ∷
+    described (trap ∷ cast (ref_cast (ref_of false (concrete 13))) ∷ dropped ∷ []) ∷
     around (concrete 6) (cast (br_on_cast 0 (ref_of false (concrete 6)) (ref_of false (concrete 5))) ∷ variable (LocalSet 2) ∷ []) ∷
     around (concrete 6) (cast (br_on_cast 0 (ref_of false (concrete 5)) (ref_of false (concrete 7))) ∷ variable (LocalSet 2) ∷ []) ∷
     around (concrete 6) (cast (br_on_cast 0 (ref_of false (concrete 5)) (ref_of true (concrete 6))) ∷ variable (LocalSet 2) ∷ []) ∷

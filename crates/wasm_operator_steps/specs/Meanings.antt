@@ -2,11 +2,11 @@
 -- Core Specification 3.0, Appendix, Validation Algorithm, and Validation, Instructions.
 use Rattle.std.specs.Prelude.{ℕ, zero, suc, Bool, true, false, not, ◌&&◌, ◌||◌, ◌==◌, ◌^◌, ◌-◌, nat_lt, nat_le, List, [], ◌∷◌, ◌++◌, map, length, drop, Option, Some, None, is_some, slice_get, if◌then◌else◌}
 use Rattle.std.specs.Option.{option_map}
-use Rattle.wasm_spec.specs.Syntax.{AbstractHeap, eq_heap, Heap, abstract_heap, concrete, exact, Ref, Val, i32, i64, f32, f64, v128, reference, Storage, i8, i16, unpacked, Field, Comp, func, array, struct, Sub, Memory}
+use Rattle.wasm_spec.specs.Syntax.{AbstractHeap, eq_heap, cont_heap, Heap, abstract_heap, concrete, exact, Ref, Val, i32, i64, f32, f64, v128, reference, Storage, i8, i16, unpacked, Field, Comp, func, array, struct, Sub, Memory}
 use Rattle.wasm_spec.specs.Features.{Features}
 use Rattle.wasm_spec.specs.ValueTypes.{allows_val}
 use Rattle.wasm_spec.specs.Matching.{top_of_heap, is_shared_heap}
-use Rattle.wasm_spec.specs.MatchingTests.{same_flag}
+use Rattle.wasm_spec.specs.MatchingTests.{same_flag, same_abstract}
 use Rattle.wasm_spec.specs.MatchingTests.{World}
 use Rattle.wasm_spec.specs.MatchingTests.{matches_heap, matches_ref}
 use Rattle.wasm_operators.specs.Control.{Block, empty_block, value_block, func_block}
@@ -17,7 +17,7 @@ use Rattle.wasm_operator_steps.specs.Attempts.{◌>>=◌, guard, passes, among, 
 use Rattle.wasm_operator_steps.specs.Matching.{matches_vals, matches_storage}
 use Rattle.wasm_operator_steps.specs.Bodies.{Surroundings}
 use Rattle.wasm_operator_steps.specs.Machine.{Operand, bottom_reference, open_reference, known, Kind, loop_kind, if_kind, else_kind, is_if, Frame, State, push_operand, push_vals, pop_any, pop_reference, non_null, same_number, chosen, become_unreachable, push_frame, set_local, pop_vals}
-use Rattle.wasm_operator_steps.specs.Actions.{Signed, of_type, of_function, of_tag, Types, these, params, results, label, returned, local, global, function_reference, new_reference, fields, element, field, table_address, memory_address, table_element, segment, lesser_table_address, lesser_memory_address, top, descriptor_of, repeated, front, last, joined, Needed, multi_value, reference_types, bulk_memory, exceptions, function_references, gc, shared_everything_threads, custom_descriptors, Check, has, allows, global_is_mutable, local_is_set, function_is_referenced, is_exception, each_matches, may_be_cast, is_aligned, fields_have_defaults, has_no_descriptor, field_is_mutable, field_is_packed, element_is_mutable, element_has_default, element_is_number, element_is_packed, element_is_storable, data_is_there, segment_is_there, Action, need, refuse, take, give, take_any, take_reference, take_comparable, make_non_null, choose, stop, turn_to_else, leave, take_below, convert, enter, set, branch_on_null, branch_to_one_of}
+use Rattle.wasm_operator_steps.specs.Actions.{Signed, of_type, of_function, of_tag, Types, these, params, results, label, returned, local, global, function_reference, new_reference, fields, element, field, table_address, memory_address, table_element, segment, lesser_table_address, lesser_memory_address, top, descriptor_of, repeated, front, last, joined, Needed, multi_value, reference_types, bulk_memory, exceptions, function_references, gc, shared_everything_threads, custom_descriptors, Check, has, allows, global_is_mutable, local_is_set, function_is_referenced, is_exception, each_matches, may_be_cast, can_be_tested, is_aligned, fields_have_defaults, has_no_descriptor, field_is_mutable, field_is_packed, element_is_mutable, element_has_default, element_is_number, element_is_packed, element_is_storable, data_is_there, segment_is_there, Action, need, refuse, take, give, take_any, take_reference, take_comparable, make_non_null, choose, stop, turn_to_else, leave, take_below, convert, enter, set, branch_on_null, branch_to_one_of}
 
 -- what goes in, and what comes out
 pub record Signature (R : Type 0) : Type 0 where
@@ -98,6 +98,11 @@ module _ {R : Type 0} where
 
   abbrev pub one : Option (Val R) → Option (List (Val R))
   one v = option_map list_of v
+
+  -- the greatest type of the continuations
+  abbrev pub is_of_continuations : Heap R → Bool
+  is_of_continuations (abstract_heap s k) = same_abstract k cont_heap
+  is_of_continuations _ = false
 
   -- the address type of 64 bits or of 32
   abbrev pub address : Bool → Val R
@@ -235,6 +240,7 @@ module _ {R : Type 0} (W : World R) (B : Surroundings R) where
   holds s (is_exception n) = passes (λ g. length g.gives == 0) (signature_at (of_tag n))
   holds s (each_matches t u) = passes (λ vs. passes (matches_vals W vs) (types_at s u)) (types_at s t)
   holds s (may_be_cast r q) = passes (λ a. passes (casts a) (resolve_ref B.context.types q)) (resolve_ref B.context.types r)
+  holds s (can_be_tested r) = passes (λ h. not (is_of_continuations h)) (top_heap r.heap)
   holds s (is_aligned op m) = passes (allows_memarg op m) (slice_get B.context.memories m.memory)
   holds s (fields_have_defaults n) = passes all_have_defaults (fields_at n)
   holds s (has_no_descriptor n) = passes (λ d. not (is_some d.descriptor)) (sub_at n)

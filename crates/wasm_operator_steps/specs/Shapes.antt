@@ -35,7 +35,7 @@ use Rattle.wasm_flat_operators.specs.declared.structs.StructOperator.TheVariants
 use Rattle.wasm_flat_operators.specs.declared.arrays.ArrayOperator.{ArrayOperator}
 use Rattle.wasm_flat_operators.specs.declared.arrays.ArrayOperator.TheVariants.{ArrayNew, ArrayNewDefault, ArrayNewFixed, ArrayNewData, ArrayNewElem, ArrayGet, ArrayGetS, ArrayGetU, ArraySet, ArrayLen, ArrayFill, ArrayCopy, ArrayInitData, ArrayInitElem}
 use Rattle.wasm_operator_steps.specs.Machine.{Kind, block_kind, loop_kind, if_kind, try_table_kind}
-use Rattle.wasm_operator_steps.specs.Actions.{of_type, of_function, of_tag, Types, these, params, results, label, returned, local, global, function_reference, new_reference, fields, element, field, table_address, memory_address, table_element, segment, lesser_table_address, lesser_memory_address, top, descriptor_of, repeated, front, last, joined, multi_value, reference_types, bulk_memory, exceptions, function_references, gc, shared_everything_threads, custom_descriptors, Check, has, allows, global_is_mutable, local_is_set, function_is_referenced, is_exception, each_matches, may_be_cast, is_aligned, fields_have_defaults, has_no_descriptor, field_is_mutable, field_is_packed, element_is_mutable, element_has_default, element_is_number, element_is_packed, element_is_storable, data_is_there, segment_is_there}
+use Rattle.wasm_operator_steps.specs.Actions.{of_type, of_function, of_tag, Types, these, params, results, label, returned, local, global, function_reference, new_reference, fields, element, field, table_address, memory_address, table_element, segment, lesser_table_address, lesser_memory_address, top, descriptor_of, repeated, front, last, joined, Needed, multi_value, reference_types, bulk_memory, exceptions, function_references, gc, shared_everything_threads, custom_descriptors, Check, has, allows, global_is_mutable, local_is_set, function_is_referenced, is_exception, each_matches, may_be_cast, can_be_tested, is_aligned, fields_have_defaults, has_no_descriptor, field_is_mutable, field_is_packed, element_is_mutable, element_has_default, element_is_number, element_is_packed, element_is_storable, data_is_there, segment_is_there}
 
 -- Shapes: takes some operands and gives others; takes some, and what follows isn't reached; takes some and enters a block; `end`; `else`;
 -- takes any operand; chooses one of two; tests a reference for null; asserts that it isn't null; branches where it is null; branches
@@ -225,9 +225,10 @@ reference_shape (references.ref_func x) = plain (has reference_types ∷ functio
 reference_shape (references.br_on_null l) = branching_on_null (has function_references ∷ []) l
 reference_shape (references.br_on_non_null l) = branching_on_non_null (has function_references ∷ []) l
 
--- casts, and branches on a cast, to q from r: with a label whose last type is that of the reference that it gets
+-- casts to q, which isn't of the continuations' hierarchy; and branches on a cast, to q from r: with a label whose last type is that of
+-- the reference that it gets
 abbrev pub cast_checks : Ref ℕ → List Check
-cast_checks q = has gc ∷ allows (reference q) ∷ []
+cast_checks q = has gc ∷ allows (reference q) ∷ can_be_tested q ∷ []
 
 abbrev pub branch_checks : ℕ → Ref ℕ → Ref ℕ → Val ℕ → List Check
 branch_checks l r q sent = has gc ∷ allows (reference r) ∷ allows (reference q) ∷ may_be_cast r q ∷ each_matches (one sent) (last (label l)) ∷ []
@@ -241,12 +242,18 @@ cast_shape (references.ref_cast q) = plain (cast_checks q) (top q) (one (referen
 cast_shape (references.br_on_cast l r q) = plain (branch_checks l r q (reference q)) (kept l (reference r)) (kept l (difference r q))
 cast_shape (references.br_on_cast_fail l r q) = plain (branch_checks l r q (difference r q)) (kept l (reference r)) (kept l (reference q))
 
--- External and unboxed references
+-- External and unboxed references: each type that is given is one that the features allow
+abbrev pub small_integer : Bool → Val ℕ
+small_integer shared = reference_to false (abstract_heap shared i31_heap)
+
+abbrev pub boxing : Needed → Bool → Shape
+boxing p shared = plain (has p ∷ allows (small_integer shared) ∷ []) (one i32) (one (small_integer shared))
+
 abbrev pub conversion_shape : ConversionOperator → Shape
-conversion_shape AnyConvertExtern = converting (has gc ∷ []) extern_heap any_heap
-conversion_shape ExternConvertAny = converting (has gc ∷ []) any_heap extern_heap
-conversion_shape RefI31 = plain (has gc ∷ []) (one i32) (one (reference_to false (abstract_heap false i31_heap)))
-conversion_shape RefI31Shared = plain (has shared_everything_threads ∷ []) (one i32) (one (reference_to false (abstract_heap true i31_heap)))
+conversion_shape AnyConvertExtern = converting (has gc ∷ allows (reference_to true (abstract_heap false any_heap)) ∷ []) extern_heap any_heap
+conversion_shape ExternConvertAny = converting (has gc ∷ allows (reference_to true (abstract_heap false extern_heap)) ∷ []) any_heap extern_heap
+conversion_shape RefI31 = boxing gc false
+conversion_shape RefI31Shared = boxing shared_everything_threads true
 conversion_shape I31GetS = measuring (has gc ∷ []) i31_heap (one i32)
 conversion_shape I31GetU = measuring (has gc ∷ []) i31_heap (one i32)
 
