@@ -5,7 +5,7 @@
 
 ghost use Rattle.wasm_operator_steps.specs.Laws.{StepsRename, NumericShapesByOpcode, VerdictsRename, ConstantsGiveReferences, WorldsAreRight};
 ghost use Rattle.wasm_operator_steps.specs.ControlExamples.{Blocks, NoBlocks, Branches, NoBranches, Calls, NoCalls, Exceptions, NoExceptions, Parametrics, NoParametrics, Variables, NoVariables, ControlNeedsFeatures, Constants, NoConstants, ConstantInstructions, NoConstantInstructions};
-ghost use Rattle.wasm_operator_steps.specs.HeapExamples.{Memories, NoMemories, Tables, NoTables, References, NoReferences, Casts, NoCasts, Conversions, NoConversions, Structures, NoStructures, Arrays, NoArrays, Descriptors, NoDescriptors, HeapNeedsFeatures};
+ghost use Rattle.wasm_operator_steps.specs.HeapExamples.{Memories, NoMemories, Tables, NoTables, References, NoReferences, Casts, NoCasts, Conversions, NoConversions, Structures, NoStructures, Arrays, NoArrays, Descriptors, NoDescriptors, MemoriesNeedFeatures, ReferencesNeedFeatures, AggregatesNeedFeatures};
 
 /// Steps over other identities of types are the same steps with each identity renamed, where the renaming keeps which
 /// are the same.
@@ -55,7 +55,9 @@ pub fn heap_examples()
     ensures no_arrays { NoArrays }
     ensures descriptors { Descriptors }
     ensures no_descriptors { NoDescriptors }
-    ensures heap_needs_features { HeapNeedsFeatures }
+    ensures memories_need_features { MemoriesNeedFeatures }
+    ensures references_need_features { ReferencesNeedFeatures }
+    ensures aggregates_need_features { AggregatesNeedFeatures }
 {}
 
 /// Numeric operators take and give what their opcodes say.
