@@ -7,7 +7,6 @@ pub mod Kept
 pub mod Bounds
 pub mod Listable
 pub mod NothingAdded
-pub mod OneId
 pub mod Interning
 pub mod Checked
 pub mod AddedGroups
