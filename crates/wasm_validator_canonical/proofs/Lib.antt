@@ -13,6 +13,7 @@ pub mod AddedGroups
 pub mod ValidAlone
 pub mod Standing
 pub mod Steps
+pub mod OwnIds
 pub mod Sections
 pub mod Arities
 pub mod NewIds

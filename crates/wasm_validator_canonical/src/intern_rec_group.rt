@@ -1,4 +1,4 @@
-ghost use Rattle.std.specs.Prelude.{◌≡◌, ◌<◌, ◌≤◌, ◌^◌, true, false, not, ◌||◌, map, length, is_ok, IfOk, OnOk, IsTrue};
+ghost use Rattle.std.specs.Prelude.{◌≡◌, ◌+◌, ◌<◌, ◌≤◌, ◌^◌, true, false, not, ◌||◌, map, length, is_ok, IfOk, OnOk, IsTrue};
 ghost use Rattle.std.specs.Bool.{Decides};
 ghost use Rattle.std.specs.List.{All};
 ghost use Rattle.wasm_spec.specs.Features.{canonical};
@@ -6,6 +6,7 @@ ghost use Rattle.wasm_rules.specs.FeatureFlags.{features_of};
 ghost use Rattle.wasm_readers_types.specs.declared.indices.TheConstants.{MAX_IDS};
 ghost use Rattle.wasm_readers_types.specs.declared.indices.CoreTypeId.{CoreTypeId};
 ghost use Rattle.wasm_readers_types.specs.SeenTypes.{sub_of, rec_of};
+ghost use Rattle.wasm_grouped_list.specs.Elements.{ids_left, numbers_from};
 ghost use Rattle.wasm_validator_type_list.specs.Listable.{IsListable};
 ghost use Rattle.wasm_validator_type_list.specs.Listing.{types_in};
 ghost use Rattle.wasm_validator_type_list.specs.Standing.{standing};
@@ -72,8 +73,8 @@ fn canonical_types<A: Allocator + Copy>(
 
 /// Adds the types of a recursion group that a module writes behind its types, which have these ids, to
 /// the list: each type index is resolved among the module's types and those of the group, and where
-/// equal types are one a group that the list has keeps its ids. The rules of each type are checked where
-/// the group is new. Answers the ids of the group's types. `offset` is where the group stands in the
+/// equal types are one a group that the list has keeps its ids; where they aren't, the group's types have
+/// the next ids. The rules of each type are checked where the group is new. Answers the ids of the group's types. `offset` is where the group stands in the
 /// input.
 ///
 /// Core Specification 3.0, Validation, Types (Recursive Types).
@@ -98,6 +99,8 @@ pub fn canonicalize_and_intern_rec_group<A: Allocator + Copy>(
     requires valid { AreValid (features_of features) (standing types.old.is_canonical types.old.groups) }
     ensures added { AddsIds (features_of features) result (with_written (features_of features) (standing types.old.is_canonical types.old.groups) (numbers ids.now) (rec_of group)) (standing types.new.is_canonical types.new.groups) (numbers ids.now) }
     ensures valid { OnOk result (AreValid (features_of features) (standing types.new.is_canonical types.new.groups)) }
+    ensures own_ids { canonical (features_of features) ≡ false → IfOk result (λ elements. ids_left elements ≡ numbers_from (length (types_in types.old)) (length group.types)) }
+    ensures grows { canonical (features_of features) ≡ false → OnOk result (length (types_in types.new) ≡ length (types_in types.old) + length group.types) }
     ensures same_open { types.new.is_open ≡ types.old.is_open }
     ensures same_mode { types.new.is_canonical ≡ types.old.is_canonical }
 {

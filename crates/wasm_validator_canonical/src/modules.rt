@@ -1,10 +1,12 @@
 //! Modules whose types are in a list of types.
 
-ghost use Rattle.std.specs.Prelude.{◌≡◌, ◌+◌, ◌<◌, ◌^◌, true, Some, length, slice_get, nat_lt, is_ok, IfOk, OnOk, IsTrue};
+ghost use Rattle.std.specs.Prelude.{◌≡◌, ◌+◌, ◌<◌, ◌^◌, ◌++◌, true, false, Some, length, slice_get, nat_lt, is_ok, IfOk, OnOk, IsTrue};
 ghost use Rattle.std.specs.List.{All};
 ghost use Rattle.wasm_spec.specs.Features.{canonical};
 ghost use Rattle.wasm_rules.specs.FeatureFlags.{features_of};
 ghost use Rattle.wasm_readers_types.specs.SeenTypes.{rec_of};
+ghost use Rattle.wasm_grouped_list.specs.Elements.{numbers_from};
+ghost use Rattle.wasm_validator_type_list.specs.Listing.{types_in};
 ghost use Rattle.wasm_validator_type_list.specs.Standing.{standing};
 ghost use Rattle.wasm_validator_canonical.specs.Groups.{has_form, AreValid, with_written};
 ghost use Rattle.wasm_validator_canonical.specs.Answers.{AddsGroup};
@@ -107,6 +109,8 @@ pub fn intern_rec_group_of<A: Allocator + Copy, M: InternRecGroup<A>>(
     requires valid { AreValid (features_of features) (standing types.old.is_canonical types.old.groups) }
     ensures added { AddsGroup (features_of features) result (with_written (features_of features) (standing types.old.is_canonical types.old.groups) (M.ids target.old) (rec_of group)) (standing types.new.is_canonical types.new.groups) (M.ids target.new) }
     ensures valid { OnOk result (AreValid (features_of features) (standing types.new.is_canonical types.new.groups)) }
+    ensures own_ids { canonical (features_of features) ≡ false → OnOk result (M.ids target.new ≡ M.ids target.old ++ numbers_from (length (types_in types.old)) (length group.types)) }
+    ensures grows { canonical (features_of features) ≡ false → OnOk result (length (types_in types.new) ≡ length (types_in types.old) + length group.types) }
     ensures others { M.others target.new ≡ M.others target.old }
     ensures same_open { types.new.is_open ≡ types.old.is_open }
     ensures same_mode { types.new.is_canonical ≡ types.old.is_canonical }
