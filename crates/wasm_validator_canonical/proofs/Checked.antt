@@ -38,7 +38,7 @@ too_many e = results.Err e
 
 module _ {A : Type 0} (F : Features) where
   -- the types of each group of a list of valid types keep the rules
-  group_valid : (c : Bool) (gs : List (List (SubType A))) (n : ℕ) → AreListable gs → (c ≡ true → AreOnce gs) → AreValid F (standing c gs) → IsValidGroupAt F gs n
+  pub group_valid : (c : Bool) (gs : List (List (SubType A))) (n : ℕ) → AreListable gs → (c ≡ true → AreOnce gs) → AreValid F (standing c gs) → IsValidGroupAt F gs n
   group_valid c gs n listable once v id i =
       let below = i.below in
       let within = first_of-within gs (n + 1) in

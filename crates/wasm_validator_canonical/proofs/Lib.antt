@@ -18,3 +18,4 @@ pub mod Sections
 pub mod Arities
 pub mod NewIds
 pub mod DepthsOfIds
+pub mod KeptDepths

@@ -8,7 +8,7 @@ ghost use Rattle.wasm_readers_types.specs.declared.indices.TheConstants.{MAX_IDS
 ghost use Rattle.wasm_readers_types.specs.declared.indices.CoreTypeId.{CoreTypeId};
 ghost use Rattle.wasm_readers_types.specs.SeenTypes.{sub_of, rec_of};
 ghost use Rattle.wasm_grouped_list.specs.Elements.{ids_left, numbers_from};
-ghost use Rattle.wasm_validator_type_list.specs.Listable.{IsListable};
+ghost use Rattle.wasm_validator_type_list.specs.Listable.{IsListable, AreListable};
 ghost use Rattle.wasm_validator_type_list.specs.Listing.{types_in};
 ghost use Rattle.wasm_validator_type_list.specs.Refused.{too_many_types};
 ghost use Rattle.wasm_validator_type_list.specs.Standing.{standing};
@@ -17,6 +17,7 @@ ghost use Rattle.wasm_validator_canonical.specs.Indices.{numbers, canonical_grou
 ghost use Rattle.wasm_validator_canonical.specs.Groups.{has_form, allows_written, closes, AreValid, with_written};
 ghost use Rattle.wasm_validator_canonical.specs.Answers.{AddsIds, Says, IsAt};
 ghost use Rattle.wasm_validator_canonical.specs.Refusals.{rec_without_gc, extends_many};
+ghost use Rattle.wasm_validator_canonical.specs.Depths.{KeepsDepth, StillKept};
 ghost use Rattle.wasm_validator_canonical.specs.Interned.{InternsValid};
 
 use crate::depths::keep_depths;
@@ -108,6 +109,8 @@ pub fn canonicalize_and_intern_rec_group<A: Allocator + Copy>(
     ensures valid { OnOk result (AreValid (features_of features) (standing types.new.is_canonical types.new.groups)) }
     ensures own_ids { canonical (features_of features) ≡ false → IfOk result (λ elements. ids_left elements ≡ numbers_from (length (types_in types.old)) (length group.types)) }
     ensures grows { canonical (features_of features) ≡ false → OnOk result (length (types_in types.new) ≡ length (types_in types.old) + length group.types) }
+    ensures depths { IfOk result (λ elements. All (KeepsDepth types.new) (ids_left elements)) }
+    ensures earlier_depths { OnOk result (StillKept types.old types.new) }
     ensures limit { MAX_IDS < length (types_in types.old) + length group.types → result ≡ Err (Error.Refused (too_many_types offset)) }
     ensures written { length (types_in types.old) + length group.types ≤ MAX_IDS → allows_written (features_of features) (rec_of group) ≡ false → result ≡ Err (Error.Refused (rec_without_gc offset)) }
     ensures same_open { types.new.is_open ≡ types.old.is_open }
@@ -160,6 +163,7 @@ fn intern<A: Allocator + Copy>(
     requires listable { IsListable (length (types_in types.old)) group.types }
     requires valid { AreValid (features_of features) (standing types.old.is_canonical types.old.groups) }
     ensures interned { InternsValid (features_of features) result types.old types.new group.types }
+    ensures listable { OnOk result (AreListable types.new.groups) }
     ensures same_open { types.new.is_open ≡ types.old.is_open }
     ensures same_mode { types.new.is_canonical ≡ types.old.is_canonical }
 {
