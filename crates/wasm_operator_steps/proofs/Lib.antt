@@ -1,5 +1,6 @@
 pub mod ControlRuns
 pub mod HeapRuns
+pub mod SharedRuns
 pub mod Attempts
 pub mod WorldsRenamed
 pub mod MatchingRenamed

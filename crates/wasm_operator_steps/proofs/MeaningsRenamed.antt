@@ -3,17 +3,18 @@ use Rattle.std.proofs.Common.{◌≡◌, refl, sym, ap, ◌∙◌, ℕ, zero, su
 use Rattle.std.proofs.lemmas.List.{length-map, map-append}
 use Rattle.std.proofs.lemmas.Option.{slice_get-map}
 use Rattle.wasm_spec.specs.Syntax.{AbstractHeap, eq_heap, Heap, abstract_heap, concrete, exact, Ref, Val, i32, i64, f32, f64, v128, reference, Storage, i8, i16, unpacked, Field, Comp, func, array, struct, cont, Table, map_heap, map_ref, map_val, map_storage, map_field, map_comp, map_sub, map_table, map_global}
+use Rattle.wasm_spec.specs.ValueTypes.{implies}
 use Rattle.wasm_spec.specs.Matching.{top_of_heap, is_shared_heap}
 use Rattle.wasm_spec.specs.MatchingTests.{same_flag}
 use Rattle.wasm_spec.specs.MatchingTests.{World}
 use Rattle.wasm_spec.specs.MatchingTests.{matches_heap}
 use Rattle.wasm_operators.specs.Control.{Block, empty_block, value_block, func_block}
 use Rattle.wasm_operators.specs.Maps.{map_block}
-use Rattle.wasm_operator_steps.specs.Attempts.{guard, among, passes, last_of, front_of, list_of}
+use Rattle.wasm_operator_steps.specs.Attempts.{◌>>=◌, guard, among, passes, last_of, front_of, list_of}
 use Rattle.wasm_operator_steps.specs.Matching.{matches_vals, matches_storage}
 use Rattle.wasm_operator_steps.specs.Bodies.{Surroundings, map_local, map_surroundings}
 use Rattle.wasm_operator_steps.specs.Machine.{Operand, bottom, bottom_reference, open_reference, known, Kind, block_kind, loop_kind, if_kind, else_kind, try_table_kind, Frame, State, map_operand, map_frame, map_state, map_popped, push_operand, push_vals, pop_any, pop_reference, same_number, chosen, become_unreachable, push_frame, set_local, pop_vals}
-use Rattle.wasm_operator_steps.specs.Actions.{Signed, of_type, of_function, of_tag, Types, these, params, results, label, returned, local, global, function_reference, new_reference, fields, element, field, table_address, memory_address, table_element, segment, lesser_table_address, lesser_memory_address, top, descriptor_of, repeated, front, last, joined, Check, has, allows, global_is_mutable, local_is_set, function_is_referenced, is_exception, each_matches, may_be_cast, can_be_tested, is_aligned, fields_have_defaults, has_no_descriptor, field_is_mutable, field_is_packed, element_is_mutable, element_has_default, element_is_number, element_is_packed, element_is_storable, data_is_there, segment_is_there, Action, need, refuse, take, give, take_any, take_reference, take_comparable, make_non_null, choose, stop, turn_to_else, leave, take_below, convert, enter, set, branch_on_null, branch_to_one_of}
+use Rattle.wasm_operator_steps.specs.Actions.{Signed, of_type, of_function, of_tag, Types, these, params, results, label, returned, local, global, function_reference, new_reference, fields, element, field, table_address, memory_address, table_element, segment, lesser_table_address, lesser_memory_address, top, descriptor_of, repeated, front, last, joined, Check, has, allows, global_is_mutable, local_is_set, function_is_referenced, is_exception, each_matches, may_be_cast, can_be_tested, is_aligned, fields_have_defaults, has_no_descriptor, field_is_mutable, field_is_packed, element_is_mutable, element_has_default, element_is_number, element_is_packed, element_is_storable, data_is_there, segment_is_there, reaches_global, reaches_table, reaches_type, reaches_function, Action, need, refuse, take, give, take_any, take_reference, take_comparable, make_non_null, choose, stop, turn_to_else, leave, take_below, convert, enter, set, branch_on_null, branch_to_one_of}
 use Rattle.wasm_operator_steps.specs.Meanings.{Signature, ref_to, resolve_heap, resolve_ref, resolve_val, resolve_vals, resolve_block, signature_of, fields_of, element_of, unpack, unpack_field, is_packed, has_default, all_have_defaults, copies, one, is_of_continuations, address, both, label_by, sub_at, comp_at, type_signature, block_signature, frame_signature, label_at, returned_at, signature_at, fields_at, element_at, field_at, exact_if, function_heap, descriptor_at, top_heap, table_is_64, memory_is_64, types_at, casts, holds, is_below_either, agree, converted, pop_frame, may_end, leave_in, turn_in, labels_fit, act, run}
 use Rattle.wasm_operator_steps.specs.Renaming.{Renames}
 use Rattle.wasm_operator_steps.proofs.Attempts.{bind-map, bind-same, then-map, passes-map, guard-map, is_some-map, last_of-map, front_of-map}
@@ -279,6 +280,11 @@ module _ {R S : Type 0} (f : R → S) (W : World R) (V : World S) (h : Renames f
       (element_at W B m) (element_at-map m)
   holds-map s (data_is_there n) = refl
   holds-map s (segment_is_there n) = ap is_some (slice_get-map (map_ref f) B.context.elements n) ∙ is_some-map (map_ref f) (slice_get B.context.elements n)
+  holds-map s (reaches_global n) = ap (implies B.shared) (passes-map (map_global f) _ _ (λ g. refl) (slice_get B.context.globals n) (slice_get-map (map_global f) B.context.globals n))
+  holds-map s (reaches_table n) = ap (implies B.shared) (passes-map (map_table f) _ _ (λ t. refl) (slice_get B.context.tables n) (slice_get-map (map_table f) B.context.tables n))
+  holds-map s (reaches_type n) = ap (implies B.shared) (passes-map (map_sub f) _ _ (λ d. refl) (sub_at W B n) (sub_at-map n))
+  holds-map s (reaches_function n) =
+      ap (implies B.shared) (passes-map (map_sub f) _ _ (λ d. refl) (slice_get B.context.functions n >>= sub_at W B) (bind-same (map_sub f) (sub_at W B) (sub_at V N) sub_at-map (slice_get B.context.functions n)))
 
   is_below_either-map : (k : AbstractHeap) (x : Operand R) → is_below_either V N k (map_operand f x) ≡ is_below_either W B k x
   is_below_either-map k (known (reference r)) =

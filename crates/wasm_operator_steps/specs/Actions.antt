@@ -40,7 +40,7 @@ pub data Needed : Type 0 where
 -- to another; references of its hierarchy can be tested, which those to continuations can't; a load or a store may have its memory
 -- argument; all fields of a structure have a default, and it has no descriptor; a field is mutable, and is packed or isn't; the same of
 -- an array's elements, and they are numbers or vectors; the elements of one array may be stored in another; a data segment or an element
--- segment is there.
+-- segment is there; a global, a table, a type, or the type of a function is shared, where the body is that of a shared function.
 pub data Check : Type 0 where
   has : Needed → Check
   allows : Val ℕ → Check
@@ -56,6 +56,7 @@ pub data Check : Type 0 where
   element_is_packed : Bool → ℕ → Check
   element_is_storable : ℕ → ℕ → Check
   data_is_there segment_is_there : ℕ → Check
+  reaches_global reaches_table reaches_type reaches_function : ℕ → Check
 
 -- Actions:
 -- go on only where a check holds, or not at all; take operands of these types, or give them; take any operand; take a reference; take a

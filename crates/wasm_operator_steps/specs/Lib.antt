@@ -14,3 +14,4 @@ pub mod Laws
 pub mod Samples
 pub mod ControlExamples
 pub mod HeapExamples
+pub mod SharedExamples

@@ -4,7 +4,7 @@ use Rattle.std.specs.Prelude.{ℕ, zero, suc, Bool, true, false, not, ◌&&◌, 
 use Rattle.std.specs.Option.{option_map}
 use Rattle.wasm_spec.specs.Syntax.{AbstractHeap, eq_heap, cont_heap, Heap, abstract_heap, concrete, exact, Ref, Val, i32, i64, f32, f64, v128, reference, Storage, i8, i16, unpacked, Field, Comp, func, array, struct, Sub, Memory}
 use Rattle.wasm_spec.specs.Features.{Features}
-use Rattle.wasm_spec.specs.ValueTypes.{allows_val}
+use Rattle.wasm_spec.specs.ValueTypes.{implies, allows_val}
 use Rattle.wasm_spec.specs.Matching.{top_of_heap, is_shared_heap}
 use Rattle.wasm_spec.specs.MatchingTests.{same_flag, same_abstract}
 use Rattle.wasm_spec.specs.MatchingTests.{World}
@@ -17,7 +17,7 @@ use Rattle.wasm_operator_steps.specs.Attempts.{◌>>=◌, guard, passes, among, 
 use Rattle.wasm_operator_steps.specs.Matching.{matches_vals, matches_storage}
 use Rattle.wasm_operator_steps.specs.Bodies.{Surroundings}
 use Rattle.wasm_operator_steps.specs.Machine.{Operand, bottom_reference, open_reference, known, Kind, loop_kind, if_kind, else_kind, is_if, Frame, State, push_operand, push_vals, pop_any, pop_reference, non_null, same_number, chosen, become_unreachable, push_frame, set_local, pop_vals}
-use Rattle.wasm_operator_steps.specs.Actions.{Signed, of_type, of_function, of_tag, Types, these, params, results, label, returned, local, global, function_reference, new_reference, fields, element, field, table_address, memory_address, table_element, segment, lesser_table_address, lesser_memory_address, top, descriptor_of, repeated, front, last, joined, Needed, multi_value, reference_types, bulk_memory, exceptions, function_references, gc, shared_everything_threads, custom_descriptors, Check, has, allows, global_is_mutable, local_is_set, function_is_referenced, is_exception, each_matches, may_be_cast, can_be_tested, is_aligned, fields_have_defaults, has_no_descriptor, field_is_mutable, field_is_packed, element_is_mutable, element_has_default, element_is_number, element_is_packed, element_is_storable, data_is_there, segment_is_there, Action, need, refuse, take, give, take_any, take_reference, take_comparable, make_non_null, choose, stop, turn_to_else, leave, take_below, convert, enter, set, branch_on_null, branch_to_one_of}
+use Rattle.wasm_operator_steps.specs.Actions.{Signed, of_type, of_function, of_tag, Types, these, params, results, label, returned, local, global, function_reference, new_reference, fields, element, field, table_address, memory_address, table_element, segment, lesser_table_address, lesser_memory_address, top, descriptor_of, repeated, front, last, joined, Needed, multi_value, reference_types, bulk_memory, exceptions, function_references, gc, shared_everything_threads, custom_descriptors, Check, has, allows, global_is_mutable, local_is_set, function_is_referenced, is_exception, each_matches, may_be_cast, can_be_tested, is_aligned, fields_have_defaults, has_no_descriptor, field_is_mutable, field_is_packed, element_is_mutable, element_has_default, element_is_number, element_is_packed, element_is_storable, data_is_there, segment_is_there, reaches_global, reaches_table, reaches_type, reaches_function, Action, need, refuse, take, give, take_any, take_reference, take_comparable, make_non_null, choose, stop, turn_to_else, leave, take_below, convert, enter, set, branch_on_null, branch_to_one_of}
 
 -- what goes in, and what comes out
 pub record Signature (R : Type 0) : Type 0 where
@@ -253,6 +253,10 @@ module _ {R : Type 0} (W : World R) (B : Surroundings R) where
   holds s (element_is_storable m n) = passes (λ x. passes (λ y. matches_storage W x.storage y.storage) (element_at n)) (element_at m)
   holds s (data_is_there n) = passes (nat_lt n) B.context.data_count
   holds s (segment_is_there n) = is_some (slice_get B.context.elements n)
+  holds s (reaches_global n) = implies B.shared (passes (λ g. g.shared) (slice_get B.context.globals n))
+  holds s (reaches_table n) = implies B.shared (passes (λ t. t.shared) (slice_get B.context.tables n))
+  holds s (reaches_type n) = implies B.shared (passes (λ d. d.shared) (sub_at n))
+  holds s (reaches_function n) = implies B.shared (passes (λ d. d.shared) (slice_get B.context.functions n >>= sub_at))
 
   -- a reference below an abstract heap type, shared or not
   abbrev pub is_below_either : AbstractHeap → Operand R → Bool

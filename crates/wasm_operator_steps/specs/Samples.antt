@@ -86,7 +86,7 @@ locals = locals_of (ref (concrete 15) ∷ []) (i32 ∷ ref (concrete 15) ∷ [])
 
 -- with these features; with all but descriptors; with all; and with none
 abbrev pub sample : Features → Surroundings ℕ
-sample F = record { features = F; context = context; locals = locals }
+sample F = record { features = F; context = context; locals = locals; shared = false }
 
 abbrev pub without_descriptors : Features
 without_descriptors = record (features true) { custom_descriptors = false }

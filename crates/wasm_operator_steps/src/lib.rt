@@ -6,6 +6,7 @@
 ghost use Rattle.wasm_operator_steps.specs.Laws.{StepsRename, NumericShapesByOpcode, VerdictsRename, ConstantsGiveReferences, WorldsAreRight};
 ghost use Rattle.wasm_operator_steps.specs.ControlExamples.{Blocks, NoBlocks, Branches, NoBranches, Calls, NoCalls, Exceptions, NoExceptions, Parametrics, NoParametrics, Variables, NoVariables, ControlNeedsFeatures, Constants, NoConstants, ConstantInstructions, NoConstantInstructions};
 ghost use Rattle.wasm_operator_steps.specs.HeapExamples.{Memories, NoMemories, Tables, NoTables, References, NoReferences, Casts, NoCasts, Conversions, NoConversions, Structures, NoStructures, Arrays, NoArrays, Descriptors, NoDescriptors, MemoriesNeedFeatures, ReferencesNeedFeatures, AggregatesNeedFeatures};
+ghost use Rattle.wasm_operator_steps.specs.SharedExamples.{ReachesGlobalsAndTables, ReachesFunctions, ReachesStructures, ReachesArrays, ReachesTheRest};
 
 /// Steps over other identities of types are the same steps with each identity renamed, where the renaming keeps which
 /// are the same.
@@ -58,6 +59,16 @@ pub fn heap_examples()
     ensures memories_need_features { MemoriesNeedFeatures }
     ensures references_need_features { ReferencesNeedFeatures }
     ensures aggregates_need_features { AggregatesNeedFeatures }
+{}
+
+/// Bodies of shared functions, which reach only what is shared, and of functions that are not.
+#[tactic(auto, using(crate::proofs::SharedRuns::shared_runs))]
+pub fn shared_examples()
+    ensures globals_and_tables { ReachesGlobalsAndTables }
+    ensures functions { ReachesFunctions }
+    ensures structures { ReachesStructures }
+    ensures arrays { ReachesArrays }
+    ensures the_rest { ReachesTheRest }
 {}
 
 /// Numeric operators take and give what their opcodes say.
