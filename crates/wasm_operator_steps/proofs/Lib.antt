@@ -12,3 +12,5 @@ pub mod SyntaxAgrees
 pub mod VerdictsRenamed
 pub mod ConstantReferences
 pub mod WorldsDecided
+pub mod TakenInTurn
+pub mod EqualTypesMatch

@@ -4,6 +4,7 @@
 #![tactic(auto)]
 
 ghost use Rattle.wasm_operator_steps.specs.Laws.{StepsRename, NumericShapesByOpcode, VerdictsRename, ConstantsGiveReferences, WorldsAreRight};
+ghost use Rattle.wasm_operator_steps.specs.StackLaws.{ListsAreTakenInTurn, TakingKeepsFrames, TypesAreTakenInTurn, UnreachedCodeTakesAnything, EqualTypesMatch, EqualTypesMatchInContexts, ActionsAreRunInTurn};
 ghost use Rattle.wasm_operator_steps.specs.ControlExamples.{Blocks, NoBlocks, Branches, NoBranches, Calls, NoCalls, Exceptions, NoExceptions, Parametrics, NoParametrics, Variables, NoVariables, ControlNeedsFeatures, Constants, NoConstants, ConstantInstructions, NoConstantInstructions};
 ghost use Rattle.wasm_operator_steps.specs.HeapExamples.{Memories, NoMemories, Tables, NoTables, References, NoReferences, Casts, NoCasts, Conversions, NoConversions, Structures, NoStructures, Arrays, NoArrays, Descriptors, NoDescriptors, MemoriesNeedFeatures, ReferencesNeedFeatures, AggregatesNeedFeatures};
 ghost use Rattle.wasm_operator_steps.specs.SharedExamples.{ReachesGlobalsAndTables, ReachesFunctions, ReachesStructures, ReachesArrays, ReachesTheRest};
@@ -95,4 +96,27 @@ pub fn constants_give_references<R>()
 #[tactic(auto, using(crate::proofs::WorldsDecided::worlds_are_right))]
 pub fn worlds_are_right<R>()
     ensures right { WorldsAreRight R }
+{}
+
+/// Two lists, or a list and its last item, are taken and given in turn, and only operands change. In code that is not
+/// reached anything can be taken at the height of the frame.
+#[tactic(auto, using(crate::proofs::TakenInTurn::taken_in_turn))]
+pub fn operands_are_taken_in_turn<R>()
+    ensures lists { ListsAreTakenInTurn R }
+    ensures frames { TakingKeepsFrames R }
+    ensures types { TypesAreTakenInTurn R }
+    ensures unreached { UnreachedCodeTakesAnything R }
+{}
+
+/// Actions and steps one behind the other are run in turn, and where the first are refused so is all of the run.
+#[tactic(auto, using(crate::proofs::TakenInTurn::actions_are_run_in_turn))]
+pub fn actions_are_run_in_turn<R>()
+    ensures { ActionsAreRunInTurn R }
+{}
+
+/// Equal types match, in each world in which each identity is below itself and the same as itself, and in each context.
+#[tactic(auto, using(crate::proofs::EqualTypesMatch::themselves))]
+pub fn equal_types_match<R>()
+    ensures worlds { EqualTypesMatch R }
+    ensures contexts { EqualTypesMatchInContexts R }
 {}
