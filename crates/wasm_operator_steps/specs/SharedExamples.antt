@@ -19,18 +19,18 @@ use Rattle.wasm_flat_operators.specs.declared.arrays.ArrayOperator.TheVariants.{
 use Rattle.wasm_operator_steps.specs.Steps.{is_typed_body}
 use Rattle.wasm_operator_steps.specs.Samples.{ref_null, ref_of, field_of, declares, table_of, global_of, context, locals, an_i32, dropped, trap, closed, in_block, all_pass}
 
-abbrev pub is_shared : Comp ℕ → Sub ℕ
-is_shared c = record { is_final = true; supers = []; shared = true; comp = c; descriptor = None; describes = None }
+abbrev pub shared_type : Comp ℕ → Sub ℕ
+shared_type c = record { is_final = true; supers = []; shared = true; comp = c; descriptor = None; describes = None }
 
 -- Under the identity 10 + x the shared type of index x: a function, 14; a structure, 15; arrays of mutable numbers, of mutable references
 -- and of immutable bytes, 16 to 18; and a structure with its descriptor, 19 and 20.
 abbrev pub shared_declares : List (ℕ × Sub ℕ)
 shared_declares =
-    (24, is_shared (func [] [])) ∷
-    (25, is_shared (struct (field_of true (unpacked i32) ∷ field_of false i8 ∷ []))) ∷
-    (26, is_shared (syntax.array (field_of true (unpacked i32)))) ∷
-    (27, is_shared (syntax.array (field_of true (unpacked (ref_null (concrete 25)))))) ∷
-    (28, is_shared (syntax.array (field_of false i8))) ∷
+    (24, shared_type (func [] [])) ∷
+    (25, shared_type (struct (field_of true (unpacked i32) ∷ field_of false i8 ∷ []))) ∷
+    (26, shared_type (syntax.array (field_of true (unpacked i32)))) ∷
+    (27, shared_type (syntax.array (field_of true (unpacked (ref_null (concrete 25)))))) ∷
+    (28, shared_type (syntax.array (field_of false i8))) ∷
     (29, record { is_final = true; supers = []; shared = true; comp = struct []; descriptor = Some 30; describes = None }) ∷
     (30, record { is_final = true; supers = []; shared = true; comp = struct []; descriptor = None; describes = Some 29 }) ∷ []
 
