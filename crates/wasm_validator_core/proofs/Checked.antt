@@ -1,5 +1,5 @@
 -- What accepted items say of their type indices.
-use Rattle.std.proofs.Common.{◌≡◌, sym, ap, subst, ◌∙◌, ℕ, ◌<◌, Bool, true, false, ◌&&◌, List, length, slice_get, Option, Some, None, is_some, IsTrue, true≢false, arith, All}
+use Rattle.std.proofs.Common.{◌≡◌, sym, ℕ, ◌<◌, Bool, true, ◌&&◌, List, length, slice_get, Option, Some, None, is_some, IsTrue, true≢false}
 use Rattle.std.proofs.lemmas.Option.{slice_get_within}
 use Rattle.wasm_spec.specs.Syntax.{Table, Global, Extern, func_extern, func_exact_extern, table_extern, memory_extern, global_extern, tag_extern}
 use Rattle.wasm_spec.specs.Features.{Features}

@@ -1,17 +1,13 @@
 -- What one item of a section changes: the machine that a module's state is.
-use Rattle.std.specs.Prelude.{ℕ, ◌+◌, ◌==◌, nat_lt, nat_le, not, ◌&&◌, if◌then◌else◌, List, [], ◌∷◌, ◌++◌, length, slice_get, slice_index, Option, Some, None}
+use Rattle.std.specs.Prelude.{ℕ, ◌+◌, nat_le, if◌then◌else◌, List, length, slice_get, Option, Some, None}
 use Rattle.std.specs.Option.{option_map, option_and_then}
-use Rattle.wasm_spec.specs.Syntax.{Comp, func, array, struct, cont, Sub, Rec, Extern, func_extern, func_exact_extern, table_extern, memory_extern, global_extern, tag_extern}
-use Rattle.wasm_spec.specs.BinaryModules.{Import, Export}
+use Rattle.wasm_spec.specs.Syntax.{Comp, func, array, struct, cont, Sub, Rec}
 use Rattle.wasm_rules.specs.FeatureFlags.{features_of}
 use Rattle.wasm_readers_types.specs.declared.indices.UnpackedIndex.{UnpackedIndex}
 use Rattle.wasm_readers_errors.specs.declared.features.WasmFeatures.{WasmFeatures}
-use Rattle.wasm_validator_canonical.specs.Arities.{arity_at}
 use Rattle.wasm_validator_canonical.specs.Groups.{with_written}
-use Rattle.wasm_validator_types.specs.Spaces.{Spaces, with_import, is_exported}
-use Rattle.wasm_validator_types.specs.declared.entity_type.EntityType.{EntityType}
-use Rattle.wasm_validator_types.specs.declared.entity_type.EntityType.TheVariants.{Func}
-use Rattle.wasm_validator_core.specs.declared.limits.TheConstants.{MAX_TYPES, MAX_FUNCTIONS, MAX_EFFECTIVE_SIZE}
+use Rattle.wasm_validator_types.specs.Spaces.{Spaces}
+use Rattle.wasm_validator_core.specs.declared.limits.TheConstants.{MAX_TYPES}
 use Rattle.wasm_validator_core.specs.Answers.{Types}
 
 -- a list of types with those of a group that a module writes, and the ids of the module's types

@@ -16,6 +16,8 @@ ghost use Rattle.wasm_validator_types.specs.Entities.{entity_of};
 ghost use Rattle.wasm_validator_types.specs.Shown.{types_of};
 ghost use Rattle.wasm_validator_core.specs.Items.{entity, entity_size, grown};
 ghost use Rattle.wasm_validator_core.specs.Ready.{AreHeld, AreSmall, IsTyped};
+ghost use Rattle.wasm_readers_errors.specs.Refusals.{refused};
+ghost use Rattle.wasm_item_checks.specs.Told.{told_of_extern};
 
 use crate::limits::MAX_EFFECTIVE_SIZE;
 use crate::signatures::function_arity;
@@ -113,6 +115,7 @@ pub(crate) fn listed_type_ref<A: Allocator + Copy>(
     ensures listed { IfOk result (λ r. extern_of r ≡ map_extern (canonical_index (numbers ids.now)) (extern_of ty)) }
     ensures typed { IfOk result (λ r. IsTyped (length ids.now) (extern_of r)) }
     ensures refusal { IfErr result (IsRefusalAt features offset) }
+    ensures told { refused result ≡ told_of_extern features offset (module_types list.now ids.now) (extern_of ty) }
 {
     check_type_ref(features, list, ids, ty, offset)?;
     match ty {

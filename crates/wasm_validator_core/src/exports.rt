@@ -11,6 +11,8 @@ ghost use Rattle.wasm_validator_types.specs.Shown.{types_of};
 ghost use Rattle.wasm_validator_core.specs.Errors.{IsAt};
 ghost use Rattle.wasm_validator_core.specs.Answers.{Adds};
 ghost use Rattle.wasm_validator_core.specs.Items.{exported_function, exported_table, exported_memory, exported_global, exported_tag, exported_entity, with_export, add_export};
+ghost use Rattle.wasm_validator_core.specs.Told.{TellsExport, told_of_size, told_of_entity_there, told_of_entity};
+ghost use Rattle.wasm_readers_errors.specs.Refusals.{refused};
 
 use crate::entities::size_with;
 use crate::error::Error;
@@ -93,6 +95,7 @@ pub(crate) fn exported<A: Allocator + Copy>(
     ensures ok { IfOk result (λ e. exported_entity (features_of features) spaces.now (export_of export.now) ≡ Some (entity_of e)) }
     ensures err { OnErr result (exported_entity (features_of features) spaces.now (export_of export.now) ≡ None) }
     ensures place { IfErr result (IsPlainRefusalAt offset) }
+    ensures told { refused result ≡ told_of_entity_there offset export.now.kind export.now.index (exported_entity (features_of features) spaces.now (export_of export.now)) }
 {
     let index = export.index;
     let (kind, entity) = match export.kind {
@@ -120,6 +123,7 @@ fn name_export<A: Allocator + Copy>(
     ensures added { Adds result (with_export (types_of list.now) name.now (entity_of entity) spaces.old) spaces.new }
     ensures types { spaces.new.types ≡ spaces.old.types }
     ensures place { IfErr result (IsAt offset) }
+    ensures told { TellsExport spaces.old name.now offset result (told_of_size offset (types_of list.now) spaces.old.size (entity_of entity)) }
 {
     let Some(size) = size_with(list, spaces.effective_size(), entity) else {
         return Err(Error::new(Fault::Rule(Rule::EffectiveSize), offset));
@@ -145,6 +149,7 @@ pub(crate) fn add_one_export<A: Allocator + Copy>(
     ensures added { Adds result (add_export (features_of features) (types_of list.now) spaces.old (export_of export.now)) spaces.new }
     ensures types { spaces.new.types ≡ spaces.old.types }
     ensures place { IfErr result (IsAt offset) }
+    ensures told { TellsExport spaces.old export.now.name.now offset result (told_of_entity features offset (types_of list.now) spaces.old export.now.kind export.now.index (exported_entity (features_of features) spaces.old (export_of export.now))) }
 {
     let entity = exported(features, spaces, export, offset)?;
     if let EntityType::Global(global) = entity {

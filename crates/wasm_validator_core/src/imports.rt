@@ -10,6 +10,7 @@ ghost use Rattle.wasm_validator_core.specs.Errors.{IsAt};
 ghost use Rattle.wasm_validator_core.specs.Answers.{Adds};
 ghost use Rattle.wasm_validator_core.specs.Items.{with_imported, with_named, add_import};
 ghost use Rattle.wasm_validator_core.specs.Ready.{AreHeld, IsTyped};
+ghost use Rattle.wasm_validator_core.specs.Told.{Tells, told_of_imported, told_of_size, told_of_import};
 
 use crate::entities::{entity_type, known_ids, listed_type_ref, size_with};
 use crate::error::Error;
@@ -30,7 +31,9 @@ fn place_imported<A: Allocator + Copy>(
     requires { IsTyped (length spaces.old.types) (extern_of ty) }
     ensures added { Adds result (with_imported (features_of features) spaces.old (extern_of ty)) spaces.new }
     ensures types { spaces.new.types ≡ spaces.old.types }
+    ensures size { spaces.new.size ≡ spaces.old.size }
     ensures place { IfErr result (IsAt offset) }
+    ensures told { Tells result (told_of_imported features offset spaces.old (extern_of ty)) }
 {
     match ty {
         TypeRef::Func(index) => {
@@ -61,6 +64,7 @@ fn name_import<A: Allocator + Copy>(
     ensures added { Adds result (with_named (types_of list.now) (import_of import.now) (entity_of entity) spaces.old) spaces.new }
     ensures types { spaces.new.types ≡ spaces.old.types }
     ensures place { IfErr result (IsAt offset) }
+    ensures told { Tells result (told_of_size offset (types_of list.now) spaces.old.size (entity_of entity)) }
 {
     let Some(size) = size_with(list, spaces.effective_size(), entity) else {
         return Err(Error::new(Fault::Rule(Rule::EffectiveSize), offset));
@@ -82,6 +86,7 @@ pub(crate) fn add_one_import<A: Allocator + Copy>(
     ensures added { Adds result (add_import (features_of features) (types_of list.now) spaces.old (import_of import.now)) spaces.new }
     ensures types { spaces.new.types ≡ spaces.old.types }
     ensures place { IfErr result (IsAt offset) }
+    ensures told { Tells result (told_of_import features offset (types_of list.now) spaces.old (import_of import.now)) }
 {
     let ty = listed_type_ref(features, list, known_ids(list, spaces), import.ty, offset)?;
     if let TypeRef::Global(global) = import.ty {

@@ -9,6 +9,7 @@ ghost use Rattle.wasm_validator_core.specs.Errors.{IsAt};
 ghost use Rattle.wasm_validator_core.specs.Answers.{Adds};
 ghost use Rattle.wasm_validator_core.specs.Items.{with_function, with_table, with_memory, with_imported_global, with_tag, add_function, add_table, add_memory, add_tag};
 ghost use Rattle.wasm_validator_core.specs.Ready.{AreHeld};
+ghost use Rattle.wasm_validator_core.specs.Told.{Tells, told_of_limit, told_of_table_limit, told_of_memory_limit, told_of_added_function, told_of_added_table, told_of_added_memory, told_of_added_tag};
 
 use crate::entities::{known_ids, listed_table};
 use crate::error::Error;
@@ -27,7 +28,9 @@ pub(crate) fn place_function<A: Allocator + Copy>(
     requires { type_index < length spaces.old.types }
     ensures added { Adds result (with_function spaces.old type_index) spaces.new }
     ensures types { spaces.new.types ≡ spaces.old.types }
+    ensures size { spaces.new.size ≡ spaces.old.size }
     ensures place { IfErr result (IsAt offset) }
+    ensures told { Tells result (told_of_limit offset Counted.Functions (length spaces.old.functions) MAX_FUNCTIONS) }
 {
     let count = spaces.function_count() as usize;
     check_max(count, 1, MAX_FUNCTIONS, Counted::Functions, offset)?;
@@ -44,7 +47,9 @@ pub(crate) fn place_table<A: Allocator + Copy>(
 ) -> Result<(), Error<A>>
     ensures added { Adds result (with_table (features_of features) spaces.old (table_of ty)) spaces.new }
     ensures types { spaces.new.types ≡ spaces.old.types }
+    ensures size { spaces.new.size ≡ spaces.old.size }
     ensures place { IfErr result (IsAt offset) }
+    ensures told { Tells result (told_of_table_limit features offset spaces.old) }
 {
     let count = spaces.table_count() as usize;
     check_max(count, 1, max_tables(features), Counted::Tables, offset)?;
@@ -61,7 +66,9 @@ pub(crate) fn place_memory<A: Allocator + Copy>(
 ) -> Result<(), Error<A>>
     ensures added { Adds result (with_memory (features_of features) spaces.old (memory_of ty)) spaces.new }
     ensures types { spaces.new.types ≡ spaces.old.types }
+    ensures size { spaces.new.size ≡ spaces.old.size }
     ensures place { IfErr result (IsAt offset) }
+    ensures told { Tells result (told_of_memory_limit features offset spaces.old) }
 {
     let count = spaces.memory_count() as usize;
     check_max(count, 1, max_memories(features), Counted::Memories, offset)?;
@@ -77,7 +84,9 @@ pub(crate) fn place_imported_global<A: Allocator + Copy>(
 ) -> Result<(), Error<A>>
     ensures added { Adds result (with_imported_global spaces.old (global_of ty)) spaces.new }
     ensures types { spaces.new.types ≡ spaces.old.types }
+    ensures size { spaces.new.size ≡ spaces.old.size }
     ensures place { IfErr result (IsAt offset) }
+    ensures told { Tells result (told_of_limit offset Counted.Globals (length spaces.old.globals) MAX_GLOBALS) }
 {
     let count = spaces.global_count() as usize;
     check_max(count, 1, MAX_GLOBALS, Counted::Globals, offset)?;
@@ -94,7 +103,9 @@ pub(crate) fn place_tag<A: Allocator + Copy>(
     requires { type_index < length spaces.old.types }
     ensures added { Adds result (with_tag spaces.old type_index) spaces.new }
     ensures types { spaces.new.types ≡ spaces.old.types }
+    ensures size { spaces.new.size ≡ spaces.old.size }
     ensures place { IfErr result (IsAt offset) }
+    ensures told { Tells result (told_of_limit offset Counted.Tags (length spaces.old.tags) MAX_TAGS) }
 {
     let count = spaces.tag_count() as usize;
     check_max(count, 1, MAX_TAGS, Counted::Tags, offset)?;
@@ -113,6 +124,7 @@ pub(crate) fn add_defined_function<A: Allocator + Copy>(
     ensures added { Adds result (add_function (types_of list.now) spaces.old type_index) spaces.new }
     ensures types { spaces.new.types ≡ spaces.old.types }
     ensures place { IfErr result (IsAt offset) }
+    ensures told { Tells result (told_of_added_function offset (types_of list.now) spaces.old type_index) }
 {
     func_type_at(list, known_ids(list, spaces), type_index, offset)?;
     place_function(spaces, type_index, offset)
@@ -130,6 +142,7 @@ pub(crate) fn add_defined_table<A: Allocator + Copy>(
     ensures added { Adds result (add_table (features_of features) (types_of list.now) spaces.old (table_of ty)) spaces.new }
     ensures types { spaces.new.types ≡ spaces.old.types }
     ensures place { IfErr result (IsAt offset) }
+    ensures told { Tells result (told_of_added_table features offset (types_of list.now) spaces.old (table_of ty)) }
 {
     let ids = known_ids(list, spaces);
     check_defined_table(features, list, ids, ty, false, offset)?;
@@ -147,6 +160,7 @@ pub(crate) fn add_defined_memory<A: Allocator + Copy>(
     ensures added { Adds result (add_memory (features_of features) spaces.old (memory_of ty)) spaces.new }
     ensures types { spaces.new.types ≡ spaces.old.types }
     ensures place { IfErr result (IsAt offset) }
+    ensures told { Tells result (told_of_added_memory features offset spaces.old (memory_of ty)) }
 {
     check_memory_type(features, ty, offset)?;
     place_memory(features, spaces, ty, offset)
@@ -164,6 +178,7 @@ pub(crate) fn add_defined_tag<A: Allocator + Copy>(
     ensures added { Adds result (add_tag (features_of features) (types_of list.now) spaces.old ty.func_type_idx) spaces.new }
     ensures types { spaces.new.types ≡ spaces.old.types }
     ensures place { IfErr result (IsAt offset) }
+    ensures told { Tells result (told_of_added_tag features offset (types_of list.now) spaces.old ty.func_type_idx) }
 {
     check_tag_type(features, list, known_ids(list, spaces), ty, offset)?;
     place_tag(spaces, ty.func_type_idx, offset)

@@ -5,6 +5,8 @@ ghost use Rattle.wasm_rules.specs.FeatureFlags.{features_of};
 ghost use Rattle.wasm_rules.specs.Limits.{most_tables, most_memories};
 ghost use Rattle.wasm_item_checks.specs.Answers.{IsRefusalAt};
 ghost use Rattle.wasm_validator_core.specs.Items.{is_data_count};
+ghost use Rattle.wasm_validator_core.specs.Told.{told_of_data_count};
+ghost use Rattle.wasm_readers_errors.specs.Refusals.{refused};
 
 use bitflags::Flags;
 use wasm_readers::{Counted, Fault, ItemRule, Refusal, WasmFeatures};
@@ -78,6 +80,7 @@ pub fn check_max(
 pub fn check_data_count(features: WasmFeatures, count: u32, offset: u64) -> Result<(), Refusal>
     ensures allowed { is_ok result ≡ is_data_count (features_of features) count }
     ensures refusal { IfErr result (IsRefusalAt features offset) }
+    ensures told { refused result ≡ told_of_data_count features offset count }
 {
     if !features.contains(WasmFeatures::BULK_MEMORY) {
         let fault = Fault::Item(ItemRule::DataCounts);

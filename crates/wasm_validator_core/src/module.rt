@@ -20,6 +20,9 @@ ghost use Rattle.wasm_validator_core.specs.Functions.{IsTypeOfFunction, IsUnknow
 ghost use Rattle.wasm_validator_core.specs.Ready.{IsOpenFor, AreIdsOf, AreHeld};
 ghost use Rattle.wasm_validator_core.specs.Machine.{add_group};
 ghost use Rattle.wasm_validator_core.specs.Items.{types_of_module, listed, entity, exported_function, exported_entity, arity_of_function, is_startable, add_import, add_function, add_table, add_memory, add_tag, add_export};
+ghost use Rattle.wasm_validator_core.specs.Told.{Tells, TellsExport, told_of_added_function, told_of_added_table, told_of_added_memory, told_of_added_tag, told_of_import, told_of_entity_there, told_of_entity, told_of_function_type, told_of_start};
+ghost use Rattle.wasm_readers_errors.specs.Refusals.{refused};
+ghost use Rattle.wasm_item_checks.specs.Told.{told_of_extern};
 
 use crate::entities::{entity_type, known_ids, listed_type_ref};
 use crate::error::Error;
@@ -132,6 +135,7 @@ impl<A: Allocator + Copy> Module<A> {
         ensures added { Adds result (add_import (features_of features) (types_of list.now) self.old (import_of import.now)) self.new }
         ensures types { self.new.types ≡ self.old.types }
         ensures place { IfErr result (IsAt offset) }
+        ensures told { Tells result (told_of_import features offset (types_of list.now) self.old (import_of import.now)) }
     {
         add_one_import(features, list, &mut self.spaces, import, offset)
     }
@@ -153,6 +157,7 @@ impl<A: Allocator + Copy> Module<A> {
         ensures added { Adds result (add_function (types_of list.now) self.old type_index) self.new }
         ensures types { self.new.types ≡ self.old.types }
         ensures place { IfErr result (IsAt offset) }
+        ensures told { Tells result (told_of_added_function offset (types_of list.now) self.old type_index) }
     {
         add_defined_function(list, &mut self.spaces, type_index, offset)
     }
@@ -175,6 +180,7 @@ impl<A: Allocator + Copy> Module<A> {
         ensures added { Adds result (add_table (features_of features) (types_of list.now) self.old (table_of ty)) self.new }
         ensures types { self.new.types ≡ self.old.types }
         ensures place { IfErr result (IsAt offset) }
+        ensures told { Tells result (told_of_added_table features offset (types_of list.now) self.old (table_of ty)) }
     {
         add_defined_table(features, list, &mut self.spaces, ty, offset)
     }
@@ -195,6 +201,7 @@ impl<A: Allocator + Copy> Module<A> {
         ensures added { Adds result (add_memory (features_of features) self.old (memory_of ty)) self.new }
         ensures types { self.new.types ≡ self.old.types }
         ensures place { IfErr result (IsAt offset) }
+        ensures told { Tells result (told_of_added_memory features offset self.old (memory_of ty)) }
     {
         add_defined_memory(features, &mut self.spaces, ty, offset)
     }
@@ -217,6 +224,7 @@ impl<A: Allocator + Copy> Module<A> {
         ensures added { Adds result (add_tag (features_of features) (types_of list.now) self.old ty.func_type_idx) self.new }
         ensures types { self.new.types ≡ self.old.types }
         ensures place { IfErr result (IsAt offset) }
+        ensures told { Tells result (told_of_added_tag features offset (types_of list.now) self.old ty.func_type_idx) }
     {
         add_defined_tag(features, list, &mut self.spaces, ty, offset)
     }
@@ -239,6 +247,7 @@ impl<A: Allocator + Copy> Module<A> {
         ensures added { Adds result (add_export (features_of features) (types_of list.now) self.old (export_of export.now)) self.new }
         ensures types { self.new.types ≡ self.old.types }
         ensures place { IfErr result (IsAt offset) }
+        ensures told { TellsExport self.old export.now.name.now offset result (told_of_entity features offset (types_of list.now) self.old export.now.kind export.now.index (exported_entity (features_of features) self.old (export_of export.now))) }
     {
         add_one_export(features, alloc, list, &mut self.spaces, export, offset)
     }
@@ -259,6 +268,7 @@ impl<A: Allocator + Copy> Module<A> {
         ensures arity { IfOk result (λ f. arity_of_function (types_of list.now) self.now func_idx ≡ Some (length f.now.params, length f.now.results)) }
         ensures value { IfOk result (λ f. IsTypeOfFunction list.now self.now func_idx f.now) }
         ensures refusal { IfErr result (IsPlainRefusalAt offset) }
+        ensures told { refused result ≡ told_of_function_type offset (types_of list.now) self.now func_idx }
         ensures unknown { slice_get self.now.functions func_idx ≡ None → IfErr result (IsUnknownFunction func_idx offset) }
     {
         function_type(list, &self.spaces, func_idx, offset)
@@ -274,6 +284,7 @@ impl<A: Allocator + Copy> Module<A> {
         requires { AreHeld list.now self.now.types }
         ensures allowed { is_ok result ≡ is_startable (types_of list.now) self.now func_idx }
         ensures refusal { IfErr result (IsPlainRefusalAt offset) }
+        ensures told { refused result ≡ told_of_start offset (types_of list.now) self.now func_idx }
     {
         check_start_function(list, &self.spaces, func_idx, offset)
     }
@@ -295,6 +306,7 @@ impl<A: Allocator + Copy> Module<A> {
         ensures allowed { is_ok result ≡ is_valid_extern (features_of features) (types_of_module (types_of list.now) self.now) (extern_of ty) }
         ensures value { IfOk result (λ e. entity_of e ≡ entity self.now (listed self.now (extern_of ty))) }
         ensures refusal { IfErr result (IsRefusalAt features offset) }
+        ensures told { refused result ≡ told_of_extern features offset (types_of_module (types_of list.now) self.now) (extern_of ty) }
     {
         let ty = listed_type_ref(features, list, known_ids(list, &self.spaces), ty, offset)?;
         Ok(entity_type(&self.spaces, ty))
@@ -314,6 +326,7 @@ impl<A: Allocator + Copy> Module<A> {
         ensures ok { IfOk result (λ e. exported_entity (features_of features) self.now (export_of export.now) ≡ Some (entity_of e)) }
         ensures err { OnErr result (exported_entity (features_of features) self.now (export_of export.now) ≡ None) }
         ensures place { IfErr result (IsPlainRefusalAt offset) }
+        ensures told { refused result ≡ told_of_entity_there offset export.now.kind export.now.index (exported_entity (features_of features) self.now (export_of export.now)) }
     {
         exported(features, &self.spaces, export, offset)
     }

@@ -8,6 +8,8 @@ ghost use Rattle.wasm_validator_types.specs.Shown.{types_of};
 ghost use Rattle.wasm_validator_core.specs.Functions.{IsTypeOfFunction, IsUnknownFunction};
 ghost use Rattle.wasm_validator_core.specs.Items.{arity_of_function, is_startable};
 ghost use Rattle.wasm_validator_core.specs.Ready.{AreHeld};
+ghost use Rattle.wasm_validator_core.specs.Told.{told_of_function_type, told_of_start};
+ghost use Rattle.wasm_readers_errors.specs.Refusals.{refused};
 
 use crate::entities::known_ids;
 use std::alloc::Allocator;
@@ -27,6 +29,7 @@ pub(crate) fn function_type<'a, A: Allocator + Copy>(
     ensures arity { IfOk result (λ f. arity_of_function (types_of list.now) spaces.now func_idx ≡ Some (length f.now.params, length f.now.results)) }
     ensures value { IfOk result (λ f. IsTypeOfFunction list.now spaces.now func_idx f.now) }
     ensures refusal { IfErr result (IsPlainRefusalAt offset) }
+    ensures told { refused result ≡ told_of_function_type offset (types_of list.now) spaces.now func_idx }
     ensures unknown { slice_get spaces.now.functions func_idx ≡ None → IfErr result (IsUnknownFunction func_idx offset) }
 {
     if func_idx >= spaces.function_count() {
@@ -46,6 +49,7 @@ pub(crate) fn check_start_function<A: Allocator + Copy>(
     requires { AreHeld list.now spaces.now.types }
     ensures allowed { is_ok result ≡ is_startable (types_of list.now) spaces.now func_idx }
     ensures refusal { IfErr result (IsPlainRefusalAt offset) }
+    ensures told { refused result ≡ told_of_start offset (types_of list.now) spaces.now func_idx }
 {
     let signature = function_type(list, spaces, func_idx, offset)?;
     if signature.params().is_empty() && signature.results().is_empty() {

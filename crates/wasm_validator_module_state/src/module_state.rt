@@ -8,6 +8,7 @@ ghost use Rattle.wasm_validator_types.specs.Spaces.{no_spaces};
 ghost use Rattle.wasm_validator_core.specs.Errors.{IsAt};
 ghost use Rattle.wasm_validator_core.specs.Answers.{Adds};
 ghost use Rattle.wasm_validator_core.specs.Ready.{AreHeld};
+ghost use Rattle.wasm_validator_core.specs.Told.{Tells, told_of_added_table};
 ghost use Rattle.wasm_validator_module_state.specs.Bodies.{expected_bodies};
 ghost use Rattle.wasm_validator_core.specs.Items.{add_table};
 
@@ -51,6 +52,7 @@ impl<A: Allocator + Copy> ModuleState<A> {
         ensures added { Adds result (add_table (features_of features) (types_of list.now) self.old.module (table_of ty)) self.new.module }
         ensures types { self.new.module.types ≡ self.old.module.types }
         ensures place { IfErr result (IsAt offset) }
+        ensures told { Tells result (told_of_added_table features offset (types_of list.now) self.old.module (table_of ty)) }
     {
         self.module.add_table(features, list, ty, offset)
     }
