@@ -1,7 +1,8 @@
-ghost use Rattle.std.specs.Prelude.{◌≡◌, ◌<◌, length, slice_get, slice_index, slice_index_or, IfSome, IsSome, ◌↔◌};
+ghost use Rattle.std.specs.Prelude.{◌≡◌, ◌+◌, ◌<◌, length, slice_get, slice_index, slice_index_or, IfSome, IsSome, ◌↔◌};
 ghost use Rattle.std.specs.declared.option.Option.TheVariants.{Some};
 ghost use Rattle.wasm_readers_types.specs.SeenExterns.{table_of, memory_of, global_of};
-ghost use Rattle.wasm_grouped_list.specs.Groups.{IsInGroup};
+ghost use Rattle.wasm_grouped_list.specs.Groups.{IsInGroup, first_of};
+ghost use Rattle.wasm_grouped_list.specs.Spans.{span};
 ghost use Rattle.wasm_grouped_list.specs.Elements.{ids_left, ids_of_group};
 ghost use Rattle.wasm_validator_type_list.specs.Listing.{types_in};
 ghost use Rattle.wasm_validator_type_list.specs.Lookups.{IsSupertypeAt};
@@ -114,6 +115,14 @@ impl<'a, A: Allocator + Copy> TypesRef<'a, A> {
         ensures when { IsSome result ↔ (id.index < length (types_in (shown_by self.now).list)) }
     {
         self.list.get(id)
+    }
+
+    /// The ids of the types of the recursion group with this id, if there is one.
+    pub fn get_rec_group(&self, group: RecGroupId) -> Option<&'a Range<CoreTypeId>>
+        ensures found { IfSome result (λ ids. let groups = (shown_by self.now).list.groups in ids.now ≡ span (first_of groups group.index) (first_of groups (group.index + 1))) }
+        ensures when { IsSome result ↔ (group.index < length (shown_by self.now).list.groups) }
+    {
+        self.list.get_rec_group(group)
     }
 
     /// All types that the validator had when these were made, in recursion groups.
