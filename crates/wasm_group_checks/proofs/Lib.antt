@@ -7,3 +7,4 @@ pub mod Depth
 pub mod Renamed
 pub mod Transported
 pub mod IdsAndTypes
+pub mod Told

@@ -92,7 +92,7 @@ module _ {R : Type 0} (F : Features) (D : R → Option (Sub R)) (s : Sub R) wher
 
 -- whether features allow what is written, whatever it refers to
 module _ {R S : Type 0} (f : R → S) (F : Features) where
-  first_kept : (rs : List R) → is_some (slice_get (map f rs) 0) ≡ is_some (slice_get rs 0)
+  pub first_kept : (rs : List R) → is_some (slice_get (map f rs) 0) ≡ is_some (slice_get rs 0)
   first_kept [] = refl
   first_kept (r ∷ rs) = refl
 

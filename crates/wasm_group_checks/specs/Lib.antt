@@ -1,3 +1,4 @@
 pub mod Listed
 pub mod Rules
 pub mod Laws
+pub mod Told

@@ -8,6 +8,7 @@ ghost use Rattle.wasm_spec.specs.References.{refs_heap, refs_val, refs_storage, 
 ghost use Rattle.wasm_spec.specs.Matching.{is_shared_type, is_shared_heap, is_shared_val, is_shared_storage};
 ghost use Rattle.wasm_spec.specs.ValueTypes.{implies};
 ghost use Rattle.wasm_spec.specs.GroupRules.{storages, is_func, IsFunction, IsContinuationOfFunction};
+ghost use Rattle.wasm_readers_errors.specs.Refusals.{unless, plain, refused};
 ghost use Rattle.wasm_rules.specs.FeatureFlags.{features_of};
 ghost use Rattle.wasm_readers_types.specs.SeenValues.{heap_of, val_of, storage_of, field_of};
 ghost use Rattle.wasm_readers_types.specs.SeenTypes.{comp_of};
@@ -15,11 +16,11 @@ ghost use Rattle.wasm_validator_type_list.specs.Listing.{types_in};
 ghost use Rattle.wasm_validator_type_list.specs.Declares.{declares};
 ghost use Rattle.wasm_validator_type_list.specs.Grouped.{leads_in, AreIn};
 ghost use Rattle.wasm_group_checks.specs.Rules.{Declares, CompositeRules};
+ghost use Rattle.wasm_group_checks.specs.Told.{told_of_shared, ToldOfContinuation, ToldOfComposite};
 
 use crate::ids::{group_of, id_at};
-use crate::refusals::{hold, require};
 use std::alloc::Allocator;
-use wasm_readers_errors::{Fault, GroupRule, Refusal, WasmFeatures};
+use wasm_readers_errors::{Fault, GroupRule, Refusal, WasmFeatures, hold, require_if};
 use wasm_readers_types::{
     CompositeInnerType, CompositeType, CoreTypeId, FieldType, HeapType, StorageType, ValType,
 };
@@ -28,13 +29,12 @@ use wasm_value_checks as value_types;
 
 /// Accepts a shared type where the proposal for them is on.
 fn check_shared_flag(features: WasmFeatures, shared: bool, offset: u64) -> Result<(), Refusal>
-    ensures { is_ok result ≡ implies shared (features_of features).shared_everything_threads }
+    ensures allowed { is_ok result ≡ implies shared (features_of features).shared_everything_threads }
+    ensures told { refused result ≡ told_of_shared features offset shared }
 {
-    if !shared {
-        return Ok(());
-    }
     let fault = Fault::Group(GroupRule::SharedComposites);
-    require(
+    require_if(
+        shared,
         features,
         WasmFeatures::SHARED_EVERYTHING_THREADS,
         fault,
@@ -174,7 +174,8 @@ fn check_continuation<A: Allocator + Copy>(
     offset: u64,
 ) -> Result<(), Refusal>
     requires { AreIn types.now.groups group.index (refs_comp (comp_of inner.now)) }
-    ensures { Decides (is_ok result) (IsContinuationOfFunction (declares types.now.groups) (map_comp (leads_in types.now.groups group.index) (comp_of inner.now))) }
+    ensures decided { Decides (is_ok result) (IsContinuationOfFunction (declares types.now.groups) (map_comp (leads_in types.now.groups group.index) (comp_of inner.now))) }
+    ensures told { ToldOfContinuation offset (declares types.now.groups) (map_comp (leads_in types.now.groups group.index) (comp_of inner.now)) (refused result) }
 {
     match inner {
         CompositeInnerType::Cont(continuation) => {
@@ -196,7 +197,8 @@ fn check_members<A: Allocator + Copy>(
     offset: u64,
 ) -> Result<(), Refusal>
     requires { AreIn types.now.groups group.index (refs_comp (comp_of ty.now.inner)) }
-    ensures { is_ok result ≡ implies ty.now.shared (list_all (is_shared_storage (declares types.now.groups)) (storages (map_comp (leads_in types.now.groups group.index) (comp_of ty.now.inner)))) }
+    ensures allowed { is_ok result ≡ implies ty.now.shared (list_all (is_shared_storage (declares types.now.groups)) (storages (map_comp (leads_in types.now.groups group.index) (comp_of ty.now.inner)))) }
+    ensures told { refused result ≡ unless (implies ty.now.shared (list_all (is_shared_storage (declares types.now.groups)) (storages (map_comp (leads_in types.now.groups group.index) (comp_of ty.now.inner))))) (plain (Fault.Group GroupRule.SharedMembers) offset) }
 {
     if !ty.shared {
         return Ok(());
@@ -220,7 +222,8 @@ pub fn check_composite_type<A: Allocator + Copy>(
     offset: u64,
 ) -> Result<(), Refusal>
     requires { id.index < length (types_in types.now) }
-    ensures { Decides (is_ok result) (Declares (declares types.now.groups) id.index (CompositeRules (features_of features) (declares types.now.groups))) }
+    ensures decided { Decides (is_ok result) (Declares (declares types.now.groups) id.index (CompositeRules (features_of features) (declares types.now.groups))) }
+    ensures told { ToldOfComposite features offset (declares types.now.groups) id.index (refused result) }
 {
     let group = group_of(types, id);
     let ty = &types[id].composite_type;

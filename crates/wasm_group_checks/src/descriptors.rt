@@ -1,19 +1,20 @@
 //! Descriptor clauses.
 
-ghost use Rattle.std.specs.Prelude.{◌≡◌, ◌<◌, length, is_ok, IfSome};
+ghost use Rattle.std.specs.Prelude.{◌≡◌, ◌<◌, length, is_ok, IfErr, IfSome};
 ghost use Rattle.std.specs.Bool.{Decides};
 ghost use Rattle.wasm_spec.specs.Declared.{supertype_of};
 ghost use Rattle.wasm_spec.specs.GroupRules.{is_struct, DescriptorRules};
+ghost use Rattle.wasm_readers_errors.specs.Refusals.{plain, refused};
 ghost use Rattle.wasm_rules.specs.FeatureFlags.{features_of};
 ghost use Rattle.wasm_readers_types.specs.SeenTypes.{comp_of, sub_of};
 ghost use Rattle.wasm_validator_type_list.specs.Listing.{types_in};
 ghost use Rattle.wasm_validator_type_list.specs.Declares.{declares};
 ghost use Rattle.wasm_group_checks.specs.Rules.{Declares, allows_clauses, HasSameFinality, HasDescriptorLike, DescribesLike, ExtendsDescriptor, ExtendsDescribed, ExtendsClauses, DescriptorDescribes, DescribedHasDescriptor, DescriptorHasSameFinality};
+ghost use Rattle.wasm_group_checks.specs.Told.{told_of_clauses, unlike_descriptor, unlike_describes, ToldOfExtendedClauses, ToldOfSupertypeClauses, ToldOfDescriptors};
 
 use crate::ids::{are_same, described, descriptor, group_of, supertype};
-use crate::refusals::{hold, require};
 use std::alloc::Allocator;
-use wasm_readers_errors::{DescriptorRule, Fault, Refusal, WasmFeatures};
+use wasm_readers_errors::{DescriptorRule, Fault, Refusal, WasmFeatures, hold, require};
 use wasm_readers_types::{CompositeInnerType, CoreTypeId, SubType};
 use wasm_validator_type_list::TypeList;
 
@@ -31,7 +32,8 @@ fn check_clauses<A: Allocator>(
     ty: &SubType<A>,
     offset: u64,
 ) -> Result<(), Refusal>
-    ensures { is_ok result ≡ allows_clauses (features_of features) (sub_of ty.now) }
+    ensures allowed { is_ok result ≡ allows_clauses (features_of features) (sub_of ty.now) }
+    ensures told { refused result ≡ told_of_clauses features offset (sub_of ty.now) }
 {
     let has_descriptor = ty.composite_type.descriptor_idx.is_some();
     let describes = ty.composite_type.describes_idx.is_some();
@@ -61,7 +63,8 @@ fn check_descriptor_alike<A: Allocator + Copy>(
 ) -> Result<(), Refusal>
     requires sub { id.index < length (types_in types.now) }
     requires sup { extended.index < length (types_in types.now) }
-    ensures { Decides (is_ok result) (HasDescriptorLike (declares types.now.groups) id.index extended.index) }
+    ensures decided { Decides (is_ok result) (HasDescriptorLike (declares types.now.groups) id.index extended.index) }
+    ensures told { IfErr result (λ r. r ≡ plain (Fault.Descriptor (unlike_descriptor offset (declares types.now.groups) id.index)) offset) }
 {
     let has_descriptor = descriptor(types, id).is_some();
     let rule = if has_descriptor {
@@ -82,7 +85,8 @@ fn check_describes_alike<A: Allocator + Copy>(
 ) -> Result<(), Refusal>
     requires sub { id.index < length (types_in types.now) }
     requires sup { extended.index < length (types_in types.now) }
-    ensures { Decides (is_ok result) (DescribesLike (declares types.now.groups) id.index extended.index) }
+    ensures decided { Decides (is_ok result) (DescribesLike (declares types.now.groups) id.index extended.index) }
+    ensures told { IfErr result (λ r. r ≡ plain (Fault.Descriptor (unlike_describes offset (declares types.now.groups) id.index)) offset) }
 {
     let describes = described(types, id).is_some();
     let rule = if describes {
@@ -103,7 +107,8 @@ fn check_descriptor_extends<A: Allocator + Copy>(
 ) -> Result<(), Refusal>
     requires sub { id.index < length (types_in types.now) }
     requires sup { extended.index < length (types_in types.now) }
-    ensures { Decides (is_ok result) (ExtendsDescriptor (declares types.now.groups) id.index extended.index) }
+    ensures decided { Decides (is_ok result) (ExtendsDescriptor (declares types.now.groups) id.index extended.index) }
+    ensures told { IfErr result (λ r. r ≡ plain (Fault.Descriptor DescriptorRule.DescribedSupertype) offset) }
 {
     match descriptor(types, id) {
         Some(of_type) => {
@@ -125,7 +130,8 @@ fn check_described_extends<A: Allocator + Copy>(
 ) -> Result<(), Refusal>
     requires sub { id.index < length (types_in types.now) }
     requires sup { extended.index < length (types_in types.now) }
-    ensures { Decides (is_ok result) (ExtendsDescribed (declares types.now.groups) id.index extended.index) }
+    ensures decided { Decides (is_ok result) (ExtendsDescribed (declares types.now.groups) id.index extended.index) }
+    ensures told { IfErr result (λ r. r ≡ plain (Fault.Descriptor DescriptorRule.DescriptorSupertype) offset) }
 {
     match described(types, id) {
         Some(by_type) => {
@@ -146,7 +152,8 @@ fn check_extended_clauses<A: Allocator + Copy>(
 ) -> Result<(), Refusal>
     requires sub { id.index < length (types_in types.now) }
     requires sup { extended.index < length (types_in types.now) }
-    ensures { Decides (is_ok result) (ExtendsClauses (declares types.now.groups) id.index extended.index) }
+    ensures decided { Decides (is_ok result) (ExtendsClauses (declares types.now.groups) id.index extended.index) }
+    ensures told { ToldOfExtendedClauses offset (declares types.now.groups) id.index extended.index (refused result) }
 {
     check_descriptor_alike(types, id, extended, offset)?;
     check_descriptor_extends(types, id, extended, offset)?;
@@ -161,7 +168,8 @@ fn check_supertype_clauses<A: Allocator + Copy>(
     offset: u64,
 ) -> Result<(), Refusal>
     requires { id.index < length (types_in types.now) }
-    ensures { Decides (is_ok result) (IfSome (supertype_of (declares types.now.groups) id.index) (ExtendsClauses (declares types.now.groups) id.index)) }
+    ensures decided { Decides (is_ok result) (IfSome (supertype_of (declares types.now.groups) id.index) (ExtendsClauses (declares types.now.groups) id.index)) }
+    ensures told { ToldOfSupertypeClauses offset (declares types.now.groups) id.index (refused result) }
 {
     match supertype(types, id) {
         Some(extended) => check_extended_clauses(types, id, extended, offset),
@@ -176,7 +184,8 @@ fn check_descriptor<A: Allocator + Copy>(
     offset: u64,
 ) -> Result<(), Refusal>
     requires { id.index < length (types_in types.now) }
-    ensures { Decides (is_ok result) (DescriptorDescribes (declares types.now.groups) id.index) }
+    ensures decided { Decides (is_ok result) (DescriptorDescribes (declares types.now.groups) id.index) }
+    ensures told { IfErr result (λ r. r ≡ plain (Fault.Descriptor DescriptorRule.DescriptorWithoutDescribes) offset) }
 {
     match descriptor(types, id) {
         Some(of_type) => {
@@ -194,7 +203,8 @@ fn check_described<A: Allocator + Copy>(
     offset: u64,
 ) -> Result<(), Refusal>
     requires { id.index < length (types_in types.now) }
-    ensures { Decides (is_ok result) (DescribedHasDescriptor (declares types.now.groups) id.index) }
+    ensures decided { Decides (is_ok result) (DescribedHasDescriptor (declares types.now.groups) id.index) }
+    ensures told { IfErr result (λ r. r ≡ plain (Fault.Descriptor DescriptorRule.DescribesWithoutDescriptor) offset) }
 {
     match described(types, id) {
         Some(by_type) => {
@@ -231,7 +241,8 @@ fn check_finality<A: Allocator + Copy>(
     offset: u64,
 ) -> Result<(), Refusal>
     requires { id.index < length (types_in types.now) }
-    ensures { Decides (is_ok result) (DescriptorHasSameFinality (declares types.now.groups) id.index) }
+    ensures decided { Decides (is_ok result) (DescriptorHasSameFinality (declares types.now.groups) id.index) }
+    ensures told { IfErr result (λ r. r ≡ plain (Fault.Descriptor DescriptorRule.DescriptorFinality) offset) }
 {
     match descriptor(types, id) {
         Some(of_type) => {
@@ -256,7 +267,8 @@ pub fn check_descriptors<A: Allocator + Copy>(
     offset: u64,
 ) -> Result<(), Refusal>
     requires { id.index < length (types_in types.now) }
-    ensures { Decides (is_ok result) (Declares (declares types.now.groups) id.index (DescriptorRules (features_of features) (declares types.now.groups) id.index)) }
+    ensures decided { Decides (is_ok result) (Declares (declares types.now.groups) id.index (DescriptorRules (features_of features) (declares types.now.groups) id.index)) }
+    ensures told { ToldOfDescriptors features offset (declares types.now.groups) id.index (refused result) }
 {
     let _group = group_of(types, id);
     check_clauses(features, &types[id], offset)?;

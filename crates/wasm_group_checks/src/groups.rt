@@ -1,12 +1,14 @@
 //! Whole types, and the types of a group.
 
-ghost use Rattle.std.specs.Prelude.{◌≡◌, ◌<◌, length, is_ok};
+ghost use Rattle.std.specs.Prelude.{◌≡◌, ◌<◌, length, is_ok, IfErr};
 ghost use Rattle.std.specs.Bool.{Decides};
 ghost use Rattle.wasm_spec.specs.GroupRules.{IsValidType};
+ghost use Rattle.wasm_readers_errors.specs.Refusals.{refused};
 ghost use Rattle.wasm_rules.specs.FeatureFlags.{features_of};
 ghost use Rattle.wasm_validator_type_list.specs.Listing.{types_in};
 ghost use Rattle.wasm_validator_type_list.specs.Declares.{declares};
 ghost use Rattle.wasm_group_checks.specs.Rules.{IsValidGroupAt};
+ghost use Rattle.wasm_group_checks.specs.Told.{ToldOfType, ToldOfGroup};
 
 use crate::descriptors::check_descriptors;
 use crate::subtypes::check_subtype;
@@ -28,7 +30,8 @@ pub fn check_type<A: Allocator + Copy>(
     offset: u64,
 ) -> Result<(), Refusal>
     requires { id.index < length (types_in types.now) }
-    ensures { Decides (is_ok result) (IsValidType (features_of features) (declares types.now.groups) id.index) }
+    ensures decided { Decides (is_ok result) (IsValidType (features_of features) (declares types.now.groups) id.index) }
+    ensures told { ToldOfType features offset (declares types.now.groups) id.index (refused result) }
 {
     check_subtype(features, types, id, offset)?;
     check_descriptors(features, types, id, offset)
@@ -46,7 +49,8 @@ pub fn check_rec_group<A: Allocator + Copy>(
     offset: u64,
 ) -> Result<(), Refusal>
     requires { group.index < length types.now.groups }
-    ensures { Decides (is_ok result) (IsValidGroupAt (features_of features) types.now.groups group.index) }
+    ensures decided { Decides (is_ok result) (IsValidGroupAt (features_of features) types.now.groups group.index) }
+    ensures told { IfErr result (ToldOfGroup features offset types.now.groups group.index) }
 {
     let ids = &types[group];
     let _count = types.len();

@@ -6,7 +6,6 @@ mod descriptors;
 mod groups;
 mod ids;
 mod laws;
-mod refusals;
 mod subtypes;
 
 pub use composite_types::check_composite_type;

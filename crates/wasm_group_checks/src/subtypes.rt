@@ -1,20 +1,21 @@
 //! What a type extends.
 
-ghost use Rattle.std.specs.Prelude.{◌≡◌, ◌<◌, length, is_ok, IfSome};
+ghost use Rattle.std.specs.Prelude.{◌≡◌, ◌<◌, length, is_ok, IfErr, IfSome};
 ghost use Rattle.std.specs.Bool.{Decides};
 ghost use Rattle.wasm_spec.specs.Declared.{supertype_of, IsDepth};
 ghost use Rattle.wasm_spec.specs.GroupRules.{TypeRules};
+ghost use Rattle.wasm_readers_errors.specs.Refusals.{plain, refused};
 ghost use Rattle.wasm_rules.specs.FeatureFlags.{features_of};
 ghost use Rattle.wasm_readers_types.specs.SeenTypes.{sub_of};
 ghost use Rattle.wasm_validator_type_list.specs.Listing.{types_in};
 ghost use Rattle.wasm_validator_type_list.specs.Declares.{declares};
 ghost use Rattle.wasm_group_checks.specs.Rules.{Declares, IsOpen, IsShallow, MayExtend, allows_extending};
+ghost use Rattle.wasm_group_checks.specs.Told.{told_of_extending, ToldOfExtended, ToldOfSupertype, ToldOfSubtype};
 
 use crate::composite_types::check_composite_type;
 use crate::ids::{group_of, supertype};
-use crate::refusals::{hold, require};
 use std::alloc::Allocator;
-use wasm_readers_errors::{Fault, GroupRule, Refusal, WasmFeatures};
+use wasm_readers_errors::{Fault, GroupRule, Refusal, WasmFeatures, hold, require_if};
 use wasm_readers_types::{CoreTypeId, SubType};
 use wasm_validator_type_list::TypeList;
 
@@ -27,13 +28,12 @@ fn check_extending<A: Allocator>(
     ty: &SubType<A>,
     offset: u64,
 ) -> Result<(), Refusal>
-    ensures { is_ok result ≡ allows_extending (features_of features) (sub_of ty.now) }
+    ensures allowed { is_ok result ≡ allows_extending (features_of features) (sub_of ty.now) }
+    ensures told { refused result ≡ told_of_extending features offset (sub_of ty.now) }
 {
-    if ty.is_final && ty.supertype_idxs.is_empty() {
-        return Ok(());
-    }
+    let extends = !ty.is_final || !ty.supertype_idxs.is_empty();
     let fault = Fault::Group(GroupRule::Subtypes);
-    require(features, WasmFeatures::GC, fault, offset)
+    require_if(extends, features, WasmFeatures::GC, fault, offset)
 }
 
 /// Whether the type is not final.
@@ -54,7 +54,8 @@ fn check_extended<A: Allocator + Copy>(
 ) -> Result<(), Refusal>
     requires sub { id.index < length (types_in types.now) }
     requires sup { extended.index < length (types_in types.now) }
-    ensures { Decides (is_ok result) (MayExtend (declares types.now.groups) id.index extended.index) }
+    ensures decided { Decides (is_ok result) (MayExtend (declares types.now.groups) id.index extended.index) }
+    ensures told { ToldOfExtended offset (declares types.now.groups) id.index extended.index (refused result) }
 {
     let open = is_open(types, extended);
     if !open {
@@ -71,7 +72,8 @@ fn check_supertype<A: Allocator + Copy>(
     offset: u64,
 ) -> Result<(), Refusal>
     requires { id.index < length (types_in types.now) }
-    ensures { Decides (is_ok result) (IfSome (supertype_of (declares types.now.groups) id.index) (MayExtend (declares types.now.groups) id.index)) }
+    ensures decided { Decides (is_ok result) (IfSome (supertype_of (declares types.now.groups) id.index) (MayExtend (declares types.now.groups) id.index)) }
+    ensures told { ToldOfSupertype offset (declares types.now.groups) id.index (refused result) }
 {
     match supertype(types, id) {
         Some(extended) => check_extended(types, id, extended, offset),
@@ -101,7 +103,8 @@ fn check_depth<A: Allocator + Copy>(
     offset: u64,
 ) -> Result<(), Refusal>
     requires { id.index < length (types_in types.now) }
-    ensures { Decides (is_ok result) (IsShallow (declares types.now.groups) 64 id.index) }
+    ensures decided { Decides (is_ok result) (IsShallow (declares types.now.groups) 64 id.index) }
+    ensures told { IfErr result (λ r. r ≡ plain (Fault.SubtypesTooDeep 64) offset) }
 {
     match kept_depth(types, id) {
         Some(depth) => {
@@ -121,7 +124,8 @@ fn check_links<A: Allocator + Copy>(
     offset: u64,
 ) -> Result<(), Refusal>
     requires { id.index < length (types_in types.now) }
-    ensures { Decides (is_ok result) (IsShallow (declares types.now.groups) 64 id.index) }
+    ensures decided { Decides (is_ok result) (IsShallow (declares types.now.groups) 64 id.index) }
+    ensures told { IfErr result (λ r. r ≡ plain (Fault.SubtypesTooDeep 64) offset) }
 {
     let mut ancestor = id;
     'links: for depth in 0..TOO_DEEP {
@@ -147,7 +151,8 @@ pub fn check_subtype<A: Allocator + Copy>(
     offset: u64,
 ) -> Result<(), Refusal>
     requires { id.index < length (types_in types.now) }
-    ensures { Decides (is_ok result) (Declares (declares types.now.groups) id.index (TypeRules (features_of features) (declares types.now.groups) id.index)) }
+    ensures decided { Decides (is_ok result) (Declares (declares types.now.groups) id.index (TypeRules (features_of features) (declares types.now.groups) id.index)) }
+    ensures told { ToldOfSubtype features offset (declares types.now.groups) id.index (refused result) }
 {
     let _group = group_of(types, id);
     check_extending(features, &types[id], offset)?;

@@ -2,3 +2,4 @@ pub mod Answers
 pub mod ModuleTypes
 pub mod Items
 pub mod Laws
+pub mod Told

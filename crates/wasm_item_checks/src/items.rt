@@ -2,60 +2,29 @@
 
 ghost use Rattle.std.specs.Prelude.{◌≡◌, ◌||◌, ◌==◌, length, is_ok, IfOk, IfErr, IsTrue};
 ghost use Rattle.std.specs.declared.option.Option.TheVariants.{Some};
-ghost use Rattle.wasm_readers_errors.specs.On.{has_flag};
-ghost use Rattle.wasm_spec.specs.ValueTypes.{implies};
 ghost use Rattle.wasm_rules.specs.FeatureFlags.{features_of};
 ghost use Rattle.wasm_readers_types.specs.SeenValues.{ref_of, val_of};
 ghost use Rattle.wasm_readers_types.specs.SeenExterns.{table_of, memory_of, global_of, extern_of};
 ghost use Rattle.wasm_item_checks.specs.Answers.{IsRefusalAt, IsPlainRefusalAt};
 ghost use Rattle.wasm_item_checks.specs.ModuleTypes.{AreKnown, module_types};
 ghost use Rattle.wasm_item_checks.specs.Items.{is_funcref, is_allowed_element, is_allowed_content, are_at_most, is_allowed_page, log_of, most_of, is_valid_table, is_valid_defined_table, is_valid_memory, is_valid_tag, is_valid_global, is_movable_global, is_valid_extern};
+ghost use Rattle.wasm_readers_errors.specs.Refusals.{refused};
+ghost use Rattle.wasm_item_checks.specs.Told.{page_bytes, told_of_content, told_of_defined_table, told_of_element, told_of_extern, told_of_global, told_of_memory, told_of_movable, told_of_page, told_of_sizes, told_of_table, told_of_tag};
 
 use crate::limits::{check_limits, check_sizes};
 use crate::module_types::{
     check_ref_index, check_val_index, func_type_at, is_ref_shared, is_val_shared,
 };
-use bitflags::Flags;
 use std::alloc::Allocator;
-use wasm_readers_errors::{Fault, ItemRule, Refusal, Rule, WasmFeatures};
+use wasm_readers_errors::{
+    Fault, ItemRule, Refusal, Rule, WasmFeatures, hold, require, require_if,
+};
 use wasm_readers_types::{
     AbstractHeapType, CoreTypeId, GlobalType, HeapType, MemoryType, RefType, TableType, TagType,
     TypeRef, ValType,
 };
 use wasm_validator_type_list::TypeList;
 use wasm_value_checks::{check_ref_type, check_value_type};
-
-/// Accepts where the proposal isn't needed, or is on, and refuses with this fault, which the proposal
-/// would lift.
-fn require_if(
-    needed: bool,
-    features: WasmFeatures,
-    feature: WasmFeatures,
-    fault: Fault,
-    offset: u64,
-) -> Result<(), Refusal>
-    ensures allowed { is_ok result ≡ implies needed (has_flag feature.0 features) }
-    ensures refusal { IfErr result (IsRefusalAt features offset) }
-{
-    if !needed || features.contains(feature) {
-        Ok(())
-    } else {
-        Err(Refusal::missing(fault, offset, feature))
-    }
-}
-
-/// Accepts where this proposal is on, and refuses with this fault where it is off.
-fn require(
-    features: WasmFeatures,
-    feature: WasmFeatures,
-    fault: Fault,
-    offset: u64,
-) -> Result<(), Refusal>
-    ensures allowed { is_ok result ≡ has_flag feature.0 features }
-    ensures refusal { IfErr result (IsRefusalAt features offset) }
-{
-    require_if(true, features, feature, fault, offset)
-}
 
 /// Whether this is the type of references that may be null to any function.
 fn is_funcref(ty: RefType) -> bool
@@ -79,6 +48,7 @@ fn check_element_type(
 ) -> Result<(), Refusal>
     ensures allowed { is_ok result ≡ is_allowed_element (features_of features) count (ref_of ty) }
     ensures refusal { IfErr result (IsRefusalAt features offset) }
+    ensures told { refused result ≡ told_of_element features offset count (ref_of ty) }
 {
     if !is_funcref(ty) {
         check_ref_type(features, ty, offset)?;
@@ -95,6 +65,7 @@ fn check_content_type(
 ) -> Result<(), Refusal>
     ensures allowed { is_ok result ≡ is_allowed_content (features_of features) count (val_of ty) }
     ensures refusal { IfErr result (IsRefusalAt features offset) }
+    ensures told { refused result ≡ told_of_content features offset count (val_of ty) }
 {
     check_value_type(features, ty, offset)?;
     check_val_index(count, ty, offset)
@@ -118,6 +89,7 @@ pub fn check_table_type<A: Allocator + Copy>(
     requires { AreKnown types.now ids.now }
     ensures allowed { is_ok result ≡ is_valid_table (features_of features) (module_types types.now ids.now) (table_of ty) }
     ensures refusal { IfErr result (IsRefusalAt features offset) }
+    ensures told { refused result ≡ told_of_table features offset (module_types types.now ids.now) (table_of ty) }
 {
     check_element_type(features, ids.len(), ty.element_type, offset)?;
     check_limits(ty.initial, ty.maximum, offset)?;
@@ -138,10 +110,8 @@ pub fn check_table_type<A: Allocator + Copy>(
     };
     let fault = Fault::Item(ItemRule::TableSize);
     check_sizes(most, ty.initial, ty.maximum, fault, offset)?;
-    if ty.shared && !is_ref_shared(types, ids, ty.element_type) {
-        return Err(Refusal::new(Fault::Item(ItemRule::SharedElements), offset));
-    }
-    Ok(())
+    let holds = !ty.shared || is_ref_shared(types, ids, ty.element_type);
+    hold(holds, Fault::Item(ItemRule::SharedElements), offset)
 }
 
 /// Accepts the type of a table that is defined (Core Specification 3.0, Validation, Modules, Tables),
@@ -163,11 +133,12 @@ pub fn check_defined_table<A: Allocator + Copy>(
     requires { AreKnown types.now ids.now }
     ensures allowed { is_ok result ≡ is_valid_defined_table (features_of features) (module_types types.now ids.now) (table_of ty) has_init }
     ensures refusal { IfErr result (IsRefusalAt features offset) }
+    ensures told { refused result ≡ told_of_defined_table features offset (module_types types.now ids.now) (table_of ty) has_init }
 {
     check_table_type(features, types, ids, ty, offset)?;
-    if !has_init && !ty.element_type.is_nullable() {
-        return Err(Refusal::new(Fault::Item(ItemRule::NonDefaultableElements), offset));
-    }
+    let has_entries = has_init || ty.element_type.is_nullable();
+    let fault = Fault::Item(ItemRule::NonDefaultableElements);
+    hold(has_entries, fault, offset)?;
     let fault = Fault::Item(ItemRule::TableInitializers);
     require_if(
         has_init,
@@ -188,17 +159,16 @@ fn check_page_size(
     ensures size { IfOk result (λ log. log ≡ log_of page_size_log2) }
     ensures served { IfOk result (λ log. IsTrue (log == 0 || log == 16)) }
     ensures refusal { IfErr result (IsRefusalAt features offset) }
+    ensures told { refused result ≡ told_of_page features offset page_size_log2 }
 {
     let Some(log) = page_size_log2 else {
         return Ok(16);
     };
     let fault = Fault::Item(ItemRule::CustomPageSizes);
     require(features, WasmFeatures::CUSTOM_PAGE_SIZES, fault, offset)?;
-    if log == 0 || log == 16 {
-        Ok(log)
-    } else {
-        Err(Refusal::new(Fault::Item(ItemRule::PageSize), offset))
-    }
+    let fault = Fault::Item(ItemRule::PageSize);
+    hold(log == 0 || log == 16, fault, offset)?;
+    Ok(log)
 }
 
 /// The most pages of a memory whose pages have so many bytes, by their logarithm.
@@ -222,6 +192,7 @@ fn check_pages(ty: MemoryType, log: u32, offset: u64) -> Result<(), Refusal>
     requires { IsTrue (log == 0 || log == 16) }
     ensures allowed { is_ok result ≡ are_at_most (most_of ty.memory64 log) ty.initial ty.maximum }
     ensures refusal { IfErr result (IsPlainRefusalAt offset) }
+    ensures told { refused result ≡ told_of_sizes offset (most_of ty.memory64 log) ty.initial ty.maximum (Fault.MemorySize (most_of ty.memory64 log) (page_bytes log)) }
 {
     let pages = max_pages(ty.memory64, log);
     let page = if log == 0 { 1 } else { 0x1_0000 };
@@ -240,6 +211,7 @@ fn check_pages(ty: MemoryType, log: u32, offset: u64) -> Result<(), Refusal>
 pub fn check_memory_type(features: WasmFeatures, ty: MemoryType, offset: u64) -> Result<(), Refusal>
     ensures allowed { is_ok result ≡ is_valid_memory (features_of features) (memory_of ty) }
     ensures refusal { IfErr result (IsRefusalAt features offset) }
+    ensures told { refused result ≡ told_of_memory features offset (memory_of ty) }
 {
     check_limits(ty.initial, ty.maximum, offset)?;
     let fault = Fault::Item(ItemRule::Memories64);
@@ -248,10 +220,8 @@ pub fn check_memory_type(features: WasmFeatures, ty: MemoryType, offset: u64) ->
     require_if(ty.shared, features, WasmFeatures::THREADS, fault, offset)?;
     let log = check_page_size(features, ty.page_size_log2, offset)?;
     check_pages(ty, log, offset)?;
-    if ty.shared && ty.maximum.is_none() {
-        return Err(Refusal::new(Fault::Item(ItemRule::SharedMemoryMaximum), offset));
-    }
-    Ok(())
+    let holds = !ty.shared || ty.maximum.is_some();
+    hold(holds, Fault::Item(ItemRule::SharedMemoryMaximum), offset)
 }
 
 /// Accepts a tag type (Core Specification 3.0, Validation, Types, Tag Types), where `ids` are those of
@@ -271,6 +241,7 @@ pub fn check_tag_type<A: Allocator + Copy>(
     requires { AreKnown types.now ids.now }
     ensures allowed { is_ok result ≡ is_valid_tag (features_of features) (module_types types.now ids.now) ty.func_type_idx }
     ensures refusal { IfErr result (IsRefusalAt features offset) }
+    ensures told { refused result ≡ told_of_tag features offset (module_types types.now ids.now) ty.func_type_idx }
 {
     let fault = Fault::Rule(Rule::Exceptions);
     require(features, WasmFeatures::EXCEPTIONS, fault, offset)?;
@@ -303,6 +274,7 @@ pub fn check_global_type<A: Allocator + Copy>(
     requires { AreKnown types.now ids.now }
     ensures allowed { is_ok result ≡ is_valid_global (features_of features) (module_types types.now ids.now) (global_of ty) }
     ensures refusal { IfErr result (IsRefusalAt features offset) }
+    ensures told { refused result ≡ told_of_global features offset (module_types types.now ids.now) (global_of ty) }
 {
     check_content_type(features, ids.len(), ty.content_type, offset)?;
     let fault = Fault::Item(ItemRule::SharedGlobals);
@@ -313,10 +285,8 @@ pub fn check_global_type<A: Allocator + Copy>(
         fault,
         offset,
     )?;
-    if ty.shared && !is_val_shared(types, ids, ty.content_type) {
-        return Err(Refusal::new(Fault::Item(ItemRule::SharedContents), offset));
-    }
-    Ok(())
+    let holds = !ty.shared || is_val_shared(types, ids, ty.content_type);
+    hold(holds, Fault::Item(ItemRule::SharedContents), offset)
 }
 
 /// Accepts a global that a module may import or export: one that is mutable needs `MUTABLE_GLOBAL`.
@@ -327,6 +297,7 @@ pub fn check_movable_global(
 ) -> Result<(), Refusal>
     ensures allowed { is_ok result ≡ is_movable_global (features_of features) (global_of ty) }
     ensures refusal { IfErr result (IsRefusalAt features offset) }
+    ensures told { refused result ≡ told_of_movable features offset (global_of ty) }
 {
     let fault = Fault::Item(ItemRule::MutableGlobals);
     require_if(
@@ -356,6 +327,7 @@ pub fn check_type_ref<A: Allocator + Copy>(
     requires { AreKnown types.now ids.now }
     ensures allowed { is_ok result ≡ is_valid_extern (features_of features) (module_types types.now ids.now) (extern_of ty) }
     ensures refusal { IfErr result (IsRefusalAt features offset) }
+    ensures told { refused result ≡ told_of_extern features offset (module_types types.now ids.now) (extern_of ty) }
 {
     match ty {
         TypeRef::Func(index) => {

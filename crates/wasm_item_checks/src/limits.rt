@@ -3,23 +3,23 @@
 ghost use Rattle.std.specs.Prelude.{◌≡◌, is_ok, IfErr, nat_le};
 ghost use Rattle.wasm_item_checks.specs.Answers.{IsPlainRefusalAt};
 ghost use Rattle.wasm_item_checks.specs.Items.{are_ordered, are_at_most};
+ghost use Rattle.wasm_readers_errors.specs.Refusals.{refused};
+ghost use Rattle.wasm_item_checks.specs.Told.{told_of_limits, told_of_sizes};
 
-use wasm_readers_errors::{Fault, ItemRule, Refusal};
+use wasm_readers_errors::{Fault, ItemRule, Refusal, hold};
 
 /// Accepts a smallest size that is at most the largest one (Core Specification 3.0, Validation, Types,
 /// Limits).
 pub(crate) fn check_limits(initial: u64, maximum: Option<u64>, offset: u64) -> Result<(), Refusal>
     ensures allowed { is_ok result ≡ are_ordered initial maximum }
     ensures refusal { IfErr result (IsPlainRefusalAt offset) }
+    ensures told { refused result ≡ told_of_limits offset initial maximum }
 {
     let Some(maximum) = maximum else {
         return Ok(());
     };
-    if initial <= maximum {
-        Ok(())
-    } else {
-        Err(Refusal::new(Fault::Item(ItemRule::MinimumAboveMaximum), offset))
-    }
+    let fault = Fault::Item(ItemRule::MinimumAboveMaximum);
+    hold(initial <= maximum, fault, offset)
 }
 
 /// Accepts sizes that are at most `most`, and refuses others with this fault.
@@ -32,14 +32,11 @@ pub(crate) fn check_sizes(
 ) -> Result<(), Refusal>
     ensures allowed { is_ok result ≡ are_at_most most initial maximum }
     ensures refusal { IfErr result (IsPlainRefusalAt offset) }
+    ensures told { refused result ≡ told_of_sizes offset most initial maximum fault }
 {
     let is_small = match maximum {
         Some(maximum) => initial <= most && maximum <= most,
         None => initial <= most,
     };
-    if is_small {
-        Ok(())
-    } else {
-        Err(Refusal::new(fault, offset))
-    }
+    hold(is_small, fault, offset)
 }

@@ -10,6 +10,8 @@ ghost use Rattle.wasm_item_checks.specs.Answers.{IsPlainRefusalAt};
 ghost use Rattle.wasm_validator_canonical.specs.Indices.{number_in};
 ghost use Rattle.wasm_item_checks.specs.ModuleTypes.{AreKnown, IsSubTypeAt, IsFuncTypeAt, module_types, arity_at, func_arity};
 ghost use Rattle.wasm_item_checks.specs.Items.{is_in_range, is_ref_in_range, is_val_in_range, is_shared_ref_over, is_shared_val_over, is_function};
+ghost use Rattle.wasm_readers_errors.specs.Refusals.{refused};
+ghost use Rattle.wasm_item_checks.specs.Told.{told_of_function, told_of_heap_index, told_of_index, told_of_val_index};
 
 use std::alloc::Allocator;
 use wasm_readers_errors::{Fault, Refusal};
@@ -22,6 +24,7 @@ use wasm_validator_type_list::TypeList;
 fn check_index(count: usize, index: UnpackedIndex, offset: u64) -> Result<(), Refusal>
     ensures allowed { is_ok result ≡ is_in_range count index }
     ensures refusal { IfErr result (IsPlainRefusalAt offset) }
+    ensures told { refused result ≡ told_of_index offset count index }
 {
     match index {
         UnpackedIndex::Module(number) => {
@@ -41,6 +44,7 @@ fn check_index(count: usize, index: UnpackedIndex, offset: u64) -> Result<(), Re
 pub(crate) fn check_ref_index(count: usize, ty: RefType, offset: u64) -> Result<(), Refusal>
     ensures allowed { is_ok result ≡ is_ref_in_range count (ref_of ty) }
     ensures refusal { IfErr result (IsPlainRefusalAt offset) }
+    ensures told { refused result ≡ told_of_heap_index offset count (ref_of ty).heap }
 {
     match ty.heap_type() {
         HeapType::Abstract { .. } => Ok(()),
@@ -52,6 +56,7 @@ pub(crate) fn check_ref_index(count: usize, ty: RefType, offset: u64) -> Result<
 pub(crate) fn check_val_index(count: usize, ty: ValType, offset: u64) -> Result<(), Refusal>
     ensures allowed { is_ok result ≡ is_val_in_range count (val_of ty) }
     ensures refusal { IfErr result (IsPlainRefusalAt offset) }
+    ensures told { refused result ≡ told_of_val_index offset count (val_of ty) }
 {
     match ty {
         ValType::Ref(reference) => check_ref_index(count, reference, offset),
@@ -141,6 +146,7 @@ pub fn func_type_at<'a, A: Allocator + Copy>(
     ensures arity { IfOk result (λ f. arity_at (module_types types.now ids.now) index ≡ Some (length f.now.params, length f.now.results)) }
     ensures value { IfOk result (λ f. IsFuncTypeAt types.now ids.now index f.now) }
     ensures refusal { IfErr result (IsPlainRefusalAt offset) }
+    ensures told { refused result ≡ told_of_function offset (module_types types.now ids.now) index }
 {
     if index as usize >= ids.len() {
         return Err(Refusal::new(Fault::UnknownType(index), offset));

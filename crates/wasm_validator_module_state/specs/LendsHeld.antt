@@ -4,7 +4,7 @@ use Rattle.std.specs.Borrow.{Lends, LendsIf, MutBor, Fml, RattleType, follows_so
 use Rattle.std.specs.declared.alloc.Allocator.{Ghosts}
 use mathlib.Core.Option.{none}
 use Rattle.wasm_validator_module_state.specs.Held.{Held, owned, shared, value_of}
-use Rattle.wasm_validator_core.specs.contracts.maybe_owned.MaybeOwned.{the_row}
+use Rattle.wasm_validator_module_state.specs.contracts.maybe_owned.MaybeOwned.{the_row}
 
 module _ (T A : RattleType) (alloc : Ghosts A.Denot) (s : MutBor (Held T.Denot)) where
   -- once the borrow r ends, the value is owned and the last one written through r

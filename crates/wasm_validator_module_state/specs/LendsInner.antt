@@ -4,7 +4,7 @@ use Rattle.std.specs.Borrow.{Lends, LendsIf, MutBor, Fml, RattleType}
 use Rattle.std.specs.declared.alloc.Allocator.{Ghosts}
 use Rattle.wasm_validator_module_state.specs.declared.maybe_owned.Inner.{Inner}
 use Rattle.wasm_validator_module_state.specs.declared.maybe_owned.Inner.TheVariants.{Owned}
-use Rattle.wasm_validator_core.specs.contracts.maybe_owned.Inner.{the_row}
+use Rattle.wasm_validator_module_state.specs.contracts.maybe_owned.Inner.{the_row}
 
 module _ (T A : RattleType) (alloc : Ghosts A.Denot) (s : MutBor (Inner T.Denot A.Denot)) where
   -- once the borrow r ends, it owns the last value written through r

@@ -8,12 +8,13 @@ ghost use Rattle.wasm_rules.specs.FeatureFlags.{features_of};
 ghost use Rattle.wasm_readers_types.specs.SeenValues.{field_of, storage_of, val_of};
 ghost use Rattle.wasm_readers_types.specs.SeenTypes.{array_of, comp_of, cont_of, func_of, struct_of};
 ghost use Rattle.wasm_value_checks.specs.Allowed.{allows_comp};
+ghost use Rattle.wasm_readers_errors.specs.Refusals.{refused};
 ghost use Rattle.wasm_value_checks.specs.Refusals.{IsMissing};
+ghost use Rattle.wasm_value_checks.specs.Told.{first_told, told_of_val, told_of_storage, told_of_field, told_of_comp};
 
-use crate::require::require;
 use crate::value_types::check_value_type;
 use std::alloc::Allocator;
-use wasm_readers_errors::{Fault, GroupRule, Refusal, Rule, WasmFeatures};
+use wasm_readers_errors::{Fault, GroupRule, Refusal, Rule, WasmFeatures, require, require_if};
 use wasm_readers_types::{
     ArrayType, CompositeInnerType, ContType, FieldType, FuncType, StorageType, StructType, ValType,
 };
@@ -22,6 +23,7 @@ use wasm_readers_types::{
 fn check_value_types(features: WasmFeatures, types: &[ValType], offset: u64) -> Result<(), Refusal>
     ensures allowed { is_ok result ≡ list_all (allows_val (features_of features)) (map val_of types.now) }
     ensures refusal { IfErr result (IsMissing features offset) }
+    ensures told { refused result ≡ first_told (told_of_val features offset) (map val_of types.now) }
 {
     for ty in types {
         check_value_type(features, *ty, offset)?;
@@ -33,6 +35,7 @@ fn check_value_types(features: WasmFeatures, types: &[ValType], offset: u64) -> 
 fn check_storage_type(features: WasmFeatures, ty: StorageType, offset: u64) -> Result<(), Refusal>
     ensures allowed { is_ok result ≡ allows_storage (features_of features) (storage_of ty) }
     ensures refusal { IfErr result (IsMissing features offset) }
+    ensures told { refused result ≡ told_of_storage features offset (storage_of ty) }
 {
     match ty {
         StorageType::I8 | StorageType::I16 => Ok(()),
@@ -44,6 +47,7 @@ fn check_storage_type(features: WasmFeatures, ty: StorageType, offset: u64) -> R
 fn check_fields(features: WasmFeatures, fields: &[FieldType], offset: u64) -> Result<(), Refusal>
     ensures allowed { is_ok result ≡ list_all (allows_storage (features_of features)) (map field_storage (map field_of fields.now)) }
     ensures refusal { IfErr result (IsMissing features offset) }
+    ensures told { refused result ≡ first_told (told_of_field features offset) (map field_of fields.now) }
 {
     for field in fields {
         check_storage_type(features, field.element_type, offset)?;
@@ -59,6 +63,7 @@ fn check_func_type<A: Allocator>(
 ) -> Result<(), Refusal>
     ensures allowed { is_ok result ≡ allows_comp (features_of features) (func_of ty.now) }
     ensures refusal { IfErr result (IsMissing features offset) }
+    ensures told { refused result ≡ told_of_comp features offset (func_of ty.now) }
 {
     check_value_types(features, ty.params(), offset)?;
     check_value_types(features, ty.results(), offset)?;
@@ -74,6 +79,7 @@ fn check_func_type<A: Allocator>(
 fn check_array_type(features: WasmFeatures, ty: ArrayType, offset: u64) -> Result<(), Refusal>
     ensures allowed { is_ok result ≡ allows_comp (features_of features) (array_of ty) }
     ensures refusal { IfErr result (IsMissing features offset) }
+    ensures told { refused result ≡ told_of_comp features offset (array_of ty) }
 {
     let fault = Fault::Group(GroupRule::Arrays);
     require(features, WasmFeatures::GC, fault, offset)?;
@@ -91,6 +97,7 @@ fn check_struct_type<A: Allocator>(
 ) -> Result<(), Refusal>
     ensures allowed { is_ok result ≡ allows_comp (features_of features) (struct_of ty.now) }
     ensures refusal { IfErr result (IsMissing features offset) }
+    ensures told { refused result ≡ told_of_comp features offset (struct_of ty.now) }
 {
     let fault = Fault::Group(GroupRule::Structs);
     require(features, WasmFeatures::GC, fault, offset)?;
@@ -103,6 +110,7 @@ fn check_struct_type<A: Allocator>(
 fn check_cont_type(features: WasmFeatures, ty: ContType, offset: u64) -> Result<(), Refusal>
     ensures allowed { is_ok result ≡ allows_comp (features_of features) (cont_of ty) }
     ensures refusal { IfErr result (IsMissing features offset) }
+    ensures told { refused result ≡ told_of_comp features offset (cont_of ty) }
 {
     let fault = Fault::Group(GroupRule::Continuations);
     require(features, WasmFeatures::STACK_SWITCHING, fault, offset)?;
@@ -126,6 +134,7 @@ pub fn check_composite_type<A: Allocator>(
 ) -> Result<(), Refusal>
     ensures allowed { is_ok result ≡ allows_comp (features_of features) (comp_of ty.now) }
     ensures refusal { IfErr result (IsMissing features offset) }
+    ensures told { refused result ≡ told_of_comp features offset (comp_of ty.now) }
 {
     match ty {
         CompositeInnerType::Func(func) => check_func_type(features, func, offset),

@@ -2,7 +2,6 @@
 #![tactic(auto)]
 
 mod composite_types;
-mod require;
 mod value_types;
 
 pub use composite_types::check_composite_type;

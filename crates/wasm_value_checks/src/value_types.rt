@@ -6,11 +6,12 @@ ghost use Rattle.wasm_spec.specs.ValueTypes.{abstract_needs, allows_heap, allows
 ghost use Rattle.wasm_rules.specs.FeatureFlags.{features_of};
 ghost use Rattle.wasm_readers_types.specs.SeenValues.{abstract_heap_of, ref_of, val_of};
 ghost use Rattle.wasm_readers_types.specs.declared.indices.UnpackedIndex.{UnpackedIndex};
+ghost use Rattle.wasm_readers_errors.specs.Refusals.{refused};
 ghost use Rattle.wasm_value_checks.specs.Refusals.{IsMissing};
+ghost use Rattle.wasm_value_checks.specs.Told.{told_of_abstract, told_of_heap, told_of_ref, told_of_val};
 
-use crate::require::require;
 use bitflags::Flags;
-use wasm_readers_errors::{Fault, Refusal, Rule, ValueTypeRule, WasmFeatures};
+use wasm_readers_errors::{Fault, Refusal, Rule, ValueTypeRule, WasmFeatures, require, require_if};
 use wasm_readers_types::{AbstractHeapType, HeapType, RefType, ValType};
 
 /// Accepts where the features allow what this abstract heap type stands for.
@@ -22,6 +23,7 @@ fn check_abstract_needs(
 ) -> Result<(), Refusal>
     ensures allowed { is_ok result ≡ abstract_needs (features_of features) nullable (abstract_heap_of ty) }
     ensures refusal { IfErr result (IsMissing features offset) }
+    ensures told { refused result ≡ told_of_abstract features offset nullable (abstract_heap_of ty) }
 {
     let (feature, rule) = match ty {
         AbstractHeapType::Func | AbstractHeapType::Extern => {
@@ -64,6 +66,7 @@ fn check_abstract_heap_type(
 ) -> Result<(), Refusal>
     ensures allowed { is_ok result ≡ allows_heap {R = UnpackedIndex} (features_of features) nullable (abstract_heap shared (abstract_heap_of ty)) }
     ensures refusal { IfErr result (IsMissing features offset) }
+    ensures told { refused result ≡ told_of_heap features offset {R = UnpackedIndex} nullable (abstract_heap shared (abstract_heap_of ty)) }
 {
     if shared {
         let fault = Fault::ValueType(ValueTypeRule::SharedReferences);
@@ -91,6 +94,7 @@ fn check_abstract_heap_type(
 pub fn check_ref_type(features: WasmFeatures, ty: RefType, offset: u64) -> Result<(), Refusal>
     ensures allowed { is_ok result ≡ allows_ref (features_of features) (ref_of ty) }
     ensures refusal { IfErr result (IsMissing features offset) }
+    ensures told { refused result ≡ told_of_ref features offset (ref_of ty) }
 {
     let fault = Fault::ValueType(ValueTypeRule::ReferenceTypes);
     require(features, WasmFeatures::REFERENCE_TYPES, fault, offset)?;
@@ -126,6 +130,7 @@ pub fn check_ref_type(features: WasmFeatures, ty: RefType, offset: u64) -> Resul
 pub fn check_value_type(features: WasmFeatures, ty: ValType, offset: u64) -> Result<(), Refusal>
     ensures allowed { is_ok result ≡ allows_val (features_of features) (val_of ty) }
     ensures refusal { IfErr result (IsMissing features offset) }
+    ensures told { refused result ≡ told_of_val features offset (val_of ty) }
 {
     match ty {
         ValType::I32 | ValType::I64 => Ok(()),

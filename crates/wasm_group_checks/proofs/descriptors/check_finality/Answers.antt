@@ -6,15 +6,15 @@ use Rattle.wasm_group_checks.specs.Rules.{HasSameFinality}
 use Rattle.wasm_group_checks.proofs.Decided.{on_none, on_some, is_decided}
 use Rattle.wasm_group_checks.proofs.descriptors.check_finality.Goals as goal
 
-pub returns-in-Some : goal.returns-in-Some
-returns-in-Some g c =
+pub returns-in-Some-clause-decided : goal.returns-in-Some-clause-decided
+returns-in-Some-clause-decided g c =
     let D = declares c.args.types.now.groups in
     let a = c.args.id.index in
     on_some number (HasSameFinality D a) c.descriptor.result (descriptor_of D a) c.in-Some.of_type (is_ok c.hold.result) c.descriptor.ensures.leads c.in-Some.is
-    (is_decided (is_ok c.hold.result) c.have_same_finality.result c.hold.ensures c.have_same_finality.ensures)
+    (is_decided (is_ok c.hold.result) c.have_same_finality.result c.hold.ensures.allowed c.have_same_finality.ensures)
 
-pub returns-in-None : goal.returns-in-None
-returns-in-None g c =
+pub returns-in-None-clause-decided : goal.returns-in-None-clause-decided
+returns-in-None-clause-decided g c =
     let D = declares c.args.types.now.groups in
     let a = c.args.id.index in
     on_none number (HasSameFinality D a) c.descriptor.result (descriptor_of D a) true c.descriptor.ensures.leads c.in-None.is refl

@@ -1,9 +1,12 @@
 use Rattle.std.proofs.Common.{◌≡◌, ◌<◌, ◌+◌, length, ap, arith}
 use Rattle.std.specs.declared.ops.Range.{Range}
 use Rattle.wasm_readers_types.specs.declared.indices.CoreTypeId.{CoreTypeId}
-use Rattle.wasm_grouped_list.specs.Groups.{first_of}
+use Rattle.wasm_grouped_list.specs.Groups.{first_of, IsInGroup}
 use Rattle.wasm_validator_type_list.specs.Listing.{types_in}
 use Rattle.wasm_validator_type_list.proofs.Standing.{first_of-within}
+use Rattle.std.proofs.lemmas.Grind.{common_steps}
+use Rattle.wasm_readers_errors.specs.Refusals.{refused}
+use Rattle.wasm_group_checks.proofs.Told.{group_tells}
 use Rattle.wasm_group_checks.proofs.groups.check_rec_group.Goals as goal
 
 pub overflow_cast-index : goal.overflow_cast-index
@@ -18,3 +21,18 @@ check_type-requires g c =
     let gs = c.args.types.now.groups in
     let end : c.index-ids.result.now.end.index ≡ first_of gs (c.args.group.index + 1) = ap (λ (ids : Range CoreTypeId). ids.end.index) c.index-ids.ensures in
     omega (arith, end, c.index-index-end.ensures, c.members-test.true, first_of-within gs (c.args.group.index + 1), c.from_index-id.ensures)
+
+pub returns-in_err-check_type-clause-told : goal.returns-in_err-check_type-clause-told
+returns-in_err-check_type-clause-told g c =
+    let gs = c.args.types.now.groups in
+    let k = c.args.group.index in
+    let start : c.index-ids.result.now.start.index ≡ first_of gs k = ap (λ (ids : Range CoreTypeId). ids.start.index) c.index-ids.ensures in
+    let end : c.index-ids.result.now.end.index ≡ first_of gs (k + 1) = ap (λ (ids : Range CoreTypeId). ids.end.index) c.index-ids.ensures in
+    let e : refused c.from_residual.result ≡ refused c.check_type.result = grind (arith, common_steps) in
+    let inside : IsInGroup gs k c.from_index-id.result.index = record {
+      there = c.requires;
+      from = omega (arith, start, c.from_index-id.ensures);
+      below = omega (arith, end, c.index-index-end.ensures, c.members-test.true, c.from_index-id.ensures);
+    } in
+    group_tells c.args.features c.args.offset gs k c.from_index-id.result.index c.from_residual.result (refused c.check_type.result) e inside c.check_type.ensures.told
+    (λ before from below. c.members.invariant before from (omega (arith, below, c.from_index-id.ensures)))

@@ -10,12 +10,12 @@ links-preserved g c = record {
   inside = c.in-Some.ensures.there;
 }
 
-pub returns-in-None : goal.returns-in-None
-returns-in-None g c =
+pub returns-in-None-clause-decided : goal.returns-in-None-clause-decided
+returns-in-None-clause-decided g c =
     let below : c.links.depth < 64 = omega arith in
     ends_before (declares c.args.types.now.groups) c.links.depth 64 c.args.id.index c.links.ancestor.index true below c.links.invariant.leads (sym c.supertype.ensures.leads ∙ ap numbered c.in-None.is) refl
 
-pub returns : goal.returns
-returns g c =
+pub returns-clause-decided : goal.returns-clause-decided
+returns-clause-decided g c =
     let end : c.links.depth ≡ 64 = omega arith in
     goes_on (declares c.args.types.now.groups) c.links.depth 64 c.args.id.index c.links.ancestor.index false end c.links.invariant.leads refl
