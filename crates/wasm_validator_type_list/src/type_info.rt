@@ -1,4 +1,4 @@
-ghost use Rattle.std.specs.Prelude.{◌≡◌, ◌<◌, ◌≤◌, ◌^◌, ℕ, List};
+ghost use Rattle.std.specs.Prelude.{◌≡◌, ◌<◌, ◌≤◌, ◌^◌, ℕ, Bool, true, false, List};
 ghost use Rattle.wasm_validator_type_list.specs.Sizes.{size_of_inner};
 
 use crate::type_list::TypeList;
@@ -41,6 +41,8 @@ pub trait TypeData<A: Allocator>: Debug {
     /// Whether it is a sub type.
     const IS_CORE_SUB_TYPE: bool;
 
+    ghost IS_CORE_SUB_TYPE: { Bool };
+
     ghost size: { Self → ℕ };
 
     /// How large it is. The size has to fit 24 bits.
@@ -77,6 +79,8 @@ impl<A: Allocator> TypeData<A> for SubType<A> {
     type Id = CoreTypeId;
 
     const IS_CORE_SUB_TYPE: bool = true;
+
+    ghost IS_CORE_SUB_TYPE = { true };
 
     ghost use Rattle.wasm_validator_type_list.specs.Sizes.{size_of_sub};
 
@@ -128,6 +132,8 @@ impl<A: Allocator> TypeData<A> for Range<CoreTypeId> {
     type Id = RecGroupId;
 
     const IS_CORE_SUB_TYPE: bool = false;
+
+    ghost IS_CORE_SUB_TYPE = { false };
 
     ghost use Rattle.wasm_validator_type_list.specs.Sizes.{size_of_group};
 

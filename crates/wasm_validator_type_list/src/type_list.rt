@@ -3,7 +3,7 @@ ghost use Rattle.std.specs.declared.option.Option.TheVariants.{None};
 ghost use Rattle.wasm_readers_types.specs.Indices.{number_of, module_of};
 ghost use Rattle.wasm_readers_types.specs.declared.indices.TheConstants.{MAX_IDS};
 ghost use Rattle.wasm_grouped_list.specs.Groups.{first_of, IsInGroup};
-ghost use Rattle.wasm_grouped_list.specs.Spans.{spans_of};
+ghost use Rattle.wasm_grouped_list.specs.Spans.{span, spans_of};
 ghost use Rattle.wasm_grouped_list.specs.Elements.{ids_left, ids_of_group};
 ghost use Rattle.wasm_validator_type_list.specs.Refused.{not_in_group};
 ghost use Rattle.wasm_validator_type_list.specs.Lookups.{leads_to, Leads};
@@ -126,6 +126,18 @@ impl<A: Allocator + Copy> TypeList<A> {
         ensures when { IsSome result ↔ (id.index < length (types_in self.now)) }
     {
         self.groups.get(id.index())
+    }
+
+    /// The ids of the types of the group with this id, if there is one.
+    pub fn get_rec_group(&self, group: RecGroupId) -> Option<&Range<CoreTypeId>>
+        ensures found { IfSome result (λ ids. ids.now ≡ span (first_of self.now.groups group.index) (first_of self.now.groups (group.index + 1))) }
+        ensures when { IsSome result ↔ (group.index < length self.now.groups) }
+    {
+        if group.index() < self.groups.group_count() {
+            Some(self.groups.members(group.index()))
+        } else {
+            None
+        }
     }
 
     /// All types, in the order of their ids.

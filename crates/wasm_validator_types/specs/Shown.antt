@@ -1,7 +1,8 @@
 -- What the types of a validated module show.
-use Rattle.std.specs.Prelude.{ℕ, List}
+use Rattle.std.specs.Prelude.{ℕ, ◌<◌, List, length}
+use Rattle.std.specs.List.{All}
 use Rattle.wasm_spec.specs.Trees.{DefType}
-use Rattle.wasm_validator_type_list.specs.Listing.{Listing}
+use Rattle.wasm_validator_type_list.specs.Listing.{Listing, types_in}
 use Rattle.wasm_validator_type_list.specs.Standing.{standing}
 use Rattle.wasm_validator_types.specs.declared.shown.Types.{Types}
 use Rattle.wasm_validator_types.specs.declared.shown.TypesRef.{TypesRef}
@@ -23,3 +24,7 @@ module _ {A : Type 0} where
   -- the types that the ids of a list stand for
   abbrev pub types_of : Listing A → List DefType
   types_of l = standing l.is_canonical l.groups
+
+  -- each type of the module has the id of a type of the list
+  abbrev pub HoldsIds : Shown A → Type 0
+  HoldsIds s = All (λ id. id < length (types_in s.list)) s.spaces.types

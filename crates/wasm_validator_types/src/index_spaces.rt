@@ -1,7 +1,8 @@
 //! The index spaces of a module, as far as it has been read. The validator fills them; a user reads
 //! them through `Types` and `TypesRef`.
 
-ghost use Rattle.std.specs.Prelude.{◌≡◌, ◌+◌, ◌<◌, ◌^◌, ◌++◌, ◌∷◌, [], length, false, slice_index, slice_get, map, OnOk, OnErr};
+ghost use Rattle.std.specs.Prelude.{◌≡◌, ◌+◌, ◌<◌, ◌^◌, ◌++◌, ◌∷◌, [], ℕ, length, false, slice_index, slice_get, map, OnOk, OnErr};
+ghost use Rattle.std.specs.List.{All};
 ghost use Rattle.std.specs.declared.option.Option.TheVariants.{Some};
 ghost use Rattle.wasm_readers_types.specs.SeenExterns.{table_of, memory_of, global_of};
 ghost use Rattle.wasm_validator_types.specs.Entities.{entity_of};
@@ -109,7 +110,8 @@ impl<A: Allocator + Copy> IndexSpaces<A> {
     /// The id of the type with this index.
     pub fn type_at(&self, index: u32) -> CoreTypeId
         requires { index < length self.now.types }
-        ensures { result.index ≡ slice_index self.now.types index }
+        ensures value { result.index ≡ slice_index self.now.types index }
+        ensures below { (ids : ℕ) → All (λ id. id < ids) self.now.types → result.index < ids }
     {
         self.types[index as usize]
     }
@@ -150,7 +152,8 @@ impl<A: Allocator + Copy> IndexSpaces<A> {
     /// The id of the type of the function with this index.
     pub fn function_type_id(&self, index: u32) -> CoreTypeId
         requires { index < length self.now.functions }
-        ensures { result.index ≡ slice_index self.now.types (slice_index self.now.functions index) }
+        ensures value { result.index ≡ slice_index self.now.types (slice_index self.now.functions index) }
+        ensures below { (ids : ℕ) → All (λ id. id < ids) self.now.types → result.index < ids }
     {
         self.type_at(self.function_type_index(index))
     }
@@ -308,7 +311,8 @@ impl<A: Allocator + Copy> IndexSpaces<A> {
     /// The id of the type of the tag with this index.
     pub fn tag_type_id(&self, index: u32) -> CoreTypeId
         requires { index < length self.now.tags }
-        ensures { result.index ≡ slice_index self.now.types (slice_index self.now.tags index) }
+        ensures value { result.index ≡ slice_index self.now.types (slice_index self.now.tags index) }
+        ensures below { (ids : ℕ) → All (λ id. id < ids) self.now.types → result.index < ids }
     {
         self.type_at(self.tag_type_index(index))
     }

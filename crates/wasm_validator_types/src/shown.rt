@@ -1,13 +1,14 @@
-ghost use Rattle.std.specs.Prelude.{◌≡◌, ◌<◌, length, slice_get, slice_index, slice_index_or, IfSome, IsSome, ◌↔◌};
+ghost use Rattle.std.specs.Prelude.{◌≡◌, ◌+◌, ◌<◌, length, slice_get, slice_index, slice_index_or, IfSome, IsSome, ◌↔◌};
 ghost use Rattle.std.specs.declared.option.Option.TheVariants.{Some};
 ghost use Rattle.wasm_readers_types.specs.SeenExterns.{table_of, memory_of, global_of};
-ghost use Rattle.wasm_grouped_list.specs.Groups.{IsInGroup};
+ghost use Rattle.wasm_grouped_list.specs.Groups.{IsInGroup, first_of};
+ghost use Rattle.wasm_grouped_list.specs.Spans.{span};
 ghost use Rattle.wasm_grouped_list.specs.Elements.{ids_left, ids_of_group};
 ghost use Rattle.wasm_validator_type_list.specs.Listing.{types_in};
 ghost use Rattle.wasm_validator_type_list.specs.Lookups.{IsSupertypeAt};
 ghost use Rattle.wasm_validator_types.specs.Left.{imports_left, exports_left};
 ghost use Rattle.wasm_validator_types.specs.Rows.{all_imports};
-ghost use Rattle.wasm_validator_types.specs.Shown.{shown_of, shown_by};
+ghost use Rattle.wasm_validator_types.specs.Shown.{shown_of, shown_by, HoldsIds};
 
 use crate::id::ValidatorId;
 use crate::imports_exports::{CoreExports, CoreImports};
@@ -116,6 +117,14 @@ impl<'a, A: Allocator + Copy> TypesRef<'a, A> {
         self.list.get(id)
     }
 
+    /// The ids of the types of the recursion group with this id, if there is one.
+    pub fn get_rec_group(&self, group: RecGroupId) -> Option<&'a Range<CoreTypeId>>
+        ensures found { IfSome result (λ ids. let groups = (shown_by self.now).list.groups in ids.now ≡ span (first_of groups group.index) (first_of groups (group.index + 1))) }
+        ensures when { IsSome result ↔ (group.index < length (shown_by self.now).list.groups) }
+    {
+        self.list.get_rec_group(group)
+    }
+
     /// All types that the validator had when these were made, in recursion groups.
     pub fn type_list(&self) -> &'a TypeList<A>
         ensures { result.now ≡ (shown_by self.now).list }
@@ -154,10 +163,12 @@ impl<'a, A: Allocator + Copy> TypesRef<'a, A> {
         self.spaces.type_count()
     }
 
-    /// The id of the module's type with this index.
+    /// The id of the module's type with this index. The list has it, where it has those of all types of
+    /// the module.
     pub fn core_type_at_in_module(&self, index: u32) -> CoreTypeId
         requires { index < length (shown_by self.now).spaces.types }
-        ensures { result.index ≡ slice_index (shown_by self.now).spaces.types index }
+        ensures value { result.index ≡ slice_index (shown_by self.now).spaces.types index }
+        ensures held { HoldsIds (shown_by self.now) → result.index < length (types_in (shown_by self.now).list) }
     {
         self.spaces.type_at(index)
     }
@@ -169,10 +180,12 @@ impl<'a, A: Allocator + Copy> TypesRef<'a, A> {
         self.spaces.function_count()
     }
 
-    /// The id of the type of the function with this index.
+    /// The id of the type of the function with this index. The list has it, where it has those of all
+    /// types of the module.
     pub fn core_function_at(&self, index: u32) -> CoreTypeId
         requires { index < length (shown_by self.now).spaces.functions }
-        ensures { let spaces = (shown_by self.now).spaces in result.index ≡ slice_index spaces.types (slice_index spaces.functions index) }
+        ensures value { let spaces = (shown_by self.now).spaces in result.index ≡ slice_index spaces.types (slice_index spaces.functions index) }
+        ensures held { HoldsIds (shown_by self.now) → result.index < length (types_in (shown_by self.now).list) }
     {
         self.spaces.function_type_id(index)
     }
@@ -229,10 +242,12 @@ impl<'a, A: Allocator + Copy> TypesRef<'a, A> {
         self.spaces.tag_count()
     }
 
-    /// The id of the type of the tag with this index.
+    /// The id of the type of the tag with this index. The list has it, where it has those of all types
+    /// of the module.
     pub fn tag_at(&self, index: u32) -> CoreTypeId
         requires { index < length (shown_by self.now).spaces.tags }
-        ensures { let spaces = (shown_by self.now).spaces in result.index ≡ slice_index spaces.types (slice_index spaces.tags index) }
+        ensures value { let spaces = (shown_by self.now).spaces in result.index ≡ slice_index spaces.types (slice_index spaces.tags index) }
+        ensures held { HoldsIds (shown_by self.now) → result.index < length (types_in (shown_by self.now).list) }
     {
         self.spaces.tag_type_id(index)
     }

@@ -2,8 +2,9 @@ ghost use Rattle.std.specs.Prelude.{◌≡◌, ◌<◌, ◌++◌, ◌∷◌, [],
 
 use std::alloc::{AllocError, AllocFailed, Allocator, Global};
 use std::marker::Model;
-use std::ops::Index;
-use wasm_readers_types::Faithful;
+use std::ops::{Index, Range};
+use wasm_grouped_list::{RecGroupId, copy_of};
+use wasm_readers_types::{CoreTypeId, Faithful, SubType};
 
 /// A list that grows at its end, and of which snapshots are taken. A contract sees the list alone.
 #[derive(Drop)]
@@ -92,16 +93,30 @@ impl<T, A: Allocator> Index<usize> for SnapshotList<T, A> {
     }
 }
 
-/// A list of copies, which a contract cannot tell from `items`.
-fn copy_of<T: Faithful + Drop, A: Allocator + Copy>(
-    alloc: A,
-    items: &[T],
-) -> Result<Vec<T, A>, AllocError>
-    ensures { IfOk result (λ copy. copy.items ≡ items.now) }
-{
-    let mut copy = Vec::new(alloc);
-    for item in items {
-        copy.push(item.clone()?)?;
+impl<A: Allocator> Index<CoreTypeId> for SnapshotList<SubType<A>, A> {
+    type Output = SubType<A>;
+
+    ghost use Rattle.std.specs.Prelude.{◌≡◌, ◌<◌, length, slice_index_or};
+
+    ghost can_index = { λ list id. id.index < length list };
+
+    ghost index_gives = { λ list id ty. ty ≡ slice_index_or list id.index ty };
+
+    fn index(&self, id: CoreTypeId) -> &SubType<A> {
+        &self.items[id.index()]
     }
-    Ok(copy)
+}
+
+impl<A: Allocator> Index<RecGroupId> for SnapshotList<Range<CoreTypeId>, A> {
+    type Output = Range<CoreTypeId>;
+
+    ghost use Rattle.std.specs.Prelude.{◌≡◌, ◌<◌, length, slice_index_or};
+
+    ghost can_index = { λ list group. group.index < length list };
+
+    ghost index_gives = { λ list group ids. ids ≡ slice_index_or list group.index ids };
+
+    fn index(&self, group: RecGroupId) -> &Range<CoreTypeId> {
+        &self.items[group.index()]
+    }
 }

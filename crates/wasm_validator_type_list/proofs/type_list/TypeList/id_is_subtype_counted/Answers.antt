@@ -1,4 +1,4 @@
-use Rattle.std.proofs.Common.{◌≡◌, ◌∙◌, sym, ◌<◌, arith}
+use Rattle.std.proofs.Common.{◌∙◌, sym, ◌<◌, arith}
 use Rattle.wasm_validator_type_list.proofs.Relations.{listable_of, link_down, link_walked, found_on_walk, counts_at, missed_on_walk, counts_at_top}
 use Rattle.wasm_validator_type_list.proofs.type_list.TypeList.id_is_subtype_counted.Goals as goal
 
