@@ -31,7 +31,7 @@ module _ (id : ℕ) (features : WasmFeatures) (types : Types) (m : Spaces) where
     moves_here (results.Ok x) types' m' a = ap (λ o. at_stage before (option_and_then (λ (p : Types × Spaces). Some (in_module p.0 p.1)) o)) a
     moves_here (results.Err (Refused r)) types' m' a = (nowhere_within a, refl)
     moves_here (results.Err (DuplicateExport name offset)) types' m' a = (nowhere_within a, refl)
-    moves_here (results.Err OutOfMemory) types' m' a = refl
+    moves_here (results.Err OutOfMemory) types' m' a = (refl, refl)
 
 module _ {T A : Type 0} (id : ℕ) (features : WasmFeatures) (types : Types) (m : Spaces) (f : WasmFeatures → Types × Spaces → Option (Types × Spaces)) where
   abbrev moves_by : Result T (Error A) → Standing → Standing → Type 0

@@ -12,8 +12,8 @@ use Rattle.wasm_validator_module_state.specs.Bodies.{expected_bodies}
 use Rattle.wasm_rules.specs.FeatureFlags.{features_of}
 use Rattle.wasm_readers_errors.specs.declared.features.WasmFeatures.{WasmFeatures}
 use Rattle.wasm_validator_types.specs.Spaces.{Spaces, no_spaces}
-use Rattle.wasm_validator_core.specs.Answers.{Types, IsNowhere}
-use Rattle.wasm_validator.specs.Standing.{Stage, unparsed, in_module, in_code, ended, failed, Standing, AreValidAt, HoldsValid, refused_at, data_refused_at, body_refused_at, ended_at, within, within_all, at_stage}
+use Rattle.wasm_validator_core.specs.Answers.{Types}
+use Rattle.wasm_validator.specs.Standing.{Stage, unparsed, in_module, in_code, ended, failed, Standing, refused_at, data_refused_at, body_refused_at, ended_at, within, within_all, at_stage}
 use Rattle.wasm_validator.specs.States.{begun, code_started, closed, after_piece}
 use Rattle.wasm_validator.specs.Machine.{no_items, section_items, start_item, data_count_item, beside}
 use Rattle.wasm_validator.specs.Table.{phase_of, bodies_at, call_of, AcceptedByTable, RefusedByTable}
@@ -135,6 +135,13 @@ refused_header (in_code types spaces) = refl
 refused_header (ended types) = refl
 refused_header failed = refl
 
+refused_custom : (g : Stage) → refused_to table.custom (phase_of g) ≡ phase_of g
+refused_custom (unparsed types) = refl
+refused_custom (in_module types spaces) = refl
+refused_custom (in_code types spaces) = refl
+refused_custom (ended types) = refl
+refused_custom failed = refl
+
 -- a body, where so many are to come
 body_turn : (types : Types) (spaces : Spaces) (n : ℕ) → expected_bodies spaces ≡ n → refused_to table.code_entry (table.in_code n) ≡ phase_of (cond (eqb n 0) (in_code types spaces) failed)
 body_turn types spaces zero e = ap table.in_code (sym e)
@@ -154,22 +161,22 @@ refused_unknown (in_code types spaces) = refl
 refused_unknown (ended types) = refl
 refused_unknown failed = refl
 
-refused_end : (s : Standing) (g : Stage) → AreValidAt s.features g → IsNowhere HoldsValid (at_stage s (closed g)) → refused_to table.end (phase_of g) ≡ phase_of (ended_at g)
-refused_end s (unparsed types) v e = refl
-refused_end s (in_module types spaces) v e = absurd (e (record s { stage = ended types }) refl v)
-refused_end s (in_code types spaces) v e = absurd (e (record s { stage = ended types }) refl v)
-refused_end s (ended types) v e = refl
-refused_end s failed v e = refl
+refused_end : (g : Stage) → refused_to table.end (phase_of g) ≡ phase_of (ended_at g)
+refused_end (unparsed types) = refl
+refused_end (in_module types spaces) = refl
+refused_end (in_code types spaces) = refl
+refused_end (ended types) = refl
+refused_end failed = refl
 
 pub refused_by_table : RefusedByTable
-refused_by_table s (Version number kind) v e = refused_header s.stage
-refused_by_table s (Custom name bytes) v e = absurd (e s refl v)
-refused_by_table s (Counted id n bytes) v e = refused_counted (eqb id 11) s.stage
-refused_by_table s (Start x) v e = refused_section s.stage
-refused_by_table s (DataCount n) v e = refused_section s.stage
-refused_by_table s (CodeStart n size) v e = refused_code (bodies_at s.stage) s.stage
-refused_by_table s (CodeEntry bytes) v e = refused_body s.stage
-refused_by_table s (Unknown id bytes) v e = refused_unknown s.stage
-refused_by_table s parts.End v e = refused_end s s.stage v e
+refused_by_table s (Version number kind) = refused_header s.stage
+refused_by_table s (Custom name bytes) = refused_custom s.stage
+refused_by_table s (Counted id n bytes) = refused_counted (eqb id 11) s.stage
+refused_by_table s (Start x) = refused_section s.stage
+refused_by_table s (DataCount n) = refused_section s.stage
+refused_by_table s (CodeStart n size) = refused_code (bodies_at s.stage) s.stage
+refused_by_table s (CodeEntry bytes) = refused_body s.stage
+refused_by_table s (Unknown id bytes) = refused_unknown s.stage
+refused_by_table s parts.End = refused_end s.stage
 
 pub ruleset table_laws = (accepted_by_table, refused_by_table)

@@ -125,22 +125,22 @@ abbrev pub HoldsValid : Standing → Type 0
 HoldsValid s = AreValidAt s.features s.stage
 
 -- A call moves to where the machine moves; where it refuses the content the machine moves nowhere, or to where a type
--- isn't valid, and the validator is left at the stage that is given; a call that is refused memory fails the validator.
+-- isn't valid, and the validator is left at the stage that is given. Memory is refused only where that stage is failed.
 abbrev pub Leaves : {T A : Type 0} → Result T (Error A) → Option Standing → Stage → Standing → Standing → Type 0
 Leaves (Ok x) next left old new = next ≡ Some new
 Leaves (Err (Refused r)) next left old new = IsNowhere HoldsValid next × (new ≡ record old { stage = left })
 Leaves (Err (DuplicateExport name offset)) next left old new = IsNowhere HoldsValid next × (new ≡ record old { stage = left })
-Leaves (Err OutOfMemory) next left old new = new ≡ record old { stage = failed }
+Leaves (Err OutOfMemory) next left old new = (left ≡ failed) × (new ≡ record old { stage = failed })
 
 -- a section's call, which fails the validator where it is refused in a module, and elsewhere changes nothing
 abbrev pub Moves : {T A : Type 0} → Result T (Error A) → Option Standing → Standing → Standing → Type 0
 Moves result next old new = Leaves result next (refused_at old.stage) old new
 
--- what `end` leaves, but where memory is refused
+-- what a refused `end` leaves: in a module it is refused memory alone
 abbrev pub ended_at : Stage → Stage
 ended_at (unparsed types) = ended types
-ended_at (in_module types spaces) = ended types
-ended_at (in_code types spaces) = ended types
+ended_at (in_module types spaces) = failed
+ended_at (in_code types spaces) = failed
 ended_at (ended types) = ended types
 ended_at failed = failed
 

@@ -4,9 +4,8 @@ use Rattle.wasm_parser.specs.Framing as parts
 use Rattle.wasm_parser.specs.Framing.{Piece, Version, Custom, Counted, Start, DataCount, CodeStart, CodeEntry, Unknown}
 use Rattle.wasm_rules.specs.StateTable as table
 use Rattle.wasm_rules.specs.StateTable.{Phase, Call, header, section, code_start, code_entry, data_section, custom, unknown, accepted_to, refused_to}
-use Rattle.wasm_validator_core.specs.Answers.{IsNowhere}
 use Rattle.wasm_validator_module_state.specs.Bodies.{expected_bodies}
-use Rattle.wasm_validator.specs.Standing.{Stage, unparsed, in_module, in_code, ended, failed, Standing, HoldsValid}
+use Rattle.wasm_validator.specs.Standing.{Stage, unparsed, in_module, in_code, ended, failed, Standing}
 use Rattle.wasm_validator.specs.States.{after_piece, left_by}
 
 -- no body is taken yet
@@ -40,6 +39,6 @@ call_of g parts.End = table.end
 abbrev pub AcceptedByTable : Type 0
 AcceptedByTable = (s t : Standing) (p : Piece) → after_piece s p ≡ Some t → accepted_to (call_of s.stage p) (phase_of s.stage) ≡ Some (phase_of t.stage)
 
--- one that is refused by a validator whose types are valid leaves what the table says
+-- one that is refused leaves what the table says
 abbrev pub RefusedByTable : Type 0
-RefusedByTable = (s : Standing) (p : Piece) → HoldsValid s → IsNowhere HoldsValid (after_piece s p) → refused_to (call_of s.stage p) (phase_of s.stage) ≡ phase_of (left_by p s.stage)
+RefusedByTable = (s : Standing) (p : Piece) → refused_to (call_of s.stage p) (phase_of s.stage) ≡ phase_of (left_by p s.stage)

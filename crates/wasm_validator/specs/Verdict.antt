@@ -51,9 +51,9 @@ RefusesModule bytes old =
 -- what the answer on whole bytes says: of acceptance with no premise, of a refusal unless memory was refused
 abbrev pub DecidesModule : {A : Type 0} → Result (shown.Types A) (Error A) → List ℕ → Standing → Standing → Type 0
 DecidesModule (results.Ok t) bytes old new = (expression_at : Expressions) → AcceptsModule expression_at bytes old new t
-DecidesModule (results.Err (Refused r)) bytes old new = RefusesModule bytes old × IsLeft old new
-DecidesModule (results.Err (DuplicateExport name offset)) bytes old new = RefusesModule bytes old × IsLeft old new
-DecidesModule (results.Err OutOfMemory) bytes old new = IsOutOfMemory old new
+DecidesModule (results.Err (Refused r)) bytes old new = RefusesModule bytes old × IsLeft bytes old new
+DecidesModule (results.Err (DuplicateExport name offset)) bytes old new = RefusesModule bytes old × IsLeft bytes old new
+DecidesModule (results.Err OutOfMemory) bytes old new = IsOutOfMemory bytes old new
 
 -- The same of a validator that is made for these bytes: no module has as many types as its list may hold.
 abbrev pub DecidesAlone : {A : Type 0} → Result (shown.Types A) (Error A) → List ℕ → ℕ → WasmFeatures → Type 0
