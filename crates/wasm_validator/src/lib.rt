@@ -21,8 +21,8 @@ pub use wasm_validator_types::{
     TypeData, TypeIdentifier, TypeInfo, TypeList, Types, TypesRef, ValidatorId,
 };
 
-/// A payload that is accepted leads a validator where the state table says, and one that is refused for
-/// its content leaves it where the table says.
+/// A payload that is accepted leads a validator where the state table says, and one that is refused, for
+/// its content or for want of memory, leaves it where the table says.
 #[tactic(auto, using(crate::proofs::Table::table_laws))]
 pub fn state_table()
     ensures accepted { AcceptedByTable }
@@ -31,7 +31,8 @@ pub fn state_table()
 
 /// Where equal types are one, two types of any modules that one validator has accepted, one after
 /// another with `reset` between two of them, have the same id exactly where they are equal: the same
-/// place of equal recursive types (Core Specification 3.0, Validation, Types, Recursive Types).
+/// place of equal recursive types (Core Specification 3.0, Validation, Types, Recursive Types). Others may
+/// stand between them that were refused so that the validator could be reset.
 pub fn one_id_for_one_type<A>()
     ensures { OneIdForOneType A }
 {}
