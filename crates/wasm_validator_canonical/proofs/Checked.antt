@@ -11,7 +11,6 @@ use Rattle.wasm_spec.specs.Features.{Features}
 use Rattle.wasm_spec.specs.Trees.{declared}
 use Rattle.wasm_spec.specs.Closing.{positions}
 use Rattle.wasm_spec.specs.GroupRules.{IsValidType}
-use Rattle.wasm_spec.specs.TypeLaws.{HasNoRepetition}
 use Rattle.wasm_readers_errors.specs.declared.error.Error.{Error}
 use Rattle.wasm_readers_errors.specs.declared.error.Error.TheVariants.{Refused, OutOfMemory}
 use Rattle.wasm_readers_types.specs.declared.types.SubType.{SubType}
@@ -23,6 +22,7 @@ use Rattle.wasm_validator_type_list.specs.Refused.{RefusesTooMany}
 use Rattle.wasm_validator_type_list.specs.Standing.{standing, tree_behind, listed_group, listed_sub}
 use Rattle.wasm_grouped_list.proofs.Flat.{first_of-stays, first_of-all}
 use Rattle.wasm_grouped_list.proofs.Places.{get-end, get-right}
+use Rattle.wasm_validator_type_list.proofs.Placed.{once_in}
 use Rattle.wasm_validator_type_list.proofs.Standing.{standing-push, length-standing, first_of-within}
 use Rattle.wasm_group_checks.specs.Rules.{IsValidGroupAt}
 use Rattle.wasm_group_checks.proofs.IdsAndTypes.{ids_keep_rules_as_types}
@@ -30,7 +30,6 @@ use Rattle.wasm_validator_canonical.specs.Groups.{AreValid}
 use Rattle.wasm_validator_canonical.specs.Interned.{InternsValid}
 use Rattle.wasm_validator_canonical.proofs.Interning.{first_of_next}
 use Rattle.wasm_validator_canonical.proofs.Lists.{all_from, all_at, some_at}
-use Rattle.wasm_validator_canonical.proofs.OneId.{no_repetition_where_not_canonical}
 use Rattle.wasm_validator_canonical.proofs.Held.{length-positions}
 
 -- a refusal, as the answer of interning
@@ -38,13 +37,8 @@ abbrev pub too_many : Error → Result (Bool × RecGroupId) Error
 too_many e = results.Err e
 
 module _ {A : Type 0} (F : Features) where
-  -- no type has two ids
-  once_in : (c : Bool) (gs : List (List (SubType A))) → (c ≡ true → AreOnce gs) → HasNoRepetition (standing c gs)
-  once_in true gs h = (h refl).types
-  once_in false gs h = no_repetition_where_not_canonical gs
-
   -- the types of each group of a list of valid types keep the rules
-  group_valid : (c : Bool) (gs : List (List (SubType A))) (n : ℕ) → AreListable gs → (c ≡ true → AreOnce gs) → AreValid F (standing c gs) → IsValidGroupAt F gs n
+  pub group_valid : (c : Bool) (gs : List (List (SubType A))) (n : ℕ) → AreListable gs → (c ≡ true → AreOnce gs) → AreValid F (standing c gs) → IsValidGroupAt F gs n
   group_valid c gs n listable once v id i =
       let below = i.below in
       let within = first_of-within gs (n + 1) in

@@ -21,7 +21,7 @@ module _ {A : Type 0} where
   top_depth gs id h = record { top = id; leads = refl; is_top = supertype_read gs id None h }
 
   -- one that extends another has one more than that
-  next_depth : (gs : List (List (SubType A))) (id : ℕ) (above : CoreTypeId) (n : ℕ) → IsSupertypeAt gs id (Some above) → IsDepth (declares gs) above.index n → IsDepth (declares gs) id (suc n)
+  pub next_depth : (gs : List (List (SubType A))) (id : ℕ) (above : CoreTypeId) (n : ℕ) → IsSupertypeAt gs id (Some above) → IsDepth (declares gs) above.index n → IsDepth (declares gs) id (suc n)
   next_depth gs id above n h d =
       record { top = d.top; leads = ap (option_and_then (ancestor_at (declares gs) n)) (supertype_read gs id (Some above) h) ∙ d.leads; is_top = d.is_top }
 

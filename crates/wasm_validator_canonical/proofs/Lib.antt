@@ -7,14 +7,15 @@ pub mod Kept
 pub mod Bounds
 pub mod Listable
 pub mod NothingAdded
-pub mod OneId
 pub mod Interning
 pub mod Checked
 pub mod AddedGroups
 pub mod ValidAlone
 pub mod Standing
 pub mod Steps
+pub mod OwnIds
 pub mod Sections
 pub mod Arities
 pub mod NewIds
 pub mod DepthsOfIds
+pub mod KeptDepths

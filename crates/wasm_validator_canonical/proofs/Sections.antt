@@ -1,5 +1,5 @@
 -- The groups of a type section, one after another: they are added exactly where they are valid and there are ids for them.
-use Rattle.std.proofs.Common.{◌≡◌, refl, sym, ap, subst, ◌∙◌, ℕ, ◌+◌, ◌≤◌, List, [], ◌∷◌, ◌++◌, length, slice_get, Some, arith, append_assoc, append-nil, length-append}
+use Rattle.std.proofs.Common.{◌≡◌, refl, sym, ap, subst, ◌∙◌, ℕ, ◌+◌, ◌≤◌, false, List, [], ◌∷◌, ◌++◌, length, slice_get, Some, arith, append_assoc, append-nil, length-append}
 use Rattle.std.specs.Option.{option_map, option_and_then}
 use Rattle.std.specs.List.{All}
 use Rattle.std.proofs.lemmas.List.Elements.{All-nil, All-append}
@@ -12,13 +12,15 @@ use Rattle.wasm_spec.specs.GroupRules.{IsValidType}
 use Rattle.wasm_spec.proofs.Closing.{slice_get-append_left}
 use Rattle.wasm_rules.proofs.Tests.{map_some, then_some}
 use Rattle.wasm_readers_types.specs.declared.indices.TheConstants.{MAX_IDS}
+use Rattle.wasm_grouped_list.specs.Elements.{numbers_from}
+use Rattle.wasm_grouped_list.proofs.Counting.{length_numbers}
 use Rattle.wasm_validator_type_list.proofs.Grouped.{all-left, all-right}
 use Rattle.wasm_validator_canonical.specs.Groups.{placed, AreValid, with_written}
-use Rattle.wasm_validator_canonical.specs.Sections.{written, with_all_written, AddedSectionsAreValid, ValidSectionsAreAdded, OneIdForOneType}
+use Rattle.wasm_validator_canonical.specs.Sections.{written, with_all_written, StandsFor, AddedSectionsAreValid, ValidSectionsAreAdded, OneIdForOneType}
 use Rattle.wasm_validator_canonical.proofs.Held.{length-positions}
 use Rattle.wasm_validator_canonical.proofs.Kept.{held_front, held_at_most, all_held}
-use Rattle.wasm_validator_canonical.proofs.Standing.{Stand, held_with, held_stand, valid_placed}
-use Rattle.wasm_validator_canonical.proofs.Steps.{Fits, fits_added, added_fits, all_written_front}
+use Rattle.wasm_validator_canonical.proofs.Standing.{Stand, held_with, held_stand, valid_placed, zip_length}
+use Rattle.wasm_validator_canonical.proofs.Steps.{Fits, fits_added, added_fits, all_written_front, all_written_own}
 
 same_behind : {X : Type 0} (xs ys zs : List X) → xs ++ ys ≡ xs ++ zs → ys ≡ zs
 same_behind [] ys zs e = e
@@ -116,7 +118,19 @@ module _ (F : Features) where
 pub added_sections_are_valid : AddedSectionsAreValid
 added_sections_are_valid F us gs held e v =
     let r = groups_held F gs us [] [] tt held e v in
-    record { section = record { types = r.space; gives = r.gives; valid = r.valid }; stand = r.stand; more = r.more; front = r.front }
+    let many : length held.1 ≡ length r.space = zip_length (StandsFor (canonical F) held.0) held.1 r.space r.stand in
+    record {
+      section = record { types = r.space; gives = r.gives; valid = r.valid };
+      stand = r.stand;
+      more = r.more;
+      front = r.front;
+      own_ids = λ own.
+          let o = all_written_own F own gs us [] held e in
+          o.are_ids ∙ ap (numbers_from (length us)) (sym (length_numbers (length us) o.count) ∙ sym (ap length o.are_ids) ∙ many);
+      grows = λ own.
+          let o = all_written_own F own gs us [] held e in
+          o.grows ∙ ap (λ n. length us + n) (sym (length_numbers (length us) o.count) ∙ sym (ap length o.are_ids) ∙ many);
+    }
 
 pub valid_sections_are_added : ValidSectionsAreAdded
 valid_sections_are_added F us gs before v room = let r = groups_added F gs us [] [] v.types tt before v.gives v.valid room in record { held = r.end; added = r.run; valid = r.valid }

@@ -37,7 +37,7 @@ zip_map P Q h (x ∷ xs) (y ∷ ys) a = (h x y a.0, zip_map P Q h xs ys a.1)
 zip_map P Q h [] (y ∷ ys) a = absurd a
 zip_map P Q h (x ∷ xs) [] a = absurd a
 
-zip_length : {X Y : Type 0} (P : X → Y → Type 0) (xs : List X) (ys : List Y) → AllZip P xs ys → length xs ≡ length ys
+pub zip_length : {X Y : Type 0} (P : X → Y → Type 0) (xs : List X) (ys : List Y) → AllZip P xs ys → length xs ≡ length ys
 zip_length P [] [] a = refl
 zip_length P (x ∷ xs) (y ∷ ys) a = ap suc (zip_length P xs ys a.1)
 zip_length P [] (y ∷ ys) a = absurd a

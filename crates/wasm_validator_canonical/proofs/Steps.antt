@@ -1,5 +1,5 @@
 -- What one group of a type section adds, and when it does.
-use Rattle.std.proofs.Common.{◌≡◌, refl, sym, ap, subst, ◌∙◌, ℕ, ◌+◌, ◌≤◌, true, ◌&&◌, cond, leb, List, [], ◌∷◌, ◌++◌, map, length, Some, None, append_assoc, append-nil}
+use Rattle.std.proofs.Common.{◌≡◌, refl, sym, ap, subst, ◌∙◌, ℕ, zero, suc, ◌+◌, ◌≤◌, Bool, true, false, true≢false, ◌&&◌, cond, leb, List, [], ◌∷◌, ◌++◌, map, length, Some, None, append_assoc, append-nil, arith, length-append}
 use Rattle.std.specs.Option.{option_map}
 use Rattle.std.specs.List.{list_all}
 use Rattle.std.proofs.lemmas.Bool.{and_from, leb-true, le-leb}
@@ -14,6 +14,7 @@ use Rattle.wasm_spec.proofs.SyntaxMaps.{map_rec-map, map_rec-same}
 use Rattle.wasm_rules.proofs.Tests.{map_some, guarded, then_some}
 use Rattle.wasm_readers_types.specs.declared.indices.UnpackedIndex.{UnpackedIndex}
 use Rattle.wasm_readers_types.specs.declared.indices.TheConstants.{MAX_IDS}
+use Rattle.wasm_grouped_list.specs.Elements.{numbers_from}
 use Rattle.wasm_validator_canonical.specs.Groups.{types_at, placed, held, AreValid, with_written}
 use Rattle.wasm_validator_canonical.specs.Indices.{is_written, is_written_sub, number_in}
 use Rattle.wasm_validator_canonical.specs.Sections.{written, with_all_written}
@@ -99,6 +100,21 @@ module _ (F : Features) (us : List DefType) (ids : List ℕ) (g : Rec UnpackedIn
       let ds = positions (placed (canonical F) (length us) h.tree) 0 g.types in
       ap (λ (p : List DefType × List ℕ). length p.1) (sym h.is) ∙ length_held us ids ds (canonical F) ∙ ap (λ n. length ids + n) (length-positions (placed (canonical F) (length us) h.tree) 0 g.types)
 
+  -- Where equal types aren't one, the list becomes longer by the group's types, and these have the next ids.
+  held_own : (c : Bool) (ds : List DefType) → c ≡ false → ((held c us ids ds).1 ≡ ids ++ numbers_from (length us) (length ds)) × (length (held c us ids ds).0 ≡ length us + length ds)
+  held_own true ds e = absurd (true≢false e)
+  held_own false ds e = (refl, length-append us ds)
+
+  pub written_own : (r : List DefType × List ℕ) → canonical F ≡ false → with_written F us ids g ≡ Some r → (r.1 ≡ ids ++ numbers_from (length us) (length g.types)) × (length r.0 ≡ length us + length g.types)
+  written_own r own e =
+      let h = is_held r e in
+      let t = placed (canonical F) (length us) h.tree in
+      let o = held_own (canonical F) (positions t 0 g.types) own in
+      let many = length-positions t 0 g.types in (
+        ap (λ (p : List DefType × List ℕ). p.1) (sym h.is) ∙ o.0 ∙ ap (λ n. ids ++ numbers_from (length us) n) many,
+        ap (λ (p : List DefType × List ℕ). length p.0) (sym h.is) ∙ o.1 ∙ ap (λ n. length us + n) many,
+      )
+
   -- and all are ids of the list
   pub written_known : (r : List DefType × List ℕ) → with_written F us ids g ≡ Some r → AreBelow (length us) ids → AreBelow (length r.0) r.1
   written_known r e a =
@@ -120,3 +136,38 @@ all_written_front F (g ∷ gs) us ids r e =
     let here = written_front F us ids (map_rec written g) x.0 x.1 in
     let later = all_written_front F gs x.0.0 x.0.1 r x.2 in
     (here.0 ++ later.0, later.1 ∙ ap (λ xs. xs ++ later.0) here.1 ∙ append_assoc us here.0 later.0)
+
+-- Where equal types aren't one, the types of a section have the next ids, and the list becomes longer by these types.
+pub record HasOwnIds (us : List DefType) (ids : List ℕ) (r : List DefType × List ℕ) : Type 0 where
+  pub count : ℕ
+  pub are_ids : r.1 ≡ ids ++ numbers_from (length us) count
+  pub grows : length r.0 ≡ length us + count
+
+numbers-append : (start m n : ℕ) → numbers_from start m ++ numbers_from (start + m) n ≡ numbers_from start (m + n)
+numbers-append start zero n = let z : start + 0 ≡ start = omega arith in let k : n ≡ 0 + n = omega arith in ap (λ s. numbers_from s n) z ∙ ap (numbers_from start) k
+numbers-append start (suc m) n =
+    let z : start + suc m ≡ start + 1 + m = omega arith in
+    let k : suc (m + n) ≡ suc m + n = omega arith in
+    ap (λ s. start ∷ (numbers_from (start + 1) m ++ numbers_from s n)) z ∙ ap (λ l. start ∷ l) (numbers-append (start + 1) m n) ∙ ap (numbers_from start) k
+
+pub all_written_own : (F : Features) → canonical F ≡ false → (gs : List (Rec ℕ)) (us : List DefType) (ids : List ℕ) (r : List DefType × List ℕ) → with_all_written F us ids gs ≡ Some r → HasOwnIds us ids r
+all_written_own F own [] us ids r e =
+    let same : (us, ids) ≡ r = same_Some (us, ids) r e in
+    record { count = 0; are_ids = ap (λ (p : List DefType × List ℕ). p.1) (sym same) ∙ sym (append-nil ids); grows = let h = ap (λ (p : List DefType × List ℕ). length p.0) same in omega (arith, h) }
+all_written_own F own (g ∷ gs) us ids r e =
+    let x = then_some (λ (p : List DefType × List ℕ). with_all_written F p.0 p.1 gs) (with_written F us ids (map_rec written g)) r e in
+    let here = written_own F us ids (map_rec written g) x.0 own x.1 in
+    let later = all_written_own F own gs x.0.0 x.0.1 r x.2 in
+    let m = length (map (map_sub written) g.types) in
+    let n = later.count in
+    let longer = here.1 in
+    let all = later.grows in
+    record {
+      count = m + n;
+      are_ids = later.are_ids
+          ∙ ap (λ l. l ++ numbers_from (length x.0.0) n) here.0
+          ∙ ap (λ k. (ids ++ numbers_from (length us) m) ++ numbers_from k n) longer
+          ∙ append_assoc ids (numbers_from (length us) m) (numbers_from (length us + m) n)
+          ∙ ap (λ l. ids ++ l) (numbers-append (length us) m n);
+      grows = omega (arith, longer, all);
+    }

@@ -35,3 +35,8 @@ Denies OutOfMemory b = ⊤
 abbrev pub Says : {T : Type 0} → Result T Error → Bool → Type 0
 Says (Ok x) b = b ≡ true
 Says (Err e) b = Denies e b
+
+-- a refusal of the content stands at this offset
+abbrev pub IsAt : ℕ → Error → Type 0
+IsAt offset (Refused r) = r.offset ≡ offset
+IsAt offset OutOfMemory = ⊤

@@ -1,6 +1,6 @@
 -- What one recursion group adds to the types of a validator and of a module. Core Specification 3.0, Validation, Types
 -- (Recursive Types), with the types of a list in place of a module's.
-use Rattle.std.specs.Prelude.{ℕ, ◌+◌, ◌==◌, nat_le, if◌then◌else◌, Bool, true, false, ◌&&◌, ◌||◌, List, [], ◌++◌, map, length, get_or, Option, Some, None}
+use Rattle.std.specs.Prelude.{ℕ, ◌+◌, ◌==◌, nat_le, if◌then◌else◌, Bool, true, false, not, ◌&&◌, ◌||◌, List, [], ◌++◌, map, length, get_or, Option, Some, None}
 use Rattle.std.specs.Option.{option_map}
 use Rattle.std.specs.List.{list_all, All}
 use Rattle.wasm_spec.specs.Syntax.{Rec, map_rec}
@@ -17,6 +17,10 @@ use Rattle.wasm_validator_canonical.specs.Indices.{is_written_sub, number_in}
 -- a group that is written without `rec` has one type
 abbrev pub has_form : {R : Type 0} → Rec R → Bool
 has_form g = g.is_explicit || (length g.types == 1)
+
+-- `rec` needs its proposal
+abbrev pub allows_written : {R : Type 0} → Features → Rec R → Bool
+allows_written F g = not g.is_explicit || F.gc
 
 -- the group's references are indices of a module, and it closes behind so many types
 abbrev pub closes : Features → ℕ → Rec UnpackedIndex → Bool

@@ -1,4 +1,6 @@
 pub mod Indices
+pub mod Depths
+pub mod Refusals
 pub mod Found
 pub mod Groups
 pub mod Answers

@@ -1,5 +1,5 @@
 -- The types of a type section, added to a list group by group. Core Specification 3.0, Validation, Modules (Types).
-use Rattle.std.specs.Prelude.{ℕ, ◌≡◌, ◌↔◌, ◌+◌, ◌≤◌, ◌++◌, Bool, true, List, [], ◌∷◌, length, slice_get, Option, Some, IsTrue}
+use Rattle.std.specs.Prelude.{ℕ, ◌≡◌, ◌↔◌, ◌+◌, ◌≤◌, ◌++◌, Bool, true, false, List, [], ◌∷◌, length, slice_get, Option, Some, IsTrue}
 use Rattle.std.specs.Option.{option_and_then}
 use Rattle.std.specs.List.{AllZip}
 use Rattle.wasm_spec.specs.Syntax.{Rec, map_rec}
@@ -10,6 +10,7 @@ use Rattle.wasm_spec.specs.TypeLaws.{HasNoRepetition}
 use Rattle.wasm_readers_types.specs.declared.indices.UnpackedIndex.{UnpackedIndex}
 use Rattle.wasm_readers_types.specs.declared.indices.UnpackedIndex.TheVariants.{Module}
 use Rattle.wasm_readers_types.specs.declared.indices.TheConstants.{MAX_IDS}
+use Rattle.wasm_grouped_list.specs.Elements.{numbers_from}
 use Rattle.wasm_validator_canonical.specs.Groups.{AreValid, with_written}
 
 -- an index as a module writes it
@@ -31,12 +32,15 @@ pub record StandsFor (is_canonical : Bool) (us : List DefType) (id : ℕ) (d : D
   pub same : IsTrue is_canonical → listed ≡ d
 
 -- The groups are a valid type section, each of its types stands in the list under the id at its index, and the list
--- begins with the types that it had.
+-- begins with the types that it had. Where equal types aren't one, each type has an id of its own: the next ids in order,
+-- and the list becomes longer by these types.
 pub record HoldsSection (F : Features) (us : List DefType) (gs : List (Rec ℕ)) (held : List DefType × List ℕ) : Type 0 where
   pub section : IsValidTypeSection F gs
   pub stand : AllZip (StandsFor (canonical F) held.0) held.1 section.types
   pub more : List DefType
   pub front : held.0 ≡ us ++ more
+  pub own_ids : canonical F ≡ false → held.1 ≡ numbers_from (length us) (length section.types)
+  pub grows : canonical F ≡ false → length held.0 ≡ length us + length section.types
 
 -- Groups that are added so that the types of the list are valid are a valid type section, which the list then holds.
 abbrev pub AddedSectionsAreValid : Type 0

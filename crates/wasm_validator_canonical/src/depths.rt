@@ -1,11 +1,14 @@
 //! The depths of types, kept for the types that extend them.
 
-ghost use Rattle.std.specs.Prelude.{◌≡◌, ◌<◌, length, IfSome, IsTrue};
+ghost use Rattle.std.specs.Prelude.{◌≡◌, ◌<◌, ℕ, length, IfSome, IsSome, IsTrue, OnOk};
 ghost use Rattle.std.specs.List.{All};
 ghost use Rattle.wasm_spec.specs.Declared.{IsDepth};
 ghost use Rattle.wasm_validator_type_list.specs.Declares.{declares};
 ghost use Rattle.wasm_grouped_list.specs.Elements.{ids_left};
 ghost use Rattle.wasm_validator_type_list.specs.Listing.{types_in};
+ghost use Rattle.wasm_validator_type_list.specs.Listable.{AreListable};
+ghost use Rattle.wasm_validator_type_list.specs.Depths.{depth_of};
+ghost use Rattle.wasm_validator_canonical.specs.Depths.{HasDepthAbove, KeepsDepth, StillKept, FitsByte};
 
 use std::alloc::{AllocError, Allocator};
 use wasm_readers_types::CoreTypeId;
@@ -15,7 +18,8 @@ use wasm_validator_type_list::{RecGroupElements, TypeList};
 /// it extends.
 fn known_depth<A: Allocator + Copy>(types: &TypeList<A>, id: CoreTypeId) -> Option<u8>
     requires { id.index < length (types_in types.now) }
-    ensures { IfSome result (IsDepth (declares types.now.groups) id.index) }
+    ensures right { IfSome result (IsDepth (declares types.now.groups) id.index) }
+    ensures known { FitsByte types.now id.index → HasDepthAbove types.now id.index → IsSome result }
 {
     match types.supertype_of(id) {
         Some(extended) => match types.subtyping_depth(extended) {
@@ -37,6 +41,10 @@ fn keep_depth<A: Allocator + Copy>(
 ) -> Result<(), AllocError>
     requires open { IsTrue types.old.is_open }
     requires there { id.index < length (types_in types.old) }
+    requires fits { FitsByte types.old id.index }
+    ensures kept { OnOk result (KeepsDepth types.new id.index) }
+    ensures others { (other : ℕ) → (other ≡ id.index → ⊥) → depth_of types.new.depths other ≡ depth_of types.old.depths other }
+    ensures earlier { StillKept types.old types.new }
     ensures same_groups { types.new.groups ≡ types.old.groups }
     ensures same_open { types.new.is_open ≡ types.old.is_open }
     ensures same_mode { types.new.is_canonical ≡ types.old.is_canonical }
@@ -63,6 +71,10 @@ pub(crate) fn keep_depths<A: Allocator + Copy>(
 ) -> Result<(), AllocError>
     requires open { IsTrue types.old.is_open }
     requires there { All (λ id. id < length (types_in types.old)) (ids_left elements) }
+    requires fits { All (FitsByte types.old) (ids_left elements) }
+    requires listable { AreListable types.old.groups }
+    ensures kept { OnOk result (All (KeepsDepth types.new) (ids_left elements)) }
+    ensures earlier { StillKept types.old types.new }
     ensures same_groups { types.new.groups ≡ types.old.groups }
     ensures same_open { types.new.is_open ≡ types.old.is_open }
     ensures same_mode { types.new.is_canonical ≡ types.old.is_canonical }

@@ -1,18 +1,23 @@
-ghost use Rattle.std.specs.Prelude.{◌≡◌, ◌<◌, ◌≤◌, ◌^◌, true, false, not, ◌||◌, map, length, is_ok, IfOk, OnOk, IsTrue};
+ghost use Rattle.std.specs.Prelude.{◌≡◌, ◌+◌, ◌<◌, ◌≤◌, ◌^◌, true, false, not, ◌||◌, map, length, is_ok, IfOk, IfErr, OnOk, IsTrue};
 ghost use Rattle.std.specs.Bool.{Decides};
-ghost use Rattle.std.specs.List.{All};
+ghost use Rattle.std.specs.List.{All, list_all};
+ghost use Rattle.std.specs.declared.result.Result.TheVariants.{Err};
 ghost use Rattle.wasm_spec.specs.Features.{canonical};
 ghost use Rattle.wasm_rules.specs.FeatureFlags.{features_of};
 ghost use Rattle.wasm_readers_types.specs.declared.indices.TheConstants.{MAX_IDS};
 ghost use Rattle.wasm_readers_types.specs.declared.indices.CoreTypeId.{CoreTypeId};
 ghost use Rattle.wasm_readers_types.specs.SeenTypes.{sub_of, rec_of};
-ghost use Rattle.wasm_validator_type_list.specs.Listable.{IsListable};
+ghost use Rattle.wasm_grouped_list.specs.Elements.{ids_left, numbers_from};
+ghost use Rattle.wasm_validator_type_list.specs.Listable.{IsListable, AreListable};
 ghost use Rattle.wasm_validator_type_list.specs.Listing.{types_in};
+ghost use Rattle.wasm_validator_type_list.specs.Refused.{too_many_types};
 ghost use Rattle.wasm_validator_type_list.specs.Standing.{standing};
 ghost use Rattle.wasm_group_checks.specs.Rules.{IsValidGroupAt};
-ghost use Rattle.wasm_validator_canonical.specs.Indices.{numbers, canonical_group};
-ghost use Rattle.wasm_validator_canonical.specs.Groups.{has_form, closes, AreValid, with_written};
-ghost use Rattle.wasm_validator_canonical.specs.Answers.{AddsIds, Says};
+ghost use Rattle.wasm_validator_canonical.specs.Indices.{numbers, canonical_group, extends_at_most_one};
+ghost use Rattle.wasm_validator_canonical.specs.Groups.{has_form, allows_written, closes, AreValid, with_written};
+ghost use Rattle.wasm_validator_canonical.specs.Answers.{AddsIds, Says, IsAt};
+ghost use Rattle.wasm_validator_canonical.specs.Refusals.{rec_without_gc, extends_many};
+ghost use Rattle.wasm_validator_canonical.specs.Depths.{KeepsDepth, StillKept};
 ghost use Rattle.wasm_validator_canonical.specs.Interned.{InternsValid};
 
 use crate::depths::keep_depths;
@@ -37,7 +42,7 @@ pub fn needs_type_canonicalization(features: WasmFeatures) -> bool
 
 /// Whether the group may be written as it is: `rec` needs the garbage collection proposal.
 fn may_be_written<A: Allocator>(features: WasmFeatures, group: &RecGroup<A>) -> bool
-    ensures { result ≡ (not group.now.is_explicit || (features_of features).gc) }
+    ensures { result ≡ allows_written (features_of features) (rec_of group.now) }
 {
     !group.is_explicit_rec_group() || features.contains(WasmFeatures::GC)
 }
@@ -55,6 +60,9 @@ fn canonical_types<A: Allocator + Copy>(
     requires fits { length group.types ≤ MAX_IDS }
     ensures value { IfOk result (λ ss. map sub_of ss.items ≡ canonical_group (numbers ids.now) (rec_of group).types) }
     ensures closes { Says result (closes (features_of features) (length ids.now) (rec_of group)) }
+    ensures place { IfErr result (IsAt offset) }
+    ensures written { allows_written (features_of features) (rec_of group) ≡ false → result ≡ Err (Error.Refused (rec_without_gc offset)) }
+    ensures extends { allows_written (features_of features) (rec_of group) ≡ true → list_all extends_at_most_one (rec_of group).types ≡ false → result ≡ Err (Error.Refused (extends_many offset)) }
 {
     if !may_be_written(features, &group) {
         let fault = Fault::Group(GroupRule::RecGroups);
@@ -72,16 +80,17 @@ fn canonical_types<A: Allocator + Copy>(
 
 /// Adds the types of a recursion group that a module writes behind its types, which have these ids, to
 /// the list: each type index is resolved among the module's types and those of the group, and where
-/// equal types are one a group that the list has keeps its ids. The rules of each type are checked where
-/// the group is new. Answers the ids of the group's types. `offset` is where the group stands in the
+/// equal types are one a group that the list has keeps its ids; where they aren't, the group's types have
+/// the next ids. The rules of each type are checked where the group is new. Answers the ids of the group's types. `offset` is where the group stands in the
 /// input.
 ///
 /// Core Specification 3.0, Validation, Types (Recursive Types).
 ///
 /// # Errors
 ///
-/// Refused where an index is out of bounds, a rule doesn't hold, or the list would have more types than
-/// there are ids; and where memory is. The list is then only to be dropped.
+/// Refused, at the offset, where the list would have more types than there are ids, which is asked
+/// first, where an index is out of bounds, and where a rule doesn't hold; and where memory is. The list
+/// is then only to be dropped.
 pub fn canonicalize_and_intern_rec_group<A: Allocator + Copy>(
     features: WasmFeatures,
     alloc: A,
@@ -98,6 +107,12 @@ pub fn canonicalize_and_intern_rec_group<A: Allocator + Copy>(
     requires valid { AreValid (features_of features) (standing types.old.is_canonical types.old.groups) }
     ensures added { AddsIds (features_of features) result (with_written (features_of features) (standing types.old.is_canonical types.old.groups) (numbers ids.now) (rec_of group)) (standing types.new.is_canonical types.new.groups) (numbers ids.now) }
     ensures valid { OnOk result (AreValid (features_of features) (standing types.new.is_canonical types.new.groups)) }
+    ensures own_ids { canonical (features_of features) ≡ false → IfOk result (λ elements. ids_left elements ≡ numbers_from (length (types_in types.old)) (length group.types)) }
+    ensures grows { canonical (features_of features) ≡ false → OnOk result (length (types_in types.new) ≡ length (types_in types.old) + length group.types) }
+    ensures depths { IfOk result (λ elements. All (KeepsDepth types.new) (ids_left elements)) }
+    ensures earlier_depths { OnOk result (StillKept types.old types.new) }
+    ensures limit { MAX_IDS < length (types_in types.old) + length group.types → result ≡ Err (Error.Refused (too_many_types offset)) }
+    ensures written { length (types_in types.old) + length group.types ≤ MAX_IDS → allows_written (features_of features) (rec_of group) ≡ false → result ≡ Err (Error.Refused (rec_without_gc offset)) }
     ensures same_open { types.new.is_open ≡ types.old.is_open }
     ensures same_mode { types.new.is_canonical ≡ types.old.is_canonical }
 {
@@ -148,6 +163,7 @@ fn intern<A: Allocator + Copy>(
     requires listable { IsListable (length (types_in types.old)) group.types }
     requires valid { AreValid (features_of features) (standing types.old.is_canonical types.old.groups) }
     ensures interned { InternsValid (features_of features) result types.old types.new group.types }
+    ensures listable { OnOk result (AreListable types.new.groups) }
     ensures same_open { types.new.is_open ≡ types.old.is_open }
     ensures same_mode { types.new.is_canonical ≡ types.old.is_canonical }
 {

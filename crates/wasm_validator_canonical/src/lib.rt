@@ -17,6 +17,7 @@ pub use type_canonicalizer::TypeCanonicalizer;
 /// The groups of a module's type section, added one after another, are accepted exactly where the
 /// section is valid (Core Specification 3.0, Validation, Modules, Types)
 /// and there are ids for its types; and then each type stands in the list under the id at its index.
+/// Where equal types aren't one, these are the next ids, and the list has so many types more.
 pub fn type_sections_are_added_where_valid()
     ensures accepted { AddedSectionsAreValid }
     ensures valid { ValidSectionsAreAdded }

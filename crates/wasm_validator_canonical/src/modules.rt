@@ -1,13 +1,16 @@
 //! Modules whose types are in a list of types.
 
-ghost use Rattle.std.specs.Prelude.{◌≡◌, ◌+◌, ◌<◌, ◌^◌, true, Some, length, slice_get, nat_lt, is_ok, IfOk, OnOk, IsTrue};
+ghost use Rattle.std.specs.Prelude.{◌≡◌, ◌+◌, ◌<◌, ◌^◌, ◌++◌, true, false, Some, length, slice_get, nat_lt, is_ok, IfOk, IfErr, OnOk, IsTrue};
 ghost use Rattle.std.specs.List.{All};
 ghost use Rattle.wasm_spec.specs.Features.{canonical};
 ghost use Rattle.wasm_rules.specs.FeatureFlags.{features_of};
 ghost use Rattle.wasm_readers_types.specs.SeenTypes.{rec_of};
+ghost use Rattle.wasm_grouped_list.specs.Elements.{numbers_from};
+ghost use Rattle.wasm_validator_type_list.specs.Listing.{types_in};
 ghost use Rattle.wasm_validator_type_list.specs.Standing.{standing};
 ghost use Rattle.wasm_validator_canonical.specs.Groups.{has_form, AreValid, with_written};
 ghost use Rattle.wasm_validator_canonical.specs.Answers.{AddsGroup};
+ghost use Rattle.wasm_validator_canonical.specs.Refusals.{unknown_type};
 ghost use Rattle.wasm_validator_canonical.specs.Indices.{numbers};
 
 use crate::intern_rec_group::canonicalize_and_intern_rec_group;
@@ -18,7 +21,8 @@ use wasm_validator_type_list::{RecGroupElements, TypeList};
 
 /// A module whose types are in a list of types: it has their ids, in the order of their indices.
 pub trait InternRecGroup<A: Allocator + Copy>: Sized {
-    ghost use Rattle.std.specs.Prelude.{ℕ, ◌≡◌, ◌+◌, ◌<◌, ◌^◌, ◌++◌, ◌∷◌, [], List, Some, length, slice_get, nat_lt, is_ok, IfOk, OnOk};
+    ghost use Rattle.std.specs.Prelude.{ℕ, ◌≡◌, ◌+◌, ◌<◌, ◌^◌, ◌++◌, ◌∷◌, [], List, Some, length, slice_get, nat_lt, is_ok, IfOk, IfErr, OnOk};
+    ghost use Rattle.wasm_validator_canonical.specs.Refusals.{unknown_type};
     ghost use Rattle.wasm_grouped_list.specs.Elements.{ids_left};
     ghost use Rattle.wasm_validator_canonical.specs.Indices.{numbers};
 
@@ -68,6 +72,7 @@ pub trait InternRecGroup<A: Allocator + Copy>: Sized {
     fn type_id_at(&self, index: u32, offset: u64) -> Result<CoreTypeId, Refusal>
         ensures id { IfOk result (λ id. slice_get (ids self.now) index ≡ Some id.index) }
         ensures inside { is_ok result ≡ nat_lt index (length (ids self.now)) }
+        ensures refusal { IfErr result (λ r. r ≡ unknown_type index offset) }
     {
         id_at(self.type_ids(), index, offset)
     }
@@ -77,6 +82,7 @@ pub trait InternRecGroup<A: Allocator + Copy>: Sized {
 fn id_at(ids: &[CoreTypeId], index: u32, offset: u64) -> Result<CoreTypeId, Refusal>
     ensures id { IfOk result (λ id. slice_get (numbers ids.now) index ≡ Some id.index) }
     ensures inside { is_ok result ≡ nat_lt index (length (numbers ids.now)) }
+    ensures refusal { IfErr result (λ r. r ≡ unknown_type index offset) }
 {
     match ids.get(index as usize) {
         Some(id) => Ok(*id),
@@ -89,7 +95,7 @@ fn id_at(ids: &[CoreTypeId], index: u32, offset: u64) -> Result<CoreTypeId, Refu
 ///
 /// # Errors
 ///
-/// Refused where the group can't be added, as by `canonicalize_and_intern_rec_group`, and where memory
+/// Refused where the group can't be added, as by [`canonicalize_and_intern_rec_group`], and where memory
 /// is. The module and the list are then only to be dropped.
 pub fn intern_rec_group_of<A: Allocator + Copy, M: InternRecGroup<A>>(
     target: &mut M,
@@ -107,6 +113,8 @@ pub fn intern_rec_group_of<A: Allocator + Copy, M: InternRecGroup<A>>(
     requires valid { AreValid (features_of features) (standing types.old.is_canonical types.old.groups) }
     ensures added { AddsGroup (features_of features) result (with_written (features_of features) (standing types.old.is_canonical types.old.groups) (M.ids target.old) (rec_of group)) (standing types.new.is_canonical types.new.groups) (M.ids target.new) }
     ensures valid { OnOk result (AreValid (features_of features) (standing types.new.is_canonical types.new.groups)) }
+    ensures own_ids { canonical (features_of features) ≡ false → OnOk result (M.ids target.new ≡ M.ids target.old ++ numbers_from (length (types_in types.old)) (length group.types)) }
+    ensures grows { canonical (features_of features) ≡ false → OnOk result (length (types_in types.new) ≡ length (types_in types.old) + length group.types) }
     ensures others { M.others target.new ≡ M.others target.old }
     ensures same_open { types.new.is_open ≡ types.old.is_open }
     ensures same_mode { types.new.is_canonical ≡ types.old.is_canonical }

@@ -1,4 +1,4 @@
-ghost use Rattle.std.specs.Prelude.{◌≡◌, ◌+◌, ◌<◌, ◌^◌, [], map, length, is_ok, IfOk, IsTrue, true, false};
+ghost use Rattle.std.specs.Prelude.{◌≡◌, ◌+◌, ◌<◌, ◌^◌, [], map, length, is_ok, IfOk, IfErr, IsTrue, true, false};
 ghost use Rattle.std.specs.List.{list_all, flat_map};
 ghost use Rattle.wasm_spec.specs.Syntax.{map_ref, map_val, map_field, map_comp};
 ghost use Rattle.wasm_spec.specs.References.{refs_heap, refs_val, refs_field, refs_comp};
@@ -6,7 +6,7 @@ ghost use Rattle.wasm_readers_types.specs.declared.indices.TheConstants.{MAX_IDS
 ghost use Rattle.wasm_readers_types.specs.Indices.{Fits};
 ghost use Rattle.wasm_readers_types.specs.SeenValues.{index_of, ref_of, val_of, field_of};
 ghost use Rattle.wasm_readers_types.specs.SeenTypes.{func_of, comp_of};
-ghost use Rattle.wasm_validator_canonical.specs.Answers.{Says};
+ghost use Rattle.wasm_validator_canonical.specs.Answers.{Says, IsAt};
 ghost use Rattle.wasm_validator_canonical.specs.Indices.{has_no_index};
 
 use std::alloc::Allocator;
@@ -31,6 +31,7 @@ pub struct TypeCanonicalizer<'a> {
 }
 
 impl<'a> TypeCanonicalizer<'a> {
+    ghost use Rattle.wasm_validator_canonical.specs.Refusals.{unknown_by};
     ghost use Rattle.wasm_validator_canonical.specs.Indices.{IsSmall, canonical_by, is_known_by, knows_val, knows_field};
 
     /// Of a group of `count` types behind those of the module, which have these ids. With `has_gc` types
@@ -45,6 +46,7 @@ impl<'a> TypeCanonicalizer<'a> {
         ensures ids { result.ids.now ≡ ids.now }
         ensures end { result.end ≡ length ids.now + count }
         ensures gc { result.has_gc ≡ has_gc }
+        ensures offset { result.offset ≡ offset }
     {
         TypeCanonicalizer {
             ids,
@@ -70,11 +72,17 @@ impl<'a> TypeCanonicalizer<'a> {
     }
 
     /// The index as the list has it: the id of the module's type, or a position in the group.
+    ///
+    /// # Errors
+    ///
+    /// Refused, at the offset of the group, where it is no index of a module, where it is behind the
+    /// group, and where it is of a type of the group but types of a group may not refer to one another.
     pub fn index(&self, index: UnpackedIndex) -> Result<UnpackedIndex, Refusal>
         requires { IsSmall self.now }
         ensures value { IfOk result (λ i. i ≡ canonical_by self.now index) }
         ensures fits { IfOk result Fits }
         ensures known { is_ok result ≡ is_known_by self.now index }
+        ensures refusal { IfErr result (λ r. r ≡ unknown_by self.now index) }
     {
         let UnpackedIndex::Module(number) = index else {
             return Err(Refusal::new(Fault::UnknownType(0), self.offset));
@@ -96,6 +104,7 @@ impl<'a> TypeCanonicalizer<'a> {
         requires { IsSmall self.now }
         ensures value { IfOk result (λ p. index_of p ≡ canonical_by self.now (index_of index)) }
         ensures known { is_ok result ≡ is_known_by self.now (index_of index) }
+        ensures refusal { IfErr result (λ r. r ≡ unknown_by self.now (index_of index)) }
     {
         match self.index(index.unpack())?.pack() {
             Some(packed) => Ok(packed),
@@ -108,6 +117,7 @@ impl<'a> TypeCanonicalizer<'a> {
         requires { IsSmall self.now }
         ensures value { IfOk result (λ r. ref_of r ≡ map_ref (canonical_by self.now) (ref_of ty)) }
         ensures known { is_ok result ≡ list_all (is_known_by self.now) (refs_heap (ref_of ty).heap) }
+        ensures place { IfErr result (λ r. r.offset ≡ self.now.offset) }
     {
         let heap = match ty.heap_type() {
             HeapType::Abstract { .. } => return Ok(ty),
@@ -125,6 +135,7 @@ impl<'a> TypeCanonicalizer<'a> {
         requires { IsSmall self.now }
         ensures value { IfOk result (λ v. val_of v ≡ map_val (canonical_by self.now) (val_of ty)) }
         ensures known { is_ok result ≡ knows_val self.now (val_of ty) }
+        ensures place { IfErr result (λ r. r.offset ≡ self.now.offset) }
     {
         match ty {
             ValType::Ref(reference) => Ok(ValType::Ref(self.reference(reference)?)),
@@ -137,6 +148,7 @@ impl<'a> TypeCanonicalizer<'a> {
         requires { IsSmall self.now }
         ensures value { IfOk result (λ x. field_of x ≡ map_field (canonical_by self.now) (field_of ty)) }
         ensures known { is_ok result ≡ knows_field self.now (field_of ty) }
+        ensures place { IfErr result (λ r. r.offset ≡ self.now.offset) }
     {
         match ty.element_type {
             StorageType::Val(value) => Ok(FieldType {
@@ -157,6 +169,7 @@ impl<'a> TypeCanonicalizer<'a> {
         requires { IsSmall self.now }
         ensures value { IfOk result (λ vs. map val_of vs.items ≡ map (map_val (canonical_by self.now)) (map val_of types.items)) }
         ensures known { Says result (list_all (knows_val self.now) (map val_of types.items)) }
+        ensures place { IfErr result (IsAt self.now.offset) }
     {
         if !have_index(types.as_slice()) {
             return Ok(types);
@@ -180,6 +193,7 @@ impl<'a> TypeCanonicalizer<'a> {
         requires { IsSmall self.now }
         ensures value { IfOk result (λ xs. map field_of xs.items ≡ map (map_field (canonical_by self.now)) (map field_of types.now)) }
         ensures known { Says result (list_all (knows_field self.now) (map field_of types.now)) }
+        ensures place { IfErr result (IsAt self.now.offset) }
     {
         let mut canonical = Vec::new(alloc);
         for ty in types {
@@ -197,6 +211,7 @@ impl<'a> TypeCanonicalizer<'a> {
         requires { IsSmall self.now }
         ensures value { IfOk result (λ f. func_of f ≡ map_comp (canonical_by self.now) (func_of ty)) }
         ensures known { Says result (list_all (is_known_by self.now) (refs_comp (func_of ty))) }
+        ensures place { IfErr result (IsAt self.now.offset) }
     {
         let (params, results) = ty.into_parts();
         match self.values(alloc, params) {
@@ -218,6 +233,7 @@ impl<'a> TypeCanonicalizer<'a> {
         requires small { IsSmall self.now }
         ensures value { IfOk result (λ c. comp_of c ≡ map_comp (canonical_by self.now) (comp_of ty)) }
         ensures known { Says result (list_all (is_known_by self.now) (refs_comp (comp_of ty))) }
+        ensures place { IfErr result (IsAt self.now.offset) }
     {
         match ty {
             CompositeInnerType::Func(signature) => match self.function(alloc, signature) {

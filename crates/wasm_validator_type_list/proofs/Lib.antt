@@ -1,6 +1,7 @@
 pub mod Listed
 pub mod Standing
 pub mod Once
+pub mod Placed
 pub mod Few
 pub mod Sound
 pub mod Lookups

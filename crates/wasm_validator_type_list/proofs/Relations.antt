@@ -1,8 +1,7 @@
 -- What walks along supertypes show of a list of types.
-use Rattle.std.proofs.Common.{◌≡◌, ap, subst, ◌∙◌, inl, inr, ℕ, ◌+◌, ◌-◌, ◌<◌, ◌≤◌, eqb, false, Option, Some, None, arith}
+use Rattle.std.proofs.Common.{◌≡◌, ap, subst, ◌∙◌, inl, inr, ℕ, ◌+◌, ◌-◌, ◌<◌, ◌≤◌, true, false, Option, Some, None, arith}
 use Rattle.std.specs.Bool.{Decides}
 use Rattle.std.specs.Option.{option_map}
-use Rattle.std.proofs.lemmas.Bool.Decides.{Decides-eqb}
 use Rattle.wasm_spec.specs.Declared.{supertype_of, IsAncestor}
 use Rattle.wasm_readers_types.specs.declared.indices.CoreTypeId.{CoreTypeId}
 use Rattle.wasm_validator_type_list.specs.declared.type_list.TypeList.TheInside.{Inside}
@@ -24,28 +23,26 @@ module _ {A : Type 0} where
   link_down l here next o h r e = descends l.groups h here next.index (supertype_read l.groups here o r ∙ ap (option_map (λ (id : CoreTypeId). id.index)) e)
 
   pub link_walked :
-      (l : Listing A) (a b old count new here : ℕ) (next : CoreTypeId) (o : Option CoreTypeId) → IsWalk (declares l.groups) a b (count - old) here → b < here
+      (l : Listing A) (a b old count new here : ℕ) (next : CoreTypeId) (o : Option CoreTypeId) → IsWalk (declares l.groups) a b (count - old) here → (here ≡ b → ⊥)
       → IsSupertypeAt l.groups here o → o ≡ Some next → old ≤ count → new ≡ count + 1 → IsWalk (declares l.groups) a b (new - old) next.index
-  link_walked l a b old count new here next o w lt r e le f =
+  link_walked l a b old count new here next o w other r e le f =
       let n : count - old + 1 ≡ new - old = omega (arith, le, f) in
       subst (λ k. IsWalk (declares l.groups) a b k next.index) n
-      (walk-step (declares l.groups) a b (count - old) here next.index w lt (supertype_read l.groups here o r ∙ ap (option_map (λ (id : CoreTypeId). id.index)) e))
+      (walk-step (declares l.groups) a b (count - old) here next.index w other (supertype_read l.groups here o r ∙ ap (option_map (λ (id : CoreTypeId). id.index)) e))
 
-  -- where it ends at b or before it
-  pub found_on_walk : (l : Listing A) (a b n here x y : ℕ) → AreListable l.groups → IsWalk (declares l.groups) a b n here → x ≡ here → y ≡ b → x ≤ y → Decides (eqb x y) (IsAncestor (declares l.groups) a b)
-  found_on_walk l a b n here x y h w e f k =
-      let le : here ≤ b = omega (arith, e, f, k) in
-      rw (e, f) (walk-found (declares l.groups) a b n here (descends l.groups h) w le (eqb here b) (Decides-eqb here b))
+  -- where it ends at b
+  pub found_on_walk : (l : Listing A) (a b n here : ℕ) → IsWalk (declares l.groups) a b n here → here ≡ b → Decides true (IsAncestor (declares l.groups) a b)
+  found_on_walk l a b n here w e = walk-found (declares l.groups) a b n here w e
 
-  pub counts_before : (l : Listing A) (a b old new here x y : ℕ) → IsWalk (declares l.groups) a b (new - old) here → old ≤ new → x ≡ here → y ≡ b → x ≤ y → Counts (declares l.groups) a b old new
-  counts_before l a b old new here x y w le e f k = walk-counts (declares l.groups) a b old new here w le (inl (omega (arith, e, f, k)))
+  pub counts_at : (l : Listing A) (a b old new here : ℕ) → IsWalk (declares l.groups) a b (new - old) here → old ≤ new → here ≡ b → Counts (declares l.groups) a b old new
+  counts_at l a b old new here w le e = walk-counts (declares l.groups) a b old new here w le (inl e)
 
   -- and where nothing is extended
   no_link : (l : Listing A) (here : ℕ) (o : Option CoreTypeId) → IsSupertypeAt l.groups here o → o ≡ None → supertype_of (declares l.groups) here ≡ None
   no_link l here o r e = supertype_read l.groups here o r ∙ ap (option_map (λ (id : CoreTypeId). id.index)) e
 
-  pub missed_on_walk : (l : Listing A) (a b n here : ℕ) (o : Option CoreTypeId) → IsWalk (declares l.groups) a b n here → b < here → IsSupertypeAt l.groups here o → o ≡ None → Decides false (IsAncestor (declares l.groups) a b)
-  missed_on_walk l a b n here o w lt r e = walk-top (declares l.groups) a b n here w lt (no_link l here o r e)
+  pub missed_on_walk : (l : Listing A) (a b n here : ℕ) (o : Option CoreTypeId) → IsWalk (declares l.groups) a b n here → (here ≡ b → ⊥) → IsSupertypeAt l.groups here o → o ≡ None → Decides false (IsAncestor (declares l.groups) a b)
+  missed_on_walk l a b n here o w other r e = walk-top (declares l.groups) a b n here w other (no_link l here o r e)
 
   pub counts_at_top : (l : Listing A) (a b old new here : ℕ) (o : Option CoreTypeId) → IsWalk (declares l.groups) a b (new - old) here → old ≤ new → IsSupertypeAt l.groups here o → o ≡ None → Counts (declares l.groups) a b old new
   counts_at_top l a b old new here o w le r e = walk-counts (declares l.groups) a b old new here w le (inr (no_link l here o r e))

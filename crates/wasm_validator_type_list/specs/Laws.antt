@@ -1,5 +1,5 @@
 -- Laws that join ids and the types that they stand for, as facts that a contract can name.
-use Rattle.std.specs.Prelude.{ℕ, ◌≡◌, ◌<◌, ◌↔◌, Bool, List, length, get_or, slice_get, option_map}
+use Rattle.std.specs.Prelude.{ℕ, ◌≡◌, ◌<◌, ◌↔◌, Bool, false, List, length, get_or, slice_get, option_map}
 use Rattle.std.specs.List.{All}
 use Rattle.std.specs.declared.option.Option.TheVariants.{Some}
 use Rattle.wasm_spec.specs.Syntax.{Val, map_val, map_sub}
@@ -22,6 +22,10 @@ abbrev pub TypesDeclareWhatIdsDeclare : Type 0 → Type 0
 TypesDeclareWhatIdsDeclare A =
     (is_canonical : Bool) (gs : List (List (SubType A))) (other : DefType) → AreListable gs → (id : ℕ) (d : DefType) → slice_get (standing is_canonical gs) id ≡ Some d
     → declared d ≡ option_map (map_sub (type_of_id (standing is_canonical gs) other)) (declares gs id)
+
+-- Where equal types aren't one, each type has its place, so that no type has two ids there either.
+abbrev pub TypesHaveTheirPlaces : Type 0 → Type 0
+TypesHaveTheirPlaces A = (gs : List (List (SubType A))) → HasNoRepetition (standing false gs)
 
 -- Where no type has two ids, ids are ordered as the types that they stand for.
 abbrev pub IdsAreOrderedAsTypes : Type 0 → Type 0

@@ -1,4 +1,4 @@
-ghost use Rattle.wasm_validator_type_list.specs.Laws.{TypesDeclareWhatIdsDeclare, IdsAreOrderedAsTypes, IdsMatchAsTypes};
+ghost use Rattle.wasm_validator_type_list.specs.Laws.{TypesDeclareWhatIdsDeclare, TypesHaveTheirPlaces, IdsAreOrderedAsTypes, IdsMatchAsTypes};
 ghost use Rattle.wasm_validator_type_list.specs.Worlds.{IdsAreAWorld};
 
 /// In a list of types, what an id declares over ids is what its type declares, with each id as the
@@ -14,7 +14,13 @@ pub fn ids_are_a_world<A>()
     ensures { IdsAreAWorld A }
 {}
 
-/// Where no type has two ids, as in a canonical list, the order of ids is that of the types that they
+/// Where equal types aren't one, each type of a list has its place, so that no type has two ids.
+#[tactic(auto, using(crate::proofs::Placed::types_have_their_places))]
+pub fn types_have_their_places<A>()
+    ensures { TypesHaveTheirPlaces A }
+{}
+
+/// Where no type has two ids, which `TypeList` says of each list, the order of ids is that of the types that they
 /// stand for, and value types over ids match exactly where they do with those types in place of ids.
 pub fn ids_match_as_types<A>()
     ensures order { IdsAreOrderedAsTypes A }

@@ -10,7 +10,9 @@ mod type_info;
 mod type_list;
 mod with_rec_group;
 
-pub use laws::{ids_are_a_world, ids_match_as_types, types_declare_what_ids_declare};
+pub use laws::{
+    ids_are_a_world, ids_match_as_types, types_declare_what_ids_declare, types_have_their_places,
+};
 pub use link_count::LinkCount;
 pub use type_alloc::TypeAlloc;
 pub use type_info::{TypeData, TypeIdentifier, TypeInfo};

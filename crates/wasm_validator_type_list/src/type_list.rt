@@ -59,6 +59,8 @@ impl<A: Allocator + Copy> TypeList<A> {
     ghost use Rattle.wasm_validator_type_list.specs.Listing.{no_groups, types_in, closed};
     ghost use Rattle.wasm_validator_type_list.specs.Listable.{AreListable};
     ghost use Rattle.wasm_validator_type_list.specs.Interned.{AreOnce};
+    ghost use Rattle.wasm_validator_type_list.specs.Standing.{standing};
+    ghost use Rattle.wasm_spec.specs.TypeLaws.{HasNoRepetition};
     ghost use Rattle.wasm_validator_type_list.specs.Lookups.{IsSupertypeAt};
 
     /// The list of no groups, to which groups may be added. It takes no memory until then.
@@ -75,11 +77,12 @@ impl<A: Allocator + Copy> TypeList<A> {
         }
     }
 
-    /// Whether equal groups are kept once. Then no group is there twice, and no two ids stand for
-    /// one type.
+    /// Whether equal groups are kept once. Then no group is there twice; and in either mode no two ids
+    /// stand for one type.
     pub fn is_canonical(&self) -> bool
         ensures mode { result ≡ self.now.is_canonical }
         ensures once { IsTrue result → AreOnce self.now.groups }
+        ensures apart { HasNoRepetition (standing self.now.is_canonical self.now.groups) }
     {
         self.is_canonical
     }
@@ -91,11 +94,13 @@ impl<A: Allocator + Copy> TypeList<A> {
         self.is_open
     }
 
-    /// The number of types. Each type refers to types before it, or to those of its group.
+    /// The number of types. Each type refers to types before it, or to those of its group, and no two
+    /// ids stand for one type.
     pub fn len(&self) -> usize
         ensures count { result ≡ length (types_in self.now) }
         ensures room { result ≤ MAX_IDS }
         ensures listable { AreListable self.now.groups }
+        ensures apart { HasNoRepetition (standing self.now.is_canonical self.now.groups) }
     {
         self.groups.item_count()
     }

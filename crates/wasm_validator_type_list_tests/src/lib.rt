@@ -6,6 +6,8 @@ mod depths;
 #[cfg(test)]
 mod interning;
 #[cfg(test)]
+mod links;
+#[cfg(test)]
 mod look_ups;
 #[cfg(test)]
 mod subtyping;

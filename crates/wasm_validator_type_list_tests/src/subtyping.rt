@@ -38,7 +38,7 @@ fn extending(alloc: Global, supertype: PackedIndex) -> Result<SubType, AllocErro
 }
 
 /// Adds a structure type that extends this type, if the list has it.
-fn extend(
+pub(crate) fn extend(
     alloc: Global,
     list: &mut TypeList,
     supertype: CoreTypeId,
@@ -58,7 +58,7 @@ fn extend(
 
 /// Whether the first type is a subtype of the second, and the links that are read, if the list has
 /// both.
-fn links(list: &TypeList, a: CoreTypeId, b: CoreTypeId) -> Option<(bool, u64)> {
+pub(crate) fn links(list: &TypeList, a: CoreTypeId, b: CoreTypeId) -> Option<(bool, u64)> {
     if list.get(a).is_none() || list.get(b).is_none() {
         return None;
     }

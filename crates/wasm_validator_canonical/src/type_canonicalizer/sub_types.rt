@@ -1,10 +1,11 @@
-ghost use Rattle.std.specs.Prelude.{◌≡◌, ◌+◌, ◌≤◌, ◌<◌, ◌&&◌, ◌++◌, map, length, is_ok, IfOk, option_map};
+ghost use Rattle.std.specs.Prelude.{◌≡◌, ◌+◌, ◌≤◌, ◌<◌, ◌&&◌, ◌++◌, map, length, is_ok, IfOk, IfErr, option_map};
 ghost use Rattle.std.specs.List.{list_all};
 ghost use Rattle.wasm_spec.specs.Syntax.{map_comp, map_sub};
 ghost use Rattle.wasm_spec.specs.References.{refs_option, refs_comp};
 ghost use Rattle.wasm_readers_types.specs.SeenValues.{index_of};
 ghost use Rattle.wasm_readers_types.specs.SeenTypes.{comp_of, sub_of};
-ghost use Rattle.wasm_validator_canonical.specs.Answers.{Says};
+ghost use Rattle.wasm_validator_canonical.specs.Answers.{Says, IsAt};
+ghost use Rattle.wasm_validator_canonical.specs.Refusals.{late_by};
 ghost use Rattle.wasm_validator_canonical.specs.Indices.{IsSmall, canonical_by, is_known_by, is_earlier, extends_at_most_one, is_bound_by, are_bound_by};
 
 use crate::type_canonicalizer::TypeCanonicalizer;
@@ -20,6 +21,7 @@ impl<'a> TypeCanonicalizer<'a> {
         requires inside { before ≤ self.now.end }
         ensures value { IfOk result (λ p. index_of p ≡ canonical_by self.now (index_of index)) }
         ensures known { is_ok result ≡ is_earlier before (index_of index) }
+        ensures refusal { IfErr result (λ r. r ≡ late_by self.now fault (index_of index)) }
     {
         let UnpackedIndex::Module(number) = index.unpack() else {
             return Err(Refusal::new(Fault::UnknownType(0), self.offset));
@@ -45,6 +47,7 @@ impl<'a> TypeCanonicalizer<'a> {
         requires inside { before ≤ self.now.end }
         ensures value { IfOk result (λ ps. map index_of ps ≡ map (canonical_by self.now) (map index_of indices.now)) }
         ensures known { Says result (list_all (is_earlier before) (map index_of indices.now)) }
+        ensures place { IfErr result (IsAt self.now.offset) }
     {
         let mut canonical = Vec::new(alloc);
         for index in indices {
@@ -67,6 +70,7 @@ impl<'a> TypeCanonicalizer<'a> {
         requires inside { before ≤ self.now.end }
         ensures value { IfOk result (λ o. option_map index_of o ≡ option_map (canonical_by self.now) (option_map index_of index)) }
         ensures known { is_ok result ≡ list_all (is_earlier before) (refs_option (option_map index_of index)) }
+        ensures place { IfErr result (λ r. r.offset ≡ self.now.offset) }
     {
         match index {
             Some(index) => {
@@ -82,6 +86,7 @@ impl<'a> TypeCanonicalizer<'a> {
         requires { IsSmall self.now }
         ensures value { IfOk result (λ o. option_map index_of o ≡ option_map (canonical_by self.now) (option_map index_of index)) }
         ensures known { is_ok result ≡ list_all (is_known_by self.now) (refs_option (option_map index_of index)) }
+        ensures place { IfErr result (λ r. r.offset ≡ self.now.offset) }
     {
         match index {
             Some(index) => Ok(Some(self.packed(index)?)),
@@ -103,6 +108,7 @@ impl<'a> TypeCanonicalizer<'a> {
         ensures descriptor { IfOk result (λ c. option_map index_of c.descriptor_idx ≡ option_map (canonical_by self.now) (option_map index_of ty.descriptor_idx)) }
         ensures describes { IfOk result (λ c. option_map index_of c.describes_idx ≡ option_map (canonical_by self.now) (option_map index_of ty.describes_idx)) }
         ensures known { Says result (list_all (is_earlier index) (refs_option (option_map index_of ty.describes_idx)) && list_all (is_known_by self.now) (refs_option (option_map index_of ty.descriptor_idx) ++ refs_comp (comp_of ty.inner))) }
+        ensures place { IfErr result (IsAt self.now.offset) }
     {
         let describes_idx = match self.described(index, ty.describes_idx) {
             Ok(described) => described,
@@ -135,6 +141,7 @@ impl<'a> TypeCanonicalizer<'a> {
         requires inside { index ≤ self.now.end }
         ensures value { IfOk result (λ s. sub_of s ≡ map_sub (canonical_by self.now) (sub_of ty)) }
         ensures known { Says result (is_bound_by self.now index (sub_of ty)) }
+        ensures place { IfErr result (IsAt self.now.offset) }
     {
         let is_final = ty.is_final;
         match self.supertypes(alloc, index, ty.supertype_idxs.as_slice()) {
@@ -158,7 +165,7 @@ impl<'a> TypeCanonicalizer<'a> {
     ///
     /// # Errors
     ///
-    /// Refused where an index is out of these bounds, and where memory is.
+    /// Refused, at the offset of the group, where an index is out of these bounds; and where memory is.
     pub fn sub_types<A: Allocator + Copy>(
         &self,
         alloc: A,
@@ -168,6 +175,7 @@ impl<'a> TypeCanonicalizer<'a> {
         requires whole { self.now.end ≡ length self.now.ids.now + length types.items }
         ensures value { IfOk result (λ ss. map sub_of ss.items ≡ map (map_sub (canonical_by self.now)) (map sub_of types.items)) }
         ensures known { Says result (are_bound_by self.now (length self.now.ids.now) (map sub_of types.items)) }
+        ensures place { IfErr result (IsAt self.now.offset) }
     {
         let mut canonical = Vec::new(alloc);
         for ty in types {

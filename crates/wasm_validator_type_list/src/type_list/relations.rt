@@ -28,8 +28,9 @@ impl<A: Allocator + Copy> TypeList<A> {
         self.id_is_subtype_counted(a, b, &mut count)
     }
 
-    /// The same, and adds one to the count for each supertype link that is read. It reads none of a
-    /// type whose id is not above the second one, since what a type extends comes before it.
+    /// The same, and adds one to the count for each supertype link that is read: no more than lead from
+    /// the first type to the second, or where this isn't an ancestor than the first has proper
+    /// ancestors; and one at least where the first has more of these than the second.
     pub fn id_is_subtype_counted(&self, a: CoreTypeId, b: CoreTypeId, count: &mut LinkCount) -> bool
         requires sub { a.index < length (types_in self.now) }
         requires sup { b.index < length (types_in self.now) }
@@ -40,7 +41,7 @@ impl<A: Allocator + Copy> TypeList<A> {
         // What is always true of the list is known from here on.
         let _groups = &self.groups;
         let mut id = a;
-        'links: while b.index() < id.index() {
+        'links: while id.index() != b.index() {
             match self.supertype_of(id) {
                 Some(supertype) => {
                     count.add_one();
@@ -49,7 +50,7 @@ impl<A: Allocator + Copy> TypeList<A> {
                 None => return false,
             }
         }
-        id.index() == b.index()
+        true
     }
 
     /// Whether the first reference type matches the second (Core Specification 3.0, Validation,

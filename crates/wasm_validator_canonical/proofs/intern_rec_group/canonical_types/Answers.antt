@@ -1,5 +1,5 @@
 use Rattle.std.proofs.Common.{◌≡◌, sym, ap, subst, ◌∙◌, ◌+◌, ◌<◌, true, false, not, ◌&&◌, ◌||◌, map, length, arith, All}
-use Rattle.std.specs.Prelude.{IfOk}
+use Rattle.std.specs.Prelude.{IfOk, IfErr}
 use Rattle.std.specs.List.{list_all}
 use Rattle.std.proofs.lemmas.List.{length-map}
 use Rattle.wasm_spec.specs.Syntax.{map_sub}
@@ -7,7 +7,7 @@ use Rattle.wasm_rules.specs.FeatureFlags.{features_of}
 use Rattle.wasm_readers_types.specs.SeenTypes.{sub_of, rec_of}
 use Rattle.wasm_readers_types.specs.declared.indices.CoreTypeId.{CoreTypeId}
 use Rattle.wasm_readers_types.specs.declared.indices.TheConstants.{MAX_IDS}
-use Rattle.wasm_validator_canonical.specs.Answers.{Says}
+use Rattle.wasm_validator_canonical.specs.Answers.{Says, IsAt}
 use Rattle.wasm_validator_canonical.specs.Indices.{numbers, canonical_index, are_bound, extends_at_most_one}
 use Rattle.wasm_validator_canonical.proofs.Canonical.{and_false}
 use Rattle.wasm_validator_canonical.proofs.Bounds.{closes_is}
@@ -57,3 +57,6 @@ returns-clause-closes g c =
     ∙ ap (λ b. b && (list_all extends_at_most_one w.types && bound)) c.if-not-may_be_written.ensures
     ∙ closes_is F n w)
     c.sub_types.ensures.known
+
+pub returns-clause-place : goal.returns-clause-place
+returns-clause-place g c = subst (λ n. IfErr c.sub_types.result (IsAt n)) c.new-canonicalizer.ensures.offset c.sub_types.ensures.place

@@ -17,6 +17,8 @@ use Rattle.wasm_validator_canonical.proofs.NewIds.{numbers_below, below_limit}
 use Rattle.wasm_validator_canonical.proofs.Listable.{closing_listable, closing_members}
 use Rattle.wasm_validator_canonical.proofs.AddedGroups.{adds_canonical, same_standing, not_within, none_added, denies_adds}
 use Rattle.wasm_validator_canonical.proofs.DepthsOfIds.{interned_there}
+use Rattle.wasm_validator_canonical.proofs.KeptDepths.{earlier_both, interned_fits, interned_earlier}
+use Rattle.wasm_validator_canonical.proofs.OwnIds.{own_grows, own_new}
 use Rattle.wasm_validator_canonical.proofs.NothingAdded.{none_open, none_full}
 use Rattle.wasm_validator_canonical.proofs.intern_rec_group.canonicalize_and_intern_rec_group.Goals as goal
 
@@ -106,3 +108,24 @@ returns-in-Err-clause-added g c =
     denies_adds F c.in-Err.error (closes F (length c.args.ids.now) w) (with_written F (standing old.is_canonical old.groups) ids w)
     (λ h. none_open F (standing old.is_canonical old.groups) ids w (ap (λ n. closes F n w) (length-map c.args.ids.now _) ∙ h))
     c.in-Err.ensures.closes
+
+pub returns-in-Ok-keep_depths-clause-own_ids : goal.returns-in-Ok-keep_depths-clause-own_ids
+returns-in-Ok-keep_depths-clause-own_ids g c = λ own.
+    own_new (features_of c.args.features) own c.args.types.now c.keep_depths.new.types (numbers c.args.ids.now) (ids_left c.in-Ok-intern.elements) (rec_of c.args.group) (length c.args.group.types)
+    (length-map c.args.group.types sub_of) (returns-in-Ok-keep_depths-clause-added g c)
+
+pub returns-in-Ok-keep_depths-clause-grows : goal.returns-in-Ok-keep_depths-clause-grows
+returns-in-Ok-keep_depths-clause-grows g c = λ own.
+    let ids = numbers c.args.ids.now in
+    own_grows (features_of c.args.features) own c.args.types.now c.keep_depths.new.types ids (ids ++ ids_left c.in-Ok-intern.elements) (rec_of c.args.group) (length c.args.group.types)
+    (length-map c.args.group.types sub_of) (returns-in-Ok-keep_depths-clause-added g c)
+
+pub keep_depths-requires-clause-fits : goal.keep_depths-requires-clause-fits
+keep_depths-requires-clause-fits g c =
+    interned_fits (features_of c.args.features) c.args.types.now c.intern.new.types c.explicit.result.types (ids_left c.in-Ok-intern.elements) c.in-Ok-intern.ensures.same_mode
+    c.in-Ok-intern.ensures.interned.0 c.in-Ok-intern.ensures.listable c.in-Ok-intern.ensures.interned.1
+
+pub returns-in-Ok-keep_depths-clause-earlier_depths : goal.returns-in-Ok-keep_depths-clause-earlier_depths
+returns-in-Ok-keep_depths-clause-earlier_depths g c =
+    earlier_both c.args.types.now c.intern.new.types c.keep_depths.new.types
+    (interned_earlier c.args.types.now c.intern.new.types c.explicit.result.types (ids_left c.in-Ok-intern.elements) c.in-Ok-intern.ensures.interned.0) c.in-Ok-keep_depths.ensures.earlier

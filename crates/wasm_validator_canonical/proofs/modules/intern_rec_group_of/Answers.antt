@@ -1,4 +1,4 @@
-use Rattle.std.proofs.Common.{sym, ap, subst, ◌<◌, length, arith}
+use Rattle.std.proofs.Common.{sym, ap, subst, ◌∙◌, ◌++◌, ◌<◌, length, arith}
 use Rattle.std.specs.List.{All}
 use Rattle.std.proofs.lemmas.List.{length-map}
 use Rattle.wasm_rules.specs.FeatureFlags.{features_of}
@@ -23,3 +23,7 @@ add_type_ids-requires g c =
     let types = length-map c.args.group.types sub_of in
     let few = c.requires.few in
     omega (arith, many, same, types, few)
+
+pub returns-in-Ok-add_type_ids-clause-own_ids : goal.returns-in-Ok-add_type_ids-clause-own_ids
+returns-in-Ok-add_type_ids-clause-own_ids g c = λ own.
+    c.in-Ok-add_type_ids.ensures.ids ∙ ap (λ l. g.M.InternRecGroup.ids c.args.target.now ++ l) (c.in-Ok.ensures.own_ids own)

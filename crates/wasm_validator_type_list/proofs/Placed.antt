@@ -1,5 +1,6 @@
--- Where equal types aren't one, each recursive type of a list has its place, so that none of its types is there twice.
-use Rattle.std.proofs.Common.{◌≡◌, sym, subst, ◌∙◌, ℕ, ◌+◌, false, List, [], ◌∷◌, map, length, slice_get, Some, arith}
+-- No two ids of a list stand for one type: where equal types are one, since equal groups are kept once, and where they
+-- aren't, since each recursive type has its place.
+use Rattle.std.proofs.Common.{◌≡◌, refl, sym, subst, ◌∙◌, ℕ, ◌+◌, Bool, true, false, List, [], ◌∷◌, map, length, slice_get, Some, arith}
 use Rattle.std.proofs.lemmas.Option.{none-some, same_Some}
 use Rattle.wasm_spec.specs.Syntax.{Sub, map_sub}
 use Rattle.wasm_spec.specs.Trees.{DefType, start_of}
@@ -8,7 +9,12 @@ use Rattle.wasm_spec.specs.TypeLists.{ListedUse, resolve_listed, listed_tree, wi
 use Rattle.wasm_spec.specs.TypeLaws.{HasNoRepetition}
 use Rattle.wasm_spec.proofs.Numbering.{start_of-close}
 use Rattle.wasm_readers_types.specs.declared.types.SubType.{SubType}
+use Rattle.wasm_validator_type_list.specs.declared.type_list.TypeList.TheInside.{Inside}
+use Rattle.wasm_validator_type_list.specs.Listing.{Listing}
 use Rattle.wasm_validator_type_list.specs.Standing.{listed_group, standing}
+use Rattle.wasm_validator_type_list.specs.Interned.{AreOnce}
+use Rattle.wasm_validator_type_list.specs.Laws.{TypesHaveTheirPlaces}
+use Rattle.wasm_validator_type_list.specs.Sound.{shown, IsSound}
 use Rattle.wasm_grouped_list.proofs.Places.{get-append}
 use Rattle.wasm_validator_type_list.proofs.Standing.{from-positions}
 
@@ -43,5 +49,13 @@ placed_once ts h = record {
       omega (arith, left, right, same);
 }
 
-pub no_repetition_where_not_canonical : {A : Type 0} (gs : List (List (SubType A))) → HasNoRepetition (standing false gs)
-no_repetition_where_not_canonical gs = placed_once (standing false gs) (all_placed (map listed_group gs) [] (λ k d e. absurd (none-some d e)))
+module _ {A : Type 0} where
+  pub types_have_their_places : TypesHaveTheirPlaces A
+  types_have_their_places gs = placed_once (standing false gs) (all_placed (map listed_group gs) [] (λ k d e. absurd (none-some d e)))
+
+  pub once_in : (c : Bool) (gs : List (List (SubType A))) → (c ≡ true → AreOnce gs) → HasNoRepetition (standing c gs)
+  once_in true gs h = (h refl).types
+  once_in false gs h = types_have_their_places gs
+
+  pub apart_in : (a : Inside A) (l : Listing A) → shown a ≡ l → IsSound a → HasNoRepetition (standing l.is_canonical l.groups)
+  apart_in a l e h = subst (λ (m : Listing A). HasNoRepetition (standing m.is_canonical m.groups)) e (once_in a.is_canonical a.groups h.once)

@@ -1,0 +1,42 @@
+-- The refusals of groups that aren't written as a list of types can have them.
+use Rattle.std.specs.Prelude.{ℕ, nat_lt, if◌then◌else◌}
+use Rattle.std.specs.declared.option.Option.TheVariants.{Some, None}
+use Rattle.wasm_readers_errors.specs.declared.error.Error.{Error}
+use Rattle.wasm_readers_errors.specs.declared.error.Error.TheVariants.{Refused}
+use Rattle.wasm_readers_errors.specs.declared.error.Fault.{Fault}
+use Rattle.wasm_readers_errors.specs.declared.error.Fault.TheVariants.{Group, UnknownType, UnknownTypeWithoutGc}
+use Rattle.wasm_readers_errors.specs.declared.error.Refusal.{Refusal}
+use Rattle.wasm_readers_errors.specs.declared.type_rules.GroupRule.{GroupRule}
+use Rattle.wasm_readers_errors.specs.declared.type_rules.GroupRule.TheVariants.{RecGroups, MultipleSupertypes}
+use Rattle.wasm_readers_errors.specs.declared.features.TheConstants.WasmFeatures.{GC}
+use Rattle.wasm_readers_types.specs.declared.indices.UnpackedIndex.{UnpackedIndex}
+use Rattle.wasm_readers_types.specs.declared.indices.UnpackedIndex.TheVariants.{Module, RecGroup, Id}
+use Rattle.wasm_validator_canonical.specs.declared.type_canonicalizer.TypeCanonicalizer.{TypeCanonicalizer}
+
+-- a refusal that no proposal lifts
+abbrev pub plain : Fault → ℕ → Refusal
+plain fault offset = record { fault = fault; offset = offset; missing = None }
+
+-- `rec` is written without the proposal for it
+abbrev pub rec_without_gc : ℕ → Refusal
+rec_without_gc offset = record { fault = Group RecGroups; offset = offset; missing = Some GC }
+
+-- a type extends more than one
+abbrev pub extends_many : ℕ → Refusal
+extends_many offset = plain (Group MultipleSupertypes) offset
+
+-- there is no type with this index
+abbrev pub unknown_type : ℕ → ℕ → Refusal
+unknown_type index offset = plain (UnknownType index) offset
+
+-- The index is of no type before the group: without gc it may not be one of the group. Only indices of a module are known.
+abbrev pub unknown_by : TypeCanonicalizer → UnpackedIndex → Refusal
+unknown_by c (Module k) = plain (if nat_lt k c.end then UnknownTypeWithoutGc k else UnknownType k) c.offset
+unknown_by c (RecGroup i) = plain (UnknownType 0) c.offset
+unknown_by c (Id id) = plain (UnknownType 0) c.offset
+
+-- the index isn't of a type before, which is this fault
+abbrev pub late_by : TypeCanonicalizer → Fault → UnpackedIndex → Refusal
+late_by c fault (Module k) = plain fault c.offset
+late_by c fault (RecGroup i) = plain (UnknownType 0) c.offset
+late_by c fault (Id id) = plain (UnknownType 0) c.offset
