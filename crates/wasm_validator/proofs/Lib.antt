@@ -1,6 +1,7 @@
 pub mod Sections
 pub mod Items
 pub mod Forms
+pub mod Growing
 pub mod ValidTypes
 pub mod SectionMoves
 pub mod Runs

@@ -153,7 +153,7 @@ module _ {A : Type 0} where
 
   -- where a payload that was refused leaves the validator
   left_refused : (bytes : List ℕ) (old now new : Standing) (s s' : State) (latest : Option (Types A)) (p : Piece) → Progress bytes old now s latest → next_of s ≡ Some (Some (p, s'))
-      → IsNowhere HoldsValid (after_piece now p) → new ≡ record now { stage = left_by p now.stage } → IsLeft bytes old new
+      → IsNowhere HoldsValid (after_piece now p) → new ≡ record now { stage = left_by now p } → IsLeft bytes old new
   left_refused bytes old now new s s' latest p g e nowhere left = record {
     behind = s;
     reached = now;
@@ -163,7 +163,7 @@ module _ {A : Type 0} where
 
   -- what the refusal of a payload says of the whole
   pub refused_whole : (T : Type 0) (bytes : List ℕ) (old now new : Standing) (s s' : State) (latest : Option (Types A)) (p : Piece) (e : Error A) → Progress bytes old now s latest → next_of s ≡ Some (Some (p, s'))
-      → Leaves (refusal T e) (after_piece now p) (left_by p now.stage) now new → (IsNowhere HoldsValid (after_piece now p) → Rejects bytes old) → Validates (refusal (Types A) e) bytes old new
+      → Leaves (refusal T e) (after_piece now p) (left_by now p) now new → (IsNowhere HoldsValid (after_piece now p) → Rejects bytes old) → Validates (refusal (Types A) e) bytes old new
   refused_whole T bytes old now new s s' latest p (Refused r) g n l rejected = (rejected l.0, left_refused bytes old now new s s' latest p g n l.0 l.1)
   refused_whole T bytes old now new s s' latest p (DuplicateExport name offset) g n l rejected = (rejected l.0, left_refused bytes old now new s s' latest p g n l.0 l.1)
   refused_whole T bytes old now new s s' latest p OutOfMemory g n l rejected = record {

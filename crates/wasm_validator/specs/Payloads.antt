@@ -73,7 +73,7 @@ pub record HasRefused (behind : State) (reached new : Standing) : Type 0 where
   pub rest : State
   pub comes : next_of behind ≡ Some (Some (next, rest))
   pub nowhere : IsNowhere HoldsValid (after_piece reached next)
-  pub left : new ≡ record reached { stage = left_by next reached.stage }
+  pub left : new ≡ record reached { stage = left_by reached next }
 
 -- After the first payloads either the bytes are no module's, and the validator stands where these have brought it, or the
 -- next payload was refused.
@@ -91,7 +91,7 @@ pub record IsOutOfMemory (bytes : List ℕ) (old new : Standing) : Type 0 where
   pub next : Piece
   pub rest : State
   pub comes : next_of behind ≡ Some (Some (next, rest))
-  pub fails : left_by next reached.stage ≡ failed
+  pub fails : left_by reached next ≡ failed
   pub left : new ≡ record reached { stage = failed }
 
 -- what the answer on whole bytes says

@@ -38,13 +38,13 @@ refused_at (in_code types spaces) = in_code types spaces
 refused_at (ended types) = ended types
 refused_at failed = failed
 
--- that of a data section
-abbrev pub data_refused_at : Stage → Stage
-data_refused_at (unparsed types) = unparsed types
-data_refused_at (in_module types spaces) = failed
-data_refused_at (in_code types spaces) = failed
-data_refused_at (ended types) = ended types
-data_refused_at failed = failed
+-- that of a data section, and of one whose proposal is missing, fails it behind the start of the code as well
+abbrev pub read_refused_at : Stage → Stage
+read_refused_at (unparsed types) = unparsed types
+read_refused_at (in_module types spaces) = failed
+read_refused_at (in_code types spaces) = failed
+read_refused_at (ended types) = ended types
+read_refused_at failed = failed
 
 -- that of a body fails the validator where it was a body's turn
 abbrev pub body_refused_at : Stage → Stage
@@ -113,13 +113,17 @@ within_all f failed = None
 abbrev pub at_stage : Standing → Option Stage → Option Standing
 at_stage s next = option_and_then (λ g. Some (record s { stage = g })) next
 
--- the types that a validator holds are valid; one that has failed holds none
+-- this holds of the list of types; a validator that has failed has none
+abbrev pub HoldsAt : (Types → Type 0) → Stage → Type 0
+HoldsAt V (unparsed types) = V types
+HoldsAt V (in_module types spaces) = V types
+HoldsAt V (in_code types spaces) = V types
+HoldsAt V (ended types) = V types
+HoldsAt V failed = ⊤
+
+-- the types that a validator holds are valid
 abbrev pub AreValidAt : WasmFeatures → Stage → Type 0
-AreValidAt features (unparsed types) = AreValid (features_of features) types
-AreValidAt features (in_module types spaces) = AreValid (features_of features) types
-AreValidAt features (in_code types spaces) = AreValid (features_of features) types
-AreValidAt features (ended types) = AreValid (features_of features) types
-AreValidAt features failed = ⊤
+AreValidAt features g = HoldsAt (AreValid (features_of features)) g
 
 abbrev pub HoldsValid : Standing → Type 0
 HoldsValid s = AreValidAt s.features s.stage
