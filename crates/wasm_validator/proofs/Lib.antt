@@ -22,4 +22,6 @@ pub mod PieceRuns
 pub mod ServedModules
 pub mod WholeModules
 pub mod Sequences
+pub mod OwnIds
+pub mod Resets
 pub mod Table

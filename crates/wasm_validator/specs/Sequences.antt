@@ -1,6 +1,6 @@
 -- Modules that one validator looks at one after another, and the ids of their types. Core Specification 3.0, Validation,
 -- Types (Recursive Types): types are equal where they are the same place of equal recursive types.
-use Rattle.std.specs.Prelude.{ℕ, ◌≡◌, ◌↔◌, true, List, [], ◌∷◌, ◌++◌, slice_get, Option, Some, None, ⊤}
+use Rattle.std.specs.Prelude.{ℕ, ◌≡◌, ◌↔◌, true, false, List, [], ◌∷◌, ◌++◌, slice_get, Option, Some, None, ⊤}
 use Rattle.std.specs.List.{zip}
 use Rattle.wasm_spec.specs.Features.{canonical}
 use Rattle.wasm_spec.specs.Trees.{DefType}
@@ -9,6 +9,7 @@ use Rattle.wasm_validator_types.specs.Shown.{shown_of}
 use Rattle.wasm_validator_types.specs.declared.shown.Types as shown
 use Rattle.wasm_validator_core.specs.Answers.{Types}
 use Rattle.wasm_validator.specs.Standing.{Standing, unparsed, may_reset, after_reset}
+use Rattle.wasm_validator.specs.Payloads.{IsLeft}
 use Rattle.wasm_validator.specs.Verdict.{Expressions, AcceptsModule}
 
 -- The validator may be reset, and then has a list that begins with the types that it had.
@@ -18,6 +19,10 @@ pub record KeepsTypes (old new : Standing) : Type 0 where
   pub may : may_reset new ≡ true
   pub more : Types
   pub after : after_reset new ≡ record old { stage = unparsed (before ++ more) }
+
+-- A module that is refused so that the validator may be reset does so.
+abbrev pub RefusedKeepTypes : Type 0
+RefusedKeepTypes = (bytes : List ℕ) (old new : Standing) (before : Types) → old.stage ≡ unparsed before → IsLeft bytes old new → may_reset new ≡ true → KeepsTypes old new
 
 module _ {A : Type 0} where
   -- what a validator makes of a module: it is accepted with these types, or it is refused so that the validator may be reset
@@ -46,3 +51,10 @@ OneIdForOneType A =
     (expression_at : Expressions) (old : Standing) (ms : List (List ℕ × Option (shown.Types A))) (a : TakesEach expression_at old ms) → canonical (features_of old.features) ≡ true
     → (j k : ℕ) (p q : ℕ × DefType) → slice_get (all_types expression_at old ms a) j ≡ Some p → slice_get (all_types expression_at old ms a) k ≡ Some q
     → (p.0 ≡ q.0) ↔ (p.1 ≡ q.1)
+
+-- Where equal types aren't one, each type of each of the modules has an id of its own.
+abbrev pub OwnIdForEachType : Type 0 → Type 0
+OwnIdForEachType A =
+    (expression_at : Expressions) (old : Standing) (ms : List (List ℕ × Option (shown.Types A))) (a : TakesEach expression_at old ms) → canonical (features_of old.features) ≡ false
+    → (j k : ℕ) (p q : ℕ × DefType) → slice_get (all_types expression_at old ms a) j ≡ Some p → slice_get (all_types expression_at old ms a) k ≡ Some q
+    → (p.0 ≡ q.0) ↔ (j ≡ k)

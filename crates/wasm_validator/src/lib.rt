@@ -1,7 +1,7 @@
 //! Validation of WebAssembly modules: states, one method for each payload, and whole modules.
 #![tactic(auto)]
 
-ghost use Rattle.wasm_validator.specs.Sequences.{OneIdForOneType};
+ghost use Rattle.wasm_validator.specs.Sequences.{OneIdForOneType, OwnIdForEachType, RefusedKeepTypes};
 ghost use Rattle.wasm_validator.specs.Table.{AcceptedByTable, RefusedByTable};
 
 mod module_sections;
@@ -35,4 +35,16 @@ pub fn state_table()
 /// stand between them that were refused so that the validator could be reset.
 pub fn one_id_for_one_type<A>()
     ensures { OneIdForOneType A }
+{}
+
+/// Where equal types aren't one, each type of each of these modules has an id of its own.
+pub fn own_id_for_each_type<A>()
+    ensures { OwnIdForEachType A }
+{}
+
+/// A module that is refused so that the validator may be reset leaves a list that begins with the types
+/// before it: so the modules of `one_id_for_one_type` may be any that `validate_all` was handed, as long
+/// as `reset` is allowed.
+pub fn refused_modules_keep_types()
+    ensures { RefusedKeepTypes }
 {}
