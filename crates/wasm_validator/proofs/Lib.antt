@@ -25,3 +25,4 @@ pub mod Sequences
 pub mod OwnIds
 pub mod Resets
 pub mod Table
+pub mod SectionLaws

@@ -2,6 +2,7 @@
 #![tactic(auto)]
 
 ghost use Rattle.wasm_validator.specs.Sequences.{OneIdForOneType, OwnIdForEachType, RefusedKeepTypes};
+ghost use Rattle.wasm_validator.specs.SectionLaws.{FunctionsAdd, TablesAdd, MemoriesAdd, TagsAdd};
 ghost use Rattle.wasm_validator.specs.Table.{AcceptedByTable, RefusedByTable};
 
 mod module_sections;
@@ -47,4 +48,14 @@ pub fn own_id_for_each_type<A>()
 /// as `reset` is allowed.
 pub fn refused_modules_keep_types()
     ensures { RefusedKeepTypes }
+{}
+
+/// Behind any lists that a module has so far a section is accepted exactly where its bytes are items that
+/// keep their rules on these lists and the limit, and then the list has these items behind (Core
+/// Specification 3.0, Validation, Modules).
+pub fn sections_add_their_items()
+    ensures functions { FunctionsAdd }
+    ensures tables { TablesAdd }
+    ensures memories { MemoriesAdd }
+    ensures tags { TagsAdd }
 {}
