@@ -10,10 +10,10 @@ pub data Phase : Type 0 where
   in_code : ℕ → Phase
   ended failed : Phase
 
--- the calls: the header, a section other than those of code and data, the start of the code with so many bodies, a
--- body, the data section, a custom section, one of an unknown id, and the end
+-- the calls: the header, a section other than those of code and data, one of items whose proposal is missing, the start
+-- of the code with so many bodies, a body, the data section, a custom section, one of an unknown id, and the end
 pub data Call : Type 0 where
-  header section : Call
+  header section barred_section : Call
   code_start : ℕ → Call
   code_entry data_section custom unknown end : Call
 
@@ -29,9 +29,12 @@ accepted_to end in_module = Some ended
 accepted_to end (in_code n) = Some ended
 accepted_to _ _ = None
 
--- A refused section fails the module where it was its turn. An end is refused in a module for want of memory alone.
+-- A refused section fails the module where it was its turn, and one whose proposal is missing wherever a module is being
+-- read: that is told before its turn is asked for. An end is refused in a module for want of memory alone.
 abbrev pub refused_to : Call → Phase → Phase
 refused_to section in_module = failed
+refused_to barred_section in_module = failed
+refused_to barred_section (in_code n) = failed
 refused_to (code_start n) in_module = failed
 refused_to code_entry (in_code (suc n)) = failed
 refused_to data_section in_module = failed

@@ -1,6 +1,7 @@
 pub mod Sections
 pub mod Items
 pub mod Forms
+pub mod Growing
 pub mod ValidTypes
 pub mod SectionMoves
 pub mod Runs
@@ -21,4 +22,7 @@ pub mod PieceRuns
 pub mod ServedModules
 pub mod WholeModules
 pub mod Sequences
+pub mod OwnIds
+pub mod Resets
 pub mod Table
+pub mod SectionLaws

@@ -17,7 +17,7 @@ use Rattle.wasm_rules.proofs.Tests.{then_some}
 use Rattle.wasm_validator_core.specs.Answers.{IsNowhere}
 use Rattle.wasm_validator.specs.Standing.{Standing, HoldsValid, Leaves}
 use Rattle.wasm_validator.specs.States.{after_piece, IsBeforeEnd, left_by}
-use Rattle.wasm_validator.specs.Payloads.{ShowsModule, Show, latest_of, after_all, Accepts, Rejects, IsLeft, Validates}
+use Rattle.wasm_validator.specs.Payloads.{ShowsModule, Show, latest_of, after_all, Accepts, Rejects, HasTaken, IsLeft, Validates}
 use Rattle.wasm_validator.proofs.ValidTypes.{all_back}
 
 -- pieces after pieces
@@ -147,13 +147,39 @@ module _ {A : Type 0} where
   abbrev pub refusal : (T : Type 0) → Error A → Result T (Error A)
   refusal T e = results.Err e
 
+  -- what was taken
+  pub has_taken : (bytes : List ℕ) (old now : Standing) (s : State) (latest : Option (Types A)) → Progress bytes old now s latest → HasTaken bytes old now s
+  has_taken bytes old now s latest g = record { pieces = g.pieces; given = g.given; run = g.taken }
+
+  -- where a payload that was refused leaves the validator
+  left_refused : (bytes : List ℕ) (old now new : Standing) (s s' : State) (latest : Option (Types A)) (p : Piece) → Progress bytes old now s latest → next_of s ≡ Some (Some (p, s'))
+      → IsNowhere HoldsValid (after_piece now p) → new ≡ record now { stage = left_by now p } → IsLeft bytes old new
+  left_refused bytes old now new s s' latest p g e nowhere left = record {
+    behind = s;
+    reached = now;
+    taken = has_taken bytes old now s latest g;
+    left = inr (record { next = p; rest = s'; comes = e; nowhere = nowhere; left = left });
+  }
+
   -- what the refusal of a payload says of the whole
-  pub refused_whole : (T : Type 0) (bytes : List ℕ) (old now new : Standing) (s : State) (latest : Option (Types A)) (p : Piece) (e : Error A) → Progress bytes old now s latest
-      → Leaves (refusal T e) (after_piece now p) (left_by p now.stage) now new → (IsNowhere HoldsValid (after_piece now p) → Rejects bytes old) → Validates (refusal (Types A) e) bytes old new
-  refused_whole T bytes old now new s latest p (Refused r) g l rejected = (rejected l.0, record { pieces = g.pieces; reached = now; run = g.taken; left = inr (p, l.1) })
-  refused_whole T bytes old now new s latest p (DuplicateExport name offset) g l rejected = (rejected l.0, record { pieces = g.pieces; reached = now; run = g.taken; left = inr (p, l.1) })
-  refused_whole T bytes old now new s latest p OutOfMemory g l rejected = record { pieces = g.pieces; reached = now; run = g.taken; failed_there = l }
+  pub refused_whole : (T : Type 0) (bytes : List ℕ) (old now new : Standing) (s s' : State) (latest : Option (Types A)) (p : Piece) (e : Error A) → Progress bytes old now s latest → next_of s ≡ Some (Some (p, s'))
+      → Leaves (refusal T e) (after_piece now p) (left_by now p) now new → (IsNowhere HoldsValid (after_piece now p) → Rejects bytes old) → Validates (refusal (Types A) e) bytes old new
+  refused_whole T bytes old now new s s' latest p (Refused r) g n l rejected = (rejected l.0, left_refused bytes old now new s s' latest p g n l.0 l.1)
+  refused_whole T bytes old now new s s' latest p (DuplicateExport name offset) g n l rejected = (rejected l.0, left_refused bytes old now new s s' latest p g n l.0 l.1)
+  refused_whole T bytes old now new s s' latest p OutOfMemory g n l rejected = record {
+    behind = s;
+    reached = now;
+    taken = has_taken bytes old now s latest g;
+    next = p;
+    rest = s';
+    comes = n;
+    fails = l.0;
+    left = l.1;
+  }
 
   -- where the parser refuses, the validator stands where it was
-  pub refused_bytes : (bytes : List ℕ) (old now : Standing) (s : State) (latest : Option (Types A)) → Progress bytes old now s latest → next_of s ≡ None → Rejects bytes old × IsLeft old now
-  refused_bytes bytes old now s latest g e = (rejected_bytes bytes old now s latest g e, record { pieces = g.pieces; reached = now; run = g.taken; left = inl refl })
+  pub refused_bytes : (bytes : List ℕ) (old now : Standing) (s : State) (latest : Option (Types A)) → Progress bytes old now s latest → next_of s ≡ None → Rejects bytes old × IsLeft bytes old now
+  refused_bytes bytes old now s latest g e = (
+    rejected_bytes bytes old now s latest g e,
+    record { behind = s; reached = now; taken = has_taken bytes old now s latest g; left = inl (e, refl) },
+  )

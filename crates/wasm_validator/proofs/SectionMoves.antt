@@ -1,5 +1,6 @@
 -- How the items of a section that are added where types are valid move a validator.
-use Rattle.std.proofs.Common.{◌≡◌, refl, sym, ap, subst, ◌∙◌, ℕ, Option, Some}
+use Rattle.std.proofs.Common.{◌≡◌, refl, sym, ap, subst, ◌∙◌, ℕ, true, not, cond, Option, Some}
+use Rattle.wasm_rules.specs.FeatureFlags.{features_of}
 use Rattle.std.specs.Option.{option_and_then}
 use Rattle.std.specs.declared.result.Result.{Result}
 use Rattle.std.specs.declared.result.Result.TheVariants as results
@@ -11,10 +12,10 @@ use Rattle.wasm_validator_core.specs.Answers.{Types, IsNowhere, Adds, AddsWhere,
 use Rattle.wasm_validator.specs.declared.validator.State.{State}
 use Rattle.wasm_validator.specs.declared.validator.State.TheVariants.{Unparsed, Module, Code, End, Failed}
 use Rattle.wasm_validator_module_state.specs.declared.module_state.ModuleState.{ModuleState}
-use Rattle.wasm_validator.specs.Standing.{in_module, Standing, HoldsValid, within, at_stage, Moves}
-use Rattle.wasm_validator.specs.States.{open_of, stage_of, state_kept}
+use Rattle.wasm_validator.specs.Standing.{Stage, in_module, Standing, HoldsValid, refused_at, read_refused_at, within, at_stage, Moves}
+use Rattle.wasm_validator.specs.States.{open_of, stage_of, state_kept, section_refused_at}
 use Rattle.wasm_validator.proofs.Items.{none_nowhere}
-use Rattle.wasm_validator.proofs.ValidTypes.{within_some}
+use Rattle.wasm_validator.proofs.Growing.{within_some}
 
 module _ (id : ℕ) (features : WasmFeatures) (types : Types) (m : Spaces) where
   abbrev before : Standing
@@ -31,7 +32,7 @@ module _ (id : ℕ) (features : WasmFeatures) (types : Types) (m : Spaces) where
     moves_here (results.Ok x) types' m' a = ap (λ o. at_stage before (option_and_then (λ (p : Types × Spaces). Some (in_module p.0 p.1)) o)) a
     moves_here (results.Err (Refused r)) types' m' a = (nowhere_within a, refl)
     moves_here (results.Err (DuplicateExport name offset)) types' m' a = (nowhere_within a, refl)
-    moves_here (results.Err OutOfMemory) types' m' a = refl
+    moves_here (results.Err OutOfMemory) types' m' a = (refl, refl)
 
 module _ {T A : Type 0} (id : ℕ) (features : WasmFeatures) (types : Types) (m : Spaces) (f : WasmFeatures → Types × Spaces → Option (Types × Spaces)) where
   abbrev moves_by : Result T (Error A) → Standing → Standing → Type 0
@@ -56,3 +57,7 @@ adds_beside P types (results.Ok x) o m a = ap (option_and_then (λ (s : Spaces).
 adds_beside P types (results.Err (Refused r)) o m a = none_nowhere P (option_and_then (λ (s : Spaces). Some (types, s)) o) (ap (option_and_then (λ (s : Spaces). Some (types, s))) a)
 adds_beside P types (results.Err (DuplicateExport name offset)) o m a = none_nowhere P (option_and_then (λ (s : Spaces). Some (types, s)) o) (ap (option_and_then (λ (s : Spaces). Some (types, s))) a)
 adds_beside P types (results.Err OutOfMemory) o m a = tt
+
+-- with exceptions a refused section of tags leaves what any other does
+pub tags_refused : (features : WasmFeatures) (g : Stage) → (features_of features).exceptions ≡ true → refused_at g ≡ section_refused_at features 13 g
+tags_refused features g is = ap (λ b. cond (not b) (read_refused_at g) (refused_at g)) (sym is)

@@ -1,5 +1,5 @@
 -- One id for one type over all modules of a validator.
-use Rattle.std.proofs.Common.{◌≡◌, sym, ap, subst, ◌∙◌, ℕ, zero, suc, true, List, [], ◌∷◌, ◌++◌, slice_get, Some, append_assoc, append-nil}
+use Rattle.std.proofs.Common.{◌≡◌, refl, sym, ap, subst, ◌∙◌, ◌↔◌, ◌⊎◌, inl, inr, ℕ, zero, suc, true, List, [], ◌∷◌, ◌++◌, slice_get, Option, Some, None, append_assoc, append-nil}
 use Rattle.std.specs.List.{All, AllZip, zip}
 use Rattle.std.proofs.lemmas.List.Elements.{All-nil, All-cons, All-head, All-tail}
 use Rattle.std.proofs.lemmas.Option.{slice_get_within}
@@ -15,7 +15,7 @@ use Rattle.wasm_validator_types.specs.declared.shown.Types as shown
 use Rattle.wasm_validator_core.specs.Answers.{Types}
 use Rattle.wasm_validator.specs.Standing.{unparsed, Standing, after_reset}
 use Rattle.wasm_validator.specs.Verdict.{Expressions, AcceptsModule}
-use Rattle.wasm_validator.specs.Sequences.{AcceptsEach, all_types, OneIdForOneType}
+use Rattle.wasm_validator.specs.Sequences.{KeepsTypes, Takes, TakesEach, its_types, all_types, OneIdForOneType}
 
 -- the id is of this type in the list
 abbrev Stands : Types → ℕ × DefType → Type 0
@@ -59,11 +59,17 @@ record AllStand (before : Types) (ps : List (ℕ × DefType)) : Type 0 where
 stages_apart : (T U : Types) → unparsed T ≡ unparsed U → T ≡ U
 stages_apart T U e = cc
 
+-- the same, unless there are no ids
+abbrev MayStand : Types → List (ℕ × DefType) → Type 0
+MayStand before ps = (ps ≡ []) ⊎ AllStand before ps
+
+-- a module that is refused adds nothing but what stands behind
+refused_stands : (old new : Standing) (a : KeepsTypes old new) (later : List (ℕ × DefType)) → MayStand (a.before ++ a.more) later → MayStand a.before later
+refused_stands old new a later (inl none) = inl none
+refused_stands old new a later (inr s) = inr (record { list = s.list; more = a.more ++ s.more; front = s.front ∙ append_assoc a.before a.more s.more; once = s.once; stand = s.stand })
+
 module _ {A : Type 0} (expression_at : Expressions) where
   -- what an accepted module leaves, after `reset`
-  next_features : (bytes : List ℕ) (old new : Standing) (t : shown.Types A) → AcceptsModule expression_at bytes old new t → (after_reset new).features ≡ old.features
-  next_features bytes old new t a = ap (λ (s : Standing). (after_reset s).features) a.after
-
   next_stage : (bytes : List ℕ) (old new : Standing) (t : shown.Types A) → AcceptsModule expression_at bytes old new t → (after_reset new).stage ≡ unparsed (types_of (shown_of t).list)
   next_stage bytes old new t a = ap (λ (s : Standing). (after_reset s).stage) a.after
 
@@ -71,31 +77,57 @@ module _ {A : Type 0} (expression_at : Expressions) where
       → All (Stands (types_of (shown_of t).list)) (zip (shown_of t).spaces.types m.module_valid.well_formed.types.types)
   one_stands bytes old new t m c = zipped (types_of (shown_of t).list) (shown_of t).spaces.types m.module_valid.well_formed.types.types (subst (λ b. AllZip (StandsFor b (types_of (shown_of t).list)) (shown_of t).spaces.types m.module_valid.well_formed.types.types) c m.shows.types)
 
-  module_stands : (m : List ℕ × shown.Types A) (ms : List (List ℕ × shown.Types A)) (old : Standing) (a : AcceptsEach expression_at old (m ∷ ms)) → canonical (features_of old.features) ≡ true
-      → AllStand (types_of (shown_of m.1).list) (all_types expression_at (after_reset a.0) ms a.2) → AllStand a.1.before (all_types expression_at old (m ∷ ms) a)
-  module_stands m ms old a c rest =
-      let here = types_of (shown_of m.1).list in
+  -- its types with those of later modules
+  module_stands : (bytes : List ℕ) (old new : Standing) (t : shown.Types A) (a : AcceptsModule expression_at bytes old new t) (later : List (ℕ × DefType)) → canonical (features_of old.features) ≡ true
+      → AllStand (types_of (shown_of t).list) later → AllStand a.before (its_types expression_at bytes (Some t) old new a ++ later)
+  module_stands bytes old new t a later c rest =
+      let here = types_of (shown_of t).list in
+      let its = its_types expression_at bytes (Some t) old new a in
       record {
         list = rest.list;
-        more = a.1.more ++ rest.more;
-        front = rest.front ∙ ap (λ us. us ++ rest.more) a.1.kept ∙ append_assoc a.1.before a.1.more rest.more;
+        more = a.more ++ rest.more;
+        front = rest.front ∙ ap (λ us. us ++ rest.more) a.kept ∙ append_assoc a.before a.more rest.more;
         once = rest.once;
-        stand = join_all rest.list (zip (shown_of m.1).spaces.types a.1.module_valid.well_formed.types.types) (all_types expression_at (after_reset a.0) ms a.2)
-            (subst (λ us. All (Stands us) (zip (shown_of m.1).spaces.types a.1.module_valid.well_formed.types.types)) (sym rest.front) (all_longer here rest.more (zip (shown_of m.1).spaces.types a.1.module_valid.well_formed.types.types) (one_stands m.0 old a.0 m.1 a.1 c)))
-            rest.stand;
+        stand = join_all rest.list its later (subst (λ us. All (Stands us) its) (sym rest.front) (all_longer here rest.more its (one_stands bytes old new t a c))) rest.stand;
       }
 
-  all_stand : (ms : List (List ℕ × shown.Types A)) (old : Standing) (before : Types) (a : AcceptsEach expression_at old ms) → canonical (features_of old.features) ≡ true
-      → old.stage ≡ unparsed before → HasNoRepetition before → AllStand before (all_types expression_at old ms a)
-  all_stand [] old before a c w once = record { list = before; more = []; front = sym (append-nil before); once = once; stand = All-nil (Stands before) }
-  all_stand (m ∷ ms) old before a c w once =
-      let rest = all_stand ms (after_reset a.0) (types_of (shown_of m.1).list) a.2 (ap (λ f. canonical (features_of f)) (next_features m.0 old a.0 m.1 a.1) ∙ c) (next_stage m.0 old a.0 m.1 a.1) (a.1.shows.one_id c) in
-      subst (λ us. AllStand us (all_types expression_at old (m ∷ ms) a)) (stages_apart a.1.before before (sym a.1.began ∙ w)) (module_stands m ms old a c rest)
+  -- its own list, where no later module is accepted
+  nothing_later : (bytes : List ℕ) (old new : Standing) (t : shown.Types A) (a : AcceptsModule expression_at bytes old new t) (later : List (ℕ × DefType)) → canonical (features_of old.features) ≡ true
+      → MayStand (types_of (shown_of t).list) later → AllStand (types_of (shown_of t).list) later
+  nothing_later bytes old new t a later c (inl none) =
+      let here = types_of (shown_of t).list in
+      record { list = here; more = []; front = sym (append-nil here); once = a.shows.one_id c; stand = subst (All (Stands here)) (sym none) (All-nil (Stands here)) }
+  nothing_later bytes old new t a later c (inr s) = s
+
+  took : (bytes : List ℕ) (answer : Option (shown.Types A)) (old new : Standing) (a : Takes expression_at bytes answer old new) (before : Types) (later : List (ℕ × DefType)) → canonical (features_of old.features) ≡ true → old.stage ≡ unparsed before
+      → ((next : Types) → (after_reset new).features ≡ old.features → (after_reset new).stage ≡ unparsed next → MayStand next later) → MayStand before (its_types expression_at bytes answer old new a ++ later)
+  took bytes (Some t) old new a before later c w rest =
+      let here = types_of (shown_of t).list in
+      let stood = nothing_later bytes old new t a later c (rest here (ap (λ (s : Standing). (after_reset s).features) a.after) (next_stage bytes old new t a)) in
+      inr (subst (λ us. AllStand us (its_types expression_at bytes (Some t) old new a ++ later)) (stages_apart a.before before (sym a.began ∙ w)) (module_stands bytes old new t a later c stood))
+  took bytes None old new a before later c w rest =
+      subst (λ us. MayStand us later) (stages_apart a.before before (sym a.began ∙ w))
+      (refused_stands old new a later (rest (a.before ++ a.more) (ap (λ (s : Standing). s.features) a.after) (ap (λ (s : Standing). s.stage) a.after)))
+
+  all_stand : (ms : List (List ℕ × Option (shown.Types A))) (old : Standing) (before : Types) (a : TakesEach expression_at old ms) → canonical (features_of old.features) ≡ true → old.stage ≡ unparsed before
+      → MayStand before (all_types expression_at old ms a)
+  all_stand [] old before a c w = inl refl
+  all_stand (m ∷ ms) old before a c w =
+      took m.0 m.1 old a.0 a.1 before (all_types expression_at (after_reset a.0) ms a.2) c w
+      (λ next f s. all_stand ms (after_reset a.0) next a.2 (ap (λ g. canonical (features_of g)) f ∙ c) s)
+
+  began_with : (bytes : List ℕ) (answer : Option (shown.Types A)) (old new : Standing) → Takes expression_at bytes answer old new → (before : Types) × (old.stage ≡ unparsed before)
+  began_with bytes (Some t) old new a = (a.before, a.began)
+  began_with bytes None old new a = (a.before, a.began)
+
+-- two of the ids
+two_ids : (before : Types) (all : List (ℕ × DefType)) → MayStand before all → (j k : ℕ) (p q : ℕ × DefType) → slice_get all j ≡ Some p → slice_get all k ≡ Some q → (p.0 ≡ q.0) ↔ (p.1 ≡ q.1)
+two_ids before all (inl none) j k p q x y = absurd (let h : slice_get [] j ≡ Some p = subst (λ xs. slice_get xs j ≡ Some p) none x in cc)
+two_ids before all (inr s) j k p q x y =
+    one_id_for_one_type s.list [] (subst HasNoRepetition (sym (append-nil s.list)) s.once) p.0 q.0 p.1 q.1 (member s.list all j p s.stand x) (subst (λ us. Stands us q) (sym (append-nil s.list)) (member s.list all k q s.stand y))
 
 pub one_id_for_all : {A : Type 0} → OneIdForOneType A
 one_id_for_all expression_at old [] a c j k p q x y = absurd cc
 one_id_for_all expression_at old (m ∷ ms) a c j k p q x y =
-    let rest = all_stand expression_at ms (after_reset a.0) (types_of (shown_of m.1).list) a.2 (ap (λ f. canonical (features_of f)) (next_features expression_at m.0 old a.0 m.1 a.1) ∙ c) (next_stage expression_at m.0 old a.0 m.1 a.1) (a.1.shows.one_id c) in
-    let s = module_stands expression_at m ms old a c rest in
-    let all = all_types expression_at old (m ∷ ms) a in
-    one_id_for_one_type s.list [] (subst HasNoRepetition (sym (append-nil s.list)) s.once) p.0 q.0 p.1 q.1 (member s.list all j p s.stand x) (subst (λ us. Stands us q) (sym (append-nil s.list)) (member s.list all k q s.stand y))
+    let b = began_with expression_at m.0 m.1 old a.0 a.1 in
+    two_ids b.0 (all_types expression_at old (m ∷ ms) a) (all_stand expression_at (m ∷ ms) old b.0 a c b.1) j k p q x y

@@ -1,21 +1,25 @@
 -- The machine keeps the state table.
-use Rattle.std.proofs.Common.{◌≡◌, refl, sym, ap, subst, ◌∙◌, inl, inr, ℕ, zero, suc, Bool, true, false, ◌&&◌, cond, eqb, List, length, Option, Some, None}
+use Rattle.std.proofs.Common.{◌≡◌, refl, sym, ap, subst, ◌∙◌, inl, inr, ℕ, zero, suc, Bool, true, false, not, ◌&&◌, ◌||◌, cond, eqb, List, length, Option, Some, None}
 use Rattle.std.specs.Option.{option_and_then}
-use Rattle.std.proofs.lemmas.Bool.{eqb-true, ne_eqb}
+use Rattle.std.proofs.lemmas.Bool.{eqb-true, ne_eqb, not-true}
 use Rattle.std.proofs.lemmas.Option.{same_Some}
 use Rattle.wasm_rules.proofs.Tests.{truth, when, unless, guarded, then_some}
 use Rattle.wasm_parser.specs.Framing as parts
 use Rattle.wasm_parser.specs.Framing.{Piece, Version, Custom, Counted, Start, DataCount, CodeStart, CodeEntry, Unknown}
 use Rattle.wasm_rules.specs.StateTable as table
-use Rattle.wasm_rules.specs.StateTable.{Phase, Call, section, data_section, code_start, accepted_to, refused_to}
+use Rattle.wasm_rules.specs.StateTable.{Phase, Call, section, barred_section, data_section, code_start, accepted_to, refused_to}
 use Rattle.wasm_validator_module_state.specs.Bodies.{expected_bodies}
 use Rattle.wasm_rules.specs.FeatureFlags.{features_of}
 use Rattle.wasm_readers_errors.specs.declared.features.WasmFeatures.{WasmFeatures}
 use Rattle.wasm_validator_types.specs.Spaces.{Spaces, no_spaces}
-use Rattle.wasm_validator_core.specs.Answers.{Types, IsNowhere}
-use Rattle.wasm_validator.specs.Standing.{Stage, unparsed, in_module, in_code, ended, failed, Standing, AreValidAt, HoldsValid, refused_at, data_refused_at, body_refused_at, ended_at, within, within_all, at_stage}
-use Rattle.wasm_validator.specs.States.{begun, code_started, closed, after_piece}
-use Rattle.wasm_validator.specs.Machine.{no_items, section_items, start_item, data_count_item, beside}
+use Rattle.wasm_validator_core.specs.declared.limits.TheConstants.{MAX_TAGS}
+use Rattle.wasm_validator_core.specs.Items.{add_tag}
+use Rattle.wasm_validator_canonical.proofs.Canonical.{and_left, and_right}
+use Rattle.wasm_spec.specs.BinaryTypes.{tag_at}
+use Rattle.wasm_validator_core.specs.Answers.{Types}
+use Rattle.wasm_validator.specs.Standing.{Stage, unparsed, in_module, in_code, ended, failed, Standing, refused_at, read_refused_at, body_refused_at, ended_at, within, within_all, at_stage}
+use Rattle.wasm_validator.specs.States.{begun, code_started, closed, after_piece, is_barred}
+use Rattle.wasm_validator.specs.Machine.{no_items, read_section, section_items, start_item, data_count_item, beside}
 use Rattle.wasm_validator.specs.Table.{phase_of, bodies_at, call_of, AcceptedByTable, RefusedByTable}
 
 stays : (s t : Standing) (o : Option (Types × Spaces)) → at_stage s (option_and_then (λ (p : Types × Spaces). Some (in_module p.0 p.1)) o) ≡ Some t → phase_of t.stage ≡ table.in_module
@@ -61,14 +65,34 @@ within_all_stays s t (in_code types spaces) f h e =
 within_all_stays s t (ended types) f h e = absurd cc
 within_all_stays s t failed f h e = absurd cc
 
-counted_accepted : (s t : Standing) (id n : ℕ) (bytes : List ℕ) → after_piece s (Counted id n bytes) ≡ Some t → accepted_to (call_of s.stage (Counted id n bytes)) (phase_of s.stage) ≡ Some (phase_of t.stage)
+-- a barred section is not accepted
+barred_nowhere : (features : WasmFeatures) (id n : ℕ) (bytes : List ℕ) (p : Types × Spaces) → is_barred features id ≡ true → section_items features id n bytes p ≡ None
+barred_nowhere features id n bytes p e =
+    let is = eqb-true id 13 (and_left (eqb id 13) (not (features_of features).exceptions) e) in
+    let missing = not-true (features_of features).exceptions (and_right (eqb id 13) (not (features_of features).exceptions) e) in
+    ap (λ k. section_items features k n bytes p) is
+    ∙ ap (λ b. option_and_then (λ (s : Spaces). Some (p.0, s)) (cond b (read_section tag_at (add_tag (features_of features) p.0) (length p.1.tags) MAX_TAGS n bytes p.1) None)) missing
+
+nowhere_within : (s t : Standing) (g : Stage) (f : Types × Spaces → Option (Types × Spaces)) → ((p : Types × Spaces) → f p ≡ None) → at_stage s (within f g) ≡ Some t → ⊥
+nowhere_within s t (unparsed types) f none e = cc
+nowhere_within s t (in_module types spaces) f none e = let h = ap (λ o. at_stage s (option_and_then (λ (p : Types × Spaces). Some (in_module p.0 p.1)) o)) (sym (none (types, spaces))) ∙ e in cc
+nowhere_within s t (in_code types spaces) f none e = cc
+nowhere_within s t (ended types) f none e = cc
+nowhere_within s t failed f none e = cc
+
+section_or_barred : (s t : Standing) (b : Bool) (f : Types × Spaces → Option (Types × Spaces)) → (b ≡ true → (p : Types × Spaces) → f p ≡ None) → at_stage s (within f s.stage) ≡ Some t
+    → accepted_to (cond b barred_section section) (phase_of s.stage) ≡ Some (phase_of t.stage)
+section_or_barred s t true f none e = absurd (nowhere_within s t s.stage f (none refl) e)
+section_or_barred s t false f none e = section_accepted s t s.stage f e
+
+counted_accepted : (s t : Standing) (id n : ℕ) (bytes : List ℕ) → after_piece s (Counted id n bytes) ≡ Some t → accepted_to (call_of s (Counted id n bytes)) (phase_of s.stage) ≡ Some (phase_of t.stage)
 counted_accepted s t id n bytes e =
     let f = section_items s.features id n bytes in
     elim (truth (eqb id 11)) [
-      | inl a ↦ ap (λ c. accepted_to c (phase_of s.stage)) (when (eqb id 11) data_section section a)
+      | inl a ↦ ap (λ c. accepted_to c (phase_of s.stage)) (when (eqb id 11) data_section (cond (is_barred s.features id) barred_section section) a)
           ∙ within_all_stays s t s.stage f (λ p q. data_stays s.features id n bytes p q (eqb-true id 11 a)) (sym (ap (at_stage s) (when (eqb id 11) (within_all f s.stage) (within f s.stage) a)) ∙ e)
-      | inr a ↦ ap (λ c. accepted_to c (phase_of s.stage)) (unless (eqb id 11) data_section section a)
-          ∙ section_accepted s t s.stage f (sym (ap (at_stage s) (unless (eqb id 11) (within_all f s.stage) (within f s.stage) a)) ∙ e)
+      | inr a ↦ ap (λ c. accepted_to c (phase_of s.stage)) (unless (eqb id 11) data_section (cond (is_barred s.features id) barred_section section) a)
+          ∙ section_or_barred s t (is_barred s.features id) f (λ b p. barred_nowhere s.features id n bytes p b) (sym (ap (at_stage s) (unless (eqb id 11) (within_all f s.stage) (within f s.stage) a)) ∙ e)
     ]
 
 version_in : (s t : Standing) (number : ℕ) (b : Bool) (g : Stage) → at_stage s (begun number b g) ≡ Some t → (phase_of g ≡ table.unparsed) × (phase_of t.stage ≡ table.in_module)
@@ -110,16 +134,24 @@ refused_section (in_code types spaces) = refl
 refused_section (ended types) = refl
 refused_section failed = refl
 
-refused_data : (g : Stage) → refused_to data_section (phase_of g) ≡ phase_of (data_refused_at g)
+refused_data : (g : Stage) → refused_to data_section (phase_of g) ≡ phase_of (read_refused_at g)
 refused_data (unparsed types) = refl
 refused_data (in_module types spaces) = refl
 refused_data (in_code types spaces) = refl
 refused_data (ended types) = refl
 refused_data failed = refl
 
-refused_counted : (b : Bool) (g : Stage) → refused_to (cond b data_section section) (phase_of g) ≡ phase_of (cond b (data_refused_at g) (refused_at g))
-refused_counted true g = refused_data g
-refused_counted false g = refused_section g
+refused_barred : (g : Stage) → refused_to barred_section (phase_of g) ≡ phase_of (read_refused_at g)
+refused_barred (unparsed types) = refl
+refused_barred (in_module types spaces) = refl
+refused_barred (in_code types spaces) = refl
+refused_barred (ended types) = refl
+refused_barred failed = refl
+
+refused_counted : (a b : Bool) (g : Stage) → refused_to (cond a data_section (cond b barred_section section)) (phase_of g) ≡ phase_of (cond (a || b) (read_refused_at g) (refused_at g))
+refused_counted true b g = refused_data g
+refused_counted false true g = refused_barred g
+refused_counted false false g = refused_section g
 
 refused_code : (n : ℕ) (g : Stage) → refused_to (code_start n) (phase_of g) ≡ phase_of (refused_at g)
 refused_code n (unparsed types) = refl
@@ -134,6 +166,13 @@ refused_header (in_module types spaces) = refl
 refused_header (in_code types spaces) = refl
 refused_header (ended types) = refl
 refused_header failed = refl
+
+refused_custom : (g : Stage) → refused_to table.custom (phase_of g) ≡ phase_of g
+refused_custom (unparsed types) = refl
+refused_custom (in_module types spaces) = refl
+refused_custom (in_code types spaces) = refl
+refused_custom (ended types) = refl
+refused_custom failed = refl
 
 -- a body, where so many are to come
 body_turn : (types : Types) (spaces : Spaces) (n : ℕ) → expected_bodies spaces ≡ n → refused_to table.code_entry (table.in_code n) ≡ phase_of (cond (eqb n 0) (in_code types spaces) failed)
@@ -154,22 +193,22 @@ refused_unknown (in_code types spaces) = refl
 refused_unknown (ended types) = refl
 refused_unknown failed = refl
 
-refused_end : (s : Standing) (g : Stage) → AreValidAt s.features g → IsNowhere HoldsValid (at_stage s (closed g)) → refused_to table.end (phase_of g) ≡ phase_of (ended_at g)
-refused_end s (unparsed types) v e = refl
-refused_end s (in_module types spaces) v e = absurd (e (record s { stage = ended types }) refl v)
-refused_end s (in_code types spaces) v e = absurd (e (record s { stage = ended types }) refl v)
-refused_end s (ended types) v e = refl
-refused_end s failed v e = refl
+refused_end : (g : Stage) → refused_to table.end (phase_of g) ≡ phase_of (ended_at g)
+refused_end (unparsed types) = refl
+refused_end (in_module types spaces) = refl
+refused_end (in_code types spaces) = refl
+refused_end (ended types) = refl
+refused_end failed = refl
 
 pub refused_by_table : RefusedByTable
-refused_by_table s (Version number kind) v e = refused_header s.stage
-refused_by_table s (Custom name bytes) v e = absurd (e s refl v)
-refused_by_table s (Counted id n bytes) v e = refused_counted (eqb id 11) s.stage
-refused_by_table s (Start x) v e = refused_section s.stage
-refused_by_table s (DataCount n) v e = refused_section s.stage
-refused_by_table s (CodeStart n size) v e = refused_code (bodies_at s.stage) s.stage
-refused_by_table s (CodeEntry bytes) v e = refused_body s.stage
-refused_by_table s (Unknown id bytes) v e = refused_unknown s.stage
-refused_by_table s parts.End v e = refused_end s s.stage v e
+refused_by_table s (Version number kind) = refused_header s.stage
+refused_by_table s (Custom name bytes) = refused_custom s.stage
+refused_by_table s (Counted id n bytes) = refused_counted (eqb id 11) (is_barred s.features id) s.stage
+refused_by_table s (Start x) = refused_section s.stage
+refused_by_table s (DataCount n) = refused_section s.stage
+refused_by_table s (CodeStart n size) = refused_code (bodies_at s.stage) s.stage
+refused_by_table s (CodeEntry bytes) = refused_body s.stage
+refused_by_table s (Unknown id bytes) = refused_unknown s.stage
+refused_by_table s parts.End = refused_end s.stage
 
 pub ruleset table_laws = (accepted_by_table, refused_by_table)

@@ -1,137 +1,40 @@
--- Where the types of all modules are valid after a step, they were before it: a list of types only grows.
-use Rattle.std.proofs.Common.{◌≡◌, sym, ap, subst, ◌∙◌, ℕ, ◌+◌, Bool, true, false, ◌&&◌, cond, eqb, leb, List, [], ◌∷◌, length, Option, Some}
-use Rattle.std.specs.Option.{option_map}
-use Rattle.std.proofs.lemmas.Option.{none-some, same_Some}
+-- Where the types of all modules are valid after a step, they were before it.
+use Rattle.std.proofs.Common.{◌≡◌, sym, ap, subst, ℕ, List, ◌++◌, Option, Some}
+use Rattle.wasm_spec.specs.Features.{Features}
 use Rattle.wasm_spec.specs.Syntax.{Rec}
-use Rattle.wasm_spec.specs.BinaryTypes.{rec_at}
 use Rattle.wasm_spec.specs.GroupRules.{IsValidType}
 use Rattle.wasm_spec.specs.Trees.{declared}
 use Rattle.wasm_rules.specs.FeatureFlags.{features_of}
-use Rattle.wasm_rules.proofs.Tests.{guarded, map_some, then_some}
-use Rattle.wasm_parser.specs.Framing as parts
-use Rattle.wasm_parser.specs.Framing.{Piece, Version, Custom, Counted, Start, DataCount, CodeStart, CodeEntry, Unknown}
-use Rattle.wasm_readers.specs.Written.{written}
+use Rattle.wasm_parser.specs.Framing.{Piece}
 use Rattle.wasm_readers_errors.specs.declared.features.WasmFeatures.{WasmFeatures}
 use Rattle.wasm_readers_types.specs.declared.indices.UnpackedIndex.{UnpackedIndex}
 use Rattle.wasm_validator_type_list.proofs.Grouped.{all-left}
-use Rattle.wasm_validator_canonical.specs.Groups.{AreValid, with_written}
-use Rattle.wasm_validator_canonical.proofs.Steps.{written_front}
-use Rattle.wasm_validator_types.specs.Spaces.{Spaces, no_spaces}
-use Rattle.wasm_validator_core.specs.declared.limits.TheConstants.{MAX_TYPES}
+use Rattle.wasm_validator_canonical.specs.Groups.{AreValid}
+use Rattle.wasm_validator_types.specs.Spaces.{Spaces}
 use Rattle.wasm_validator_core.specs.Answers.{Types, HasValidTypes}
-use Rattle.wasm_validator_core.specs.Machine.{with_ids, add_group}
-use Rattle.wasm_validator.specs.Machine.{read_each, type_items, other_items, section_items, start_item, data_count_item, beside}
-use Rattle.wasm_validator.specs.Standing.{Stage, unparsed, in_module, in_code, ended, failed, Standing, AreValidAt, HoldsValid, within, within_all, at_stage}
-use Rattle.wasm_validator.specs.States.{begun, code_started, closed, after_piece}
+use Rattle.wasm_validator_core.specs.Machine.{add_group}
+use Rattle.wasm_validator.specs.Machine.{section_items, beside}
+use Rattle.wasm_validator.specs.Standing.{Standing, HoldsAt, HoldsValid}
 use Rattle.wasm_validator.specs.Payloads.{after_all}
-use Rattle.wasm_validator.proofs.Items.{read_back}
+use Rattle.wasm_validator.proofs.Growing as growing
+
+fronts_valid : (F : Features) (us more : Types) → AreValid F (us ++ more) → AreValid F us
+fronts_valid F us more v = all-left (IsValidType F declared) us more v
 
 module _ (features : WasmFeatures) where
-  abbrev V : Types × Spaces → Type 0
-  V = HasValidTypes features
+  abbrev V : Types → Type 0
+  V = AreValid (features_of features)
 
-  -- the list stays
-  stays : (p q : Types × Spaces) → p.0 ≡ q.0 → V q → V p
-  stays p q e v = subst (AreValid (features_of features)) (sym e) v
+  pub group_back : (p q : Types × Spaces) (g : Rec UnpackedIndex) → add_group features p g ≡ Some q → HasValidTypes features q → HasValidTypes features p
+  group_back p q g e v = growing.group_back V (fronts_valid (features_of features)) features p q g e v
 
-  pub group_back : (p q : Types × Spaces) (g : Rec UnpackedIndex) → add_group features p g ≡ Some q → V q → V p
-  group_back p q g e v =
-      let w = with_written (features_of features) p.0 p.1.types g in
-      let a = guarded (leb (length p.1.types + length g.types) MAX_TYPES) (option_map (with_ids p.1) w) q e in
-      let b = map_some (with_ids p.1) w q a.1 in
-      let front = written_front (features_of features) p.0 p.1.types g b.0 b.1 in
-      all-left (IsValidType (features_of features) declared) p.0 front.0 (subst (AreValid (features_of features)) (sym (ap (λ (x : Types × Spaces). x.0) b.2) ∙ front.1) v)
+  pub beside_back : (f : Types → Spaces → Option Spaces) (p q : Types × Spaces) → beside f p ≡ Some q → HasValidTypes features q → HasValidTypes features p
+  beside_back f p q e v = growing.beside_back V (fronts_valid (features_of features)) features f p q e v
 
-  -- sections
-  types_back : (n : ℕ) (bytes : List ℕ) (p q : Types × Spaces) → type_items features n bytes p ≡ Some q → V q → V p
-  types_back n bytes p q e v =
-      let a = guarded (leb (length p.1.types + n) MAX_TYPES) (read_each (rec_at written) (add_group features) n bytes p) q e in
-      read_back (rec_at written) (add_group features) V group_back n bytes p q a.1 v
-
-  pub beside_back : (f : Types → Spaces → Option Spaces) (p q : Types × Spaces) → beside f p ≡ Some q → V q → V p
-  beside_back f p q e v =
-      let a = then_some (λ (s : Spaces). Some (p.0, s)) (f p.0 p.1) q e in
-      stays p q (ap (λ (x : Types × Spaces). x.0) (same_Some (p.0, a.0) q a.2)) v
-
-  section_of : (first : Bool) (id n : ℕ) (bytes : List ℕ) (p q : Types × Spaces)
-      → cond first (type_items features n bytes p) (beside (λ us. other_items (features_of features) us id n bytes) p) ≡ Some q → V q → V p
-  section_of true id n bytes p q e v = types_back n bytes p q e v
-  section_of false id n bytes p q e v = beside_back (λ us. other_items (features_of features) us id n bytes) p q e v
-
-  pub section_back : (id n : ℕ) (bytes : List ℕ) (p q : Types × Spaces) → section_items features id n bytes p ≡ Some q → V q → V p
-  section_back id n bytes p q e v = section_of (eqb id 1) id n bytes p q e v
-
--- calls of a validator
-pub within_some : (s t : Standing) (types : Types) (spaces : Spaces) (f : Types × Spaces → Option (Types × Spaces)) → at_stage s (within f (in_module types spaces)) ≡ Some t
-    → (p : Types × Spaces) × (f (types, spaces) ≡ Some p) × (record s { stage = in_module p.0 p.1 } ≡ t)
-within_some s t types spaces f e =
-    let a = then_some (λ (h : Stage). Some (record s { stage = h })) (within f (in_module types spaces)) t e in
-    let b = then_some (λ (p : Types × Spaces). Some (in_module p.0 p.1)) (f (types, spaces)) a.0 a.1 in
-    (b.0, b.1, ap (λ (h : Stage). record s { stage = h }) (same_Some (in_module b.0.0 b.0.1) a.0 b.2) ∙ same_Some (record s { stage = a.0 }) t a.2)
-
-within_back : (s t : Standing) (g : Stage) (f : Types × Spaces → Option (Types × Spaces)) → ((p q : Types × Spaces) → f p ≡ Some q → HasValidTypes s.features q → HasValidTypes s.features p)
-    → at_stage s (within f g) ≡ Some t → HoldsValid t → AreValidAt s.features g
-within_back s t (unparsed types) f back e v = absurd (none-some t e)
-within_back s t (in_module types spaces) f back e v = let a = within_some s t types spaces f e in back (types, spaces) a.0 a.1 (subst HoldsValid (sym a.2) v)
-within_back s t (in_code types spaces) f back e v = absurd (none-some t e)
-within_back s t (ended types) f back e v = absurd (none-some t e)
-within_back s t failed f back e v = absurd (none-some t e)
-
-within_all_back : (s t : Standing) (g : Stage) (f : Types × Spaces → Option (Types × Spaces)) → ((p q : Types × Spaces) → f p ≡ Some q → HasValidTypes s.features q → HasValidTypes s.features p)
-    → at_stage s (within_all f g) ≡ Some t → HoldsValid t → AreValidAt s.features g
-within_all_back s t (unparsed types) f back e v = absurd (none-some t e)
-within_all_back s t (in_module types spaces) f back e v = within_back s t (in_module types spaces) f back e v
-within_all_back s t (in_code types spaces) f back e v =
-    let a = then_some (λ (h : Stage). Some (record s { stage = h })) (within_all f (in_code types spaces)) t e in
-    let b = then_some (λ (p : Types × Spaces). Some (in_code p.0 p.1)) (f (types, spaces)) a.0 a.1 in
-    let there : record s { stage = in_code b.0.0 b.0.1 } ≡ t = ap (λ (h : Stage). record s { stage = h }) (same_Some (in_code b.0.0 b.0.1) a.0 b.2) ∙ same_Some (record s { stage = a.0 }) t a.2 in
-    back (types, spaces) b.0 b.1 (subst HoldsValid (sym there) v)
-within_all_back s t (ended types) f back e v = absurd (none-some t e)
-within_all_back s t failed f back e v = absurd (none-some t e)
-
-section_step_back : (b : Bool) (s t : Standing) (g : Stage) (f : Types × Spaces → Option (Types × Spaces)) → ((p q : Types × Spaces) → f p ≡ Some q → HasValidTypes s.features q → HasValidTypes s.features p)
-    → at_stage s (cond b (within_all f g) (within f g)) ≡ Some t → HoldsValid t → AreValidAt s.features g
-section_step_back true s t g f back e v = within_all_back s t g f back e v
-section_step_back false s t g f back e v = within_back s t g f back e v
-
-code_back : (s t : Standing) (g : Stage) → at_stage s (code_started g) ≡ Some t → HoldsValid t → AreValidAt s.features g
-code_back s t (unparsed types) e v = absurd (none-some t e)
-code_back s t (in_module types spaces) e v = subst HoldsValid (sym (same_Some (record s { stage = in_code types spaces }) t e)) v
-code_back s t (in_code types spaces) e v = absurd (none-some t e)
-code_back s t (ended types) e v = absurd (none-some t e)
-code_back s t failed e v = absurd (none-some t e)
-
-version_back : (s t : Standing) (number : ℕ) (b : Bool) (g : Stage) → at_stage s (begun number b g) ≡ Some t → HoldsValid t → AreValidAt s.features g
-version_back s t number b (unparsed types) e v =
-    let a = then_some (λ (h : Stage). Some (record s { stage = h })) (begun number b (unparsed types)) t e in
-    let c = guarded (eqb number 1 && b) (Some (in_module types no_spaces)) a.0 a.1 in
-    let there : record s { stage = in_module types no_spaces } ≡ t = ap (λ (h : Stage). record s { stage = h }) (same_Some (in_module types no_spaces) a.0 c.1) ∙ same_Some (record s { stage = a.0 }) t a.2 in
-    subst HoldsValid (sym there) v
-version_back s t number b (in_module types spaces) e v = absurd (none-some t e)
-version_back s t number b (in_code types spaces) e v = absurd (none-some t e)
-version_back s t number b (ended types) e v = absurd (none-some t e)
-version_back s t number b failed e v = absurd (none-some t e)
-
-end_back : (s t : Standing) (g : Stage) → at_stage s (closed g) ≡ Some t → HoldsValid t → AreValidAt s.features g
-end_back s t (unparsed types) e v = absurd (none-some t e)
-end_back s t (in_module types spaces) e v = subst HoldsValid (sym (same_Some (record s { stage = ended types }) t e)) v
-end_back s t (in_code types spaces) e v = subst HoldsValid (sym (same_Some (record s { stage = ended types }) t e)) v
-end_back s t (ended types) e v = absurd (none-some t e)
-end_back s t failed e v = absurd (none-some t e)
-
-pub piece_back : (s t : Standing) (p : Piece) → after_piece s p ≡ Some t → HoldsValid t → HoldsValid s
-piece_back s t (Version number kind) e v = version_back s t number (eqb kind 0) s.stage e v
-piece_back s t (Custom name bytes) e v = subst HoldsValid (sym (same_Some s t e)) v
-piece_back s t (Counted id n bytes) e v = section_step_back (eqb id 11) s t s.stage (section_items s.features id n bytes) (section_back s.features id n bytes) e v
-piece_back s t (Start x) e v = within_back s t s.stage (beside (λ us u. start_item us u x)) (beside_back s.features (λ us u. start_item us u x)) e v
-piece_back s t (DataCount n) e v = within_back s t s.stage (beside (λ us u. data_count_item (features_of s.features) u n)) (beside_back s.features (λ us u. data_count_item (features_of s.features) u n)) e v
-piece_back s t (CodeStart n size) e v = code_back s t s.stage e v
-piece_back s t (CodeEntry bytes) e v = absurd (none-some t e)
-piece_back s t (Unknown id bytes) e v = absurd (none-some t e)
-piece_back s t parts.End e v = end_back s t s.stage e v
+  pub section_back : (id n : ℕ) (bytes : List ℕ) (p q : Types × Spaces) → section_items features id n bytes p ≡ Some q → HasValidTypes features q → HasValidTypes features p
+  section_back id n bytes p q e v = growing.section_back V (fronts_valid (features_of features)) features id n bytes p q e v
 
 pub all_back : (ps : List Piece) (s t : Standing) → after_all s ps ≡ Some t → HoldsValid t → HoldsValid s
-all_back [] s t e v = subst HoldsValid (sym (same_Some s t e)) v
-all_back (p ∷ ps) s t e v =
-    let a = then_some (λ u. after_all u ps) (after_piece s p) t e in
-    piece_back s a.0 p a.1 (all_back ps a.0 t a.2 v)
+all_back ps s t e v =
+    let same = ap (λ (u : Standing). u.features) (growing.all_only ps s t e) in
+    growing.all_back (AreValid (features_of s.features)) (fronts_valid (features_of s.features)) ps s t e (subst (λ f. HoldsAt (AreValid (features_of f)) t.stage) (sym same) v)

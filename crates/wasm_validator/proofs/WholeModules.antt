@@ -1,5 +1,5 @@
 -- A run over whole bytes decides whether they are a valid module of the forms that are served.
-use Rattle.std.proofs.Common.{◌≡◌, refl, sym, ap, subst, ◌∙◌, ℕ, Bool, true, false, cond, ◌==◌, ◌&&◌, eqb, List, [], ◌∷◌, ◌++◌, Option, Some, None, arith}
+use Rattle.std.proofs.Common.{◌≡◌, refl, sym, ap, subst, ◌∙◌, ℕ, Bool, true, false, cond, ◌==◌, ◌&&◌, eqb, List, [], ◌∷◌, ◌++◌, length, Option, Some, None, arith}
 use Rattle.std.specs.Option.{option_and_then}
 use Rattle.std.specs.List.{list_all}
 use Rattle.std.proofs.lemmas.Bool.{eqb-true}
@@ -224,6 +224,8 @@ accepts_valid bytes old new t a expression_at =
       began = r.was;
       more = held.more;
       kept = sym (λ i. (there i).0) ∙ held.front;
+      own_ids = λ own. sym (λ i. (there i).1.types) ∙ held.own_ids own;
+      own_types = λ own. ap length (sym (λ i. (there i).0)) ∙ held.grows own;
       after = r.after ∙ ap (λ (xs : Types). record old { stage = ended xs }) r.list;
     }
 

@@ -9,3 +9,4 @@ pub mod Payloads
 pub mod Verdict
 pub mod Sequences
 pub mod Table
+pub mod SectionLaws

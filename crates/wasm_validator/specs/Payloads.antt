@@ -1,10 +1,11 @@
 -- What a payload that is accepted gives.
-use Rattle.std.specs.Prelude.{ℕ, ◌≡◌, ◌⊎◌, ◌++◌, true, List, [], ◌∷◌, Option, Some}
+use Rattle.std.specs.Prelude.{ℕ, ◌≡◌, ◌⊎◌, ◌++◌, true, List, [], ◌∷◌, Option, Some, None}
 use Rattle.std.specs.Option.{option_and_then}
 use Rattle.std.specs.declared.result.Result.{Result}
 use Rattle.std.specs.declared.result.Result.TheVariants as results
 use Rattle.wasm_parser.specs.Framing as parts
 use Rattle.wasm_parser.specs.Framing.{Piece, IsFramed}
+use Rattle.wasm_parser.specs.Machine.{State, start, next_of, Given}
 use Rattle.wasm_spec.specs.Features.{canonical}
 use Rattle.wasm_rules.specs.FeatureFlags.{features_of}
 use Rattle.wasm_validator_type_list.specs.Interned.{AreOnce}
@@ -60,23 +61,42 @@ pub record Accepts {A : Type 0} (bytes : List ℕ) (old new : Standing) (t : Typ
 abbrev pub Rejects : List ℕ → Standing → Type 0
 Rejects bytes old = (pieces : List Piece) → IsFramed bytes pieces → IsNowhere HoldsValid (after_all old pieces)
 
--- The validator stands where some payloads have brought it, or where the next one that it refused has left it.
-pub record IsLeft (old new : Standing) : Type 0 where
+-- The validator has taken some payloads, one after another, and these are the first that the bytes are made of.
+pub record HasTaken (bytes : List ℕ) (old reached : Standing) (behind : State) : Type 0 where
   pub pieces : List Piece
-  pub reached : Standing
+  pub given : Given (start bytes) pieces behind
   pub run : after_all old pieces ≡ Some reached
-  pub left : (new ≡ reached) ⊎ ((p : Piece) × (new ≡ record reached { stage = left_by p reached.stage }))
 
--- after some payloads memory was refused, and the validator has failed
-pub record IsOutOfMemory (old new : Standing) : Type 0 where
-  pub pieces : List Piece
+-- The bytes have this payload next, and the validator refused it and stands where that leaves it.
+pub record HasRefused (behind : State) (reached new : Standing) : Type 0 where
+  pub next : Piece
+  pub rest : State
+  pub comes : next_of behind ≡ Some (Some (next, rest))
+  pub nowhere : IsNowhere HoldsValid (after_piece reached next)
+  pub left : new ≡ record reached { stage = left_by reached next }
+
+-- After the first payloads either the bytes are no module's, and the validator stands where these have brought it, or the
+-- next payload was refused.
+pub record IsLeft (bytes : List ℕ) (old new : Standing) : Type 0 where
+  pub behind : State
   pub reached : Standing
-  pub run : after_all old pieces ≡ Some reached
-  pub failed_there : new ≡ record reached { stage = failed }
+  pub taken : HasTaken bytes old reached behind
+  pub left : ((next_of behind ≡ None) × (new ≡ reached)) ⊎ HasRefused behind reached new
+
+-- After the first payloads memory was refused to the next one. That is so only where a refusal fails the validator.
+pub record IsOutOfMemory (bytes : List ℕ) (old new : Standing) : Type 0 where
+  pub behind : State
+  pub reached : Standing
+  pub taken : HasTaken bytes old reached behind
+  pub next : Piece
+  pub rest : State
+  pub comes : next_of behind ≡ Some (Some (next, rest))
+  pub fails : left_by reached next ≡ failed
+  pub left : new ≡ record reached { stage = failed }
 
 -- what the answer on whole bytes says
 abbrev pub Validates : {A : Type 0} → Result (Types A) (Error A) → List ℕ → Standing → Standing → Type 0
 Validates (results.Ok t) bytes old new = Accepts bytes old new t
-Validates (results.Err (Refused r)) bytes old new = Rejects bytes old × IsLeft old new
-Validates (results.Err (DuplicateExport name offset)) bytes old new = Rejects bytes old × IsLeft old new
-Validates (results.Err OutOfMemory) bytes old new = IsOutOfMemory old new
+Validates (results.Err (Refused r)) bytes old new = Rejects bytes old × IsLeft bytes old new
+Validates (results.Err (DuplicateExport name offset)) bytes old new = Rejects bytes old × IsLeft bytes old new
+Validates (results.Err OutOfMemory) bytes old new = IsOutOfMemory bytes old new

@@ -1,30 +1,60 @@
--- Modules that one validator accepts one after another, and the ids of their types. Core Specification 3.0, Validation,
+-- Modules that one validator looks at one after another, and the ids of their types. Core Specification 3.0, Validation,
 -- Types (Recursive Types): types are equal where they are the same place of equal recursive types.
-use Rattle.std.specs.Prelude.{ℕ, ◌≡◌, ◌↔◌, true, List, [], ◌∷◌, ◌++◌, slice_get, Some, ⊤}
+use Rattle.std.specs.Prelude.{ℕ, ◌≡◌, ◌↔◌, true, false, List, [], ◌∷◌, ◌++◌, slice_get, Option, Some, None, ⊤}
 use Rattle.std.specs.List.{zip}
 use Rattle.wasm_spec.specs.Features.{canonical}
 use Rattle.wasm_spec.specs.Trees.{DefType}
 use Rattle.wasm_rules.specs.FeatureFlags.{features_of}
 use Rattle.wasm_validator_types.specs.Shown.{shown_of}
 use Rattle.wasm_validator_types.specs.declared.shown.Types as shown
-use Rattle.wasm_validator.specs.Standing.{Standing, after_reset}
+use Rattle.wasm_validator_core.specs.Answers.{Types}
+use Rattle.wasm_validator.specs.Standing.{Standing, unparsed, may_reset, after_reset}
+use Rattle.wasm_validator.specs.Payloads.{IsLeft}
 use Rattle.wasm_validator.specs.Verdict.{Expressions, AcceptsModule}
 
-module _ {A : Type 0} where
-  -- byte strings that are accepted one after another, each with its types, and with `reset` between two of them
-  abbrev pub AcceptsEach : Expressions → Standing → List (List ℕ × shown.Types A) → Type 0
-  AcceptsEach expression_at old [] = ⊤
-  AcceptsEach expression_at old (m ∷ ms) = (new : Standing) × AcceptsModule expression_at m.0 old new m.1 × AcceptsEach expression_at (after_reset new) ms
+-- The validator may be reset, and then has a list that begins with the types that it had.
+pub record KeepsTypes (old new : Standing) : Type 0 where
+  pub before : Types
+  pub began : old.stage ≡ unparsed before
+  pub may : may_reset new ≡ true
+  pub more : Types
+  pub after : after_reset new ≡ record old { stage = unparsed (before ++ more) }
 
-  -- the types of all these modules, each with its id
-  abbrev pub all_types : (expression_at : Expressions) (old : Standing) (ms : List (List ℕ × shown.Types A)) → AcceptsEach expression_at old ms → List (ℕ × DefType)
+-- A module that is refused so that the validator may be reset does so.
+abbrev pub RefusedKeepTypes : Type 0
+RefusedKeepTypes = (bytes : List ℕ) (old new : Standing) (before : Types) → old.stage ≡ unparsed before → IsLeft bytes old new → may_reset new ≡ true → KeepsTypes old new
+
+module _ {A : Type 0} where
+  -- what a validator makes of a module: it is accepted with these types, or it is refused so that the validator may be reset
+  abbrev pub Takes : Expressions → List ℕ → Option (shown.Types A) → Standing → Standing → Type 0
+  Takes expression_at bytes (Some t) old new = AcceptsModule expression_at bytes old new t
+  Takes expression_at bytes None old new = KeepsTypes old new
+
+  -- modules one after another, each with its types if it is accepted, and with `reset` between two of them
+  abbrev pub TakesEach : Expressions → Standing → List (List ℕ × Option (shown.Types A)) → Type 0
+  TakesEach expression_at old [] = ⊤
+  TakesEach expression_at old (m ∷ ms) = (new : Standing) × Takes expression_at m.0 m.1 old new × TakesEach expression_at (after_reset new) ms
+
+  -- the types of a module that is accepted, each with its id
+  abbrev pub its_types : (expression_at : Expressions) (bytes : List ℕ) (answer : Option (shown.Types A)) (old new : Standing) → Takes expression_at bytes answer old new → List (ℕ × DefType)
+  its_types expression_at bytes (Some t) old new a = zip (shown_of t).spaces.types a.module_valid.well_formed.types.types
+  its_types expression_at bytes None old new a = []
+
+  -- those of all of them
+  abbrev pub all_types : (expression_at : Expressions) (old : Standing) (ms : List (List ℕ × Option (shown.Types A))) → TakesEach expression_at old ms → List (ℕ × DefType)
   all_types expression_at old [] a = []
-  all_types expression_at old (m ∷ ms) a =
-      zip (shown_of m.1).spaces.types a.1.module_valid.well_formed.types.types ++ all_types expression_at (after_reset a.0) ms a.2
+  all_types expression_at old (m ∷ ms) a = its_types expression_at m.0 m.1 old a.0 a.1 ++ all_types expression_at (after_reset a.0) ms a.2
 
 -- Where equal types are one, two types of any of the modules have one id exactly where they are equal.
 abbrev pub OneIdForOneType : Type 0 → Type 0
 OneIdForOneType A =
-    (expression_at : Expressions) (old : Standing) (ms : List (List ℕ × shown.Types A)) (a : AcceptsEach expression_at old ms) → canonical (features_of old.features) ≡ true
+    (expression_at : Expressions) (old : Standing) (ms : List (List ℕ × Option (shown.Types A))) (a : TakesEach expression_at old ms) → canonical (features_of old.features) ≡ true
     → (j k : ℕ) (p q : ℕ × DefType) → slice_get (all_types expression_at old ms a) j ≡ Some p → slice_get (all_types expression_at old ms a) k ≡ Some q
     → (p.0 ≡ q.0) ↔ (p.1 ≡ q.1)
+
+-- Where equal types aren't one, each type of each of the modules has an id of its own.
+abbrev pub OwnIdForEachType : Type 0 → Type 0
+OwnIdForEachType A =
+    (expression_at : Expressions) (old : Standing) (ms : List (List ℕ × Option (shown.Types A))) (a : TakesEach expression_at old ms) → canonical (features_of old.features) ≡ false
+    → (j k : ℕ) (p q : ℕ × DefType) → slice_get (all_types expression_at old ms a) j ≡ Some p → slice_get (all_types expression_at old ms a) k ≡ Some q
+    → (p.0 ≡ q.0) ↔ (j ≡ k)

@@ -38,13 +38,13 @@ refused_at (in_code types spaces) = in_code types spaces
 refused_at (ended types) = ended types
 refused_at failed = failed
 
--- that of a data section
-abbrev pub data_refused_at : Stage → Stage
-data_refused_at (unparsed types) = unparsed types
-data_refused_at (in_module types spaces) = failed
-data_refused_at (in_code types spaces) = failed
-data_refused_at (ended types) = ended types
-data_refused_at failed = failed
+-- that of a data section, and of one whose proposal is missing, fails it behind the start of the code as well
+abbrev pub read_refused_at : Stage → Stage
+read_refused_at (unparsed types) = unparsed types
+read_refused_at (in_module types spaces) = failed
+read_refused_at (in_code types spaces) = failed
+read_refused_at (ended types) = ended types
+read_refused_at failed = failed
 
 -- that of a body fails the validator where it was a body's turn
 abbrev pub body_refused_at : Stage → Stage
@@ -113,34 +113,38 @@ within_all f failed = None
 abbrev pub at_stage : Standing → Option Stage → Option Standing
 at_stage s next = option_and_then (λ g. Some (record s { stage = g })) next
 
--- the types that a validator holds are valid; one that has failed holds none
+-- this holds of the list of types; a validator that has failed has none
+abbrev pub HoldsAt : (Types → Type 0) → Stage → Type 0
+HoldsAt V (unparsed types) = V types
+HoldsAt V (in_module types spaces) = V types
+HoldsAt V (in_code types spaces) = V types
+HoldsAt V (ended types) = V types
+HoldsAt V failed = ⊤
+
+-- the types that a validator holds are valid
 abbrev pub AreValidAt : WasmFeatures → Stage → Type 0
-AreValidAt features (unparsed types) = AreValid (features_of features) types
-AreValidAt features (in_module types spaces) = AreValid (features_of features) types
-AreValidAt features (in_code types spaces) = AreValid (features_of features) types
-AreValidAt features (ended types) = AreValid (features_of features) types
-AreValidAt features failed = ⊤
+AreValidAt features g = HoldsAt (AreValid (features_of features)) g
 
 abbrev pub HoldsValid : Standing → Type 0
 HoldsValid s = AreValidAt s.features s.stage
 
 -- A call moves to where the machine moves; where it refuses the content the machine moves nowhere, or to where a type
--- isn't valid, and the validator is left at the stage that is given; a call that is refused memory fails the validator.
+-- isn't valid, and the validator is left at the stage that is given. Memory is refused only where that stage is failed.
 abbrev pub Leaves : {T A : Type 0} → Result T (Error A) → Option Standing → Stage → Standing → Standing → Type 0
 Leaves (Ok x) next left old new = next ≡ Some new
 Leaves (Err (Refused r)) next left old new = IsNowhere HoldsValid next × (new ≡ record old { stage = left })
 Leaves (Err (DuplicateExport name offset)) next left old new = IsNowhere HoldsValid next × (new ≡ record old { stage = left })
-Leaves (Err OutOfMemory) next left old new = new ≡ record old { stage = failed }
+Leaves (Err OutOfMemory) next left old new = (left ≡ failed) × (new ≡ record old { stage = failed })
 
 -- a section's call, which fails the validator where it is refused in a module, and elsewhere changes nothing
 abbrev pub Moves : {T A : Type 0} → Result T (Error A) → Option Standing → Standing → Standing → Type 0
 Moves result next old new = Leaves result next (refused_at old.stage) old new
 
--- what `end` leaves, but where memory is refused
+-- what a refused `end` leaves: in a module it is refused memory alone
 abbrev pub ended_at : Stage → Stage
 ended_at (unparsed types) = ended types
-ended_at (in_module types spaces) = ended types
-ended_at (in_code types spaces) = ended types
+ended_at (in_module types spaces) = failed
+ended_at (in_code types spaces) = failed
 ended_at (ended types) = ended types
 ended_at failed = failed
 

@@ -1,5 +1,6 @@
 -- What contracts see of a validator's own state, and its calls.
-use Rattle.std.specs.Prelude.{ℕ, ◌==◌, Bool, true, false, ◌&&◌, cond, if◌then◌else◌, List, Option, Some, None, ⊤}
+use Rattle.std.specs.Prelude.{ℕ, ◌==◌, Bool, true, false, not, ◌&&◌, ◌||◌, cond, if◌then◌else◌, List, Option, Some, None, ⊤}
+use Rattle.wasm_readers_errors.specs.declared.features.WasmFeatures.{WasmFeatures}
 use Rattle.wasm_rules.specs.FeatureFlags.{features_of}
 use Rattle.wasm_validator_types.specs.Shown.{types_of}
 use Rattle.wasm_validator_types.specs.Spaces.{Spaces, no_spaces}
@@ -15,7 +16,7 @@ use Rattle.wasm_validator_module_state.specs.declared.module_state.ModuleState.{
 use Rattle.wasm_validator.specs.declared.validator.State.TheVariants.{Unparsed, Module, Code, End, Failed}
 use Rattle.wasm_validator.specs.declared.validator.Validator.TheInside.{Inside}
 use Rattle.wasm_validator_core.specs.Answers.{Types}
-use Rattle.wasm_validator.specs.Standing.{Stage, unparsed, in_module, in_code, ended, failed, Standing, ended_at, refused_at, data_refused_at, body_refused_at, within, within_all, at_stage}
+use Rattle.wasm_validator.specs.Standing.{Stage, unparsed, in_module, in_code, ended, failed, Standing, ended_at, refused_at, read_refused_at, body_refused_at, within, within_all, at_stage}
 use Rattle.wasm_validator.specs.Machine.{section_items, start_item, data_count_item, beside}
 
 module _ {A : Type 0} where
@@ -114,21 +115,25 @@ after_piece s (CodeEntry bytes) = None
 after_piece s (Unknown id bytes) = None
 after_piece s parts.End = after_end s
 
+-- a section of tags is barred where there are no exceptions
+abbrev pub is_barred : WasmFeatures → ℕ → Bool
+is_barred features id = (id == 13) && not (features_of features).exceptions
+
 -- what a refused section leaves, by its id
-abbrev pub section_refused_at : ℕ → Stage → Stage
-section_refused_at id g = if id == 11 then data_refused_at g else refused_at g
+abbrev pub section_refused_at : WasmFeatures → ℕ → Stage → Stage
+section_refused_at features id g = if (id == 11) || is_barred features id then read_refused_at g else refused_at g
 
 -- what a refused payload leaves: the header, an unknown section and a body out of place change nothing
-abbrev pub left_by : Piece → Stage → Stage
-left_by (Version number kind) g = g
-left_by (Custom name bytes) g = g
-left_by (Counted id count bytes) g = section_refused_at id g
-left_by (Start index) g = refused_at g
-left_by (DataCount count) g = refused_at g
-left_by (CodeStart count size) g = refused_at g
-left_by (CodeEntry bytes) g = body_refused_at g
-left_by (Unknown id bytes) g = g
-left_by parts.End g = ended_at g
+abbrev pub left_by : Standing → Piece → Stage
+left_by s (Version number kind) = s.stage
+left_by s (Custom name bytes) = s.stage
+left_by s (Counted id count bytes) = section_refused_at s.features id s.stage
+left_by s (Start index) = refused_at s.stage
+left_by s (DataCount count) = refused_at s.stage
+left_by s (CodeStart count size) = refused_at s.stage
+left_by s (CodeEntry bytes) = body_refused_at s.stage
+left_by s (Unknown id bytes) = s.stage
+left_by s parts.End = ended_at s.stage
 
 -- the piece is not the end
 abbrev pub IsBeforeEnd : Piece → Type 0

@@ -3,11 +3,10 @@ use Rattle.std.specs.Prelude.{ℕ, ◌≡◌, ◌==◌, if◌then◌else◌, Som
 use Rattle.wasm_parser.specs.Framing as parts
 use Rattle.wasm_parser.specs.Framing.{Piece, Version, Custom, Counted, Start, DataCount, CodeStart, CodeEntry, Unknown}
 use Rattle.wasm_rules.specs.StateTable as table
-use Rattle.wasm_rules.specs.StateTable.{Phase, Call, header, section, code_start, code_entry, data_section, custom, unknown, accepted_to, refused_to}
-use Rattle.wasm_validator_core.specs.Answers.{IsNowhere}
+use Rattle.wasm_rules.specs.StateTable.{Phase, Call, header, section, barred_section, code_start, code_entry, data_section, custom, unknown, accepted_to, refused_to}
 use Rattle.wasm_validator_module_state.specs.Bodies.{expected_bodies}
-use Rattle.wasm_validator.specs.Standing.{Stage, unparsed, in_module, in_code, ended, failed, Standing, HoldsValid}
-use Rattle.wasm_validator.specs.States.{after_piece, left_by}
+use Rattle.wasm_validator.specs.Standing.{Stage, unparsed, in_module, in_code, ended, failed, Standing}
+use Rattle.wasm_validator.specs.States.{after_piece, is_barred, left_by}
 
 -- no body is taken yet
 abbrev pub phase_of : Stage → Phase
@@ -25,21 +24,21 @@ bodies_at (in_code types spaces) = expected_bodies spaces
 bodies_at (ended types) = 0
 bodies_at failed = 0
 
-abbrev pub call_of : Stage → Piece → Call
-call_of g (Version number kind) = header
-call_of g (Custom name bytes) = custom
-call_of g (Counted id n bytes) = if id == 11 then data_section else section
-call_of g (Start x) = section
-call_of g (DataCount n) = section
-call_of g (CodeStart n size) = code_start (bodies_at g)
-call_of g (CodeEntry bytes) = code_entry
-call_of g (Unknown id bytes) = unknown
-call_of g parts.End = table.end
+abbrev pub call_of : Standing → Piece → Call
+call_of s (Version number kind) = header
+call_of s (Custom name bytes) = custom
+call_of s (Counted id n bytes) = if id == 11 then data_section else (if is_barred s.features id then barred_section else section)
+call_of s (Start x) = section
+call_of s (DataCount n) = section
+call_of s (CodeStart n size) = code_start (bodies_at s.stage)
+call_of s (CodeEntry bytes) = code_entry
+call_of s (Unknown id bytes) = unknown
+call_of s parts.End = table.end
 
 -- a payload that is accepted leads where the table says
 abbrev pub AcceptedByTable : Type 0
-AcceptedByTable = (s t : Standing) (p : Piece) → after_piece s p ≡ Some t → accepted_to (call_of s.stage p) (phase_of s.stage) ≡ Some (phase_of t.stage)
+AcceptedByTable = (s t : Standing) (p : Piece) → after_piece s p ≡ Some t → accepted_to (call_of s p) (phase_of s.stage) ≡ Some (phase_of t.stage)
 
--- one that is refused by a validator whose types are valid leaves what the table says
+-- one that is refused leaves what the table says
 abbrev pub RefusedByTable : Type 0
-RefusedByTable = (s : Standing) (p : Piece) → HoldsValid s → IsNowhere HoldsValid (after_piece s p) → refused_to (call_of s.stage p) (phase_of s.stage) ≡ phase_of (left_by p s.stage)
+RefusedByTable = (s : Standing) (p : Piece) → refused_to (call_of s p) (phase_of s.stage) ≡ phase_of (left_by s p)

@@ -1,13 +1,15 @@
 -- What the answer on whole bytes says of the module that they are. Core Specification 3.0, Validation, Modules.
-use Rattle.std.specs.Prelude.{ℕ, ◌≡◌, ◌≤◌, ◌+◌, ◌++◌, List, length, Option, ⊤}
+use Rattle.std.specs.Prelude.{ℕ, ◌≡◌, ◌≤◌, ◌+◌, ◌++◌, false, List, length, Option, ⊤}
 use Rattle.std.specs.declared.result.Result.{Result}
 use Rattle.std.specs.declared.result.Result.TheVariants as results
 use Rattle.wasm_readers_types.specs.declared.indices.TheConstants.{MAX_IDS}
 use Rattle.wasm_readers_errors.specs.declared.features.WasmFeatures.{WasmFeatures}
+use Rattle.wasm_spec.specs.Features.{canonical}
 use Rattle.wasm_rules.specs.FeatureFlags.{features_of}
 use Rattle.wasm_rules.specs.Parts.{Expression}
 use Rattle.wasm_rules.specs.IndexSpaces.{index_spaces}
 use Rattle.wasm_rules.specs.Modules.{IsValid}
+use Rattle.wasm_grouped_list.specs.Elements.{numbers_from}
 use Rattle.wasm_validator_types.specs.Shown.{shown_of, types_of}
 use Rattle.wasm_validator_types.specs.declared.shown.Types as shown
 use Rattle.wasm_validator_core.specs.declared.error.Error.{Error}
@@ -39,6 +41,9 @@ pub record AcceptsModule {A : Type 0} (expression_at : Expressions) (bytes : Lis
   pub began : old.stage ≡ unparsed before
   pub more : Types
   pub kept : types_of (shown_of t).list ≡ before ++ more
+  -- where equal types aren't one, each type of the module has the next id behind those before it
+  pub own_ids : canonical (features_of old.features) ≡ false → (shown_of t).spaces.types ≡ numbers_from (length before) (length module_valid.well_formed.types.types)
+  pub own_types : canonical (features_of old.features) ≡ false → length (types_of (shown_of t).list) ≡ length before + length module_valid.well_formed.types.types
   pub after : new ≡ record old { stage = ended (types_of (shown_of t).list) }
 
 -- Where no header had been read, the bytes are no valid module of the forms that are served, unless the list would
@@ -51,13 +56,21 @@ RefusesModule bytes old =
 -- what the answer on whole bytes says: of acceptance with no premise, of a refusal unless memory was refused
 abbrev pub DecidesModule : {A : Type 0} → Result (shown.Types A) (Error A) → List ℕ → Standing → Standing → Type 0
 DecidesModule (results.Ok t) bytes old new = (expression_at : Expressions) → AcceptsModule expression_at bytes old new t
-DecidesModule (results.Err (Refused r)) bytes old new = RefusesModule bytes old × IsLeft old new
-DecidesModule (results.Err (DuplicateExport name offset)) bytes old new = RefusesModule bytes old × IsLeft old new
-DecidesModule (results.Err OutOfMemory) bytes old new = IsOutOfMemory old new
+DecidesModule (results.Err (Refused r)) bytes old new = RefusesModule bytes old × IsLeft bytes old new
+DecidesModule (results.Err (DuplicateExport name offset)) bytes old new = RefusesModule bytes old × IsLeft bytes old new
+DecidesModule (results.Err OutOfMemory) bytes old new = IsOutOfMemory bytes old new
+
+-- the bytes are a valid module
+abbrev pub AreModule : WasmFeatures → List ℕ → Type 0
+AreModule features bytes = (expression_at : Expressions) → IsValid expression_at (features_of features) bytes
+
+-- they are no valid module of the forms that are served
+abbrev pub AreNoServedModule : WasmFeatures → List ℕ → Type 0
+AreNoServedModule features bytes = (expression_at : Expressions) → IsServedModule expression_at features bytes → ⊥
 
 -- The same of a validator that is made for these bytes: no module has as many types as its list may hold.
 abbrev pub DecidesAlone : {A : Type 0} → Result (shown.Types A) (Error A) → List ℕ → ℕ → WasmFeatures → Type 0
 DecidesAlone (results.Ok t) bytes id features = (expression_at : Expressions) → (new : Standing) × AcceptsModule expression_at bytes (fresh id features) new t
-DecidesAlone (results.Err (Refused r)) bytes id features = (expression_at : Expressions) → IsServedModule expression_at features bytes → ⊥
-DecidesAlone (results.Err (DuplicateExport name offset)) bytes id features = (expression_at : Expressions) → IsServedModule expression_at features bytes → ⊥
+DecidesAlone (results.Err (Refused r)) bytes id features = AreNoServedModule features bytes
+DecidesAlone (results.Err (DuplicateExport name offset)) bytes id features = AreNoServedModule features bytes
 DecidesAlone (results.Err OutOfMemory) bytes id features = ⊤

@@ -23,7 +23,7 @@ pub enum ValidPayload<A: Allocator = Global> {
 impl<A: Allocator + Copy> Validator<A> {
     /// Checks one payload of a module, as the parser gives it. The end gives the types.
     pub fn payload<'a>(&mut self, payload: &Payload<'a, A>) -> Result<ValidPayload<A>, Error<A>>
-        ensures moves { Leaves result (after_piece self.old (seen payload.now)) (left_by (seen payload.now) self.old.stage) self.old self.new }
+        ensures moves { Leaves result (after_piece self.old (seen payload.now)) (left_by self.old (seen payload.now)) self.old self.new }
         ensures shown { IfOk result (ShowsModule self.old (seen payload.now)) }
     {
         match payload {
@@ -41,7 +41,7 @@ impl<A: Allocator + Copy> Validator<A> {
     /// Checks a payload that is not the end.
     fn section<'a>(&mut self, payload: &Payload<'a, A>) -> Result<(), Error<A>>
         requires { IsBeforeEnd (seen payload.now) }
-        ensures { Leaves result (after_piece self.old (seen payload.now)) (left_by (seen payload.now) self.old.stage) self.old self.new }
+        ensures { Leaves result (after_piece self.old (seen payload.now)) (left_by self.old (seen payload.now)) self.old self.new }
     {
         match payload {
             Payload::Version {

@@ -5,8 +5,8 @@ ghost use Rattle.wasm_validator_type_list.specs.Interned.{AreOnce};
 ghost use Rattle.wasm_validator_type_list.specs.Listing.{closed};
 ghost use Rattle.wasm_validator_types.specs.Shown.{shown_of, shown_by, types_of};
 ghost use Rattle.wasm_validator.specs.Payloads.{Show};
-ghost use Rattle.wasm_validator.specs.Standing.{HoldsValid, Leaves, Moves, at_stage, within, data_refused_at, body_refused_at, ended_at, fresh, is_failed, may_reset, after_reset, shown_at};
-ghost use Rattle.wasm_validator.specs.States.{open_of, read_of, state_kept, is_module, after_version, after_section, after_start, after_data_count, after_code_start, after_end};
+ghost use Rattle.wasm_validator.specs.Standing.{HoldsValid, Leaves, Moves, at_stage, within, read_refused_at, body_refused_at, ended_at, fresh, is_failed, may_reset, after_reset, shown_at};
+ghost use Rattle.wasm_validator.specs.States.{open_of, read_of, state_kept, is_module, after_version, after_section, section_refused_at, after_start, after_data_count, after_code_start, after_end};
 
 use crate::module_sections::{
     add_exports, add_functions, add_imports, add_memories, add_tables, add_tags, add_types,
@@ -423,13 +423,13 @@ impl<A: Allocator + Copy> Validator<A> {
     }
 
     /// The tags of a module. Without the exceptions proposal it is refused for that before anything
-    /// else.
+    /// else, which fails the validator wherever a module is being read.
     pub fn tag_section(&mut self, section: &SectionLimited<'_, TagType, A>) -> Result<(), Error<A>>
-        ensures { Moves result (after_section self.old 13 (count_of section.now) (bytes_of section.now)) self.old self.new }
+        ensures { Leaves result (after_section self.old 13 (count_of section.now) (bytes_of section.now)) (section_refused_at self.old.features 13 self.old.stage) self.old self.new }
     {
         let offset = section.range().start;
         if !self.features.contains(WasmFeatures::EXCEPTIONS) {
-            if matches!(self.state, State::Module(_)) {
+            if matches!(self.state, State::Module(_) | State::Code(_)) {
                 self.state = State::Failed;
             }
             return Err(Error::Refused(Refusal::missing(
@@ -544,7 +544,7 @@ impl<A: Allocator + Copy> Validator<A> {
         &mut self,
         section: &SectionLimited<'a, Data<'a>, A>,
     ) -> Result<(), Error<A>>
-        ensures { Leaves result (after_section self.old 11 (count_of section.now) (bytes_of section.now)) (data_refused_at self.old.stage) self.old self.new }
+        ensures { Leaves result (after_section self.old 11 (count_of section.now) (bytes_of section.now)) (read_refused_at self.old.stage) self.old self.new }
     {
         if !matches!(self.state, State::Module(_) | State::Code(_)) {
             let fault = Fault::OutOfOrder(out_of_order(&self.state));

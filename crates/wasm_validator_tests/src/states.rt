@@ -159,14 +159,17 @@ fn tags_need_their_feature_in_every_state(rt: HostRuntime) -> Result<(), Fail> {
         "exceptions proposal not enabled",
     );
     assert!(rt; behind);
-    late.end(20)?;
+    assert!(rt; late.has_failed());
+    let mut over = Validator::new_with_features(alloc, features, ValidatorId::from_number(0));
+    over.version(1, Encoding::Module, &(0..8))?;
+    over.end(8)?;
     let ended = says(
         alloc,
-        &late.tag_section(&tags),
+        &over.tag_section(&tags),
         "exceptions proposal not enabled",
     );
     assert!(rt; ended);
-    assert!(rt; late.can_reset());
+    assert!(rt; over.can_reset());
     Ok(())
 }
 

@@ -22,8 +22,8 @@ payloads-preserved g c =
 pub returns-in-Err-payload : goal.returns-in-Err-payload
 returns-in-Err-payload g c =
     let given = rw c.in-Ok-Some.field-0-is at c.in-Ok-Some.ensures.ok in
-    refused_whole (ValidPayload g.row.A.Denot) c.args.bytes.now c.args.self.now c.payloads.self c.payload.new.self (state c.payloads.payloads) c.payloads.ended (seen c.in-Ok-Some.payload) c.in-Err-payload.error
-    c.payloads.invariant c.in-Err-payload.ensures.moves
+    refused_whole (ValidPayload g.row.A.Denot) c.args.bytes.now c.args.self.now c.payloads.self c.payload.new.self (state c.payloads.payloads) (state c.next_payload.new.self) c.payloads.ended (seen c.in-Ok-Some.payload) c.in-Err-payload.error
+    c.payloads.invariant given c.in-Err-payload.ensures.moves
     (rejected_payload c.args.bytes.now c.args.self.now c.payloads.self (state c.payloads.payloads) (state c.next_payload.new.self) (seen c.in-Ok-Some.payload) c.payloads.ended c.payloads.invariant given)
 
 pub returns-in-Err : goal.returns-in-Err

@@ -1,4 +1,4 @@
-use Rattle.std.proofs.Common.{sym, subst}
+use Rattle.std.proofs.Common.{◌≡◌, ap, sym, subst, ◌∙◌, true}
 use Rattle.wasm_readers.specs.SectionsSeen.{count_of, bytes_of}
 use Rattle.wasm_validator_types.specs.Shown.{types_of}
 use Rattle.wasm_validator_core.specs.Answers.{HasValidTypes}
@@ -6,9 +6,9 @@ use Rattle.wasm_validator_core.specs.Ready.{AreIdsOf}
 use Rattle.wasm_rules.specs.FeatureFlags.{features_of}
 use Rattle.wasm_validator.specs.Machine.{other_items, section_items}
 use Rattle.wasm_validator.specs.Ready.{AreIdsIn, AreValidIn}
-use Rattle.wasm_validator.specs.Standing.{Standing, Moves}
+use Rattle.wasm_validator.specs.Standing.{Standing, Leaves, Moves}
 use Rattle.wasm_validator.specs.States.{stage_of, after_section}
-use Rattle.wasm_validator.proofs.SectionMoves.{adds_beside, section_moves}
+use Rattle.wasm_validator.proofs.SectionMoves.{adds_beside, section_moves, tags_refused}
 use Rattle.wasm_validator.proofs.Sections.{open-ids, open-valid, kept-ids, kept-valid}
 use Rattle.wasm_validator.proofs.validator.Validator.tag_section.Goals as goal
 
@@ -39,7 +39,9 @@ returns-in-Ok g c =
     let types = types_of c.self.inside.types in
     let before = c.in-Ok.state.«module» in
     let new : Standing = record { id = id; features = features; stage = stage_of types c.kept.new.state } in
-    subst (λ r. Moves r (after_section c.args.self.now 13 count bytes) c.args.self.now new) (sym c.kept.ensures.same)
+    let on : (features_of features).exceptions ≡ true = sym (c.contains.ensures tt) ∙ c.if-not-contains.false in
+    subst (λ h. Leaves c.kept.result (after_section c.args.self.now 13 count bytes) h c.args.self.now new) (tags_refused c.args.self.now.features c.args.self.now.stage (ap (λ (s : Standing). (features_of s.features).exceptions) (sym c.self.view_is) ∙ on))
+    (subst (λ r. Moves r (after_section c.args.self.now 13 count bytes) c.args.self.now new) (sym c.kept.ensures.same)
     (section_moves id features types before (λ g. section_items g 13 count bytes) c.self.inside.state added.result types (record { «module» = added.new.opened }) c.args.self.now new
     c.in-Ok.ensures.ok c.self.view_is (λ i. record { id = id; features = features; stage = stage_of types (sym c.kept.ensures.kept i) })
-    (adds_beside (HasValidTypes features) types added.result (other_items (features_of features) types 13 count bytes before) added.new.opened added.ensures.added))
+    (adds_beside (HasValidTypes features) types added.result (other_items (features_of features) types 13 count bytes before) added.new.opened added.ensures.added)))
