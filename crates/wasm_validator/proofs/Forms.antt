@@ -7,7 +7,7 @@ use Rattle.wasm_spec.specs.Values.{byte_at, list_at}
 use Rattle.wasm_rules.proofs.Tests.{map_some, then_some}
 use Rattle.wasm_readers.specs.Sections.{next_item}
 use Rattle.wasm_validator_canonical.specs.Groups.{has_form}
-use Rattle.wasm_validator.proofs.Items.{item_read}
+use Rattle.wasm_validator.proofs.ItemSteps.{item_read}
 
 module _ {R : Type 0} where
   -- a group of many types, or of one

@@ -21,7 +21,7 @@ use Rattle.wasm_validator.specs.Machine.{read_each, type_items, other_items, sec
 use Rattle.wasm_validator.specs.Standing.{Stage, unparsed, in_module, in_code, ended, failed, Standing, HoldsAt, within, within_all, at_stage}
 use Rattle.wasm_validator.specs.States.{begun, code_started, closed, after_piece}
 use Rattle.wasm_validator.specs.Payloads.{after_all}
-use Rattle.wasm_validator.proofs.Items.{read_back}
+use Rattle.wasm_validator.proofs.ItemSteps.{read_back}
 
 -- a step within a module
 pub within_some : (s t : Standing) (types : Types) (spaces : Spaces) (f : Types × Spaces → Option (Types × Spaces)) → at_stage s (within f (in_module types spaces)) ≡ Some t

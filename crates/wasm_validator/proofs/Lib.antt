@@ -1,5 +1,5 @@
 pub mod Sections
-pub mod Items
+pub mod ItemSteps
 pub mod Forms
 pub mod Growing
 pub mod ValidTypes
@@ -8,7 +8,7 @@ pub mod Runs
 pub mod Reading
 pub mod AddedTypes
 pub mod ModuleRun
-pub mod SectionItems
+pub mod SectionLists
 pub mod PlainTables
 pub mod ServedLists
 pub mod ServedAdded
@@ -24,5 +24,5 @@ pub mod WholeModules
 pub mod Sequences
 pub mod OwnIds
 pub mod Resets
-pub mod Table
+pub mod TableKept
 pub mod SectionLaws

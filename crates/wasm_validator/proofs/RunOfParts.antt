@@ -35,9 +35,9 @@ use Rattle.wasm_validator_core_laws.specs.Shown.{listed_table, spaces_of}
 use Rattle.wasm_validator_core_laws.specs.Lists.{has_no_init, only_types, only_imports, up_to_functions, up_to_tables, up_to_memories, up_to_tags, listed_parts, add_imports, add_functions, add_tables, add_memories, add_tags, add_exports, add_lists, AreValidLists}
 use Rattle.wasm_validator.specs.Machine.{read_section, start_item, data_count_item, beside}
 use Rattle.wasm_validator.proofs.AddedTypes.{TypesAdded, section, type_space, list_after, ids, runs_to, ends_at}
-use Rattle.wasm_validator.proofs.Items.{each_back}
+use Rattle.wasm_validator.proofs.ItemSteps.{each_back}
 use Rattle.wasm_validator.proofs.ModuleRun.{step, step_back, AreParts, served_ranks, by_sections, section_at, StartOf, start_at, DataCountOf, data_count_at, ranked_items, ranked_starts, ranked_data_counts}
-use Rattle.wasm_validator.proofs.SectionItems.{same_item, map_same, renames_nothing, ReadAdded, step_read, read_step, each_beside, beside_each, section_beside}
+use Rattle.wasm_validator.proofs.SectionLists.{same_item, map_same, renames_nothing, ReadAdded, step_read, read_step, each_beside, beside_each, section_beside}
 use Rattle.wasm_validator_core_laws.proofs.AddedItems.{for_each}
 use Rattle.wasm_validator_core_laws.proofs.AllLists.{valid_lists_are_added}
 use Rattle.wasm_validator_core_laws.proofs.Starts.{starts_are_decided}

@@ -42,7 +42,7 @@ use Rattle.wasm_validator.specs.States.{within_by, after_section}
 use Rattle.wasm_validator.specs.SectionLaws.{IsReading, HasAdded, FunctionsAdd, TablesAdd, MemoriesAdd, TagsAdd}
 use Rattle.wasm_validator.specs.Verdict.{Expressions}
 use Rattle.wasm_validator.proofs.PlainTables.{plain_at, plain_renames, bare, bare_types, plain_entries, entries_plain, heads_are_plain}
-use Rattle.wasm_validator.proofs.SectionItems.{Renames, limited, section_entries, renames_nothing, same_item}
+use Rattle.wasm_validator.proofs.SectionLists.{Renames, limited, section_entries, renames_nothing, same_item}
 
 -- items that are read and added behind lists
 module _ {V W : Type 0} (f : V → W) (reads : List ℕ → Option (V × List ℕ)) (renamed : List ℕ → Option (W × List ℕ)) (renames : Renames f reads renamed)

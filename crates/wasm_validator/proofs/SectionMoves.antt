@@ -14,7 +14,7 @@ use Rattle.wasm_validator.specs.declared.validator.State.TheVariants.{Unparsed, 
 use Rattle.wasm_validator_module_state.specs.declared.module_state.ModuleState.{ModuleState}
 use Rattle.wasm_validator.specs.Standing.{Stage, in_module, Standing, HoldsValid, refused_at, read_refused_at, within, at_stage, Moves}
 use Rattle.wasm_validator.specs.States.{open_of, stage_of, state_kept, section_refused_at}
-use Rattle.wasm_validator.proofs.Items.{none_nowhere}
+use Rattle.wasm_validator.proofs.ItemSteps.{none_nowhere}
 use Rattle.wasm_validator.proofs.Growing.{within_some}
 
 module _ (id : ℕ) (features : WasmFeatures) (types : Types) (m : Spaces) where

@@ -12,11 +12,24 @@ pub mod validator;
 pub use bitflags::Flags;
 pub use payload::{ValidPayload, validate};
 pub use validator::Validator;
-pub use wasm_parser::{Encoding, FunctionBody, Parser, Payload};
-pub use wasm_readers::{BinaryReader, SectionLimited, WasmFeatures};
+pub use wasm_group_checks::{check_composite_type, check_descriptors, check_subtype};
+pub use wasm_parser::{CustomSectionReader, Encoding, FunctionBody, ParseAll, Parser, Payload};
+pub use wasm_readers::{
+    AbstractHeapType, ArrayType, BinaryReader, CompositeInnerType, CompositeType, ConstExpr,
+    ContType, CoreTypeId, Counted, Data, DataKind, DescriptorRule, Element, ElementItems,
+    ElementKind, Export, ExternalKind, Fault, FieldType, FromReader, FuncType, Global, GlobalType,
+    GroupRule, HeapType, Import, ItemKind, ItemRule, Items, MAX_IDS, Malformed, MemoryType,
+    OutOfOrder, PackedIndex, RecGroup, RefType, Refusal, Rule, SectionItems, SectionLimited,
+    StorageType, StructType, SubType, Table, TableInit, TableType, TagKind, TagType, TypeRef,
+    UnpackedIndex, Unserved, ValType, ValueTypeRule, WasmFeatures,
+};
+pub use wasm_validator_canonical::{
+    InternRecGroup, TypeCanonicalizer, canonicalize_and_intern_rec_group, intern_rec_group_of,
+};
 pub use wasm_validator_core::{Error, Module};
 pub use wasm_validator_matches::{Matches, WithRecGroup, func_signature_matches};
 pub use wasm_validator_module_state::{MaybeOwned, ModuleState};
+pub use wasm_validator_type_list::LinkCount;
 pub use wasm_validator_types::{
     CoreExports, CoreImports, EntityType, RecGroupElements, RecGroupId, SnapshotList, TypeAlloc,
     TypeData, TypeIdentifier, TypeInfo, TypeList, Types, TypesRef, ValidatorId,
@@ -24,7 +37,7 @@ pub use wasm_validator_types::{
 
 /// A payload that is accepted leads a validator where the state table says, and one that is refused, for
 /// its content or for want of memory, leaves it where the table says.
-#[tactic(auto, using(crate::proofs::Table::table_laws))]
+#[tactic(auto, using(crate::proofs::TableKept::table_laws))]
 pub fn state_table()
     ensures accepted { AcceptedByTable }
     ensures refused { RefusedByTable }

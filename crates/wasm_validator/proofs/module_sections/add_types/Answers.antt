@@ -8,7 +8,7 @@ use Rattle.wasm_validator_core.specs.declared.limits.TheConstants.{MAX_TYPES}
 use Rattle.wasm_validator_core.specs.Answers.{IsNowhere, HasValidTypes}
 use Rattle.wasm_validator_core.specs.Machine.{add_group}
 use Rattle.wasm_validator.specs.Machine.{type_items, read_each}
-use Rattle.wasm_validator.proofs.Items.{fewer_left, read_each-step, read_each-nowhere, adds_nowhere, if_nowhere}
+use Rattle.wasm_validator.proofs.ItemSteps.{fewer_left, read_each-step, read_each-nowhere, adds_nowhere, if_nowhere}
 use Rattle.wasm_validator.proofs.ValidTypes.{group_back}
 use Rattle.wasm_validator.proofs.Forms.{item_formed}
 use Rattle.wasm_validator.proofs.module_sections.add_types.Goals as goal
