@@ -3,10 +3,9 @@
 use bitflags::Flags;
 use std::alloc::Global;
 use std::fmt::Write;
-use std::test::Fail;
 use wasm_item_checks::{check_defined_table, check_type_ref};
 use wasm_readers_errors::{Refusal, WasmFeatures};
-use wasm_readers_types::{MemoryType, RefType, TableType, TypeRef};
+use wasm_readers_types::{GlobalType, MemoryType, RefType, TableType, TypeRef, ValType};
 use wasm_validator_type_list::TypeList;
 
 /// Whether this is a refusal at byte 7 with this message, which this proposal would lift.
@@ -68,10 +67,10 @@ fn narrow_sizes_past_those_that_are_written(rt: HostRuntime) {
     assert!(rt; is_refused(alloc, answer, None, message));
 }
 
-/// What is said of a table of functions, not null, which is defined with an initial value.
-fn defined(alloc: Global, features: WasmFeatures) -> Result<(), Refusal> {
+/// What is said of a table of these references, which is defined with an initial value.
+fn defined(alloc: Global, features: WasmFeatures, element_type: RefType) -> Result<(), Refusal> {
     let ty = TableType {
-        element_type: RefType::FUNC,
+        element_type,
         table64: false,
         initial: 0,
         maximum: None,
@@ -81,21 +80,24 @@ fn defined(alloc: Global, features: WasmFeatures) -> Result<(), Refusal> {
 }
 
 #[test]
-fn tables_with_an_initial_value(rt: HostRuntime) -> Result<(), Fail> {
+fn tables_with_an_initial_value(rt: HostRuntime) {
     let alloc = rt.alloc();
-    assert!(rt; defined(alloc, WasmFeatures::all()).is_ok());
+    assert!(rt; defined(alloc, WasmFeatures::all(), RefType::FUNC).is_ok());
     let feature = WasmFeatures::FUNCTION_REFERENCES;
-    let features = WasmFeatures::REFERENCE_TYPES | WasmFeatures::GC_TYPES;
+    let mut features = WasmFeatures::all();
+    features.remove(feature);
     let message = "tables with expression initializers require the function-references proposal";
-    let ty = TableType {
-        element_type: RefType::FUNCREF,
-        table64: false,
-        initial: 0,
-        maximum: None,
-        shared: false,
-    };
-    let list = TypeList::new(alloc, true);
-    let answer = check_defined_table(features, &list, &[], ty, true, 7);
+    let answer = defined(alloc, features, RefType::FUNCREF);
     assert!(rt; is_refused(alloc, answer, Some(feature), message));
-    Ok(())
+}
+
+#[test]
+fn the_type_of_a_mutable_global_needs_nothing(rt: HostRuntime) {
+    let ty = TypeRef::Global(GlobalType {
+        content_type: ValType::I32,
+        mutable: true,
+        shared: false,
+    });
+    let list = TypeList::new(rt.alloc(), true);
+    assert!(rt; check_type_ref(WasmFeatures::empty(), &list, &[], ty, 7).is_ok());
 }

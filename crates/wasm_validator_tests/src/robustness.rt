@@ -35,18 +35,14 @@ fn answered_changes(alloc: Global, bytes: &[u8], by: u8) -> Result<usize, AllocE
 }
 
 #[test]
-fn fronts_are_answered(rt: HostRuntime) {
-    // The header alone is a module.
-    assert_eq!(rt; accepted_fronts(rt.alloc(), &FIRST), 1);
-    // So is the header with the first section, and with the first two.
-    assert_eq!(rt; accepted_fronts(rt.alloc(), &SECOND), 3);
-}
-
-#[test]
-fn changes_are_answered(rt: HostRuntime) -> Result<(), Fail> {
-    assert_eq!(rt; answered_changes(rt.alloc(), &FIRST, 0xff)?, 16);
-    assert_eq!(rt; answered_changes(rt.alloc(), &FIRST, 0x00)?, 16);
-    assert_eq!(rt; answered_changes(rt.alloc(), &SECOND, 0xff)?, 30);
-    assert_eq!(rt; answered_changes(rt.alloc(), &SECOND, 0x00)?, 30);
+fn fronts_and_changes_are_answered(rt: HostRuntime) -> Result<(), Fail> {
+    let alloc = rt.alloc();
+    // The header alone is a module. So is it with the first section, and with the first two.
+    assert_eq!(rt; accepted_fronts(alloc, &FIRST), 1);
+    assert_eq!(rt; accepted_fronts(alloc, &SECOND), 3);
+    for by in [0x00, 0xff] {
+        assert_eq!(rt; answered_changes(alloc, &FIRST, by)?, 16);
+        assert_eq!(rt; answered_changes(alloc, &SECOND, by)?, 30);
+    }
     Ok(())
 }

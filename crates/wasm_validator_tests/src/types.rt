@@ -1,0 +1,144 @@
+//! The list of types of a module: ids, links, and what is below what.
+
+ghost use Rattle.std.specs.Prelude.{◌≡◌, [], length, IfSome};
+ghost use Rattle.wasm_spec.specs.References.{refs_heap};
+ghost use Rattle.wasm_readers_types.specs.SeenValues.{ref_of};
+ghost use Rattle.wasm_validator_type_list.specs.Listing.{types_in};
+ghost use Rattle.wasm_validator_type_list.specs.Subtyping.{IsRefOver};
+
+use crate::check;
+use std::alloc::{AllocError, Global};
+use std::test::Fail;
+use wasm_readers_types::{AbstractHeapType, CoreTypeId, HeapType, RefType, UnpackedIndex, ValType};
+use wasm_validator::TypeList;
+use wasm_validator_type_list::LinkCount;
+
+/// Two structures and two functions, the second of each below the first.
+const FOUR: &[u8] =
+    b"\0asm\x01\0\0\0\x01\x1b\x04\x50\0\x5f\0\x50\x01\0\x5f\x01\x7f\0\x50\0\x60\x01\x63\x01\0\x50\x01\x02\x60\x01\x63\0\0";
+
+/// A module of 64 function types, each but the first extending the one before.
+fn chain(alloc: Global) -> Result<Vec<u8>, AllocError> {
+    let mut bytes = Vec::new(alloc);
+    bytes.extend_from_slice(b"\0asm\x01\0\0\0\x01\x80\x03\x40\x50\0\x60\0\0")?;
+    for before in 0u8..63 {
+        bytes.extend_from_slice(&[0x50, 1, before, 0x60, 0, 0])?;
+    }
+    Ok(bytes)
+}
+
+/// Whether the first type is a subtype of the second, and the links that are read, if the list has
+/// both.
+fn links(list: &TypeList, a: u32, b: u32) -> Option<(bool, u64)> {
+    let (a, b) = (CoreTypeId::from_index(a), CoreTypeId::from_index(b));
+    if list.get(a).is_none() || list.get(b).is_none() {
+        return None;
+    }
+    let mut count = LinkCount::new();
+    let is_subtype = list.id_is_subtype_counted(a, b, &mut count);
+    Some((is_subtype, count.read()))
+}
+
+#[test]
+fn links_are_counted(rt: HostRuntime) -> Result<(), Fail> {
+    let types = check(rt.alloc(), &chain(rt.alloc())?)?;
+    let list = types.as_ref().type_list();
+    assert_eq!(rt; links(list, 63, 0), Some((true, 63)));
+    assert_eq!(rt; links(list, 0, 63), Some((false, 0)));
+    assert_eq!(rt; links(list, 63, 63), Some((true, 0)));
+    let types = check(rt.alloc(), FOUR)?;
+    let list = types.as_ref().type_list();
+    assert_eq!(rt; links(list, 3, 0), Some((false, 1)));
+    assert_eq!(rt; links(list, 3, 2), Some((true, 1)));
+    Ok(())
+}
+
+/// The reference type that is not null to what this type describes, exactly or not, if the list has the
+/// type.
+fn reference(list: &TypeList, id: u32, is_exact: bool) -> Option<RefType>
+    ensures { IfSome result (λ r. IsRefOver (length (types_in list.now)) r) }
+{
+    let id = CoreTypeId::from_index(id);
+    if list.get(id).is_none() {
+        return None;
+    }
+    let index = UnpackedIndex::Id(id);
+    if is_exact {
+        RefType::new(false, HeapType::Exact(index))
+    } else {
+        RefType::new(false, HeapType::Concrete(index))
+    }
+}
+
+/// The reference type that is not null to an abstract heap type.
+fn plain(ty: AbstractHeapType, shared: bool) -> Option<RefType>
+    ensures { IfSome result (λ r. refs_heap (ref_of r).heap ≡ []) }
+{
+    RefType::new(false, HeapType::Abstract { shared, ty })
+}
+
+#[test]
+fn references_are_ordered_as_declared(rt: HostRuntime) -> Result<(), Fail> {
+    let types = check(rt.alloc(), FOUR)?;
+    let list = types.as_ref().type_list();
+    let zero = reference(list, 0, false).ok_or("no type 0")?;
+    let one = reference(list, 1, false).ok_or("no type 1")?;
+    let three = reference(list, 3, false).ok_or("no type 3")?;
+    let exactly_zero = reference(list, 0, true).ok_or("no type 0")?;
+    let exactly_one = reference(list, 1, true).ok_or("no type 1")?;
+    assert!(rt; list.reftype_is_subtype(one, zero));
+    assert!(rt; !list.reftype_is_subtype(one.nullable(), zero));
+    assert!(rt; !list.reftype_is_subtype(zero, one));
+    assert!(rt; list.reftype_is_subtype(exactly_one, zero));
+    assert!(rt; !list.reftype_is_subtype(one, exactly_one));
+    assert!(rt; !list.reftype_is_subtype(exactly_one, exactly_zero));
+    assert!(rt; list.reftype_is_subtype(three, RefType::FUNCREF));
+    let none = plain(AbstractHeapType::None, false).ok_or("no none")?;
+    let no_func = plain(AbstractHeapType::NoFunc, false).ok_or("no nofunc")?;
+    let shared_any = plain(AbstractHeapType::Any, true).ok_or("no shared any")?;
+    assert!(rt; list.reftype_is_subtype(none, one));
+    assert!(rt; !list.reftype_is_subtype(no_func, one));
+    assert!(rt; !list.reftype_is_subtype(one, shared_any));
+    Ok(())
+}
+
+#[test]
+fn a_structure_type_is_below_structures(rt: HostRuntime) -> Result<(), Fail> {
+    let types = check(rt.alloc(), FOUR)?;
+    let list = types.as_ref().type_list();
+    let zero = reference(list, 0, false).ok_or("no type 0")?;
+    let nullable = zero.nullable();
+    assert!(rt; list.reftype_is_subtype(nullable, RefType::STRUCTREF));
+    assert!(rt; list.reftype_is_subtype(nullable, RefType::EQREF));
+    assert!(rt; list.reftype_is_subtype(nullable, RefType::ANYREF));
+    assert!(rt; !list.reftype_is_subtype(nullable, RefType::ARRAYREF));
+    assert!(rt; !list.reftype_is_subtype(nullable, RefType::FUNCREF));
+    assert!(rt; list.valtype_is_subtype(ValType::Ref(zero), ValType::Ref(nullable)));
+    assert!(rt; !list.valtype_is_subtype(ValType::Ref(nullable), ValType::Ref(zero)));
+    assert!(rt; !list.reftype_is_shared(zero));
+    assert!(rt; list.valtype_is_shared(ValType::I32));
+    assert!(rt; list.top_type(&zero.heap_type()) == RefType::ANYREF.heap_type());
+    Ok(())
+}
+
+/// Whether what the first type declares matches what the second one does, if the list has both.
+fn matches(list: &TypeList, a: u32, b: u32) -> Option<bool> {
+    let (a, b) = (CoreTypeId::from_index(a), CoreTypeId::from_index(b));
+    if list.get(a).is_none() || list.get(b).is_none() {
+        return None;
+    }
+    Some(list.matches(a, b))
+}
+
+#[test]
+fn types_match_by_their_structure(rt: HostRuntime) -> Result<(), Fail> {
+    let types = check(rt.alloc(), FOUR)?;
+    let list = types.as_ref().type_list();
+    assert_eq!(rt; matches(list, 1, 0), Some(true));
+    assert_eq!(rt; matches(list, 0, 1), Some(false));
+    assert_eq!(rt; matches(list, 1, 1), Some(true));
+    assert_eq!(rt; matches(list, 3, 2), Some(true));
+    assert_eq!(rt; matches(list, 2, 3), Some(false));
+    assert_eq!(rt; matches(list, 2, 0), Some(false));
+    Ok(())
+}
