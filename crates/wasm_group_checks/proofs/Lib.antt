@@ -8,3 +8,4 @@ pub mod Renamed
 pub mod Transported
 pub mod IdsAndTypes
 pub mod Told
+pub mod ToldAt

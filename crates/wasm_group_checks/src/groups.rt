@@ -51,6 +51,7 @@ pub fn check_rec_group<A: Allocator + Copy>(
     requires { group.index < length types.now.groups }
     ensures decided { Decides (is_ok result) (IsValidGroupAt (features_of features) types.now.groups group.index) }
     ensures told { IfErr result (ToldOfGroup features offset types.now.groups group.index) }
+    ensures place { IfErr result (λ r. r.offset ≡ offset) }
 {
     let ids = &types[group];
     let _count = types.len();

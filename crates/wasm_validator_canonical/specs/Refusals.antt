@@ -1,12 +1,9 @@
 -- The refusals of groups that aren't written as a list of types can have them.
 use Rattle.std.specs.Prelude.{ℕ, nat_lt, if◌then◌else◌}
 use Rattle.std.specs.declared.option.Option.TheVariants.{Some, None}
-use Rattle.wasm_readers_errors.specs.declared.error.Error.{Error}
-use Rattle.wasm_readers_errors.specs.declared.error.Error.TheVariants.{Refused}
 use Rattle.wasm_readers_errors.specs.declared.error.Fault.{Fault}
 use Rattle.wasm_readers_errors.specs.declared.error.Fault.TheVariants.{Group, UnknownType, UnknownTypeWithoutGc}
 use Rattle.wasm_readers_errors.specs.declared.error.Refusal.{Refusal}
-use Rattle.wasm_readers_errors.specs.declared.type_rules.GroupRule.{GroupRule}
 use Rattle.wasm_readers_errors.specs.declared.type_rules.GroupRule.TheVariants.{RecGroups, MultipleSupertypes}
 use Rattle.wasm_readers_errors.specs.declared.features.TheConstants.WasmFeatures.{GC}
 use Rattle.wasm_readers_types.specs.declared.indices.UnpackedIndex.{UnpackedIndex}

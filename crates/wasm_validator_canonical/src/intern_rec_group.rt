@@ -111,6 +111,7 @@ pub fn canonicalize_and_intern_rec_group<A: Allocator + Copy>(
     ensures grows { canonical (features_of features) ≡ false → OnOk result (length (types_in types.new) ≡ length (types_in types.old) + length group.types) }
     ensures depths { IfOk result (λ elements. All (KeepsDepth types.new) (ids_left elements)) }
     ensures earlier_depths { OnOk result (StillKept types.old types.new) }
+    ensures place { IfErr result (IsAt offset) }
     ensures limit { MAX_IDS < length (types_in types.old) + length group.types → result ≡ Err (Error.Refused (too_many_types offset)) }
     ensures written { length (types_in types.old) + length group.types ≤ MAX_IDS → allows_written (features_of features) (rec_of group) ≡ false → result ≡ Err (Error.Refused (rec_without_gc offset)) }
     ensures same_open { types.new.is_open ≡ types.old.is_open }
@@ -143,6 +144,7 @@ fn check_if_new<A: Allocator + Copy>(
     requires { group.index < length types.now.groups }
     ensures new { is_new ≡ true → Decides (is_ok result) (IsValidGroupAt (features_of features) types.now.groups group.index) }
     ensures known { is_new ≡ false → is_ok result ≡ true }
+    ensures place { IfErr result (λ r. r.offset ≡ offset) }
 {
     if is_new {
         check_rec_group(features, types, group, offset)
@@ -164,6 +166,7 @@ fn intern<A: Allocator + Copy>(
     requires valid { AreValid (features_of features) (standing types.old.is_canonical types.old.groups) }
     ensures interned { InternsValid (features_of features) result types.old types.new group.types }
     ensures listable { OnOk result (AreListable types.new.groups) }
+    ensures place { IfErr result (IsAt offset) }
     ensures same_open { types.new.is_open ≡ types.old.is_open }
     ensures same_mode { types.new.is_canonical ≡ types.old.is_canonical }
 {

@@ -9,7 +9,7 @@ ghost use Rattle.wasm_grouped_list.specs.Elements.{numbers_from};
 ghost use Rattle.wasm_validator_type_list.specs.Listing.{types_in};
 ghost use Rattle.wasm_validator_type_list.specs.Standing.{standing};
 ghost use Rattle.wasm_validator_canonical.specs.Groups.{has_form, AreValid, with_written};
-ghost use Rattle.wasm_validator_canonical.specs.Answers.{AddsGroup};
+ghost use Rattle.wasm_validator_canonical.specs.Answers.{AddsGroup, IsAt};
 ghost use Rattle.wasm_validator_canonical.specs.Refusals.{unknown_type};
 ghost use Rattle.wasm_validator_canonical.specs.Indices.{numbers};
 
@@ -116,6 +116,7 @@ pub fn intern_rec_group_of<A: Allocator + Copy, M: InternRecGroup<A>>(
     ensures own_ids { canonical (features_of features) ≡ false → OnOk result (M.ids target.new ≡ M.ids target.old ++ numbers_from (length (types_in types.old)) (length group.types)) }
     ensures grows { canonical (features_of features) ≡ false → OnOk result (length (types_in types.new) ≡ length (types_in types.old) + length group.types) }
     ensures others { M.others target.new ≡ M.others target.old }
+    ensures place { IfErr result (IsAt offset) }
     ensures same_open { types.new.is_open ≡ types.old.is_open }
     ensures same_mode { types.new.is_canonical ≡ types.old.is_canonical }
 {

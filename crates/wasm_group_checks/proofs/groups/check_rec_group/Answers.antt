@@ -7,6 +7,7 @@ use Rattle.wasm_validator_type_list.proofs.Standing.{first_of-within}
 use Rattle.std.proofs.lemmas.Grind.{common_steps}
 use Rattle.wasm_readers_errors.specs.Refusals.{refused}
 use Rattle.wasm_group_checks.proofs.Told.{group_tells}
+use Rattle.wasm_group_checks.proofs.ToldAt.{group_told_at}
 use Rattle.wasm_group_checks.proofs.groups.check_rec_group.Goals as goal
 
 pub overflow_cast-index : goal.overflow_cast-index
@@ -36,3 +37,6 @@ returns-in_err-check_type-clause-told g c =
     } in
     group_tells c.args.features c.args.offset gs k c.from_index-id.result.index c.from_residual.result (refused c.check_type.result) e inside c.check_type.ensures.told
     (λ before from below. c.members.invariant before from (omega (arith, below, c.from_index-id.ensures)))
+
+pub returns-in_err-check_type-clause-place : goal.returns-in_err-check_type-clause-place
+returns-in_err-check_type-clause-place g c = group_told_at c.args.features c.args.offset c.args.types.now.groups c.args.group.index c.from_residual.result (returns-in_err-check_type-clause-told g c)

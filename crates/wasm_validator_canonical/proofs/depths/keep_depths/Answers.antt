@@ -1,4 +1,4 @@
-use Rattle.std.proofs.Common.{◌≡◌, refl, sym, ◌-◌, ◌<◌, ◌∙◌, length, subst, All}
+use Rattle.std.proofs.Common.{refl, sym, ◌-◌, ◌<◌, ◌∙◌, length, subst, All}
 use Rattle.std.proofs.lemmas.List.Elements.{All-head, All-tail}
 use Rattle.wasm_grouped_list.specs.Elements.{ids_left}
 use Rattle.wasm_grouped_list.specs.Groups.{all_in}
