@@ -1,7 +1,9 @@
 -- What contracts see of a reader.
-use Rattle.std.specs.Prelude.{◌≡◌, ◌≤◌, ◌+◌, ℕ, List, length, drop, None, ⊤}
+use Rattle.std.specs.Prelude.{◌≡◌, ◌≤◌, ◌+◌, ℕ, List, [], ◌∷◌, length, drop, None, ⊤}
 use Rattle.wasm_readers_errors.specs.declared.error.Fault.{Fault}
 use Rattle.wasm_readers_errors.specs.declared.error.Fault.TheVariants.{Malformed}
+use Rattle.wasm_readers_errors.specs.declared.error.Malformed as declared
+use Rattle.wasm_readers_errors.specs.declared.error.Malformed.TheVariants.{UnexpectedEnd}
 use Rattle.wasm_readers_errors.specs.declared.error.Refusal.{Refusal}
 use Rattle.wasm_readers_errors.specs.declared.error.Error.{Error}
 use Rattle.wasm_readers_errors.specs.declared.error.Error.TheVariants.{Refused, OutOfMemory}
@@ -41,3 +43,12 @@ RefusedFrom r refusal =
 abbrev pub FailedFrom : BinaryReader → Error → Type 0
 FailedFrom r (Refused refusal) = RefusedFrom r refusal
 FailedFrom r OutOfMemory = ⊤
+
+-- the offset in the whole input of the next byte
+abbrev pub place_of_next : BinaryReader → ℕ
+place_of_next r = original r + position_in r
+
+-- What is told of a byte that is refused: this, or that there is none.
+abbrev pub byte_fault : declared.Malformed → List ℕ → declared.Malformed
+byte_fault fault [] = UnexpectedEnd
+byte_fault fault (byte ∷ bytes) = fault

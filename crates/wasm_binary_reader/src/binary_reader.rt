@@ -17,7 +17,8 @@ pub struct BinaryReader<'a> {
 }
 
 impl<'a> BinaryReader<'a> {
-    ghost use Rattle.wasm_binary_reader.specs.Reader.{input, SameInput, position_in, original, rest, RefusedFrom};
+    ghost use Rattle.wasm_binary_reader.specs.Reader.{input, SameInput, position_in, original, rest, RefusedFrom, place_of_next};
+    ghost use Rattle.wasm_readers_errors.specs.Refusals.{plain};
 
     /// A reader of these bytes, the first of which stands at this offset of the whole input.
     pub fn new(buffer: &'a [u8], original_offset: u64) -> Self
@@ -88,6 +89,7 @@ impl<'a> BinaryReader<'a> {
         ensures further { OnOk result (position_in self.new ≡ position_in self.old + 1) }
         ensures err { OnErr result (rest self.old ≡ []) }
         ensures unread { OnErr result (self.new ≡ self.old) }
+        ensures told { IfErr result (λ m. m ≡ Malformed.UnexpectedEnd) }
     {
         if self.position < self.buffer.len() {
             let byte = self.buffer[self.position];
@@ -135,6 +137,7 @@ impl<'a> BinaryReader<'a> {
         ensures ok { IfOk result (λ byte. rest self.old ≡ byte ∷ rest self.new) }
         ensures further { OnOk result (position_in self.new ≡ position_in self.old + 1) }
         ensures err { OnErr result (rest self.old ≡ []) }
+        ensures told { IfErr result (λ r. r ≡ plain (Fault.Malformed Malformed.UnexpectedEnd) (place_of_next self.old)) }
     {
         match self.next_byte() {
             Ok(byte) => Ok(byte),
@@ -460,6 +463,7 @@ impl<'a> BinaryReader<'a> {
         ensures whole { IfOk result (λ part. input part ≡ rest part) }
         ensures ok { IfOk result (λ part. bytes_at size (rest self.old) ≡ Some (rest part, rest self.new)) }
         ensures err { OnErr result (bytes_at size (rest self.old) ≡ None) }
+        ensures told { IfErr result (λ r. r ≡ plain (Fault.Malformed Malformed.UnexpectedEnd) (place_of_next self.old)) }
     {
         if size > self.buffer.len() - self.position {
             return Err(self.refusal(Malformed::UnexpectedEnd));

@@ -3,7 +3,8 @@
 ghost use Rattle.std.specs.Prelude.{◌≡◌, ◌≤◌, ◌<◌, OnOk, OnErr, IfOk, Some, None, IfErr};
 ghost use Rattle.wasm_spec.specs.BinaryTypes.{flags_at, limits_at, number_if, page_size_if, table_at, memory_at, global_at, tag_at};
 ghost use Rattle.wasm_spec.specs.BinaryModules.{import_at, export_at, extern_at};
-ghost use Rattle.wasm_binary_reader.specs.Reader.{input, SameInput, position_in, rest, RefusedFrom};
+ghost use Rattle.wasm_binary_reader.specs.Reader.{input, SameInput, position_in, rest, RefusedFrom, place_of_next, byte_fault};
+ghost use Rattle.wasm_readers_errors.specs.Refusals.{plain};
 ghost use Rattle.wasm_readers.specs.Written.{written};
 ghost use Rattle.wasm_readers.specs.Limits.{limits_of};
 ghost use Rattle.wasm_readers.specs.Tables.{head_of, table_head_at};
@@ -35,6 +36,7 @@ fn read_flags(reader: &mut BinaryReader<'_>, most: u8, malformed: Malformed) -> 
     ensures refusal { IfErr result (RefusedFrom reader.old) }
     ensures ok { IfOk result (λ x. flags_at most (rest reader.old) ≡ Some (x, rest reader.new)) }
     ensures err { OnErr result (flags_at most (rest reader.old) ≡ None) }
+    ensures told { IfErr result (λ r. r ≡ plain (Fault.Malformed (byte_fault malformed (rest reader.old))) (place_of_next reader.old)) }
 {
     let offset = reader.original_position();
     let flags = reader.read_u8()?;
@@ -218,6 +220,7 @@ pub fn read_external_kind(reader: &mut BinaryReader<'_>) -> Result<ExternalKind,
     ensures refusal { IfErr result (RefusedFrom reader.old) }
     ensures ok { IfOk result (λ x. flags_at 4 (rest reader.old) ≡ Some (kind_of x, rest reader.new)) }
     ensures err { OnErr result (flags_at 4 (rest reader.old) ≡ None) }
+    ensures told { IfErr result (λ r. r ≡ plain (Fault.Malformed (byte_fault Malformed.ExportKind (rest reader.old))) (place_of_next reader.old)) }
 {
     let offset = reader.original_position();
     match reader.read_u8()? {

@@ -6,7 +6,8 @@ ghost use Rattle.wasm_spec.specs.Values.{list_at};
 ghost use Rattle.std.specs.Prelude.{true};
 ghost use Rattle.wasm_spec.specs.Syntax.{abstract_heap};
 ghost use Rattle.wasm_spec.specs.BinaryTypes.{abstract_heap_from, abstract_heap_at, flag_at, heap_at, ref_at, val_at, storage_at, field_at};
-ghost use Rattle.wasm_binary_reader.specs.Reader.{input, SameInput, position_in, rest, RefusedFrom};
+ghost use Rattle.wasm_binary_reader.specs.Reader.{input, SameInput, position_in, rest, RefusedFrom, place_of_next, byte_fault};
+ghost use Rattle.wasm_readers_errors.specs.Refusals.{plain};
 ghost use Rattle.wasm_readers_errors.specs.Errors.{Reads};
 ghost use Rattle.wasm_readers.specs.Written.{written};
 ghost use Rattle.wasm_readers_types.specs.SeenValues.{abstract_heap_of, heap_of, HeapFits, ref_of, val_of, storage_of, field_of};
@@ -208,6 +209,7 @@ pub fn read_flag(reader: &mut BinaryReader<'_>) -> Result<bool, Refusal>
     ensures ok { IfOk result (λ f. flag_at (rest reader.old) ≡ Some (f, rest reader.new)) }
     ensures further { OnOk result (position_in reader.old < position_in reader.new) }
     ensures err { OnErr result (flag_at (rest reader.old) ≡ None) }
+    ensures told { IfErr result (λ r. r ≡ plain (Fault.Malformed (byte_fault Malformed.Flag (rest reader.old))) (place_of_next reader.old)) }
 {
     let offset = reader.original_position();
     match reader.read_u8()? {

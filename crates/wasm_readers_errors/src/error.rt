@@ -9,29 +9,53 @@ use std::fmt;
 /// Where bytes don't follow the binary format.
 #[derive(Clone, Copy, PartialEq, Eq, Debug)]
 pub enum Malformed {
+    /// The bytes end where more must stand.
     UnexpectedEnd,
+    /// A number takes more bytes than its width allows, or a signed one is none of its width.
     IntegerTooLong,
+    /// The last byte of a number has bits beyond its width.
     IntegerTooLarge,
+    /// A name is not text in UTF-8.
     NotUtf8,
+    /// What stands for a heap type is none.
     HeapType,
+    /// What stands for a reference type is none.
     ReferenceType,
+    /// What stands for a value type is none.
     ValueType,
+    /// What stands for a composite type is none.
     CompositeType,
+    /// A flag is neither 0 nor 1.
     Flag,
+    /// The flags of a table or memory type have a bit without a meaning.
     LimitsFlags,
+    /// The flags of a global type have a bit without a meaning.
     GlobalFlags,
+    /// The attribute of a tag is not 0.
     TagAttribute,
+    /// The kind of an import is none.
     ImportKind,
+    /// The kind of an export is none.
     ExportKind,
+    /// The input does not begin as a module does.
     MagicNumber,
+    /// The version of the format is not known.
     BinaryVersion,
+    /// A section stands behind one that it must stand before, or twice.
     SectionOutOfOrder,
+    /// A section has bytes behind its last item.
     SectionSize,
+    /// There are not as many bodies as functions.
     FunctionAndCodeCounts,
+    /// There are not as many data segments as the data count says.
     DataCounts,
+    /// No operator has this opcode.
     Opcode,
+    /// The alignment of a memory operator is too large.
     Alignment,
+    /// The flags of a cast have a bit without a meaning.
     CastFlags,
+    /// The kind of a catch clause is none.
     CatchKind,
 }
 
@@ -71,14 +95,23 @@ impl Malformed {
 /// Calls that come where the validator doesn't take them.
 #[derive(Clone, Copy, PartialEq, Eq, Debug)]
 pub enum OutOfOrder {
+    /// A section before the header.
     SectionBeforeHeader,
+    /// A section behind the end.
     SectionAfterEnd,
+    /// A header where a module has begun or the validator has failed.
     Header,
+    /// The end before the header.
     EndBeforeHeader,
+    /// The end a second time.
     EndAfterEnd,
+    /// A section where an earlier call was refused.
     SectionAfterFailure,
+    /// A section of a kind that must stand before the bodies.
     SectionAfterCodeStart,
+    /// A body before the section of bodies.
     CodeEntryBeforeCodeStart,
+    /// More bodies than functions that are defined.
     CodeEntryWithoutFunction,
 }
 
@@ -103,12 +136,19 @@ impl OutOfOrder {
 /// Rules of validation whose texts name no number.
 #[derive(Clone, Copy, PartialEq, Eq, Debug)]
 pub enum Rule {
+    /// Floating-point types need `FLOATS`.
     Floats,
+    /// Vectors need `SIMD`.
     Simd,
+    /// More than one result needs `MULTI_VALUE`.
     MultiValue,
+    /// Tags need `EXCEPTIONS`.
     Exceptions,
+    /// The list of types has no ids left for the group.
     TooManyTypes,
+    /// The effective size of the module's type stays below 1,000,000.
     EffectiveSize,
+    /// Components are not validated.
     ComponentModelLeftOut,
 }
 
@@ -131,16 +171,27 @@ impl Rule {
 /// What a limit counts.
 #[derive(Clone, Copy, PartialEq, Eq, Debug)]
 pub enum Counted {
+    /// Types of a module.
     Types,
+    /// Import entries.
     Imports,
+    /// Functions, imported and defined.
     Functions,
+    /// Tables, imported and defined.
     Tables,
+    /// Memories, imported and defined.
     Memories,
+    /// Tags, imported and defined.
     Tags,
+    /// Globals, imported and defined.
     Globals,
+    /// Exports.
     Exports,
+    /// Element segments.
     ElementSegments,
+    /// Data segments.
     DataSegments,
+    /// Bytes of a function body.
     FunctionBodySize,
 }
 
@@ -165,10 +216,15 @@ impl Counted {
 /// The kinds of items of a module that have an index space.
 #[derive(Clone, Copy, PartialEq, Eq, Debug)]
 pub enum ItemKind {
+    /// Functions.
     Function,
+    /// Tables.
     Table,
+    /// Memories.
     Memory,
+    /// Globals.
     Global,
+    /// Tags.
     Tag,
 }
 
@@ -187,10 +243,15 @@ impl ItemKind {
 /// What this version reads and doesn't validate yet.
 #[derive(Clone, Copy, PartialEq, Eq, Debug)]
 pub enum Unserved {
+    /// A table with an initializer.
     TableInitializer,
+    /// A global section that has globals.
     GlobalSection,
+    /// An element section that has segments.
     ElementSection,
+    /// A function body.
     FunctionBody,
+    /// A data section that has segments.
     DataSection,
 }
 
@@ -209,8 +270,11 @@ impl Unserved {
 /// Why content is refused.
 #[derive(Clone, Copy, PartialEq, Eq, Debug)]
 pub enum Fault {
+    /// Bytes that do not follow the binary format.
     Malformed(Malformed),
+    /// A call where the validator does not take it.
     OutOfOrder(OutOfOrder),
+    /// Another rule whose text names no number.
     Rule(Rule),
     /// A rule of recursion groups and their types.
     Group(GroupRule),
@@ -228,6 +292,7 @@ pub enum Fault {
     OutOfGroup(u32),
     /// A sub type with so many types above it.
     SubtypesTooDeep(u32),
+    /// A type index of what is no function type.
     NotAFunctionType(u32),
     /// A continuation type of a type, by its id, that is not a function type.
     NotAFunctionId(u32),
@@ -239,10 +304,13 @@ pub enum Fault {
     UnknownExport(ItemKind, u32),
     /// More of something than may be.
     Limit(Counted, u32),
+    /// A section id that no section has.
     UnknownSection(u8),
+    /// A version of the format that is not known.
     UnknownBinaryVersion(u16),
     /// A component header of this number, without the component model.
     ComponentHeader(u16),
+    /// What this version does not validate yet.
     NotServed(Unserved),
 }
 
@@ -336,8 +404,11 @@ fn write_limit<W: fmt::Write>(f: &mut fmt::Formatter<W>, what: &str, limit: u32)
 /// allow it, if one would.
 #[derive(Clone, Copy, PartialEq, Eq, Debug)]
 pub struct Refusal {
+    /// Why.
     pub fault: Fault,
+    /// The byte, counted from the start of the input.
     pub offset: u64,
+    /// The proposal that would lift the refusal, where one would.
     pub missing: Option<WasmFeatures>,
 }
 
@@ -368,7 +439,9 @@ impl Refusal {
 /// Why reading is refused: for the content, or for want of memory.
 #[derive(Clone, Copy, PartialEq, Eq, Debug)]
 pub enum Error {
+    /// The content is refused.
     Refused(Refusal),
+    /// Memory is refused, and nothing is said of the content.
     OutOfMemory,
 }
 

@@ -3,6 +3,26 @@ ghost use Rattle.std.specs.Prelude.{⊤, ◌≡◌, [], ◌∷◌, codes};
 use bitflags::{Flag, Flags, bitflag_items};
 
 /// The proposals that a module may use, as a set of flags.
+///
+/// - `MUTABLE_GLOBAL`: mutable globals are imported and exported.
+/// - `REFERENCE_TYPES`: values that are references, and more than one table.
+/// - `MULTI_VALUE`: more than one result.
+/// - `BULK_MEMORY`: passive segments, and the data count section.
+/// - `SIMD`: vectors of 128 bits.
+/// - `THREADS`: shared memories.
+/// - `SHARED_EVERYTHING_THREADS`: types, tables and globals that are shared between threads.
+/// - `FLOATS`: floating-point types.
+/// - `MULTI_MEMORY`: more than one memory.
+/// - `EXCEPTIONS`: tags, and references to exceptions.
+/// - `MEMORY64`: memories and tables of 64 bits.
+/// - `EXTENDED_CONST`: sums and products in constant expressions.
+/// - `FUNCTION_REFERENCES`: references to types by index, and ones that may not be null.
+/// - `GC`: recursion groups, sub types, structures and arrays.
+/// - `GC_TYPES`: types of what is collected, besides functions and exceptions.
+/// - `CUSTOM_PAGE_SIZES`: memories whose pages have one byte.
+/// - `CUSTOM_DESCRIPTORS`: descriptor clauses, and exact references.
+/// - `STACK_SWITCHING`: continuations.
+/// - `COMPONENT_MODEL`: components, which are not validated.
 #[derive(Clone, Copy, PartialEq, Eq, Hash, Debug)]
 pub struct WasmFeatures(u64);
 

@@ -2,25 +2,45 @@
 /// no number (Core Specification 3.0, Validation, Types and Modules).
 #[derive(Clone, Copy, PartialEq, Eq, Debug)]
 pub enum ItemRule {
+    /// An exactly typed function import needs `CUSTOM_DESCRIPTORS`.
     ExactFunctionImports,
+    /// The minimum is at most the maximum.
     MinimumAboveMaximum,
+    /// A 64-bit table needs `MEMORY64`.
     Tables64,
+    /// A shared table needs `SHARED_EVERYTHING_THREADS`.
     SharedTables,
+    /// The elements of a shared table are shared.
     SharedElements,
+    /// The entries of a table are counted by 32 bits, or by 64 where it is a 64-bit one.
     TableSize,
+    /// A table with an initializer needs `FUNCTION_REFERENCES`.
     TableInitializers,
+    /// The entries of a table without an initializer may be null.
     NonDefaultableElements,
+    /// A 64-bit memory needs `MEMORY64`.
     Memories64,
+    /// A shared memory needs `THREADS`.
     SharedMemories,
+    /// A shared memory has a maximum.
     SharedMemoryMaximum,
+    /// A page size that is written needs `CUSTOM_PAGE_SIZES`.
     CustomPageSizes,
+    /// A page has 1 byte or 65,536.
     PageSize,
+    /// The results of a tag need `STACK_SWITCHING`.
     TagResults,
+    /// A shared global needs `SHARED_EVERYTHING_THREADS`.
     SharedGlobals,
+    /// What a shared global holds is shared.
     SharedContents,
+    /// A mutable global that is imported or exported needs `MUTABLE_GLOBAL`.
     MutableGlobals,
+    /// The start function takes and gives nothing.
     StartType,
+    /// A data count needs `BULK_MEMORY`.
     DataCounts,
+    /// A module has at most 100,000 data segments.
     DataCountLimit,
 }
 

@@ -2,19 +2,33 @@
 /// Specification 3.0, Validation, Types).
 #[derive(Clone, Copy, PartialEq, Eq, Debug)]
 pub enum GroupRule {
+    /// A group that is written as one needs `GC`.
     RecGroups,
+    /// A type has at most one supertype.
     MultipleSupertypes,
+    /// A type that is not final, or has a supertype, needs `GC`.
     Subtypes,
+    /// A supertype is not final.
     FinalSupertype,
+    /// A type matches its supertype.
     SupertypeMatch,
+    /// A supertype stands before its subtypes.
     SupertypeAfterSubtype,
+    /// A shared type needs `SHARED_EVERYTHING_THREADS`.
     SharedComposites,
+    /// What a shared type holds is shared.
     SharedMembers,
+    /// An array type needs `GC`.
     Arrays,
+    /// An array type needs `GC_TYPES`.
     ArrayGcTypes,
+    /// A structure type needs `GC`.
     Structs,
+    /// A structure type needs `GC_TYPES`.
     StructGcTypes,
+    /// A continuation type needs `STACK_SWITCHING`.
     Continuations,
+    /// A continuation type needs `GC_TYPES`.
     ContinuationGcTypes,
 }
 
@@ -45,18 +59,31 @@ impl GroupRule {
 /// Rules of the descriptor clauses of sub types, of the custom descriptors proposal.
 #[derive(Clone, Copy, PartialEq, Eq, Debug)]
 pub enum DescriptorRule {
+    /// A descriptor clause needs `CUSTOM_DESCRIPTORS`.
     Descriptors,
+    /// The type that a type describes stands before it.
     ForwardDescribes,
+    /// Only a structure type has a descriptor.
     DescriptorOfNonStruct,
+    /// Only a structure type describes another.
     DescribesOfNonStruct,
+    /// The supertype of a type with a descriptor has one.
     SubtypeWithDescriptor,
+    /// The supertype of a type without a descriptor has none.
     SubtypeWithoutDescriptor,
+    /// The descriptor's supertype is the supertype's descriptor.
     DescribedSupertype,
+    /// The described type's supertype is what the supertype describes.
     DescriptorSupertype,
+    /// The supertype of a type that describes nothing describes nothing.
     NonDescriptorSupertype,
+    /// The supertype of a type that describes another describes one.
     DescriptorOfNonDescriptor,
+    /// The descriptor of a type describes this type.
     DescriptorWithoutDescribes,
+    /// The type that a type describes has this one as its descriptor.
     DescribesWithoutDescriptor,
+    /// A type and its descriptor are both final, or both not.
     DescriptorFinality,
 }
 
@@ -91,14 +118,23 @@ impl DescriptorRule {
 /// Types).
 #[derive(Clone, Copy, PartialEq, Eq, Debug)]
 pub enum ValueTypeRule {
+    /// References need `REFERENCE_TYPES`.
     ReferenceTypes,
+    /// References to types by index need `GC` or `FUNCTION_REFERENCES`.
     IndexReferences,
+    /// Exact references need `CUSTOM_DESCRIPTORS`.
     ExactReferences,
+    /// Shared references need `SHARED_EVERYTHING_THREADS`.
     SharedReferences,
+    /// References to other than functions and exceptions need `GC_TYPES`.
     GcTypes,
+    /// References to functions and external values that may not be null need `FUNCTION_REFERENCES`.
     NonNullable,
+    /// The heap types of the garbage collection proposal need `GC`.
     GcHeapTypes,
+    /// References to exceptions need `EXCEPTIONS`.
     ExceptionReferences,
+    /// References to continuations need `STACK_SWITCHING`.
     ContinuationReferences,
 }
 
