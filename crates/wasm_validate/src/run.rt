@@ -1,4 +1,5 @@
-ghost use Rattle.std.specs.Prelude.{◌≡◌, ◌≤◌};
+ghost use Rattle.std.specs.Prelude.{◌≡◌, ◌≤◌, length, ◌∷◌, [], None, OnOk, OnErr};
+ghost use Rattle.wasm_validate.specs.Files.{AreRefused, IsReadAs, AreAccepted, AreAllAccepted, AreAllRefused};
 
 use std::alloc::{Allocator, Global};
 use std::io::{self, Write};
@@ -19,14 +20,20 @@ pub struct Input<A: Allocator = Global> {
     pub bytes: Option<Vec<u8, A>>,
 }
 
-/// Validates one file, prints one line on it, and answers the exit status.
+/// Validates one file, prints one line on it, and answers the exit status. That is `STATUS_OK` only where
+/// every file is a valid module, and `STATUS_REFUSED` only where the one file is refused.
 pub fn run<A: Allocator + Copy, W: Write, E: Write>(
     alloc: A,
     files: &[Input<A>],
     out: &mut W,
     err: &mut E,
 ) -> u8
-    ensures { result ≤ 2 }
+    ensures known { result ≤ 2 }
+    ensures accepted { result ≡ STATUS_OK → AreAllAccepted files.now }
+    ensures refused { result ≡ STATUS_REFUSED → AreAllRefused files.now }
+    ensures quiet { (result ≡ STATUS_TROUBLE → ⊥) → err.new ≡ err.old }
+    ensures one_file { (length files.now ≡ 1 → ⊥) → (result ≡ STATUS_TROUBLE) × (out.new ≡ out.old) }
+    ensures unread { (file : _) → files.now ≡ file ∷ [] → file.bytes ≡ None → (result ≡ STATUS_TROUBLE) × (out.new ≡ out.old) }
 {
     match files {
         [file] => run_one(alloc, file, out, err),
@@ -51,7 +58,11 @@ fn run_one<A: Allocator + Copy, W: Write, E: Write>(
     out: &mut W,
     err: &mut E,
 ) -> u8
-    ensures { result ≤ 2 }
+    ensures known { result ≤ 2 }
+    ensures accepted { result ≡ STATUS_OK → IsReadAs AreAccepted file.now }
+    ensures refused { result ≡ STATUS_REFUSED → IsReadAs AreRefused file.now }
+    ensures quiet { (result ≡ STATUS_TROUBLE → ⊥) → err.new ≡ err.old }
+    ensures unread { file.now.bytes ≡ None → (result ≡ STATUS_TROUBLE) × (out.new ≡ out.old) }
 {
     let name = file.name.as_str();
     let Some(bytes) = &file.bytes else {
@@ -71,8 +82,8 @@ fn run_one<A: Allocator + Copy, W: Write, E: Write>(
 
 /// The status of a line that was printed, or of one that could not be.
 fn status_of(printed: io::Result<()>, status: u8) -> u8
-    requires { status ≤ 2 }
-    ensures { result ≤ 2 }
+    ensures printed { OnOk printed (result ≡ status) }
+    ensures trouble { OnErr printed (result ≡ STATUS_TROUBLE) }
 {
     match printed {
         Ok(()) => status,
