@@ -5,8 +5,8 @@ use crate::leb128::{long_signed_at, signed_at};
 use std::ops::Range;
 use wasm_readers_errors::{Fault, Malformed, Refusal};
 
-/// Bytes that are read from their front. A reader that has refused bytes stands somewhere behind where it
-/// stood before, or there, in the same bytes.
+/// Bytes that are read from their front. A reader that has refused bytes stands somewhere behind
+/// where it stood before, or there, in the same bytes.
 #[derive(Clone, Copy, Debug)]
 pub struct BinaryReader<'a> {
     buffer: &'a [u8],
@@ -41,7 +41,8 @@ impl<'a> BinaryReader<'a> {
         self.original_offset + self.position as u64
     }
 
-    /// The offsets in the whole input of its first byte, read or not, and of the byte behind its last.
+    /// The offsets in the whole input of its first byte, read or not, and of the byte behind its
+    /// last.
     pub fn range(&self) -> Range<u64>
         ensures start { result.start ≡ original self.now }
         ensures end { result.end ≡ original self.now + length (input self.now) }
