@@ -1,9 +1,9 @@
 -- What contracts see of a reader.
-use Rattle.std.specs.Prelude.{◌≡◌, ◌≤◌, ◌+◌, ℕ, List, [], ◌∷◌, length, drop, None, ⊤}
+use Rattle.std.specs.Prelude.{◌≡◌, ◌≤◌, ◌+◌, ◌-◌, ◌^◌, ℕ, nat_lt, if◌then◌else◌, List, [], ◌∷◌, length, drop, Option, Some, None, ⊤}
 use Rattle.wasm_readers_errors.specs.declared.error.Fault.{Fault}
 use Rattle.wasm_readers_errors.specs.declared.error.Fault.TheVariants.{Malformed}
 use Rattle.wasm_readers_errors.specs.declared.error.Malformed as declared
-use Rattle.wasm_readers_errors.specs.declared.error.Malformed.TheVariants.{UnexpectedEnd}
+use Rattle.wasm_readers_errors.specs.declared.error.Malformed.TheVariants.{UnexpectedEnd, IntegerTooLong, IntegerTooLarge, NotUtf8, HeapType}
 use Rattle.wasm_readers_errors.specs.declared.error.Refusal.{Refusal}
 use Rattle.wasm_readers_errors.specs.declared.error.Error.{Error}
 use Rattle.wasm_readers_errors.specs.declared.error.Error.TheVariants.{Refused, OutOfMemory}
@@ -52,3 +52,26 @@ place_of_next r = original r + position_in r
 abbrev pub byte_fault : declared.Malformed → List ℕ → declared.Malformed
 byte_fault fault [] = UnexpectedEnd
 byte_fault fault (byte ∷ bytes) = fault
+
+-- What is told of bytes that encode no unsigned number of so many bits: the first of their end, a last byte with bits
+-- beyond the width, and a byte that is one too many.
+abbrev pub unsigned_fault : ℕ → List ℕ → declared.Malformed
+unsigned_fault bits [] = UnexpectedEnd
+unsigned_fault bits (n ∷ more) =
+    if nat_lt n (2 ^ 7) then IntegerTooLarge
+    else (if nat_lt 7 bits then unsigned_fault (bits - 7) more else IntegerTooLong)
+
+-- What is told where a type index is wanted: a number that is there is negative.
+abbrev pub index_fault : {N : Type 0} → Option N → declared.Malformed
+index_fault None = IntegerTooLong
+index_fault (Some n) = HeapType
+
+-- What is told of a size and its bytes: where the size is there, the bytes end.
+abbrev pub sized_fault : {N : Type 0} → declared.Malformed → Option N → declared.Malformed
+sized_fault of_size None = of_size
+sized_fault of_size (Some n) = UnexpectedEnd
+
+-- What is told of a name: where its bytes are there, they are no text.
+abbrev pub name_fault : {N : Type 0} → declared.Malformed → Option N → declared.Malformed
+name_fault of_bytes None = of_bytes
+name_fault of_bytes (Some n) = NotUtf8

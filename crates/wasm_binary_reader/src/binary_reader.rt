@@ -5,8 +5,8 @@ use crate::leb128::{long_signed_at, signed_at};
 use std::ops::Range;
 use wasm_readers_errors::{Fault, Malformed, Refusal};
 
-/// Bytes that are read from their front. A reader that has refused bytes stands somewhere behind where it
-/// stood before, or there, in the same bytes.
+/// Bytes that are read from their front. A reader that has refused bytes stands somewhere behind
+/// where it stood before, or there, in the same bytes.
 #[derive(Clone, Copy, Debug)]
 pub struct BinaryReader<'a> {
     buffer: &'a [u8],
@@ -17,7 +17,7 @@ pub struct BinaryReader<'a> {
 }
 
 impl<'a> BinaryReader<'a> {
-    ghost use Rattle.wasm_binary_reader.specs.Reader.{input, SameInput, position_in, original, rest, RefusedFrom, place_of_next};
+    ghost use Rattle.wasm_binary_reader.specs.Reader.{input, SameInput, position_in, original, rest, RefusedFrom, place_of_next, unsigned_fault, index_fault, sized_fault, name_fault};
     ghost use Rattle.wasm_readers_errors.specs.Refusals.{plain};
 
     /// A reader of these bytes, the first of which stands at this offset of the whole input.
@@ -41,7 +41,8 @@ impl<'a> BinaryReader<'a> {
         self.original_offset + self.position as u64
     }
 
-    /// The offsets in the whole input of its first byte, read or not, and of the byte behind its last.
+    /// The offsets in the whole input of its first byte, read or not, and of the byte behind its
+    /// last.
     pub fn range(&self) -> Range<u64>
         ensures start { result.start ≡ original self.now }
         ensures end { result.end ≡ original self.now + length (input self.now) }
@@ -129,6 +130,11 @@ impl<'a> BinaryReader<'a> {
     }
 
     /// The next byte.
+    ///
+    /// # Errors
+    ///
+    /// Refused as cut off where there is none, at the offset of the end. The reader stays where it
+    /// stood.
     #[inline]
     pub fn read_u8(&mut self) -> Result<u8, Refusal>
         ensures same { SameInput self.old self.new }
@@ -145,7 +151,14 @@ impl<'a> BinaryReader<'a> {
         }
     }
 
-    /// An unsigned number of at most 32 bits, in at most five bytes.
+    /// An unsigned number of at most 32 bits, in at most five bytes (Core Specification 3.0, Binary
+    /// Format, Values, Integers).
+    ///
+    /// # Errors
+    ///
+    /// Refused where the bytes encode none: the end comes first, the last byte that is allowed has
+    /// bits beyond the width, or a byte follows it. The offset is that of the byte behind those
+    /// that were read, and the reader stands there.
     pub fn read_var_u32(&mut self) -> Result<u32, Refusal>
         ensures same { SameInput self.old self.new }
         ensures onward { position_in self.old ≤ position_in self.new }
@@ -153,6 +166,7 @@ impl<'a> BinaryReader<'a> {
         ensures ok { IfOk result (λ n. u32_at (rest self.old) ≡ Some (n, rest self.new)) }
         ensures further { OnOk result (position_in self.old < position_in self.new) }
         ensures err { OnErr result (u32_at (rest self.old) ≡ None) }
+        ensures told { IfErr result (λ r. r ≡ plain (Fault.Malformed (unsigned_fault 32 (rest self.old))) (place_of_next self.new)) }
     {
         match self.next_u32() {
             Ok(number) => Ok(number),
@@ -180,6 +194,7 @@ impl<'a> BinaryReader<'a> {
         ensures ok { IfOk result (λ n. u32_at (rest self.old) ≡ Some (n, rest self.new)) }
         ensures further { OnOk result (position_in self.old < position_in self.new) }
         ensures err { OnErr result (u32_at (rest self.old) ≡ None) }
+        ensures told { IfErr result (λ m. m ≡ unsigned_fault 32 (rest self.old)) }
     {
         match self.next_last_byte() {
             Some(byte) => Ok(u32::from(byte)),
@@ -201,6 +216,7 @@ impl<'a> BinaryReader<'a> {
         ensures ok { IfOk result (λ n. u32_at (rest self.old) ≡ Some (n, rest self.new)) }
         ensures further { OnOk result (position_in self.old < position_in self.new) }
         ensures err { OnErr result (u32_at (rest self.old) ≡ None) }
+        ensures told { IfErr result (λ m. m ≡ unsigned_fault 32 (rest self.old)) }
     {
         let first = self.next_byte()?;
         if first < 128 {
@@ -233,7 +249,14 @@ impl<'a> BinaryReader<'a> {
         }
     }
 
-    /// An unsigned number of at most 64 bits, in at most ten bytes.
+    /// An unsigned number of at most 64 bits, in at most ten bytes (Core Specification 3.0, Binary
+    /// Format, Values, Integers).
+    ///
+    /// # Errors
+    ///
+    /// Refused where the bytes encode none: the end comes first, the last byte that is allowed has
+    /// bits beyond the width, or a byte follows it. The offset is that of the byte behind those
+    /// that were read, and the reader stands there.
     pub fn read_var_u64(&mut self) -> Result<u64, Refusal>
         ensures same { SameInput self.old self.new }
         ensures onward { position_in self.old ≤ position_in self.new }
@@ -241,6 +264,7 @@ impl<'a> BinaryReader<'a> {
         ensures ok { IfOk result (λ n. u64_at (rest self.old) ≡ Some (n, rest self.new)) }
         ensures further { OnOk result (position_in self.old < position_in self.new) }
         ensures err { OnErr result (u64_at (rest self.old) ≡ None) }
+        ensures told { IfErr result (λ r. r ≡ plain (Fault.Malformed (unsigned_fault 64 (rest self.old))) (place_of_next self.new)) }
     {
         match self.next_u64() {
             Ok(number) => Ok(number),
@@ -268,6 +292,7 @@ impl<'a> BinaryReader<'a> {
         ensures ok { IfOk result (λ n. u64_at (rest self.old) ≡ Some (n, rest self.new)) }
         ensures further { OnOk result (position_in self.old < position_in self.new) }
         ensures err { OnErr result (u64_at (rest self.old) ≡ None) }
+        ensures told { IfErr result (λ m. m ≡ unsigned_fault 64 (rest self.old)) }
     {
         match self.next_last_byte() {
             Some(byte) => Ok(u64::from(byte)),
@@ -289,6 +314,7 @@ impl<'a> BinaryReader<'a> {
         ensures ok { IfOk result (λ n. u64_at (rest self.old) ≡ Some (n, rest self.new)) }
         ensures further { OnOk result (position_in self.old < position_in self.new) }
         ensures err { OnErr result (u64_at (rest self.old) ≡ None) }
+        ensures told { IfErr result (λ m. m ≡ unsigned_fault 64 (rest self.old)) }
     {
         let first = self.next_byte()?;
         if first < 128 {
@@ -347,7 +373,13 @@ impl<'a> BinaryReader<'a> {
         }
     }
 
-    /// A type index where a heap type may stand: a signed number of 33 bits that is not negative.
+    /// A type index where a heap type may stand: a signed number of 33 bits that is not negative
+    /// (Core Specification 3.0, Binary Format, Types, Heap Types).
+    ///
+    /// # Errors
+    ///
+    /// Refused, at the offset of its first byte, as no heap type where the number is negative, and
+    /// as too long where the bytes encode none. The reader stays where it stood.
     pub fn read_var_s33_index(&mut self) -> Result<u32, Refusal>
         ensures same { SameInput self.old self.new }
         ensures onward { position_in self.old ≤ position_in self.new }
@@ -355,6 +387,7 @@ impl<'a> BinaryReader<'a> {
         ensures ok { IfOk result (λ n. s33_index_at (rest self.old) ≡ Some (n, rest self.new)) }
         ensures further { OnOk result (position_in self.old < position_in self.new) }
         ensures err { OnErr result ((s33_index_at (rest self.old) ≡ None) × (self.new ≡ self.old)) }
+        ensures told { IfErr result (λ r. r ≡ plain (Fault.Malformed (index_fault (integer_at 33 (rest self.old)))) (place_of_next self.old)) }
     {
         match signed_at(self.remaining(), 33) {
             Some((value, used)) => {
@@ -385,7 +418,13 @@ impl<'a> BinaryReader<'a> {
         Some(value)
     }
 
-    /// A signed number of at most 32 bits, in at most five bytes.
+    /// A signed number of at most 32 bits, in at most five bytes (Core Specification 3.0, Binary
+    /// Format, Values, Integers).
+    ///
+    /// # Errors
+    ///
+    /// Refused as too long, at the offset of its first byte, where the bytes encode none, whatever
+    /// the cause. The reader stays where it stood.
     pub fn read_var_i32(&mut self) -> Result<i32, Refusal>
         ensures same { SameInput self.old self.new }
         ensures onward { position_in self.old ≤ position_in self.new }
@@ -393,6 +432,7 @@ impl<'a> BinaryReader<'a> {
         ensures ok { IfOk result (λ n. integer_at 32 (rest self.old) ≡ Some (n, rest self.new)) }
         ensures further { OnOk result (position_in self.old < position_in self.new) }
         ensures err { OnErr result (integer_at 32 (rest self.old) ≡ None) }
+        ensures told { IfErr result (λ r. r ≡ plain (Fault.Malformed Malformed.IntegerTooLong) (place_of_next self.old)) }
     {
         match self.next_var_i32() {
             Some(value) => Ok(value),
@@ -419,7 +459,13 @@ impl<'a> BinaryReader<'a> {
         }
     }
 
-    /// A signed number of at most 64 bits, in at most ten bytes.
+    /// A signed number of at most 64 bits, in at most ten bytes (Core Specification 3.0, Binary
+    /// Format, Values, Integers).
+    ///
+    /// # Errors
+    ///
+    /// Refused as too long, at the offset of its first byte, where the bytes encode none, whatever
+    /// the cause. The reader stays where it stood.
     pub fn read_var_i64(&mut self) -> Result<i64, Refusal>
         ensures same { SameInput self.old self.new }
         ensures onward { position_in self.old ≤ position_in self.new }
@@ -427,6 +473,7 @@ impl<'a> BinaryReader<'a> {
         ensures ok { IfOk result (λ n. integer_at 64 (rest self.old) ≡ Some (n, rest self.new)) }
         ensures further { OnOk result (position_in self.old < position_in self.new) }
         ensures err { OnErr result (integer_at 64 (rest self.old) ≡ None) }
+        ensures told { IfErr result (λ r. r ≡ plain (Fault.Malformed Malformed.IntegerTooLong) (place_of_next self.old)) }
     {
         match self.next_var_i64() {
             Some(value) => Ok(value),
@@ -454,6 +501,11 @@ impl<'a> BinaryReader<'a> {
     }
 
     /// The next bytes, so many of them, as a reader of their own.
+    ///
+    /// # Errors
+    ///
+    /// Refused as cut off, at the offset of the next byte, where fewer bytes are left. The reader
+    /// stays where it stood.
     pub fn read_reader(&mut self, size: usize) -> Result<BinaryReader<'a>, Refusal>
         ensures same { SameInput self.old self.new }
         ensures onward { position_in self.old ≤ position_in self.new }
@@ -479,6 +531,11 @@ impl<'a> BinaryReader<'a> {
     }
 
     /// A size, and that many bytes, as a reader of their own.
+    ///
+    /// # Errors
+    ///
+    /// Refused where the size is, as by [`BinaryReader::read_var_u32`], and behind the size where
+    /// fewer bytes are left, as by [`BinaryReader::read_reader`].
     pub fn read_sized(&mut self) -> Result<BinaryReader<'a>, Refusal>
         ensures same { SameInput self.old self.new }
         ensures onward { position_in self.old ≤ position_in self.new }
@@ -489,12 +546,19 @@ impl<'a> BinaryReader<'a> {
         ensures ok { IfOk result (λ part. sized_at (rest self.old) ≡ Some (rest part, rest self.new)) }
         ensures further { OnOk result (position_in self.old < position_in self.new) }
         ensures err { OnErr result (sized_at (rest self.old) ≡ None) }
+        ensures told { IfErr result (λ r. r.fault ≡ Fault.Malformed (sized_fault (unsigned_fault 32 (rest self.old)) (u32_at (rest self.old)))) }
     {
         let size = self.read_var_u32()?;
         self.read_reader(size as usize)
     }
 
-    /// A name: a size, and that many bytes of text in UTF-8.
+    /// A name: a size, and that many bytes of text in UTF-8 (Core Specification 3.0, Binary Format,
+    /// Values, Names).
+    ///
+    /// # Errors
+    ///
+    /// Refused as by [`BinaryReader::read_sized`]; and where the bytes are no text, at the offset
+    /// of the first of them.
     #[tactic(auto, using(crate::proofs::Texts::name_from_text, crate::proofs::Texts::no_name_from_no_text))]
     pub fn read_string(&mut self) -> Result<&'a str, Refusal>
         ensures same { SameInput self.old self.new }
@@ -503,6 +567,7 @@ impl<'a> BinaryReader<'a> {
         ensures ok { IfOk result (λ name. name_at (rest self.old) ≡ Some (name.now, rest self.new)) }
         ensures further { OnOk result (position_in self.old < position_in self.new) }
         ensures err { OnErr result (name_at (rest self.old) ≡ None) }
+        ensures told { IfErr result (λ r. r.fault ≡ Fault.Malformed (name_fault (sized_fault (unsigned_fault 32 (rest self.old)) (u32_at (rest self.old))) (sized_at (rest self.old)))) }
     {
         let part = self.read_sized()?;
         match std::str::from_utf8(part.remaining()) {

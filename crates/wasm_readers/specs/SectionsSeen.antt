@@ -1,5 +1,7 @@
 -- What contracts see of a section and of its items that are left.
-use Rattle.std.specs.Prelude.{◌≤◌, ◌+◌, ℕ, List, Bool, length}
+use Rattle.std.specs.Prelude.{◌≡◌, ◌≤◌, ◌+◌, ℕ, List, Bool, length, Option, Some, None, ⊤}
+use Rattle.std.specs.declared.result.Result.{Result}
+use Rattle.std.specs.declared.result.Result.TheVariants.{Ok, Err}
 use Rattle.wasm_readers.specs.declared.section_limited.SectionLimited.{SectionLimited}
 use Rattle.wasm_readers.specs.declared.section_limited.SectionItems.{SectionItems}
 use Rattle.wasm_binary_reader.specs.Reader.{input, position_in, original, rest, SameInput, FailedFrom}
@@ -52,3 +54,9 @@ SameSection old new = SameInput old.reader new.reader × (next_item_at old ≤ n
 -- a refusal for the format, at an offset from the next item to the section's end, unless memory was refused
 abbrev pub ItemsFailedFrom : {T A : Type 0} → SectionItems T A → Error → Type 0
 ItemsFailedFrom s error = FailedFrom s.reader error
+
+-- Where no item is given, as many are left as before; and at the end the reader stays where it stands.
+abbrev pub TakesNothing : {T A I : Type 0} → SectionItems T A → Option (Result (ℕ × I) Error) → SectionItems T A → Type 0
+TakesNothing old None new = (items_left new ≡ items_left old) × (new.reader ≡ old.reader)
+TakesNothing old (Some (Ok x)) new = ⊤
+TakesNothing old (Some (Err e)) new = items_left new ≡ items_left old

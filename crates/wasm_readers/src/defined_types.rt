@@ -21,7 +21,11 @@ use wasm_readers_types::{
     PackedIndex, RecGroup, StructType, SubType, ValType,
 };
 
-/// A type index.
+/// A type index (Core Specification 3.0, Binary Format, Modules, Indices).
+///
+/// # Errors
+///
+/// Refused where the bytes encode none, at a byte offset from the start of the input.
 pub fn read_type_index(reader: &mut BinaryReader<'_>) -> Result<PackedIndex, Refusal>
     ensures same { SameInput reader.old reader.new }
     ensures onward { position_in reader.old ≤ position_in reader.new }

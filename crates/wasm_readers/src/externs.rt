@@ -95,7 +95,12 @@ fn read_limits(reader: &mut BinaryReader<'_>, most: u8) -> Result<Limits, Refusa
     })
 }
 
-/// A table type.
+/// A table type (Core Specification 3.0, Binary Format, Types, Table Types). What its limits count
+/// are entries.
+///
+/// # Errors
+///
+/// Refused where the bytes encode none, at a byte offset from the start of the input.
 #[tactic(auto, unfolding(wasm_spec::specs::BinaryTypes::table_at))]
 pub fn read_table_type(reader: &mut BinaryReader<'_>) -> Result<TableType, Refusal>
     ensures same { SameInput reader.old reader.new }
@@ -116,7 +121,11 @@ pub fn read_table_type(reader: &mut BinaryReader<'_>) -> Result<TableType, Refus
 }
 
 /// What stands of a table of the table section before its initializer: its type, and whether an
-/// initializer follows (Core Specification 3.0, Binary Format, Table Section).
+/// initializer follows (Core Specification 3.0, Binary Format, Modules, Table Section).
+///
+/// # Errors
+///
+/// Refused where the bytes encode none, at a byte offset from the start of the input.
 #[tactic(auto, unfolding(crate::specs::Tables::table_head_at))]
 pub fn read_table_head(reader: &mut BinaryReader<'_>) -> Result<TableHead, Refusal>
     ensures same { SameInput reader.old reader.new }
@@ -136,7 +145,12 @@ pub fn read_table_head(reader: &mut BinaryReader<'_>) -> Result<TableHead, Refus
     Ok(TableHead { ty, has_init })
 }
 
-/// A memory type.
+/// A memory type (Core Specification 3.0, Binary Format, Types, Memory Types). What its limits
+/// count are pages.
+///
+/// # Errors
+///
+/// Refused where the bytes encode none, at a byte offset from the start of the input.
 #[tactic(auto, unfolding(wasm_spec::specs::BinaryTypes::memory_at))]
 pub fn read_memory_type(reader: &mut BinaryReader<'_>) -> Result<MemoryType, Refusal>
     ensures same { SameInput reader.old reader.new }
@@ -156,7 +170,11 @@ pub fn read_memory_type(reader: &mut BinaryReader<'_>) -> Result<MemoryType, Ref
     })
 }
 
-/// A global type.
+/// A global type (Core Specification 3.0, Binary Format, Types, Global Types).
+///
+/// # Errors
+///
+/// Refused where the bytes encode none, at a byte offset from the start of the input.
 #[tactic(auto, unfolding(wasm_spec::specs::BinaryTypes::global_at))]
 pub fn read_global_type(reader: &mut BinaryReader<'_>) -> Result<GlobalType, Refusal>
     ensures same { SameInput reader.old reader.new }
@@ -174,7 +192,11 @@ pub fn read_global_type(reader: &mut BinaryReader<'_>) -> Result<GlobalType, Ref
     })
 }
 
-/// A tag type.
+/// A tag type (Core Specification 3.0, Binary Format, Types, Tag Types).
+///
+/// # Errors
+///
+/// Refused where the bytes encode none, at a byte offset from the start of the input.
 #[tactic(auto, unfolding(wasm_spec::specs::BinaryTypes::tag_at))]
 pub fn read_tag_type(reader: &mut BinaryReader<'_>) -> Result<TagType, Refusal>
     ensures same { SameInput reader.old reader.new }
@@ -191,7 +213,12 @@ pub fn read_tag_type(reader: &mut BinaryReader<'_>) -> Result<TagType, Refusal>
     })
 }
 
-/// What an import is: its kind, and its type or type index.
+/// What an import is: its kind, and its type or type index (Core Specification 3.0, Binary Format,
+/// Types, External Types).
+///
+/// # Errors
+///
+/// Refused where the bytes encode none, at a byte offset from the start of the input.
 #[tactic(auto, unfolding(wasm_spec::specs::BinaryModules::extern_at))]
 pub fn read_type_ref(reader: &mut BinaryReader<'_>) -> Result<TypeRef, Refusal>
     ensures same { SameInput reader.old reader.new }
@@ -212,7 +239,12 @@ pub fn read_type_ref(reader: &mut BinaryReader<'_>) -> Result<TypeRef, Refusal>
     }
 }
 
-/// The kind of an export.
+/// The kind of an export (Core Specification 3.0, Binary Format, Modules, Export Section).
+///
+/// # Errors
+///
+/// Refused where the next byte stands for none, or there is no byte: at its byte offset from the
+/// start of the input.
 #[tactic(auto, unfolding(wasm_spec::specs::BinaryTypes::flags_at))]
 pub fn read_external_kind(reader: &mut BinaryReader<'_>) -> Result<ExternalKind, Refusal>
     ensures same { SameInput reader.old reader.new }

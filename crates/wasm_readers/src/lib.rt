@@ -1,4 +1,6 @@
 //! Reading of the items of WebAssembly modules: types, imports, exports, and sections of items.
+//!
+//! Each `offset` counts bytes from the start of the input.
 #![tactic(auto)]
 
 ghost use Rattle.wasm_readers.specs.Tables.{TableHeadsBeginTables};
@@ -28,9 +30,9 @@ pub use wasm_readers_types::{
     TypeRef, UnpackedIndex, ValType,
 };
 
-/// However expressions are read, a table of the table section is its first part and what is behind it:
-/// an expression, where it has an initializer (Core Specification 3.0, Binary Format, Modules, Table
-/// Section).
+/// However expressions are read, a table of the table section is its first part and what is behind
+/// it: an expression, where it has an initializer (Core Specification 3.0, Binary Format, Modules,
+/// Table Section).
 pub fn table_heads_begin_tables()
     ensures { TableHeadsBeginTables }
 {}

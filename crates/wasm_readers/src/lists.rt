@@ -10,7 +10,13 @@ use std::alloc::Allocator;
 use wasm_binary_reader::BinaryReader;
 use wasm_readers_errors::Error;
 
-/// A list: a count, and that many items.
+/// A list: a count, and that many items (Core Specification 3.0, Binary Format, Conventions,
+/// Lists).
+///
+/// # Errors
+///
+/// Refused where the count or an item is, at a byte offset from the start of the input; and where
+/// memory is.
 pub fn read_list<'a, T: FromReader<'a, A>, A: Allocator + Copy>(
     alloc: A,
     reader: &mut BinaryReader<'a>,

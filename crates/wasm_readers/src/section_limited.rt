@@ -55,7 +55,12 @@ impl<'a, T, A: Allocator + Copy> SectionLimited<'a, T, A> {
     ghost use Rattle.std.specs.Prelude.{false};
     ghost use Rattle.wasm_readers.specs.SectionsSeen.{count_of, bytes_of, section_start, section_end, first_item_at, items_left, items_rest, items_done, next_item_at, items_end};
 
-    /// The section that these bytes are: a count, and what follows it.
+    /// The section that these bytes are: a count, and what follows it (Core Specification 3.0,
+    /// Binary Format, Modules, Sections).
+    ///
+    /// # Errors
+    ///
+    /// Refused where the count is, as by [`BinaryReader::read_var_u32`]. No item is read yet.
     pub fn new(alloc: A, reader: BinaryReader<'a>) -> Result<SectionLimited<'a, T, A>, Refusal>
         ensures ok { IfOk result (λ s. u32_at (rest reader.entry) ≡ Some (count_of s, bytes_of s)) }
         ensures start { IfOk result (λ s. section_start s ≡ original reader.entry) }
@@ -155,8 +160,14 @@ impl<'a, T: FromReader<'a, A>, A: Allocator + Copy> SectionItems<'a, T, A> {
     ghost use Rattle.std.specs.Prelude.{IfSome};
     ghost use Rattle.wasm_readers.specs.SectionsSeen.{items_left, items_rest, items_done, next_item_at, SameSection, ItemsFailedFrom};
 
-    /// The next item with its offset in the whole input, or `None` where the section ends. Bytes
-    /// behind the last item are refused.
+    /// The next item with its byte offset from the start of the input, or `None` where the section
+    /// ends.
+    ///
+    /// # Errors
+    ///
+    /// Refused where the bytes encode no item; behind the last item, where bytes are left, at the
+    /// first of them; and where memory is. A further call goes on where this one stopped; the
+    /// iterator ends there.
     pub fn read_next(&mut self) -> Result<Option<(u64, T)>, Error>
         ensures going { items_done self.new ≡ items_done self.old }
         ensures reads { NextItem T.encoded T.value (items_left self.old) (items_rest self.old) result (items_left self.new) (items_rest self.new) }
@@ -189,11 +200,11 @@ impl<'a, T: FromReader<'a, A>, A: Allocator + Copy> Iterator for SectionItems<'a
     ghost use Rattle.std.specs.Prelude.{IfSome, if◌then◌else◌};
     ghost use Rattle.std.specs.Iterator.{at_most};
     ghost use Rattle.wasm_readers.specs.Sections.{ItemGives, StandsAt};
-    ghost use Rattle.wasm_readers.specs.SectionsSeen.{items_left, items_rest, items_done, next_item_at, SameSection, ItemsFailedFrom};
+    ghost use Rattle.wasm_readers.specs.SectionsSeen.{items_left, items_rest, items_done, next_item_at, SameSection, ItemsFailedFrom, TakesNothing};
 
     ghost can_next = { λ _. Unit {0} };
 
-    ghost next_gives = { λ s r t. ItemGives T.encoded T.value (items_done s) (items_left s) (items_rest s) r (items_done t) (items_left t) (items_rest t) × StandsAt (next_item_at s) r × SameSection s t × IfSome r (λ item. IfErr item (ItemsFailedFrom s)) };
+    ghost next_gives = { λ s r t. ItemGives T.encoded T.value (items_done s) (items_left s) (items_rest s) r (items_done t) (items_left t) (items_rest t) × StandsAt (next_item_at s) r × SameSection s t × IfSome r (λ item. IfErr item (ItemsFailedFrom s)) × TakesNothing s r t };
 
     ghost remaining = { λ s. at_most (if items_done s then 0 else items_left s + 1) };
 

@@ -53,7 +53,12 @@ fn abstract_reference(shared: bool, ty: AbstractHeapType) -> RefType
     }
 }
 
-/// An abstract heap type.
+/// An abstract heap type (Core Specification 3.0, Binary Format, Types, Heap Types).
+///
+/// # Errors
+///
+/// Refused where the next byte stands for none, or there is no byte: at its byte offset from the
+/// start of the input.
 #[tactic(auto, unfolding(wasm_spec::specs::BinaryTypes::abstract_heap_at))]
 pub fn read_abstract_heap_type(reader: &mut BinaryReader<'_>) -> Result<AbstractHeapType, Refusal>
     ensures same { SameInput reader.old reader.new }
@@ -71,7 +76,12 @@ pub fn read_abstract_heap_type(reader: &mut BinaryReader<'_>) -> Result<Abstract
     }
 }
 
-/// A heap type.
+/// A heap type (Core Specification 3.0, Binary Format, Types, Heap Types): abstract, or a type
+/// index, and with the proposals also a shared or an exact one.
+///
+/// # Errors
+///
+/// Refused where the bytes encode none, at a byte offset from the start of the input.
 #[tactic(auto, unfolding(wasm_spec::specs::BinaryTypes::heap_at))]
 pub fn read_heap_type(reader: &mut BinaryReader<'_>) -> Result<HeapType, Refusal>
     ensures same { SameInput reader.old reader.new }
@@ -99,7 +109,11 @@ pub fn read_heap_type(reader: &mut BinaryReader<'_>) -> Result<HeapType, Refusal
     }
 }
 
-/// A reference type.
+/// A reference type (Core Specification 3.0, Binary Format, Types, Reference Types).
+///
+/// # Errors
+///
+/// Refused where the bytes encode none, at a byte offset from the start of the input.
 #[tactic(auto, unfolding(wasm_spec::specs::BinaryTypes::ref_at))]
 pub fn read_ref_type(reader: &mut BinaryReader<'_>) -> Result<RefType, Refusal>
     ensures same { SameInput reader.old reader.new }
@@ -137,7 +151,11 @@ fn read_reference(reader: &mut BinaryReader<'_>, nullable: bool) -> Result<RefTy
     }
 }
 
-/// A value type.
+/// A value type (Core Specification 3.0, Binary Format, Types, Value Types).
+///
+/// # Errors
+///
+/// Refused where the bytes encode none, at a byte offset from the start of the input.
 #[tactic(auto, unfolding(wasm_spec::specs::BinaryTypes::val_at))]
 pub fn read_val_type(reader: &mut BinaryReader<'_>) -> Result<ValType, Refusal>
     ensures same { SameInput reader.old reader.new }
@@ -161,7 +179,11 @@ pub fn read_val_type(reader: &mut BinaryReader<'_>) -> Result<ValType, Refusal>
     }
 }
 
-/// A storage type.
+/// A storage type (Core Specification 3.0, Binary Format, Types, Composite Types).
+///
+/// # Errors
+///
+/// Refused where the bytes encode none, at a byte offset from the start of the input.
 #[tactic(auto, unfolding(wasm_spec::specs::BinaryTypes::storage_at))]
 pub fn read_storage_type(reader: &mut BinaryReader<'_>) -> Result<StorageType, Refusal>
     ensures same { SameInput reader.old reader.new }
@@ -182,7 +204,11 @@ pub fn read_storage_type(reader: &mut BinaryReader<'_>) -> Result<StorageType, R
     }
 }
 
-/// A field type.
+/// A field type (Core Specification 3.0, Binary Format, Types, Composite Types).
+///
+/// # Errors
+///
+/// Refused where the bytes encode none, at a byte offset from the start of the input.
 #[tactic(auto, unfolding(wasm_spec::specs::BinaryTypes::field_at))]
 pub fn read_field_type(reader: &mut BinaryReader<'_>) -> Result<FieldType, Refusal>
     ensures same { SameInput reader.old reader.new }
@@ -201,6 +227,11 @@ pub fn read_field_type(reader: &mut BinaryReader<'_>) -> Result<FieldType, Refus
 }
 
 /// A flag: a byte that is 0 or 1.
+///
+/// # Errors
+///
+/// Refused where the next byte is another, or there is no byte: at its byte offset from the start
+/// of the input.
 #[tactic(auto, unfolding(wasm_spec::specs::BinaryTypes::flag_at))]
 pub fn read_flag(reader: &mut BinaryReader<'_>) -> Result<bool, Refusal>
     ensures same { SameInput reader.old reader.new }

@@ -5,8 +5,9 @@ ghost use Rattle.wasm_readers_types.specs.Indices.{number_of, Fits, IsId, module
 
 use crate::exact::{Exact, Faithful};
 
-/// One more than the largest id, and than the largest place in a recursion group, that a
-/// [`PackedIndex`] holds. It is also how many types one module may define.
+/// How many ids there are, and so how many types a list of types can have: 2²⁰. It is one more
+/// than the largest id, and than the largest place in a recursion group, that a [`PackedIndex`]
+/// holds. One module may have fewer types, 1,000,000.
 pub const MAX_IDS: u32 = 1_048_576;
 
 /// The id of a defined type in a list of types.
