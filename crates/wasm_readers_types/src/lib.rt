@@ -5,8 +5,6 @@ mod exact;
 mod externs;
 mod indices;
 mod items;
-#[cfg(test)]
-mod tests;
 mod types;
 mod values;
 

@@ -9,6 +9,3 @@ mod with_rec_group;
 pub use composites::func_signature_matches;
 pub use matches::Matches;
 pub use with_rec_group::WithRecGroup;
-
-#[cfg(test)]
-mod tests;

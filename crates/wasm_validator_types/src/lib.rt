@@ -18,6 +18,3 @@ pub use snapshot_list::SnapshotList;
 pub use wasm_validator_type_list::{
     RecGroupElements, RecGroupId, TypeAlloc, TypeData, TypeIdentifier, TypeInfo, TypeList,
 };
-
-#[cfg(test)]
-mod tests;
