@@ -75,7 +75,7 @@ module _ (offset : ℕ) where
 
     module _ {R : Type 0} where
       here_heap : (nullable : Bool) (h : Heap R) → Here (told_of_heap features offset nullable h)
-      here_heap nullable (concrete r) = here_ref (not (has_flag FUNCTION_REFERENCES.0 features)) GC IndexReferences
+      here_heap nullable (concrete r) = here_ref (not (has_flag GC.0 features)) FUNCTION_REFERENCES IndexReferences
       here_heap nullable (exact r) = here_ref true CUSTOM_DESCRIPTORS ExactReferences
       here_heap nullable (abstract_heap shared a) =
           here_or (lack_if shared features SHARED_EVERYTHING_THREADS (fault.ValueType SharedReferences) offset)

@@ -208,9 +208,11 @@ fn check_members<A: Allocator + Copy>(
 }
 
 /// Checks the composite type of a type of a list with its shared flag (Core Specification 3.0,
-/// Validation, Types, Composite Types): the proposals that its form and its members need, that a shared
-/// type has shared members, and that a continuation is of a function. `offset` is where the type's
-/// group stands in the input.
+/// Validation, Types, Composite Types): the proposals that its form and its members need, that a
+/// shared type has shared members, and that a continuation is of a function. `offset` is where the
+/// type's group stands in the input.
+///
+/// The list must have the type.
 ///
 /// # Errors
 ///

@@ -253,9 +253,11 @@ fn check_finality<A: Allocator + Copy>(
     }
 }
 
-/// Checks the descriptor clauses of a type of a list: the proposal and the form that they need, that
-/// they follow the clauses of what the type extends, and that a type and its descriptor name one
-/// another. `offset` is where the type's group stands in the input.
+/// Checks the descriptor clauses of a type of a list: the proposal and the form that they need,
+/// that they follow the clauses of what the type extends, and that a type and its descriptor name
+/// one another. `offset` is where the type's group stands in the input.
+///
+/// The list must have the type.
 ///
 /// # Errors
 ///

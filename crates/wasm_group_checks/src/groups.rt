@@ -20,6 +20,8 @@ use wasm_validator_type_list::{RecGroupId, TypeList};
 /// Checks a type of a list by all rules of a type (Core Specification 3.0, Validation, Types, Sub
 /// Types), those of its descriptor clauses last. `offset` is where its group stands in the input.
 ///
+/// The list must have the type.
+///
 /// # Errors
 ///
 /// Refuses a type that breaks one of the rules, with the first of them.
@@ -37,7 +39,10 @@ pub fn check_type<A: Allocator + Copy>(
     check_descriptors(features, types, id, offset)
 }
 
-/// Checks each type of a group of a list, in order. `offset` is where the group stands in the input.
+/// Checks each type of a group of a list, in order. `offset` is where the group stands in the
+/// input.
+///
+/// The list must have the group.
 ///
 /// # Errors
 ///

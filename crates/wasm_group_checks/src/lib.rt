@@ -1,4 +1,6 @@
 //! The rules of the types of a recursion group, asked of types that stand in a list of types.
+//!
+//! Each `offset` counts bytes from the start of the input.
 #![tactic(auto)]
 
 mod composite_types;

@@ -137,9 +137,11 @@ fn check_links<A: Allocator + Copy>(
     Err(Refusal::new(Fault::SubtypesTooDeep(TOO_DEEP), offset))
 }
 
-/// Checks a type of a list, but for its descriptor clauses (Core Specification 3.0, Validation, Types,
-/// Sub Types): what it extends, the depth that it has by that, and its composite type. `offset` is
-/// where its group stands in the input.
+/// Checks a type of a list, but for its descriptor clauses (Core Specification 3.0, Validation,
+/// Types, Sub Types): what it extends, the depth that it has by that, and its composite type.
+/// `offset` is where its group stands in the input.
+///
+/// The list must have the type.
 ///
 /// # Errors
 ///

@@ -44,9 +44,9 @@ module _ (features : WasmFeatures) (offset : ℕ) where
   told_of_abstract nullable noextern_heap = lack_for_ref true GC GcHeapTypes
   told_of_abstract nullable nofunc_heap = lack_for_ref true GC GcHeapTypes
 
-  -- heap types; of the two proposals that allow an index, GC is named
+  -- heap types; of the two proposals that allow an index, FUNCTION_REFERENCES is named
   abbrev pub told_of_heap : {R : Type 0} → Bool → Heap R → Option Refusal
-  told_of_heap nullable (concrete r) = lack_for_ref (not (has_flag FUNCTION_REFERENCES.0 features)) GC IndexReferences
+  told_of_heap nullable (concrete r) = lack_for_ref (not (has_flag GC.0 features)) FUNCTION_REFERENCES IndexReferences
   told_of_heap nullable (exact r) = lack_for_ref true CUSTOM_DESCRIPTORS ExactReferences
   told_of_heap nullable (abstract_heap shared a) =
       option_or (lack_for_ref shared SHARED_EVERYTHING_THREADS SharedReferences)

@@ -1,4 +1,6 @@
 //! Value types and composite types by the proposals that a module may use.
+//!
+//! Each `offset` counts bytes from the start of the input.
 #![tactic(auto)]
 
 mod composite_types;

@@ -89,8 +89,8 @@ fn check_abstract_heap_type(
 ///
 /// # Errors
 ///
-/// Refuses, at `offset`, with the first `ValueTypeRule` that the type breaks, and names the proposal
-/// that would lift the refusal: of the two that allow an index, `GC`.
+/// Refuses, at `offset`, with the first `ValueTypeRule` that the type breaks, and names the
+/// proposal that would lift the refusal: of the two that allow an index, `FUNCTION_REFERENCES`.
 pub fn check_ref_type(features: WasmFeatures, ty: RefType, offset: u64) -> Result<(), Refusal>
     ensures allowed { is_ok result ≡ allows_ref (features_of features) (ref_of ty) }
     ensures refusal { IfErr result (IsMissing features offset) }
@@ -100,11 +100,11 @@ pub fn check_ref_type(features: WasmFeatures, ty: RefType, offset: u64) -> Resul
     require(features, WasmFeatures::REFERENCE_TYPES, fault, offset)?;
     match ty.heap_type() {
         HeapType::Concrete(_) => {
-            if features.contains(WasmFeatures::FUNCTION_REFERENCES) {
+            if features.contains(WasmFeatures::GC) {
                 return Ok(());
             }
             let fault = Fault::ValueType(ValueTypeRule::IndexReferences);
-            require(features, WasmFeatures::GC, fault, offset)
+            require(features, WasmFeatures::FUNCTION_REFERENCES, fault, offset)
         }
         HeapType::Exact(_) => {
             let fault = Fault::ValueType(ValueTypeRule::ExactReferences);
