@@ -71,8 +71,11 @@ fn check_content_type(
     check_val_index(count, ty, offset)
 }
 
-/// Accepts a table type (Core Specification 3.0, Validation, Types, Table Types), where `ids` are those
-/// of the module's types in the list `types`. It is that of an import, or of a table that is defined.
+/// Accepts a table type (Core Specification 3.0, Validation, Types, Table Types), where `ids` are
+/// those of the module's types in the list `types`. It is that of an import, or of a table that is
+/// defined.
+///
+/// The list must have a type under each of the ids.
 ///
 /// # Errors
 ///
@@ -114,9 +117,11 @@ pub fn check_table_type<A: Allocator + Copy>(
     hold(holds, Fault::Item(ItemRule::SharedElements), offset)
 }
 
-/// Accepts the type of a table that is defined (Core Specification 3.0, Validation, Modules, Tables),
-/// with an initializer for its entries or without one, where `ids` are those of the module's types in
-/// the list `types`. What the initializer is typed as isn't asked here.
+/// Accepts the type of a table that is defined (Core Specification 3.0, Validation, Modules,
+/// Tables), with an initializer for its entries or without one, where `ids` are those of the
+/// module's types in the list `types`. What the initializer is typed as isn't asked here.
+///
+/// The list must have a type under each of the ids.
 ///
 /// # Errors
 ///
@@ -200,14 +205,14 @@ fn check_pages(ty: MemoryType, log: u32, offset: u64) -> Result<(), Refusal>
     check_sizes(pages, ty.initial, ty.maximum, fault, offset)
 }
 
-/// Accepts a memory type (Core Specification 3.0, Validation, Types, Memory Types): that of an import,
-/// or of a memory that is defined.
+/// Accepts a memory type (Core Specification 3.0, Validation, Types, Memory Types): that of an
+/// import, or of a memory that is defined.
 ///
 /// # Errors
 ///
-/// Refuses, at `offset`, a minimum above the maximum, 64-bit and shared memories and written page sizes
-/// without their proposals, a page of other than 1 or 65,536 bytes, more pages than 32 or 64 bits
-/// address, and a shared memory without a maximum.
+/// Refuses, at `offset`, a minimum above the maximum, 64-bit and shared memories and written page
+/// sizes without their proposals, a page of other than 1 or 65,536 bytes, more pages than 32 or 64
+/// bits address, and a shared memory without a maximum.
 pub fn check_memory_type(features: WasmFeatures, ty: MemoryType, offset: u64) -> Result<(), Refusal>
     ensures allowed { is_ok result ≡ is_valid_memory (features_of features) (memory_of ty) }
     ensures refusal { IfErr result (IsRefusalAt features offset) }
@@ -224,8 +229,10 @@ pub fn check_memory_type(features: WasmFeatures, ty: MemoryType, offset: u64) ->
     hold(holds, Fault::Item(ItemRule::SharedMemoryMaximum), offset)
 }
 
-/// Accepts a tag type (Core Specification 3.0, Validation, Types, Tag Types), where `ids` are those of
-/// the module's types in the list `types`.
+/// Accepts a tag type (Core Specification 3.0, Validation, Types, Tag Types), where `ids` are those
+/// of the module's types in the list `types`.
+///
+/// The list must have a type under each of the ids.
 ///
 /// # Errors
 ///
@@ -260,10 +267,12 @@ pub fn check_tag_type<A: Allocator + Copy>(
 /// Accepts a global type (Core Specification 3.0, Validation, Types, Global Types), where `ids` are
 /// those of the module's types in the list `types`.
 ///
+/// The list must have a type under each of the ids.
+///
 /// # Errors
 ///
-/// Refuses, at `offset`, a value type that the features don't allow or that refers to no type of the
-/// module, and a shared global without its proposal, or of what isn't shared.
+/// Refuses, at `offset`, a value type that the features don't allow or that refers to no type of
+/// the module, and a shared global without its proposal, or of what isn't shared.
 pub fn check_global_type<A: Allocator + Copy>(
     features: WasmFeatures,
     types: &TypeList<A>,
@@ -289,7 +298,11 @@ pub fn check_global_type<A: Allocator + Copy>(
     hold(holds, Fault::Item(ItemRule::SharedContents), offset)
 }
 
-/// Accepts a global that a module may import or export: one that is mutable needs `MUTABLE_GLOBAL`.
+/// Accepts a global that a module may import or export.
+///
+/// # Errors
+///
+/// Refuses, at `offset`, a mutable global without `MUTABLE_GLOBAL`, which it names.
 pub fn check_movable_global(
     features: WasmFeatures,
     ty: GlobalType,
@@ -309,9 +322,11 @@ pub fn check_movable_global(
     )
 }
 
-/// Accepts what an import asks for (Core Specification 3.0, Validation, Types, External Types), where
-/// `ids` are those of the module's types in the list `types`. Whether a mutable global may be imported
-/// is for [`check_movable_global`] to say.
+/// Accepts what an import asks for (Core Specification 3.0, Validation, Types, External Types),
+/// where `ids` are those of the module's types in the list `types`. Whether a mutable global may be
+/// imported is for [`check_movable_global`] to say.
+///
+/// The list must have a type under each of the ids.
 ///
 /// # Errors
 ///

@@ -1,4 +1,6 @@
 //! The rules of tables, memories, tags, globals and imports, over the types of a module.
+//!
+//! Each `offset` counts bytes from the start of the input.
 #![tactic(auto)]
 
 mod items;

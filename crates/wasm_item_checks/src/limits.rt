@@ -8,8 +8,8 @@ ghost use Rattle.wasm_item_checks.specs.Told.{told_of_limits, told_of_sizes};
 
 use wasm_readers_errors::{Fault, ItemRule, Refusal, hold};
 
-/// Accepts a smallest size that is at most the largest one (Core Specification 3.0, Validation, Types,
-/// Limits).
+/// Accepts a smallest size that is at most the largest one (Core Specification 3.0, Validation,
+/// Types, Limits).
 pub(crate) fn check_limits(initial: u64, maximum: Option<u64>, offset: u64) -> Result<(), Refusal>
     ensures allowed { is_ok result ≡ are_ordered initial maximum }
     ensures refusal { IfErr result (IsPlainRefusalAt offset) }

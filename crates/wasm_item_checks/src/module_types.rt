@@ -132,6 +132,8 @@ pub(crate) fn is_val_shared<A: Allocator + Copy>(
 /// The function type that the type index names (Core Specification 3.0, Validation, Modules,
 /// Functions). `ids` are those of the module's types in the list `types`.
 ///
+/// The list must have a type under each of the ids.
+///
 /// # Errors
 ///
 /// Refuses, at `offset`, an index that is out of range, and one of another type.

@@ -16,7 +16,12 @@ pub struct CustomSectionReader<'a> {
 }
 
 impl<'a> CustomSectionReader<'a> {
-    /// The section of these contents: a name, and what follows it.
+    /// The section of these contents: a name, and what follows it (Core Specification 3.0, Binary
+    /// Format, Modules, Custom Section).
+    ///
+    /// # Errors
+    ///
+    /// Refused where the bytes begin with no name, as by [`BinaryReader::read_string`].
     pub fn new(reader: BinaryReader<'a>) -> Result<CustomSectionReader<'a>, Refusal>
         ensures ok { IfOk result (λ s. name_at (rest reader.entry) ≡ Some (name_of s, data_of s)) }
         ensures part { IfOk result (λ s. SameInput reader.entry (data_reader s)) }
@@ -49,7 +54,8 @@ impl<'a> CustomSectionReader<'a> {
         self.reader.original_position()
     }
 
-    /// The offsets, from the start of the input, of the contents' first byte and of the byte behind them.
+    /// The offsets, from the start of the input, of the contents' first byte and of the byte behind
+    /// them.
     pub fn range(&self) -> Range<u64>
         ensures start { result.start ≡ original (data_reader self.now) }
         ensures end { result.end ≡ original (data_reader self.now) + length (input (data_reader self.now)) }

@@ -5,7 +5,8 @@ ghost use Rattle.wasm_parser.specs.Seen.{body_of, body_reader};
 use std::ops::Range;
 use wasm_readers::BinaryReader;
 
-/// The body of one function: its locals and its instructions (Core Specification 3.0, Binary Format, Code Section).
+/// The body of one function: its locals and its instructions (Core Specification 3.0, Binary
+/// Format, Code Section).
 #[derive(Clone, Copy, Debug)]
 pub struct FunctionBody<'a> {
     reader: BinaryReader<'a>,
@@ -20,7 +21,8 @@ impl<'a> FunctionBody<'a> {
         FunctionBody { reader }
     }
 
-    /// The offsets, from the start of the input, of the body's first byte and of the byte behind it.
+    /// The offsets, from the start of the input, of the body's first byte and of the byte behind
+    /// it.
     pub fn range(&self) -> Range<u64>
         ensures start { result.start ≡ original (body_reader self.now) + position_in (body_reader self.now) }
         ensures end { result.end ≡ original (body_reader self.now) + length (input (body_reader self.now)) }

@@ -1,4 +1,6 @@
 //! Parsing of WebAssembly modules into their sections.
+//!
+//! Each `offset` counts bytes from the start of the input.
 #![tactic(auto)]
 
 ghost use Rattle.wasm_parser.specs.Laws.{RunsAreFramings, FramingsAreRuns, OneFraming, GivenIsFront, RefusedIsNotFramed, GivenGrows, GivenEnds, PiecesEnd};
@@ -13,9 +15,9 @@ pub use function_body::FunctionBody;
 pub use parser::{ParseAll, Parser};
 pub use payload::{Encoding, Payload};
 
-/// The laws of parsing: a complete run of the machine that the contracts of `ParseAll` speak of is a framing of
-/// the bytes, as the definition says it, and the other way round; there is one framing at most; and what has
-/// been given at any point is the front of it.
+/// The laws of parsing: a complete run of the machine that the contracts of `ParseAll` speak of is
+/// a framing of the bytes, as the definition says it, and the other way round; there is one framing
+/// at most; and what has been given at any point is the front of it.
 pub fn laws()
     ensures framed { RunsAreFramings }
     ensures run { FramingsAreRuns }

@@ -45,8 +45,10 @@ pub struct ParseAll<'a, A: Allocator = Global> {
     segments: u32,
 }
 
+/// The bytes with which each module begins (Core Specification 3.0, Binary Format, Modules).
 const MAGIC: [u8; 4] = [0x00, 0x61, 0x73, 0x6d];
 
+/// The place of each section among the others, by the section's id; custom sections have none.
 const PLACES: [u8; 14] = [0, 1, 2, 3, 4, 5, 7, 8, 9, 10, 12, 13, 11, 6];
 
 fn refusal(malformed: Malformed, offset: u64) -> Refusal
@@ -395,8 +397,13 @@ impl<'a, A: Allocator + Copy> ParseAll<'a, A> {
         }
     }
 
-    /// The next payload, the last of which is the end, and `None` from then on. Once bytes are refused
-    /// it refuses them at each further call.
+    /// The next payload, the last of which is the end, and `None` from then on (Core Specification
+    /// 3.0, Binary Format, Modules).
+    ///
+    /// # Errors
+    ///
+    /// Refused where the bytes don't go on as a module does, at a byte offset from the start of the
+    /// input; and then, with the same refusal, at each further call.
     pub fn next_payload(&mut self) -> Result<Option<Payload<'a, A>>, Refusal>
         ensures whole { input_end self.new ≡ input_end self.old }
         ensures ok { IfOk result (λ p. next_of (state self.old) ≡ Some (option_map (λ q. (seen q, state self.new)) p)) }

@@ -13,8 +13,8 @@ pub enum Encoding {
     Component,
 }
 
-/// One part of a module, in the order of its bytes. Each `range` holds the offsets, from the start of the
-/// input, of the part's first byte and of the byte behind it.
+/// One part of a module, in the order of its bytes. Each `range` holds the offsets, from the start
+/// of the input, of the part's first byte and of the byte behind it.
 #[derive(Drop)]
 pub enum Payload<'a, A: Allocator = GlobalAllocator> {
     /// The header: any version number is given, and either encoding.
@@ -44,8 +44,8 @@ pub enum Payload<'a, A: Allocator = GlobalAllocator> {
         range: Range<u64>,
     },
     DataSection(SectionLimited<'a, Data<'a>, A>),
-    /// The front of the code section: how many bodies follow, each as a payload of its own, and the size
-    /// in bytes of what is behind that count. The range begins with the count.
+    /// The front of the code section: how many bodies follow, each as a payload of its own, and the
+    /// size in bytes of what is behind that count. The range begins with the count.
     CodeSectionStart {
         count: u32,
         range: Range<u64>,

@@ -14,8 +14,8 @@ use std::alloc::{AllocError, Allocator};
 use wasm_readers_types::CoreTypeId;
 use wasm_validator_type_list::{RecGroupElements, TypeList};
 
-/// The number of proper ancestors of the type, where it extends nothing or the list keeps that of what
-/// it extends.
+/// The number of proper ancestors of the type, where it extends nothing or the list keeps that of
+/// what it extends.
 fn known_depth<A: Allocator + Copy>(types: &TypeList<A>, id: CoreTypeId) -> Option<u8>
     requires { id.index < length (types_in types.now) }
     ensures right { IfSome result (IsDepth (declares types.now.groups) id.index) }
@@ -59,8 +59,8 @@ fn keep_depth<A: Allocator + Copy>(
 }
 
 /// Keeps the depths of the types with these ids, where none is kept: the numbers of their proper
-/// ancestors, so that those of a type that extends one of them needn't be counted (Core Specification
-/// 3.0, Validation, Matching, Defined Types). The types of the list stay as they are.
+/// ancestors, so that those of a type that extends one of them needn't be counted (Core
+/// Specification 3.0, Validation, Matching, Defined Types). The types of the list stay as they are.
 ///
 /// # Errors
 ///

@@ -78,19 +78,23 @@ fn canonical_types<A: Allocator + Copy>(
     canonicalizer.sub_types(alloc, group.into_types())
 }
 
-/// Adds the types of a recursion group that a module writes behind its types, which have these ids, to
-/// the list: each type index is resolved among the module's types and those of the group, and where
-/// equal types are one a group that the list has keeps its ids; where they aren't, the group's types have
-/// the next ids. The rules of each type are checked where the group is new. Answers the ids of the group's types. `offset` is where the group stands in the
-/// input.
+/// Adds the types of a recursion group that a module writes behind its types, which have these ids,
+/// to the list: each type index is resolved among the module's types and those of the group, and
+/// where equal types are one a group that the list has keeps its ids; where they aren't, the
+/// group's types have the next ids. The rules of each type are checked where the group is new.
+/// Answers the ids of the group's types. `offset` is where the group stands in the input.
 ///
 /// Core Specification 3.0, Validation, Types (Recursive Types).
+///
+/// The list must be one to which groups may be added, with equal types as one where the features
+/// ask for it, and its types must be valid by the features. It must have the types with these ids,
+/// fewer than 2³¹; and a group that is written without `rec` must have one type.
 ///
 /// # Errors
 ///
 /// Refused, at the offset, where the list would have more types than there are ids, which is asked
-/// first, where an index is out of bounds, and where a rule doesn't hold; and where memory is. The list
-/// is then only to be dropped.
+/// first, where an index is out of bounds, and where a rule doesn't hold; and where memory is. The
+/// list is then only to be dropped.
 pub fn canonicalize_and_intern_rec_group<A: Allocator + Copy>(
     features: WasmFeatures,
     alloc: A,

@@ -1,5 +1,7 @@
-//! Recursion groups of a module in the list of types of its validator: their type indices as ids, their
-//! rules, and the ids of their types.
+//! Recursion groups of a module in the list of types of its validator: their type indices as ids,
+//! their rules, and the ids of their types.
+//!
+//! Each `offset` counts bytes from the start of the input.
 #![tactic(auto)]
 
 ghost use Rattle.wasm_validator_canonical.specs.Sections.{AddedSectionsAreValid, ValidSectionsAreAdded, OneIdForOneType};
@@ -15,21 +17,22 @@ pub use modules::{InternRecGroup, intern_rec_group_of};
 pub use type_canonicalizer::TypeCanonicalizer;
 
 /// The groups of a module's type section, added one after another, are accepted exactly where the
-/// section is valid (Core Specification 3.0, Validation, Modules, Types)
-/// and there are ids for its types; and then each type stands in the list under the id at its index.
-/// Where equal types aren't one, these are the next ids, and the list has so many types more.
+/// section is valid (Core Specification 3.0, Validation, Modules, Types) and there are ids for its
+/// types; and then each type stands in the list under the id at its index. Where equal types aren't
+/// one, these are the next ids, and the list has so many types more.
 pub fn type_sections_are_added_where_valid()
     ensures accepted { AddedSectionsAreValid }
     ensures valid { ValidSectionsAreAdded }
 {}
 
-/// Where equal types are one, types of any two modules whose types went to one list have the same id
-/// exactly where they are equal: the same place of equal recursive types.
+/// Where equal types are one, types of any two modules whose types went to one list have the same
+/// id exactly where they are equal: the same place of equal recursive types.
 pub fn equal_types_have_one_id()
     ensures { OneIdForOneType }
 {}
 
-/// The type of a list has as many parameters and results as the type of a module that its id stands for.
+/// The type of a list has as many parameters and results as the type of a module that its id stands
+/// for.
 pub fn ids_keep_arities()
     ensures { IdsKeepArities }
 {}

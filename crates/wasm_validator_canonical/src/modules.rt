@@ -34,13 +34,23 @@ pub trait InternRecGroup<A: Allocator + Copy>: Sized {
     fn type_ids(&self) -> &[CoreTypeId]
         ensures { numbers result.now ≡ ids self.now };
 
-    /// Gives the type with this id the next index. Nothing else changes.
+    /// Gives the type with this id the next index. Nothing else changes. The number of types must
+    /// fit 32 bits then.
+    ///
+    /// # Errors
+    ///
+    /// Fails where memory is refused. What it changed until then is not said.
     fn add_type_id(&mut self, id: CoreTypeId) -> Result<(), AllocError>
         requires room { length (ids self.old) + 1 < 2 ^ 32 }
         ensures ids { OnOk result (ids self.new ≡ ids self.old ++ id.index ∷ []) }
         ensures others { others self.new ≡ others self.old };
 
-    /// Gives the types with these ids the next indices. Nothing else changes.
+    /// Gives the types with these ids the next indices. Nothing else changes. The number of types
+    /// must fit 32 bits then.
+    ///
+    /// # Errors
+    ///
+    /// Fails where memory is refused. What it changed until then is not said.
     fn add_type_ids(&mut self, elements: RecGroupElements) -> Result<(), AllocError>
         requires { length (ids self.old) + length (ids_left elements) < 2 ^ 32 }
         ensures ids { OnOk result (ids self.new ≡ ids self.old ++ ids_left elements) }
@@ -93,10 +103,13 @@ fn id_at(ids: &[CoreTypeId], index: u32, offset: u64) -> Result<CoreTypeId, Refu
 /// Adds the types of a recursion group behind those of the module, and to the list of types. The
 /// features are those that the module may use, and `offset` is where the group stands in the input.
 ///
+/// The list and the group must be as for [`canonicalize_and_intern_rec_group`], and the types of
+/// the module and of the group fewer than 2³¹ together.
+///
 /// # Errors
 ///
-/// Refused where the group can't be added, as by [`canonicalize_and_intern_rec_group`], and where memory
-/// is. The module and the list are then only to be dropped.
+/// Refused where the group can't be added, as by [`canonicalize_and_intern_rec_group`], and where
+/// memory is. The module and the list are then only to be dropped.
 pub fn intern_rec_group_of<A: Allocator + Copy, M: InternRecGroup<A>>(
     target: &mut M,
     features: WasmFeatures,

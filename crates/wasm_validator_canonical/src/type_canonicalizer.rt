@@ -34,8 +34,11 @@ impl<'a> TypeCanonicalizer<'a> {
     ghost use Rattle.wasm_validator_canonical.specs.Refusals.{unknown_by};
     ghost use Rattle.wasm_validator_canonical.specs.Indices.{IsSmall, canonical_by, is_known_by, knows_val, knows_field};
 
-    /// Of a group of `count` types behind those of the module, which have these ids. With `has_gc` types
-    /// of the group may refer to one another. `offset` is where the group stands in the input.
+    /// Of a group of `count` types behind those of the module, which have these ids. With `has_gc`
+    /// types of the group may refer to one another. `offset` is where the group stands in the
+    /// input.
+    ///
+    /// The types of the module and of the group must be fewer than 2³² together.
     pub fn new(
         ids: &'a [CoreTypeId],
         count: u32,
@@ -75,8 +78,9 @@ impl<'a> TypeCanonicalizer<'a> {
     ///
     /// # Errors
     ///
-    /// Refused, at the offset of the group, where it is no index of a module, where it is behind the
-    /// group, and where it is of a type of the group but types of a group may not refer to one another.
+    /// Refused, at the offset of the group, where it is no index of a module, where it is behind
+    /// the group, and where it is of a type of the group but types of a group may not refer to one
+    /// another.
     pub fn index(&self, index: UnpackedIndex) -> Result<UnpackedIndex, Refusal>
         requires { IsSmall self.now }
         ensures value { IfOk result (λ i. i ≡ canonical_by self.now index) }
@@ -159,7 +163,8 @@ impl<'a> TypeCanonicalizer<'a> {
         }
     }
 
-    /// Value types, each with its index as the list has it. It takes memory only where there is an index.
+    /// Value types, each with its index as the list has it. It takes memory only where there is an
+    /// index.
     #[tactic(auto, using(crate::proofs::Canonical::values_laws))]
     fn values<A: Allocator + Copy>(
         &self,

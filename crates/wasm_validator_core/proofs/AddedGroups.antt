@@ -1,5 +1,5 @@
 -- One recursion group in the list of types, and its ids behind those of the module.
-use Rattle.std.proofs.Common.{◌≡◌, sym, ap, subst, ◌∙◌, ◌+◌, true, false, cond, leb, [], length, Some, None, arith}
+use Rattle.std.proofs.Common.{ℕ, ◌≡◌, sym, ap, subst, ◌∙◌, ◌+◌, true, false, cond, leb, [], length, Some, None, arith}
 use Rattle.std.specs.Option.{option_map}
 use Rattle.std.specs.declared.result.Result.{Result}
 use Rattle.std.specs.declared.result.Result.TheVariants as results
@@ -14,13 +14,14 @@ use Rattle.wasm_readers_errors.specs.declared.error.Error as below
 use Rattle.wasm_readers_errors.specs.declared.error.Error.TheVariants as read
 use Rattle.wasm_validator_type_list.specs.Listing.{Listing}
 use Rattle.wasm_validator_canonical.specs.Answers.{AddsNothing}
+use Rattle.wasm_validator_canonical.specs.Answers as canonical
 use Rattle.wasm_validator_canonical.specs.Groups.{AreValid, with_written}
 use Rattle.wasm_validator_canonical.proofs.Steps.{written_length, written_known}
 use Rattle.wasm_validator_types.specs.Shown.{types_of}
 use Rattle.wasm_validator_types.specs.Spaces.{Spaces}
 use Rattle.wasm_validator_core.specs.declared.limits.TheConstants.{MAX_TYPES}
 use Rattle.wasm_validator_core.specs.declared.error.Error.{Error}
-use Rattle.wasm_validator_core.specs.Errors.{lifted}
+use Rattle.wasm_validator_core.specs.Errors.{IsAt, lifted}
 use Rattle.wasm_validator_core.specs.Answers.{Types, IsNowhere, AddsWhere, HasValidTypes}
 use Rattle.wasm_validator_core.specs.Machine.{with_ids, add_group}
 use Rattle.wasm_validator_core.specs.Ready.{AreIdsOf}
@@ -28,6 +29,11 @@ use Rattle.wasm_validator_core.specs.Ready.{AreIdsOf}
 -- a refusal, as the answer of a call that gives nothing
 abbrev pub refusal : {A : Type 0} → Error A → Result (Unit {0}) (Error A)
 refusal e = results.Err e
+
+-- a refusal that is handed on stands where it stood
+pub lifted_at : (A : Type 0) (place : ℕ) (e : below.Error) → canonical.IsAt place e → IsAt place (lifted {A = A} e)
+lifted_at A place (read.Refused r) h = h
+lifted_at A place read.OutOfMemory h = tt
 
 module _ (features : WasmFeatures) (us : Types) (s : Spaces) (g : Rec UnpackedIndex) where
   -- too many types

@@ -1,5 +1,6 @@
-//! What a module imports and exports: external types with the ids of types in place of type indices, and
-//! how much they count in the effective size (Core Specification 3.0, Validation, Types, External Types).
+//! What a module imports and exports: external types with the ids of types in place of type
+//! indices, and how much they count in the effective size (Core Specification 3.0, Validation,
+//! Types, External Types).
 
 ghost use Rattle.std.specs.Prelude.{◌≡◌, ◌+◌, length, IsTrue, is_ok, IfOk, IfErr};
 ghost use Rattle.wasm_item_checks.specs.Answers.{IsRefusalAt};
@@ -100,8 +101,8 @@ fn listed_global(ids: &[CoreTypeId], ty: GlobalType) -> GlobalType
     GlobalType { content_type, ..ty }
 }
 
-/// Accepts what an import asks for, and gives it with its type index as the list has it. The indices of
-/// the types of functions and tags stay.
+/// Accepts what an import asks for, and gives it with its type index as the list has it. The
+/// indices of the types of functions and tags stay.
 pub(crate) fn listed_type_ref<A: Allocator + Copy>(
     features: WasmFeatures,
     list: &TypeList<A>,
@@ -143,8 +144,8 @@ pub(crate) fn entity_type<A: Allocator + Copy>(spaces: &IndexSpaces<A>, ty: Type
     }
 }
 
-/// The effective size with so many parameters and results more, and two: none where it would reach the
-/// limit.
+/// The effective size with so many parameters and results more, and two: none where it would reach
+/// the limit.
 fn size_with_function(size: u32, arity: (usize, usize)) -> Option<u32>
     ensures { result ≡ grown size (2 + (arity.0 + arity.1)) }
 {

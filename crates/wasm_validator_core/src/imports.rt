@@ -20,8 +20,8 @@ use wasm_item_checks::check_movable_global;
 use wasm_readers::{Fault, Import, Rule, TypeRef, WasmFeatures};
 use wasm_validator_types::{EntityType, IndexSpaces, TypeList};
 
-/// One more item at the end of its index space, which is imported. Its type index is as the list of types
-/// has it.
+/// One more item at the end of its index space, which is imported. Its type index is as the list of
+/// types has it.
 fn place_imported<A: Allocator + Copy>(
     features: WasmFeatures,
     spaces: &mut IndexSpaces<A>,

@@ -1,4 +1,6 @@
 //! What each item adds to a module, with the limits; and the errors of validation.
+//!
+//! Each `offset` counts bytes from the start of the input.
 #![tactic(auto)]
 
 mod entities;

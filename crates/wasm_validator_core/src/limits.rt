@@ -11,17 +11,22 @@ ghost use Rattle.wasm_readers_errors.specs.Refusals.{refused};
 use bitflags::Flags;
 use wasm_readers::{Counted, Fault, ItemRule, Refusal, WasmFeatures};
 
-/// The most types, groups of types, import entries, functions, globals, tags and exports of a module.
+/// The most types of a module, and the most recursion groups.
 pub const MAX_TYPES: u32 = 1_000_000;
 
+/// The most import entries of a module.
 pub const MAX_IMPORTS: u32 = 1_000_000;
 
+/// The most functions of a module, imported ones among them.
 pub const MAX_FUNCTIONS: u32 = 1_000_000;
 
+/// The most globals of a module, imported ones among them.
 pub const MAX_GLOBALS: u32 = 1_000_000;
 
+/// The most tags of a module, imported ones among them.
 pub const MAX_TAGS: u32 = 1_000_000;
 
+/// The most exports of a module.
 pub const MAX_EXPORTS: u32 = 1_000_000;
 
 /// The most data segments of a module.
@@ -52,7 +57,11 @@ pub fn max_memories(features: WasmFeatures) -> u32
     }
 }
 
-/// Whether so many more, besides those that are there, keep to the limit.
+/// Accepts so many more items, besides those that are there, where they keep to the limit.
+///
+/// # Errors
+///
+/// Refuses, at `offset`, more in all than `limit`, and names the limit and what it counts.
 pub fn check_max(
     there: usize,
     more: usize,
@@ -71,12 +80,13 @@ pub fn check_max(
     }
 }
 
-/// Accepts the number of data segments that a data count section says (Core Specification 3.0, Binary
-/// Format, Modules, Data Count Section).
+/// Accepts the number of data segments that a data count section says (Core Specification 3.0,
+/// Binary Format, Modules, Data Count Section).
 ///
 /// # Errors
 ///
-/// Refuses, at `offset`, every number without `BULK_MEMORY`, and more segments than a module may have.
+/// Refuses, at `offset`, every number without `BULK_MEMORY`, and more segments than a module may
+/// have.
 pub fn check_data_count(features: WasmFeatures, count: u32, offset: u64) -> Result<(), Refusal>
     ensures allowed { is_ok result ≡ is_data_count (features_of features) count }
     ensures refusal { IfErr result (IsRefusalAt features offset) }

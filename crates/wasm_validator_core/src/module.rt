@@ -80,14 +80,19 @@ impl<A: Allocator + Copy> Module<A> {
     }
 
     /// Adds the types of a recursion group behind those of the module, and to the list of types.
-    /// `offset` is where the group stands in the input (Core Specification 3.0, Validation, Modules,
-    /// Types).
+    /// `offset` is where the group stands in the input (Core Specification 3.0, Validation,
+    /// Modules, Types).
+    ///
+    /// The list must be one to which groups may be added, with equal types as one where the
+    /// features ask for it, and its types must be valid by the features. It must have the types of
+    /// the module, at most [`MAX_TYPES`] of them; and a group that is written without `rec` must
+    /// have one type.
     ///
     /// # Errors
     ///
     /// Refused where the module would have too many types, where the group can't be added to the
-    /// list or one of its types isn't valid, and where memory is refused. The module and the list are
-    /// then only to be dropped.
+    /// list or one of its types isn't valid, and where memory is refused. The module and the list
+    /// are then only to be dropped.
     pub fn add_types(
         &mut self,
         features: WasmFeatures,
@@ -104,6 +109,7 @@ impl<A: Allocator + Copy> Module<A> {
         ensures valid { OnOk result (AreValid (features_of features) (types_of list.new)) }
         ensures open { IsOpenFor features list.new }
         ensures ids { OnOk result (AreIdsOf list.new self.new.types) }
+        ensures place { IfErr result (IsAt offset) }
     {
         let more = group.types().len();
         let count = self.spaces.type_count() as usize;
@@ -117,8 +123,10 @@ impl<A: Allocator + Copy> Module<A> {
         }
     }
 
-    /// Adds an import. `offset` is where it stands in the input (Core Specification 3.0, Validation,
-    /// Modules, Imports).
+    /// Adds an import. `offset` is where it stands in the input (Core Specification 3.0,
+    /// Validation, Modules, Imports).
+    ///
+    /// The list must have the types of the module.
     ///
     /// # Errors
     ///
@@ -143,10 +151,12 @@ impl<A: Allocator + Copy> Module<A> {
     /// Adds a function of the type with this index. `offset` is where it stands in the input (Core
     /// Specification 3.0, Validation, Modules, Functions).
     ///
+    /// The list must have the types of the module.
+    ///
     /// # Errors
     ///
-    /// Refused where the index is not that of a function type of the module, where there would be too
-    /// many functions, and where memory is refused. The module is then only to be dropped.
+    /// Refused where the index is not that of a function type of the module, where there would be
+    /// too many functions, and where memory is refused. The module is then only to be dropped.
     pub fn add_function(
         &mut self,
         list: &TypeList<A>,
@@ -162,13 +172,15 @@ impl<A: Allocator + Copy> Module<A> {
         add_defined_function(list, &mut self.spaces, type_index, offset)
     }
 
-    /// Adds a table of this type that has no initializer. `offset` is where it stands in the input (Core
-    /// Specification 3.0, Validation, Modules, Tables).
+    /// Adds a table of this type that has no initializer. `offset` is where it stands in the input
+    /// (Core Specification 3.0, Validation, Modules, Tables).
+    ///
+    /// The list must have the types of the module.
     ///
     /// # Errors
     ///
-    /// Refused where the type keeps no rule, where there would be too many tables, and where memory is
-    /// refused. The module is then only to be dropped.
+    /// Refused where the type keeps no rule, where there would be too many tables, and where memory
+    /// is refused. The module is then only to be dropped.
     pub fn add_table(
         &mut self,
         features: WasmFeatures,
@@ -185,13 +197,13 @@ impl<A: Allocator + Copy> Module<A> {
         add_defined_table(features, list, &mut self.spaces, ty, offset)
     }
 
-    /// Adds a memory of this type. `offset` is where it stands in the input (Core Specification 3.0,
-    /// Validation, Modules, Memories).
+    /// Adds a memory of this type. `offset` is where it stands in the input (Core Specification
+    /// 3.0, Validation, Modules, Memories).
     ///
     /// # Errors
     ///
-    /// Refused where the type keeps no rule, where there would be too many memories, and where memory is
-    /// refused. The module is then only to be dropped.
+    /// Refused where the type keeps no rule, where there would be too many memories, and where
+    /// memory is refused. The module is then only to be dropped.
     pub fn add_memory(
         &mut self,
         features: WasmFeatures,
@@ -209,10 +221,12 @@ impl<A: Allocator + Copy> Module<A> {
     /// Adds a tag of this type. `offset` is where it stands in the input (Core Specification 3.0,
     /// Validation, Modules, Tags).
     ///
+    /// The list must have the types of the module.
+    ///
     /// # Errors
     ///
-    /// Refused where the type keeps no rule, where there would be too many tags, and where memory is
-    /// refused. The module is then only to be dropped.
+    /// Refused where the type keeps no rule, where there would be too many tags, and where memory
+    /// is refused. The module is then only to be dropped.
     pub fn add_tag(
         &mut self,
         features: WasmFeatures,
@@ -229,8 +243,8 @@ impl<A: Allocator + Copy> Module<A> {
         add_defined_tag(features, list, &mut self.spaces, ty, offset)
     }
 
-    /// Adds an export. `offset` is where it stands in the input (Core Specification 3.0, Validation,
-    /// Modules, Exports).
+    /// Adds an export. `offset` is where it stands in the input (Core Specification 3.0,
+    /// Validation, Modules, Exports).
     ///
     /// # Errors
     ///
@@ -253,6 +267,8 @@ impl<A: Allocator + Copy> Module<A> {
     }
 
     /// The type of the function with this index.
+    ///
+    /// The list must have the types of the module.
     ///
     /// # Errors
     ///
@@ -277,9 +293,12 @@ impl<A: Allocator + Copy> Module<A> {
     /// Accepts the start function with this index: it is there, and takes and gives nothing (Core
     /// Specification 3.0, Validation, Modules, Start Function).
     ///
+    /// The list must have the types of the module.
+    ///
     /// # Errors
     ///
-    /// Refused, at `offset`, where there is no such function, and where it has parameters or results.
+    /// Refused, at `offset`, where there is no such function, and where it has parameters or
+    /// results.
     pub fn check_start(&self, list: &TypeList<A>, func_idx: u32, offset: u64) -> Result<(), Refusal>
         requires { AreHeld list.now self.now.types }
         ensures allowed { is_ok result ≡ is_startable (types_of list.now) self.now func_idx }
@@ -289,8 +308,10 @@ impl<A: Allocator + Copy> Module<A> {
         check_start_function(list, &self.spaces, func_idx, offset)
     }
 
-    /// What an import of this type is (Core Specification 3.0, Validation, Types, External Types). Whether
-    /// a mutable global may be imported isn't asked here.
+    /// What an import of this type is (Core Specification 3.0, Validation, Types, External Types).
+    /// Whether a mutable global may be imported isn't asked here.
+    ///
+    /// The list must have the types of the module.
     ///
     /// # Errors
     ///

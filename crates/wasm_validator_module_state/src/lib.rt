@@ -1,5 +1,5 @@
-//! A module while its sections are read, and a value that is written while it is owned and only read
-//! once it is shared.
+//! A module while its sections are read, and a value that is written while it is owned and only
+//! read once it is shared.
 #![tactic(auto)]
 
 mod maybe_owned;

@@ -62,7 +62,7 @@ impl<T, A: Allocator> MaybeOwned<T, A> {
         self.inner.as_mut()
     }
 
-    /// The value to write to, where it is known to be owned.
+    /// The value to write to, where it is known to be owned ([`MaybeOwned::as_mut`] asks).
     pub fn assert_mut(&mut self) -> &mut T
         requires { is_owned self.old ≡ true }
         ensures* writes_back { sem 𝓛 (lends_value T.row A.row A.Allocator self.entry result) }
@@ -71,10 +71,12 @@ impl<T, A: Allocator> MaybeOwned<T, A> {
         self.inner.assert_mut()
     }
 
-    /// Shares the value where it is, and lends its owner, of which the caller may take more.
+    /// Shares the value where it is, and lends its owner, of which the caller may take more. A
+    /// value that was shared stays as it was, and that takes no memory.
     ///
-    /// A value that was shared stays as it was, and that takes no memory. Where there is no memory
-    /// the value stays owned, as it was.
+    /// # Errors
+    ///
+    /// Fails where memory is refused for a value that is owned, which stays as it was.
     pub fn arc(&mut self, alloc: A) -> Result<&Rc<T, A>, AllocError>
         ensures* shares { sem 𝓛 (ends_shared T.row A.row A.Allocator self.entry result) }
         ensures ok { IfOk result (λ owner. owner.now.value ≡ value_of self.old) }

@@ -34,13 +34,15 @@ impl<A: Allocator + Copy> ModuleState<A> {
         }
     }
 
-    /// Adds a table of this type that has no initializer. `offset` is where it stands in the input (Core
-    /// Specification 3.0, Validation, Modules, Tables).
+    /// Adds a table of this type that has no initializer. `offset` is where it stands in the input
+    /// (Core Specification 3.0, Validation, Modules, Tables).
+    ///
+    /// The list must have the types of the module.
     ///
     /// # Errors
     ///
-    /// Refused where the type keeps no rule, where there would be too many tables, and where memory is
-    /// refused. The module is then only to be dropped.
+    /// Refused where the type keeps no rule, where there would be too many tables, and where memory
+    /// is refused. The module is then only to be dropped.
     pub fn add_table(
         &mut self,
         features: WasmFeatures,
@@ -57,8 +59,8 @@ impl<A: Allocator + Copy> ModuleState<A> {
         self.module.add_table(features, list, ty, offset)
     }
 
-    /// How many bodies are to come in the code section: one for each function that is defined. None is
-    /// taken yet, so they stay as many.
+    /// How many bodies are to come in the code section: one for each function that is defined. None
+    /// is taken yet, so they stay as many.
     pub fn expected_bodies(&self) -> usize
         ensures { result ≡ expected_bodies self.now.module }
     {

@@ -20,8 +20,9 @@ pub fn types_have_their_places<A>()
     ensures { TypesHaveTheirPlaces A }
 {}
 
-/// Where no type has two ids, which `TypeList` says of each list, the order of ids is that of the types that they
-/// stand for, and value types over ids match exactly where they do with those types in place of ids.
+/// Where no type has two ids, which `TypeList` says of each list, the order of ids is that of the
+/// types that they stand for, and value types over ids match exactly where they do with those types
+/// in place of ids.
 pub fn ids_match_as_types<A>()
     ensures order { IdsAreOrderedAsTypes A }
     ensures value_types { IdsMatchAsTypes A }

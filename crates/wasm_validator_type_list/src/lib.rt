@@ -1,5 +1,7 @@
 //! The list of types of a validator: recursion groups, each type under its id, equal groups kept
 //! once where references are canonicalized.
+//!
+//! Each `offset` counts bytes from the start of the input.
 #![tactic(auto)]
 
 mod laws;

@@ -15,7 +15,7 @@ pub struct TypeInfo {
 }
 
 impl TypeInfo {
-    /// Of this size, in parts.
+    /// Of this size, in parts, which must be below 2²⁴.
     pub fn of_size(size: u32) -> TypeInfo
         requires { size < 2 ^ 24 }
         ensures { result.size ≡ size }

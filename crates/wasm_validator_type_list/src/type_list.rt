@@ -30,8 +30,9 @@ type KnownGroups<A> = HashMap<RecGroup<A>, u32, BuildHasherDefault<FoldHasher>, 
 type KeptDepths<A> = HashMap<u32, u8, BuildHasherDefault<FoldHasher>, A>;
 
 /// The types of all modules that one validator has seen, in recursion groups, each type under its
-/// id. A contract sees the mode of the list, whether groups may be added, the sub types of each group in
-/// order, and the depths that are kept of types; an id is a place in the list of all types.
+/// id. A contract sees the mode of the list, whether groups may be added, the sub types of each
+/// group in order, and the depths that are kept of types; an id is a place in the list of all
+/// types.
 ///
 /// Where the list is canonical equal groups are kept once, so that no two ids stand for one type.
 #[derive(Drop)]
@@ -78,8 +79,8 @@ impl<A: Allocator + Copy> TypeList<A> {
         }
     }
 
-    /// Whether equal groups are kept once. Then no group is there twice; and in either mode no two ids
-    /// stand for one type.
+    /// Whether equal groups are kept once. Then no group is there twice; and in either mode no two
+    /// ids stand for one type.
     pub fn is_canonical(&self) -> bool
         ensures mode { result ≡ self.now.is_canonical }
         ensures once { IsTrue result → AreOnce self.now.groups }
@@ -95,8 +96,8 @@ impl<A: Allocator + Copy> TypeList<A> {
         self.is_open
     }
 
-    /// The number of types. Each type refers to types before it, or to those of its group, and no two
-    /// ids stand for one type.
+    /// The number of types. Each type refers to types before it, or to those of its group, and no
+    /// two ids stand for one type.
     pub fn len(&self) -> usize
         ensures count { result ≡ length (types_in self.now) }
         ensures room { result ≤ MAX_IDS }
@@ -154,7 +155,7 @@ impl<A: Allocator + Copy> TypeList<A> {
         self.groups.spans()
     }
 
-    /// The id of the group that the type is in.
+    /// The id of the group that the type is in. The list must have the type.
     pub fn rec_group_id_of(&self, id: CoreTypeId) -> RecGroupId
         requires { id.index < length (types_in self.now) }
         ensures { IsInGroup self.now.groups result.index id.index }
@@ -162,7 +163,7 @@ impl<A: Allocator + Copy> TypeList<A> {
         RecGroupId::from_index(self.groups.group_at(id.index()))
     }
 
-    /// The ids of the types of the group, in order.
+    /// The ids of the types of the group, in order. The list must have the group.
     pub fn rec_group_elements(&self, group: RecGroupId) -> RecGroupElements
         requires { group.index < length self.now.groups }
         ensures { ids_left result ≡ ids_of_group self.now.groups group.index }
@@ -170,8 +171,8 @@ impl<A: Allocator + Copy> TypeList<A> {
         RecGroupElements::new(self.groups.members(group.index()))
     }
 
-    /// The id of the type at position `index` of the group. `offset` is where the reference stands
-    /// in the input.
+    /// The id of the type at position `index` of the group, which the list must have. `offset` is
+    /// where the reference stands, in bytes from the start of the input.
     ///
     /// # Errors
     ///
@@ -190,8 +191,9 @@ impl<A: Allocator + Copy> TypeList<A> {
         local_id(self.groups.members(group.index()), index, offset)
     }
 
-    /// The id that a reference in the group leads to. It is no module's index. `offset` is where the
-    /// reference stands in the input.
+    /// The id that a reference in the group leads to. The list must have the group, and the
+    /// reference must be no module's index. `offset` is where the reference stands, in bytes from
+    /// the start of the input.
     ///
     /// # Errors
     ///
@@ -235,7 +237,8 @@ impl<A: Allocator + Copy> TypeList<A> {
         self.at_canonicalized_unpacked_index(group, index.unpack(), offset)
     }
 
-    /// The id of the type that the type with this id extends, if it extends one.
+    /// The id of the type that the type with this id extends, if it extends one. The list must have
+    /// the type.
     pub fn supertype_of(&self, id: CoreTypeId) -> Option<CoreTypeId>
         requires { id.index < length (types_in self.now) }
         ensures { IsSupertypeAt self.now.groups id.index result }
@@ -249,8 +252,12 @@ impl<A: Allocator + Copy> TypeList<A> {
         }
     }
 
-    /// A list of its own with the groups of this one, to which none may be added, and which keeps no
-    /// depths. This one stays as it was.
+    /// A list of its own with the groups of this one, to which none may be added, and which keeps
+    /// no depths. This one stays as it was.
+    ///
+    /// # Errors
+    ///
+    /// Fails where memory is refused.
     pub fn commit(&mut self) -> Result<TypeList<A>, AllocError>
         ensures same { self.new ≡ self.old }
         ensures copy { IfOk result (λ copy. copy ≡ closed self.old) }

@@ -1,7 +1,7 @@
 use wasm_readers_types::{CoreTypeId, GlobalType, MemoryType, TableType};
 
-/// The type of what a module imports or exports (Core Specification 3.0, Validation, Types, External
-/// Types). A reference in the type of a table or a global is the id of a type.
+/// The type of what a module imports or exports (Core Specification 3.0, Validation, Types,
+/// External Types). A reference in the type of a table or a global is the id of a type.
 #[derive(Clone, Copy, PartialEq, Eq, Debug)]
 pub enum EntityType {
     /// A function of the type with this id, or of a subtype.

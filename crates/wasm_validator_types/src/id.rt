@@ -2,7 +2,8 @@ ghost use Rattle.std.specs.Prelude.{◌≡◌};
 
 use std::marker::Model;
 
-/// The name of one validator, which tells its types from those of another. A contract sees a number.
+/// The name of one validator, which tells its types from those of another. A contract sees a
+/// number.
 #[derive(Clone, Copy, PartialEq, Eq, PartialOrd, Ord, Hash, Debug)]
 pub struct ValidatorId {
     number: usize,

@@ -9,8 +9,8 @@ use indexmap::map::Iter;
 use std::alloc::{Allocator, Global};
 use wasm_readers_types::Items;
 
-/// The imports of a module, each with its two names: pairs of names in the order in which they first
-/// came, and the imports of one pair together.
+/// The imports of a module, each with its two names: pairs of names in the order in which they
+/// first came, and the imports of one pair together.
 #[derive(Drop)]
 pub struct CoreImports<'a, A: Allocator = Global> {
     source: &'a str,

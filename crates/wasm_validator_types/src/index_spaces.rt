@@ -107,7 +107,7 @@ impl<A: Allocator + Copy> IndexSpaces<A> {
         self.types.len() as u32
     }
 
-    /// The id of the type with this index.
+    /// The id of the type with this index, which is below [`IndexSpaces::type_count`].
     pub fn type_at(&self, index: u32) -> CoreTypeId
         requires { index < length self.now.types }
         ensures value { result.index ≡ slice_index self.now.types index }
@@ -123,7 +123,12 @@ impl<A: Allocator + Copy> IndexSpaces<A> {
         self.types.as_slice()
     }
 
-    /// Gives the type with this id the next index. Where memory is refused, nothing changes.
+    /// Gives the type with this id the next index. That index must fit 32 bits, and so must the
+    /// number of types then.
+    ///
+    /// # Errors
+    ///
+    /// Fails where memory is refused, and nothing changes then.
     pub fn push_type(&mut self, id: CoreTypeId) -> Result<(), AllocError>
         requires room { length self.old.types + 1 < 2 ^ 32 }
         ensures ok { OnOk result (self.new ≡ record self.old { types = self.old.types ++ id.index ∷ [] }) }
@@ -140,7 +145,8 @@ impl<A: Allocator + Copy> IndexSpaces<A> {
         self.functions.len() as u32
     }
 
-    /// The type index of the function with this index.
+    /// The type index of the function with this index, which is below
+    /// [`IndexSpaces::function_count`].
     pub fn function_type_index(&self, index: u32) -> u32
         requires { index < length self.now.functions }
         ensures value { result ≡ slice_index self.now.functions index }
@@ -149,7 +155,8 @@ impl<A: Allocator + Copy> IndexSpaces<A> {
         self.functions[index as usize]
     }
 
-    /// The id of the type of the function with this index.
+    /// The id of the type of the function with this index, which is below
+    /// [`IndexSpaces::function_count`].
     pub fn function_type_id(&self, index: u32) -> CoreTypeId
         requires { index < length self.now.functions }
         ensures value { result.index ≡ slice_index self.now.types (slice_index self.now.functions index) }
@@ -158,8 +165,12 @@ impl<A: Allocator + Copy> IndexSpaces<A> {
         self.type_at(self.function_type_index(index))
     }
 
-    /// Gives a function of the type with this index the next function index. Where memory is refused,
-    /// nothing changes.
+    /// Gives a function of the type with this index, which is below [`IndexSpaces::type_count`],
+    /// the next function index. The number of functions must fit 32 bits then.
+    ///
+    /// # Errors
+    ///
+    /// Fails where memory is refused, and nothing changes then.
     pub fn push_function(&mut self, type_index: u32) -> Result<(), AllocError>
         requires room { length self.old.functions + 1 < 2 ^ 32 }
         requires within { type_index < length self.old.types }
@@ -171,7 +182,11 @@ impl<A: Allocator + Copy> IndexSpaces<A> {
     }
 
     /// Notes that one more function is imported: exactly of its type, or of a subtype. The imported
-    /// functions are the first ones. Where memory is refused, nothing changes.
+    /// functions are the first ones.
+    ///
+    /// # Errors
+    ///
+    /// Fails where memory is refused, and nothing changes then.
     pub fn note_imported_function(&mut self, is_exact: bool) -> Result<(), AllocError>
         ensures ok { OnOk result (self.new ≡ record self.old { imported_functions = self.old.imported_functions ++ is_exact ∷ [] }) }
         ensures err { OnErr result (self.new ≡ self.old) }
@@ -187,8 +202,8 @@ impl<A: Allocator + Copy> IndexSpaces<A> {
         self.imported_functions.len()
     }
 
-    /// Whether the function with this index has exactly its type: it is imported so, or it isn't among
-    /// the imported ones.
+    /// Whether the function with this index has exactly its type: it is imported so, or it isn't
+    /// among the imported ones.
     pub fn is_exact_function(&self, index: u32) -> bool
         ensures { result ≡ is_exact self.now index }
     {
@@ -205,7 +220,7 @@ impl<A: Allocator + Copy> IndexSpaces<A> {
         self.tables.len() as u32
     }
 
-    /// The type of the table with this index.
+    /// The type of the table with this index, which is below [`IndexSpaces::table_count`].
     pub fn table_at(&self, index: u32) -> TableType
         requires { index < length self.now.tables }
         ensures { slice_get self.now.tables index ≡ Some (table_of result) }
@@ -213,7 +228,11 @@ impl<A: Allocator + Copy> IndexSpaces<A> {
         self.tables[index as usize]
     }
 
-    /// Gives a table of this type the next table index. Where memory is refused, nothing changes.
+    /// Gives a table of this type the next table index. The number of tables must fit 32 bits then.
+    ///
+    /// # Errors
+    ///
+    /// Fails where memory is refused, and nothing changes then.
     pub fn push_table(&mut self, ty: TableType) -> Result<(), AllocError>
         requires room { length self.old.tables + 1 < 2 ^ 32 }
         ensures ok { OnOk result (self.new ≡ record self.old { tables = self.old.tables ++ table_of ty ∷ [] }) }
@@ -230,7 +249,7 @@ impl<A: Allocator + Copy> IndexSpaces<A> {
         self.memories.len() as u32
     }
 
-    /// The type of the memory with this index.
+    /// The type of the memory with this index, which is below [`IndexSpaces::memory_count`].
     pub fn memory_at(&self, index: u32) -> MemoryType
         requires { index < length self.now.memories }
         ensures { slice_get self.now.memories index ≡ Some (memory_of result) }
@@ -238,7 +257,12 @@ impl<A: Allocator + Copy> IndexSpaces<A> {
         self.memories[index as usize]
     }
 
-    /// Gives a memory of this type the next memory index. Where memory is refused, nothing changes.
+    /// Gives a memory of this type the next memory index. The number of memories must fit 32 bits
+    /// then.
+    ///
+    /// # Errors
+    ///
+    /// Fails where memory is refused, and nothing changes then.
     pub fn push_memory(&mut self, ty: MemoryType) -> Result<(), AllocError>
         requires room { length self.old.memories + 1 < 2 ^ 32 }
         ensures ok { OnOk result (self.new ≡ record self.old { memories = self.old.memories ++ memory_of ty ∷ [] }) }
@@ -255,7 +279,7 @@ impl<A: Allocator + Copy> IndexSpaces<A> {
         self.globals.len() as u32
     }
 
-    /// The type of the global with this index.
+    /// The type of the global with this index, which is below [`IndexSpaces::global_count`].
     pub fn global_at(&self, index: u32) -> GlobalType
         requires { index < length self.now.globals }
         ensures { slice_get self.now.globals index ≡ Some (global_of result) }
@@ -263,7 +287,12 @@ impl<A: Allocator + Copy> IndexSpaces<A> {
         self.globals[index as usize]
     }
 
-    /// Gives a global of this type the next global index. Where memory is refused, nothing changes.
+    /// Gives a global of this type the next global index. The number of globals must fit 32 bits
+    /// then.
+    ///
+    /// # Errors
+    ///
+    /// Fails where memory is refused, and nothing changes then.
     pub fn push_global(&mut self, ty: GlobalType) -> Result<(), AllocError>
         requires room { length self.old.globals + 1 < 2 ^ 32 }
         ensures ok { OnOk result (self.new ≡ record self.old { globals = self.old.globals ++ global_of ty ∷ [] }) }
@@ -273,8 +302,12 @@ impl<A: Allocator + Copy> IndexSpaces<A> {
         Ok(())
     }
 
-    /// Gives an imported global of this type the next global index. The imported globals are the first
-    /// ones. Where memory is refused, nothing changes.
+    /// Gives an imported global of this type the next global index. The imported globals are the
+    /// first ones. The number of globals must fit 32 bits then.
+    ///
+    /// # Errors
+    ///
+    /// Fails where memory is refused, and nothing changes then.
     pub fn push_imported_global(&mut self, ty: GlobalType) -> Result<(), AllocError>
         requires room { length self.old.globals + 1 < 2 ^ 32 }
         ensures ok { OnOk result (self.new ≡ record self.old { globals = self.old.globals ++ global_of ty ∷ []; imported_globals = self.old.imported_globals + 1 }) }
@@ -299,7 +332,7 @@ impl<A: Allocator + Copy> IndexSpaces<A> {
         self.tags.len() as u32
     }
 
-    /// The type index of the tag with this index.
+    /// The type index of the tag with this index, which is below [`IndexSpaces::tag_count`].
     pub fn tag_type_index(&self, index: u32) -> u32
         requires { index < length self.now.tags }
         ensures value { result ≡ slice_index self.now.tags index }
@@ -308,7 +341,7 @@ impl<A: Allocator + Copy> IndexSpaces<A> {
         self.tags[index as usize]
     }
 
-    /// The id of the type of the tag with this index.
+    /// The id of the type of the tag with this index, which is below [`IndexSpaces::tag_count`].
     pub fn tag_type_id(&self, index: u32) -> CoreTypeId
         requires { index < length self.now.tags }
         ensures value { result.index ≡ slice_index self.now.types (slice_index self.now.tags index) }
@@ -317,8 +350,12 @@ impl<A: Allocator + Copy> IndexSpaces<A> {
         self.type_at(self.tag_type_index(index))
     }
 
-    /// Gives a tag of the type with this index the next tag index. Where memory is refused, nothing
-    /// changes.
+    /// Gives a tag of the type with this index, which is below [`IndexSpaces::type_count`], the
+    /// next tag index. The number of tags must fit 32 bits then.
+    ///
+    /// # Errors
+    ///
+    /// Fails where memory is refused, and nothing changes then.
     pub fn push_tag(&mut self, type_index: u32) -> Result<(), AllocError>
         requires room { length self.old.tags + 1 < 2 ^ 32 }
         requires within { type_index < length self.old.types }
@@ -378,7 +415,11 @@ impl<A: Allocator + Copy> IndexSpaces<A> {
         self.exports.contains_key(name)
     }
 
-    /// Puts an export at the end. Where memory is refused, nothing changes.
+    /// Puts an export at the end. No other may have its name ([`IndexSpaces::has_export`]).
+    ///
+    /// # Errors
+    ///
+    /// Fails where memory is refused, and nothing changes then.
     pub fn add_export(&mut self, name: &str, entity: EntityType) -> Result<(), AllocError>
         requires { is_exported self.old.exports name.now ≡ false }
         ensures ok { OnOk result (self.new ≡ record self.old { exports = self.old.exports ++ (name.now, entity_of entity) ∷ [] }) }
@@ -389,8 +430,11 @@ impl<A: Allocator + Copy> IndexSpaces<A> {
         Ok(())
     }
 
-    /// Puts an import after the others of its pair of names, or as a new pair at the end. Where memory
-    /// is refused, nothing changes.
+    /// Puts an import after the others of its pair of names, or as a new pair at the end.
+    ///
+    /// # Errors
+    ///
+    /// Fails where memory is refused, and nothing changes then.
     pub fn add_import(
         &mut self,
         source: &str,

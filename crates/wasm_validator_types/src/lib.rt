@@ -1,5 +1,5 @@
-//! What the validator knows of types: the index spaces of a module, and the views of them and of the list
-//! of all types that outlive validation.
+//! What the validator knows of types: the index spaces of a module, and the views of them and of
+//! the list of all types that outlive validation.
 #![tactic(auto)]
 
 mod entity_type;

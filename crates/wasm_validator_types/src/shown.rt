@@ -132,7 +132,7 @@ impl<'a, A: Allocator + Copy> TypesRef<'a, A> {
         self.list
     }
 
-    /// The id of the recursion group that the type is in.
+    /// The id of the recursion group that the type is in. The list must have the type.
     pub fn rec_group_id_of(&self, id: CoreTypeId) -> RecGroupId
         requires { id.index < length (types_in (shown_by self.now).list) }
         ensures { IsInGroup (shown_by self.now).list.groups result.index id.index }
@@ -140,7 +140,7 @@ impl<'a, A: Allocator + Copy> TypesRef<'a, A> {
         self.list.rec_group_id_of(id)
     }
 
-    /// The ids of the types of the recursion group, in order.
+    /// The ids of the types of the recursion group, in order. The list must have the group.
     pub fn rec_group_elements(&self, group: RecGroupId) -> RecGroupElements
         requires { group.index < length (shown_by self.now).list.groups }
         ensures { ids_left result ≡ ids_of_group (shown_by self.now).list.groups group.index }
@@ -148,7 +148,8 @@ impl<'a, A: Allocator + Copy> TypesRef<'a, A> {
         self.list.rec_group_elements(group)
     }
 
-    /// The id of the type that the type with this id extends, if it extends one.
+    /// The id of the type that the type with this id extends, if it extends one. The list must have
+    /// the type.
     pub fn supertype_of(&self, id: CoreTypeId) -> Option<CoreTypeId>
         requires { id.index < length (types_in (shown_by self.now).list) }
         ensures { IsSupertypeAt (shown_by self.now).list.groups id.index result }
@@ -163,8 +164,8 @@ impl<'a, A: Allocator + Copy> TypesRef<'a, A> {
         self.spaces.type_count()
     }
 
-    /// The id of the module's type with this index. The list has it, where it has those of all types of
-    /// the module.
+    /// The id of the module's type with this index, of which there must be one. The list has it,
+    /// where it has those of all types of the module.
     pub fn core_type_at_in_module(&self, index: u32) -> CoreTypeId
         requires { index < length (shown_by self.now).spaces.types }
         ensures value { result.index ≡ slice_index (shown_by self.now).spaces.types index }
@@ -180,8 +181,8 @@ impl<'a, A: Allocator + Copy> TypesRef<'a, A> {
         self.spaces.function_count()
     }
 
-    /// The id of the type of the function with this index. The list has it, where it has those of all
-    /// types of the module.
+    /// The id of the type of the function with this index, of which there must be one. The list has
+    /// it, where it has those of all types of the module.
     pub fn core_function_at(&self, index: u32) -> CoreTypeId
         requires { index < length (shown_by self.now).spaces.functions }
         ensures value { let spaces = (shown_by self.now).spaces in result.index ≡ slice_index spaces.types (slice_index spaces.functions index) }
@@ -197,7 +198,7 @@ impl<'a, A: Allocator + Copy> TypesRef<'a, A> {
         self.spaces.table_count()
     }
 
-    /// The type of the table with this index.
+    /// The type of the table with this index, of which there must be one.
     pub fn table_at(&self, index: u32) -> TableType
         requires { index < length (shown_by self.now).spaces.tables }
         ensures { slice_get (shown_by self.now).spaces.tables index ≡ Some (table_of result) }
@@ -212,7 +213,7 @@ impl<'a, A: Allocator + Copy> TypesRef<'a, A> {
         self.spaces.memory_count()
     }
 
-    /// The type of the memory with this index.
+    /// The type of the memory with this index, of which there must be one.
     pub fn memory_at(&self, index: u32) -> MemoryType
         requires { index < length (shown_by self.now).spaces.memories }
         ensures { slice_get (shown_by self.now).spaces.memories index ≡ Some (memory_of result) }
@@ -227,7 +228,7 @@ impl<'a, A: Allocator + Copy> TypesRef<'a, A> {
         self.spaces.global_count()
     }
 
-    /// The type of the global with this index.
+    /// The type of the global with this index, of which there must be one.
     pub fn global_at(&self, index: u32) -> GlobalType
         requires { index < length (shown_by self.now).spaces.globals }
         ensures { slice_get (shown_by self.now).spaces.globals index ≡ Some (global_of result) }
@@ -242,8 +243,8 @@ impl<'a, A: Allocator + Copy> TypesRef<'a, A> {
         self.spaces.tag_count()
     }
 
-    /// The id of the type of the tag with this index. The list has it, where it has those of all types
-    /// of the module.
+    /// The id of the type of the tag with this index, of which there must be one. The list has it,
+    /// where it has those of all types of the module.
     pub fn tag_at(&self, index: u32) -> CoreTypeId
         requires { index < length (shown_by self.now).spaces.tags }
         ensures value { let spaces = (shown_by self.now).spaces in result.index ≡ slice_index spaces.types (slice_index spaces.tags index) }

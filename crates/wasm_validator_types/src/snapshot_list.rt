@@ -32,8 +32,11 @@ impl<T, A: Allocator + Copy> SnapshotList<T, A> {
         }
     }
 
-    /// Puts `item` at the end. Where memory is refused, the list stays as it was and `item` comes
-    /// back.
+    /// Puts `item` at the end.
+    ///
+    /// # Errors
+    ///
+    /// Fails where memory is refused. The list stays as it was then, and `item` comes back.
     pub fn push(&mut self, item: T) -> Result<(), AllocFailed<T>>
         ensures ok { OnOk result (self.new ≡ self.old ++ item ∷ []) }
         ensures err { OnErr result (self.new ≡ self.old) }
@@ -67,6 +70,10 @@ impl<T, A: Allocator + Copy> SnapshotList<T, A> {
 
 impl<T: Faithful + Drop, A: Allocator + Copy> SnapshotList<T, A> {
     /// A list of its own with the items of this one, which stays as it was.
+    ///
+    /// # Errors
+    ///
+    /// Fails where memory is refused.
     pub fn commit(&mut self) -> Result<SnapshotList<T, A>, AllocError>
         ensures same { self.new ≡ self.old }
         ensures copy { IfOk result (λ copy. copy ≡ self.old) }

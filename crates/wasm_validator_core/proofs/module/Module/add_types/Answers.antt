@@ -4,9 +4,10 @@ use Rattle.wasm_readers_types.specs.SeenTypes.{sub_of, rec_of}
 use Rattle.wasm_validator_types.specs.Shown.{types_of}
 use Rattle.wasm_validator_types.specs.Spaces.{Spaces}
 use Rattle.wasm_validator_core.specs.declared.limits.TheConstants.{MAX_TYPES}
+use Rattle.wasm_validator_core.specs.Errors.{IsAt}
 use Rattle.wasm_validator_core.specs.Answers.{Types, AddsWhere, HasValidTypes}
 use Rattle.wasm_validator_core.specs.Machine.{add_group}
-use Rattle.wasm_validator_core.proofs.AddedGroups.{refusal, group_refused, ids_of_new}
+use Rattle.wasm_validator_core.proofs.AddedGroups.{refusal, group_refused, ids_of_new, lifted_at}
 use Rattle.wasm_validator_core.proofs.module.Module.add_types.Goals as goal
 
 pub returns-in-Ok-intern_rec_group_of-clause-ids : goal.returns-in-Ok-intern_rec_group_of-clause-ids
@@ -21,3 +22,7 @@ returns-in-Err-intern_rec_group_of-clause-added g c =
     let left : Types × Spaces = (types_of c.intern_rec_group_of.new.types, c.intern_rec_group_of.new.target) in
     subst (λ e. AddsWhere (HasValidTypes c.args.features) (refusal e) (add_group c.args.features (us, c.args.self.now) (rec_of c.args.group)) left) (sym c.from.ensures)
     (group_refused c.args.features us c.args.self.now (rec_of c.args.group) g.row.A.Denot c.in-Err-intern_rec_group_of.error left c.in-Err-intern_rec_group_of.ensures.added)
+
+pub returns-in-Err-intern_rec_group_of-clause-place : goal.returns-in-Err-intern_rec_group_of-clause-place
+returns-in-Err-intern_rec_group_of-clause-place g c =
+    subst (IsAt c.args.offset) (sym c.from.ensures) (lifted_at g.row.A.Denot c.args.offset c.in-Err-intern_rec_group_of.error c.in-Err-intern_rec_group_of.ensures.place)
