@@ -1,5 +1,7 @@
-pub mod Stacks
+pub mod Reversing
 pub mod Marking
 pub mod Localizing
 pub mod Running
 pub mod Holding
+pub mod Wording
+pub mod Framing
