@@ -5,3 +5,4 @@ pub mod Running
 pub mod Holding
 pub mod Wording
 pub mod Framing
+pub mod Pushing

@@ -1,7 +1,8 @@
 //! What operators do to the stacks.
 
-ghost use Rattle.std.specs.Prelude.{◌≡◌, ◌≤◌, ◌-◌, ◌∷◌, [], true, false, Some, length, drop, replicate, ◌++◌, ◌+◌, OnOk, OnErr};
-ghost use Rattle.wasm_operator_steps.specs.Machine.{push_operand, push_frame, become_unreachable};
+ghost use Rattle.std.specs.Prelude.{◌≡◌, ◌≤◌, ◌-◌, ◌∷◌, [], true, false, Some, length, drop, replicate, ◌++◌, ◌+◌, map, OnOk, OnErr};
+ghost use Rattle.wasm_operator_steps.specs.Machine.{push_operand, pushed_onto, push_vals, push_frame, become_unreachable};
+ghost use Rattle.wasm_readers_types.specs.SeenValues.{val_of};
 ghost use Rattle.wasm_operator_stacks.specs.SeenOperands.{operand_of};
 ghost use Rattle.wasm_operator_stacks.specs.SeenBlocks.{block_in, kind_of, frame_of};
 ghost use Rattle.wasm_operator_stacks.specs.Seen.{state_of, below, Kept};
@@ -14,6 +15,8 @@ use crate::word::Word;
 use std::alloc::{AllocError, Allocator};
 use wasm_operators::FrameKind;
 use wasm_readers_errors::WasmFeatures;
+use wasm_readers_types::ValType;
+use wasm_type_words::TypeWord;
 
 impl<A: Allocator + Copy> Stacks<A> {
     /// Stacks without frames. They take no memory.
@@ -39,6 +42,22 @@ impl<A: Allocator + Copy> Stacks<A> {
             locals: Locals::new(alloc),
         }
     }
+}
+
+/// Puts operands of these types on top, the last one on top. Where memory is refused, some of them
+/// may be there.
+#[tactic(auto, using(crate::proofs::Pushing::pushes))]
+fn push_each<A: Allocator>(
+    operands: &mut Stack<Word, A>,
+    types: &[ValType],
+) -> Result<(), AllocError>
+    ensures ok { OnOk result (map operand_of operands.new ≡ pushed_onto (map val_of types.now) (map operand_of operands.old)) }
+    ensures err { OnErr result (drop (length operands.new - length operands.old) operands.new ≡ operands.old) }
+{
+    'pushing: for i in 0..types.len() {
+        operands.push(Word::known(TypeWord::new(types[i])))?;
+    }
+    Ok(())
 }
 
 impl<A: Allocator> Stacks<A> {
@@ -77,9 +96,58 @@ impl<A: Allocator> Stacks<A> {
     pub fn push(&mut self, operand: Word) -> Result<(), AllocError>
         ensures ok { OnOk result (state_of self.new ≡ push_operand (operand_of operand) (state_of self.old)) }
         ensures err { OnErr result (state_of self.new ≡ state_of self.old) }
+        ensures frame { self.new.frame ≡ self.old.frame }
+        ensures open { self.new.is_open ≡ self.old.is_open }
         ensures same { Kept self.old self.new }
     {
         self.operands.push(operand)
+    }
+
+    /// Gives an operand in the place of so many. Where memory is refused, all stays.
+    #[inline(always)]
+    pub fn exchange(&mut self, taken: usize, operand: Word) -> Result<(), AllocError>
+        requires { taken ≤ length (state_of self.old).operands }
+        ensures ok { OnOk result (state_of self.new ≡ push_operand (operand_of operand) (below taken (state_of self.old))) }
+        ensures err { OnErr result (state_of self.new ≡ state_of self.old) }
+        ensures frame { self.new.frame ≡ self.old.frame }
+        ensures open { self.new.is_open ≡ self.old.is_open }
+        ensures same { Kept self.old self.new }
+    {
+        self.operands.exchange(taken, operand)
+    }
+
+    /// Gives operands of these types, the last one on top. Where memory is refused, all stays.
+    pub fn push_many(&mut self, types: &[ValType]) -> Result<(), AllocError>
+        ensures ok { OnOk result (state_of self.new ≡ push_vals (map val_of types.now) (state_of self.old)) }
+        ensures err { OnErr result (state_of self.new ≡ state_of self.old) }
+        ensures frame { self.new.frame ≡ self.old.frame }
+        ensures open { self.new.is_open ≡ self.old.is_open }
+        ensures same { Kept self.old self.new }
+    {
+        let count = self.operands.len();
+        match push_each(&mut self.operands, types) {
+            Ok(()) => Ok(()),
+            Err(_) => {
+                self.operands.truncate(count);
+                Err(AllocError)
+            }
+        }
+    }
+
+    /// Gives operands of these types in the place of so many, the last one on top. Where memory is
+    /// refused, all stays.
+    #[tactic(auto, using(crate::proofs::Pushing::sinks))]
+    pub fn exchange_many(&mut self, taken: usize, types: &[ValType]) -> Result<(), AllocError>
+        requires { taken ≤ length (state_of self.old).operands }
+        ensures ok { OnOk result (state_of self.new ≡ push_vals (map val_of types.now) (below taken (state_of self.old))) }
+        ensures err { OnErr result (state_of self.new ≡ state_of self.old) }
+        ensures frame { self.new.frame ≡ self.old.frame }
+        ensures open { self.new.is_open ≡ self.old.is_open }
+        ensures same { Kept self.old self.new }
+    {
+        self.push_many(types)?;
+        self.operands.sink(types.len(), taken);
+        Ok(())
     }
 
     /// Opens a frame over all operands. Where memory is refused, all stays.
