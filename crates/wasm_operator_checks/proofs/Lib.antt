@@ -1,0 +1,4 @@
+pub mod Agreeing
+pub mod Looking
+pub mod Listing
+pub mod Taking
