@@ -4,7 +4,7 @@ use Rattle.std.proofs.Common.{◌≡◌, refl, sym, ap, ◌∙◌, ℕ, zero, su
 use Rattle.std.specs.Option.{option_and_then}
 use Rattle.std.proofs.lemmas.List.{length-map}
 use Rattle.std.proofs.lemmas.Option.{slice_get-map}
-use Rattle.wasm_spec.specs.Syntax.{Val, reference, Comp, func, array, struct, cont, Sub}
+use Rattle.wasm_spec.specs.Syntax.{exact, Val, reference, Comp, func, array, struct, cont, Sub}
 use Rattle.wasm_spec.specs.MatchingTests.{World}
 use Rattle.wasm_readers_types.specs.declared.indices.UnpackedIndex.{UnpackedIndex}
 use Rattle.wasm_operators.specs.Control.{Block, empty_block, value_block, func_block}
@@ -12,7 +12,7 @@ use Rattle.wasm_operator_steps.specs.Attempts.{◌>>=◌, last_of, front_of}
 use Rattle.wasm_operator_steps.specs.Bodies.{Surroundings}
 use Rattle.wasm_operator_steps.specs.Machine.{Kind, block_kind, loop_kind, if_kind, else_kind, try_table_kind, Frame, State}
 use Rattle.wasm_operator_steps.specs.Actions.{Signed, of_type, of_function, of_tag, Types, these, params, results, label, returned, local, global, function_reference, new_reference, fields, element, field, table_address, memory_address, table_element, segment, lesser_table_address, lesser_memory_address, top, descriptor_of, repeated, front, last, joined}
-use Rattle.wasm_operator_steps.specs.Meanings.{Signature, signature_of, fields_of, copies, one, unpack_field, resolve_val, resolve_vals, label_by, ref_to, exact_if, function_heap, element_at, field_at, address, table_is_64, memory_is_64, both, top_heap, descriptor_heap, sub_at, type_signature, block_signature, signature_at, types_at}
+use Rattle.wasm_operator_steps.specs.Meanings.{Signature, signature_of, fields_of, copies, one, unpack_field, resolve_val, resolve_vals, label_by, ref_to, exact_if, function_heap, element_at, field_at, address, table_is_64, memory_is_64, both, top_heap, descriptor_at, sub_at, type_signature, block_signature, signature_at, types_at}
 use Rattle.wasm_operator_arity.specs.Arities.{takes_of, gives_of, func_counts, field_count, one_of, label_count, type_counts, signature_counts, block_counts, how_many}
 use Rattle.wasm_operator_arity.specs.Lengths.{lengths_of, asked_of, CountsAreLengths}
 
@@ -170,7 +170,7 @@ module _ (W : World UnpackedIndex) (B : Surroundings UnpackedIndex) (s : State U
   counted (lesser_table_address m n) vs e = one-length (option_map address (both (table_is_64 W B m) (table_is_64 W B n))) vs e
   counted (lesser_memory_address m n) vs e = one-length (option_map address (both (memory_is_64 W B m) (memory_is_64 W B n))) vs e
   counted (top r) vs e = one-length (option_map (ref_to true) (top_heap W B r.heap)) vs e
-  counted (descriptor_of r) vs e = one-length (option_map (ref_to true) (descriptor_heap W B r.heap)) vs e
+  counted (descriptor_of n) vs e = one-length (option_map (λ a. ref_to true (exact a)) (descriptor_at W B n)) vs e
 
 pub counts_are_lengths : CountsAreLengths
 counts_are_lengths W B s t vs e = counted W B s t vs e

@@ -12,7 +12,7 @@ use Rattle.wasm_operators.specs.declared.operators.Operator.{Operator}
 use Rattle.wasm_operator_steps.specs.Attempts.{last_of}
 use Rattle.wasm_operator_steps.specs.Machine.{Kind, loop_kind}
 use Rattle.wasm_operator_steps.specs.Actions.{Signed, of_type, of_function, of_tag, Types, these, params, results, label, returned, fields, repeated, front, last, joined}
-use Rattle.wasm_operator_steps.specs.Shapes.{Shape, plain, ending, opening, closing, turning, dropping, choosing, never, testing_null, asserting_non_null, branching_on_null, branching_on_non_null, branching_by_table, setting, giving_back, measuring, comparing, converting, describing, shape_of}
+use Rattle.wasm_operator_steps.specs.Shapes.{Shape, plain, ending, opening, closing, turning, dropping, choosing, never, testing_null, asserting_non_null, branching_on_null, branching_on_non_null, branching_by_table, setting, giving_back, measuring, comparing, converting, shape_of}
 use Rattle.wasm_operator_arity.specs.Asked.{Asked}
 
 -- words on numbers that may not be there
@@ -101,7 +101,6 @@ module _ (M : Asked) where
   arity (measuring cs k t) = pair (Some 1) (how_many t)
   arity (comparing cs t) = pair (Some 2) (how_many t)
   arity (converting cs j k) = Some (1, 1)
-  arity (describing cs x) = Some (1, 1)
 
 -- both numbers, where they have 32 bits
 abbrev pub in_u32 : ℕ × ℕ → Option (ℕ × ℕ)

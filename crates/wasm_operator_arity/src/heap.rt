@@ -62,22 +62,11 @@ pub(crate) fn cast_arity<M: ModuleArity>(op: &CastOperator, resources: &M) -> Op
         CastOperator::RefTestNonNull { .. }
         | CastOperator::RefTestNullable { .. }
         | CastOperator::RefCastNonNull { .. }
-        | CastOperator::RefCastNullable { .. }
-        | CastOperator::RefGetDesc { .. } => Some((1, 1)),
-        CastOperator::RefCastDescEqNonNull { .. } | CastOperator::RefCastDescEqNullable { .. } => {
-            Some((2, 1))
-        }
+        | CastOperator::RefCastNullable { .. } => Some((1, 1)),
         CastOperator::BrOnCast { relative_depth, .. }
         | CastOperator::BrOnCastFail { relative_depth, .. } => {
             match kept_count(resources, relative_depth) {
                 Some(count) => Some((count, count)),
-                None => None,
-            }
-        }
-        CastOperator::BrOnCastDescEq { relative_depth, .. }
-        | CastOperator::BrOnCastDescEqFail { relative_depth, .. } => {
-            match kept_count(resources, relative_depth) {
-                Some(count) => Some((count + 1, count)),
                 None => None,
             }
         }

@@ -1,6 +1,6 @@
 -- The bodies of memory, table, reference and aggregate instructions, run.
 use Rattle.std.proofs.Common.{refl}
-use Rattle.wasm_operator_steps.specs.HeapExamples.{Memories, NoMemories, Tables, NoTables, References, NoReferences, Casts, NoCasts, Conversions, NoConversions, Structures, NoStructures, Arrays, NoArrays, Descriptors, NoDescriptors, HeapNeedsFeatures}
+use Rattle.wasm_operator_steps.specs.HeapExamples.{Memories, NoMemories, Tables, NoTables, References, NoReferences, Casts, NoCasts, Conversions, NoConversions, Structures, NoStructures, Arrays, NoArrays, Descriptors, NoDescriptors, MemoriesNeedFeatures, ReferencesNeedFeatures, AggregatesNeedFeatures}
 
 pub memories : Memories
 memories = refl
@@ -50,7 +50,13 @@ descriptors = refl
 pub no_descriptors : NoDescriptors
 no_descriptors = refl
 
-pub heap_needs_features : HeapNeedsFeatures
-heap_needs_features = refl
+pub memories_need_features : MemoriesNeedFeatures
+memories_need_features = refl
 
-pub ruleset heap_runs = (memories, no_memories, tables, no_tables, references, no_references, casts, no_casts, conversions, no_conversions, structures, no_structures, arrays, no_arrays, descriptors, no_descriptors, heap_needs_features)
+pub references_need_features : ReferencesNeedFeatures
+references_need_features = refl
+
+pub aggregates_need_features : AggregatesNeedFeatures
+aggregates_need_features = refl
+
+pub ruleset heap_runs = (memories, no_memories, tables, no_tables, references, no_references, casts, no_casts, conversions, no_conversions, structures, no_structures, arrays, no_arrays, descriptors, no_descriptors, memories_need_features, references_need_features, aggregates_need_features)

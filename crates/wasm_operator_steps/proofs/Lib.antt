@@ -1,5 +1,6 @@
 pub mod ControlRuns
 pub mod HeapRuns
+pub mod SharedRuns
 pub mod Attempts
 pub mod WorldsRenamed
 pub mod MatchingRenamed
@@ -11,3 +12,5 @@ pub mod SyntaxAgrees
 pub mod VerdictsRenamed
 pub mod ConstantReferences
 pub mod WorldsDecided
+pub mod TakenInTurn
+pub mod EqualTypesMatch

@@ -3,20 +3,21 @@ use Rattle.std.proofs.Common.{◌≡◌, refl, sym, ap, ◌∙◌, ℕ, zero, su
 use Rattle.std.proofs.lemmas.List.{length-map, map-append}
 use Rattle.std.proofs.lemmas.Option.{slice_get-map}
 use Rattle.wasm_spec.specs.Syntax.{AbstractHeap, eq_heap, Heap, abstract_heap, concrete, exact, Ref, Val, i32, i64, f32, f64, v128, reference, Storage, i8, i16, unpacked, Field, Comp, func, array, struct, cont, Table, map_heap, map_ref, map_val, map_storage, map_field, map_comp, map_sub, map_table, map_global}
+use Rattle.wasm_spec.specs.ValueTypes.{implies}
 use Rattle.wasm_spec.specs.Matching.{top_of_heap, is_shared_heap}
 use Rattle.wasm_spec.specs.MatchingTests.{same_flag}
 use Rattle.wasm_spec.specs.MatchingTests.{World}
 use Rattle.wasm_spec.specs.MatchingTests.{matches_heap}
 use Rattle.wasm_operators.specs.Control.{Block, empty_block, value_block, func_block}
 use Rattle.wasm_operators.specs.Maps.{map_block}
-use Rattle.wasm_operator_steps.specs.Attempts.{guard, among, passes, last_of, front_of, list_of}
+use Rattle.wasm_operator_steps.specs.Attempts.{◌>>=◌, guard, among, passes, last_of, front_of, list_of}
 use Rattle.wasm_operator_steps.specs.Matching.{matches_vals, matches_storage}
 use Rattle.wasm_operator_steps.specs.Bodies.{Surroundings, map_local, map_surroundings}
 use Rattle.wasm_operator_steps.specs.Machine.{Operand, bottom, bottom_reference, open_reference, known, Kind, block_kind, loop_kind, if_kind, else_kind, try_table_kind, Frame, State, map_operand, map_frame, map_state, map_popped, push_operand, push_vals, pop_any, pop_reference, same_number, chosen, become_unreachable, push_frame, set_local, pop_vals}
-use Rattle.wasm_operator_steps.specs.Actions.{Signed, of_type, of_function, of_tag, Types, these, params, results, label, returned, local, global, function_reference, new_reference, fields, element, field, table_address, memory_address, table_element, segment, lesser_table_address, lesser_memory_address, top, descriptor_of, repeated, front, last, joined, Check, has, allows, global_is_mutable, local_is_set, function_is_referenced, is_exception, each_matches, may_be_cast, is_aligned, fields_have_defaults, has_no_descriptor, field_is_mutable, field_is_packed, element_is_mutable, element_has_default, element_is_number, element_is_packed, element_is_storable, data_is_there, segment_is_there, Action, need, refuse, take, give, take_any, take_reference, take_comparable, make_non_null, choose, stop, turn_to_else, leave, take_below, convert, describe, enter, set, branch_on_null, branch_to_one_of}
-use Rattle.wasm_operator_steps.specs.Meanings.{Signature, ref_to, resolve_heap, resolve_ref, resolve_val, resolve_vals, resolve_block, signature_of, fields_of, element_of, unpack, unpack_field, is_packed, has_default, all_have_defaults, copies, one, address, both, label_by, sub_at, comp_at, type_signature, block_signature, frame_signature, label_at, returned_at, signature_at, fields_at, element_at, field_at, exact_if, function_heap, descriptor_at, descriptor_heap, top_heap, table_is_64, memory_is_64, types_at, casts, holds, is_below_either, agree, converted, described, pop_frame, may_end, leave_in, turn_in, labels_fit, act, run}
+use Rattle.wasm_operator_steps.specs.Actions.{Signed, of_type, of_function, of_tag, Types, these, params, results, label, returned, local, global, function_reference, new_reference, fields, element, field, table_address, memory_address, table_element, segment, lesser_table_address, lesser_memory_address, top, descriptor_of, repeated, front, last, joined, Check, has, allows, global_is_mutable, local_is_set, function_is_referenced, is_exception, each_matches, may_be_cast, can_be_tested, is_aligned, fields_have_defaults, has_no_descriptor, field_is_mutable, field_is_packed, element_is_mutable, element_has_default, element_is_number, element_is_packed, element_is_storable, data_is_there, segment_is_there, reaches_global, reaches_table, reaches_type, reaches_function, Action, need, refuse, take, give, take_any, take_reference, take_comparable, make_non_null, choose, stop, turn_to_else, leave, take_below, convert, enter, set, branch_on_null, branch_to_one_of}
+use Rattle.wasm_operator_steps.specs.Meanings.{Signature, ref_to, resolve_heap, resolve_ref, resolve_val, resolve_vals, resolve_block, signature_of, fields_of, element_of, unpack, unpack_field, is_packed, has_default, all_have_defaults, copies, one, is_of_continuations, address, both, label_by, sub_at, comp_at, type_signature, block_signature, frame_signature, label_at, returned_at, signature_at, fields_at, element_at, field_at, exact_if, function_heap, descriptor_at, top_heap, table_is_64, memory_is_64, types_at, casts, holds, is_below_either, agree, converted, pop_frame, may_end, leave_in, turn_in, labels_fit, act, run}
 use Rattle.wasm_operator_steps.specs.Renaming.{Renames}
-use Rattle.wasm_operator_steps.proofs.Attempts.{bind-map, bind-same, then-map, passes-map, guard-map, if-map, is_some-map, last_of-map, front_of-map}
+use Rattle.wasm_operator_steps.proofs.Attempts.{bind-map, bind-same, then-map, passes-map, guard-map, is_some-map, last_of-map, front_of-map}
 use Rattle.wasm_operator_steps.proofs.MatchingRenamed.{matches_heap-map, matches_ref-map, matches_vals-map, matches_storage-map, is_shared_heap-map, top_of_heap-map}
 use Rattle.wasm_operator_steps.proofs.MachineRenamed.{map_vals, push_vals-map, pop_any-map, pop_reference-map, non_null-map, same_number-map, chosen-map, become_unreachable-map, push_frame-map, set_local-map, pop_vals-map}
 
@@ -106,6 +107,11 @@ module _ {R S : Type 0} (f : R → S) where
   copies-map zero vs = refl
   copies-map (suc n) vs = (λ i. map_vals f vs ++ copies-map n vs i) ∙ sym (map-append (map_val f) vs (copies n vs))
 
+  is_of_continuations-map : (x : Heap R) → is_of_continuations (map_heap f x) ≡ is_of_continuations x
+  is_of_continuations-map (abstract_heap s k) = refl
+  is_of_continuations-map (concrete a) = refl
+  is_of_continuations-map (exact a) = refl
+
   address-map : (b : Bool) → address b ≡ map_val f (address b)
   address-map true = refl
   address-map false = refl
@@ -188,11 +194,6 @@ module _ {R S : Type 0} (f : R → S) (W : World R) (V : World S) (h : Renames f
   descriptor_at-map : (n : ℕ) → descriptor_at V N n ≡ option_map f (descriptor_at W B n)
   descriptor_at-map n = bind-map (map_sub f) f _ _ (λ d. refl) (sub_at W B n) (sub_at-map n)
 
-  descriptor_heap-map : (x : Heap ℕ) → descriptor_heap V N x ≡ option_map (map_heap f) (descriptor_heap W B x)
-  descriptor_heap-map (concrete n) = then-map f (map_heap f) concrete concrete (λ a. refl) (descriptor_at W B n) (descriptor_at-map n)
-  descriptor_heap-map (exact n) = then-map f (map_heap f) exact exact (λ a. refl) (descriptor_at W B n) (descriptor_at-map n)
-  descriptor_heap-map (abstract_heap s k) = refl
-
   top_heap-map : (x : Heap ℕ) → top_heap V N x ≡ option_map (map_heap f) (top_heap W B x)
   top_heap-map x =
       bind-map (map_heap f) (map_heap f) (top_of_heap W.declared) (top_of_heap V.declared) (top_of_heap-map f W V h) (resolve_heap B.context.types x) (resolve_heap-map f B.context.types x)
@@ -234,7 +235,7 @@ module _ {R S : Type 0} (f : R → S) (W : World R) (V : World S) (h : Renames f
       (λ i. one (option_map address (both (table_is_64-map m i) (table_is_64-map n i)))) ∙ addressed-map f (both (table_is_64 W B m) (table_is_64 W B n))
   types_at-map s (lesser_memory_address m n) = addressed-map f (both (memory_is_64 W B m) (memory_is_64 W B n))
   types_at-map s (top r) = type_of-map (top_heap W B r.heap) true (top_heap-map r.heap)
-  types_at-map s (descriptor_of r) = type_of-map (descriptor_heap W B r.heap) true (descriptor_heap-map r.heap)
+  types_at-map s (descriptor_of n) = one-map f _ (then-map f (map_val f) _ _ (λ a. refl) (descriptor_at W B n) (descriptor_at-map n))
   types_at-map s (repeated n t) = then-map (map_vals f) (map_vals f) _ _ (copies-map f n) (types_at W B s t) (types_at-map s t)
   types_at-map s (front t) = then-map (map_vals f) (map_vals f) front_of front_of (front_of-map (map_val f)) (types_at W B s t) (types_at-map s t)
   types_at-map s (last t) = one-map f _ (bind-map (map_vals f) (map_val f) last_of last_of (last_of-map (map_val f)) (types_at W B s t) (types_at-map s t))
@@ -263,6 +264,7 @@ module _ {R S : Type 0} (f : R → S) (W : World R) (V : World S) (h : Renames f
       passes-map (map_ref f) (λ a. passes (casts W B a) (resolve_ref B.context.types q)) (λ a. passes (casts V N a) (resolve_ref N.context.types q))
       (λ a. passes-map (map_ref f) (casts W B a) (casts V N (map_ref f a)) (λ b. casts-map a b) (resolve_ref B.context.types q) (resolve_ref-map f B.context.types q))
       (resolve_ref B.context.types r) (resolve_ref-map f B.context.types r)
+  holds-map s (can_be_tested r) = passes-map (map_heap f) _ _ (λ x. ap not (is_of_continuations-map f x)) (top_heap W B r.heap) (top_heap-map r.heap)
   holds-map s (is_aligned op m) = refl
   holds-map s (fields_have_defaults n) = passes-map (map (map_field f)) all_have_defaults all_have_defaults (all_have_defaults-map f) (fields_at W B n) (fields_at-map n)
   holds-map s (has_no_descriptor n) = passes-map (map_sub f) _ _ (λ d. ap not (is_some-map f d.descriptor)) (sub_at W B n) (sub_at-map n)
@@ -278,6 +280,11 @@ module _ {R S : Type 0} (f : R → S) (W : World R) (V : World S) (h : Renames f
       (element_at W B m) (element_at-map m)
   holds-map s (data_is_there n) = refl
   holds-map s (segment_is_there n) = ap is_some (slice_get-map (map_ref f) B.context.elements n) ∙ is_some-map (map_ref f) (slice_get B.context.elements n)
+  holds-map s (reaches_global n) = ap (implies B.shared) (passes-map (map_global f) _ _ (λ g. refl) (slice_get B.context.globals n) (slice_get-map (map_global f) B.context.globals n))
+  holds-map s (reaches_table n) = ap (implies B.shared) (passes-map (map_table f) _ _ (λ t. refl) (slice_get B.context.tables n) (slice_get-map (map_table f) B.context.tables n))
+  holds-map s (reaches_type n) = ap (implies B.shared) (passes-map (map_sub f) _ _ (λ d. refl) (sub_at W B n) (sub_at-map n))
+  holds-map s (reaches_function n) =
+      ap (implies B.shared) (passes-map (map_sub f) _ _ (λ d. refl) (slice_get B.context.functions n >>= sub_at W B) (bind-same (map_sub f) (sub_at W B) (sub_at V N) sub_at-map (slice_get B.context.functions n)))
 
   is_below_either-map : (k : AbstractHeap) (x : Operand R) → is_below_either V N k (map_operand f x) ≡ is_below_either W B k x
   is_below_either-map k (known (reference r)) =
@@ -305,23 +312,6 @@ module _ {R S : Type 0} (f : R → S) (W : World R) (V : World S) (h : Renames f
   converted-map k (known f32) = refl
   converted-map k (known f64) = refl
   converted-map k (known v128) = refl
-
-  described-map : (a b : R) (x : Operand R) → described V N (f a) (f b) (map_operand f x) ≡ option_map (map_operand f) (described W B a b x)
-  described-map a b (known (reference r)) =
-      if-map (map_operand f) (Some (known (ref_to false (exact b)))) (if matches_heap W r.heap (concrete a) then Some (known (ref_to false (concrete b))) else None)
-      (matches_heap-map f W V h r.heap (exact a)) refl
-      (if-map (map_operand f) (Some (known (ref_to false (concrete b)))) None (matches_heap-map f W V h r.heap (concrete a)) refl refl)
-  described-map a b (open_reference k) =
-      guard-map (map_operand f) (known (ref_to false (exact b)))
-      ((λ i. matches_heap V (abstract_heap (is_shared_heap-map f W V h (concrete a) i) k) (concrete (f a))) ∙ matches_heap-map f W V h (abstract_heap (is_shared_heap W.declared (concrete a)) k) (concrete a))
-      refl
-  described-map a b bottom_reference = refl
-  described-map a b bottom = refl
-  described-map a b (known i32) = refl
-  described-map a b (known i64) = refl
-  described-map a b (known f32) = refl
-  described-map a b (known f64) = refl
-  described-map a b (known v128) = refl
 
   pop_frame-map : (x : Frame R) (xs : List (Frame R)) (g : Signature R) (s : State R) → pop_frame V N (map_frame f x) (map (map_frame f) xs) (map_signature f g) (map_state f s) ≡ option_map (map_state f) (pop_frame W B x xs g s)
   pop_frame-map x xs g s =
@@ -377,14 +367,6 @@ module _ {R S : Type 0} (f : R → S) (W : World R) (V : World S) (h : Renames f
       bind-map (map_popped f) (map_state f) _ _
       (λ p. guard-map (map_state f) (push_operand (converted W B k p.0) p.1) (is_below_either-map j p.0) (λ i. push_operand (converted-map k p.0 i) (map_state f p.1)))
       (pop_reference s) (pop_reference-map f s)
-  act-map (describe n) s =
-      bind-map f (map_state f) _ _
-      (λ a. bind-map f (map_state f) _ _
-      (λ b. bind-map (map_popped f) (map_state f) _ _
-      (λ p. bind-map (map_operand f) (map_state f) _ _ (λ x. refl) (described W B a b p.0) (described-map a b p.0))
-      (pop_reference s) (pop_reference-map f s))
-      (descriptor_at W B n) (descriptor_at-map n))
-      (slice_get B.context.types n) (slice_get-map f B.context.types n)
   act-map choose s =
       bind-map (map_popped f) (map_state f) _ _
       (λ p. bind-map (map_popped f) (map_state f) _ _

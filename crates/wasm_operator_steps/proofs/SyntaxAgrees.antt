@@ -128,6 +128,7 @@ module _ {R S : Type 0} (p q : R → S) where
     features = B.features;
     context = agree_context B.context (left (refs_context B.context) (flat_map refs_local B.locals) h) i;
     locals = each refs_local (map_local p) (map_local q) agree_local B.locals (right (refs_context B.context) (flat_map refs_local B.locals) h) i;
+    shared = B.shared;
   }
 
   pub agree_block : (b : Block R) → AgreeOn (refs_block b) → map_block p b ≡ map_block q b
@@ -179,6 +180,7 @@ module _ {Q R S : Type 0} (g : R → S) (f : Q → R) where
       references = B.context.references;
     };
     locals = map-map_by (map_local g) (map_local f) (map_local after) local-map B.locals i;
+    shared = B.shared;
   }
 
   pub block-map : (b : Block Q) → map_block g (map_block f b) ≡ map_block after b

@@ -15,18 +15,17 @@ pub data Signed : Type 0 where
 -- written types; the parameters or results of a signature; what a label takes, and what the body returns; the type of a local or a
 -- global; a reference to a function, and to a new value of a type; the unpacked types of all fields of a structure, of one of them, and
 -- of an array's elements; what addresses a table or a memory, and the lesser of two; a table's elements, and a segment's; the greatest
--- type, with null, of a reference type's hierarchy; the descriptor, or null, of a type that a reference type names; and lists made of
--- others: so many times, without the last, the last alone, and one after another.
+-- type, with null, of a reference type's hierarchy; the descriptor, or null, of exactly a type; and lists made of others: so many times, without the last, the last alone, and one after another.
 pub data Types : Type 0 where
   these : List (Val ℕ) → Types
   params results : Signed → Types
   label : ℕ → Types
   returned : Types
-  local global function_reference new_reference fields element : ℕ → Types
+  local global function_reference new_reference descriptor_of fields element : ℕ → Types
   field : ℕ → ℕ → Types
   table_address memory_address table_element segment : ℕ → Types
   lesser_table_address lesser_memory_address : ℕ → ℕ → Types
-  top descriptor_of : Ref ℕ → Types
+  top : Ref ℕ → Types
   repeated : ℕ → Types → Types
   front last : Types → Types
   joined : Types → Types → Types
@@ -38,15 +37,17 @@ pub data Needed : Type 0 where
 -- Checks:
 -- a feature is on; a written type is one that the features allow; a global is mutable; a local is set; a function counts as referenced;
 -- a tag has no results, so that it is one of exceptions; each type of one list matches that of another; a reference type may be cast
--- to another; a load or a store may have its memory argument; all fields of a structure have a default, and it has no descriptor; a
--- field is mutable, and is packed or isn't; the same of an array's elements, and they are numbers or vectors; the elements of one array
--- may be stored in another; a data segment or an element segment is there.
+-- to another; references of its hierarchy can be tested, which those to continuations can't; a load or a store may have its memory
+-- argument; all fields of a structure have a default, and it has no descriptor; a field is mutable, and is packed or isn't; the same of
+-- an array's elements, and they are numbers or vectors; the elements of one array may be stored in another; a data segment or an element
+-- segment is there; a global, a table, a type, or the type of a function is shared, where the body is that of a shared function.
 pub data Check : Type 0 where
   has : Needed → Check
   allows : Val ℕ → Check
   global_is_mutable local_is_set function_is_referenced is_exception : ℕ → Check
   each_matches : Types → Types → Check
   may_be_cast : Ref ℕ → Ref ℕ → Check
+  can_be_tested : Ref ℕ → Check
   is_aligned : MemoryOperator → MemArg → Check
   fields_have_defaults has_no_descriptor : ℕ → Check
   field_is_mutable : ℕ → ℕ → Check
@@ -55,11 +56,12 @@ pub data Check : Type 0 where
   element_is_packed : Bool → ℕ → Check
   element_is_storable : ℕ → ℕ → Check
   data_is_there segment_is_there : ℕ → Check
+  reaches_global reaches_table reaches_type reaches_function : ℕ → Check
 
 -- Actions:
 -- go on only where a check holds, or not at all; take operands of these types, or give them; take any operand; take a reference; take a
 -- reference below an abstract heap type, shared or not; take two references that may be compared; know that a reference isn't null; turn a
--- reference of one hierarchy into one of another; turn a reference to a structure into one to its descriptor; choose one of two operands;
+-- reference of one hierarchy into one of another; choose one of two operands;
 -- know that what follows isn't reached; turn to `else`; leave a frame, or enter one; know that a local is set; branch where a reference is
 -- null; branch to one of several labels.
 pub data Action : Type 0 where
@@ -69,7 +71,6 @@ pub data Action : Type 0 where
   take_any take_reference take_comparable make_non_null choose stop turn_to_else leave : Action
   take_below : AbstractHeap → Action
   convert : AbstractHeap → AbstractHeap → Action
-  describe : ℕ → Action
   enter : Kind → Block ℕ → Action
   set : ℕ → Action
   branch_on_null : ℕ → Action

@@ -1,5 +1,5 @@
--- What a body or a constant expression is checked in: the features, the context of the module, and the locals of the function, over
--- any kind of identity R of types. Core Specification 3.0, Validation, Conventions (Contexts) and Types (Local Types).
+-- What a body or a constant expression is checked in: the features, the context of the module, the locals of the function, and whether
+-- the function is shared, so that it reaches only what is; a constant expression isn't. All over any kind of identity R of types. Core Specification 3.0, Validation, Conventions (Contexts) and Types (Local Types).
 use Rattle.std.specs.Prelude.{Bool, List, map}
 use Rattle.wasm_spec.specs.Syntax.{Val, map_val}
 use Rattle.wasm_spec.specs.Features.{Features}
@@ -14,6 +14,7 @@ pub record Surroundings (R : Type 0) : Type 0 where
   pub features : Features
   pub context : Context R
   pub locals : List (Local R)
+  pub shared : Bool
 
 -- each identity renamed
 module _ {R S : Type 0} (f : R → S) where
@@ -21,4 +22,4 @@ module _ {R S : Type 0} (f : R → S) where
   map_local x = record { content = map_val f x.content; set = x.set }
 
   abbrev pub map_surroundings : Surroundings R → Surroundings S
-  map_surroundings B = record { features = B.features; context = map_context f B.context; locals = map map_local B.locals }
+  map_surroundings B = record { features = B.features; context = map_context f B.context; locals = map map_local B.locals; shared = B.shared }

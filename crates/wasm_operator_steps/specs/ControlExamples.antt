@@ -48,7 +48,7 @@ NoBlocks =
     runs (in_block empty_block ∷ []) ∷
     gives_i32 (an_i32 ∷ in_block (value_block i32) ∷ closed ∷ []) ∷
     gives_i32 (an_i64 ∷ an_i32 ∷ in_block (func_block 2) ∷ dropped ∷ closed ∷ []) ∷
-    body (features true) 1 (in_block (func_block 13) ∷ trap ∷ closed ∷ []) ∷
+    body (features true) 1 (in_block (func_block 14) ∷ trap ∷ closed ∷ []) ∷
     runs (in_block empty_block ∷ control else_ ∷ closed ∷ []) ∷
     gives_i32 (an_i32 ∷ control (if_ (value_block i32)) ∷ an_i32 ∷ closed ∷ []) ∷
     runs (an_i64 ∷ control (if_ empty_block) ∷ closed ∷ []) ∷

@@ -1,10 +1,11 @@
 -- Bodies that are valid and bodies that aren't: memory, table, reference and aggregate instructions, casts and conversions. In each pair of
 -- statements, what the first accepts and what the second refuses differ in one place.
-use Rattle.std.specs.Prelude.{ℕ, ◌≡◌, ◌^◌, ◌-◌, true, false, Bool, List, [], ◌∷◌, ◌++◌}
-use Rattle.wasm_spec.specs.Syntax.{any_heap, eq_heap, i31_heap, none_heap, func_heap, nofunc_heap, extern_heap, Heap, abstract_heap, concrete, exact, i32}
+use Rattle.std.specs.Prelude.{ℕ, ◌≡◌, ◌^◌, ◌-◌, true, false, not, ◌&&◌, Bool, List, [], ◌∷◌, ◌++◌}
+use Rattle.wasm_spec.specs.Syntax.{any_heap, eq_heap, i31_heap, none_heap, func_heap, nofunc_heap, extern_heap, exn_heap, cont_heap, nocont_heap, Heap, abstract_heap, concrete, exact, i32}
+use Rattle.wasm_spec.specs.Features.{Features}
 use Rattle.wasm_spec.specs.TypeExamples.{features}
 use Rattle.wasm_operators.specs.Control.{empty_block, value_block}
-use Rattle.wasm_operators.specs.References.{ref_is_null, ref_eq, ref_as_non_null, ref_func, br_on_null, br_on_non_null, ref_test, ref_cast, ref_cast_desc_eq, br_on_cast, br_on_cast_fail, br_on_cast_desc_eq, br_on_cast_desc_eq_fail, ref_get_desc}
+use Rattle.wasm_operators.specs.References.{ref_is_null, ref_eq, ref_as_non_null, ref_func, br_on_null, br_on_non_null, ref_test, ref_cast, br_on_cast, br_on_cast_fail}
 use Rattle.wasm_operators.specs.References as references
 use Rattle.wasm_operators.specs.Instructions.{Instruction, variable, table, access, memory, constant, reference, cast, conversion, structure, array}
 use Rattle.wasm_flat_operators.specs.declared.variables.VariableOperator.TheVariants.{LocalGet, LocalSet}
@@ -18,12 +19,9 @@ use Rattle.wasm_flat_operators.specs.declared.structs.StructOperator.TheVariants
 use Rattle.wasm_flat_operators.specs.declared.arrays.ArrayOperator.TheVariants.{ArrayNew, ArrayNewDefault, ArrayNewFixed, ArrayNewData, ArrayNewElem, ArrayGet, ArrayGetS, ArrayGetU, ArraySet, ArrayLen, ArrayFill, ArrayCopy, ArrayInitData, ArrayInitElem}
 use Rattle.wasm_operator_steps.specs.Samples.{ref, ref_null, ref_of, plain_heap, body, runs, gives_i32, an_i32, an_i64, dropped, trap, closed, in_block, all_pass, none_pass}
 
--- with every feature, descriptors too, and with none
+-- with every feature, descriptors too
 abbrev pub described : List (Instruction ℕ) → Bool
 described ops = body (features true) 0 ops
-
-abbrev pub bare : List (Instruction ℕ) → Bool
-bare ops = body (features false) 0 ops
 
 abbrev pub null : Heap ℕ → Instruction ℕ
 null h = reference (references.ref_null h)
@@ -106,7 +104,7 @@ References =
 abbrev pub NoReferences : Type 0
 NoReferences =
     none_pass (
-    runs (null (concrete 13) ∷ dropped ∷ []) ∷
+    runs (null (concrete 14) ∷ dropped ∷ []) ∷
     gives_i32 (an_i32 ∷ reference ref_is_null ∷ []) ∷
     gives_i32 (null (concrete 5) ∷ null (plain_heap func_heap) ∷ reference ref_eq ∷ []) ∷
     described (null (abstract_heap true i31_heap) ∷ null (plain_heap i31_heap) ∷ reference ref_eq ∷ dropped ∷ []) ∷
@@ -129,6 +127,9 @@ Casts =
     all_pass (
     gives_i32 (null (plain_heap eq_heap) ∷ cast (ref_test (ref_of false (concrete 5))) ∷ []) ∷
     runs (null (plain_heap any_heap) ∷ cast (ref_cast (ref_of false (concrete 5))) ∷ variable (LocalSet 2) ∷ []) ∷
+    described (null (plain_heap exn_heap) ∷ cast (ref_test (ref_of false (plain_heap exn_heap))) ∷ dropped ∷ []) ∷
+    described (null (plain_heap exn_heap) ∷ cast (ref_cast (ref_of true (plain_heap exn_heap))) ∷ dropped ∷ []) ∷
+    described (in_block (value_block (ref_null (plain_heap cont_heap))) ∷ null (plain_heap cont_heap) ∷ cast (br_on_cast 0 (ref_of true (plain_heap cont_heap)) (ref_of true (plain_heap nocont_heap))) ∷ closed ∷ dropped ∷ []) ∷
     around (concrete 6) (cast (br_on_cast 0 (ref_of false (concrete 5)) (ref_of false (concrete 6))) ∷ variable (LocalSet 2) ∷ []) ∷
     around (concrete 5) (cast (br_on_cast_fail 0 (ref_of false (concrete 5)) (ref_of false (concrete 6))) ∷ dropped ∷ []) ∷
     around (concrete 5) (null (concrete 5) ∷ cast (br_on_cast_fail 0 (ref_of true (concrete 5)) (ref_of true (concrete 6))) ∷ dropped ∷ []) ∷
@@ -138,8 +139,13 @@ abbrev pub NoCasts : Type 0
 NoCasts =
     none_pass (
     gives_i32 (null (plain_heap func_heap) ∷ cast (ref_test (ref_of false (concrete 5))) ∷ []) ∷
-    gives_i32 (null (plain_heap eq_heap) ∷ cast (ref_test (ref_of false (concrete 13))) ∷ []) ∷
+    gives_i32 (null (plain_heap eq_heap) ∷ cast (ref_test (ref_of false (concrete 14))) ∷ []) ∷
     runs (null (plain_heap any_heap) ∷ cast (ref_cast (ref_of true (concrete 5))) ∷ variable (LocalSet 2) ∷ []) ∷
+    described (null (plain_heap cont_heap) ∷ cast (ref_test (ref_of false (plain_heap cont_heap))) ∷ dropped ∷ []) ∷
+    described (null (plain_heap cont_heap) ∷ cast (ref_test (ref_of true (plain_heap nocont_heap))) ∷ dropped ∷ []) ∷
+    described (null (plain_heap cont_heap) ∷ cast (ref_cast (ref_of true (plain_heap cont_heap))) ∷ dropped ∷ []) ∷
+    described (trap ∷ cast (ref_cast (ref_of false (plain_heap nocont_heap))) ∷ dropped ∷ []) ∷
+    described (trap ∷ cast (ref_cast (ref_of false (concrete 13))) ∷ dropped ∷ []) ∷
     around (concrete 6) (cast (br_on_cast 0 (ref_of false (concrete 6)) (ref_of false (concrete 5))) ∷ variable (LocalSet 2) ∷ []) ∷
     around (concrete 6) (cast (br_on_cast 0 (ref_of false (concrete 5)) (ref_of false (concrete 7))) ∷ variable (LocalSet 2) ∷ []) ∷
     around (concrete 6) (cast (br_on_cast 0 (ref_of false (concrete 5)) (ref_of true (concrete 6))) ∷ variable (LocalSet 2) ∷ []) ∷
@@ -235,11 +241,6 @@ Descriptors =
     all_pass (
     described (null (exact 12) ∷ structure (StructNewDesc 11) ∷ dropped ∷ []) ∷
     described (null (exact 12) ∷ structure (StructNewDefaultDesc 11) ∷ dropped ∷ []) ∷
-    described (null (concrete 11) ∷ cast (ref_get_desc 11) ∷ dropped ∷ []) ∷
-    described (null (exact 11) ∷ cast (ref_get_desc 11) ∷ structure (StructNewDesc 11) ∷ dropped ∷ []) ∷
-    described (null (plain_heap any_heap) ∷ null (concrete 12) ∷ cast (ref_cast_desc_eq (ref_of true (concrete 11))) ∷ dropped ∷ []) ∷
-    described (in_block (value_block (ref (exact 11))) ∷ null (plain_heap any_heap) ∷ null (exact 12) ∷ cast (br_on_cast_desc_eq 0 (ref_of true (plain_heap any_heap)) (ref_of false (exact 11))) ∷ trap ∷ closed ∷ dropped ∷ []) ∷
-    described (in_block (value_block (ref_null (plain_heap any_heap))) ∷ null (plain_heap any_heap) ∷ null (exact 12) ∷ cast (br_on_cast_desc_eq_fail 0 (ref_of true (plain_heap any_heap)) (ref_of false (exact 11))) ∷ trap ∷ closed ∷ dropped ∷ []) ∷
     described (structure (StructNewDefault 5) ∷ cast (ref_cast (ref_of false (exact 5))) ∷ dropped ∷ []) ∷
     described (in_block (value_block (ref (concrete 7))) ∷ variable (LocalGet 0) ∷ cast (br_on_cast 0 (ref_of false (concrete 5)) (ref_of false (concrete 7))) ∷ trap ∷ closed ∷ dropped ∷ []) ∷
     []) ≡ true
@@ -252,45 +253,67 @@ NoDescriptors =
     described (structure (StructNew 11) ∷ dropped ∷ []) ∷
     described (structure (StructNewDefault 11) ∷ dropped ∷ []) ∷
     described (null (exact 12) ∷ structure (StructNewDefaultDesc 5) ∷ dropped ∷ []) ∷
-    described (null (concrete 5) ∷ cast (ref_get_desc 11) ∷ dropped ∷ []) ∷
-    described (null (concrete 11) ∷ cast (ref_get_desc 11) ∷ structure (StructNewDesc 11) ∷ dropped ∷ []) ∷
-    described (null (plain_heap any_heap) ∷ null (concrete 12) ∷ cast (ref_cast_desc_eq (ref_of true (exact 11))) ∷ dropped ∷ []) ∷
-    described (in_block (value_block (ref (exact 11))) ∷ null (plain_heap any_heap) ∷ null (exact 12) ∷ cast (br_on_cast_desc_eq 0 (ref_of true (plain_heap any_heap)) (ref_of true (exact 11))) ∷ trap ∷ closed ∷ dropped ∷ []) ∷
     described (in_block (value_block (ref (concrete 0))) ∷ variable (LocalGet 0) ∷ cast (br_on_cast 0 (ref_of false (concrete 5)) (ref_of false (concrete 0))) ∷ trap ∷ closed ∷ dropped ∷ []) ∷
     []) ≡ true
 
--- features: of vectors, references, bulk instructions, garbage collection and shared references
-abbrev pub HeapNeedsFeatures : Type 0
-HeapNeedsFeatures =
-    none_pass (
-    bare (constant (V128Const (record { low = 0; high = 0 })) ∷ dropped ∷ []) ∷
-    bare (an_i32 ∷ accessing F32Load 0 0 0 ∷ dropped ∷ []) ∷
-    bare (trap ∷ accessing F64Store 0 0 0 ∷ []) ∷
-    bare (an_i32 ∷ an_i32 ∷ an_i32 ∷ memory (MemoryFill 0) ∷ []) ∷
-    bare (an_i32 ∷ an_i32 ∷ an_i32 ∷ memory (MemoryCopy 0 0) ∷ []) ∷
-    bare (an_i32 ∷ an_i32 ∷ an_i32 ∷ memory (MemoryInit 0 0) ∷ []) ∷
-    bare (memory (DataDrop 0) ∷ []) ∷
-    bare (table (TableSize 0) ∷ dropped ∷ []) ∷
-    bare (an_i32 ∷ table (TableGet 0) ∷ dropped ∷ []) ∷
-    bare (trap ∷ table (TableSet 0) ∷ []) ∷
-    bare (trap ∷ table (TableGrow 0) ∷ []) ∷
-    bare (trap ∷ table (TableFill 0) ∷ []) ∷
-    bare (trap ∷ table (TableCopy 0 0) ∷ []) ∷
-    bare (trap ∷ table (TableInit 0 0) ∷ []) ∷
-    bare (table (ElemDrop 0) ∷ []) ∷
-    bare (trap ∷ reference ref_is_null ∷ []) ∷
-    bare (trap ∷ reference ref_eq ∷ []) ∷
-    bare (trap ∷ reference ref_as_non_null ∷ []) ∷
-    bare (trap ∷ reference (br_on_null 0) ∷ []) ∷
-    bare (trap ∷ reference (br_on_non_null 0) ∷ []) ∷
-    bare (reference (ref_func 0) ∷ dropped ∷ []) ∷
-    bare (trap ∷ cast (ref_test (ref_of true (plain_heap func_heap))) ∷ []) ∷
-    bare (trap ∷ conversion AnyConvertExtern ∷ []) ∷
-    bare (trap ∷ conversion RefI31 ∷ []) ∷
-    bare (trap ∷ conversion RefI31Shared ∷ []) ∷
-    bare (trap ∷ conversion I31GetS ∷ dropped ∷ []) ∷
-    bare (structure (StructNewDefault 5) ∷ dropped ∷ []) ∷
-    bare (trap ∷ array (ArrayGet 7) ∷ dropped ∷ []) ∷
-    bare (trap ∷ array ArrayLen ∷ dropped ∷ []) ∷
-    runs (trap ∷ cast (ref_get_desc 11) ∷ []) ∷
+-- every feature
+abbrev pub every : Features
+every = features true
+
+-- accepted with every feature, and refused with these
+abbrev pub needs : Features → List (Instruction ℕ) → Bool
+needs fewer ops = body every 0 ops && not (body fewer 0 ops)
+
+-- features: of vectors, floating-point numbers and bulk instructions
+abbrev pub MemoriesNeedFeatures : Type 0
+MemoriesNeedFeatures =
+    all_pass (
+    needs (record every { simd = false }) (constant (V128Const (record { low = 0; high = 0 })) ∷ dropped ∷ []) ∷
+    needs (record every { floats = false }) (an_i32 ∷ accessing F32Load 0 0 0 ∷ dropped ∷ []) ∷
+    needs (record every { floats = false }) (trap ∷ accessing F64Store 0 0 0 ∷ []) ∷
+    needs (record every { bulk_memory = false }) (an_i32 ∷ an_i32 ∷ an_i32 ∷ memory (MemoryFill 0) ∷ []) ∷
+    needs (record every { bulk_memory = false }) (an_i32 ∷ an_i32 ∷ an_i32 ∷ memory (MemoryCopy 0 0) ∷ []) ∷
+    needs (record every { bulk_memory = false }) (an_i32 ∷ an_i32 ∷ an_i32 ∷ memory (MemoryInit 0 0) ∷ []) ∷
+    needs (record every { bulk_memory = false }) (memory (DataDrop 0) ∷ []) ∷
+    needs (record every { bulk_memory = false }) (trap ∷ table (TableCopy 0 0) ∷ []) ∷
+    needs (record every { bulk_memory = false }) (trap ∷ table (TableInit 0 0) ∷ []) ∷
+    needs (record every { bulk_memory = false }) (table (ElemDrop 0) ∷ []) ∷
+    []) ≡ true
+
+-- of references
+abbrev pub ReferencesNeedFeatures : Type 0
+ReferencesNeedFeatures =
+    all_pass (
+    needs (record every { reference_types = false }) (table (TableSize 0) ∷ dropped ∷ []) ∷
+    needs (record every { reference_types = false }) (an_i32 ∷ table (TableGet 0) ∷ dropped ∷ []) ∷
+    needs (record every { reference_types = false }) (trap ∷ table (TableSet 0) ∷ []) ∷
+    needs (record every { reference_types = false }) (trap ∷ table (TableGrow 0) ∷ dropped ∷ []) ∷
+    needs (record every { reference_types = false }) (trap ∷ table (TableFill 0) ∷ []) ∷
+    needs (record every { reference_types = false }) (reference (ref_func 0) ∷ dropped ∷ []) ∷
+    needs (record every { reference_types = false }) (trap ∷ reference ref_is_null ∷ dropped ∷ []) ∷
+    needs (record every { function_references = false }) (trap ∷ reference ref_as_non_null ∷ dropped ∷ []) ∷
+    needs (record every { function_references = false }) (trap ∷ reference (br_on_null 0) ∷ dropped ∷ []) ∷
+    needs (record every { function_references = false }) (in_block (value_block (ref_null (plain_heap func_heap))) ∷ trap ∷ reference (br_on_non_null 0) ∷ trap ∷ closed ∷ dropped ∷ []) ∷
+    []) ≡ true
+
+-- of garbage collection, shared references and descriptors
+abbrev pub AggregatesNeedFeatures : Type 0
+AggregatesNeedFeatures =
+    all_pass (
+    needs (record every { gc = false }) (trap ∷ reference ref_eq ∷ dropped ∷ []) ∷
+    needs (record every { gc = false }) (trap ∷ cast (ref_test (ref_of true (plain_heap func_heap))) ∷ dropped ∷ []) ∷
+    needs (record every { gc = false }) (trap ∷ conversion AnyConvertExtern ∷ dropped ∷ []) ∷
+    needs (record every { gc = false }) (trap ∷ conversion ExternConvertAny ∷ dropped ∷ []) ∷
+    needs (record every { gc = false }) (an_i32 ∷ conversion RefI31 ∷ dropped ∷ []) ∷
+    needs (record every { gc = false }) (trap ∷ conversion I31GetS ∷ dropped ∷ []) ∷
+    needs (record every { gc = false }) (structure (StructNewDefault 5) ∷ dropped ∷ []) ∷
+    needs (record every { gc = false }) (trap ∷ array (ArrayGet 7) ∷ dropped ∷ []) ∷
+    needs (record every { gc = false }) (trap ∷ array ArrayLen ∷ dropped ∷ []) ∷
+    needs (record every { gc_types = false }) (trap ∷ conversion AnyConvertExtern ∷ dropped ∷ []) ∷
+    needs (record every { gc_types = false }) (trap ∷ conversion ExternConvertAny ∷ dropped ∷ []) ∷
+    needs (record every { gc_types = false }) (an_i32 ∷ conversion RefI31 ∷ dropped ∷ []) ∷
+    needs (record every { gc_types = false }) (an_i32 ∷ conversion RefI31Shared ∷ dropped ∷ []) ∷
+    needs (record every { shared_everything_threads = false }) (an_i32 ∷ conversion RefI31Shared ∷ dropped ∷ []) ∷
+    needs (record every { custom_descriptors = false }) (trap ∷ structure (StructNewDesc 11) ∷ dropped ∷ []) ∷
+    needs (record every { custom_descriptors = false }) (trap ∷ structure (StructNewDefaultDesc 11) ∷ dropped ∷ []) ∷
     []) ≡ true

@@ -11,6 +11,8 @@ pub mod Renaming
 pub mod ConstantExpressions
 pub mod Identities
 pub mod Laws
+pub mod StackLaws
 pub mod Samples
 pub mod ControlExamples
 pub mod HeapExamples
+pub mod SharedExamples

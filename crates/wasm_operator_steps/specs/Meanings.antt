@@ -2,11 +2,11 @@
 -- Core Specification 3.0, Appendix, Validation Algorithm, and Validation, Instructions.
 use Rattle.std.specs.Prelude.{ℕ, zero, suc, Bool, true, false, not, ◌&&◌, ◌||◌, ◌==◌, ◌^◌, ◌-◌, nat_lt, nat_le, List, [], ◌∷◌, ◌++◌, map, length, drop, Option, Some, None, is_some, slice_get, if◌then◌else◌}
 use Rattle.std.specs.Option.{option_map}
-use Rattle.wasm_spec.specs.Syntax.{AbstractHeap, eq_heap, Heap, abstract_heap, concrete, exact, Ref, Val, i32, i64, f32, f64, v128, reference, Storage, i8, i16, unpacked, Field, Comp, func, array, struct, Sub, Memory}
+use Rattle.wasm_spec.specs.Syntax.{AbstractHeap, eq_heap, cont_heap, Heap, abstract_heap, concrete, exact, Ref, Val, i32, i64, f32, f64, v128, reference, Storage, i8, i16, unpacked, Field, Comp, func, array, struct, Sub, Memory}
 use Rattle.wasm_spec.specs.Features.{Features}
-use Rattle.wasm_spec.specs.ValueTypes.{allows_val}
+use Rattle.wasm_spec.specs.ValueTypes.{implies, allows_val}
 use Rattle.wasm_spec.specs.Matching.{top_of_heap, is_shared_heap}
-use Rattle.wasm_spec.specs.MatchingTests.{same_flag}
+use Rattle.wasm_spec.specs.MatchingTests.{same_flag, same_abstract}
 use Rattle.wasm_spec.specs.MatchingTests.{World}
 use Rattle.wasm_spec.specs.MatchingTests.{matches_heap, matches_ref}
 use Rattle.wasm_operators.specs.Control.{Block, empty_block, value_block, func_block}
@@ -17,7 +17,7 @@ use Rattle.wasm_operator_steps.specs.Attempts.{◌>>=◌, guard, passes, among, 
 use Rattle.wasm_operator_steps.specs.Matching.{matches_vals, matches_storage}
 use Rattle.wasm_operator_steps.specs.Bodies.{Surroundings}
 use Rattle.wasm_operator_steps.specs.Machine.{Operand, bottom_reference, open_reference, known, Kind, loop_kind, if_kind, else_kind, is_if, Frame, State, push_operand, push_vals, pop_any, pop_reference, non_null, same_number, chosen, become_unreachable, push_frame, set_local, pop_vals}
-use Rattle.wasm_operator_steps.specs.Actions.{Signed, of_type, of_function, of_tag, Types, these, params, results, label, returned, local, global, function_reference, new_reference, fields, element, field, table_address, memory_address, table_element, segment, lesser_table_address, lesser_memory_address, top, descriptor_of, repeated, front, last, joined, Needed, multi_value, reference_types, bulk_memory, exceptions, function_references, gc, shared_everything_threads, custom_descriptors, Check, has, allows, global_is_mutable, local_is_set, function_is_referenced, is_exception, each_matches, may_be_cast, is_aligned, fields_have_defaults, has_no_descriptor, field_is_mutable, field_is_packed, element_is_mutable, element_has_default, element_is_number, element_is_packed, element_is_storable, data_is_there, segment_is_there, Action, need, refuse, take, give, take_any, take_reference, take_comparable, make_non_null, choose, stop, turn_to_else, leave, take_below, convert, describe, enter, set, branch_on_null, branch_to_one_of}
+use Rattle.wasm_operator_steps.specs.Actions.{Signed, of_type, of_function, of_tag, Types, these, params, results, label, returned, local, global, function_reference, new_reference, fields, element, field, table_address, memory_address, table_element, segment, lesser_table_address, lesser_memory_address, top, descriptor_of, repeated, front, last, joined, Needed, multi_value, reference_types, bulk_memory, exceptions, function_references, gc, shared_everything_threads, custom_descriptors, Check, has, allows, global_is_mutable, local_is_set, function_is_referenced, is_exception, each_matches, may_be_cast, can_be_tested, is_aligned, fields_have_defaults, has_no_descriptor, field_is_mutable, field_is_packed, element_is_mutable, element_has_default, element_is_number, element_is_packed, element_is_storable, data_is_there, segment_is_there, reaches_global, reaches_table, reaches_type, reaches_function, Action, need, refuse, take, give, take_any, take_reference, take_comparable, make_non_null, choose, stop, turn_to_else, leave, take_below, convert, enter, set, branch_on_null, branch_to_one_of}
 
 -- what goes in, and what comes out
 pub record Signature (R : Type 0) : Type 0 where
@@ -98,6 +98,11 @@ module _ {R : Type 0} where
 
   abbrev pub one : Option (Val R) → Option (List (Val R))
   one v = option_map list_of v
+
+  -- the greatest type of the continuations
+  abbrev pub is_of_continuations : Heap R → Bool
+  is_of_continuations (abstract_heap s k) = same_abstract k cont_heap
+  is_of_continuations _ = false
 
   -- the address type of 64 bits or of 32
   abbrev pub address : Bool → Val R
@@ -182,12 +187,6 @@ module _ {R : Type 0} (W : World R) (B : Surroundings R) where
   abbrev pub descriptor_at : ℕ → Option R
   descriptor_at n = sub_at n >>= λ d. d.descriptor
 
-  -- of a heap type, exactly where that is exact
-  abbrev pub descriptor_heap : Heap ℕ → Option (Heap R)
-  descriptor_heap (concrete n) = option_map concrete (descriptor_at n)
-  descriptor_heap (exact n) = option_map exact (descriptor_at n)
-  descriptor_heap (abstract_heap s k) = None
-
   abbrev pub top_heap : Heap ℕ → Option (Heap R)
   top_heap h = resolve_heap B.context.types h >>= top_of_heap W.declared
 
@@ -217,7 +216,7 @@ module _ {R : Type 0} (W : World R) (B : Surroundings R) where
   types_at s (lesser_table_address m n) = one (option_map address (both (table_is_64 m) (table_is_64 n)))
   types_at s (lesser_memory_address m n) = one (option_map address (both (memory_is_64 m) (memory_is_64 n)))
   types_at s (top r) = one (option_map (ref_to true) (top_heap r.heap))
-  types_at s (descriptor_of r) = one (option_map (ref_to true) (descriptor_heap r.heap))
+  types_at s (descriptor_of n) = one (option_map (λ a. ref_to true (exact a)) (descriptor_at n))
   types_at s (repeated n t) = option_map (copies n) (types_at s t)
   types_at s (front t) = option_map front_of (types_at s t)
   types_at s (last t) = one (types_at s t >>= last_of)
@@ -241,6 +240,7 @@ module _ {R : Type 0} (W : World R) (B : Surroundings R) where
   holds s (is_exception n) = passes (λ g. length g.gives == 0) (signature_at (of_tag n))
   holds s (each_matches t u) = passes (λ vs. passes (matches_vals W vs) (types_at s u)) (types_at s t)
   holds s (may_be_cast r q) = passes (λ a. passes (casts a) (resolve_ref B.context.types q)) (resolve_ref B.context.types r)
+  holds s (can_be_tested r) = passes (λ h. not (is_of_continuations h)) (top_heap r.heap)
   holds s (is_aligned op m) = passes (allows_memarg op m) (slice_get B.context.memories m.memory)
   holds s (fields_have_defaults n) = passes all_have_defaults (fields_at n)
   holds s (has_no_descriptor n) = passes (λ d. not (is_some d.descriptor)) (sub_at n)
@@ -253,6 +253,10 @@ module _ {R : Type 0} (W : World R) (B : Surroundings R) where
   holds s (element_is_storable m n) = passes (λ x. passes (λ y. matches_storage W x.storage y.storage) (element_at n)) (element_at m)
   holds s (data_is_there n) = passes (nat_lt n) B.context.data_count
   holds s (segment_is_there n) = is_some (slice_get B.context.elements n)
+  holds s (reaches_global n) = implies B.shared (passes (λ g. g.shared) (slice_get B.context.globals n))
+  holds s (reaches_table n) = implies B.shared (passes (λ t. t.shared) (slice_get B.context.tables n))
+  holds s (reaches_type n) = implies B.shared (passes (λ d. d.shared) (sub_at n))
+  holds s (reaches_function n) = implies B.shared (passes (λ d. d.shared) (slice_get B.context.functions n >>= sub_at))
 
   -- a reference below an abstract heap type, shared or not
   abbrev pub is_below_either : AbstractHeap → Operand R → Bool
@@ -270,15 +274,6 @@ module _ {R : Type 0} (W : World R) (B : Surroundings R) where
   abbrev pub converted : AbstractHeap → Operand R → Operand R
   converted k (known (reference r)) = known (ref_to r.nullable (abstract_heap (is_shared_heap W.declared r.heap) k))
   converted k _ = open_reference k
-
-  -- the descriptor of a structure of type a, where that is b: of exactly b from exactly a
-  abbrev pub described : R → R → Operand R → Option (Operand R)
-  described a b (known (reference r)) =
-      if matches_heap W r.heap (exact a) then Some (known (ref_to false (exact b)))
-      else (if matches_heap W r.heap (concrete a) then Some (known (ref_to false (concrete b))) else None)
-  described a b (open_reference k) = guard (matches_heap W (abstract_heap (is_shared_heap W.declared (concrete a)) k) (concrete a)) (known (ref_to false (exact b)))
-  described a b bottom_reference = Some (known (ref_to false (exact b)))
-  described a b _ = None
 
   -- the operands without the results of the innermost frame, and the frames and locals without it
   abbrev pub pop_frame : Frame R → List (Frame R) → Signature R → State R → Option (State R)
@@ -338,12 +333,6 @@ module _ {R : Type 0} (W : World R) (B : Surroundings R) where
   act (convert j k) s = do
     p ← pop_reference s
     guard (is_below_either j p.0) (push_operand (converted k p.0) p.1)
-  act (describe n) s = do
-    a ← slice_get B.context.types n
-    b ← descriptor_at n
-    p ← pop_reference s
-    x ← described a b p.0
-    Some (push_operand x p.1)
   act choose s = do
     p ← pop_any s
     q ← pop_any p.1

@@ -1,6 +1,6 @@
 -- A module to try steps in: its identities of types are numbers, and not those of its type indices.
 use Rattle.std.specs.Prelude.{ℕ, Bool, true, false, not, ◌&&◌, nat_eq, pos, List, [], ◌∷◌, ◌++◌, Some, None}
-use Rattle.wasm_spec.specs.Syntax.{AbstractHeap, func_heap, Heap, abstract_heap, concrete, Ref, Val, i32, i64, reference, Storage, i8, unpacked, Field, Comp, func, array, struct, Sub, Table, Memory, Global}
+use Rattle.wasm_spec.specs.Syntax.{AbstractHeap, func_heap, Heap, abstract_heap, concrete, Ref, Val, i32, i64, reference, Storage, i8, unpacked, Field, Comp, func, array, struct, cont, Sub, Table, Memory, Global}
 use Rattle.wasm_spec.specs.Features.{Features}
 use Rattle.wasm_spec.specs.TypeExamples.{features}
 use Rattle.wasm_rules.specs.Contexts.{Context}
@@ -34,7 +34,8 @@ abbrev pub extending : List ℕ → Comp ℕ → Sub ℕ
 extending supers c = record { is_final = false; supers = supers; shared = false; comp = c; descriptor = None; describes = None }
 
 -- Under the identity 10 + x the type of index x: functions 0 to 4; a structure and one below it, 5 and 6; arrays of mutable numbers, of
--- mutable references and of immutable bytes, 7 to 9; a structure without default, 10; and one with its descriptor, 11 and 12.
+-- mutable references and of immutable bytes, 7 to 9; a structure without default, 10; one with its descriptor, 11 and 12; and a
+-- continuation, 13.
 abbrev pub declares : List (ℕ × Sub ℕ)
 declares =
     (10, final (func [] [])) ∷
@@ -49,7 +50,8 @@ declares =
     (19, final (array (field_of false i8))) ∷
     (20, final (struct (field_of true (unpacked (ref (concrete 15))) ∷ []))) ∷
     (21, record { is_final = true; supers = []; shared = false; comp = struct []; descriptor = Some 22; describes = None }) ∷
-    (22, record { is_final = true; supers = []; shared = false; comp = struct []; descriptor = None; describes = Some 21 }) ∷ []
+    (22, record { is_final = true; supers = []; shared = false; comp = struct []; descriptor = None; describes = Some 21 }) ∷
+    (23, final (cont 10)) ∷ []
 
 abbrev pub table_of : Bool → Ref ℕ → Table ℕ
 table_of is_64 r = record { element = r; is_64 = is_64; minimum = 0; maximum = None; shared = false }
@@ -65,7 +67,7 @@ global_of mutable v = record { content = v; mutable = mutable; shared = false }
 -- one, and with a result; segments of functions and of structures; one data segment; and the first function is referenced.
 abbrev pub context : Context ℕ
 context = record {
-  types = 10 ∷ 11 ∷ 12 ∷ 13 ∷ 14 ∷ 15 ∷ 16 ∷ 17 ∷ 18 ∷ 19 ∷ 20 ∷ 21 ∷ 22 ∷ [];
+  types = 10 ∷ 11 ∷ 12 ∷ 13 ∷ 14 ∷ 15 ∷ 16 ∷ 17 ∷ 18 ∷ 19 ∷ 20 ∷ 21 ∷ 22 ∷ 23 ∷ [];
   declares = declares;
   functions = 0 ∷ 1 ∷ 2 ∷ 3 ∷ [];
   exact = true ∷ true ∷ false ∷ true ∷ [];
@@ -84,7 +86,7 @@ locals = locals_of (ref (concrete 15) ∷ []) (i32 ∷ ref (concrete 15) ∷ [])
 
 -- with these features; with all but descriptors; with all; and with none
 abbrev pub sample : Features → Surroundings ℕ
-sample F = record { features = F; context = context; locals = locals }
+sample F = record { features = F; context = context; locals = locals; shared = false }
 
 abbrev pub without_descriptors : Features
 without_descriptors = record (features true) { custom_descriptors = false }

@@ -1,7 +1,7 @@
 -- The first table: each instruction has one of few shapes, with what it checks, takes and gives.
 -- Core Specification 3.0, Validation, Instructions, and the proposals for shared references and for custom descriptors.
 use Rattle.std.specs.Prelude.{ℕ, Bool, true, false, if◌then◌else◌, List, [], ◌∷◌, ◌++◌}
-use Rattle.wasm_spec.specs.Syntax.{AbstractHeap, any_heap, i31_heap, array_heap, func_heap, extern_heap, exn_heap, Heap, abstract_heap, concrete, exact, Ref, Val, i32, i64, f32, f64, v128, reference}
+use Rattle.wasm_spec.specs.Syntax.{AbstractHeap, any_heap, i31_heap, array_heap, func_heap, extern_heap, exn_heap, Heap, abstract_heap, concrete, Ref, Val, i32, i64, f32, f64, v128, reference}
 use Rattle.wasm_numeric_operators.specs.Signatures.{signature_of, saturating_signature_of}
 use Rattle.wasm_numeric_operators.specs.declared.signatures.NumberType.{NumberType}
 use Rattle.wasm_numeric_operators.specs.declared.signatures.NumberType.TheVariants as number
@@ -35,12 +35,12 @@ use Rattle.wasm_flat_operators.specs.declared.structs.StructOperator.TheVariants
 use Rattle.wasm_flat_operators.specs.declared.arrays.ArrayOperator.{ArrayOperator}
 use Rattle.wasm_flat_operators.specs.declared.arrays.ArrayOperator.TheVariants.{ArrayNew, ArrayNewDefault, ArrayNewFixed, ArrayNewData, ArrayNewElem, ArrayGet, ArrayGetS, ArrayGetU, ArraySet, ArrayLen, ArrayFill, ArrayCopy, ArrayInitData, ArrayInitElem}
 use Rattle.wasm_operator_steps.specs.Machine.{Kind, block_kind, loop_kind, if_kind, try_table_kind}
-use Rattle.wasm_operator_steps.specs.Actions.{of_type, of_function, of_tag, Types, these, params, results, label, returned, local, global, function_reference, new_reference, fields, element, field, table_address, memory_address, table_element, segment, lesser_table_address, lesser_memory_address, top, descriptor_of, repeated, front, last, joined, multi_value, reference_types, bulk_memory, exceptions, function_references, gc, shared_everything_threads, custom_descriptors, Check, has, allows, global_is_mutable, local_is_set, function_is_referenced, is_exception, each_matches, may_be_cast, is_aligned, fields_have_defaults, has_no_descriptor, field_is_mutable, field_is_packed, element_is_mutable, element_has_default, element_is_number, element_is_packed, element_is_storable, data_is_there, segment_is_there}
+use Rattle.wasm_operator_steps.specs.Actions.{of_type, of_function, of_tag, Types, these, params, results, label, returned, local, global, function_reference, new_reference, fields, element, field, table_address, memory_address, table_element, segment, lesser_table_address, lesser_memory_address, top, descriptor_of, repeated, front, last, joined, Needed, multi_value, reference_types, bulk_memory, exceptions, function_references, gc, shared_everything_threads, custom_descriptors, Check, has, allows, global_is_mutable, local_is_set, function_is_referenced, is_exception, each_matches, may_be_cast, can_be_tested, is_aligned, fields_have_defaults, has_no_descriptor, field_is_mutable, field_is_packed, element_is_mutable, element_has_default, element_is_number, element_is_packed, element_is_storable, data_is_there, segment_is_there, reaches_global, reaches_table, reaches_type, reaches_function}
 
 -- Shapes: takes some operands and gives others; takes some, and what follows isn't reached; takes some and enters a block; `end`; `else`;
 -- takes any operand; chooses one of two; tests a reference for null; asserts that it isn't null; branches where it is null; branches
 -- where it isn't; branches by a table; sets a local; sets it and gives it back; takes a reference below an abstract heap type, shared
--- or not; takes two that may be compared; turns a reference of one hierarchy into one of another; gives a descriptor; is never valid.
+-- or not; takes two that may be compared; turns a reference of one hierarchy into one of another; is never valid.
 pub data Shape : Type 0 where
   plain : List Check → Types → Types → Shape
   ending : List Check → Types → Shape
@@ -53,7 +53,6 @@ pub data Shape : Type 0 where
   measuring : List Check → AbstractHeap → Types → Shape
   comparing : List Check → Types → Shape
   converting : List Check → AbstractHeap → AbstractHeap → Shape
-  describing : List Check → ℕ → Shape
 
 -- words on types
 abbrev pub nothing : Types
@@ -81,7 +80,7 @@ with_i32s t vs = joined t (these vs)
 abbrev pub block_checks : Block ℕ → List Check
 block_checks empty_block = []
 block_checks (value_block v) = allows v ∷ []
-block_checks (func_block n) = has multi_value ∷ []
+block_checks (func_block n) = has multi_value ∷ reaches_type n ∷ []
 
 -- catch clauses: what a tag has, and the exception where it is asked for, matches the label
 abbrev pub exception : Types
@@ -119,13 +118,16 @@ returns t = each_matches t returned
 abbrev pub holds_functions : ℕ → Check
 holds_functions n = each_matches (table_element n) (one (reference_to true (abstract_heap false func_heap)))
 
+abbrev pub indirect_checks : ℕ → ℕ → List Check
+indirect_checks y x = reaches_table x ∷ reaches_type y ∷ holds_functions x ∷ []
+
 abbrev pub call_shape : CallOperator → Shape
-call_shape (Call x) = plain [] (params (of_function x)) (results (of_function x))
-call_shape (CallIndirect y x) = plain (holds_functions x ∷ []) (joined (params (of_type y)) (table_address x)) (results (of_type y))
-call_shape (CallRef y) = plain (has function_references ∷ []) (joined (params (of_type y)) (one (nullable_to y))) (results (of_type y))
-call_shape (ReturnCall x) = ending (returns (results (of_function x)) ∷ []) (params (of_function x))
-call_shape (ReturnCallIndirect y x) = ending (holds_functions x ∷ returns (results (of_type y)) ∷ []) (joined (params (of_type y)) (table_address x))
-call_shape (ReturnCallRef y) = ending (has function_references ∷ returns (results (of_type y)) ∷ []) (joined (params (of_type y)) (one (nullable_to y)))
+call_shape (Call x) = plain (reaches_function x ∷ []) (params (of_function x)) (results (of_function x))
+call_shape (CallIndirect y x) = plain (indirect_checks y x) (joined (params (of_type y)) (table_address x)) (results (of_type y))
+call_shape (CallRef y) = plain (has function_references ∷ reaches_type y ∷ []) (joined (params (of_type y)) (one (nullable_to y))) (results (of_type y))
+call_shape (ReturnCall x) = ending (reaches_function x ∷ returns (results (of_function x)) ∷ []) (params (of_function x))
+call_shape (ReturnCallIndirect y x) = ending (returns (results (of_type y)) ∷ indirect_checks y x) (joined (params (of_type y)) (table_address x))
+call_shape (ReturnCallRef y) = ending (has function_references ∷ reaches_type y ∷ returns (results (of_type y)) ∷ []) (joined (params (of_type y)) (one (nullable_to y)))
 
 -- Parametric Instructions: a `select` names one type
 abbrev pub parametric_shape : Parametric ℕ → Shape
@@ -140,19 +142,19 @@ abbrev pub variable_shape : VariableOperator → Shape
 variable_shape (LocalGet x) = plain (local_is_set x ∷ []) nothing (local x)
 variable_shape (LocalSet x) = setting x
 variable_shape (LocalTee x) = giving_back x
-variable_shape (GlobalGet x) = plain [] nothing (global x)
-variable_shape (GlobalSet x) = plain (global_is_mutable x ∷ []) (global x) nothing
+variable_shape (GlobalGet x) = plain (reaches_global x ∷ []) nothing (global x)
+variable_shape (GlobalSet x) = plain (reaches_global x ∷ global_is_mutable x ∷ []) (global x) nothing
 
 -- Table Instructions
 abbrev pub table_shape : TableOperator → Shape
-table_shape (TableGet x) = plain (has reference_types ∷ []) (table_address x) (table_element x)
-table_shape (TableSet x) = plain (has reference_types ∷ []) (joined (table_address x) (table_element x)) nothing
-table_shape (TableSize x) = plain (has reference_types ∷ []) nothing (table_address x)
-table_shape (TableGrow x) = plain (has reference_types ∷ []) (joined (table_element x) (table_address x)) (table_address x)
-table_shape (TableFill x) = plain (has reference_types ∷ []) (joined (table_address x) (joined (table_element x) (table_address x))) nothing
+table_shape (TableGet x) = plain (has reference_types ∷ reaches_table x ∷ []) (table_address x) (table_element x)
+table_shape (TableSet x) = plain (has reference_types ∷ reaches_table x ∷ []) (joined (table_address x) (table_element x)) nothing
+table_shape (TableSize x) = plain (has reference_types ∷ reaches_table x ∷ []) nothing (table_address x)
+table_shape (TableGrow x) = plain (has reference_types ∷ reaches_table x ∷ []) (joined (table_element x) (table_address x)) (table_address x)
+table_shape (TableFill x) = plain (has reference_types ∷ reaches_table x ∷ []) (joined (table_address x) (joined (table_element x) (table_address x))) nothing
 table_shape (TableCopy x y) =
-    plain (has bulk_memory ∷ each_matches (table_element y) (table_element x) ∷ []) (joined (table_address x) (joined (table_address y) (lesser_table_address x y))) nothing
-table_shape (TableInit y x) = plain (has bulk_memory ∷ each_matches (segment y) (table_element x) ∷ []) (with_i32s (table_address x) (i32 ∷ i32 ∷ [])) nothing
+    plain (has bulk_memory ∷ reaches_table x ∷ reaches_table y ∷ each_matches (table_element y) (table_element x) ∷ []) (joined (table_address x) (joined (table_address y) (lesser_table_address x y))) nothing
+table_shape (TableInit y x) = plain (has bulk_memory ∷ reaches_table x ∷ each_matches (segment y) (table_element x) ∷ []) (with_i32s (table_address x) (i32 ∷ i32 ∷ [])) nothing
 table_shape (ElemDrop y) = plain (has bulk_memory ∷ segment_is_there y ∷ []) nothing nothing
 
 -- Memory Instructions
@@ -226,9 +228,10 @@ reference_shape (references.ref_func x) = plain (has reference_types ∷ functio
 reference_shape (references.br_on_null l) = branching_on_null (has function_references ∷ []) l
 reference_shape (references.br_on_non_null l) = branching_on_non_null (has function_references ∷ []) l
 
--- casts, and branches on a cast, to q from r: with a label whose last type is that of the reference that it gets
+-- casts to q, which isn't of the continuations' hierarchy; and branches on a cast, to q from r: with a label whose last type is that of
+-- the reference that it gets
 abbrev pub cast_checks : Ref ℕ → List Check
-cast_checks q = has gc ∷ allows (reference q) ∷ []
+cast_checks q = has gc ∷ allows (reference q) ∷ can_be_tested q ∷ []
 
 abbrev pub branch_checks : ℕ → Ref ℕ → Ref ℕ → Val ℕ → List Check
 branch_checks l r q sent = has gc ∷ allows (reference r) ∷ allows (reference q) ∷ may_be_cast r q ∷ each_matches (one sent) (last (label l)) ∷ []
@@ -241,56 +244,62 @@ cast_shape (references.ref_test q) = plain (cast_checks q) (top q) (one i32)
 cast_shape (references.ref_cast q) = plain (cast_checks q) (top q) (one (reference q))
 cast_shape (references.br_on_cast l r q) = plain (branch_checks l r q (reference q)) (kept l (reference r)) (kept l (difference r q))
 cast_shape (references.br_on_cast_fail l r q) = plain (branch_checks l r q (difference r q)) (kept l (reference r)) (kept l (reference q))
-cast_shape (references.ref_get_desc x) = describing (has custom_descriptors ∷ []) x
-cast_shape (references.ref_cast_desc_eq q) = plain (has custom_descriptors ∷ cast_checks q) (joined (top q) (descriptor_of q)) (one (reference q))
-cast_shape (references.br_on_cast_desc_eq l r q) =
-    plain (has custom_descriptors ∷ branch_checks l r q (reference q)) (joined (kept l (reference r)) (descriptor_of q)) (kept l (difference r q))
-cast_shape (references.br_on_cast_desc_eq_fail l r q) =
-    plain (has custom_descriptors ∷ branch_checks l r q (difference r q)) (joined (kept l (reference r)) (descriptor_of q)) (kept l (reference q))
 
--- External and unboxed references
+-- External and unboxed references: each type that is given is one that the features allow
+abbrev pub small_integer : Bool → Val ℕ
+small_integer shared = reference_to false (abstract_heap shared i31_heap)
+
+abbrev pub boxing : Needed → Bool → Shape
+boxing p shared = plain (has p ∷ allows (small_integer shared) ∷ []) (one i32) (one (small_integer shared))
+
 abbrev pub conversion_shape : ConversionOperator → Shape
-conversion_shape AnyConvertExtern = converting (has gc ∷ []) extern_heap any_heap
-conversion_shape ExternConvertAny = converting (has gc ∷ []) any_heap extern_heap
-conversion_shape RefI31 = plain (has gc ∷ []) (one i32) (one (reference_to false (abstract_heap false i31_heap)))
-conversion_shape RefI31Shared = plain (has shared_everything_threads ∷ []) (one i32) (one (reference_to false (abstract_heap true i31_heap)))
+conversion_shape AnyConvertExtern = converting (has gc ∷ allows (reference_to true (abstract_heap false any_heap)) ∷ []) extern_heap any_heap
+conversion_shape ExternConvertAny = converting (has gc ∷ allows (reference_to true (abstract_heap false extern_heap)) ∷ []) any_heap extern_heap
+conversion_shape RefI31 = boxing gc false
+conversion_shape RefI31Shared = boxing shared_everything_threads true
 conversion_shape I31GetS = measuring (has gc ∷ []) i31_heap (one i32)
 conversion_shape I31GetU = measuring (has gc ∷ []) i31_heap (one i32)
 
--- Aggregate Instructions: structures. A packed field is read with a sign or without, another as it is.
+-- Aggregate Instructions: the checks of each that names a type
+abbrev pub aggregate_checks : ℕ → List Check → List Check
+aggregate_checks x cs = has gc ∷ reaches_type x ∷ cs
+
+abbrev pub described_checks : ℕ → List Check → List Check
+described_checks x cs = has custom_descriptors ∷ reaches_type x ∷ cs
+
+-- structures; a packed field is read with a sign or without, another as it is
 abbrev pub getting : Bool → ℕ → ℕ → Shape
-getting packed x i = plain (has gc ∷ field_is_packed packed x i ∷ []) (one (nullable_to x)) (field x i)
+getting packed x i = plain (aggregate_checks x (field_is_packed packed x i ∷ [])) (one (nullable_to x)) (field x i)
 
 abbrev pub struct_shape : StructOperator → Shape
-struct_shape (StructNew x) = plain (has gc ∷ has_no_descriptor x ∷ []) (fields x) (new_reference x)
-struct_shape (StructNewDefault x) = plain (has gc ∷ has_no_descriptor x ∷ fields_have_defaults x ∷ []) nothing (new_reference x)
+struct_shape (StructNew x) = plain (aggregate_checks x (has_no_descriptor x ∷ [])) (fields x) (new_reference x)
+struct_shape (StructNewDefault x) = plain (aggregate_checks x (has_no_descriptor x ∷ fields_have_defaults x ∷ [])) nothing (new_reference x)
 struct_shape (StructGet x i) = getting false x i
 struct_shape (StructGetS x i) = getting true x i
 struct_shape (StructGetU x i) = getting true x i
-struct_shape (StructSet x i) = plain (has gc ∷ field_is_mutable x i ∷ []) (joined (one (nullable_to x)) (field x i)) nothing
-struct_shape (StructNewDesc x) = plain (has custom_descriptors ∷ []) (joined (fields x) (descriptor_of (record { nullable = false; heap = exact x }))) (new_reference x)
-struct_shape (StructNewDefaultDesc x) =
-    plain (has custom_descriptors ∷ fields_have_defaults x ∷ []) (descriptor_of (record { nullable = false; heap = exact x })) (new_reference x)
+struct_shape (StructSet x i) = plain (aggregate_checks x (field_is_mutable x i ∷ [])) (joined (one (nullable_to x)) (field x i)) nothing
+struct_shape (StructNewDesc x) = plain (described_checks x []) (joined (fields x) (descriptor_of x)) (new_reference x)
+struct_shape (StructNewDefaultDesc x) = plain (described_checks x (fields_have_defaults x ∷ [])) (descriptor_of x) (new_reference x)
 
 -- arrays
 abbrev pub item : Bool → ℕ → Shape
-item packed x = plain (has gc ∷ element_is_packed packed x ∷ []) (these (nullable_to x ∷ i32 ∷ [])) (element x)
+item packed x = plain (aggregate_checks x (element_is_packed packed x ∷ [])) (these (nullable_to x ∷ i32 ∷ [])) (element x)
 
 abbrev pub array_shape : ArrayOperator → Shape
-array_shape (ArrayNew x) = plain (has gc ∷ []) (joined (element x) (one i32)) (new_reference x)
-array_shape (ArrayNewDefault x) = plain (has gc ∷ element_has_default x ∷ []) (one i32) (new_reference x)
-array_shape (ArrayNewFixed x n) = plain (has gc ∷ []) (repeated n (element x)) (new_reference x)
-array_shape (ArrayNewData x y) = plain (has gc ∷ element_is_number x ∷ data_is_there y ∷ []) (these (i32 ∷ i32 ∷ [])) (new_reference x)
-array_shape (ArrayNewElem x y) = plain (has gc ∷ each_matches (segment y) (element x) ∷ []) (these (i32 ∷ i32 ∷ [])) (new_reference x)
+array_shape (ArrayNew x) = plain (aggregate_checks x []) (joined (element x) (one i32)) (new_reference x)
+array_shape (ArrayNewDefault x) = plain (aggregate_checks x (element_has_default x ∷ [])) (one i32) (new_reference x)
+array_shape (ArrayNewFixed x n) = plain (aggregate_checks x []) (repeated n (element x)) (new_reference x)
+array_shape (ArrayNewData x y) = plain (aggregate_checks x (element_is_number x ∷ data_is_there y ∷ [])) (these (i32 ∷ i32 ∷ [])) (new_reference x)
+array_shape (ArrayNewElem x y) = plain (aggregate_checks x (each_matches (segment y) (element x) ∷ [])) (these (i32 ∷ i32 ∷ [])) (new_reference x)
 array_shape (ArrayGet x) = item false x
 array_shape (ArrayGetS x) = item true x
 array_shape (ArrayGetU x) = item true x
-array_shape (ArraySet x) = plain (has gc ∷ element_is_mutable x ∷ []) (joined (these (nullable_to x ∷ i32 ∷ [])) (element x)) nothing
+array_shape (ArraySet x) = plain (aggregate_checks x (element_is_mutable x ∷ [])) (joined (these (nullable_to x ∷ i32 ∷ [])) (element x)) nothing
 array_shape ArrayLen = measuring (has gc ∷ []) array_heap (one i32)
-array_shape (ArrayFill x) = plain (has gc ∷ element_is_mutable x ∷ []) (joined (these (nullable_to x ∷ i32 ∷ [])) (with_i32s (element x) (i32 ∷ []))) nothing
-array_shape (ArrayCopy x y) = plain (has gc ∷ element_is_mutable x ∷ element_is_storable y x ∷ []) (these (nullable_to x ∷ i32 ∷ nullable_to y ∷ i32 ∷ i32 ∷ [])) nothing
-array_shape (ArrayInitData x y) = plain (has gc ∷ element_is_mutable x ∷ element_is_number x ∷ data_is_there y ∷ []) (these (nullable_to x ∷ i32 ∷ i32 ∷ i32 ∷ [])) nothing
-array_shape (ArrayInitElem x y) = plain (has gc ∷ element_is_mutable x ∷ each_matches (segment y) (element x) ∷ []) (these (nullable_to x ∷ i32 ∷ i32 ∷ i32 ∷ [])) nothing
+array_shape (ArrayFill x) = plain (aggregate_checks x (element_is_mutable x ∷ [])) (joined (these (nullable_to x ∷ i32 ∷ [])) (with_i32s (element x) (i32 ∷ []))) nothing
+array_shape (ArrayCopy x y) = plain (aggregate_checks x (reaches_type y ∷ element_is_mutable x ∷ element_is_storable y x ∷ [])) (these (nullable_to x ∷ i32 ∷ nullable_to y ∷ i32 ∷ i32 ∷ [])) nothing
+array_shape (ArrayInitData x y) = plain (aggregate_checks x (element_is_mutable x ∷ element_is_number x ∷ data_is_there y ∷ [])) (these (nullable_to x ∷ i32 ∷ i32 ∷ i32 ∷ [])) nothing
+array_shape (ArrayInitElem x y) = plain (aggregate_checks x (element_is_mutable x ∷ each_matches (segment y) (element x) ∷ [])) (these (nullable_to x ∷ i32 ∷ i32 ∷ i32 ∷ [])) nothing
 
 -- all instructions
 abbrev pub shape_of : Instruction ℕ → Shape

@@ -4,8 +4,10 @@
 #![tactic(auto)]
 
 ghost use Rattle.wasm_operator_steps.specs.Laws.{StepsRename, NumericShapesByOpcode, VerdictsRename, ConstantsGiveReferences, WorldsAreRight};
+ghost use Rattle.wasm_operator_steps.specs.StackLaws.{ListsAreTakenInTurn, TakingKeepsFrames, TypesAreTakenInTurn, UnreachedCodeTakesAnything, EqualTypesMatch, EqualTypesMatchInContexts, ActionsAreRunInTurn};
 ghost use Rattle.wasm_operator_steps.specs.ControlExamples.{Blocks, NoBlocks, Branches, NoBranches, Calls, NoCalls, Exceptions, NoExceptions, Parametrics, NoParametrics, Variables, NoVariables, ControlNeedsFeatures, Constants, NoConstants, ConstantInstructions, NoConstantInstructions};
-ghost use Rattle.wasm_operator_steps.specs.HeapExamples.{Memories, NoMemories, Tables, NoTables, References, NoReferences, Casts, NoCasts, Conversions, NoConversions, Structures, NoStructures, Arrays, NoArrays, Descriptors, NoDescriptors, HeapNeedsFeatures};
+ghost use Rattle.wasm_operator_steps.specs.HeapExamples.{Memories, NoMemories, Tables, NoTables, References, NoReferences, Casts, NoCasts, Conversions, NoConversions, Structures, NoStructures, Arrays, NoArrays, Descriptors, NoDescriptors, MemoriesNeedFeatures, ReferencesNeedFeatures, AggregatesNeedFeatures};
+ghost use Rattle.wasm_operator_steps.specs.SharedExamples.{ReachesGlobalsAndTables, ReachesFunctions, ReachesStructures, ReachesArrays, ReachesTheRest};
 
 /// Steps over other identities of types are the same steps with each identity renamed, where the renaming keeps which
 /// are the same.
@@ -55,7 +57,19 @@ pub fn heap_examples()
     ensures no_arrays { NoArrays }
     ensures descriptors { Descriptors }
     ensures no_descriptors { NoDescriptors }
-    ensures heap_needs_features { HeapNeedsFeatures }
+    ensures memories_need_features { MemoriesNeedFeatures }
+    ensures references_need_features { ReferencesNeedFeatures }
+    ensures aggregates_need_features { AggregatesNeedFeatures }
+{}
+
+/// Bodies of shared functions, which reach only what is shared, and of functions that are not.
+#[tactic(auto, using(crate::proofs::SharedRuns::shared_runs))]
+pub fn shared_examples()
+    ensures globals_and_tables { ReachesGlobalsAndTables }
+    ensures functions { ReachesFunctions }
+    ensures structures { ReachesStructures }
+    ensures arrays { ReachesArrays }
+    ensures the_rest { ReachesTheRest }
 {}
 
 /// Numeric operators take and give what their opcodes say.
@@ -82,4 +96,27 @@ pub fn constants_give_references<R>()
 #[tactic(auto, using(crate::proofs::WorldsDecided::worlds_are_right))]
 pub fn worlds_are_right<R>()
     ensures right { WorldsAreRight R }
+{}
+
+/// Two lists, or a list and its last item, are taken and given in turn, and only operands change. In code that is not
+/// reached anything can be taken at the height of the frame.
+#[tactic(auto, using(crate::proofs::TakenInTurn::taken_in_turn))]
+pub fn operands_are_taken_in_turn<R>()
+    ensures lists { ListsAreTakenInTurn R }
+    ensures frames { TakingKeepsFrames R }
+    ensures types { TypesAreTakenInTurn R }
+    ensures unreached { UnreachedCodeTakesAnything R }
+{}
+
+/// Actions and steps one behind the other are run in turn, and where the first are refused so is all of the run.
+#[tactic(auto, using(crate::proofs::TakenInTurn::actions_are_run_in_turn))]
+pub fn actions_are_run_in_turn<R>()
+    ensures { ActionsAreRunInTurn R }
+{}
+
+/// Equal types match, in each world in which each identity is below itself and the same as itself, and in each context.
+#[tactic(auto, using(crate::proofs::EqualTypesMatch::themselves))]
+pub fn equal_types_match<R>()
+    ensures worlds { EqualTypesMatch R }
+    ensures contexts { EqualTypesMatchInContexts R }
 {}

@@ -2,7 +2,7 @@
 use Rattle.std.specs.Prelude.{ℕ, List, map}
 use Rattle.wasm_spec.specs.Syntax.{Ref, map_heap, map_ref, map_val}
 use Rattle.wasm_operators.specs.Control.{Block, empty_block, value_block, func_block, Control, unreachable, nop, else_, end_, throw_ref, return_, block, loop, if_, try_table, throw, br, br_if, br_table, Parametric, drop_, select, select_of}
-use Rattle.wasm_operators.specs.References.{Reference, ref_null, ref_is_null, ref_eq, ref_as_non_null, ref_func, br_on_null, br_on_non_null, Cast, ref_test, ref_cast, ref_cast_desc_eq, br_on_cast, br_on_cast_fail, br_on_cast_desc_eq, br_on_cast_desc_eq_fail, ref_get_desc}
+use Rattle.wasm_operators.specs.References.{Reference, ref_null, ref_is_null, ref_eq, ref_as_non_null, ref_func, br_on_null, br_on_non_null, Cast, ref_test, ref_cast, br_on_cast, br_on_cast_fail}
 use Rattle.wasm_operators.specs.Instructions.{Instruction, control, call, parametric, variable, table, access, memory, constant, numeric, saturating, reference, cast, conversion, structure, array}
 use Rattle.wasm_operators.specs.declared.control.Catch.{Catch}
 
@@ -51,12 +51,8 @@ module _ {R S : Type 0} (f : R → S) where
   abbrev pub map_cast : Cast R → Cast S
   map_cast (ref_test t) = ref_test (map_ref f t)
   map_cast (ref_cast t) = ref_cast (map_ref f t)
-  map_cast (ref_cast_desc_eq t) = ref_cast_desc_eq (map_ref f t)
   map_cast (br_on_cast l a b) = br_on_cast l (map_ref f a) (map_ref f b)
   map_cast (br_on_cast_fail l a b) = br_on_cast_fail l (map_ref f a) (map_ref f b)
-  map_cast (br_on_cast_desc_eq l a b) = br_on_cast_desc_eq l (map_ref f a) (map_ref f b)
-  map_cast (br_on_cast_desc_eq_fail l a b) = br_on_cast_desc_eq_fail l (map_ref f a) (map_ref f b)
-  map_cast (ref_get_desc x) = ref_get_desc x
 
   abbrev pub map_instruction : Instruction R → Instruction S
   map_instruction (control op) = control (map_control op)

@@ -1,5 +1,5 @@
 -- Core Specification 3.0, Binary Format, Instructions, Reference Instructions, with those that branch on null, and casts of
--- references, with those of the proposal for custom descriptors. A type index x is read as what it stands for, `to x`.
+-- references. A type index x is read as what it stands for, `to x`.
 use Rattle.std.specs.Prelude.{ℕ, Bool, true, false, ◌==◌, if◌then◌else◌, List, Option, Some, None}
 use Rattle.std.specs.Option.{option_map, option_and_then}
 use Rattle.wasm_spec.specs.Syntax.{Heap, Ref}
@@ -12,12 +12,10 @@ pub data Reference (R : Type 0) : Type 0 where
   ref_is_null ref_eq ref_as_non_null : Reference R
   ref_func br_on_null br_on_non_null : ℕ → Reference R
 
--- Tests and casts to a type; branches on a cast, with a label, the type of the operand and the type that it is cast to; and
--- those of descriptors, which cast to the type that a descriptor describes.
+-- Tests and casts to a type; and branches on a cast, with a label, the type of the operand and the type that it is cast to.
 pub data Cast (R : Type 0) : Type 0 where
-  ref_test ref_cast ref_cast_desc_eq : Ref R → Cast R
-  br_on_cast br_on_cast_fail br_on_cast_desc_eq br_on_cast_desc_eq_fail : ℕ → Ref R → Ref R → Cast R
-  ref_get_desc : ℕ → Cast R
+  ref_test ref_cast : Ref R → Cast R
+  br_on_cast br_on_cast_fail : ℕ → Ref R → Ref R → Cast R
 
 -- a reference type
 abbrev pub reference_to : {R : Type 0} → Bool → Heap R → Ref R
@@ -66,7 +64,7 @@ module _ {R : Type 0} (to : ℕ → R) where
   abbrev pub cast_branch : (ℕ → Ref R → Ref R → Cast R) → List ℕ → Option (Cast R × List ℕ)
   cast_branch op bytes = option_map (λ x. (op x.0.0 x.0.1 x.0.2, x.1)) (branch_at bytes)
 
-  -- casts by their number behind the prefix fb; those from 34 on are of custom descriptors
+  -- casts by their number behind the prefix fb
   unfoldable pub cast_from : ℕ → List ℕ → Option (Cast R × List ℕ)
   cast_from n bytes =
       if n == 20 then one_type ref_test false bytes
@@ -75,9 +73,4 @@ module _ {R : Type 0} (to : ℕ → R) where
       else (if n == 23 then one_type ref_cast true bytes
       else (if n == 24 then cast_branch br_on_cast bytes
       else (if n == 25 then cast_branch br_on_cast_fail bytes
-      else (if n == 34 then one_index ref_get_desc bytes
-      else (if n == 35 then one_type ref_cast_desc_eq false bytes
-      else (if n == 36 then one_type ref_cast_desc_eq true bytes
-      else (if n == 37 then cast_branch br_on_cast_desc_eq bytes
-      else (if n == 38 then cast_branch br_on_cast_desc_eq_fail bytes
-      else None))))))))))
+      else None)))))

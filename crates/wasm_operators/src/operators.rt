@@ -76,10 +76,8 @@ fn read_aggregate<'a>(
             Some(op) => Ok(Operator::Conversion(op)),
             None => Err(unknown(offset)),
         }
-    } else if code < 34 {
-        Ok(Operator::Struct(read_struct(reader, code, offset)?))
     } else {
-        Ok(Operator::Cast(read_cast(reader, code, offset)?))
+        Ok(Operator::Struct(read_struct(reader, code, offset)?))
     }
 }
 

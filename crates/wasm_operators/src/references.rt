@@ -28,7 +28,7 @@ pub enum ReferenceOperator {
 }
 
 /// Tests and casts of references (Core Specification 3.0, Binary Format, Instructions, Reference
-/// Instructions), with the branches on casts and those of custom descriptors.
+/// Instructions), with the branches on casts.
 #[derive(Clone, Copy, Debug)]
 pub enum CastOperator {
     RefTestNonNull {
@@ -49,25 +49,6 @@ pub enum CastOperator {
         to_ref_type: RefType,
     },
     BrOnCastFail {
-        relative_depth: u32,
-        from_ref_type: RefType,
-        to_ref_type: RefType,
-    },
-    RefGetDesc {
-        type_index: u32,
-    },
-    RefCastDescEqNonNull {
-        hty: HeapType,
-    },
-    RefCastDescEqNullable {
-        hty: HeapType,
-    },
-    BrOnCastDescEq {
-        relative_depth: u32,
-        from_ref_type: RefType,
-        to_ref_type: RefType,
-    },
-    BrOnCastDescEqFail {
         relative_depth: u32,
         from_ref_type: RefType,
         to_ref_type: RefType,
@@ -198,31 +179,6 @@ pub(crate) fn read_cast(
         25 => {
             let (relative_depth, from_ref_type, to_ref_type) = read_branch(reader)?;
             Ok(CastOperator::BrOnCastFail {
-                relative_depth,
-                from_ref_type,
-                to_ref_type,
-            })
-        }
-        34 => Ok(CastOperator::RefGetDesc {
-            type_index: reader.read_var_u32()?,
-        }),
-        35 => Ok(CastOperator::RefCastDescEqNonNull {
-            hty: read_heap_type(reader)?,
-        }),
-        36 => Ok(CastOperator::RefCastDescEqNullable {
-            hty: read_heap_type(reader)?,
-        }),
-        37 => {
-            let (relative_depth, from_ref_type, to_ref_type) = read_branch(reader)?;
-            Ok(CastOperator::BrOnCastDescEq {
-                relative_depth,
-                from_ref_type,
-                to_ref_type,
-            })
-        }
-        38 => {
-            let (relative_depth, from_ref_type, to_ref_type) = read_branch(reader)?;
-            Ok(CastOperator::BrOnCastDescEqFail {
                 relative_depth,
                 from_ref_type,
                 to_ref_type,

@@ -26,9 +26,9 @@ fn every_opcode(rt: HostRuntime) {
 fn aggregate_length_of(code: u8) -> Option<u64> {
     match code {
         15 | 26..=30 => Some(2),
-        0 | 1 | 6 | 7 | 11..=14 | 16 | 20..=23 | 32..=36 => Some(3),
+        0 | 1 | 6 | 7 | 11..=14 | 16 | 20..=23 | 32 | 33 => Some(3),
         2..=5 | 8..=10 | 17..=19 => Some(4),
-        24 | 25 | 37 | 38 => Some(6),
+        24 | 25 => Some(6),
         _ => None,
     }
 }

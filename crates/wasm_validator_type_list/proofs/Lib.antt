@@ -13,4 +13,5 @@ pub mod Grouped
 pub mod Composite
 pub mod Joined
 pub mod Worlds
+pub mod Unknown
 pub mod Order

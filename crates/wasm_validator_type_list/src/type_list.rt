@@ -21,6 +21,7 @@ mod depths;
 mod interning;
 mod matching;
 mod relations;
+mod total;
 
 /// The number of each group, found by its sub types.
 type KnownGroups<A> = HashMap<RecGroup<A>, u32, BuildHasherDefault<FoldHasher>, A>;

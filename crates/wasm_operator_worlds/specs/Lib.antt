@@ -1,0 +1,2 @@
+pub mod ListContexts
+pub mod IndexContexts
