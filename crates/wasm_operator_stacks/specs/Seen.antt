@@ -14,7 +14,7 @@ abbrev pub state_of : {A : Type 0} → Stacks A → State UnpackedIndex
 state_of v = record { operands = map operand_of v.operands; frames = frames_seen v.is_open v.frame v.outer; inits = v.locals.inits }
 
 abbrev pub surroundings : Features → Bool → Context UnpackedIndex → List (Local UnpackedIndex) → Surroundings UnpackedIndex
-surroundings F shared C locals = record { features = F; context = C; locals = locals }
+surroundings F shared C locals = record { features = F; context = C; locals = locals; shared = shared }
 
 -- what a body's code is checked in
 abbrev pub around : {A : Type 0} → Stacks A → Context UnpackedIndex → Surroundings UnpackedIndex
