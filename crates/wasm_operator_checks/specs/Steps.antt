@@ -1,9 +1,10 @@
 -- The words for what operators do.
-use Rattle.std.specs.Prelude.{◌≡◌, ◌≤◌, ℕ, List, length, Option, Some, None, Result, Ok, Err}
+use Rattle.std.specs.Prelude.{◌≡◌, ◌≤◌, ℕ, Bool, List, length, Option, Some, None, Result, Ok, Err}
+use Rattle.wasm_spec.specs.Syntax.{Val}
 use Rattle.wasm_rules.specs.Contexts.{Context}
 use Rattle.wasm_readers_types.specs.declared.indices.UnpackedIndex.{UnpackedIndex}
-use Rattle.wasm_operator_steps.specs.Actions.{Action}
-use Rattle.wasm_operator_steps.specs.Meanings.{run}
+use Rattle.wasm_operator_steps.specs.Actions.{Action, Check, Types}
+use Rattle.wasm_operator_steps.specs.Meanings.{run, holds, types_at}
 use Rattle.wasm_operator_steps.specs.Machine as machine
 use Rattle.wasm_operator_steps.specs.Machine.{State}
 use Rattle.wasm_module_resources.specs.Answers.{world}
@@ -25,13 +26,20 @@ abbrev pub Checked : Result ℕ OperatorFault → Option (State UnpackedIndex) �
 Checked (Ok k) o s = (o ≡ Some (below k s)) × (k ≤ length s.operands)
 Checked (Err f) o s = o ≡ None
 
--- some actions from the state of the stacks
-abbrev pub acted : {A : Type 0} → Stacks A → Context UnpackedIndex → List Action → Option (State UnpackedIndex)
-acted v C actions = run (world C) (around v C) actions (state_of v)
-
 -- A step: where it is taken the machine takes it to the same state; where the code is refused the machine refuses it; and where it
 -- isn't taken nothing changed.
-abbrev pub Took : {X : Type 0} → Result X OperatorError → Option (State UnpackedIndex) → State UnpackedIndex → State UnpackedIndex → Type 0
+unfoldable pub Took : Result (Unit {0}) OperatorError → Option (State UnpackedIndex) → State UnpackedIndex → State UnpackedIndex → Type 0
 Took (Ok x) o old new = o ≡ Some new
 Took (Err (Refused f)) o old new = (o ≡ None) × (new ≡ old)
 Took (Err OutOfMemory) o old new = new ≡ old
+
+module _ {A : Type 0} (v : Stacks A) (C : Context UnpackedIndex) where
+  -- some actions from the state of the stacks, the types that a name stands for there, and whether a check holds there
+  unfoldable pub acted : List Action → Option (State UnpackedIndex)
+  acted actions = run (world C) (around v C) actions (state_of v)
+
+  unfoldable pub typed : Types → Option (List (Val UnpackedIndex))
+  typed t = types_at (world C) (around v C) (state_of v) t
+
+  unfoldable pub held : Check → Bool
+  held c = holds (world C) (around v C) (state_of v) c

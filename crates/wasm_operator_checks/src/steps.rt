@@ -13,7 +13,7 @@ use wasm_operator_stacks::Stacks;
 
 /// Takes operands of some types, and gives others. Where that can't be, all stays.
 #[inline(always)]
-#[tactic(auto, using(crate::proofs::Taking::exchanges))]
+#[tactic(auto, using(crate::proofs::Taking::exchanges), unfolding(crate::specs::Steps::Took))]
 pub fn plain<'a, A: Allocator, T: WasmModuleResources>(
     stacks: &mut Stacks<A>,
     resources: &T,
