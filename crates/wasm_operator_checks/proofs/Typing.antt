@@ -13,9 +13,9 @@ use Rattle.wasm_flat_operators.specs.Memories.{max_align_of}
 use Rattle.wasm_flat_operators.specs.declared.memories.MemoryOperator.{MemoryOperator}
 use Rattle.wasm_flat_operators.specs.declared.memories.MemArg.{MemArg}
 use Rattle.wasm_type_words.specs.Seen.{number_val}
-use Rattle.wasm_operator_steps.specs.Actions.{Types, these, memory_address, lesser_memory_address, joined, is_aligned, data_is_there}
+use Rattle.wasm_operator_steps.specs.Actions.{Types, Check, these, memory_address, lesser_memory_address, joined, is_aligned, data_is_there}
 use Rattle.wasm_operator_steps.specs.Attempts.{◌>>=◌, passes}
-use Rattle.wasm_operator_steps.specs.Meanings.{types_at, address, allows_memarg}
+use Rattle.wasm_operator_steps.specs.Meanings.{types_at, holds, resolve_val, address, allows_memarg}
 use Rattle.wasm_operator_steps.specs.Shapes.{number_type}
 use Rattle.wasm_module_resources.specs.Answers.{world}
 use Rattle.wasm_operator_stacks.specs.Seen.{state_of, around}
@@ -26,6 +26,20 @@ module _ {A : Type 0} (v : Stacks A) (C : Context UnpackedIndex) where
   pub nothing_typed : typed v C (these []) ≡ Some []
   unfolding typed
   nothing_typed = refl
+
+  -- a written type that is known
+  pub written_typed : (w : Val ℕ) (x : Val UnpackedIndex) → resolve_val C.types w ≡ Some x → typed v C (these (w ∷ [])) ≡ Some (x ∷ [])
+  unfolding typed
+  written_typed w x e = rw e refl
+
+  -- by what they compute to
+  pub types_typed : (t : Types) (o : Option (List (Val UnpackedIndex))) → types_at (world C) (around v C) (state_of v) t ≡ o → typed v C t ≡ o
+  unfolding typed
+  types_typed t o e = e
+
+  pub check_held : (c : Check) (b : Bool) → holds (world C) (around v C) (state_of v) c ≡ b → held v C c ≡ b
+  unfolding held
+  check_held c b e = e
 
   pub number_typed : (n : NumberType) (x : Val UnpackedIndex) → x ≡ number_val n → typed v C (these (number_type n ∷ [])) ≡ Some (x ∷ [])
   unfolding typed
@@ -84,14 +98,10 @@ module _ {A : Type 0} (v : Stacks A) (C : Context UnpackedIndex) where
   aligned_missing op a e = rw (← e) refl
 
   -- data segments
-  pub data_there : (n k : ℕ) (b : Bool) → Some k ≡ C.data_count → nat_lt n k ≡ b → held v C (data_is_there n) ≡ b
+  pub data_held : (n : ℕ) (b : Bool) → passes (nat_lt n) C.data_count ≡ b → held v C (data_is_there n) ≡ b
   unfolding held
-  data_there n k b e f = rw (← e) f
-
-  pub data_missing : (n : ℕ) → None ≡ C.data_count → held v C (data_is_there n) ≡ false
-  unfolding held
-  data_missing n e = rw (← e) refl
+  data_held n b e = e
 
 pub ruleset types = (nothing_typed, number_typed, two_numbers_typed, i32_typed, two_i32s_typed, joined_typed, first_untyped, second_untyped)
 
-pub ruleset memories = (memory_typed, memory_untyped, lesser_memory_typed, aligned_held, aligned_missing, data_there, data_missing)
+pub ruleset memories = (memory_typed, memory_untyped, lesser_memory_typed, aligned_held, aligned_missing, data_held)
