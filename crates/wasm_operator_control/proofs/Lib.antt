@@ -1,0 +1,2 @@
+pub mod Locally
+pub mod Globally
