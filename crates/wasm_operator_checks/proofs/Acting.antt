@@ -1,9 +1,8 @@
 -- Steps by their actions: the lemmas that families of operators stand on. Each speaks of words that don't unfold, so that `search`
 -- finds them by what is written.
-use Rattle.std.proofs.Common.{◌≡◌, ℕ, Bool, true, false, List, [], ◌∷◌, ◌++◌, refl, sym, ◌∙◌, ap, subst}
+use Rattle.std.proofs.Common.{◌≡◌, ℕ, Bool, true, false, List, [], ◌∷◌, refl, sym, subst}
 use Rattle.std.specs.Prelude.{Some, None, Option, Result, Ok, Err}
-use Rattle.std.specs.Option.{option_map}
-use Rattle.wasm_spec.specs.Syntax.{Val, reference}
+use Rattle.wasm_spec.specs.Syntax.{Val}
 use Rattle.wasm_spec.specs.ValueTypes.{allows_val}
 use Rattle.wasm_spec.specs.MatchingTests.{World}
 use Rattle.wasm_rules.specs.Contexts.{Context}
@@ -11,18 +10,15 @@ use Rattle.wasm_rules.specs.FeatureFlags.{features_of}
 use Rattle.wasm_readers_types.specs.declared.indices.UnpackedIndex.{UnpackedIndex}
 use Rattle.wasm_operator_steps.specs.Attempts.{◌>>=◌, guard}
 use Rattle.wasm_operator_steps.specs.Bodies.{Surroundings}
-use Rattle.wasm_operator_steps.specs.Actions as named
-use Rattle.wasm_operator_steps.specs.Actions.{Types, Needed, Check, has, allows, Action, need, take, give, these, params, results, label, returned, local, global, function_reference, new_reference, descriptor_of, fields, element, field, table_address, memory_address, table_element, segment, lesser_table_address, lesser_memory_address, top, repeated, front, last, joined}
-use Rattle.wasm_operator_steps.specs.Meanings.{run, act, types_at, holds, is_on, copies, one}
-use Rattle.wasm_operator_steps.specs.Attempts.{front_of, last_of}
-use Rattle.wasm_operator_steps.specs.Machine.{State, pop_vals, push_vals}
-use Rattle.wasm_operator_steps.specs.Steps.{actions_of}
+use Rattle.wasm_operator_steps.specs.Actions.{Types, Needed, Check, has, allows, Action, need, take, give, stop}
+use Rattle.wasm_operator_steps.specs.Meanings.{run, types_at, holds, is_on}
+use Rattle.wasm_operator_steps.specs.Machine.{State, become_unreachable, pop_vals, push_vals}
 use Rattle.wasm_operator_steps.proofs.TakenInTurn.{types_at-frames, pop_vals-frames}
 use Rattle.wasm_module_resources.specs.Answers.{world}
 use Rattle.wasm_operator_stacks.specs.Seen.{state_of, around}
 use Rattle.wasm_operator_stacks.specs.declared.stacks.Stacks.{Stacks}
 use Rattle.wasm_operator_checks.specs.Steps.{Took, acted, typed, held}
-use Rattle.wasm_operator_checks.specs.SeenTypes.{exchanged}
+use Rattle.wasm_operator_checks.specs.SeenTypes.{exchanged, halted}
 use Rattle.wasm_operator_checks.specs.declared.faults.OperatorFault.{OperatorFault}
 use Rattle.wasm_operator_checks.specs.declared.faults.OperatorError.{OperatorError}
 use Rattle.wasm_operator_checks.specs.declared.faults.OperatorError.TheVariants.{Refused, OutOfMemory}
@@ -57,6 +53,14 @@ none_given : (W : World UnpackedIndex) (B : Surroundings UnpackedIndex) (t u : T
 none_given W B t u s None p e = rw p refl
 none_given W B t u s (Some vs) p e = rw p (none_after W B u vs s (pop_vals W vs s) refl e)
 
+and_then_some : {X : Type 0} (o : Option X) → (o >>= Some) ≡ o
+and_then_some None = refl
+and_then_some (Some x) = refl
+
+once_more : (o : Option (State UnpackedIndex)) → (o >>= λ s. become_unreachable s >>= Some) ≡ (o >>= become_unreachable)
+once_more None = refl
+once_more (Some s) = and_then_some (become_unreachable s)
+
 module _ {A : Type 0} (v : Stacks A) (C : Context UnpackedIndex) where
   pub needed : (r : Result (Unit {0}) OperatorError) (c : Check) (rest : List Action) (old new : State UnpackedIndex) → held v C c ≡ true → Took r (acted v C rest) old new → Took r (acted v C (need c ∷ rest)) old new
   unfolding acted held
@@ -79,6 +83,10 @@ module _ {A : Type 0} (v : Stacks A) (C : Context UnpackedIndex) where
   unfolding acted typed exchanged
   plainly r t u vs ws old new k e f = took_along r _ _ old new (rw e (given_after (world C) (around v C) u vs ws (state_of v) (pop_vals (world C) vs (state_of v)) refl f)) k
 
+  pub halting : (r : Result (Unit {0}) OperatorError) (t : Types) (vs : List (Val UnpackedIndex)) (old new : State UnpackedIndex) → Took r (halted (world C) vs (state_of v)) old new → typed v C t ≡ Some vs → Took r (acted v C (take t ∷ stop ∷ [])) old new
+  unfolding acted typed halted
+  halting r t vs old new k e = took_along r _ _ old new (rw e (once_more (pop_vals (world C) vs (state_of v)))) k
+
   -- types that aren't there
   pub refused_gives : (f : OperatorFault) (t u : Types) (old : State UnpackedIndex) → typed v C u ≡ None → Took (Err (Refused f)) (acted v C (take t ∷ give u ∷ [])) old old
   unfolding acted typed
@@ -93,4 +101,4 @@ module _ {A : Type 0} (v : Stacks A) (C : Context UnpackedIndex) where
   unfolding held
   allows_held w b e = e
 
-pub ruleset acts = (needed, refused_here, refused_later, refused_takes, refused_gives, plainly, has_held, allows_held, took_ok, took_refused, took_memory)
+pub ruleset acts = (needed, refused_here, refused_later, refused_takes, refused_gives, plainly, halting, has_held, allows_held, took_ok, took_refused, took_memory)

@@ -1,8 +1,8 @@
 -- The types that a name stands for, and the checks that look something up of the module.
-use Rattle.std.proofs.Common.{◌≡◌, ℕ, Bool, true, false, ◌&&◌, ◌||◌, ◌^◌, List, [], ◌∷◌, ◌++◌, refl, sym, ◌∙◌, ap}
+use Rattle.std.proofs.Common.{◌≡◌, ℕ, Bool, false, ◌&&◌, ◌||◌, ◌^◌, List, [], ◌∷◌, ◌++◌, refl}
 use Rattle.std.specs.Option.{option_map}
 use Rattle.std.specs.Prelude.{Option, Some, None, slice_get, nat_le, nat_lt}
-use Rattle.wasm_spec.specs.Syntax.{Val, i32, Memory}
+use Rattle.wasm_spec.specs.Syntax.{Val, i32}
 use Rattle.wasm_rules.specs.Contexts.{Context}
 use Rattle.wasm_numeric_operators.specs.declared.signatures.NumberType.{NumberType}
 use Rattle.wasm_numeric_operators.specs.declared.signatures.NumberType.TheVariants as number
@@ -15,7 +15,7 @@ use Rattle.wasm_flat_operators.specs.declared.memories.MemArg.{MemArg}
 use Rattle.wasm_type_words.specs.Seen.{number_val}
 use Rattle.wasm_operator_steps.specs.Actions.{Types, Check, these, memory_address, lesser_memory_address, joined, is_aligned, data_is_there}
 use Rattle.wasm_operator_steps.specs.Attempts.{◌>>=◌, passes}
-use Rattle.wasm_operator_steps.specs.Meanings.{types_at, holds, resolve_val, address, allows_memarg}
+use Rattle.wasm_operator_steps.specs.Meanings.{types_at, holds, resolve_val, address}
 use Rattle.wasm_operator_steps.specs.Shapes.{number_type}
 use Rattle.wasm_module_resources.specs.Answers.{world}
 use Rattle.wasm_operator_stacks.specs.Seen.{state_of, around}
@@ -67,6 +67,10 @@ module _ {A : Type 0} (v : Stacks A) (C : Context UnpackedIndex) where
   pub joined_typed : (t u : Types) (x : Val UnpackedIndex) (xs : List (Val UnpackedIndex)) → typed v C t ≡ Some (x ∷ []) → typed v C u ≡ Some xs → typed v C (joined t u) ≡ Some (x ∷ xs)
   unfolding typed
   joined_typed t u x xs e f = rw (e, f) refl
+
+  pub both_typed : (t u : Types) (xs ys : List (Val UnpackedIndex)) → typed v C t ≡ Some xs → typed v C u ≡ Some ys → typed v C (joined t u) ≡ Some (xs ++ ys)
+  unfolding typed
+  both_typed t u xs ys e f = rw (e, f) refl
 
   pub first_untyped : (t u : Types) → typed v C t ≡ None → typed v C (joined t u) ≡ None
   unfolding typed

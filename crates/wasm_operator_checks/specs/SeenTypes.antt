@@ -6,7 +6,7 @@ use Rattle.wasm_readers_types.specs.SeenValues.{val_of}
 use Rattle.wasm_readers_types.specs.declared.indices.UnpackedIndex.{UnpackedIndex}
 use Rattle.wasm_type_words.specs.Seen.{val_in}
 use Rattle.wasm_operator_steps.specs.Attempts.{◌>>=◌}
-use Rattle.wasm_operator_steps.specs.Machine.{State, pop_vals, push_vals}
+use Rattle.wasm_operator_steps.specs.Machine.{State, become_unreachable, pop_vals, push_vals}
 use Rattle.wasm_operator_checks.specs.declared.types.Types.{Types}
 use Rattle.wasm_operator_checks.specs.declared.types.Types.TheVariants as types
 use Rattle.wasm_operator_checks.specs.declared.types.Takes.{Takes}
@@ -27,3 +27,7 @@ takes_seen (takes.Many ts) = map val_of ts.now
 -- operands of some types taken, and of others given
 unfoldable pub exchanged : World UnpackedIndex → List (Val UnpackedIndex) → List (Val UnpackedIndex) → State UnpackedIndex → Option (State UnpackedIndex)
 exchanged W vs ws s = pop_vals W vs s >>= λ t. Some (push_vals ws t)
+
+-- operands of some types taken, and the rest of the innermost frame's code unreached
+unfoldable pub halted : World UnpackedIndex → List (Val UnpackedIndex) → State UnpackedIndex → Option (State UnpackedIndex)
+halted W vs s = pop_vals W vs s >>= become_unreachable

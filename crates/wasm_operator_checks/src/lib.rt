@@ -10,5 +10,5 @@ mod types;
 pub use faults::{OperatorError, OperatorFault, OperatorRule};
 pub use looks::{check_many, check_type, look};
 pub use matching::matches;
-pub use steps::plain;
+pub use steps::{halt, plain, plain_with};
 pub use types::{Takes, Types, check_takes, check_types, exchange_types};
