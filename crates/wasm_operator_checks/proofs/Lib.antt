@@ -1,0 +1,6 @@
+pub mod Agreeing
+pub mod Looking
+pub mod Listing
+pub mod Taking
+pub mod Acting
+pub mod Typing

@@ -1,0 +1,14 @@
+use Rattle.std.proofs.Common.{rules, ◌∙◌, ap}
+use Rattle.wasm_readers_types.specs.SeenValues.{val_of}
+use Rattle.wasm_type_words.specs.Seen.{val_in}
+use Rattle.wasm_module_resources.specs.Answers.{world}
+use Rattle.wasm_operator_stacks.specs.Seen.{state_of, below}
+use Rattle.wasm_operator_checks.proofs.Listing.{next_not_popped}
+use Rattle.wasm_operator_checks.proofs.looks.check_many.Goals as goal
+
+pub returns-in_err-taken : goal.returns-in_err-taken
+returns-in_err-taken g c =
+    let e =
+    next_not_popped (world (g.T.WasmModuleResources.context c.args.resources.now)) c.args.types.now c.checking.i c.index-types-count.result (val_in c.new.result) (below c.args.taken (state_of c.args.stacks.now))
+    (below c.checking.taken (state_of c.args.stacks.now)) c.checking-test.true (c.new.ensures ∙ ap val_of c.index-types-count.is) c.checking.invariant.so_far c.in_err-taken.ensures in
+    search rules

@@ -1,0 +1,12 @@
+use Rattle.std.proofs.Common.{◌≡◌, ◌-◌, ◌≤◌, Some, length, drop, map}
+use Rattle.wasm_readers_types.specs.SeenValues.{val_of}
+use Rattle.wasm_operator_steps.specs.Machine.{pop_vals}
+use Rattle.wasm_module_resources.specs.Answers.{world}
+use Rattle.wasm_operator_stacks.specs.Seen.{state_of, below}
+use Rattle.wasm_operator_checks.proofs.looks.check_many.Given as goal
+
+abbrev pub invariant-checking : goal.invariant-checking
+invariant-checking g l = record {
+  so_far : pop_vals (world (g.T.WasmModuleResources.context l.resources)) (map val_of (drop (length l.types - l.i) l.types)) (below l.initial.taken (state_of l.stacks)) ≡ Some (below l.taken (state_of l.stacks));
+  there : l.taken ≤ length (state_of l.stacks).operands;
+}

@@ -1,0 +1,10 @@
+use Rattle.std.proofs.Common.{◌∙◌}
+use Rattle.wasm_type_words.specs.Seen.{val_in}
+use Rattle.wasm_operator_stacks.specs.SeenOperands.{operand_of}
+use Rattle.wasm_operator_checks.proofs.Agreeing.{known_matches}
+use Rattle.wasm_operator_checks.proofs.matching.matches.Goals as goal
+
+pub returns-then-is : goal.returns-then-is
+returns-then-is g c =
+    c.if-is.true
+    ∙ known_matches (g.T.WasmModuleResources.context c.args.resources.now) (operand_of c.args.operand) (val_in c.args.ty) (c.is.ensures c.if-is.true)

@@ -1,0 +1,33 @@
+-- What contracts see of lists of types.
+use Rattle.std.specs.Prelude.{List, [], ◌∷◌, map, Option, Some}
+use Rattle.wasm_spec.specs.Syntax.{Val}
+use Rattle.wasm_spec.specs.MatchingTests.{World}
+use Rattle.wasm_readers_types.specs.SeenValues.{val_of}
+use Rattle.wasm_readers_types.specs.declared.indices.UnpackedIndex.{UnpackedIndex}
+use Rattle.wasm_type_words.specs.Seen.{val_in}
+use Rattle.wasm_operator_steps.specs.Attempts.{◌>>=◌}
+use Rattle.wasm_operator_steps.specs.Machine.{State, become_unreachable, pop_vals, push_vals}
+use Rattle.wasm_operator_checks.specs.declared.types.Types.{Types}
+use Rattle.wasm_operator_checks.specs.declared.types.Types.TheVariants as types
+use Rattle.wasm_operator_checks.specs.declared.types.Takes.{Takes}
+use Rattle.wasm_operator_checks.specs.declared.types.Takes.TheVariants as takes
+
+abbrev pub types_seen : Types → List (Val UnpackedIndex)
+types_seen types.None = []
+types_seen (types.One t) = val_in t ∷ []
+types_seen (types.Many ts) = map val_of ts.now
+
+abbrev pub takes_seen : Takes → List (Val UnpackedIndex)
+takes_seen takes.None = []
+takes_seen (takes.One t) = val_in t ∷ []
+takes_seen (takes.Two t u) = val_in t ∷ val_in u ∷ []
+takes_seen (takes.Three t u v) = val_in t ∷ val_in u ∷ val_in v ∷ []
+takes_seen (takes.Many ts) = map val_of ts.now
+
+-- operands of some types taken, and of others given
+unfoldable pub exchanged : World UnpackedIndex → List (Val UnpackedIndex) → List (Val UnpackedIndex) → State UnpackedIndex → Option (State UnpackedIndex)
+exchanged W vs ws s = pop_vals W vs s >>= λ t. Some (push_vals ws t)
+
+-- operands of some types taken, and the rest of the innermost frame's code unreached
+unfoldable pub halted : World UnpackedIndex → List (Val UnpackedIndex) → State UnpackedIndex → Option (State UnpackedIndex)
+halted W vs s = pop_vals W vs s >>= become_unreachable

@@ -1,0 +1,14 @@
+//! What operators check of their operands, and the steps of those that take some and give others.
+#![tactic(auto)]
+
+mod faults;
+mod looks;
+mod matching;
+mod steps;
+mod types;
+
+pub use faults::{OperatorError, OperatorFault, OperatorRule};
+pub use looks::{check_many, check_type, look};
+pub use matching::matches;
+pub use steps::{halt, plain, plain_with};
+pub use types::{Takes, Types, check_takes, check_types, exchange_types};

@@ -1,0 +1,89 @@
+//! Looks at operands below others that count as taken.
+
+ghost use Rattle.std.specs.Prelude.{◌≡◌, ◌≤◌, length, map};
+ghost use Rattle.wasm_readers_types.specs.SeenValues.{val_of};
+ghost use Rattle.wasm_type_words.specs.Seen.{val_in};
+ghost use Rattle.wasm_operator_steps.specs.Machine.{pop_any, pop_val, pop_vals};
+ghost use Rattle.wasm_module_resources.specs.Answers.{world};
+ghost use Rattle.wasm_operator_stacks.specs.Seen.{state_of, below};
+ghost use Rattle.wasm_operator_checks.specs.Steps.{Looked, Checked};
+
+use crate::faults::{OperatorFault, OperatorRule};
+use crate::matching::matches;
+use std::alloc::Allocator;
+use wasm_module_resources::WasmModuleResources;
+use wasm_operator_stacks::{Stacks, Word};
+use wasm_readers_types::ValType;
+use wasm_type_words::TypeWord;
+
+/// The operand below so many that are taken already, and how many are taken with it.
+#[inline(always)]
+#[tactic(auto, using(crate::proofs::Looking::looks))]
+pub fn look<A: Allocator>(stacks: &Stacks<A>, taken: usize) -> Option<(Word, usize)>
+    requires { taken ≤ length (state_of stacks.now).operands }
+    ensures { Looked result (pop_any (below taken (state_of stacks.now))) (state_of stacks.now) }
+{
+    if !stacks.is_open {
+        return None;
+    }
+    if stacks.operands.len() - taken == stacks.frame.height {
+        if stacks.frame.unreachable {
+            Some((Word::bottom(), taken))
+        } else {
+            None
+        }
+    } else {
+        let operand = stacks.operands.get(taken)?;
+        Some((operand, taken + 1))
+    }
+}
+
+/// Whether an operand of this type is below so many that are taken already, and how many are taken
+/// with it.
+#[inline(always)]
+#[tactic(auto, using(crate::proofs::Looking::checks))]
+pub fn check_type<A: Allocator, T: WasmModuleResources>(
+    stacks: &Stacks<A>,
+    resources: &T,
+    taken: usize,
+    ty: TypeWord,
+) -> Result<usize, OperatorFault>
+    requires { taken ≤ length (state_of stacks.now).operands }
+    ensures { Checked result (pop_val (world (T.context resources.now)) (val_in ty) (below taken (state_of stacks.now))) (state_of stacks.now) }
+{
+    match look(stacks, taken) {
+        Some((operand, taken)) => {
+            if matches(resources, operand, ty) {
+                Ok(taken)
+            } else {
+                Err(OperatorFault::operand(ty))
+            }
+        }
+        None => Err(OperatorFault::operand(ty)),
+    }
+}
+
+/// Whether operands of these types, the last one on top, are below so many that are taken already,
+/// and how many are taken with them.
+#[tactic(auto, using(crate::proofs::Listing::list_checks))]
+pub fn check_many<A: Allocator, T: WasmModuleResources>(
+    stacks: &Stacks<A>,
+    resources: &T,
+    taken: usize,
+    types: &[ValType],
+) -> Result<usize, OperatorFault>
+    requires { taken ≤ length (state_of stacks.now).operands }
+    ensures { Checked result (pop_vals (world (T.context resources.now)) (map val_of types.now) (below taken (state_of stacks.now))) (state_of stacks.now) }
+{
+    let count = types.len();
+    let mut taken = taken;
+    'checking: for i in 0..count {
+        taken = check_type(
+            stacks,
+            resources,
+            taken,
+            TypeWord::new(types[count - 1 - i]),
+        )?;
+    }
+    Ok(taken)
+}

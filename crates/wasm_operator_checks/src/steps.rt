@@ -1,0 +1,88 @@
+//! Operators that take some operands and give others.
+
+ghost use Rattle.std.specs.Prelude.{◌++◌, ◌∷◌, []};
+ghost use Rattle.wasm_type_words.specs.Seen.{val_in};
+ghost use Rattle.wasm_module_resources.specs.Answers.{world};
+ghost use Rattle.wasm_operator_stacks.specs.Seen.{state_of, Kept};
+ghost use Rattle.wasm_operator_checks.specs.Steps.{Took};
+ghost use Rattle.wasm_operator_checks.specs.SeenTypes.{types_seen, takes_seen, exchanged, halted};
+
+use crate::faults::{OperatorError, OperatorFault, OperatorRule};
+use crate::looks::check_type;
+use crate::types::{Takes, Types, check_takes, check_types, exchange_types};
+use std::alloc::Allocator;
+use wasm_module_resources::WasmModuleResources;
+use wasm_operator_stacks::Stacks;
+use wasm_type_words::TypeWord;
+
+/// Takes operands of some types, and gives others. Where that can't be, all stays.
+#[inline(always)]
+#[tactic(auto, using(crate::proofs::Taking::exchanges), unfolding(crate::specs::Steps::Took))]
+pub fn plain<'a, A: Allocator, T: WasmModuleResources>(
+    stacks: &mut Stacks<A>,
+    resources: &T,
+    takes: Takes<'a>,
+    gives: Types<'a>,
+) -> Result<(), OperatorError>
+    ensures took { Took result (exchanged (world (T.context resources.now)) (takes_seen takes.entry) (types_seen gives.entry) (state_of stacks.old)) (state_of stacks.old) (state_of stacks.new) }
+    ensures same { Kept stacks.old stacks.new }
+{
+    let taken = match check_takes(stacks, resources, takes) {
+        Ok(taken) => taken,
+        Err(fault) => return Err(OperatorError::Refused(fault)),
+    };
+    match exchange_types(stacks, taken, gives) {
+        Ok(()) => Ok(()),
+        Err(_) => Err(OperatorError::OutOfMemory),
+    }
+}
+
+/// Takes operands of some types with one of another type on top, and gives others. Where that can't
+/// be, all stays.
+#[tactic(auto, using(crate::proofs::Taking::with_one), unfolding(crate::specs::Steps::Took))]
+pub fn plain_with<'a, A: Allocator, T: WasmModuleResources>(
+    stacks: &mut Stacks<A>,
+    resources: &T,
+    takes: Types<'a>,
+    top: TypeWord,
+    gives: Types<'a>,
+) -> Result<(), OperatorError>
+    ensures took { Took result (exchanged (world (T.context resources.now)) (types_seen takes.entry ++ val_in top ∷ []) (types_seen gives.entry) (state_of stacks.old)) (state_of stacks.old) (state_of stacks.new) }
+    ensures same { Kept stacks.old stacks.new }
+{
+    let first = match check_type(stacks, resources, 0, top) {
+        Ok(first) => first,
+        Err(fault) => return Err(OperatorError::Refused(fault)),
+    };
+    let taken = match check_types(stacks, resources, first, takes) {
+        Ok(taken) => taken,
+        Err(fault) => return Err(OperatorError::Refused(fault)),
+    };
+    match exchange_types(stacks, taken, gives) {
+        Ok(()) => Ok(()),
+        Err(_) => Err(OperatorError::OutOfMemory),
+    }
+}
+
+/// Takes operands of some types, and leaves the rest of the innermost frame's code unreached. Where
+/// that can't be, all stays.
+#[tactic(auto, using(crate::proofs::Taking::halts), unfolding(crate::specs::Steps::Took))]
+pub fn halt<'a, A: Allocator, T: WasmModuleResources>(
+    stacks: &mut Stacks<A>,
+    resources: &T,
+    takes: Types<'a>,
+) -> Result<(), OperatorError>
+    ensures took { Took result (halted (world (T.context resources.now)) (types_seen takes.entry) (state_of stacks.old)) (state_of stacks.old) (state_of stacks.new) }
+    ensures same { Kept stacks.old stacks.new }
+{
+    let taken = match check_types(stacks, resources, 0, takes) {
+        Ok(taken) => taken,
+        Err(fault) => return Err(OperatorError::Refused(fault)),
+    };
+    if !stacks.is_open {
+        return Err(OperatorError::Refused(OperatorFault::new(OperatorRule::Ended)));
+    }
+    stacks.take(taken);
+    stacks.stop();
+    Ok(())
+}

@@ -1,0 +1,3 @@
+pub mod Locally
+pub mod Globally
+pub mod Labelled

@@ -1,0 +1,93 @@
+//! Branches.
+
+ghost use Rattle.std.specs.Prelude.{◌≡◌};
+ghost use Rattle.wasm_operators.specs.Control.{br, br_if, return_, unreachable, nop};
+ghost use Rattle.wasm_operator_steps.specs.Shapes.{control_shape};
+ghost use Rattle.wasm_operator_steps.specs.Steps.{actions_of};
+ghost use Rattle.wasm_operator_stacks.specs.Seen.{state_of, Kept};
+ghost use Rattle.wasm_operator_checks.specs.Steps.{Took, acted};
+ghost use Rattle.wasm_readers_types.specs.declared.indices.UnpackedIndex.{UnpackedIndex};
+
+use crate::labels::{label_types, returned_types};
+use std::alloc::Allocator;
+use wasm_module_resources::WasmModuleResources;
+use wasm_numeric_operators::NumberType;
+use wasm_operator_checks::{
+    OperatorError, OperatorFault, OperatorRule, Takes, Types, halt, plain, plain_with,
+};
+use wasm_operator_stacks::Stacks;
+use wasm_type_words::TypeWord;
+
+/// `nop`.
+#[tactic(auto, using(wasm_operator_checks::proofs::Acting::acts, wasm_operator_checks::proofs::Typing::types))]
+pub fn do_nothing<A: Allocator, T: WasmModuleResources>(
+    stacks: &mut Stacks<A>,
+    resources: &T,
+) -> Result<(), OperatorError>
+    ensures took { Took result (acted stacks.old (T.context resources.now) (actions_of (control_shape nop))) (state_of stacks.old) (state_of stacks.new) }
+    ensures same { Kept stacks.old stacks.new }
+{
+    plain(stacks, resources, Takes::None, Types::None)
+}
+
+/// `unreachable`.
+#[tactic(auto, using(wasm_operator_checks::proofs::Acting::acts, wasm_operator_checks::proofs::Typing::types))]
+pub fn trap<A: Allocator, T: WasmModuleResources>(
+    stacks: &mut Stacks<A>,
+    resources: &T,
+) -> Result<(), OperatorError>
+    ensures took { Took result (acted stacks.old (T.context resources.now) (actions_of (control_shape unreachable))) (state_of stacks.old) (state_of stacks.new) }
+    ensures same { Kept stacks.old stacks.new }
+{
+    halt(stacks, resources, Types::None)
+}
+
+/// `br`.
+#[tactic(auto, using(wasm_operator_checks::proofs::Acting::acts, wasm_operator_checks::proofs::Typing::types))]
+pub fn branch<A: Allocator, T: WasmModuleResources>(
+    stacks: &mut Stacks<A>,
+    resources: &T,
+    depth: u32,
+) -> Result<(), OperatorError>
+    ensures took { Took result (acted stacks.old (T.context resources.now) (actions_of (control_shape (br depth)))) (state_of stacks.old) (state_of stacks.new) }
+    ensures same { Kept stacks.old stacks.new }
+{
+    match label_types(stacks, resources, depth) {
+        Some(types) => halt(stacks, resources, types),
+        None => Err(OperatorError::Refused(OperatorFault::at(OperatorRule::UnknownLabel, depth))),
+    }
+}
+
+/// `br_if`.
+#[tactic(auto, using(wasm_operator_checks::proofs::Acting::acts, wasm_operator_checks::proofs::Typing::types))]
+pub fn branch_if<A: Allocator, T: WasmModuleResources>(
+    stacks: &mut Stacks<A>,
+    resources: &T,
+    depth: u32,
+) -> Result<(), OperatorError>
+    ensures took { Took result (acted stacks.old (T.context resources.now) (actions_of (control_shape (br_if depth)))) (state_of stacks.old) (state_of stacks.new) }
+    ensures same { Kept stacks.old stacks.new }
+{
+    match label_types(stacks, resources, depth) {
+        Some(types) => {
+            let condition = TypeWord::number(NumberType::I32);
+            plain_with(stacks, resources, types, condition, types)
+        }
+        None => Err(OperatorError::Refused(OperatorFault::at(OperatorRule::UnknownLabel, depth))),
+    }
+}
+
+/// `return`.
+#[tactic(auto, using(wasm_operator_checks::proofs::Acting::acts, wasm_operator_checks::proofs::Typing::types))]
+pub fn give_back<A: Allocator, T: WasmModuleResources>(
+    stacks: &mut Stacks<A>,
+    resources: &T,
+) -> Result<(), OperatorError>
+    ensures took { Took result (acted stacks.old (T.context resources.now) (actions_of (control_shape return_))) (state_of stacks.old) (state_of stacks.new) }
+    ensures same { Kept stacks.old stacks.new }
+{
+    match returned_types(stacks, resources) {
+        Some(types) => halt(stacks, resources, types),
+        None => Err(OperatorError::Refused(OperatorFault::new(OperatorRule::Ended))),
+    }
+}

@@ -1,0 +1,82 @@
+//! Operators on globals.
+
+ghost use Rattle.std.specs.Prelude.{◌≡◌, slice_get};
+ghost use Rattle.wasm_spec.specs.ValueTypes.{implies};
+ghost use Rattle.wasm_flat_operators.specs.declared.variables.VariableOperator.TheVariants.{GlobalGet, GlobalSet};
+ghost use Rattle.wasm_operator_steps.specs.Shapes.{variable_shape};
+ghost use Rattle.wasm_operator_steps.specs.Steps.{actions_of};
+ghost use Rattle.wasm_operator_stacks.specs.Seen.{state_of, Kept};
+ghost use Rattle.wasm_operator_checks.specs.Steps.{Took, acted};
+
+use std::alloc::Allocator;
+use wasm_module_resources::WasmModuleResources;
+use wasm_operator_checks::{OperatorError, OperatorFault, OperatorRule, Takes, Types, plain};
+use wasm_operator_stacks::Stacks;
+use wasm_readers_types::GlobalType;
+use wasm_type_words::TypeWord;
+
+/// Whether what is shared or not may be reached from the body.
+#[inline(always)]
+pub(crate) fn reaches<A: Allocator>(stacks: &Stacks<A>, shared: bool) -> bool
+    ensures { result ≡ implies stacks.now.is_shared shared }
+{
+    !stacks.is_shared || shared
+}
+
+/// `global.get`.
+#[tactic(auto, using(wasm_operator_checks::proofs::Acting::acts, crate::proofs::Globally::globals))]
+pub fn global_get<A: Allocator, T: WasmModuleResources>(
+    stacks: &mut Stacks<A>,
+    resources: &T,
+    index: u32,
+) -> Result<(), OperatorError>
+    ensures took { Took result (acted stacks.old (T.context resources.now) (actions_of (variable_shape (GlobalGet index)))) (state_of stacks.old) (state_of stacks.new) }
+    ensures same { Kept stacks.old stacks.new }
+{
+    match resources.global_at(index) {
+        Some(ty) => {
+            if !reaches(stacks, ty.shared) {
+                return Err(OperatorError::Refused(OperatorFault::at(OperatorRule::Shared, index)));
+            }
+            plain(
+                stacks,
+                resources,
+                Takes::None,
+                Types::One(TypeWord::new(ty.content_type)),
+            )
+        }
+        None => Err(OperatorError::Refused(OperatorFault::at(OperatorRule::UnknownGlobal, index))),
+    }
+}
+
+/// `global.set`.
+#[tactic(auto, using(wasm_operator_checks::proofs::Acting::acts, crate::proofs::Globally::globals))]
+pub fn global_set<A: Allocator, T: WasmModuleResources>(
+    stacks: &mut Stacks<A>,
+    resources: &T,
+    index: u32,
+) -> Result<(), OperatorError>
+    ensures took { Took result (acted stacks.old (T.context resources.now) (actions_of (variable_shape (GlobalSet index)))) (state_of stacks.old) (state_of stacks.new) }
+    ensures same { Kept stacks.old stacks.new }
+{
+    match resources.global_at(index) {
+        Some(ty) => {
+            if !reaches(stacks, ty.shared) {
+                return Err(OperatorError::Refused(OperatorFault::at(OperatorRule::Shared, index)));
+            }
+            if !ty.mutable {
+                return Err(OperatorError::Refused(OperatorFault::at(
+                    OperatorRule::ImmutableGlobal,
+                    index,
+                )));
+            }
+            plain(
+                stacks,
+                resources,
+                Takes::One(TypeWord::new(ty.content_type)),
+                Types::None,
+            )
+        }
+        None => Err(OperatorError::Refused(OperatorFault::at(OperatorRule::UnknownGlobal, index))),
+    }
+}

@@ -1,0 +1,162 @@
+//! Loads and stores.
+
+ghost use Rattle.std.specs.Prelude.{◌≡◌, ◌&&◌, ◌||◌, ◌^◌, nat_le, nat_lt};
+ghost use Rattle.wasm_flat_operators.specs.Memories.{max_align_of};
+ghost use Rattle.wasm_flat_operators.specs.declared.memories.MemArg.{MemArg};
+ghost use Rattle.wasm_operator_steps.specs.Shapes.{access_shape, loading, storing, number_type};
+ghost use Rattle.wasm_operator_steps.specs.Steps.{actions_of};
+ghost use Rattle.wasm_operator_stacks.specs.Seen.{state_of, Kept};
+ghost use Rattle.wasm_operator_checks.specs.Steps.{Took, acted};
+ghost use Rattle.wasm_operator_numbers.specs.Accesses.{accessing};
+
+use crate::allowed::{address, allows_number};
+use std::alloc::Allocator;
+use wasm_flat_operators::max_align;
+use wasm_module_resources::WasmModuleResources;
+use wasm_numeric_operators::NumberType;
+use wasm_operator_checks::{OperatorError, OperatorFault, OperatorRule, Takes, Types, plain};
+use wasm_operator_stacks::Stacks;
+use wasm_operators::{MemArg, MemoryOperator};
+use wasm_readers_types::MemoryType;
+use wasm_type_words::TypeWord;
+
+/// Whether it is a load or a store, and of what.
+#[derive(Clone, Copy)]
+pub enum Access {
+    Load(NumberType),
+    Store(NumberType),
+}
+
+/// What a load gives, or a store takes.
+fn access_of(op: MemoryOperator) -> Access
+    ensures { (m : MemArg) → access_shape op m ≡ accessing result op m }
+{
+    match op {
+        MemoryOperator::I32Load
+        | MemoryOperator::I32Load8S
+        | MemoryOperator::I32Load8U
+        | MemoryOperator::I32Load16S
+        | MemoryOperator::I32Load16U => Access::Load(NumberType::I32),
+        MemoryOperator::I64Load
+        | MemoryOperator::I64Load8S
+        | MemoryOperator::I64Load8U
+        | MemoryOperator::I64Load16S
+        | MemoryOperator::I64Load16U
+        | MemoryOperator::I64Load32S
+        | MemoryOperator::I64Load32U => Access::Load(NumberType::I64),
+        MemoryOperator::F32Load => Access::Load(NumberType::F32),
+        MemoryOperator::F64Load => Access::Load(NumberType::F64),
+        MemoryOperator::I32Store | MemoryOperator::I32Store8 | MemoryOperator::I32Store16 => {
+            Access::Store(NumberType::I32)
+        }
+        MemoryOperator::I64Store
+        | MemoryOperator::I64Store8
+        | MemoryOperator::I64Store16
+        | MemoryOperator::I64Store32 => Access::Store(NumberType::I64),
+        MemoryOperator::F32Store => Access::Store(NumberType::F32),
+        MemoryOperator::F64Store => Access::Store(NumberType::F64),
+    }
+}
+
+/// Whether a memory may be accessed so.
+fn fits(memory: MemoryType, op: MemoryOperator, arg: MemArg) -> bool
+    ensures { result ≡ (nat_le arg.align (max_align_of op) && (memory.memory64 || nat_lt arg.offset (2 ^ 32))) }
+{
+    arg.align <= max_align(op) && (memory.memory64 || arg.offset < 4_294_967_296)
+}
+
+/// A load of a number of this type.
+#[tactic(auto, using(wasm_operator_checks::proofs::Acting::acts, wasm_operator_checks::proofs::Typing::memories))]
+fn load<A: Allocator, T: WasmModuleResources>(
+    stacks: &mut Stacks<A>,
+    resources: &T,
+    ty: NumberType,
+    op: MemoryOperator,
+    arg: MemArg,
+) -> Result<(), OperatorError>
+    ensures took { Took result (acted stacks.old (T.context resources.now) (actions_of (loading op arg (number_type ty)))) (state_of stacks.old) (state_of stacks.new) }
+    ensures same { Kept stacks.old stacks.new }
+{
+    if !allows_number(stacks, ty) {
+        return Err(OperatorError::Refused(OperatorFault::new(OperatorRule::Floats)));
+    }
+    match resources.memory_at(arg.memory) {
+        Some(memory) => {
+            if !fits(memory, op, arg) {
+                return Err(OperatorError::Refused(OperatorFault::new(OperatorRule::Alignment)));
+            }
+            plain(
+                stacks,
+                resources,
+                Takes::One(address(memory.memory64)),
+                Types::One(TypeWord::number(ty)),
+            )
+        }
+        None => {
+            Err(OperatorError::Refused(OperatorFault::at(OperatorRule::UnknownMemory, arg.memory)))
+        }
+    }
+}
+
+/// A store of a number of this type.
+#[tactic(auto, using(wasm_operator_checks::proofs::Acting::acts, wasm_operator_checks::proofs::Typing::memories))]
+fn store<A: Allocator, T: WasmModuleResources>(
+    stacks: &mut Stacks<A>,
+    resources: &T,
+    ty: NumberType,
+    op: MemoryOperator,
+    arg: MemArg,
+) -> Result<(), OperatorError>
+    ensures took { Took result (acted stacks.old (T.context resources.now) (actions_of (storing op arg (number_type ty)))) (state_of stacks.old) (state_of stacks.new) }
+    ensures same { Kept stacks.old stacks.new }
+{
+    if !allows_number(stacks, ty) {
+        return Err(OperatorError::Refused(OperatorFault::new(OperatorRule::Floats)));
+    }
+    match resources.memory_at(arg.memory) {
+        Some(memory) => {
+            if !fits(memory, op, arg) {
+                return Err(OperatorError::Refused(OperatorFault::new(OperatorRule::Alignment)));
+            }
+            plain(
+                stacks,
+                resources,
+                Takes::Two(address(memory.memory64), TypeWord::number(ty)),
+                Types::None,
+            )
+        }
+        None => {
+            Err(OperatorError::Refused(OperatorFault::at(OperatorRule::UnknownMemory, arg.memory)))
+        }
+    }
+}
+
+/// A load or a store that is known as this.
+fn access_as<A: Allocator, T: WasmModuleResources>(
+    stacks: &mut Stacks<A>,
+    resources: &T,
+    access: Access,
+    op: MemoryOperator,
+    arg: MemArg,
+) -> Result<(), OperatorError>
+    ensures took { Took result (acted stacks.old (T.context resources.now) (actions_of (accessing access op arg))) (state_of stacks.old) (state_of stacks.new) }
+    ensures same { Kept stacks.old stacks.new }
+{
+    match access {
+        Access::Load(ty) => load(stacks, resources, ty, op, arg),
+        Access::Store(ty) => store(stacks, resources, ty, op, arg),
+    }
+}
+
+/// A load or a store.
+pub fn access_memory<A: Allocator, T: WasmModuleResources>(
+    stacks: &mut Stacks<A>,
+    resources: &T,
+    op: MemoryOperator,
+    arg: MemArg,
+) -> Result<(), OperatorError>
+    ensures took { Took result (acted stacks.old (T.context resources.now) (actions_of (access_shape op arg))) (state_of stacks.old) (state_of stacks.new) }
+    ensures same { Kept stacks.old stacks.new }
+{
+    access_as(stacks, resources, access_of(op), op, arg)
+}

@@ -1,0 +1,221 @@
+//! Operators on memories, loads and stores aside.
+
+ghost use Rattle.std.specs.Prelude.{◌≡◌, ◌&&◌, nat_lt};
+ghost use Rattle.wasm_flat_operators.specs.declared.memories.BulkMemoryOperator.TheVariants.{MemorySize, MemoryGrow, MemoryFill, MemoryCopy, MemoryInit, DataDrop};
+ghost use Rattle.wasm_readers_types.specs.declared.indices.UnpackedIndex.{UnpackedIndex};
+ghost use Rattle.wasm_type_words.specs.Seen.{val_in};
+ghost use Rattle.wasm_operator_steps.specs.Attempts.{passes};
+ghost use Rattle.wasm_operator_steps.specs.Meanings.{address as address_by};
+ghost use Rattle.wasm_operator_steps.specs.Shapes.{memory_shape};
+ghost use Rattle.wasm_operator_steps.specs.Steps.{actions_of};
+ghost use Rattle.wasm_operator_stacks.specs.Seen.{state_of, Kept};
+ghost use Rattle.wasm_operator_checks.specs.Steps.{Took, acted};
+
+use crate::allowed::{address, has};
+use std::alloc::Allocator;
+use wasm_flat_operators::BulkMemoryOperator;
+use wasm_module_resources::WasmModuleResources;
+use wasm_numeric_operators::NumberType;
+use wasm_operator_checks::{OperatorError, OperatorFault, OperatorRule, Takes, Types, plain};
+use wasm_operator_stacks::Stacks;
+use wasm_readers_errors::WasmFeatures;
+use wasm_type_words::TypeWord;
+
+/// Whether a data segment is there, by the number that the module tells in front of its code.
+fn has_data<T: WasmModuleResources>(resources: &T, data_index: u32) -> bool
+    ensures { result ≡ passes (nat_lt data_index) (T.context resources.now).data_count }
+{
+    match resources.data_count() {
+        Some(count) => data_index < count,
+        None => false,
+    }
+}
+
+/// What is as wide as both of these addresses are at the least.
+fn lesser(to: bool, from: bool) -> TypeWord
+    ensures { val_in result ≡ address_by {R = UnpackedIndex} (to && from) }
+{
+    address(to && from)
+}
+
+/// `memory.size`.
+#[tactic(auto, using(wasm_operator_checks::proofs::Acting::acts, wasm_operator_checks::proofs::Typing::memories, wasm_operator_checks::proofs::Typing::types))]
+fn memory_size<A: Allocator, T: WasmModuleResources>(
+    stacks: &mut Stacks<A>,
+    resources: &T,
+    mem: u32,
+) -> Result<(), OperatorError>
+    ensures took { Took result (acted stacks.old (T.context resources.now) (actions_of (memory_shape (MemorySize mem)))) (state_of stacks.old) (state_of stacks.new) }
+    ensures same { Kept stacks.old stacks.new }
+{
+    match resources.memory_at(mem) {
+        Some(memory) => plain(
+            stacks,
+            resources,
+            Takes::None,
+            Types::One(address(memory.memory64)),
+        ),
+        None => Err(OperatorError::Refused(OperatorFault::at(OperatorRule::UnknownMemory, mem))),
+    }
+}
+
+/// `memory.grow`.
+#[tactic(auto, using(wasm_operator_checks::proofs::Acting::acts, wasm_operator_checks::proofs::Typing::memories, wasm_operator_checks::proofs::Typing::types))]
+fn memory_grow<A: Allocator, T: WasmModuleResources>(
+    stacks: &mut Stacks<A>,
+    resources: &T,
+    mem: u32,
+) -> Result<(), OperatorError>
+    ensures took { Took result (acted stacks.old (T.context resources.now) (actions_of (memory_shape (MemoryGrow mem)))) (state_of stacks.old) (state_of stacks.new) }
+    ensures same { Kept stacks.old stacks.new }
+{
+    match resources.memory_at(mem) {
+        Some(memory) => {
+            let address = address(memory.memory64);
+            plain(stacks, resources, Takes::One(address), Types::One(address))
+        },
+        None => Err(OperatorError::Refused(OperatorFault::at(OperatorRule::UnknownMemory, mem))),
+    }
+}
+
+/// `memory.fill`.
+#[tactic(auto, using(wasm_operator_checks::proofs::Acting::acts, wasm_operator_checks::proofs::Typing::memories, wasm_operator_checks::proofs::Typing::types))]
+fn memory_fill<A: Allocator, T: WasmModuleResources>(
+    stacks: &mut Stacks<A>,
+    resources: &T,
+    mem: u32,
+) -> Result<(), OperatorError>
+    ensures took { Took result (acted stacks.old (T.context resources.now) (actions_of (memory_shape (MemoryFill mem)))) (state_of stacks.old) (state_of stacks.new) }
+    ensures same { Kept stacks.old stacks.new }
+{
+    if !has(stacks, WasmFeatures::BULK_MEMORY) {
+        return Err(OperatorError::Refused(OperatorFault::new(OperatorRule::BulkMemory)));
+    }
+    match resources.memory_at(mem) {
+        Some(memory) => {
+            let address = address(memory.memory64);
+            plain(
+                stacks,
+                resources,
+                Takes::Three(address, TypeWord::number(NumberType::I32), address),
+                Types::None,
+            )
+        },
+        None => Err(OperatorError::Refused(OperatorFault::at(OperatorRule::UnknownMemory, mem))),
+    }
+}
+
+/// `memory.init`.
+#[tactic(auto, using(wasm_operator_checks::proofs::Acting::acts, wasm_operator_checks::proofs::Typing::memories, wasm_operator_checks::proofs::Typing::types))]
+fn memory_init<A: Allocator, T: WasmModuleResources>(
+    stacks: &mut Stacks<A>,
+    resources: &T,
+    data_index: u32,
+    mem: u32,
+) -> Result<(), OperatorError>
+    ensures took { Took result (acted stacks.old (T.context resources.now) (actions_of (memory_shape (MemoryInit data_index mem)))) (state_of stacks.old) (state_of stacks.new) }
+    ensures same { Kept stacks.old stacks.new }
+{
+    if !has(stacks, WasmFeatures::BULK_MEMORY) {
+        return Err(OperatorError::Refused(OperatorFault::new(OperatorRule::BulkMemory)));
+    }
+    if !has_data(resources, data_index) {
+        return Err(OperatorError::Refused(OperatorFault::at(
+            OperatorRule::UnknownData,
+            data_index,
+        )));
+    }
+    match resources.memory_at(mem) {
+        Some(memory) => {
+            let number = TypeWord::number(NumberType::I32);
+            plain(
+                stacks,
+                resources,
+                Takes::Three(address(memory.memory64), number, number),
+                Types::None,
+            )
+        },
+        None => Err(OperatorError::Refused(OperatorFault::at(OperatorRule::UnknownMemory, mem))),
+    }
+}
+
+/// `data.drop`.
+#[tactic(auto, using(wasm_operator_checks::proofs::Acting::acts, wasm_operator_checks::proofs::Typing::memories, wasm_operator_checks::proofs::Typing::types))]
+fn data_drop<A: Allocator, T: WasmModuleResources>(
+    stacks: &mut Stacks<A>,
+    resources: &T,
+    data_index: u32,
+) -> Result<(), OperatorError>
+    ensures took { Took result (acted stacks.old (T.context resources.now) (actions_of (memory_shape (DataDrop data_index)))) (state_of stacks.old) (state_of stacks.new) }
+    ensures same { Kept stacks.old stacks.new }
+{
+    if !has(stacks, WasmFeatures::BULK_MEMORY) {
+        return Err(OperatorError::Refused(OperatorFault::new(OperatorRule::BulkMemory)));
+    }
+    if !has_data(resources, data_index) {
+        return Err(OperatorError::Refused(OperatorFault::at(
+            OperatorRule::UnknownData,
+            data_index,
+        )));
+    }
+    plain(stacks, resources, Takes::None, Types::None)
+}
+
+/// `memory.copy`.
+#[tactic(auto, using(wasm_operator_checks::proofs::Acting::acts, wasm_operator_checks::proofs::Typing::memories, wasm_operator_checks::proofs::Typing::types))]
+fn memory_copy<A: Allocator, T: WasmModuleResources>(
+    stacks: &mut Stacks<A>,
+    resources: &T,
+    dst_mem: u32,
+    src_mem: u32,
+) -> Result<(), OperatorError>
+    ensures took { Took result (acted stacks.old (T.context resources.now) (actions_of (memory_shape (MemoryCopy dst_mem src_mem)))) (state_of stacks.old) (state_of stacks.new) }
+    ensures same { Kept stacks.old stacks.new }
+{
+    if !has(stacks, WasmFeatures::BULK_MEMORY) {
+        return Err(OperatorError::Refused(OperatorFault::new(OperatorRule::BulkMemory)));
+    }
+    let to = match resources.memory_at(dst_mem) {
+        Some(memory) => memory.memory64,
+        None => return Err(OperatorError::Refused(OperatorFault::at(
+            OperatorRule::UnknownMemory,
+            dst_mem,
+        ))),
+    };
+    let from = match resources.memory_at(src_mem) {
+        Some(memory) => memory.memory64,
+        None => return Err(OperatorError::Refused(OperatorFault::at(
+            OperatorRule::UnknownMemory,
+            src_mem,
+        ))),
+    };
+    plain(
+        stacks,
+        resources,
+        Takes::Three(address(to), address(from), lesser(to, from)),
+        Types::None,
+    )
+}
+
+/// An operator on memories.
+pub fn bulk_memory<A: Allocator, T: WasmModuleResources>(
+    stacks: &mut Stacks<A>,
+    resources: &T,
+    op: BulkMemoryOperator,
+) -> Result<(), OperatorError>
+    ensures took { Took result (acted stacks.old (T.context resources.now) (actions_of (memory_shape op))) (state_of stacks.old) (state_of stacks.new) }
+    ensures same { Kept stacks.old stacks.new }
+{
+    match op {
+        BulkMemoryOperator::MemorySize { mem } => memory_size(stacks, resources, mem),
+        BulkMemoryOperator::MemoryGrow { mem } => memory_grow(stacks, resources, mem),
+        BulkMemoryOperator::MemoryInit { data_index, mem } => memory_init(
+            stacks, resources, data_index, mem,
+        ),
+        BulkMemoryOperator::DataDrop { data_index } => data_drop(stacks, resources, data_index),
+        BulkMemoryOperator::MemoryCopy { dst_mem, src_mem } => memory_copy(
+            stacks, resources, dst_mem, src_mem,
+        ),
+        BulkMemoryOperator::MemoryFill { mem } => memory_fill(stacks, resources, mem),
+    }
+}

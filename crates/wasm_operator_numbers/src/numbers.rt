@@ -1,0 +1,145 @@
+//! Constants and numeric operators.
+
+ghost use Rattle.std.specs.Prelude.{◌≡◌, ◌∷◌, []};
+ghost use Rattle.wasm_spec.specs.Syntax.{v128};
+ghost use Rattle.wasm_numeric_operators.specs.declared.signatures.Signature.TheVariants.{Unary, Binary};
+ghost use Rattle.wasm_operator_steps.specs.Actions.{allows};
+ghost use Rattle.wasm_operator_steps.specs.Shapes.{computing, constant_shape, number_type, plain, nothing, one};
+ghost use Rattle.wasm_operator_steps.specs.Steps.{actions_of};
+ghost use Rattle.wasm_operator_stacks.specs.Seen.{state_of, Kept};
+ghost use Rattle.wasm_operator_checks.specs.Steps.{Took, acted};
+
+use crate::allowed::{allows_number, has};
+use std::alloc::Allocator;
+use wasm_module_resources::WasmModuleResources;
+use wasm_numeric_operators::{NumberType, Signature};
+use wasm_operator_checks::{OperatorError, OperatorFault, OperatorRule, Takes, Types, plain};
+use wasm_operator_stacks::Stacks;
+use wasm_operators::ConstantOperator;
+use wasm_readers_errors::WasmFeatures;
+use wasm_readers_types::ValType;
+use wasm_type_words::TypeWord;
+
+/// An operator that takes a number and gives one.
+#[tactic(auto, using(wasm_operator_checks::proofs::Acting::acts, wasm_operator_checks::proofs::Typing::types))]
+fn unary<A: Allocator, T: WasmModuleResources>(
+    stacks: &mut Stacks<A>,
+    resources: &T,
+    from: NumberType,
+    to: NumberType,
+) -> Result<(), OperatorError>
+    ensures took { Took result (acted stacks.old (T.context resources.now) (actions_of (computing (Unary from to)))) (state_of stacks.old) (state_of stacks.new) }
+    ensures same { Kept stacks.old stacks.new }
+{
+    if !allows_number(stacks, from) {
+        return Err(OperatorError::Refused(OperatorFault::new(OperatorRule::Floats)));
+    }
+    if !allows_number(stacks, to) {
+        return Err(OperatorError::Refused(OperatorFault::new(OperatorRule::Floats)));
+    }
+    plain(
+        stacks,
+        resources,
+        Takes::One(TypeWord::number(from)),
+        Types::One(TypeWord::number(to)),
+    )
+}
+
+/// An operator that takes two numbers of one type and gives one.
+#[tactic(auto, using(wasm_operator_checks::proofs::Acting::acts, wasm_operator_checks::proofs::Typing::types))]
+fn binary<A: Allocator, T: WasmModuleResources>(
+    stacks: &mut Stacks<A>,
+    resources: &T,
+    from: NumberType,
+    to: NumberType,
+) -> Result<(), OperatorError>
+    ensures took { Took result (acted stacks.old (T.context resources.now) (actions_of (computing (Binary from to)))) (state_of stacks.old) (state_of stacks.new) }
+    ensures same { Kept stacks.old stacks.new }
+{
+    if !allows_number(stacks, from) {
+        return Err(OperatorError::Refused(OperatorFault::new(OperatorRule::Floats)));
+    }
+    if !allows_number(stacks, to) {
+        return Err(OperatorError::Refused(OperatorFault::new(OperatorRule::Floats)));
+    }
+    plain(
+        stacks,
+        resources,
+        Takes::Two(TypeWord::number(from), TypeWord::number(from)),
+        Types::One(TypeWord::number(to)),
+    )
+}
+
+/// An operator that takes and gives numbers.
+pub fn compute<A: Allocator, T: WasmModuleResources>(
+    stacks: &mut Stacks<A>,
+    resources: &T,
+    signature: Signature,
+) -> Result<(), OperatorError>
+    ensures took { Took result (acted stacks.old (T.context resources.now) (actions_of (computing signature))) (state_of stacks.old) (state_of stacks.new) }
+    ensures same { Kept stacks.old stacks.new }
+{
+    match signature {
+        Signature::Unary(from, to) => unary(stacks, resources, from, to),
+        Signature::Binary(from, to) => binary(stacks, resources, from, to),
+    }
+}
+
+/// A constant of a number type.
+#[tactic(auto, using(wasm_operator_checks::proofs::Acting::acts, wasm_operator_checks::proofs::Typing::types))]
+fn number<A: Allocator, T: WasmModuleResources>(
+    stacks: &mut Stacks<A>,
+    resources: &T,
+    ty: NumberType,
+) -> Result<(), OperatorError>
+    ensures took { Took result (acted stacks.old (T.context resources.now) (actions_of (plain (allows (number_type ty) ∷ []) nothing (one (number_type ty))))) (state_of stacks.old) (state_of stacks.new) }
+    ensures same { Kept stacks.old stacks.new }
+{
+    if !allows_number(stacks, ty) {
+        return Err(OperatorError::Refused(OperatorFault::new(OperatorRule::Floats)));
+    }
+    plain(
+        stacks,
+        resources,
+        Takes::None,
+        Types::One(TypeWord::number(ty)),
+    )
+}
+
+/// A constant vector.
+#[tactic(auto, using(wasm_operator_checks::proofs::Acting::acts, wasm_operator_checks::proofs::Typing::types))]
+fn vector<A: Allocator, T: WasmModuleResources>(
+    stacks: &mut Stacks<A>,
+    resources: &T,
+) -> Result<(), OperatorError>
+    ensures took { Took result (acted stacks.old (T.context resources.now) (actions_of (plain (allows v128 ∷ []) nothing (one v128)))) (state_of stacks.old) (state_of stacks.new) }
+    ensures same { Kept stacks.old stacks.new }
+{
+    if !has(stacks, WasmFeatures::SIMD) {
+        return Err(OperatorError::Refused(OperatorFault::new(OperatorRule::Simd)));
+    }
+    plain(
+        stacks,
+        resources,
+        Takes::None,
+        Types::One(TypeWord::new(ValType::V128)),
+    )
+}
+
+/// A constant.
+pub fn constant<A: Allocator, T: WasmModuleResources>(
+    stacks: &mut Stacks<A>,
+    resources: &T,
+    op: ConstantOperator,
+) -> Result<(), OperatorError>
+    ensures took { Took result (acted stacks.old (T.context resources.now) (actions_of (constant_shape op))) (state_of stacks.old) (state_of stacks.new) }
+    ensures same { Kept stacks.old stacks.new }
+{
+    match op {
+        ConstantOperator::I32Const { .. } => number(stacks, resources, NumberType::I32),
+        ConstantOperator::I64Const { .. } => number(stacks, resources, NumberType::I64),
+        ConstantOperator::F32Const { .. } => number(stacks, resources, NumberType::F32),
+        ConstantOperator::F64Const { .. } => number(stacks, resources, NumberType::F64),
+        ConstantOperator::V128Const { .. } => vector(stacks, resources),
+    }
+}

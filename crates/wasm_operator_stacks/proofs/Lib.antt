@@ -1,0 +1,8 @@
+pub mod Reversing
+pub mod Marking
+pub mod Localizing
+pub mod Running
+pub mod Holding
+pub mod Wording
+pub mod Framing
+pub mod Pushing

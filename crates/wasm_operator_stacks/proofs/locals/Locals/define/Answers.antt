@@ -1,0 +1,14 @@
+use Rattle.std.proofs.Common.{◌++◌, ap, ◌∙◌, vec_len, rules}
+use Rattle.std.specs.Prelude.{replicate}
+use Rattle.wasm_operator_stacks.specs.Locals.{local_of}
+use Rattle.wasm_operator_stacks.proofs.Holding.{defined, on_ok}
+use Rattle.wasm_operator_stacks.proofs.locals.Locals.define.Goals as goal
+
+pub returns-clause-ok : goal.returns-clause-ok
+returns-clause-ok g c =
+    on_ok c.extend.result
+    (λ e.
+    defined c.self.inside.front.items c.resize.new.self.items c.self.inside.behind c.extend.new.self c.len-len.result (vec_len c.self.inside.front) c.filled-wanted.result c.args.count c.args.local
+    c.len-len.ensures (search rules) c.filled-wanted.ensures.least c.filled-wanted.ensures.most (λ h. c.filled-wanted.ensures.alone (rw c.len.ensures h)) c.in_ok-resize.ensures.items e
+    ∙ ap (λ h. h.content ++ replicate c.args.count (local_of c.args.local)) c.self.view_is)
+    c.extend.ensures.ok

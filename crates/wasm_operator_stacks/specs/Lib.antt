@@ -1,0 +1,6 @@
+pub mod Marked
+pub mod Locals
+pub mod Words
+pub mod SeenOperands
+pub mod SeenBlocks
+pub mod Seen

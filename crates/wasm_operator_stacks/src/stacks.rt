@@ -1,0 +1,33 @@
+//! The stacks of a body.
+
+use crate::block_word::BlockWord;
+use crate::locals::Locals;
+use crate::stack::Stack;
+use crate::word::Word;
+use std::alloc::{Allocator, Global};
+use wasm_operators::FrameKind;
+use wasm_readers_errors::WasmFeatures;
+
+/// A frame: what opened it, its block type, how many operands stood below and how many locals were
+/// set before, and whether the rest of its code isn't reached.
+#[derive(Clone, Copy)]
+pub struct Frame {
+    pub kind: FrameKind,
+    pub unreachable: bool,
+    pub block: BlockWord,
+    pub height: usize,
+    pub init_height: usize,
+}
+
+/// What the validation of a body or a constant expression keeps: the features, whether the function
+/// is shared, the operands, the innermost frame, if one is open, those around it, and the locals.
+#[derive(Drop)]
+pub struct Stacks<A: Allocator = Global> {
+    pub features: WasmFeatures,
+    pub is_shared: bool,
+    pub operands: Stack<Word, A>,
+    pub is_open: bool,
+    pub frame: Frame,
+    pub outer: Stack<Frame, A>,
+    pub locals: Locals<A>,
+}
