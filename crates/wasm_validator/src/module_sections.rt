@@ -8,7 +8,9 @@ ghost use Rattle.wasm_validator_canonical.specs.Groups.{AreValid};
 ghost use Rattle.wasm_validator_core.specs.Answers.{Adds, AddsWhere, HasValidTypes};
 ghost use Rattle.wasm_validator_core.specs.Ready.{IsOpenFor, AreHeld, AreIdsOf};
 ghost use Rattle.wasm_validator.specs.Machine.{type_items, import_items, function_items, add_table_head, table_items, memory_items, tag_items, export_items};
+ghost use Rattle.wasm_readers.specs.Items.{export_of};
 ghost use Rattle.wasm_readers.specs.Tables.{head_of};
+ghost use Rattle.wasm_validator_core.specs.Items.{add_export};
 
 use std::alloc::Allocator;
 use wasm_readers::{
@@ -218,9 +220,24 @@ pub fn add_exports<'a, A: Allocator + Copy>(
     )?;
     let mut exports = section.items();
     'exports: while let Some((offset, export)) = exports.read_next()? {
-        opened.add_export(features, alloc, list, &export, offset)?;
+        add_one_export(features, alloc, list, opened, &export, offset)?;
     }
     Ok(())
+}
+
+/// Adds an export, and says no more of it than the section's contract needs.
+fn add_one_export<A: Allocator + Copy>(
+    features: WasmFeatures,
+    alloc: A,
+    list: &TypeList<A>,
+    opened: &mut Module<A>,
+    export: &Export,
+    offset: u64,
+) -> Result<(), Error<A>>
+    ensures added { Adds result (add_export (features_of features) (types_of list.now) opened.old (export_of export.now)) opened.new }
+    ensures types { opened.new.types ≡ opened.old.types }
+{
+    opened.add_export(features, alloc, list, export, offset)
 }
 
 /// Accepts a section without items. One that has items of this kind is not served yet.
