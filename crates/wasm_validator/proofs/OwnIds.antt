@@ -1,5 +1,5 @@
 -- Where equal types aren't one, the ids of modules one after another rise.
-use Rattle.std.proofs.Common.{◌≡◌, refl, sym, ap, subst, ◌∙◌, ◌↔◌, ℕ, zero, suc, ◌+◌, ◌≤◌, false, List, [], ◌∷◌, ◌++◌, length, slice_get, Option, Some, None, arith, length-append}
+use Rattle.std.proofs.Common.{◌≡◌, refl, sym, ap, subst, ◌∙◌, ℕ, zero, suc, ◌+◌, ◌≤◌, false, List, [], ◌∷◌, ◌++◌, length, slice_get, Option, Some, None, arith, length-append}
 use Rattle.std.specs.List.{zip}
 use Rattle.std.proofs.lemmas.Option.{none-some, same_Some}
 use Rattle.wasm_spec.specs.Features.{canonical}
@@ -10,8 +10,8 @@ use Rattle.wasm_validator_types.specs.Shown.{shown_of, types_of}
 use Rattle.wasm_validator_types.specs.declared.shown.Types as shown
 use Rattle.wasm_validator_core.specs.Answers.{Types}
 use Rattle.wasm_validator.specs.Standing.{unparsed, Standing, after_reset}
-use Rattle.wasm_validator.specs.Verdict.{Expressions, AcceptsModule}
-use Rattle.wasm_validator.specs.Sequences.{KeepsTypes, Takes, TakesEach, its_types, all_types, OwnIdForEachType}
+use Rattle.wasm_validator.specs.Verdict.{Expressions}
+use Rattle.wasm_validator.specs.Sequences.{Takes, TakesEach, its_types, all_types, OwnIdForEachType}
 
 -- each id is above those before it, and none is below this
 Rising : ℕ → List (ℕ × DefType) → Type 0

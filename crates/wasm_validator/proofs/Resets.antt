@@ -1,5 +1,5 @@
 -- A module that is refused so that the validator may be reset leaves a list that begins with the one before.
-use Rattle.std.proofs.Common.{◌≡◌, refl, sym, ap, subst, ◌∙◌, inl, inr, ◌⊎◌, ℕ, Bool, true, false, ◌||◌, cond, ◌==◌, eqb, List, [], ◌++◌, Some, None, append_assoc, append-nil}
+use Rattle.std.proofs.Common.{◌≡◌, refl, sym, ap, subst, ◌∙◌, inl, inr, ◌⊎◌, Bool, true, false, ◌||◌, cond, ◌==◌, List, [], ◌++◌, Some, None, append_assoc, append-nil}
 use Rattle.wasm_parser.specs.Framing as parts
 use Rattle.wasm_parser.specs.Framing.{Piece, Version, Custom, Counted, Start, DataCount, CodeStart, CodeEntry, Unknown}
 use Rattle.wasm_parser.specs.Machine.{State, next_of}
@@ -8,7 +8,7 @@ use Rattle.wasm_validator_core.specs.Answers.{Types}
 use Rattle.wasm_validator_module_state.specs.Bodies.{expected_bodies}
 use Rattle.wasm_validator.specs.Standing.{Stage, unparsed, in_module, in_code, ended, failed, Standing, HoldsAt, can_reset_at, may_reset, reset_at, after_reset, refused_at, read_refused_at, body_refused_at, ended_at}
 use Rattle.wasm_validator.specs.States.{is_barred, left_by}
-use Rattle.wasm_validator.specs.Payloads.{after_all, HasRefused, IsLeft}
+use Rattle.wasm_validator.specs.Payloads.{after_all, HasRefused}
 use Rattle.wasm_validator.specs.Sequences.{KeepsTypes, RefusedKeepTypes}
 use Rattle.wasm_validator.proofs.Growing.{all_only, all_back}
 

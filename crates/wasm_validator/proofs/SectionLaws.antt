@@ -1,10 +1,8 @@
 -- Each section adds its items behind the lists that a module has.
-use Rattle.std.proofs.Common.{◌≡◌, refl, sym, ap, subst, ◌∙◌, ◌↔◌, ℕ, ◌+◌, ◌≤◌, Bool, true, false, cond, leb, List, [], ◌∷◌, ◌++◌, map, length, Option, Some, None, arith, append_assoc, append-nil, length-append}
+use Rattle.std.proofs.Common.{◌≡◌, refl, sym, ap, subst, ◌∙◌, ℕ, ◌+◌, ◌≤◌, Bool, true, false, cond, leb, List, [], ◌∷◌, ◌++◌, map, length, Option, Some, None, arith, append_assoc, append-nil, length-append}
 use Rattle.std.specs.Option.{option_and_then}
-use Rattle.std.specs.Bool.{Decides}
 use Rattle.std.specs.List.{All}
 use Rattle.std.proofs.lemmas.Bool.{leb-true, le-leb}
-use Rattle.std.proofs.lemmas.Bool.Decides.{Decides-at}
 use Rattle.std.proofs.lemmas.List.{length-map, map-append}
 use Rattle.std.proofs.lemmas.List.Elements.{All-nil, All-cons, All-head, All-tail}
 use Rattle.std.proofs.lemmas.Option.{none-some, same_Some}
@@ -39,7 +37,7 @@ use Rattle.wasm_validator_core_laws.proofs.AddedItems.{of_each, for_each, each_c
 use Rattle.wasm_validator.specs.Machine.{add_table_head, read_section, section_items}
 use Rattle.wasm_validator.specs.Standing.{Stage, Standing, in_module, at_stage}
 use Rattle.wasm_validator.specs.States.{within_by, after_section}
-use Rattle.wasm_validator.specs.SectionLaws.{IsReading, HasAdded, FunctionsAdd, TablesAdd, MemoriesAdd, TagsAdd}
+use Rattle.wasm_validator.specs.SectionLaws.{HasAdded, FunctionsAdd, TablesAdd, MemoriesAdd, TagsAdd}
 use Rattle.wasm_validator.specs.Verdict.{Expressions}
 use Rattle.wasm_validator.proofs.PlainTables.{plain_at, plain_renames, bare, bare_types, plain_entries, entries_plain, heads_are_plain}
 use Rattle.wasm_validator.proofs.SectionLists.{Renames, limited, section_entries, renames_nothing, same_item}

@@ -1,5 +1,5 @@
 -- How a section moves a validator.
-use Rattle.std.proofs.Common.{◌≡◌, refl, sym, ap, subst, ◌∙◌, ℕ, Some}
+use Rattle.std.proofs.Common.{◌≡◌, refl, sym, ap, subst, ◌∙◌, ◌⊎◌, inl, inr, ℕ, ◌<◌, Some}
 use Rattle.wasm_readers_errors.specs.declared.features.WasmFeatures.{WasmFeatures}
 use Rattle.wasm_validator_types.specs.Spaces.{Spaces}
 use Rattle.wasm_validator.specs.declared.validator.State.{State}
@@ -7,13 +7,16 @@ use Rattle.wasm_validator.specs.declared.validator.State.TheVariants.{Unparsed, 
 use Rattle.wasm_validator_core.specs.Answers.{Types}
 use Rattle.wasm_rules.specs.FeatureFlags.{features_of}
 use Rattle.wasm_validator_canonical.specs.Groups.{AreValid}
-use Rattle.wasm_validator_types.specs.Shown.{types_of}
+use Rattle.wasm_validator_types.specs.Shown.{Shown, types_of, HoldsIds}
 use Rattle.wasm_validator.specs.Standing.{shown_at, Standing, ended}
-use Rattle.wasm_validator_type_list.specs.Listing.{Listing}
+use Rattle.wasm_validator_type_list.specs.Listing.{Listing, types_in}
+use Rattle.wasm_validator_type_list.specs.Listing as lists
+use Rattle.wasm_validator_type_list.proofs.Standing.{length-standing}
 use Rattle.wasm_validator_core.specs.Ready.{AreIdsOf}
 use Rattle.wasm_validator_module_state.specs.declared.module_state.ModuleState.{ModuleState}
 use Rattle.wasm_validator.specs.Ready.{AreIdsIn, AreValidIn}
 use Rattle.wasm_validator.specs.States.{open_of, read_of, stage_of, state_kept, closed, after_end}
+use Rattle.std.specs.List.{All}
 use Rattle.std.specs.declared.result.Result.{Result}
 use Rattle.std.specs.declared.result.Result.TheVariants as results
 use Rattle.wasm_validator_core.specs.declared.error.Error.{Error}
@@ -81,6 +84,28 @@ module _ {A : Type 0} where
   open-ids list Unparsed m o a = absurd (cc)
   open-ids list End m o a = absurd (cc)
   open-ids list Failed m o a = absurd (cc)
+
+  read-ids : (list : Listing A) (s : State A) (m : Spaces) → read_of s ≡ Some m → AreIdsIn list s → AreIdsOf list m.types
+  read-ids list (Module n) m o a = let same : n.«module» ≡ m = cc in subst (λ (x : Spaces). AreIdsOf list x.types) same a
+  read-ids list (Code n) m o a = let same : n.«module» ≡ m = cc in subst (λ (x : Spaces). AreIdsOf list x.types) same a
+  read-ids list Unparsed m o a = absurd (cc)
+  read-ids list End m o a = absurd (cc)
+  read-ids list Failed m o a = absurd (cc)
+
+  -- a module is being read, before the start of its code or behind it
+  pub one-read : (s : State A) (m : ModuleState A) → (s ≡ Module m) ⊎ (s ≡ Code m) → read_of s ≡ Some m.«module»
+  one-read s m (inl e) = ap read_of e
+  one-read s m (inr e) = ap read_of e
+
+  -- and what shows them
+  list-ids : (id : ℕ) (list : Listing A) (m : Spaces) → AreIdsOf list m.types → HoldsIds (record { id = id; list = list; spaces = m })
+  list-ids id list m a = subst (λ n. All (λ i. i < n) m.types) (length-standing list.is_canonical list.groups) a.known
+
+  pub shown-ids : (id : ℕ) (list : Listing A) (s : State A) (m : Spaces) (w : Shown A) → read_of s ≡ Some m → AreIdsIn list s → w ≡ record { id = id; list = lists.closed list; spaces = m } → HoldsIds w
+  shown-ids id list s m w o a e = subst HoldsIds (sym e) (list-ids id list m (read-ids list s m o a))
+
+  pub lent-ids : (id : ℕ) (list : Listing A) (s : State A) (m n : Spaces) (w : Shown A) → read_of s ≡ Some m → AreIdsIn list s → n ≡ m → w ≡ record { id = id; list = list; spaces = n } → HoldsIds w
+  lent-ids id list s m n w o a same e = subst HoldsIds (sym e) (subst (λ x. HoldsIds (record { id = id; list = list; spaces = x })) (sym same) (list-ids id list m (read-ids list s m o a)))
 
 -- what is left of it where a section was added that leaves the list
 module _ {T A : Type 0} (list : Listing A) (m : ModuleState A) where

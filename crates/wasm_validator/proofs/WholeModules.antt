@@ -1,5 +1,6 @@
 -- A run over whole bytes decides whether they are a valid module of the forms that are served.
 use Rattle.std.proofs.Common.{◌≡◌, refl, sym, ap, subst, ◌∙◌, ℕ, Bool, true, false, cond, ◌==◌, ◌&&◌, eqb, List, [], ◌∷◌, ◌++◌, length, Option, Some, None, arith}
+use Rattle.std.specs.Prelude.{IfOk}
 use Rattle.std.specs.Option.{option_and_then}
 use Rattle.std.specs.List.{list_all}
 use Rattle.std.proofs.lemmas.Bool.{eqb-true}
@@ -20,7 +21,7 @@ use Rattle.wasm_rules.proofs.Tests.{then_some}
 use Rattle.wasm_readers_errors.specs.declared.features.WasmFeatures.{WasmFeatures}
 use Rattle.wasm_validator_types.specs.Spaces.{Spaces, no_spaces}
 use Rattle.wasm_validator_type_list.specs.Standing.{standing}
-use Rattle.wasm_validator_types.specs.Shown.{shown_of, types_of}
+use Rattle.wasm_validator_types.specs.Shown.{shown_of, types_of, HoldsIds}
 use Rattle.wasm_validator_types.specs.declared.shown.Types as shown
 use Rattle.wasm_validator_core.specs.declared.error.Error.{Error}
 use Rattle.wasm_validator_core.specs.declared.error.Error.TheVariants.{Refused, DuplicateExport, OutOfMemory}
@@ -263,6 +264,11 @@ module _ {A : Type 0} where
   decides bytes old new (results.Err (Refused e)) valid v = (rejects_refuses bytes old valid v.0, v.1)
   decides bytes old new (results.Err (DuplicateExport name offset)) valid v = (rejects_refuses bytes old valid v.0, v.1)
   decides bytes old new (results.Err OutOfMemory) valid v = v
+
+  -- the list has each id of a module that was accepted
+  pub accepts-ids : (bytes : List ℕ) (old new : Standing) (r : Result (shown.Types A) (Error A)) → Validates r bytes old new → IfOk r (λ t. HoldsIds (shown_of t))
+  accepts-ids bytes old new (results.Ok t) v = v.shown.ids
+  accepts-ids bytes old new (results.Err e) v = tt
 
   pub decides_alone : (bytes : List ℕ) (id : ℕ) (features : WasmFeatures) (new : Standing) (r : Result (shown.Types A) (Error A)) → DecidesModule r bytes (fresh id features) new → DecidesAlone r bytes id features
   decides_alone bytes id features new (results.Ok t) v = λ e. (new, v e)

@@ -1,5 +1,5 @@
 -- What a payload that is accepted gives.
-use Rattle.std.specs.Prelude.{ℕ, ◌≡◌, ◌⊎◌, ◌++◌, true, List, [], ◌∷◌, Option, Some, None}
+use Rattle.std.specs.Prelude.{ℕ, ◌≡◌, ◌⊎◌, ◌++◌, true, List, [], ◌∷◌, Option, Some, None, ⊤}
 use Rattle.std.specs.Option.{option_and_then}
 use Rattle.std.specs.declared.result.Result.{Result}
 use Rattle.std.specs.declared.result.Result.TheVariants as results
@@ -9,7 +9,7 @@ use Rattle.wasm_parser.specs.Machine.{State, start, next_of, Given}
 use Rattle.wasm_spec.specs.Features.{canonical}
 use Rattle.wasm_rules.specs.FeatureFlags.{features_of}
 use Rattle.wasm_validator_type_list.specs.Interned.{AreOnce}
-use Rattle.wasm_validator_types.specs.Shown.{shown_of, types_of}
+use Rattle.wasm_validator_types.specs.Shown.{shown_of, types_of, HoldsIds}
 use Rattle.wasm_validator_types.specs.declared.shown.Types.{Types}
 use Rattle.wasm_validator_core.specs.declared.error.Error.{Error}
 use Rattle.wasm_validator_core.specs.declared.error.Error.TheVariants.{Refused, DuplicateExport, OutOfMemory}
@@ -21,18 +21,24 @@ use Rattle.wasm_validator.specs.Standing.{Standing, shown_at, failed, HoldsValid
 use Rattle.wasm_validator.specs.States.{IsBeforeEnd, after_piece, left_by}
 
 -- The types show what the validator held, in a list where equal types are one if the features ask for it; then no
--- group is in it twice, and no type has two ids. The types of the list are valid.
+-- group is in it twice, and no type has two ids. The types of the list are valid, and it has each id of the module.
 pub record Show {A : Type 0} (s : Standing) (t : Types A) : Type 0 where
   pub held : shown_at s.stage ≡ Some (types_of (shown_of t).list, (shown_of t).spaces)
   pub same_id : (shown_of t).id ≡ s.id
   pub mode : (shown_of t).list.is_canonical ≡ canonical (features_of s.features)
   pub once : (shown_of t).list.is_canonical ≡ true → AreOnce (shown_of t).list.groups
   pub valid : AreValid (features_of s.features) (types_of (shown_of t).list)
+  pub ids : HoldsIds (shown_of t)
 
 -- the end gives the types of the module that was being read, and any other payload gives nothing
 abbrev pub ShowsModule : {A : Type 0} → Standing → Piece → ValidPayload A → Type 0
 ShowsModule s p Ok = IsBeforeEnd p
 ShowsModule s p (End t) = (p ≡ parts.End) × Show s t
+
+-- the list has each id of the module that has ended
+abbrev pub HoldsIdsAtEnd : {A : Type 0} → ValidPayload A → Type 0
+HoldsIdsAtEnd Ok = ⊤
+HoldsIdsAtEnd (End t) = HoldsIds (shown_of t)
 
 -- the types of the module that has ended last
 abbrev pub latest_of : {A : Type 0} → Option (Types A) → ValidPayload A → Option (Types A)

@@ -1,16 +1,15 @@
 -- What each section adds to a module, in the words of the definition: behind any lists that the module has so far a
 -- section is accepted exactly where its bytes are items that keep their rules on these lists and the limit, and then the
 -- list has these items behind. Core Specification 3.0, Validation, Modules.
-use Rattle.std.specs.Prelude.{ℕ, ◌≡◌, ◌↔◌, ◌≤◌, ◌+◌, ◌++◌, List, [], map, length, Option, Some, IsTrue}
+use Rattle.std.specs.Prelude.{ℕ, ◌≡◌, ◌↔◌, ◌≤◌, ◌+◌, ◌++◌, List, map, length, Option, Some, IsTrue}
 use Rattle.std.specs.List.{All}
 use Rattle.wasm_spec.specs.Values.{u32_at, items_at}
-use Rattle.wasm_spec.specs.Syntax.{Memory}
 use Rattle.wasm_spec.specs.BinaryTypes.{memory_at, tag_at}
-use Rattle.wasm_spec.specs.BinarySections.{TableEntry, table_entry_at}
+use Rattle.wasm_spec.specs.BinarySections.{table_entry_at}
 use Rattle.wasm_spec.specs.Features.{canonical}
 use Rattle.wasm_spec.specs.Trees.{DefType}
 use Rattle.wasm_rules.specs.FeatureFlags.{features_of}
-use Rattle.wasm_rules.specs.Parts.{Expression, index}
+use Rattle.wasm_rules.specs.Parts.{index}
 use Rattle.wasm_rules.specs.IndexSpaces.{IsFunctionType, table_type}
 use Rattle.wasm_rules.specs.ItemRules.{IsValidTableEntry, IsValidMemory, IsValidTag}
 use Rattle.wasm_rules.specs.Limits.{most_tables, most_memories}

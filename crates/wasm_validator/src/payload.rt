@@ -1,8 +1,9 @@
 ghost use Rattle.std.specs.Prelude.{◌≡◌, IfOk};
 ghost use Rattle.wasm_parser.specs.Seen.{seen};
+ghost use Rattle.wasm_validator_types.specs.Shown.{shown_of, HoldsIds};
 ghost use Rattle.wasm_validator.specs.Standing.{Leaves};
 ghost use Rattle.wasm_validator.specs.States.{after_piece, left_by, IsBeforeEnd};
-ghost use Rattle.wasm_validator.specs.Payloads.{ShowsModule, latest_of, Validates};
+ghost use Rattle.wasm_validator.specs.Payloads.{ShowsModule, HoldsIdsAtEnd, latest_of, Validates};
 ghost use Rattle.wasm_validator.specs.Verdict.{DecidesModule, DecidesAlone};
 
 use crate::validator::Validator;
@@ -25,6 +26,7 @@ impl<A: Allocator + Copy> Validator<A> {
     pub fn payload<'a>(&mut self, payload: &Payload<'a, A>) -> Result<ValidPayload<A>, Error<A>>
         ensures moves { Leaves result (after_piece self.old (seen payload.now)) (left_by self.old (seen payload.now)) self.old self.new }
         ensures shown { IfOk result (ShowsModule self.old (seen payload.now)) }
+        ensures held { IfOk result HoldsIdsAtEnd }
     {
         match payload {
             Payload::End(offset) => match self.end(*offset) {
@@ -83,7 +85,8 @@ impl<A: Allocator + Copy> Validator<A> {
     ///
     /// The validator has to be fresh or reset: elsewhere the header is refused.
     pub fn validate_all(&mut self, bytes: &[u8]) -> Result<Types<A>, Error<A>>
-        ensures { DecidesModule result bytes.now self.old self.new }
+        ensures decided { DecidesModule result bytes.now self.old self.new }
+        ensures held { IfOk result (λ t. HoldsIds (shown_of t)) }
     {
         // Asked for what it promises: the types that are held are valid.
         let _has_failed = self.has_failed();
@@ -131,7 +134,8 @@ pub fn validate<A: Allocator + Copy>(
     bytes: &[u8],
     id: ValidatorId,
 ) -> Result<Types<A>, Error<A>>
-    ensures { DecidesAlone result bytes.now id (record { 0 = 32703 }) }
+    ensures decided { DecidesAlone result bytes.now id (record { 0 = 32703 }) }
+    ensures held { IfOk result (λ t. HoldsIds (shown_of t)) }
 {
     Validator::new(alloc, id).validate_all(bytes)
 }

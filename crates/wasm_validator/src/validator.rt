@@ -3,7 +3,7 @@ ghost use Rattle.wasm_validator_core.specs.Errors.{IsContent, offset_of};
 ghost use Rattle.wasm_readers.specs.SectionsSeen.{count_of, bytes_of};
 ghost use Rattle.wasm_validator_type_list.specs.Interned.{AreOnce};
 ghost use Rattle.wasm_validator_type_list.specs.Listing.{closed};
-ghost use Rattle.wasm_validator_types.specs.Shown.{shown_of, shown_by, types_of};
+ghost use Rattle.wasm_validator_types.specs.Shown.{shown_of, shown_by, types_of, HoldsIds};
 ghost use Rattle.wasm_validator.specs.Payloads.{Show};
 ghost use Rattle.wasm_validator.specs.Standing.{HoldsValid, Leaves, Moves, at_stage, within, read_refused_at, body_refused_at, ended_at, fresh, is_failed, may_reset, after_reset, shown_at};
 ghost use Rattle.wasm_validator.specs.States.{open_of, read_of, state_kept, is_module, after_version, after_section, section_refused_at, after_start, after_data_count, after_code_start, after_end};
@@ -240,6 +240,7 @@ impl<A: Allocator + Copy> Validator<A> {
         ensures some { IsSome result ↔ (level ≡ 0) × IsSome (shown_at self.now.stage) }
         ensures shown { IfSome result (λ t. shown_at self.now.stage ≡ Some (types_of (shown_by t).list, (shown_by t).spaces)) }
         ensures id { IfSome result (λ t. (shown_by t).id ≡ self.now.id) }
+        ensures held { IfSome result (λ t. HoldsIds (shown_by t)) }
     {
         if level != 0 {
             return None;
@@ -573,6 +574,7 @@ impl<A: Allocator + Copy> Validator<A> {
         ensures moves { Leaves result (after_end self.old) (ended_at self.old.stage) self.old self.new }
         ensures place { IfErr result (λ e. IsContent e → offset_of e ≡ offset) }
         ensures shown { IfOk result (Show self.old) }
+        ensures held { IfOk result (λ t. HoldsIds (shown_of t)) }
     {
         match closing(&mut self.state) {
             Ok(state) => match finished(self.id, self.alloc, &mut self.types, state) {

@@ -3,10 +3,10 @@ use Rattle.wasm_spec.specs.Features.{canonical}
 use Rattle.wasm_rules.specs.FeatureFlags.{features_of}
 use Rattle.wasm_validator_type_list.specs.Interned.{AreOnce}
 use Rattle.wasm_validator_canonical.specs.Groups.{AreValid}
-use Rattle.wasm_validator_types.specs.Shown.{types_of}
+use Rattle.wasm_validator_types.specs.Shown.{shown_of, types_of}
 use Rattle.wasm_validator_core.specs.Ready.{IsOpenFor}
 use Rattle.wasm_validator.specs.Standing.{Standing}
-use Rattle.wasm_validator.proofs.Sections.{ended_from_open, shown_from_open, read-valid, shown-valid}
+use Rattle.wasm_validator.proofs.Sections.{ended_from_open, shown_from_open, read-valid, shown-valid, shown-ids}
 use Rattle.wasm_validator.proofs.validator.Validator.end.Goals as goal
 
 pub invariant_of-self : goal.invariant_of-self
@@ -30,5 +30,10 @@ returns-in-Ok-finished-clause-shown g c =
       same_id = ap (λ w. w.id) shown ∙ ap (λ (s : Standing). s.id) c.self.view_is;
       mode = ap (λ w. w.list.is_canonical) shown ∙ c.self.invariant.list.mode ∙ ap (λ (s : Standing). canonical (features_of s.features)) c.self.view_is;
       valid = shown-valid c.self.inside.features c.self.inside.types c.self.inside.id c.self.inside.state c.in-Ok.state.«module» c.args.self.now (types_of c.in-Ok-finished.types.types) c.self.view_is c.in-Ok.ensures.ok c.self.invariant.valid (ap (λ w. types_of w.list) shown);
+      ids = shown-ids c.self.inside.id c.self.inside.types c.self.inside.state c.in-Ok.state.«module» (shown_of c.in-Ok-finished.types) c.in-Ok.ensures.ok c.self.invariant.ids shown;
       once = λ e. subst AreOnce (sym (ap (λ w. w.list.groups) shown)) (c.finished.ensures.once (sym (ap (λ w. w.list.is_canonical) shown) ∙ e));
     }
+
+pub returns-in-Ok-finished-clause-held : goal.returns-in-Ok-finished-clause-held
+returns-in-Ok-finished-clause-held g c =
+    shown-ids c.self.inside.id c.self.inside.types c.self.inside.state c.in-Ok.state.«module» (shown_of c.in-Ok-finished.types) c.in-Ok.ensures.ok c.self.invariant.ids c.in-Ok-finished.ensures.shown

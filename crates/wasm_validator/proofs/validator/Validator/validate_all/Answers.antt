@@ -1,7 +1,10 @@
-use Rattle.wasm_validator.proofs.WholeModules.{decides}
+use Rattle.wasm_validator.proofs.WholeModules.{decides, accepts-ids}
 use Rattle.wasm_validator.proofs.validator.Validator.validate_all.Goals as goal
 
-pub returns : goal.returns
-returns g c =
+pub returns-clause-decided : goal.returns-clause-decided
+returns-clause-decided g c =
     decides c.args.bytes.now c.args.self.now c.run.new.self c.run.result
     c.has_failed-has_failed.ensures.valid c.run.ensures
+
+pub returns-clause-held : goal.returns-clause-held
+returns-clause-held g c = accepts-ids c.args.bytes.now c.args.self.now c.run.new.self c.run.result c.run.ensures
