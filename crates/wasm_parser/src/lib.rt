@@ -26,6 +26,3 @@ pub fn laws()
     ensures ends { GivenEnds }
     ensures fewer { PiecesEnd }
 {}
-
-#[cfg(test)]
-mod tests;
