@@ -8,8 +8,6 @@ mod heap;
 mod laws;
 mod module;
 mod operators;
-#[cfg(test)]
-mod tests;
 mod values;
 
 pub use frame_stack::FrameStack;

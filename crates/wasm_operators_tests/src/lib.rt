@@ -1,12 +1,16 @@
-//! Tests of the reading of operators.
+//! Tests of parsing, and of the reading of operators and the counts of their operands.
 #![tactic(auto)]
 
+#[cfg(test)]
+mod arities;
 #[cfg(test)]
 mod numbers;
 #[cfg(test)]
 mod opcodes;
 #[cfg(test)]
 mod operators;
+#[cfg(test)]
+mod payloads;
 #[cfg(test)]
 mod table;
 

@@ -23,7 +23,7 @@ fn is_whole(bytes: &[u8]) -> bool
 }
 
 /// The bytes and the text of a line of a table.
-fn parts(alloc: Global, line: &str) -> Result<(Vec<u8>, &str), Fail> {
+pub(crate) fn parts(alloc: Global, line: &str) -> Result<(Vec<u8>, &str), Fail> {
     let (digits, text) = line.split_once('|').ok_or("a bar")?;
     Ok((hex::decode(alloc, digits).ok().ok_or("digits")?, text))
 }

@@ -28,6 +28,3 @@ pub fn laws()
     ensures ends { GivenEnds }
     ensures fewer { PiecesEnd }
 {}
-
-#[cfg(test)]
-mod tests;
