@@ -4,12 +4,12 @@ use Rattle.std.specs.Option.{option_or}
 use Rattle.wasm_spec.specs.Syntax.{Sub, AbstractHeap, any_heap, eq_heap, i31_heap, struct_heap, array_heap, none_heap, func_heap, nofunc_heap, extern_heap, noextern_heap, exn_heap, noexn_heap, cont_heap, nocont_heap, Heap, abstract_heap, concrete, exact, Val, i32, i64, f32, f64, v128, reference, Storage, i8, i16, unpacked, Field, Comp, func, array, struct, cont}
 use Rattle.std.specs.Prelude.{nat_lt}
 use Rattle.std.specs.declared.result.Result.{Result}
-use Rattle.wasm_spec.specs.ValueTypes.{is_without_gc_types, implies}
+use Rattle.wasm_spec.specs.ValueTypes.{is_without_gc_types}
 use Rattle.wasm_spec.specs.Declared.{supertype_of}
 use Rattle.wasm_spec.specs.GroupRules.{is_struct}
 use Rattle.wasm_readers_errors.specs.declared.error.Fault.TheVariants as fault
 use Rattle.wasm_readers_errors.specs.declared.error.Rule.TheVariants.{Floats, Simd, MultiValue}
-use Rattle.wasm_readers_errors.specs.declared.type_rules.GroupRule.TheVariants.{Arrays, ArrayGcTypes, Structs, StructGcTypes, Continuations, ContinuationGcTypes, SharedMembers, SharedComposites, Subtypes}
+use Rattle.wasm_readers_errors.specs.declared.type_rules.GroupRule.TheVariants.{Arrays, ArrayGcTypes, Structs, StructGcTypes, Continuations, ContinuationGcTypes, SharedComposites, Subtypes}
 use Rattle.wasm_readers_errors.specs.declared.type_rules.DescriptorRule.TheVariants.{Descriptors}
 use Rattle.wasm_readers_errors.specs.declared.type_rules.ValueTypeRule.{ValueTypeRule}
 use Rattle.wasm_readers_errors.specs.declared.type_rules.ValueTypeRule.TheVariants.{ReferenceTypes, IndexReferences, ExactReferences, SharedReferences, GcTypes, NonNullable, GcHeapTypes, ExceptionReferences, ContinuationReferences}
@@ -22,7 +22,7 @@ use Rattle.wasm_readers_errors.specs.declared.features.WasmFeatures.{WasmFeature
 use Rattle.wasm_readers_types.specs.declared.types.SubType.{SubType}
 use Rattle.wasm_validator_type_list.specs.Declares.{declares}
 use Rattle.wasm_value_checks.specs.Told.{first_told, told_of_abstract, told_of_heap, told_of_val, told_of_storage, told_of_comp}
-use Rattle.wasm_group_checks.specs.Told.{clause_of_non_struct, Unless, holds, broken, FirstOf, first, second, AtSome, absent, present, told_of_extending, told_of_clauses, told_before_continuation, ToldOfContinuation, ToldOfExtended, ToldOfExtendedClauses, ToldOfSupertype, ToldOfDepth, ToldOfComposite, ToldOfSubtype, ToldOfSupertypeClauses, ToldOfPair, ToldOfDescriptors, ToldOfType, ToldOfGroup}
+use Rattle.wasm_group_checks.specs.Told.{clause_of_non_struct, Unless, holds, broken, FirstOf, first, second, AtSome, absent, present, told_of_extending, told_of_clauses, told_before_continuation, ToldOfContinuation, ToldOfExtended, ToldOfExtendedClauses, ToldOfPair, ToldOfType, ToldOfGroup}
 
 module _ (offset : ℕ) where
   -- a refusal, if there is one, stands here

@@ -1,18 +1,13 @@
 -- A table is its head and what is behind it.
-use Rattle.std.proofs.Common.{◌≡◌, refl, ap, ◌∙◌, ℕ, Bool, true, false, cond, eqb, List, Option, Some, None}
-use Rattle.std.specs.Prelude.{IfOk, OnErr}
-use Rattle.std.specs.declared.result.Result.{Result}
-use Rattle.std.specs.declared.result.Result.TheVariants.{Ok, Err}
+use Rattle.std.proofs.Common.{◌≡◌, refl, ℕ, Bool, true, false, cond, eqb, List, Option, Some, None}
 use Rattle.std.specs.Option.{option_map, option_and_then}
 use Rattle.wasm_spec.specs.Syntax.{Table}
 use Rattle.wasm_spec.specs.Values.{byte_at}
 use Rattle.wasm_spec.specs.BinaryTypes.{flags_at, table_at}
 use Rattle.wasm_spec.specs.BinarySections.{TableEntry, table_from, table_entry_at}
-use Rattle.wasm_readers_errors.specs.declared.error.Refusal.{Refusal}
 use Rattle.wasm_readers_types.specs.declared.indices.UnpackedIndex.{UnpackedIndex}
 use Rattle.wasm_readers.specs.Written.{written}
-use Rattle.wasm_readers.specs.declared.items.TableHead.{TableHead}
-use Rattle.wasm_readers.specs.Tables.{ExpressionReading, Head, head_of, head_with, table_head_from, table_head_at, table_behind, TableHeadsBeginTables}
+use Rattle.wasm_readers.specs.Tables.{ExpressionReading, Head, head_with, table_head_from, table_head_at, table_behind, TableHeadsBeginTables}
 
 module _ (expression_at : ExpressionReading) where
   -- a table that goes on behind a head
