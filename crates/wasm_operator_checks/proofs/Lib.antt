@@ -4,3 +4,4 @@ pub mod Listing
 pub mod Taking
 pub mod Acting
 pub mod Typing
+pub mod Comparing

@@ -2,12 +2,14 @@
 #![tactic(auto)]
 
 mod faults;
+mod lists;
 mod looks;
 mod matching;
 mod steps;
 mod types;
 
 pub use faults::{OperatorError, OperatorFault, OperatorRule};
+pub use lists::match_all;
 pub use looks::{check_many, check_type, look};
 pub use matching::matches;
 pub use steps::{halt, plain, plain_with};

@@ -1,0 +1,11 @@
+use Rattle.std.proofs.Common.{◌≡◌, length, drop, map}
+use Rattle.wasm_readers_types.specs.SeenValues.{val_of}
+use Rattle.wasm_operator_steps.specs.Matching.{matches_vals}
+use Rattle.wasm_module_resources.specs.Answers.{world}
+use Rattle.wasm_operator_checks.proofs.lists.match_all.Given as goal
+
+abbrev pub invariant-matching : goal.invariant-matching
+invariant-matching g l = record {
+  same : length l.types ≡ length l.others;
+  rest : matches_vals (world (g.T.WasmModuleResources.context l.resources)) (map val_of l.types) (map val_of l.others) ≡ matches_vals (world (g.T.WasmModuleResources.context l.resources)) (map val_of (drop l.i l.types)) (map val_of (drop l.i l.others));
+}
