@@ -18,7 +18,7 @@ use Rattle.wasm_rules.specs.LinkRules.{IsValidImport, IsValidExport, IsValidStar
 use Rattle.wasm_rules.specs.SegmentRules.{IsValidElement, IsValidData}
 use Rattle.wasm_rules.specs.Modules.{IsAllowedPiece}
 use Rattle.wasm_spec.specs.Trees.{TypeUse, DefType, close, denote, declared}
-use Rattle.wasm_rules.specs.ModuleExamples.{TableOfOneOrTwo, NoTableOfTwoToOne, NoTableWithoutEntries, MemoryOfAllAddresses, NoMemoryPastAllAddresses, NoSharedGlobal, NoTagWithoutExceptions, NoMutableImport, MemoryIsExported, NoSecondMemory, NoNameTwice, SizeIsThree, NoPassiveElements, NoPassiveData, NoTwoMemories, HeaderIsModule, NoVersionTwo, NoStartWithParameter, first_version, taking_type}
+use Rattle.wasm_rules.specs.ModuleExamples.{TableOfOneOrTwo, NoTableOfTwoToOne, NoTableWithoutEntries, MemoryOfAllAddresses, NoMemoryPastAllAddresses, NoSharedGlobal, NoTagWithoutExceptions, NoMutableImport, MemoryIsExported, NoSecondMemory, NoNameTwice, SizeIsThree, NoPassiveElements, NoWrittenElements, OffsetsReference, NoPassiveData, NoTwoMemories, HeaderIsModule, NoVersionTwo, NoStartWithParameter, first_version, taking_type}
 
 pub table_of_one_or_two : TableOfOneOrTwo
 table_of_one_or_two = record {
@@ -72,6 +72,12 @@ no_name_twice d = let h : true ≡ false = (IsDistinct-head _ (97 ∷ []) ((97 �
 
 pub size_is_three : SizeIsThree
 size_is_three = refl
+
+pub no_written_elements : NoWrittenElements
+no_written_elements C v = let h : false ≡ true = v.items.allowed in cc
+
+pub offsets_reference : OffsetsReference
+offsets_reference = refl
 
 pub no_passive_elements : NoPassiveElements
 no_passive_elements C v = let h : false ≡ true = v.mode in cc
@@ -190,4 +196,4 @@ no_start_with_parameter types e v =
     let has : signature_at types v.ty ≡ Some (i32 ∷ [], []) = (λ i. signature_at (sym same i) (ty i)) ∙ taking_signature in
     takes_some i32 [] (parameters (i32 ∷ [], []) ([], []) (sym has ∙ v.takes_and_gives_nothing))
 
-pub ruleset examples = (table_of_one_or_two, no_table_of_two_to_one, no_table_without_entries, memory_of_all_addresses, no_memory_past_all_addresses, no_shared_global, no_tag_without_exceptions, no_mutable_import, memory_is_exported, no_second_memory, no_name_twice, size_is_three, no_start_with_parameter, no_passive_elements, no_passive_data, no_two_memories, header_is_module, no_version_two)
+pub ruleset examples = (table_of_one_or_two, no_table_of_two_to_one, no_table_without_entries, memory_of_all_addresses, no_memory_past_all_addresses, no_shared_global, no_tag_without_exceptions, no_mutable_import, memory_is_exported, no_second_memory, no_name_twice, size_is_three, no_start_with_parameter, no_written_elements, offsets_reference, no_passive_elements, no_passive_data, no_two_memories, header_is_module, no_version_two)

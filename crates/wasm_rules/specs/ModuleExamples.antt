@@ -3,14 +3,14 @@
 use Rattle.std.specs.Prelude.{ℕ, ◌≡◌, true, false, List, [], ◌∷◌, Option, Some, None}
 use Rattle.wasm_spec.specs.Syntax.{i32, i64, Table, Memory, global_extern, func, Rec}
 use Rattle.wasm_spec.specs.BinaryModules.{Import, Export}
-use Rattle.wasm_spec.specs.BinarySections.{funcref, ref_func, passive, functions}
+use Rattle.wasm_spec.specs.BinarySections.{funcref, ref_func, passive, active, functions, expressions}
 use Rattle.wasm_spec.specs.Features.{Features}
 use Rattle.wasm_spec.specs.Trees.{DefType}
 use Rattle.wasm_spec.specs.Closing.{type_space}
 use Rattle.wasm_rules.specs.Parts.{Parts, Expression}
 use Rattle.wasm_rules.specs.IndexSpaces.{IndexSpaces}
 use Rattle.wasm_rules.specs.ItemRules.{IsValidTable, IsValidTableEntry, IsValidMemory, IsValidTag, IsValidGlobal}
-use Rattle.wasm_rules.specs.LinkRules.{IsValidImport, IsValidExport, HasDistinctNames, effective_size, IsValidStart}
+use Rattle.wasm_rules.specs.LinkRules.{IsValidImport, IsValidExport, HasDistinctNames, effective_size, IsValidStart, referenced}
 use Rattle.wasm_rules.specs.SegmentRules.{IsValidElement, IsValidData}
 use Rattle.wasm_rules.specs.Limits.{KeepsLimits}
 use Rattle.wasm_rules.specs.Modules.{IsValid}
@@ -115,6 +115,32 @@ NoStartWithParameter =
 -- breaks `mode`: passive segments need bulk memory
 abbrev pub NoPassiveElements : Type 0
 NoPassiveElements = (C : IndexSpaces) → IsValidElement first_version C (record { mode = passive; items = functions [] }) → ⊥
+
+-- breaks `items`: a type that is written needs reference types, also `funcref`, which only a table may always have
+abbrev pub NoWrittenElements : Type 0
+NoWrittenElements = (C : IndexSpaces) → IsValidElement first_version C (record { mode = active None []; items = expressions funcref [] }) → ⊥
+
+-- a module of one data segment, whose offset is the expression of the one byte 7
+abbrev pub data_behind_seven : Parts
+data_behind_seven = record {
+  groups = [];
+  imports = [];
+  functions = [];
+  tables = [];
+  memories = [];
+  tags = [];
+  globals = [];
+  exports = [];
+  starts = [];
+  elements = [];
+  data_counts = [];
+  bodies = [];
+  segments = record { mode = active None (7 ∷ []); bytes = [] } ∷ [];
+}
+
+-- where an expression names the functions that its bytes are
+abbrev pub OffsetsReference : Type 0
+OffsetsReference = referenced (λ e. e) data_behind_seven ≡ 7 ∷ []
 
 abbrev pub NoPassiveData : Type 0
 NoPassiveData = (C : IndexSpaces) → IsValidData first_version C (record { mode = passive; bytes = [] }) → ⊥

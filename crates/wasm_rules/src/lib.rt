@@ -4,7 +4,7 @@
 
 ghost use Rattle.wasm_rules.specs.Contexts.{ContextsAreRenamed, RepeatedTypeIsOne};
 ghost use Rattle.wasm_rules.specs.Totals.{TotalsGoOn};
-ghost use Rattle.wasm_rules.specs.ModuleExamples.{TableOfOneOrTwo, NoTableOfTwoToOne, NoTableWithoutEntries, MemoryOfAllAddresses, NoMemoryPastAllAddresses, NoSharedGlobal, NoTagWithoutExceptions, NoMutableImport, MemoryIsExported, NoSecondMemory, NoNameTwice, SizeIsThree, NoStartWithParameter, NoPassiveElements, NoPassiveData, NoTwoMemories, HeaderIsModule, NoVersionTwo};
+ghost use Rattle.wasm_rules.specs.ModuleExamples.{TableOfOneOrTwo, NoTableOfTwoToOne, NoTableWithoutEntries, MemoryOfAllAddresses, NoMemoryPastAllAddresses, NoSharedGlobal, NoTagWithoutExceptions, NoMutableImport, MemoryIsExported, NoSecondMemory, NoNameTwice, SizeIsThree, NoStartWithParameter, NoPassiveElements, NoWrittenElements, OffsetsReference, NoPassiveData, NoTwoMemories, HeaderIsModule, NoVersionTwo};
 
 /// Worked examples of the rules of modules.
 #[tactic(auto, using(crate::proofs::ModuleExamples::examples))]
@@ -23,6 +23,8 @@ pub fn module_examples()
     ensures size { SizeIsThree }
     ensures no_start { NoStartWithParameter }
     ensures no_elements { NoPassiveElements }
+    ensures no_written { NoWrittenElements }
+    ensures offsets { OffsetsReference }
     ensures no_data { NoPassiveData }
     ensures no_memories { NoTwoMemories }
     ensures header { HeaderIsModule }
