@@ -1,6 +1,8 @@
 -- What contracts see of a validator's own state, and its calls.
 use Rattle.std.specs.Prelude.{ℕ, ◌==◌, Bool, true, false, not, ◌&&◌, ◌||◌, cond, if◌then◌else◌, List, Option, Some, None, ⊤}
 use Rattle.wasm_readers_errors.specs.declared.features.WasmFeatures.{WasmFeatures}
+use Rattle.wasm_readers_errors.specs.declared.error.OutOfOrder.{OutOfOrder}
+use Rattle.wasm_readers_errors.specs.declared.error.OutOfOrder.TheVariants.{SectionBeforeHeader, SectionAfterEnd, EndBeforeHeader, EndAfterEnd, SectionAfterFailure, SectionAfterCodeStart}
 use Rattle.wasm_rules.specs.FeatureFlags.{features_of}
 use Rattle.wasm_validator_types.specs.Shown.{types_of}
 use Rattle.wasm_validator_types.specs.Spaces.{Spaces, no_spaces}
@@ -35,6 +37,21 @@ module _ {A : Type 0} where
   read_of Unparsed = None
   read_of End = None
   read_of Failed = None
+
+  -- what is told of the order where a section, or the end, may not come
+  abbrev pub order_at : State A → OutOfOrder
+  order_at Unparsed = SectionBeforeHeader
+  order_at (Module m) = SectionAfterFailure
+  order_at (Code m) = SectionAfterCodeStart
+  order_at End = SectionAfterEnd
+  order_at Failed = SectionAfterFailure
+
+  abbrev pub end_order_at : State A → OutOfOrder
+  end_order_at Unparsed = EndBeforeHeader
+  end_order_at (Module m) = SectionAfterFailure
+  end_order_at (Code m) = SectionAfterFailure
+  end_order_at End = EndAfterEnd
+  end_order_at Failed = SectionAfterFailure
 
   abbrev pub stage_of : Types → State A → Stage
   stage_of types Unparsed = unparsed types

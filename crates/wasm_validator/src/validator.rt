@@ -6,7 +6,7 @@ ghost use Rattle.wasm_validator_type_list.specs.Listing.{closed};
 ghost use Rattle.wasm_validator_types.specs.Shown.{shown_of, shown_by, types_of, HoldsIds};
 ghost use Rattle.wasm_validator.specs.Payloads.{Show};
 ghost use Rattle.wasm_validator.specs.Standing.{HoldsValid, Leaves, Moves, at_stage, within, read_refused_at, body_refused_at, ended_at, fresh, is_failed, may_reset, after_reset, shown_at};
-ghost use Rattle.wasm_validator.specs.States.{open_of, read_of, state_kept, is_module, after_version, after_section, section_refused_at, after_start, after_data_count, after_code_start, after_end};
+ghost use Rattle.wasm_validator.specs.States.{open_of, read_of, order_at, end_order_at, state_kept, is_module, after_version, after_section, section_refused_at, after_start, after_data_count, after_code_start, after_end};
 
 use crate::module_sections::{
     add_exports, add_functions, add_imports, add_memories, add_tables, add_tags, add_types,
@@ -68,7 +68,9 @@ impl<A: Allocator> Model for Validator<A> {
 }
 
 /// Why a section may not come now, where it may not.
-fn out_of_order<A: Allocator>(state: &State<A>) -> OutOfOrder {
+fn out_of_order<A: Allocator>(state: &State<A>) -> OutOfOrder
+    ensures { result ≡ order_at state.now }
+{
     match state {
         State::Unparsed => OutOfOrder::SectionBeforeHeader,
         State::Code(_) => OutOfOrder::SectionAfterCodeStart,
@@ -78,7 +80,9 @@ fn out_of_order<A: Allocator>(state: &State<A>) -> OutOfOrder {
 }
 
 /// Why `end` may not come now, where it may not.
-fn end_out_of_order<A: Allocator>(state: &State<A>) -> OutOfOrder {
+fn end_out_of_order<A: Allocator>(state: &State<A>) -> OutOfOrder
+    ensures { result ≡ end_order_at state.now }
+{
     match state {
         State::Unparsed => OutOfOrder::EndBeforeHeader,
         State::End => OutOfOrder::EndAfterEnd,
@@ -93,6 +97,7 @@ fn opened<A: Allocator>(state: &mut State<A>, offset: u64) -> Result<ModuleState
     ensures left { OnOk result (state.new ≡ State.Failed) }
     ensures none { OnErr result (open_of state.old ≡ None) }
     ensures place { IfErr result (λ r. r.offset ≡ offset) }
+    ensures refusal { IfErr result (λ r. r ≡ record { fault = Fault.OutOfOrder (order_at state.old); offset = offset; missing = None }) }
     ensures unchanged { OnErr result (state.new ≡ state.old) }
 {
     match mem::replace(state, State::Failed) {
@@ -110,6 +115,7 @@ fn closing<A: Allocator>(state: &mut State<A>) -> Result<ModuleState<A>, OutOfOr
     ensures ok { IfOk result (λ m. read_of state.old ≡ Some m.«module») }
     ensures left { OnOk result (state.new ≡ State.Failed) }
     ensures none { OnErr result (read_of state.old ≡ None) }
+    ensures order { IfErr result (λ order. order ≡ end_order_at state.old) }
     ensures unchanged { OnErr result (state.new ≡ state.old) }
 {
     match mem::replace(state, State::Failed) {
