@@ -1,3 +1,4 @@
 pub mod Locally
 pub mod Globally
 pub mod Labelled
+pub mod Ended

@@ -1,10 +1,13 @@
 -- What blocks take and give, read from a context.
-use Rattle.std.specs.Prelude.{ℕ, [], ◌∷◌, Option, Some}
+use Rattle.std.specs.Prelude.{ℕ, Bool, true, [], ◌∷◌, Option, Some}
 use Rattle.std.specs.Option.{option_map}
+use Rattle.wasm_spec.specs.MatchingTests.{World}
 use Rattle.wasm_rules.specs.Contexts.{Context}
 use Rattle.wasm_readers_types.specs.declared.indices.UnpackedIndex.{UnpackedIndex}
 use Rattle.wasm_operators.specs.Control.{Block, empty_block, value_block, func_block}
 use Rattle.wasm_operator_steps.specs.Attempts.{◌>>=◌}
+use Rattle.wasm_operator_steps.specs.Machine.{Kind, block_kind, loop_kind, if_kind, else_kind, try_table_kind}
+use Rattle.wasm_operator_steps.specs.Matching.{matches_vals}
 use Rattle.wasm_operator_steps.specs.Meanings.{Signature, signature_of}
 use Rattle.wasm_module_resources.specs.Answers.{sub_in}
 
@@ -16,3 +19,11 @@ abbrev pub signature_in : Context UnpackedIndex → Block UnpackedIndex → Opti
 signature_in C empty_block = Some (record { takes = []; gives = [] })
 signature_in C (value_block v) = Some (record { takes = []; gives = v ∷ [] })
 signature_in C (func_block n) = function_in C n
+
+-- an `if` without `else` gives what it takes
+abbrev pub ends_in : World UnpackedIndex → Kind → Signature UnpackedIndex → Bool
+ends_in W if_kind g = matches_vals W g.takes g.gives
+ends_in W block_kind g = true
+ends_in W loop_kind g = true
+ends_in W else_kind g = true
+ends_in W try_table_kind g = true

@@ -1,11 +1,12 @@
 -- What contracts see of the stacks of a body.
-use Rattle.std.specs.Prelude.{◌≡◌, ℕ, Bool, List, map, drop}
+use Rattle.std.specs.Prelude.{◌≡◌, ℕ, Bool, List, map, drop, false, ◌∷◌, ◌-◌, length}
 use Rattle.wasm_spec.specs.Features.{Features}
 use Rattle.wasm_rules.specs.Contexts.{Context}
 use Rattle.wasm_rules.specs.FeatureFlags.{features_of}
 use Rattle.wasm_readers_types.specs.declared.indices.UnpackedIndex.{UnpackedIndex}
+use Rattle.wasm_operators.specs.Control.{Block}
 use Rattle.wasm_operator_steps.specs.Bodies.{Local, Surroundings}
-use Rattle.wasm_operator_steps.specs.Machine.{State}
+use Rattle.wasm_operator_steps.specs.Machine.{Kind, State}
 use Rattle.wasm_operator_stacks.specs.SeenOperands.{operand_of}
 use Rattle.wasm_operator_stacks.specs.SeenBlocks.{frames_seen}
 use Rattle.wasm_operator_stacks.specs.declared.stacks.Stacks.{Stacks}
@@ -29,3 +30,7 @@ pub record Kept {A : Type 0} (v w : Stacks A) : Type 0 where
 -- the state without so many operands from the top
 abbrev pub below : ℕ → State UnpackedIndex → State UnpackedIndex
 below k s = record s { operands = drop k s.operands }
+
+-- the state with a frame more, below so many operands
+abbrev pub with_frame : Kind → Block UnpackedIndex → ℕ → State UnpackedIndex → State UnpackedIndex
+with_frame k b taken s = record s { frames = record { kind = k; block = b; height = length s.operands - taken; unreachable = false; init_height = length s.inits } ∷ s.frames }

@@ -5,7 +5,7 @@ ghost use Rattle.wasm_operator_steps.specs.Machine.{push_operand, pushed_onto, p
 ghost use Rattle.wasm_readers_types.specs.SeenValues.{val_of};
 ghost use Rattle.wasm_operator_stacks.specs.SeenOperands.{operand_of};
 ghost use Rattle.wasm_operator_stacks.specs.SeenBlocks.{block_in, kind_of, frame_of};
-ghost use Rattle.wasm_operator_stacks.specs.Seen.{state_of, below, Kept};
+ghost use Rattle.wasm_operator_stacks.specs.Seen.{state_of, below, with_frame, Kept};
 
 use crate::block_word::BlockWord;
 use crate::locals::Locals;
@@ -169,6 +169,38 @@ impl<A: Allocator> Stacks<A> {
             unreachable: false,
             block,
             height: self.operands.len(),
+            init_height: self.locals.count_set(),
+        };
+        Ok(())
+    }
+
+    /// Opens a frame below so many operands, which stay. Where memory is refused, all stays.
+    #[inline(always)]
+    #[tactic(auto, using(crate::proofs::Framing::opens))]
+    pub fn open_below(
+        &mut self,
+        kind: FrameKind,
+        block: BlockWord,
+        taken: usize,
+    ) -> Result<(), AllocError>
+        requires { taken ≤ length (state_of self.old).operands }
+        ensures ok { OnOk result (state_of self.new ≡ with_frame (kind_of kind) (block_in block) taken (state_of self.old)) }
+        ensures err { OnErr result (state_of self.new ≡ state_of self.old) }
+        ensures open { OnOk result (self.new.is_open ≡ true) }
+        ensures inits { OnOk result (self.new.frame.init_height ≡ length (state_of self.old).inits) }
+        ensures same { Kept self.old self.new }
+    {
+        if self.is_open {
+            self.outer.push(self.frame)?;
+        } else {
+            self.outer.truncate(0);
+        }
+        self.is_open = true;
+        self.frame = Frame {
+            kind,
+            unreachable: false,
+            block,
+            height: self.operands.len() - taken,
             init_height: self.locals.count_set(),
         };
         Ok(())
