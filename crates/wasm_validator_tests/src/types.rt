@@ -133,6 +133,8 @@ fn matches(list: &TypeList, a: u32, b: u32) -> Option<bool> {
 #[test]
 fn types_match_by_their_structure(rt: HostRuntime) -> Result<(), Fail> {
     let types = check(rt.alloc(), FOUR)?;
+    assert!(rt; types.as_ref().get(CoreTypeId::from_index(3)).is_some());
+    assert!(rt; types.as_ref().get(CoreTypeId::from_index(4)).is_none());
     let list = types.as_ref().type_list();
     assert_eq!(rt; matches(list, 1, 0), Some(true));
     assert_eq!(rt; matches(list, 0, 1), Some(false));

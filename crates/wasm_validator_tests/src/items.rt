@@ -1,0 +1,209 @@
+//! The items of a module, added by hand.
+
+ghost use Rattle.std.specs.Prelude.{IfOk};
+ghost use Rattle.wasm_validator_core.specs.Ready.{AreHeld};
+
+use crate::says;
+use bitflags::Flags;
+use std::alloc::Global;
+use std::test::Fail;
+use wasm_readers::{
+    Export, ExternalKind, FuncType, GlobalType, Import, MemoryType, RecGroup, RefType, SubType,
+    TableType, TagKind, TagType, TypeRef, ValType, WasmFeatures,
+};
+use wasm_validator::{EntityType, Error, Module, TypeList};
+use wasm_validator_canonical::needs_type_canonicalization;
+
+/// All proposals but this one.
+fn all_but(off: WasmFeatures) -> WasmFeatures {
+    let mut features = WasmFeatures::all();
+    features.remove(off);
+    features
+}
+
+/// A module, and a list of types, with the function type that takes two integers and gives one.
+fn module_of(alloc: Global) -> Result<(TypeList, Module), Error>
+    ensures { IfOk result (λ p. AreHeld p.0 p.1.types) }
+{
+    let params = vec![in alloc; ValType::I32; 2]?;
+    let results = vec![in alloc; ValType::I32; 1]?;
+    let ty = SubType::func(alloc, FuncType::new(params, results), false);
+    let group = RecGroup::implicit(alloc, ty)?;
+    let all = WasmFeatures::all();
+    let mut list = TypeList::new(alloc, needs_type_canonicalization(all));
+    let mut module = Module::new(alloc);
+    module.add_types(all, alloc, &mut list, group, 0)?;
+    Ok((list, module))
+}
+
+/// Adds an import of this type.
+fn imports(list: &TypeList, module: &mut Module, ty: TypeRef) -> Result<(), Error>
+    requires { AreHeld list.now module.old.types }
+    ensures { AreHeld list.now module.new.types }
+{
+    let import = Import {
+        module: "a",
+        name: "b",
+        ty,
+    };
+    module.add_import(WasmFeatures::all(), list, &import, 7)
+}
+
+/// Adds an export of the first item of this kind.
+fn exports(
+    alloc: Global,
+    list: &TypeList,
+    module: &mut Module,
+    name: &str,
+    kind: ExternalKind,
+) -> Result<(), Error>
+    requires { AreHeld list.now module.old.types }
+    ensures { AreHeld list.now module.new.types }
+{
+    let export = Export {
+        name,
+        kind,
+        index: 0,
+    };
+    module.add_export(WasmFeatures::all(), alloc, list, &export, 7)
+}
+
+const TABLE: TableType = TableType {
+    element_type: RefType::FUNCREF,
+    table64: false,
+    initial: 1,
+    maximum: None,
+    shared: false,
+};
+
+const MEMORY: MemoryType = MemoryType {
+    memory64: false,
+    shared: false,
+    initial: 1,
+    maximum: None,
+    page_size_log2: None,
+};
+
+const GLOBAL: GlobalType = GlobalType {
+    content_type: ValType::I32,
+    mutable: true,
+    shared: false,
+};
+
+const TAG: TagType = TagType {
+    kind: TagKind::Exception,
+    func_type_idx: 0,
+};
+
+/// Imports an item of each kind.
+fn imports_each_kind(list: &TypeList, module: &mut Module) -> Result<(), Error>
+    requires { AreHeld list.now module.old.types }
+    ensures { AreHeld list.now module.new.types }
+{
+    imports(list, module, TypeRef::Func(0))?;
+    imports(list, module, TypeRef::FuncExact(0))?;
+    imports(list, module, TypeRef::Table(TABLE))?;
+    imports(list, module, TypeRef::Memory(MEMORY))?;
+    imports(list, module, TypeRef::Global(GLOBAL))?;
+    imports(list, module, TypeRef::Tag(TAG))
+}
+
+/// Defines an item of each kind but globals.
+fn defines_each_kind(list: &TypeList, module: &mut Module) -> Result<(), Error>
+    requires { AreHeld list.now module.old.types }
+    ensures { AreHeld list.now module.new.types }
+{
+    let all = WasmFeatures::all();
+    module.add_function(list, 0, 7)?;
+    module.add_table(all, list, TABLE, 7)?;
+    module.add_memory(all, MEMORY, 7)?;
+    module.add_tag(all, list, TAG, 7)
+}
+
+/// Whether the function with this index is exported as one of exactly its type, if it is there.
+fn is_exact(features: WasmFeatures, module: &Module, index: u32) -> Option<bool> {
+    match module.exported_function_type(features, index) {
+        Some(EntityType::FuncExact(_)) => Some(true),
+        Some(_) => Some(false),
+        None => None,
+    }
+}
+
+/// Whether the type of the function with this index takes two values and gives one.
+fn takes_two(list: &TypeList, module: &Module, index: u32) -> bool
+    requires { AreHeld list.now module.now.types }
+{
+    match module.get_func_type(list, index, 7) {
+        Ok(ty) => ty.params().len() == 2 && ty.results().len() == 1,
+        Err(_) => false,
+    }
+}
+
+#[test]
+fn items_are_imported_and_defined(rt: HostRuntime) -> Result<(), Fail> {
+    let all = WasmFeatures::all();
+    let (list, mut module) = module_of(rt.alloc())?;
+    imports_each_kind(&list, &mut module)?;
+    defines_each_kind(&list, &mut module)?;
+    assert_eq!(rt; module.spaces().function_count(), 3);
+    assert_eq!(rt; module.spaces().table_count(), 2);
+    assert_eq!(rt; module.spaces().memory_count(), 2);
+    assert_eq!(rt; module.spaces().global_count(), 1);
+    assert_eq!(rt; module.spaces().imported_global_count(), 1);
+    assert_eq!(rt; module.spaces().tag_count(), 2);
+    // One, three times two with two parameters and a result, and three of one.
+    assert_eq!(rt; module.spaces().effective_size(), 19);
+    let fewer = all_but(WasmFeatures::CUSTOM_DESCRIPTORS);
+    assert_eq!(rt; is_exact(all, &module, 0), Some(false));
+    assert_eq!(rt; is_exact(all, &module, 1), Some(true));
+    assert_eq!(rt; is_exact(all, &module, 2), Some(true));
+    assert_eq!(rt; is_exact(all, &module, 3), None);
+    assert_eq!(rt; is_exact(fewer, &module, 2), Some(false));
+    assert!(rt; takes_two(&list, &module, 0));
+    assert!(rt; takes_two(&list, &module, 2));
+    assert!(rt; !takes_two(&list, &module, 3));
+    Ok(())
+}
+
+#[test]
+fn exports_have_a_size(rt: HostRuntime) -> Result<(), Fail> {
+    let alloc = rt.alloc();
+    let (list, mut module) = module_of(alloc)?;
+    imports_each_kind(&list, &mut module)?;
+    exports(alloc, &list, &mut module, "f", ExternalKind::Func)?;
+    exports(alloc, &list, &mut module, "t", ExternalKind::Table)?;
+    exports(alloc, &list, &mut module, "m", ExternalKind::Memory)?;
+    exports(alloc, &list, &mut module, "g", ExternalKind::Global)?;
+    exports(alloc, &list, &mut module, "e", ExternalKind::Tag)?;
+    assert_eq!(rt; module.spaces().export_count(), 5);
+    // Nineteen, twice two with two parameters and a result, and three of one.
+    assert_eq!(rt; module.spaces().effective_size(), 32);
+    Ok(())
+}
+
+#[test]
+fn mutable_globals_are_exported_by_their_proposal(rt: HostRuntime) -> Result<(), Fail> {
+    let alloc = rt.alloc();
+    let (list, mut module) = module_of(alloc)?;
+    imports(&list, &mut module, TypeRef::Global(GLOBAL))?;
+    let export = Export {
+        name: "g",
+        kind: ExternalKind::Global,
+        index: 0,
+    };
+    let fewer = all_but(WasmFeatures::MUTABLE_GLOBAL);
+    let answer = module.add_export(fewer, alloc, &list, &export, 7);
+    assert!(rt; says(alloc, &answer, 7, "mutable global support is not enabled"));
+    Ok(())
+}
+
+#[test]
+fn limits_follow_the_features(rt: HostRuntime) {
+    let module: Module = Module::new(rt.alloc());
+    let none = WasmFeatures::empty();
+    let all = WasmFeatures::all();
+    assert_eq!(rt; module.max_tables(none), 1);
+    assert_eq!(rt; module.max_memories(none), 1);
+    assert_eq!(rt; module.max_tables(all), 100);
+    assert_eq!(rt; module.max_memories(all), 100);
+}
