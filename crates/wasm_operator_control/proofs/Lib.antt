@@ -2,3 +2,4 @@ pub mod Locally
 pub mod Globally
 pub mod Labelled
 pub mod Ended
+pub mod Opened

@@ -1,0 +1,46 @@
+//! Frames that are opened.
+
+ghost use Rattle.std.specs.Prelude.{◌≤◌, length};
+ghost use Rattle.wasm_module_resources.specs.Answers.{world};
+ghost use Rattle.wasm_operator_stacks.specs.Seen.{state_of, below, Kept};
+ghost use Rattle.wasm_operator_stacks.specs.SeenBlocks.{block_in, kind_of};
+ghost use Rattle.wasm_operator_checks.specs.Steps.{Took};
+ghost use Rattle.wasm_operator_checks.specs.SeenTypes.{types_seen};
+ghost use Rattle.wasm_operator_control.specs.Entered.{entered};
+
+use std::alloc::Allocator;
+use wasm_module_resources::WasmModuleResources;
+use wasm_operator_checks::{OperatorError, Types, check_types, exchange_types};
+use wasm_operator_stacks::{BlockWord, Stacks};
+use wasm_operators::FrameKind;
+
+/// Opens a frame of this kind and type, by identities, over what it takes, below so many operands
+/// that are taken already. Where that can't be, all stays.
+#[tactic(auto, using(wasm_operator_checks::proofs::Acting::acts, crate::proofs::Opened::enters))]
+pub fn open_frame<'a, A: Allocator, T: WasmModuleResources>(
+    stacks: &mut Stacks<A>,
+    resources: &T,
+    kind: FrameKind,
+    block: BlockWord,
+    first: usize,
+    takes: Types<'a>,
+) -> Result<(), OperatorError>
+    requires { first ≤ length (state_of stacks.old).operands }
+    ensures took { Took result (entered (world (T.context resources.now)) (kind_of kind) (block_in block) (types_seen takes.entry) (below first (state_of stacks.old))) (state_of stacks.old) (state_of stacks.new) }
+    ensures same { Kept stacks.old stacks.new }
+{
+    let taken = match check_types(stacks, resources, first, takes) {
+        Ok(taken) => taken,
+        Err(fault) => return Err(OperatorError::Refused(fault)),
+    };
+    match stacks.open_below(kind, block, taken) {
+        Ok(()) => match exchange_types(stacks, taken, takes) {
+            Ok(()) => Ok(()),
+            Err(_) => {
+                stacks.close();
+                Err(OperatorError::OutOfMemory)
+            }
+        },
+        Err(_) => Err(OperatorError::OutOfMemory),
+    }
+}
