@@ -5,6 +5,8 @@ use Rattle.wasm_rules.specs.Contexts.{Context}
 use Rattle.wasm_readers_types.specs.declared.indices.UnpackedIndex.{UnpackedIndex}
 use Rattle.wasm_operator_steps.specs.Actions.{Action, Check, Types}
 use Rattle.wasm_operator_steps.specs.Meanings.{run, holds, types_at}
+use Rattle.wasm_operator_steps.specs.Shapes.{Shape}
+use Rattle.wasm_operator_steps.specs.Steps.{actions_of}
 use Rattle.wasm_operator_steps.specs.Machine as machine
 use Rattle.wasm_operator_steps.specs.Machine.{State}
 use Rattle.wasm_module_resources.specs.Answers.{world}
@@ -43,3 +45,11 @@ module _ {A : Type 0} (v : Stacks A) (C : Context UnpackedIndex) where
 
   unfoldable pub held : Check → Bool
   held c = holds (world C) (around v C) (state_of v) c
+
+-- a step that turns the state of some stacks into that of others as a function of states says
+abbrev pub Turns : {A : Type 0} → Result (Unit {0}) OperatorError → (State UnpackedIndex → Option (State UnpackedIndex)) → Stacks A → Stacks A → Type 0
+Turns r f v w = Took r (f (state_of v)) (state_of v) (state_of w)
+
+-- a step by the actions of a shape, from the state of some stacks to that of others
+abbrev pub Performs : {A : Type 0} → Result (Unit {0}) OperatorError → Context UnpackedIndex → Shape → Stacks A → Stacks A → Type 0
+Performs r C shape v w = Took r (acted v C (actions_of shape)) (state_of v) (state_of w)

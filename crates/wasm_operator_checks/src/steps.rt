@@ -3,8 +3,8 @@
 ghost use Rattle.std.specs.Prelude.{◌++◌, ◌∷◌, []};
 ghost use Rattle.wasm_type_words.specs.Seen.{val_in};
 ghost use Rattle.wasm_module_resources.specs.Answers.{world};
-ghost use Rattle.wasm_operator_stacks.specs.Seen.{state_of, Kept};
-ghost use Rattle.wasm_operator_checks.specs.Steps.{Took};
+ghost use Rattle.wasm_operator_stacks.specs.Seen.{Kept};
+ghost use Rattle.wasm_operator_checks.specs.Steps.{Turns};
 ghost use Rattle.wasm_operator_checks.specs.SeenTypes.{types_seen, takes_seen, exchanged, halted};
 
 use crate::faults::{OperatorError, OperatorFault, OperatorRule};
@@ -24,7 +24,7 @@ pub fn plain<'a, A: Allocator, T: WasmModuleResources>(
     takes: Takes<'a>,
     gives: Types<'a>,
 ) -> Result<(), OperatorError>
-    ensures took { Took result (exchanged (world (T.context resources.now)) (takes_seen takes.entry) (types_seen gives.entry) (state_of stacks.old)) (state_of stacks.old) (state_of stacks.new) }
+    ensures took { Turns result (exchanged (world (T.context resources.now)) (takes_seen takes.entry) (types_seen gives.entry)) stacks.old stacks.new }
     ensures same { Kept stacks.old stacks.new }
 {
     let taken = match check_takes(stacks, resources, takes) {
@@ -47,7 +47,7 @@ pub fn plain_with<'a, A: Allocator, T: WasmModuleResources>(
     top: TypeWord,
     gives: Types<'a>,
 ) -> Result<(), OperatorError>
-    ensures took { Took result (exchanged (world (T.context resources.now)) (types_seen takes.entry ++ val_in top ∷ []) (types_seen gives.entry) (state_of stacks.old)) (state_of stacks.old) (state_of stacks.new) }
+    ensures took { Turns result (exchanged (world (T.context resources.now)) (types_seen takes.entry ++ val_in top ∷ []) (types_seen gives.entry)) stacks.old stacks.new }
     ensures same { Kept stacks.old stacks.new }
 {
     let first = match check_type(stacks, resources, 0, top) {
@@ -72,7 +72,7 @@ pub fn halt<'a, A: Allocator, T: WasmModuleResources>(
     resources: &T,
     takes: Types<'a>,
 ) -> Result<(), OperatorError>
-    ensures took { Took result (halted (world (T.context resources.now)) (types_seen takes.entry) (state_of stacks.old)) (state_of stacks.old) (state_of stacks.new) }
+    ensures took { Turns result (halted (world (T.context resources.now)) (types_seen takes.entry)) stacks.old stacks.new }
     ensures same { Kept stacks.old stacks.new }
 {
     let taken = match check_types(stacks, resources, 0, takes) {

@@ -3,9 +3,8 @@
 ghost use Rattle.std.specs.Prelude.{◌≡◌};
 ghost use Rattle.wasm_operators.specs.Control.{br, br_if, return_, unreachable, nop};
 ghost use Rattle.wasm_operator_steps.specs.Shapes.{control_shape};
-ghost use Rattle.wasm_operator_steps.specs.Steps.{actions_of};
-ghost use Rattle.wasm_operator_stacks.specs.Seen.{state_of, Kept};
-ghost use Rattle.wasm_operator_checks.specs.Steps.{Took, acted};
+ghost use Rattle.wasm_operator_stacks.specs.Seen.{Kept};
+ghost use Rattle.wasm_operator_checks.specs.Steps.{Performs};
 ghost use Rattle.wasm_readers_types.specs.declared.indices.UnpackedIndex.{UnpackedIndex};
 
 use crate::labels::{label_types, returned_types};
@@ -24,7 +23,7 @@ pub fn do_nothing<A: Allocator, T: WasmModuleResources>(
     stacks: &mut Stacks<A>,
     resources: &T,
 ) -> Result<(), OperatorError>
-    ensures took { Took result (acted stacks.old (T.context resources.now) (actions_of (control_shape nop))) (state_of stacks.old) (state_of stacks.new) }
+    ensures took { Performs result (T.context resources.now) (control_shape nop) stacks.old stacks.new }
     ensures same { Kept stacks.old stacks.new }
 {
     plain(stacks, resources, Takes::None, Types::None)
@@ -36,7 +35,7 @@ pub fn trap<A: Allocator, T: WasmModuleResources>(
     stacks: &mut Stacks<A>,
     resources: &T,
 ) -> Result<(), OperatorError>
-    ensures took { Took result (acted stacks.old (T.context resources.now) (actions_of (control_shape unreachable))) (state_of stacks.old) (state_of stacks.new) }
+    ensures took { Performs result (T.context resources.now) (control_shape unreachable) stacks.old stacks.new }
     ensures same { Kept stacks.old stacks.new }
 {
     halt(stacks, resources, Types::None)
@@ -49,7 +48,7 @@ pub fn branch<A: Allocator, T: WasmModuleResources>(
     resources: &T,
     depth: u32,
 ) -> Result<(), OperatorError>
-    ensures took { Took result (acted stacks.old (T.context resources.now) (actions_of (control_shape (br depth)))) (state_of stacks.old) (state_of stacks.new) }
+    ensures took { Performs result (T.context resources.now) (control_shape (br depth)) stacks.old stacks.new }
     ensures same { Kept stacks.old stacks.new }
 {
     match label_types(stacks, resources, depth) {
@@ -65,7 +64,7 @@ pub fn branch_if<A: Allocator, T: WasmModuleResources>(
     resources: &T,
     depth: u32,
 ) -> Result<(), OperatorError>
-    ensures took { Took result (acted stacks.old (T.context resources.now) (actions_of (control_shape (br_if depth)))) (state_of stacks.old) (state_of stacks.new) }
+    ensures took { Performs result (T.context resources.now) (control_shape (br_if depth)) stacks.old stacks.new }
     ensures same { Kept stacks.old stacks.new }
 {
     match label_types(stacks, resources, depth) {
@@ -83,7 +82,7 @@ pub fn give_back<A: Allocator, T: WasmModuleResources>(
     stacks: &mut Stacks<A>,
     resources: &T,
 ) -> Result<(), OperatorError>
-    ensures took { Took result (acted stacks.old (T.context resources.now) (actions_of (control_shape return_))) (state_of stacks.old) (state_of stacks.new) }
+    ensures took { Performs result (T.context resources.now) (control_shape return_) stacks.old stacks.new }
     ensures same { Kept stacks.old stacks.new }
 {
     match returned_types(stacks, resources) {

@@ -4,12 +4,11 @@ ghost use Rattle.std.specs.Prelude.{◌≡◌, Some};
 ghost use Rattle.wasm_operator_steps.specs.Matching.{matches_vals};
 ghost use Rattle.wasm_operator_steps.specs.Meanings.{Signature};
 ghost use Rattle.wasm_operator_steps.specs.Shapes.{closing};
-ghost use Rattle.wasm_operator_steps.specs.Steps.{actions_of};
 ghost use Rattle.wasm_module_resources.specs.Answers.{world};
 ghost use Rattle.wasm_readers_types.specs.declared.indices.UnpackedIndex.{UnpackedIndex};
-ghost use Rattle.wasm_operator_stacks.specs.Seen.{state_of, Kept};
+ghost use Rattle.wasm_operator_stacks.specs.Seen.{Kept};
 ghost use Rattle.wasm_operator_stacks.specs.SeenBlocks.{block_in, kind_of};
-ghost use Rattle.wasm_operator_checks.specs.Steps.{Took, acted};
+ghost use Rattle.wasm_operator_checks.specs.Steps.{Performs};
 ghost use Rattle.wasm_operator_control.specs.Blocks.{signature_in, ends_in};
 
 use crate::labels::{block_gives, function_type};
@@ -55,7 +54,7 @@ pub fn end<A: Allocator, T: WasmModuleResources>(
     stacks: &mut Stacks<A>,
     resources: &T,
 ) -> Result<(), OperatorError>
-    ensures took { Took result (acted stacks.old (T.context resources.now) (actions_of closing)) (state_of stacks.old) (state_of stacks.new) }
+    ensures took { Performs result (T.context resources.now) closing stacks.old stacks.new }
     ensures same { Kept stacks.old stacks.new }
 {
     if !stacks.is_open {

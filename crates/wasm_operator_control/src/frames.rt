@@ -4,7 +4,7 @@ ghost use Rattle.std.specs.Prelude.{◌≤◌, length};
 ghost use Rattle.wasm_module_resources.specs.Answers.{world};
 ghost use Rattle.wasm_operator_stacks.specs.Seen.{state_of, below, Kept};
 ghost use Rattle.wasm_operator_stacks.specs.SeenBlocks.{block_in, kind_of};
-ghost use Rattle.wasm_operator_checks.specs.Steps.{Took};
+ghost use Rattle.wasm_operator_checks.specs.Steps.{Turns};
 ghost use Rattle.wasm_operator_checks.specs.SeenTypes.{types_seen};
 ghost use Rattle.wasm_operator_control.specs.Entered.{entered};
 
@@ -26,7 +26,7 @@ pub fn open_frame<'a, A: Allocator, T: WasmModuleResources>(
     takes: Types<'a>,
 ) -> Result<(), OperatorError>
     requires { first ≤ length (state_of stacks.old).operands }
-    ensures took { Took result (entered (world (T.context resources.now)) (kind_of kind) (block_in block) (types_seen takes.entry) (below first (state_of stacks.old))) (state_of stacks.old) (state_of stacks.new) }
+    ensures took { Turns result (λ s. entered (world (T.context resources.now)) (kind_of kind) (block_in block) (types_seen takes.entry) (below first s)) stacks.old stacks.new }
     ensures same { Kept stacks.old stacks.new }
 {
     let taken = match check_types(stacks, resources, first, takes) {

@@ -4,9 +4,8 @@ ghost use Rattle.std.specs.Prelude.{◌≡◌, slice_get};
 ghost use Rattle.wasm_spec.specs.ValueTypes.{implies};
 ghost use Rattle.wasm_flat_operators.specs.declared.variables.VariableOperator.TheVariants.{GlobalGet, GlobalSet};
 ghost use Rattle.wasm_operator_steps.specs.Shapes.{variable_shape};
-ghost use Rattle.wasm_operator_steps.specs.Steps.{actions_of};
-ghost use Rattle.wasm_operator_stacks.specs.Seen.{state_of, Kept};
-ghost use Rattle.wasm_operator_checks.specs.Steps.{Took, acted};
+ghost use Rattle.wasm_operator_stacks.specs.Seen.{Kept};
+ghost use Rattle.wasm_operator_checks.specs.Steps.{Performs};
 
 use std::alloc::Allocator;
 use wasm_module_resources::WasmModuleResources;
@@ -30,7 +29,7 @@ pub fn global_get<A: Allocator, T: WasmModuleResources>(
     resources: &T,
     index: u32,
 ) -> Result<(), OperatorError>
-    ensures took { Took result (acted stacks.old (T.context resources.now) (actions_of (variable_shape (GlobalGet index)))) (state_of stacks.old) (state_of stacks.new) }
+    ensures took { Performs result (T.context resources.now) (variable_shape (GlobalGet index)) stacks.old stacks.new }
     ensures same { Kept stacks.old stacks.new }
 {
     match resources.global_at(index) {
@@ -56,7 +55,7 @@ pub fn global_set<A: Allocator, T: WasmModuleResources>(
     resources: &T,
     index: u32,
 ) -> Result<(), OperatorError>
-    ensures took { Took result (acted stacks.old (T.context resources.now) (actions_of (variable_shape (GlobalSet index)))) (state_of stacks.old) (state_of stacks.new) }
+    ensures took { Performs result (T.context resources.now) (variable_shape (GlobalSet index)) stacks.old stacks.new }
     ensures same { Kept stacks.old stacks.new }
 {
     match resources.global_at(index) {

@@ -6,10 +6,9 @@ ghost use Rattle.wasm_flat_operators.specs.declared.variables.VariableOperator.T
 ghost use Rattle.wasm_operator_steps.specs.Attempts.{among};
 ghost use Rattle.wasm_operator_steps.specs.Machine.{set_local};
 ghost use Rattle.wasm_operator_steps.specs.Shapes.{variable_shape, dropping};
-ghost use Rattle.wasm_operator_steps.specs.Steps.{actions_of};
 ghost use Rattle.wasm_operator_stacks.specs.Locals.{local_of};
 ghost use Rattle.wasm_operator_stacks.specs.Seen.{state_of, Kept};
-ghost use Rattle.wasm_operator_checks.specs.Steps.{Took, acted};
+ghost use Rattle.wasm_operator_checks.specs.Steps.{Performs};
 
 use std::alloc::{AllocError, Allocator};
 use wasm_module_resources::WasmModuleResources;
@@ -52,7 +51,7 @@ pub fn local_get<A: Allocator, T: WasmModuleResources>(
     resources: &T,
     index: u32,
 ) -> Result<(), OperatorError>
-    ensures took { Took result (acted stacks.old (T.context resources.now) (actions_of (variable_shape (LocalGet index)))) (state_of stacks.old) (state_of stacks.new) }
+    ensures took { Performs result (T.context resources.now) (variable_shape (LocalGet index)) stacks.old stacks.new }
     ensures same { Kept stacks.old stacks.new }
 {
     match stacks.locals.get(index) {
@@ -76,7 +75,7 @@ pub fn local_set<A: Allocator, T: WasmModuleResources>(
     resources: &T,
     index: u32,
 ) -> Result<(), OperatorError>
-    ensures took { Took result (acted stacks.old (T.context resources.now) (actions_of (variable_shape (LocalSet index)))) (state_of stacks.old) (state_of stacks.new) }
+    ensures took { Performs result (T.context resources.now) (variable_shape (LocalSet index)) stacks.old stacks.new }
     ensures same { Kept stacks.old stacks.new }
 {
     let local = match stacks.locals.get(index) {
@@ -108,7 +107,7 @@ pub fn local_tee<A: Allocator, T: WasmModuleResources>(
     resources: &T,
     index: u32,
 ) -> Result<(), OperatorError>
-    ensures took { Took result (acted stacks.old (T.context resources.now) (actions_of (variable_shape (LocalTee index)))) (state_of stacks.old) (state_of stacks.new) }
+    ensures took { Performs result (T.context resources.now) (variable_shape (LocalTee index)) stacks.old stacks.new }
     ensures same { Kept stacks.old stacks.new }
 {
     let local = match stacks.locals.get(index) {
@@ -143,7 +142,7 @@ pub fn drop_any<A: Allocator, T: WasmModuleResources>(
     stacks: &mut Stacks<A>,
     _resources: &T,
 ) -> Result<(), OperatorError>
-    ensures took { Took result (acted stacks.old (T.context _resources.now) (actions_of dropping)) (state_of stacks.old) (state_of stacks.new) }
+    ensures took { Performs result (T.context _resources.now) dropping stacks.old stacks.new }
     ensures same { Kept stacks.old stacks.new }
 {
     match look(stacks, 0) {

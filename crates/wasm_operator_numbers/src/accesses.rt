@@ -4,9 +4,8 @@ ghost use Rattle.std.specs.Prelude.{◌≡◌, ◌&&◌, ◌||◌, ◌^◌, nat_
 ghost use Rattle.wasm_flat_operators.specs.Memories.{max_align_of};
 ghost use Rattle.wasm_flat_operators.specs.declared.memories.MemArg.{MemArg};
 ghost use Rattle.wasm_operator_steps.specs.Shapes.{access_shape, loading, storing, number_type};
-ghost use Rattle.wasm_operator_steps.specs.Steps.{actions_of};
-ghost use Rattle.wasm_operator_stacks.specs.Seen.{state_of, Kept};
-ghost use Rattle.wasm_operator_checks.specs.Steps.{Took, acted};
+ghost use Rattle.wasm_operator_stacks.specs.Seen.{Kept};
+ghost use Rattle.wasm_operator_checks.specs.Steps.{Performs};
 ghost use Rattle.wasm_operator_numbers.specs.Accesses.{accessing};
 
 use crate::allowed::{address, allows_number};
@@ -74,7 +73,7 @@ fn load<A: Allocator, T: WasmModuleResources>(
     op: MemoryOperator,
     arg: MemArg,
 ) -> Result<(), OperatorError>
-    ensures took { Took result (acted stacks.old (T.context resources.now) (actions_of (loading op arg (number_type ty)))) (state_of stacks.old) (state_of stacks.new) }
+    ensures took { Performs result (T.context resources.now) (loading op arg (number_type ty)) stacks.old stacks.new }
     ensures same { Kept stacks.old stacks.new }
 {
     if !allows_number(stacks, ty) {
@@ -107,7 +106,7 @@ fn store<A: Allocator, T: WasmModuleResources>(
     op: MemoryOperator,
     arg: MemArg,
 ) -> Result<(), OperatorError>
-    ensures took { Took result (acted stacks.old (T.context resources.now) (actions_of (storing op arg (number_type ty)))) (state_of stacks.old) (state_of stacks.new) }
+    ensures took { Performs result (T.context resources.now) (storing op arg (number_type ty)) stacks.old stacks.new }
     ensures same { Kept stacks.old stacks.new }
 {
     if !allows_number(stacks, ty) {
@@ -139,7 +138,7 @@ fn access_as<A: Allocator, T: WasmModuleResources>(
     op: MemoryOperator,
     arg: MemArg,
 ) -> Result<(), OperatorError>
-    ensures took { Took result (acted stacks.old (T.context resources.now) (actions_of (accessing access op arg))) (state_of stacks.old) (state_of stacks.new) }
+    ensures took { Performs result (T.context resources.now) (accessing access op arg) stacks.old stacks.new }
     ensures same { Kept stacks.old stacks.new }
 {
     match access {
@@ -155,7 +154,7 @@ pub fn access_memory<A: Allocator, T: WasmModuleResources>(
     op: MemoryOperator,
     arg: MemArg,
 ) -> Result<(), OperatorError>
-    ensures took { Took result (acted stacks.old (T.context resources.now) (actions_of (access_shape op arg))) (state_of stacks.old) (state_of stacks.new) }
+    ensures took { Performs result (T.context resources.now) (access_shape op arg) stacks.old stacks.new }
     ensures same { Kept stacks.old stacks.new }
 {
     access_as(stacks, resources, access_of(op), op, arg)

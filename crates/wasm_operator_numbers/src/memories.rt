@@ -7,9 +7,8 @@ ghost use Rattle.wasm_type_words.specs.Seen.{val_in};
 ghost use Rattle.wasm_operator_steps.specs.Attempts.{passes};
 ghost use Rattle.wasm_operator_steps.specs.Meanings.{address as address_by};
 ghost use Rattle.wasm_operator_steps.specs.Shapes.{memory_shape};
-ghost use Rattle.wasm_operator_steps.specs.Steps.{actions_of};
-ghost use Rattle.wasm_operator_stacks.specs.Seen.{state_of, Kept};
-ghost use Rattle.wasm_operator_checks.specs.Steps.{Took, acted};
+ghost use Rattle.wasm_operator_stacks.specs.Seen.{Kept};
+ghost use Rattle.wasm_operator_checks.specs.Steps.{Performs};
 
 use crate::allowed::{address, has};
 use std::alloc::Allocator;
@@ -45,7 +44,7 @@ fn memory_size<A: Allocator, T: WasmModuleResources>(
     resources: &T,
     mem: u32,
 ) -> Result<(), OperatorError>
-    ensures took { Took result (acted stacks.old (T.context resources.now) (actions_of (memory_shape (MemorySize mem)))) (state_of stacks.old) (state_of stacks.new) }
+    ensures took { Performs result (T.context resources.now) (memory_shape (MemorySize mem)) stacks.old stacks.new }
     ensures same { Kept stacks.old stacks.new }
 {
     match resources.memory_at(mem) {
@@ -66,7 +65,7 @@ fn memory_grow<A: Allocator, T: WasmModuleResources>(
     resources: &T,
     mem: u32,
 ) -> Result<(), OperatorError>
-    ensures took { Took result (acted stacks.old (T.context resources.now) (actions_of (memory_shape (MemoryGrow mem)))) (state_of stacks.old) (state_of stacks.new) }
+    ensures took { Performs result (T.context resources.now) (memory_shape (MemoryGrow mem)) stacks.old stacks.new }
     ensures same { Kept stacks.old stacks.new }
 {
     match resources.memory_at(mem) {
@@ -85,7 +84,7 @@ fn memory_fill<A: Allocator, T: WasmModuleResources>(
     resources: &T,
     mem: u32,
 ) -> Result<(), OperatorError>
-    ensures took { Took result (acted stacks.old (T.context resources.now) (actions_of (memory_shape (MemoryFill mem)))) (state_of stacks.old) (state_of stacks.new) }
+    ensures took { Performs result (T.context resources.now) (memory_shape (MemoryFill mem)) stacks.old stacks.new }
     ensures same { Kept stacks.old stacks.new }
 {
     if !has(stacks, WasmFeatures::BULK_MEMORY) {
@@ -113,7 +112,7 @@ fn memory_init<A: Allocator, T: WasmModuleResources>(
     data_index: u32,
     mem: u32,
 ) -> Result<(), OperatorError>
-    ensures took { Took result (acted stacks.old (T.context resources.now) (actions_of (memory_shape (MemoryInit data_index mem)))) (state_of stacks.old) (state_of stacks.new) }
+    ensures took { Performs result (T.context resources.now) (memory_shape (MemoryInit data_index mem)) stacks.old stacks.new }
     ensures same { Kept stacks.old stacks.new }
 {
     if !has(stacks, WasmFeatures::BULK_MEMORY) {
@@ -146,7 +145,7 @@ fn data_drop<A: Allocator, T: WasmModuleResources>(
     resources: &T,
     data_index: u32,
 ) -> Result<(), OperatorError>
-    ensures took { Took result (acted stacks.old (T.context resources.now) (actions_of (memory_shape (DataDrop data_index)))) (state_of stacks.old) (state_of stacks.new) }
+    ensures took { Performs result (T.context resources.now) (memory_shape (DataDrop data_index)) stacks.old stacks.new }
     ensures same { Kept stacks.old stacks.new }
 {
     if !has(stacks, WasmFeatures::BULK_MEMORY) {
@@ -169,7 +168,7 @@ fn memory_copy<A: Allocator, T: WasmModuleResources>(
     dst_mem: u32,
     src_mem: u32,
 ) -> Result<(), OperatorError>
-    ensures took { Took result (acted stacks.old (T.context resources.now) (actions_of (memory_shape (MemoryCopy dst_mem src_mem)))) (state_of stacks.old) (state_of stacks.new) }
+    ensures took { Performs result (T.context resources.now) (memory_shape (MemoryCopy dst_mem src_mem)) stacks.old stacks.new }
     ensures same { Kept stacks.old stacks.new }
 {
     if !has(stacks, WasmFeatures::BULK_MEMORY) {
@@ -203,7 +202,7 @@ pub fn bulk_memory<A: Allocator, T: WasmModuleResources>(
     resources: &T,
     op: BulkMemoryOperator,
 ) -> Result<(), OperatorError>
-    ensures took { Took result (acted stacks.old (T.context resources.now) (actions_of (memory_shape op))) (state_of stacks.old) (state_of stacks.new) }
+    ensures took { Performs result (T.context resources.now) (memory_shape op) stacks.old stacks.new }
     ensures same { Kept stacks.old stacks.new }
 {
     match op {

@@ -5,9 +5,8 @@ ghost use Rattle.wasm_spec.specs.Syntax.{v128};
 ghost use Rattle.wasm_numeric_operators.specs.declared.signatures.Signature.TheVariants.{Unary, Binary};
 ghost use Rattle.wasm_operator_steps.specs.Actions.{allows};
 ghost use Rattle.wasm_operator_steps.specs.Shapes.{computing, constant_shape, number_type, plain, nothing, one};
-ghost use Rattle.wasm_operator_steps.specs.Steps.{actions_of};
-ghost use Rattle.wasm_operator_stacks.specs.Seen.{state_of, Kept};
-ghost use Rattle.wasm_operator_checks.specs.Steps.{Took, acted};
+ghost use Rattle.wasm_operator_stacks.specs.Seen.{Kept};
+ghost use Rattle.wasm_operator_checks.specs.Steps.{Performs};
 
 use crate::allowed::{allows_number, has};
 use std::alloc::Allocator;
@@ -28,7 +27,7 @@ fn unary<A: Allocator, T: WasmModuleResources>(
     from: NumberType,
     to: NumberType,
 ) -> Result<(), OperatorError>
-    ensures took { Took result (acted stacks.old (T.context resources.now) (actions_of (computing (Unary from to)))) (state_of stacks.old) (state_of stacks.new) }
+    ensures took { Performs result (T.context resources.now) (computing (Unary from to)) stacks.old stacks.new }
     ensures same { Kept stacks.old stacks.new }
 {
     if !allows_number(stacks, from) {
@@ -53,7 +52,7 @@ fn binary<A: Allocator, T: WasmModuleResources>(
     from: NumberType,
     to: NumberType,
 ) -> Result<(), OperatorError>
-    ensures took { Took result (acted stacks.old (T.context resources.now) (actions_of (computing (Binary from to)))) (state_of stacks.old) (state_of stacks.new) }
+    ensures took { Performs result (T.context resources.now) (computing (Binary from to)) stacks.old stacks.new }
     ensures same { Kept stacks.old stacks.new }
 {
     if !allows_number(stacks, from) {
@@ -76,7 +75,7 @@ pub fn compute<A: Allocator, T: WasmModuleResources>(
     resources: &T,
     signature: Signature,
 ) -> Result<(), OperatorError>
-    ensures took { Took result (acted stacks.old (T.context resources.now) (actions_of (computing signature))) (state_of stacks.old) (state_of stacks.new) }
+    ensures took { Performs result (T.context resources.now) (computing signature) stacks.old stacks.new }
     ensures same { Kept stacks.old stacks.new }
 {
     match signature {
@@ -92,7 +91,7 @@ fn number<A: Allocator, T: WasmModuleResources>(
     resources: &T,
     ty: NumberType,
 ) -> Result<(), OperatorError>
-    ensures took { Took result (acted stacks.old (T.context resources.now) (actions_of (plain (allows (number_type ty) ∷ []) nothing (one (number_type ty))))) (state_of stacks.old) (state_of stacks.new) }
+    ensures took { Performs result (T.context resources.now) (plain (allows (number_type ty) ∷ []) nothing (one (number_type ty))) stacks.old stacks.new }
     ensures same { Kept stacks.old stacks.new }
 {
     if !allows_number(stacks, ty) {
@@ -112,7 +111,7 @@ fn vector<A: Allocator, T: WasmModuleResources>(
     stacks: &mut Stacks<A>,
     resources: &T,
 ) -> Result<(), OperatorError>
-    ensures took { Took result (acted stacks.old (T.context resources.now) (actions_of (plain (allows v128 ∷ []) nothing (one v128)))) (state_of stacks.old) (state_of stacks.new) }
+    ensures took { Performs result (T.context resources.now) (plain (allows v128 ∷ []) nothing (one v128)) stacks.old stacks.new }
     ensures same { Kept stacks.old stacks.new }
 {
     if !has(stacks, WasmFeatures::SIMD) {
@@ -132,7 +131,7 @@ pub fn constant<A: Allocator, T: WasmModuleResources>(
     resources: &T,
     op: ConstantOperator,
 ) -> Result<(), OperatorError>
-    ensures took { Took result (acted stacks.old (T.context resources.now) (actions_of (constant_shape op))) (state_of stacks.old) (state_of stacks.new) }
+    ensures took { Performs result (T.context resources.now) (constant_shape op) stacks.old stacks.new }
     ensures same { Kept stacks.old stacks.new }
 {
     match op {
