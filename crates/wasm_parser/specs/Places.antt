@@ -1,7 +1,7 @@
 -- Where payloads lie, in offsets from the start of the input.
-use Rattle.std.specs.Prelude.{ℕ, ◌+◌, ◌==◌, if◌then◌else◌, List, length, Option, Some, None, ◌≡◌, ◌<◌}
+use Rattle.std.specs.Prelude.{ℕ, ◌+◌, ◌==◌, if◌then◌else◌, List, length, Option, Some, None, ◌≡◌, ◌<◌, ◌≤◌, IfSome}
 use Rattle.wasm_spec.specs.Values.{sized_at}
-use Rattle.wasm_binary_reader.specs.Reader.{input, original, position_in, rest, IsMalformed}
+use Rattle.wasm_binary_reader.specs.Reader.{input, original, position_in, rest, SameInput, IsMalformed}
 use Rattle.wasm_readers_errors.specs.declared.error.Refusal.{Refusal}
 use Rattle.wasm_readers.specs.SectionsSeen.{section_start, section_end}
 use Rattle.wasm_binary_reader.specs.declared.binary_reader.BinaryReader.{BinaryReader}
@@ -17,6 +17,10 @@ use Rattle.wasm_parser.specs.Seen.{data_reader, body_reader}
 -- the offset of the byte behind a reader's last
 abbrev pub reader_end : BinaryReader → ℕ
 reader_end r = original r + length (input r)
+
+-- the second reader reads bytes of the first
+abbrev pub IsPartOf : BinaryReader → BinaryReader → Type 0
+IsPartOf whole part = (original whole ≤ original part) × (reader_end part ≤ reader_end whole)
 
 -- the offset of a payload's first byte
 abbrev pub starts_at : {A : Type 0} → Payload A → ℕ
@@ -67,6 +71,18 @@ stands_at p = original p.reader + position_in p.reader
 -- the offset of the byte behind the whole input
 abbrev pub input_end : {A : Type 0} → ParseAll A → ℕ
 input_end p = reader_end p.reader
+
+-- the parser reads the same input
+abbrev pub OfSameInput : {A : Type 0} → ParseAll A → ParseAll A → Type 0
+OfSameInput old new = SameInput old.reader new.reader
+
+-- a refusal at an offset of the input, or behind its last byte
+abbrev pub IsInInput : {A : Type 0} → ParseAll A → Refusal → Type 0
+IsInInput p refusal = (original p.reader ≤ refusal.offset) × (refusal.offset ≤ input_end p)
+
+-- what is left of the code section is of the input
+abbrev pub CodeIsWithin : {A : Type 0} → ParseAll A → Type 0
+CodeIsWithin p = IsPartOf p.reader p.code
 
 -- the offset of the first byte behind the last body of the code section, or of the first body
 abbrev pub stands_in_code : {A : Type 0} → ParseAll A → ℕ
@@ -131,3 +147,7 @@ refusal_in (stages.Failed refusal) = Some refusal
 -- the refusal that ended the parsing, if one did
 abbrev pub refused_with : {A : Type 0} → ParseAll A → Option Refusal
 refused_with p = refusal_in p.progress
+
+-- the parser reads nothing but its input, and a refusal that ended the parsing stands there
+abbrev pub ReadsInput : {A : Type 0} → ParseAll A → Type 0
+ReadsInput p = CodeIsWithin p × IfSome (refused_with p) (IsInInput p)

@@ -1,10 +1,10 @@
 ghost use Rattle.std.specs.Prelude.{◌≡◌, ◌≢◌, ◌≤◌, ◌<◌, ◌^◌, ◌-◌, ◌+◌, IfOk, OnOk, OnErr, IfErr, IfSome, length, drop, [], ◌∷◌, ◌++◌, Some, None, IsTrue};
 ghost use Rattle.std.specs.Option.{option_map};
-ghost use Rattle.wasm_binary_reader.specs.Reader.{input, SameInput, position_in, original, rest};
+ghost use Rattle.wasm_binary_reader.specs.Reader.{SameInput, position_in, original, rest, RefusedFrom};
 ghost use Rattle.wasm_parser.specs.Framing.{place, piece_of, number_of, agrees, u16_at};
 ghost use Rattle.wasm_parser.specs.Machine.{start, header_of, numbers_of, entry_of, contents_of, alone_of, section_of, ending_of, part_of, behind, at_sections, failed, next_of};
 ghost use Rattle.wasm_parser.specs.Seen.{offset_of, seen, state};
-ghost use Rattle.wasm_parser.specs.Places.{reader_end, starts_at, ends_at, stands_at, stands_in_code, input_end, section_size, body_size, part_size, part_end, next_size, next_end, IsFormat, refused_with, CodeIsLast, BodiesAreLast};
+ghost use Rattle.wasm_parser.specs.Places.{reader_end, IsPartOf, OfSameInput, IsInInput, ReadsInput, starts_at, ends_at, stands_at, stands_in_code, input_end, section_size, body_size, part_size, part_end, next_size, next_end, IsFormat, refused_with, CodeIsLast, BodiesAreLast};
 
 use crate::custom_section::CustomSectionReader;
 use crate::function_body::FunctionBody;
@@ -70,7 +70,7 @@ fn read_u16(reader: &mut BinaryReader) -> Result<u16, Refusal>
     ensures onward { position_in reader.old ≤ position_in reader.new }
     ensures two { OnOk result (position_in reader.new ≡ position_in reader.old + 2) }
     ensures ok { IfOk result (λ n. u16_at (rest reader.old) ≡ Some (n, rest reader.new)) }
-    ensures format { IfErr result IsFormat }
+    ensures refusal { IfErr result (RefusedFrom reader.old) }
     ensures err { OnErr result (u16_at (rest reader.old) ≡ None) }
 {
     let low = reader.read_u8()?;
@@ -81,7 +81,7 @@ fn read_u16(reader: &mut BinaryReader) -> Result<u16, Refusal>
 /// One number and nothing else.
 fn read_number(body: BinaryReader) -> Result<u32, Refusal>
     ensures ok { IfOk result (λ n. number_of (rest body.entry) ≡ Some n) }
-    ensures format { IfErr result IsFormat }
+    ensures refusal { IfErr result (RefusedFrom body.entry) }
     ensures err { OnErr result (number_of (rest body.entry) ≡ None) }
 {
     let mut body = body;
@@ -104,7 +104,7 @@ fn read_piece<'a, A: Allocator + Copy>(
     ensures ok { IfOk result (λ p. piece_of id (rest body.entry) ≡ Some (seen p)) }
     ensures start { IfOk result (λ p. starts_at p ≡ original body.entry) }
     ensures end { IfOk result (λ p. ends_at p ≡ reader_end body.entry) }
-    ensures format { IfErr result IsFormat }
+    ensures refusal { IfErr result (RefusedFrom body.entry) }
     ensures err { OnErr result (piece_of id (rest body.entry) ≡ None) }
 {
     match id {
@@ -149,13 +149,14 @@ impl<A: Allocator + Copy> Parser<A> {
         ensures begun { state result ≡ start bytes.now }
         ensures position { stands_at result ≡ offset_of self }
         ensures whole { input_end result ≡ offset_of self + length bytes.now }
+        ensures reads { ReadsInput result }
     {
         ParseAll {
             alloc: self.alloc,
             progress: Progress::Header,
             reader: BinaryReader::new(bytes, self.offset),
             place: 0,
-            code: BinaryReader::new(&[], 0),
+            code: BinaryReader::new(&[], self.offset),
             bodies_left: 0,
             functions: 0,
             bodies: 0,
@@ -168,12 +169,14 @@ impl<A: Allocator + Copy> Parser<A> {
 impl<'a, A: Allocator + Copy> ParseAll<'a, A> {
     /// The header behind the magic.
     fn read_version(&mut self, start: u64) -> Result<Payload<'a, A>, Refusal>
-        ensures whole { input_end self.new ≡ input_end self.old }
+        ensures whole { OfSameInput self.old self.new }
         ensures ok { IfOk result (λ p. numbers_of (state self.old) (state self.old).bytes ≡ Some (seen p, state self.new)) }
         ensures start { IfOk result (λ p. starts_at p ≡ start) }
         ensures end { IfOk result (λ p. ends_at p ≡ stands_at self.new) }
         ensures four { OnOk result (stands_at self.new ≡ stands_at self.old + 4) }
         ensures format { IfErr result IsFormat }
+        ensures place { IfErr result (IsInInput self.old) }
+        ensures reads { ReadsInput self.old → ReadsInput self.new }
         ensures err { OnErr result (numbers_of (state self.old) (state self.old).bytes ≡ None) }
     {
         let num = read_u16(&mut self.reader)?;
@@ -193,11 +196,13 @@ impl<'a, A: Allocator + Copy> ParseAll<'a, A> {
     }
 
     fn read_header(&mut self) -> Result<Payload<'a, A>, Refusal>
-        ensures whole { input_end self.new ≡ input_end self.old }
+        ensures whole { OfSameInput self.old self.new }
         ensures ok { IfOk result (λ p. header_of (state self.old) ≡ Some (seen p, state self.new)) }
         ensures size { IfOk result (λ p. starts_at p + 8 ≡ ends_at p) }
         ensures end { IfOk result (λ p. ends_at p ≡ stands_at self.new) }
         ensures format { IfErr result IsFormat }
+        ensures place { IfErr result (IsInInput self.old) }
+        ensures reads { ReadsInput self.old → ReadsInput self.new }
         ensures err { OnErr result (header_of (state self.old) ≡ None) }
     {
         let start = self.reader.original_position();
@@ -211,12 +216,14 @@ impl<'a, A: Allocator + Copy> ParseAll<'a, A> {
 
     fn read_entry(&mut self) -> Result<Payload<'a, A>, Refusal>
         requires { 0 < self.old.bodies_left }
-        ensures whole { input_end self.new ≡ input_end self.old }
+        ensures whole { OfSameInput self.old self.new }
         ensures ok { IfOk result (λ p. entry_of (state self.old) ≡ Some (seen p, state self.new)) }
         ensures size { IfOk result (λ p. starts_at p + body_size (state self.old).code ≡ ends_at p) }
         ensures end { IfOk result (λ p. ends_at p ≡ stands_in_code self.new) }
         ensures bodies { CodeIsLast self.old → OnOk result (CodeIsLast self.new) }
         ensures format { IfErr result IsFormat }
+        ensures place { ReadsInput self.old → IfErr result (IsInInput self.old) }
+        ensures reads { ReadsInput self.old → ReadsInput self.new }
         ensures err { OnErr result (entry_of (state self.old) ≡ None) }
     {
         let body = self.code.read_sized()?;
@@ -226,9 +233,10 @@ impl<'a, A: Allocator + Copy> ParseAll<'a, A> {
 
     /// Notes a section of this id that is this payload.
     fn go_behind(&mut self, id: u8, payload: &Payload<'a, A>)
-        ensures whole { input_end self.new ≡ input_end self.old }
+        ensures whole { OfSameInput self.old self.new }
         ensures notes { state self.new ≡ behind (state self.old) id (state self.old).bytes (seen payload.now) }
         ensures code { stands_in_code self.new ≡ stands_in_code self.old }
+        ensures reads { ReadsInput self.old → ReadsInput self.new }
         ensures position { stands_at self.new ≡ stands_at self.old }
     {
         let place = place_of(id);
@@ -252,13 +260,16 @@ impl<'a, A: Allocator + Copy> ParseAll<'a, A> {
     fn open_code(&mut self, body: BinaryReader<'a>) -> Result<Payload<'a, A>, Refusal>
         requires short { length (rest body) < 2 ^ 32 }
         requires last { reader_end body ≡ stands_at self.old }
-        ensures whole { input_end self.new ≡ input_end self.old }
+        requires part { IsPartOf self.old.reader body }
+        ensures whole { OfSameInput self.old self.new }
         ensures ok { IfOk result (λ p. contents_of (state self.old) 10 (rest body.entry) (state self.old).bytes ≡ Some (seen p, state self.new)) }
         ensures start { IfOk result (λ p. starts_at p ≡ original body.entry) }
         ensures end { IfOk result (λ p. ends_at p ≡ reader_end body.entry) }
         ensures bodies { OnOk result (CodeIsLast self.new) }
         ensures position { stands_at self.new ≡ stands_at self.old }
         ensures format { IfErr result IsFormat }
+        ensures place { IfErr result (IsInInput self.old) }
+        ensures reads { ReadsInput self.old → ReadsInput self.new }
         ensures err { OnErr result (contents_of (state self.old) 10 (rest body.entry) (state self.old).bytes ≡ None) }
     {
         let mut code = body;
@@ -276,12 +287,15 @@ impl<'a, A: Allocator + Copy> ParseAll<'a, A> {
 
     /// A section, whatever the counts of others.
     fn read_alone(&mut self) -> Result<Payload<'a, A>, Refusal>
-        ensures whole { input_end self.new ≡ input_end self.old }
+        ensures whole { OfSameInput self.old self.new }
         ensures ok { IfOk result (λ p. alone_of (state self.old) ≡ Some (seen p, state self.new)) }
         ensures size { IfOk result (λ p. starts_at p + section_size (state self.old).bytes ≡ ends_at p) }
         ensures end { IfOk result (λ p. ends_at p ≡ stands_at self.new) }
         ensures bodies { (state self.old).left ≡ 0 → OnOk result (BodiesAreLast self.new) }
         ensures format { IfErr result IsFormat }
+        ensures place { IfErr result (IsInInput self.old) }
+        ensures first { IfOk result (λ p. original self.old.reader ≤ starts_at p) }
+        ensures reads { ReadsInput self.old → ReadsInput self.new }
         ensures err { OnErr result (alone_of (state self.old) ≡ None) }
     {
         let id = self.reader.read_u8()?;
@@ -300,12 +314,14 @@ impl<'a, A: Allocator + Copy> ParseAll<'a, A> {
     }
 
     fn read_section(&mut self) -> Result<Payload<'a, A>, Refusal>
-        ensures whole { input_end self.new ≡ input_end self.old }
+        ensures whole { OfSameInput self.old self.new }
         ensures ok { IfOk result (λ p. section_of (state self.old) ≡ Some (seen p, state self.new)) }
         ensures size { IfOk result (λ p. starts_at p + section_size (state self.old).bytes ≡ ends_at p) }
         ensures end { IfOk result (λ p. ends_at p ≡ stands_at self.new) }
         ensures bodies { (state self.old).left ≡ 0 → OnOk result (BodiesAreLast self.new) }
         ensures format { IfErr result IsFormat }
+        ensures place { IfErr result (IsInInput self.old) }
+        ensures reads { ReadsInput self.old → ReadsInput self.new }
         ensures err { OnErr result (section_of (state self.old) ≡ None) }
     {
         let payload = self.read_alone()?;
@@ -332,11 +348,13 @@ impl<'a, A: Allocator + Copy> ParseAll<'a, A> {
     }
 
     fn read_end(&mut self) -> Result<Payload<'a, A>, Refusal>
-        ensures whole { input_end self.new ≡ input_end self.old }
+        ensures whole { OfSameInput self.old self.new }
         ensures ok { IfOk result (λ p. ending_of (state self.old) ≡ Some (seen p, state self.new)) }
         ensures size { IfOk result (λ p. starts_at p ≡ ends_at p) }
         ensures end { IfOk result (λ p. ends_at p ≡ stands_at self.new) }
         ensures format { IfErr result IsFormat }
+        ensures place { IfErr result (IsInInput self.old) }
+        ensures reads { ReadsInput self.old → ReadsInput self.new }
         ensures err { OnErr result (ending_of (state self.old) ≡ None) }
     {
         let position = self.reader.original_position();
@@ -355,13 +373,15 @@ impl<'a, A: Allocator + Copy> ParseAll<'a, A> {
     /// What is next behind the header.
     #[tactic(auto, unfolding(crate::specs::Machine::part_of))]
     fn read_part(&mut self) -> Result<Payload<'a, A>, Refusal>
-        ensures whole { input_end self.new ≡ input_end self.old }
+        ensures whole { OfSameInput self.old self.new }
         ensures ok { IfOk result (λ p. part_of (state self.old) ≡ Some (seen p, state self.new)) }
         ensures size { IfOk result (λ p. starts_at p + part_size (state self.old) ≡ ends_at p) }
         ensures end { IfOk result (λ p. ends_at p ≡ part_end (state self.old) self.new) }
         ensures code { 0 < (state self.old).left → CodeIsLast self.old → OnOk result (CodeIsLast self.new) }
         ensures bodies { (state self.old).left ≡ 0 → OnOk result (BodiesAreLast self.new) }
         ensures format { IfErr result IsFormat }
+        ensures place { ReadsInput self.old → IfErr result (IsInInput self.old) }
+        ensures reads { ReadsInput self.old → ReadsInput self.new }
         ensures err { OnErr result (part_of (state self.old) ≡ None) }
     {
         if self.bodies_left > 0 {
@@ -378,14 +398,17 @@ impl<'a, A: Allocator + Copy> ParseAll<'a, A> {
     }
 
     fn advance(&mut self) -> Result<Option<Payload<'a, A>>, Refusal>
-        ensures whole { input_end self.new ≡ input_end self.old }
+        ensures whole { OfSameInput self.old self.new }
         ensures ok { IfOk result (λ p. next_of (state self.old) ≡ Some (option_map (λ q. (seen q, state self.new)) p)) }
         ensures size { IfOk result (λ p. IfSome p (λ q. starts_at q + next_size (state self.old).stage (state self.old) ≡ ends_at q)) }
         ensures end { IfOk result (λ p. IfSome p (λ q. ends_at q ≡ next_end (state self.old).stage (state self.old) self.new)) }
         ensures over { IfOk result (λ p. p ≡ None → state self.new ≡ state self.old) }
         ensures code { (state self.old).stage ≡ at_sections → 0 < (state self.old).left → CodeIsLast self.old → OnOk result (CodeIsLast self.new) }
         ensures bodies { (state self.old).left ≡ 0 → OnOk result (BodiesAreLast self.new) }
+        ensures within { ReadsInput self.old → IfOk result (λ p. IfSome p (λ q. ends_at q ≤ input_end self.new)) }
         ensures format { refused_with self.old ≡ None → IfErr result IsFormat }
+        ensures place { ReadsInput self.old → IfErr result (IsInInput self.old) }
+        ensures reads { ReadsInput self.old → ReadsInput self.new }
         ensures again { IfSome (refused_with self.old) (λ r. result ≡ Err r) }
         ensures err { OnErr result (next_of (state self.old) ≡ None) }
     {
@@ -405,14 +428,17 @@ impl<'a, A: Allocator + Copy> ParseAll<'a, A> {
     /// Refused where the bytes don't go on as a module does, at a byte offset from the start of the
     /// input; and then, with the same refusal, at each further call.
     pub fn next_payload(&mut self) -> Result<Option<Payload<'a, A>>, Refusal>
-        ensures whole { input_end self.new ≡ input_end self.old }
+        ensures whole { OfSameInput self.old self.new }
         ensures ok { IfOk result (λ p. next_of (state self.old) ≡ Some (option_map (λ q. (seen q, state self.new)) p)) }
         ensures size { IfOk result (λ p. IfSome p (λ q. starts_at q + next_size (state self.old).stage (state self.old) ≡ ends_at q)) }
         ensures end { IfOk result (λ p. IfSome p (λ q. ends_at q ≡ next_end (state self.old).stage (state self.old) self.new)) }
         ensures over { IfOk result (λ p. p ≡ None → state self.new ≡ state self.old) }
         ensures code { (state self.old).stage ≡ at_sections → 0 < (state self.old).left → CodeIsLast self.old → OnOk result (CodeIsLast self.new) }
         ensures bodies { (state self.old).left ≡ 0 → OnOk result (BodiesAreLast self.new) }
+        ensures within { ReadsInput self.old → IfOk result (λ p. IfSome p (λ q. ends_at q ≤ input_end self.new)) }
         ensures format { refused_with self.old ≡ None → IfErr result IsFormat }
+        ensures place { ReadsInput self.old → IfErr result (IsInInput self.old) }
+        ensures reads { ReadsInput self.old → ReadsInput self.new }
         ensures again { IfSome (refused_with self.old) (λ r. result ≡ Err r) }
         ensures err { OnErr result (next_of (state self.old) ≡ None) }
         ensures failed { OnErr result ((state self.new).stage ≡ failed) }

@@ -19,7 +19,7 @@ use Rattle.wasm_validator_core.specs.Answers.{Types}
 use Rattle.wasm_validator_core.specs.Machine.{with_ids, add_group}
 use Rattle.wasm_validator.specs.Machine.{read_each, type_items, other_items, section_items, start_item, data_count_item, beside}
 use Rattle.wasm_validator.specs.Standing.{Stage, unparsed, in_module, in_code, ended, failed, Standing, HoldsAt, within, within_all, at_stage}
-use Rattle.wasm_validator.specs.States.{begun, code_started, closed, after_piece}
+use Rattle.wasm_validator.specs.States.{begun, code_started, module_ended, after_piece}
 use Rattle.wasm_validator.specs.Payloads.{after_all}
 use Rattle.wasm_validator.proofs.ItemSteps.{read_back}
 
@@ -46,7 +46,7 @@ piece_only s t (DataCount n) e = at_only s t (within (beside (λ us u. data_coun
 piece_only s t (CodeStart n size) e = at_only s t (code_started s.stage) e
 piece_only s t (CodeEntry bytes) e = absurd (none-some t e)
 piece_only s t (Unknown id bytes) e = absurd (none-some t e)
-piece_only s t parts.End e = at_only s t (closed s.stage) e
+piece_only s t parts.End e = at_only s t (module_ended s.stage) e
 
 pub all_only : (ps : List Piece) (s t : Standing) → after_all s ps ≡ Some t → record s { stage = t.stage } ≡ t
 all_only [] s t e = subst (λ (u : Standing). record s { stage = u.stage } ≡ u) (same_Some s t e) refl
@@ -138,7 +138,7 @@ module _ (V : Types → Type 0) (left : (us more : Types) → V (us ++ more) →
   version_back s t number b (ended types) e v = absurd (none-some t e)
   version_back s t number b failed e v = absurd (none-some t e)
 
-  end_back : (s t : Standing) (g : Stage) → at_stage s (closed g) ≡ Some t → At t → HoldsAt V g
+  end_back : (s t : Standing) (g : Stage) → at_stage s (module_ended g) ≡ Some t → At t → HoldsAt V g
   end_back s t (unparsed types) e v = absurd (none-some t e)
   end_back s t (in_module types spaces) e v = subst At (sym (same_Some (record s { stage = ended types }) t e)) v
   end_back s t (in_code types spaces) e v = subst At (sym (same_Some (record s { stage = ended types }) t e)) v

@@ -2,6 +2,9 @@
 use Rattle.std.proofs.Common.{◌≡◌, refl, sym, ap, subst, ◌∙◌, ℕ, zero, suc, ◌≤◌, Bool, true, false, cond, List, [], ◌∷◌, length, eqb, Option, Some, None, arith}
 use Rattle.std.specs.Option.{option_map, option_and_then}
 use Rattle.std.proofs.lemmas.Option.{none-some, same_Some}
+use Rattle.std.specs.Result.{IsErrAnd}
+use Rattle.std.specs.declared.result.Result.{Result}
+use Rattle.std.specs.declared.result.Result.TheVariants as results
 use Rattle.wasm_rules.specs.Sections.{each}
 use Rattle.wasm_rules.proofs.Tests.{guarded, then_some}
 use Rattle.wasm_readers.specs.Sections.{next_item}
@@ -28,7 +31,7 @@ each_back add P back (v ∷ vs) s t e h =
     back s a.0 v a.1 (each_back add P back vs a.0 t a.2 h)
 
 -- at the end there is no item
-no_item : {V : Type 0} (b : Bool) (x : V × (ℕ × List ℕ)) → cond b (Some None) None ≡ Some (Some x) → ⊥
+pub no_item : {V : Type 0} (b : Bool) (x : V × (ℕ × List ℕ)) → cond b (Some None) None ≡ Some (Some x) → ⊥
 no_item true x e = cc
 no_item false x e = cc
 
@@ -38,7 +41,7 @@ module _ {V : Type 0} (encoded : List ℕ → Option (V × List ℕ)) where
   item_here m x = Some (x.0, (m, x.1))
 
   -- what an item is, and what is left behind it
-  item_is : (m : ℕ) (o : Option (V × List ℕ)) (v : V) (n : ℕ) (after : List ℕ) → option_map (item_here m) o ≡ Some (Some (v, (n, after))) → (o ≡ Some (v, after)) × (m ≡ n)
+  pub item_is : (m : ℕ) (o : Option (V × List ℕ)) (v : V) (n : ℕ) (after : List ℕ) → option_map (item_here m) o ≡ Some (Some (v, (n, after))) → (o ≡ Some (v, after)) × (m ≡ n)
   item_is m None v n after e = absurd (cc)
   item_is m (Some x) v n after e =
       let here : V × (ℕ × List ℕ) = (x.0, (m, x.1)) in
@@ -99,3 +102,17 @@ none_nowhere P o n = λ s e p. none-some s (sym n ∙ e)
 pub if_none : {S : Type 0} (b : Bool) (o : Option S) → o ≡ None → cond b o None ≡ None
 if_none true o e = e
 if_none false o e = refl
+
+-- a refusal as an answer of any type
+abbrev failed_with : {A : Type 0} → (T : Type 0) → Error A → Result T (Error A)
+failed_with T e = results.Err e
+
+adds_same : (T : Type 0) {A S : Type 0} (e : Error A) (whole : Option S) (there : S) → Adds (refusal e) whole there → Adds (failed_with T e) whole there
+adds_same T (Refused r) whole there a = a
+adds_same T (DuplicateExport name offset) whole there a = a
+adds_same T OutOfMemory whole there a = a
+
+-- an error that is handed on
+pub adds_as : {T A S : Type 0} (r : Result T (Error A)) (e : Error A) (whole : Option S) (there : S) → IsErrAnd r (λ w. w ≡ e) → Adds (refusal e) whole there → Adds r whole there
+adds_as (results.Ok x) e whole there h a = absurd h
+adds_as {T} (results.Err w) e whole there h a = adds_same T w whole there (subst (λ v. Adds (refusal v) whole there) (sym h) a)

@@ -1,5 +1,7 @@
 pub mod Sections
 pub mod ItemSteps
+pub mod SectionsTold
+pub mod ToldMoves
 pub mod Forms
 pub mod Growing
 pub mod ValidTypes
@@ -26,3 +28,4 @@ pub mod OwnIds
 pub mod Resets
 pub mod TableKept
 pub mod SectionLaws
+pub mod ImportsAdded

@@ -1,6 +1,7 @@
 -- A validator that goes over the payloads of whole bytes.
 use Rattle.std.proofs.Common.{◌≡◌, refl, sym, ap, subst, ◌∙◌, inl, inr, ℕ, List, [], ◌∷◌, ◌++◌, Option, Some, None, append_assoc}
-use Rattle.std.specs.Option.{option_and_then}
+use Rattle.std.specs.Option.{option_map, option_and_then}
+use Rattle.wasm_readers_errors.specs.declared.error.Refusal.{Refusal}
 use Rattle.wasm_parser.specs.Framing as parts
 use Rattle.wasm_parser.specs.Framing.{Piece, IsFramed, Version, Custom, Counted, Start, DataCount, CodeStart, CodeEntry, Unknown}
 use Rattle.wasm_parser.specs.Machine.{State, start, next_of, Run, Given}
@@ -183,3 +184,12 @@ module _ {A : Type 0} where
     rejected_bytes bytes old now s latest g e,
     record { behind = s; reached = now; taken = has_taken bytes old now s latest g; left = inl (e, refl) },
   )
+
+  -- the parser's refusal, as it is handed on
+  pub refused_format : (bytes : List ℕ) (old now : Standing) (s : State) (latest : Option (Types A)) (o : Option Refusal) (e : Error A) → option_map (λ r. Refused r) o ≡ Some e
+      → Progress bytes old now s latest → next_of s ≡ None → Validates (refusal (Types A) e) bytes old now
+  refused_format bytes old now s latest None e is g none = absurd (cc)
+  refused_format bytes old now s latest (Some r) e is g none =
+      let told : Error A = Refused r in
+      let same : told ≡ e = cc in
+      subst (λ w. Validates (refusal (Types A) w) bytes old now) same (refused_bytes bytes old now s latest g none)

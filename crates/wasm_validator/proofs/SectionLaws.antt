@@ -81,11 +81,11 @@ module _ (s new : Standing) (us : Types) where
   abbrev moved : Option Spaces → Option Standing
   moved o = option_and_then (λ (g : Stage). Some (record s { stage = g })) (option_and_then (λ (p : Types × Spaces). Some (in_module p.0 p.1)) (option_and_then (λ (t : Spaces). Some (us, t)) o))
 
-  moved_from : (o : Option Spaces) → moved o ≡ Some new → (t : Spaces) × (o ≡ Some t) × (new ≡ record s { stage = in_module us t })
+  pub moved_from : (o : Option Spaces) → moved o ≡ Some new → (t : Spaces) × (o ≡ Some t) × (new ≡ record s { stage = in_module us t })
   moved_from None e = absurd (none-some new e)
   moved_from (Some t) e = (t, refl, sym (same_Some (record s { stage = in_module us t }) new e))
 
-  moved_to : (o : Option Spaces) (t : Spaces) → o ≡ Some t → new ≡ record s { stage = in_module us t } → moved o ≡ Some new
+  pub moved_to : (o : Option Spaces) (t : Spaces) → o ≡ Some t → new ≡ record s { stage = in_module us t } → moved o ≡ Some new
   moved_to o t e is = ap moved e ∙ ap Some (sym is)
 
   module _ {V W : Type 0} (f : V → W) (reads : List ℕ → Option (V × List ℕ)) (renamed : List ℕ → Option (W × List ℕ)) (renames : Renames f reads renamed)
@@ -106,7 +106,7 @@ module _ (s new : Standing) (us : Types) where
         h.after
 
 -- the section of a standing
-at_module : (old : Standing) (us : Types) (m : Spaces) (id count : ℕ) (bytes : List ℕ) → old.stage ≡ in_module us m → after_section old id count bytes ≡ at_stage old (within_by id (section_items old.features id count bytes) (in_module us m))
+pub at_module : (old : Standing) (us : Types) (m : Spaces) (id count : ℕ) (bytes : List ℕ) → old.stage ≡ in_module us m → after_section old id count bytes ≡ at_stage old (within_by id (section_items old.features id count bytes) (in_module us m))
 at_module old us m id count bytes e = ap (λ g. at_stage old (within_by id (section_items old.features id count bytes) g)) e
 
 -- functions

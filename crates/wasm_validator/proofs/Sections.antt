@@ -15,7 +15,7 @@ use Rattle.wasm_validator_type_list.proofs.Standing.{length-standing}
 use Rattle.wasm_validator_core.specs.Ready.{AreIdsOf}
 use Rattle.wasm_validator_module_state.specs.declared.module_state.ModuleState.{ModuleState}
 use Rattle.wasm_validator.specs.Ready.{AreIdsIn, AreValidIn}
-use Rattle.wasm_validator.specs.States.{open_of, read_of, stage_of, state_kept, closed, after_end}
+use Rattle.wasm_validator.specs.States.{open_of, read_of, stage_of, state_kept, module_ended, after_end}
 use Rattle.std.specs.List.{All}
 use Rattle.std.specs.declared.result.Result.{Result}
 use Rattle.std.specs.declared.result.Result.TheVariants as results
@@ -23,7 +23,7 @@ use Rattle.wasm_validator_core.specs.declared.error.Error.{Error}
 
 -- the end of a module that is being read
 module _ {A : Type 0} where
-  pub open-closes : (types : Types) (s : State A) (m : Spaces) → read_of s ≡ Some m → closed (stage_of types s) ≡ Some (ended types)
+  pub open-closes : (types : Types) (s : State A) (m : Spaces) → read_of s ≡ Some m → module_ended (stage_of types s) ≡ Some (ended types)
   open-closes types (Module n) m o = refl
   open-closes types (Code n) m o = refl
   open-closes types Unparsed m o = absurd (cc)

@@ -18,7 +18,7 @@ use Rattle.wasm_validator_canonical.proofs.Canonical.{and_left, and_right}
 use Rattle.wasm_spec.specs.BinaryTypes.{tag_at}
 use Rattle.wasm_validator_core.specs.Answers.{Types}
 use Rattle.wasm_validator.specs.Standing.{Stage, unparsed, in_module, in_code, ended, failed, Standing, refused_at, read_refused_at, body_refused_at, ended_at, within, within_all, at_stage}
-use Rattle.wasm_validator.specs.States.{begun, code_started, closed, after_piece, is_barred}
+use Rattle.wasm_validator.specs.States.{begun, code_started, module_ended, after_piece, is_barred}
 use Rattle.wasm_validator.specs.Machine.{no_items, read_section, section_items, start_item, data_count_item, beside}
 use Rattle.wasm_validator.specs.Table.{phase_of, bodies_at, call_of, AcceptedByTable, RefusedByTable}
 
@@ -109,7 +109,7 @@ code_starts s t (in_code types spaces) e = absurd cc
 code_starts s t (ended types) e = absurd cc
 code_starts s t failed e = absurd cc
 
-ends : (s t : Standing) (g : Stage) → at_stage s (closed g) ≡ Some t → accepted_to table.end (phase_of g) ≡ Some (phase_of t.stage)
+ends : (s t : Standing) (g : Stage) → at_stage s (module_ended g) ≡ Some t → accepted_to table.end (phase_of g) ≡ Some (phase_of t.stage)
 ends s t (unparsed types) e = absurd cc
 ends s t (in_module types spaces) e = let same : record s { stage = ended types } ≡ t = cc in ap (λ (u : Standing). Some (phase_of u.stage)) same
 ends s t (in_code types spaces) e = let same : record s { stage = ended types } ≡ t = cc in ap (λ (u : Standing). Some (phase_of u.stage)) same

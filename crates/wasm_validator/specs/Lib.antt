@@ -4,6 +4,7 @@ pub mod Served
 pub mod Machine
 pub mod Shows
 pub mod Ready
+pub mod SectionsTold
 pub mod States
 pub mod Payloads
 pub mod Verdict

@@ -1,9 +1,10 @@
 -- What each section adds to a module, in the words of the definition: behind any lists that the module has so far a
 -- section is accepted exactly where its bytes are items that keep their rules on these lists and the limit, and then the
 -- list has these items behind. Core Specification 3.0, Validation, Modules.
-use Rattle.std.specs.Prelude.{ℕ, ◌≡◌, ◌↔◌, ◌≤◌, ◌+◌, ◌++◌, List, map, length, Option, Some, IsTrue}
+use Rattle.std.specs.Prelude.{ℕ, ◌≡◌, ◌↔◌, ◌≤◌, ◌+◌, ◌++◌, List, [], ◌∷◌, map, length, Option, Some, IsTrue}
 use Rattle.std.specs.List.{All}
 use Rattle.wasm_spec.specs.Values.{u32_at, items_at}
+use Rattle.wasm_spec.specs.BinaryModules.{import_at}
 use Rattle.wasm_spec.specs.BinaryTypes.{memory_at, tag_at}
 use Rattle.wasm_spec.specs.BinarySections.{table_entry_at}
 use Rattle.wasm_spec.specs.Features.{canonical}
@@ -16,6 +17,7 @@ use Rattle.wasm_rules.specs.Limits.{most_tables, most_memories}
 use Rattle.wasm_item_checks.specs.Laws.{Stand}
 use Rattle.wasm_validator_types.specs.Spaces.{Spaces}
 use Rattle.wasm_validator_core.specs.Answers.{Types}
+use Rattle.wasm_validator_core_laws.specs.Imports.{KeepsLimits, FitsImport, with_entry}
 use Rattle.wasm_validator_core_laws.specs.Lists.{has_no_init}
 use Rattle.wasm_validator_core_laws.specs.Shown.{listed_table}
 use Rattle.wasm_validator.specs.Standing.{Standing, in_module}
@@ -64,3 +66,25 @@ TagsAdd =
     → (after_section old 13 count bytes ≡ Some new)
     ↔ ((IsTrue (features_of old.features).exceptions)
     × HasAdded tag_at (IsValidTag (features_of old.features) types) (length m.tags) 1000000 (λ xs. record m { tags = m.tags ++ xs }) old new us count bytes)
+
+-- Each item keeps its rule on the lists that those before it have made of the first, and they make the last.
+abbrev pub AddsEach : {V : Type 0} → (Spaces → V → Type 0) → (Spaces → V → Spaces) → Spaces → List V → Spaces → Type 0
+AddsEach rule next s [] t = s ≡ t
+AddsEach rule next s (x ∷ xs) t = rule s x × AddsEach rule next (next s x) xs t
+
+-- The bytes are so many items of which each keeps its rule on the lists so far, with so many that are there they keep to
+-- the limit, and the module has the lists that they make.
+pub record HasAddedEach {V : Type 0} (reads : List ℕ → Option (V × List ℕ)) (rule : Spaces → V → Type 0) (next : Spaces → V → Spaces) (there most : ℕ) (old new : Standing) (us : Types) (m : Spaces) (count : ℕ) (bytes : List ℕ) : Type 0 where
+  pub items : List V
+  pub read : items_at reads count bytes ≡ Some items
+  pub few : there + length items ≤ most
+  pub lists : Spaces
+  pub added : AddsEach rule next m items lists
+  pub after : new ≡ record old { stage = in_module us lists }
+
+-- imports, behind lists that keep their limits
+abbrev pub ImportsAdd : Type 0
+ImportsAdd =
+    (old new : Standing) (us : Types) (m : Spaces) (types : List DefType) (count : ℕ) (bytes : List ℕ) → IsReading old us m types → KeepsLimits (features_of old.features) m
+    → (after_section old 2 count bytes ≡ Some new)
+    ↔ HasAddedEach (import_at index) (FitsImport (features_of old.features) types) (with_entry m.types types) (length m.imports) 1000000 old new us m count bytes

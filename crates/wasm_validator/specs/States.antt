@@ -110,15 +110,15 @@ abbrev pub after_code_start : Standing → Option Standing
 after_code_start s = at_stage s (code_started s.stage)
 
 -- the end of a module
-abbrev pub closed : Stage → Option Stage
-closed (unparsed types) = None
-closed (in_module types spaces) = Some (ended types)
-closed (in_code types spaces) = Some (ended types)
-closed (ended types) = None
-closed failed = None
+abbrev pub module_ended : Stage → Option Stage
+module_ended (unparsed types) = None
+module_ended (in_module types spaces) = Some (ended types)
+module_ended (in_code types spaces) = Some (ended types)
+module_ended (ended types) = None
+module_ended failed = None
 
 abbrev pub after_end : Standing → Option Standing
-after_end s = at_stage s (closed s.stage)
+after_end s = at_stage s (module_ended s.stage)
 
 -- a payload, without where it lies
 abbrev pub after_piece : Standing → Piece → Option Standing

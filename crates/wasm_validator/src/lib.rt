@@ -2,7 +2,7 @@
 #![tactic(auto)]
 
 ghost use Rattle.wasm_validator.specs.Sequences.{OneIdForOneType, OwnIdForEachType, RefusedKeepTypes};
-ghost use Rattle.wasm_validator.specs.SectionLaws.{FunctionsAdd, TablesAdd, MemoriesAdd, TagsAdd};
+ghost use Rattle.wasm_validator.specs.SectionLaws.{ImportsAdd, FunctionsAdd, TablesAdd, MemoriesAdd, TagsAdd};
 ghost use Rattle.wasm_validator.specs.Table.{AcceptedByTable, RefusedByTable};
 
 mod module_sections;
@@ -67,6 +67,7 @@ pub fn refused_modules_keep_types()
 /// keep their rules on these lists and the limit, and then the list has these items behind (Core
 /// Specification 3.0, Validation, Modules).
 pub fn sections_add_their_items()
+    ensures imports { ImportsAdd }
     ensures functions { FunctionsAdd }
     ensures tables { TablesAdd }
     ensures memories { MemoriesAdd }

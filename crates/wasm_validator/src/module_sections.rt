@@ -1,16 +1,17 @@
 //! The items of a module's sections, one by one.
 
-ghost use Rattle.std.specs.Prelude.{◌≡◌, ◌==◌, ◌&&◌, OnOk, IfErr, IsTrue, is_ok, length, None};
+ghost use Rattle.std.specs.Prelude.{◌≡◌, ◌==◌, ◌&&◌, OnOk, IfErr, IsTrue, is_ok, length};
 ghost use Rattle.wasm_rules.specs.FeatureFlags.{features_of};
-ghost use Rattle.wasm_readers.specs.SectionsSeen.{count_of, bytes_of, first_item_at, section_start};
+ghost use Rattle.wasm_readers.specs.SectionsSeen.{count_of, bytes_of, section_start, section_end};
 ghost use Rattle.wasm_validator_types.specs.Shown.{types_of};
 ghost use Rattle.wasm_validator_canonical.specs.Groups.{AreValid};
 ghost use Rattle.wasm_validator_core.specs.Answers.{Adds, AddsWhere, HasValidTypes};
 ghost use Rattle.wasm_validator_core.specs.Ready.{IsOpenFor, AreHeld, AreIdsOf};
 ghost use Rattle.wasm_validator.specs.Machine.{type_items, import_items, function_items, add_table_head, table_items, memory_items, tag_items, export_items};
-ghost use Rattle.wasm_readers.specs.Items.{export_of};
 ghost use Rattle.wasm_readers.specs.Tables.{head_of};
-ghost use Rattle.wasm_validator_core.specs.Items.{add_export};
+ghost use Rattle.wasm_validator_core.specs.Errors.{IsAt};
+ghost use Rattle.wasm_validator_core.specs.Told.{Tells};
+ghost use Rattle.wasm_validator.specs.SectionsTold.{OfContent, StandsBetween, TellsTypes, TellsImports, TellsFunctions, TellsTables, TellsMemories, TellsTags, TellsExports, told_of_head, refusal_of_items};
 
 use std::alloc::Allocator;
 use wasm_readers::{
@@ -38,6 +39,8 @@ pub fn add_types<'a, A: Allocator + Copy>(
     ensures valid { OnOk result (AreValid (features_of features) (types_of list.new)) }
     ensures open { IsOpenFor features list.new }
     ensures ids { OnOk result (AreIdsOf list.new opened.new.types) }
+    ensures place { IfErr result (StandsBetween (section_start section.now) (section_end section.now)) }
+    ensures told { IfErr result (OfContent (TellsTypes features section.now (types_of list.old) opened.old)) }
 {
     check_max(
         opened.spaces().type_count() as usize,
@@ -66,6 +69,8 @@ pub fn add_imports<'a, A: Allocator + Copy>(
     requires { AreHeld list.now opened.old.types }
     ensures added { Adds result (import_items (features_of features) (types_of list.now) (count_of section.now) (bytes_of section.now) opened.old) opened.new }
     ensures types { opened.new.types ≡ opened.old.types }
+    ensures place { IfErr result (StandsBetween (section_start section.now) (section_end section.now)) }
+    ensures told { IfErr result (OfContent (TellsImports features section.now (types_of list.now) opened.old)) }
 {
     check_max(
         opened.spaces().import_count(),
@@ -90,6 +95,8 @@ pub fn add_functions<A: Allocator + Copy>(
     requires { AreHeld list.now opened.old.types }
     ensures added { Adds result (function_items (types_of list.now) (count_of section.now) (bytes_of section.now) opened.old) opened.new }
     ensures types { opened.new.types ≡ opened.old.types }
+    ensures place { IfErr result (StandsBetween (section_start section.now) (section_end section.now)) }
+    ensures told { IfErr result (OfContent (TellsFunctions section.now (types_of list.now) opened.old)) }
 {
     check_max(
         opened.spaces().function_count() as usize,
@@ -115,6 +122,8 @@ pub fn add_tables<'a, A: Allocator + Copy>(
     requires { AreHeld list.now opened.old.«module».types }
     ensures added { Adds result (table_items (features_of features) (types_of list.now) (count_of section.now) (bytes_of section.now) opened.old.«module») opened.new.«module» }
     ensures types { opened.new.«module».types ≡ opened.old.«module».types }
+    ensures place { IfErr result (StandsBetween (section_start section.now) (section_end section.now)) }
+    ensures told { IfErr result (OfContent (TellsTables features section.now (types_of list.now) opened.old.«module»)) }
 {
     check_max(
         opened.module.spaces().table_count() as usize,
@@ -143,6 +152,8 @@ fn add_table_head<A: Allocator + Copy>(
     requires { AreHeld list.now opened.old.«module».types }
     ensures added { Adds result (add_table_head (features_of features) (types_of list.now) opened.old.«module» (head_of head)) opened.new.«module» }
     ensures types { opened.new.«module».types ≡ opened.old.«module».types }
+    ensures place { IfErr result (IsAt offset) }
+    ensures told { Tells result (told_of_head features (types_of list.now) offset opened.old.«module» (head_of head)) }
 {
     if head.has_init {
         let fault = Fault::NotServed(Unserved::TableInitializer);
@@ -159,6 +170,8 @@ pub fn add_memories<A: Allocator + Copy>(
 ) -> Result<(), Error<A>>
     ensures added { Adds result (memory_items (features_of features) (count_of section.now) (bytes_of section.now) opened.old) opened.new }
     ensures types { opened.new.types ≡ opened.old.types }
+    ensures place { IfErr result (StandsBetween (section_start section.now) (section_end section.now)) }
+    ensures told { IfErr result (OfContent (TellsMemories section.now features opened.old)) }
 {
     check_max(
         opened.spaces().memory_count() as usize,
@@ -185,6 +198,8 @@ pub fn add_tags<A: Allocator + Copy>(
     requires exceptions { IsTrue (features_of features).exceptions }
     ensures added { Adds result (tag_items (features_of features) (types_of list.now) (count_of section.now) (bytes_of section.now) opened.old) opened.new }
     ensures types { opened.new.types ≡ opened.old.types }
+    ensures place { IfErr result (StandsBetween (section_start section.now) (section_end section.now)) }
+    ensures told { IfErr result (OfContent (TellsTags features section.now (types_of list.now) opened.old)) }
 {
     check_max(
         opened.spaces().tag_count() as usize,
@@ -210,6 +225,8 @@ pub fn add_exports<'a, A: Allocator + Copy>(
 ) -> Result<(), Error<A>>
     ensures added { Adds result (export_items (features_of features) (types_of list.now) (count_of section.now) (bytes_of section.now) opened.old) opened.new }
     ensures types { opened.new.types ≡ opened.old.types }
+    ensures place { IfErr result (StandsBetween (section_start section.now) (section_end section.now)) }
+    ensures told { IfErr result (OfContent (TellsExports features section.now (types_of list.now) opened.old)) }
 {
     check_max(
         opened.spaces().export_count(),
@@ -220,24 +237,9 @@ pub fn add_exports<'a, A: Allocator + Copy>(
     )?;
     let mut exports = section.items();
     'exports: while let Some((offset, export)) = exports.read_next()? {
-        add_one_export(features, alloc, list, opened, &export, offset)?;
+        opened.add_export(features, alloc, list, &export, offset)?;
     }
     Ok(())
-}
-
-/// Adds an export, and says no more of it than the section's contract needs.
-fn add_one_export<A: Allocator + Copy>(
-    features: WasmFeatures,
-    alloc: A,
-    list: &TypeList<A>,
-    opened: &mut Module<A>,
-    export: &Export,
-    offset: u64,
-) -> Result<(), Error<A>>
-    ensures added { Adds result (add_export (features_of features) (types_of list.now) opened.old (export_of export.now)) opened.new }
-    ensures types { opened.new.types ≡ opened.old.types }
-{
-    opened.add_export(features, alloc, list, export, offset)
 }
 
 /// Accepts a section without items. One that has items of this kind is not served yet.
@@ -246,8 +248,7 @@ pub fn check_empty<T, A: Allocator + Copy>(
     what: Unserved,
 ) -> Result<(), Refusal>
     ensures accepted { is_ok result ≡ (count_of section.now == 0 && length (bytes_of section.now) == 0) }
-    ensures behind { count_of section.now ≡ 0 → IfErr result (λ r. r ≡ record { fault = Fault.Malformed Malformed.SectionSize; offset = first_item_at section.now; missing = None }) }
-    ensures unserved { (count_of section.now ≡ 0 → ⊥) → IfErr result (λ r. r ≡ record { fault = Fault.NotServed what; offset = section_start section.now; missing = None }) }
+    ensures refusal { IfErr result (λ r. r ≡ refusal_of_items section.now what) }
 {
     if section.is_empty() {
         return Ok(());

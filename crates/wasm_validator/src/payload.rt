@@ -1,5 +1,9 @@
-ghost use Rattle.std.specs.Prelude.{◌≡◌, IfOk};
-ghost use Rattle.wasm_parser.specs.Seen.{seen};
+ghost use Rattle.std.specs.Prelude.{◌≡◌, ◌≤◌, IfOk, IfErr, OnErr, IfSome, Some, None, length};
+ghost use Rattle.std.specs.Option.{option_map};
+ghost use Rattle.wasm_parser.specs.Machine.{next_of};
+ghost use Rattle.wasm_parser.specs.Places.{starts_at, ends_at, input_end, refused_with, ReadsInput};
+ghost use Rattle.wasm_parser.specs.Seen.{seen, state};
+ghost use Rattle.wasm_validator.specs.SectionsTold.{StandsBetween};
 ghost use Rattle.wasm_validator_types.specs.Shown.{shown_of, HoldsIds};
 ghost use Rattle.wasm_validator.specs.Standing.{Leaves};
 ghost use Rattle.wasm_validator.specs.States.{after_piece, left_by, IsBeforeEnd};
@@ -8,7 +12,7 @@ ghost use Rattle.wasm_validator.specs.Verdict.{DecidesModule, DecidesAlone};
 
 use crate::validator::Validator;
 use std::alloc::{Allocator, Global};
-use wasm_parser::{Parser, Payload};
+use wasm_parser::{ParseAll, Parser, Payload};
 use wasm_validator_core::Error;
 use wasm_validator_types::{Types, ValidatorId};
 
@@ -22,11 +26,18 @@ pub enum ValidPayload<A: Allocator = Global> {
 }
 
 impl<A: Allocator + Copy> Validator<A> {
-    /// Checks one payload of a module, as the parser gives it. The end gives the types.
+    /// Checks one payload of a module, as the parser gives it (Core Specification 3.0, Validation,
+    /// Modules). The end gives the types.
+    ///
+    /// # Errors
+    ///
+    /// Refused as by the method of its section, at an offset from the payload's first byte to the one
+    /// behind it, and where memory is.
     pub fn payload<'a>(&mut self, payload: &Payload<'a, A>) -> Result<ValidPayload<A>, Error<A>>
         ensures moves { Leaves result (after_piece self.old (seen payload.now)) (left_by self.old (seen payload.now)) self.old self.new }
         ensures shown { IfOk result (ShowsModule self.old (seen payload.now)) }
         ensures held { IfOk result HoldsIdsAtEnd }
+        ensures place { starts_at payload.now ≤ ends_at payload.now → IfErr result (StandsBetween (starts_at payload.now) (ends_at payload.now)) }
     {
         match payload {
             Payload::End(offset) => match self.end(*offset) {
@@ -43,7 +54,8 @@ impl<A: Allocator + Copy> Validator<A> {
     /// Checks a payload that is not the end.
     fn section<'a>(&mut self, payload: &Payload<'a, A>) -> Result<(), Error<A>>
         requires { IsBeforeEnd (seen payload.now) }
-        ensures { Leaves result (after_piece self.old (seen payload.now)) (left_by self.old (seen payload.now)) self.old self.new }
+        ensures moves { Leaves result (after_piece self.old (seen payload.now)) (left_by self.old (seen payload.now)) self.old self.new }
+        ensures place { starts_at payload.now ≤ ends_at payload.now → IfErr result (StandsBetween (starts_at payload.now) (ends_at payload.now)) }
     {
         match payload {
             Payload::Version {
@@ -84,8 +96,15 @@ impl<A: Allocator + Copy> Validator<A> {
     /// forms are served and the list of types has room for its own.
     ///
     /// The validator has to be fresh or reset: elsewhere the header is refused.
+    ///
+    /// # Errors
+    ///
+    /// Refused where the parser refuses the bytes, as it does; as by [`Validator::payload`] where that
+    /// refuses a payload; and where memory is. The offset is that of a byte of the input, or behind
+    /// its last.
     pub fn validate_all(&mut self, bytes: &[u8]) -> Result<Types<A>, Error<A>>
         ensures decided { DecidesModule result bytes.now self.old self.new }
+        ensures place { IfErr result (StandsBetween 0 (length bytes.now)) }
         ensures held { IfOk result (λ t. HoldsIds (shown_of t)) }
     {
         // Asked for what it promises: the types that are held are valid.
@@ -95,24 +114,44 @@ impl<A: Allocator + Copy> Validator<A> {
 
     /// Goes over the payloads of these bytes, up to the first that is refused.
     fn run(&mut self, bytes: &[u8]) -> Result<Types<A>, Error<A>>
-        ensures { Validates result bytes.now self.old self.new }
+        ensures validates { Validates result bytes.now self.old self.new }
+        ensures place { IfErr result (StandsBetween 0 (length bytes.now)) }
     {
         let mut payloads = Parser::new(self.allocator(), 0).parse_all(bytes);
         let mut ended = None;
         'payloads: loop {
-            match payloads.next_payload() {
+            match next_of_input(&mut payloads) {
                 Ok(Some(payload)) => match self.payload(&payload) {
                     Ok(valid) => ended = latest(ended, valid),
                     Err(error) => return Err(error),
                 },
                 Ok(None) => break,
-                Err(refusal) => return Err(Error::Refused(refusal)),
+                Err(refused) => return Err(refused),
             }
         }
         match ended {
             Some(types) => Ok(types),
             None => unreachable!(),
         }
+    }
+}
+
+/// The next payload of the input. What the parser refuses is handed on as it is.
+fn next_of_input<'a, A: Allocator + Copy>(
+    payloads: &mut ParseAll<'a, A>,
+) -> Result<Option<Payload<'a, A>>, Error<A>>
+    ensures ok { IfOk result (λ p. next_of (state payloads.old) ≡ Some (option_map (λ q. (seen q, state payloads.new)) p)) }
+    ensures err { OnErr result (next_of (state payloads.old) ≡ None) }
+    ensures handed { IfErr result (λ e. option_map Error.Refused (refused_with payloads.new) ≡ Some e) }
+    ensures place { ReadsInput payloads.old → IfErr result (StandsBetween 0 (input_end payloads.old)) }
+    ensures within { ReadsInput payloads.old → IfOk result (λ p. IfSome p (λ q. ends_at q ≤ input_end payloads.old)) }
+    ensures order { IfOk result (λ p. IfSome p (λ q. starts_at q ≤ ends_at q)) }
+    ensures reads { ReadsInput payloads.old → ReadsInput payloads.new }
+    ensures whole { input_end payloads.new ≡ input_end payloads.old }
+{
+    match payloads.next_payload() {
+        Ok(payload) => Ok(payload),
+        Err(refusal) => Err(Error::Refused(refusal)),
     }
 }
 
@@ -129,12 +168,17 @@ fn latest<A: Allocator>(before: Option<Types<A>>, valid: ValidPayload<A>) -> Opt
 /// Checks with the default features the module that these bytes are, and gives its types, which show
 /// its index spaces. It is accepted exactly where it is valid (Core Specification 3.0, Validation,
 /// Modules), as far as its forms are served. The id is that of the validator that does it.
+///
+/// # Errors
+///
+/// Refused as by [`Validator::validate_all`].
 pub fn validate<A: Allocator + Copy>(
     alloc: A,
     bytes: &[u8],
     id: ValidatorId,
 ) -> Result<Types<A>, Error<A>>
     ensures decided { DecidesAlone result bytes.now id (record { 0 = 32703 }) }
+    ensures place { IfErr result (StandsBetween 0 (length bytes.now)) }
     ensures held { IfOk result (λ t. HoldsIds (shown_of t)) }
 {
     Validator::new(alloc, id).validate_all(bytes)

@@ -1,11 +1,16 @@
-ghost use Rattle.std.specs.Prelude.{◌≡◌, IfOk, IfErr, IfSome, IsSome, IsErr, OnOk, OnErr, Some, None, true, is_ok, if◌then◌else◌, ◌↔◌};
+ghost use Rattle.std.specs.Prelude.{◌≡◌, IfOk, IfErr, IfSome, IsSome, IsErr, OnOk, OnErr, Some, None, true, is_ok, if◌then◌else◌, ◌↔◌, ◌+◌};
 ghost use Rattle.wasm_validator_core.specs.Errors.{IsContent, offset_of};
-ghost use Rattle.wasm_readers.specs.SectionsSeen.{count_of, bytes_of};
+ghost use Rattle.std.specs.Result.{IsErrAnd};
+ghost use Rattle.wasm_binary_reader.specs.Reader.{original, position_in};
+ghost use Rattle.wasm_readers_errors.specs.Refusals.{plain};
+ghost use Rattle.wasm_readers.specs.SectionsSeen.{count_of, bytes_of, section_start, section_end};
+ghost use Rattle.wasm_parser.specs.Seen.{body_reader};
 ghost use Rattle.wasm_validator_type_list.specs.Interned.{AreOnce};
 ghost use Rattle.wasm_validator_type_list.specs.Listing.{closed};
 ghost use Rattle.wasm_validator_types.specs.Shown.{shown_of, shown_by, types_of, HoldsIds};
 ghost use Rattle.wasm_validator.specs.Payloads.{Show};
 ghost use Rattle.wasm_validator.specs.Standing.{HoldsValid, Leaves, Moves, at_stage, within, read_refused_at, body_refused_at, ended_at, fresh, is_failed, may_reset, after_reset, shown_at};
+ghost use Rattle.wasm_validator.specs.SectionsTold.{OfContent, StandsBetween, TellsWithin, TellsReading, TellsOrder, TellsTypes, TellsImports, TellsExports, TellsFunctions, TellsTables, TellsMemories, TellsTagSection, TellsUnserved, TellsStart, TellsDataCount, header_told, body_told, end_order_told};
 ghost use Rattle.wasm_validator.specs.States.{open_of, read_of, order_at, end_order_at, state_kept, is_module, after_version, after_section, section_refused_at, after_start, after_data_count, after_code_start, after_end};
 
 use crate::module_sections::{
@@ -233,7 +238,8 @@ impl<A: Allocator + Copy> Validator<A> {
         matches!(self.state, State::Unparsed | State::End)
     }
 
-    /// Makes ready for another module. Types, features and id stay.
+    /// Makes ready for another module. Types, features and id stay. It may be called where
+    /// `can_reset` says so.
     pub fn reset(&mut self)
         requires { may_reset self.old ≡ true }
         ensures { self.new ≡ after_reset self.old }
@@ -261,7 +267,14 @@ impl<A: Allocator + Copy> Validator<A> {
         }
     }
 
-    /// The header.
+    /// The header, with the version that it has, the encoding, and the offsets of its first byte and
+    /// of the one behind it, in bytes from the start of the input (Core Specification 3.0, Binary
+    /// Format, Modules).
+    ///
+    /// # Errors
+    ///
+    /// Refused, at its first byte, where a header came before, for a module of another version than
+    /// 1, and for a component. The validator stays as it was. It takes no memory.
     pub fn version(
         &mut self,
         number: u16,
@@ -271,6 +284,7 @@ impl<A: Allocator + Copy> Validator<A> {
         ensures moves { Leaves result (after_version self.old number (is_module encoding)) self.old.stage self.old self.new }
         ensures content { IfErr result IsContent }
         ensures place { IfErr result (λ e. offset_of e ≡ range.now.start) }
+        ensures told { IfErr result (λ e. e ≡ Error.Refused (header_told self.old.features number (is_module encoding) range.now.start self.old.stage)) }
     {
         if !matches!(self.state, State::Unparsed) {
             return Err(Error::Refused(Refusal::new(
@@ -306,12 +320,20 @@ impl<A: Allocator + Copy> Validator<A> {
         Ok(())
     }
 
-    /// The types of a module.
+    /// The types of a module (Core Specification 3.0, Validation, Modules, Types).
+    ///
+    /// # Errors
+    ///
+    /// Refused, at the section's start, where no module is being read or its code has started, which
+    /// changes nothing. In a module refused, at the section's start, where a module would have too
+    /// many types; at the first recursion group that can't be read or added, or has a type that isn't valid; and where memory is. The validator has then failed.
     pub fn type_section(
         &mut self,
         section: &SectionLimited<'_, RecGroup<A>, A>,
     ) -> Result<(), Error<A>>
-        ensures { Moves result (after_section self.old 1 (count_of section.now) (bytes_of section.now)) self.old self.new }
+        ensures moves { Moves result (after_section self.old 1 (count_of section.now) (bytes_of section.now)) self.old self.new }
+        ensures place { IfErr result (StandsBetween (section_start section.now) (section_end section.now)) }
+        ensures told { IfErr result (OfContent (TellsWithin (TellsTypes self.old.features section.now) (section_start section.now) self.old.stage)) }
     {
         match opened(&mut self.state, section.range().start) {
             Ok(mut state) => {
@@ -328,12 +350,20 @@ impl<A: Allocator + Copy> Validator<A> {
         }
     }
 
-    /// The imports of a module.
+    /// The imports of a module (Core Specification 3.0, Validation, Modules, Imports).
+    ///
+    /// # Errors
+    ///
+    /// Refused, at the section's start, where no module is being read or its code has started, which
+    /// changes nothing. In a module refused, at the section's start, where a module would have too
+    /// many imports; at the first import that can't be read or keeps no rule; and where memory is. The validator has then failed.
     pub fn import_section<'a>(
         &mut self,
         section: &SectionLimited<'a, Import<'a>, A>,
     ) -> Result<(), Error<A>>
-        ensures { Moves result (after_section self.old 2 (count_of section.now) (bytes_of section.now)) self.old self.new }
+        ensures moves { Moves result (after_section self.old 2 (count_of section.now) (bytes_of section.now)) self.old self.new }
+        ensures place { IfErr result (StandsBetween (section_start section.now) (section_end section.now)) }
+        ensures told { IfErr result (OfContent (TellsWithin (TellsImports self.old.features section.now) (section_start section.now) self.old.stage)) }
     {
         match opened(&mut self.state, section.range().start) {
             Ok(mut state) => {
@@ -344,12 +374,20 @@ impl<A: Allocator + Copy> Validator<A> {
         }
     }
 
-    /// The exports of a module.
+    /// The exports of a module (Core Specification 3.0, Validation, Modules, Exports).
+    ///
+    /// # Errors
+    ///
+    /// Refused, at the section's start, where no module is being read or its code has started, which
+    /// changes nothing. In a module refused, at the section's start, where a module would have too
+    /// many exports; at the first export that can't be read or keeps no rule, or whose name is taken; and where memory is. The validator has then failed.
     pub fn export_section<'a>(
         &mut self,
         section: &SectionLimited<'a, Export<'a>, A>,
     ) -> Result<(), Error<A>>
-        ensures { Moves result (after_section self.old 7 (count_of section.now) (bytes_of section.now)) self.old self.new }
+        ensures moves { Moves result (after_section self.old 7 (count_of section.now) (bytes_of section.now)) self.old self.new }
+        ensures place { IfErr result (StandsBetween (section_start section.now) (section_end section.now)) }
+        ensures told { IfErr result (OfContent (TellsWithin (TellsExports self.old.features section.now) (section_start section.now) self.old.stage)) }
     {
         match opened(&mut self.state, section.range().start) {
             Ok(mut state) => {
@@ -369,7 +407,9 @@ impl<A: Allocator + Copy> Validator<A> {
     /// What a check that needs nothing of the module says of a section: where it refuses while a module
     /// is being read, the validator has failed.
     fn answered(&mut self, offset: u64, answer: Result<(), Refusal>) -> Result<(), Error<A>>
-        ensures { Moves result (at_stage self.old (within (λ p. if is_ok answer then Some p else None) self.old.stage)) self.old self.new }
+        ensures moves { Moves result (at_stage self.old (within (λ p. if is_ok answer then Some p else None) self.old.stage)) self.old self.new }
+        ensures content { IfErr result IsContent }
+        ensures order { IfErr result (TellsWithin (λ us m e. IsErrAnd answer (λ r. e ≡ Error.Refused r)) offset self.old.stage) }
     {
         if !matches!(self.state, State::Module(_)) {
             let order = out_of_order(&self.state);
@@ -384,9 +424,18 @@ impl<A: Allocator + Copy> Validator<A> {
         }
     }
 
-    /// The functions of a module, by their type indices.
+    /// The functions of a module, by their type indices (Core Specification 3.0, Validation, Modules,
+    /// Functions).
+    ///
+    /// # Errors
+    ///
+    /// Refused, at the section's start, where no module is being read or its code has started, which
+    /// changes nothing. In a module refused, at the section's start, where a module would have too
+    /// many functions; at the first one that can't be read or is no function type's; and where memory is. The validator has then failed.
     pub fn function_section(&mut self, section: &SectionLimited<'_, u32, A>) -> Result<(), Error<A>>
-        ensures { Moves result (after_section self.old 3 (count_of section.now) (bytes_of section.now)) self.old self.new }
+        ensures moves { Moves result (after_section self.old 3 (count_of section.now) (bytes_of section.now)) self.old self.new }
+        ensures place { IfErr result (StandsBetween (section_start section.now) (section_end section.now)) }
+        ensures told { IfErr result (OfContent (TellsWithin (TellsFunctions section.now) (section_start section.now) self.old.stage)) }
     {
         match opened(&mut self.state, section.range().start) {
             Ok(mut state) => {
@@ -397,12 +446,21 @@ impl<A: Allocator + Copy> Validator<A> {
         }
     }
 
-    /// The tables of a module. Those with initializers are not served yet.
+    /// The tables of a module (Core Specification 3.0, Validation, Modules, Tables). Those with
+    /// initializers are not served yet.
+    ///
+    /// # Errors
+    ///
+    /// Refused, at the section's start, where no module is being read or its code has started, which
+    /// changes nothing. In a module refused, at the section's start, where a module would have too
+    /// many tables; at the first table that can't be read, keeps no rule or has an initializer; and where memory is. The validator has then failed.
     pub fn table_section<'a>(
         &mut self,
         section: &SectionLimited<'a, Table<'a>, A>,
     ) -> Result<(), Error<A>>
-        ensures { Moves result (after_section self.old 4 (count_of section.now) (bytes_of section.now)) self.old self.new }
+        ensures moves { Moves result (after_section self.old 4 (count_of section.now) (bytes_of section.now)) self.old self.new }
+        ensures place { IfErr result (StandsBetween (section_start section.now) (section_end section.now)) }
+        ensures told { IfErr result (OfContent (TellsWithin (TellsTables self.old.features section.now) (section_start section.now) self.old.stage)) }
     {
         match opened(&mut self.state, section.range().start) {
             Ok(mut state) => {
@@ -413,12 +471,20 @@ impl<A: Allocator + Copy> Validator<A> {
         }
     }
 
-    /// The memories of a module.
+    /// The memories of a module (Core Specification 3.0, Validation, Modules, Memories).
+    ///
+    /// # Errors
+    ///
+    /// Refused, at the section's start, where no module is being read or its code has started, which
+    /// changes nothing. In a module refused, at the section's start, where a module would have too
+    /// many memories; at the first memory that can't be read or keeps no rule; and where memory is. The validator has then failed.
     pub fn memory_section(
         &mut self,
         section: &SectionLimited<'_, MemoryType, A>,
     ) -> Result<(), Error<A>>
-        ensures { Moves result (after_section self.old 5 (count_of section.now) (bytes_of section.now)) self.old self.new }
+        ensures moves { Moves result (after_section self.old 5 (count_of section.now) (bytes_of section.now)) self.old self.new }
+        ensures place { IfErr result (StandsBetween (section_start section.now) (section_end section.now)) }
+        ensures told { IfErr result (OfContent (TellsWithin (λ us. TellsMemories section.now self.old.features) (section_start section.now) self.old.stage)) }
     {
         match opened(&mut self.state, section.range().start) {
             Ok(mut state) => {
@@ -429,10 +495,19 @@ impl<A: Allocator + Copy> Validator<A> {
         }
     }
 
-    /// The tags of a module. Without the exceptions proposal it is refused for that before anything
-    /// else, which fails the validator wherever a module is being read.
+    /// The tags of a module (Core Specification 3.0, Validation, Modules, Tags). Without the
+    /// exceptions proposal it is refused for that, at the section's start, before anything else,
+    /// which fails the validator wherever a module is being read.
+    ///
+    /// # Errors
+    ///
+    /// Refused, at the section's start, where no module is being read or its code has started, which
+    /// changes nothing. In a module refused, at the section's start, where a module would have too
+    /// many tags; at the first tag that can't be read or keeps no rule; and where memory is. The validator has then failed.
     pub fn tag_section(&mut self, section: &SectionLimited<'_, TagType, A>) -> Result<(), Error<A>>
-        ensures { Leaves result (after_section self.old 13 (count_of section.now) (bytes_of section.now)) (section_refused_at self.old.features 13 self.old.stage) self.old self.new }
+        ensures moves { Leaves result (after_section self.old 13 (count_of section.now) (bytes_of section.now)) (section_refused_at self.old.features 13 self.old.stage) self.old self.new }
+        ensures place { IfErr result (StandsBetween (section_start section.now) (section_end section.now)) }
+        ensures told { IfErr result (OfContent (TellsTagSection self.old.features section.now self.old.stage)) }
     {
         let offset = section.range().start;
         if !self.features.contains(WasmFeatures::EXCEPTIONS) {
@@ -454,12 +529,22 @@ impl<A: Allocator + Copy> Validator<A> {
         }
     }
 
-    /// The globals of a module. A section that has any is not served yet.
+    /// The globals of a module (Core Specification 3.0, Validation, Modules, Globals). A section that
+    /// has any is not served yet.
+    ///
+    /// # Errors
+    ///
+    /// Refused, at the section's start, where no module is being read or its code has started, which changes
+    /// nothing. In a module refused, at the section's start, where it has any, and behind
+    /// the count where it has none and bytes follow; the validator has then failed. It takes no memory.
     pub fn global_section<'a>(
         &mut self,
         section: &SectionLimited<'a, GlobalItem<'a>, A>,
     ) -> Result<(), Error<A>>
-        ensures { Moves result (after_section self.old 6 (count_of section.now) (bytes_of section.now)) self.old self.new }
+        ensures moves { Moves result (after_section self.old 6 (count_of section.now) (bytes_of section.now)) self.old self.new }
+        ensures place { IfErr result (StandsBetween (section_start section.now) (section_end section.now)) }
+        ensures content { IfErr result IsContent }
+        ensures told { IfErr result (TellsWithin (TellsUnserved section.now Unserved.GlobalSection) (section_start section.now) self.old.stage) }
     {
         self.answered(
             section.range().start,
@@ -467,10 +552,20 @@ impl<A: Allocator + Copy> Validator<A> {
         )
     }
 
-    /// The function that starts a module, by its index.
+    /// The function that starts a module, by its index (Core Specification 3.0, Validation, Modules,
+    /// Start Function). The range has the offsets of the section's first byte and of the one behind
+    /// it, in bytes from the start of the input.
+    ///
+    /// # Errors
+    ///
+    /// Refused, at the section's start, where no module is being read or its code has started, which
+    /// changes nothing; and where there is no such function or it takes or gives something, and the
+    /// validator has then failed. It takes no memory.
     pub fn start_section(&mut self, function: u32, range: &Range<u64>) -> Result<(), Error<A>>
         ensures moves { Moves result (after_start self.old function) self.old self.new }
         ensures place { IfErr result (λ e. offset_of e ≡ range.now.start) }
+        ensures content { IfErr result IsContent }
+        ensures told { IfErr result (TellsWithin (TellsStart range.now.start function) range.now.start self.old.stage) }
     {
         match opened(&mut self.state, range.start) {
             Ok(state) => {
@@ -481,12 +576,22 @@ impl<A: Allocator + Copy> Validator<A> {
         }
     }
 
-    /// The element segments of a module. A section that has any is not served yet.
+    /// The element segments of a module (Core Specification 3.0, Validation, Modules, Element
+    /// Segments). A section that has any is not served yet.
+    ///
+    /// # Errors
+    ///
+    /// Refused, at the section's start, where no module is being read or its code has started, which changes
+    /// nothing. In a module refused, at the section's start, where it has any, and behind
+    /// the count where it has none and bytes follow; the validator has then failed. It takes no memory.
     pub fn element_section<'a>(
         &mut self,
         section: &SectionLimited<'a, Element<'a>, A>,
     ) -> Result<(), Error<A>>
-        ensures { Moves result (after_section self.old 9 (count_of section.now) (bytes_of section.now)) self.old self.new }
+        ensures moves { Moves result (after_section self.old 9 (count_of section.now) (bytes_of section.now)) self.old self.new }
+        ensures place { IfErr result (StandsBetween (section_start section.now) (section_end section.now)) }
+        ensures content { IfErr result IsContent }
+        ensures told { IfErr result (TellsWithin (TellsUnserved section.now Unserved.ElementSection) (section_start section.now) self.old.stage) }
     {
         self.answered(
             section.range().start,
@@ -494,10 +599,20 @@ impl<A: Allocator + Copy> Validator<A> {
         )
     }
 
-    /// The number of data segments that the data section is to have.
+    /// The number of data segments that the data section is to have (Core Specification 3.0, Binary
+    /// Format, Modules, Data Count Section). The range has the offsets of the section's first byte and
+    /// of the one behind it, in bytes from the start of the input.
+    ///
+    /// # Errors
+    ///
+    /// Refused, at the section's start, where no module is being read or its code has started, which
+    /// changes nothing; and without `BULK_MEMORY` and where there would be too many, and the validator
+    /// has then failed. It takes no memory.
     pub fn data_count_section(&mut self, count: u32, range: &Range<u64>) -> Result<(), Error<A>>
         ensures moves { Moves result (after_data_count self.old count) self.old self.new }
         ensures place { IfErr result (λ e. offset_of e ≡ range.now.start) }
+        ensures content { IfErr result IsContent }
+        ensures told { IfErr result (TellsWithin (TellsDataCount self.old.features range.now.start count) range.now.start self.old.stage) }
     {
         match opened(&mut self.state, range.start) {
             Ok(state) => {
@@ -508,10 +623,19 @@ impl<A: Allocator + Copy> Validator<A> {
         }
     }
 
-    /// The start of the code section.
+    /// The start of the code section, with the offsets of its first byte and of the one behind it, in
+    /// bytes from the start of the input (Core Specification 3.0, Binary Format, Modules, Code
+    /// Section).
+    ///
+    /// # Errors
+    ///
+    /// Refused, at the section's start, where no module is being read or its code has started, which
+    /// changes nothing. It takes no memory.
     pub fn code_section_start(&mut self, range: &Range<u64>) -> Result<(), Error<A>>
         ensures moves { Moves result (after_code_start self.old) self.old self.new }
         ensures place { IfErr result (λ e. offset_of e ≡ range.now.start) }
+        ensures content { IfErr result IsContent }
+        ensures told { IfErr result (TellsOrder range.now.start self.old.stage) }
     {
         match opened(&mut self.state, range.start) {
             Ok(state) => {
@@ -522,12 +646,18 @@ impl<A: Allocator + Copy> Validator<A> {
         }
     }
 
-    /// The body of a function. Bodies are not served yet. One that comes where none may is refused for
-    /// that, which changes nothing.
+    /// The body of a function (Core Specification 3.0, Validation, Modules, Functions). Bodies are not
+    /// served yet.
+    ///
+    /// # Errors
+    ///
+    /// Refused always, at the body's first byte: where none may come for that, which changes nothing,
+    /// and else as not served, and the validator has then failed. It takes no memory.
     pub fn code_section_entry(&mut self, body: &FunctionBody<'_>) -> Result<(), Error<A>>
         ensures moves { Leaves result None (body_refused_at self.old.stage) self.old self.new }
         ensures content { IfErr result IsContent }
         ensures refused { IsErr result }
+        ensures told { IfErr result (λ e. e ≡ Error.Refused (plain (body_told self.old.stage) (original (body_reader body.now) + position_in (body_reader body.now)))) }
     {
         let fault = match &self.state {
             State::Module(_) => Fault::OutOfOrder(OutOfOrder::CodeEntryBeforeCodeStart),
@@ -546,12 +676,22 @@ impl<A: Allocator + Copy> Validator<A> {
         Err(Error::Refused(Refusal::new(fault, body.range().start)))
     }
 
-    /// The data segments of a module. A section that has any is not served yet.
+    /// The data segments of a module (Core Specification 3.0, Validation, Modules, Data Segments). A
+    /// section that has any is not served yet.
+    ///
+    /// # Errors
+    ///
+    /// Refused, at the section's start, where no module is being read, which changes
+    /// nothing. In a module refused, at the section's start, where it has any, and behind
+    /// the count where it has none and bytes follow; the validator has then failed. It takes no memory.
     pub fn data_section<'a>(
         &mut self,
         section: &SectionLimited<'a, Data<'a>, A>,
     ) -> Result<(), Error<A>>
-        ensures { Leaves result (after_section self.old 11 (count_of section.now) (bytes_of section.now)) (read_refused_at self.old.stage) self.old self.new }
+        ensures moves { Leaves result (after_section self.old 11 (count_of section.now) (bytes_of section.now)) (read_refused_at self.old.stage) self.old self.new }
+        ensures place { IfErr result (StandsBetween (section_start section.now) (section_end section.now)) }
+        ensures content { IfErr result IsContent }
+        ensures told { IfErr result (TellsReading (TellsUnserved section.now Unserved.DataSection) (section_start section.now) self.old.stage) }
     {
         if !matches!(self.state, State::Module(_) | State::Code(_)) {
             let fault = Fault::OutOfOrder(out_of_order(&self.state));
@@ -566,7 +706,13 @@ impl<A: Allocator + Copy> Validator<A> {
         }
     }
 
-    /// A section of an id that the standard does not know, which is refused and changes nothing.
+    /// A section of an id that the standard does not know, with the offsets of its first byte and of
+    /// the one behind it, in bytes from the start of the input (Core Specification 3.0, Binary Format,
+    /// Modules, Sections).
+    ///
+    /// # Errors
+    ///
+    /// Refused always, at its start, which changes nothing.
     pub fn unknown_section(&mut self, id: u8, range: &Range<u64>) -> Result<(), Error<A>>
         ensures moves { Leaves result None self.old.stage self.old self.new }
         ensures refusal { IfErr result (λ e. e ≡ Error.Refused (record { fault = Fault.UnknownSection id; offset = range.now.start; missing = None })) }
@@ -575,12 +721,20 @@ impl<A: Allocator + Copy> Validator<A> {
         Err(Error::Refused(Refusal::new(Fault::UnknownSection(id), range.start)))
     }
 
-    /// The end of a module at this offset, with its types.
+    /// The end of a module at this offset, in bytes from the start of the input, with its types (Core
+    /// Specification 3.0, Validation, Modules).
+    ///
+    /// # Errors
+    ///
+    /// Refused, at the offset, where no module is being read; a validator that has seen no module
+    /// stands then as behind an end. In a module it is refused memory alone, and has then failed.
     pub fn end(&mut self, offset: u64) -> Result<Types<A>, Error<A>>
         ensures moves { Leaves result (after_end self.old) (ended_at self.old.stage) self.old self.new }
         ensures place { IfErr result (λ e. IsContent e → offset_of e ≡ offset) }
         ensures shown { IfOk result (Show self.old) }
         ensures held { IfOk result (λ t. HoldsIds (shown_of t)) }
+        ensures content { shown_at self.old.stage ≡ None → IfErr result IsContent }
+        ensures told { IfErr result (OfContent (λ e. e ≡ Error.Refused (plain (Fault.OutOfOrder (end_order_told self.old.stage)) offset))) }
     {
         match closing(&mut self.state) {
             Ok(state) => match finished(self.id, self.alloc, &mut self.types, state) {

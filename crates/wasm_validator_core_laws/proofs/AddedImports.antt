@@ -29,10 +29,11 @@ use Rattle.wasm_validator_core.specs.Items.{function_size, entity_size, grown, w
 use Rattle.wasm_validator_core_laws.specs.Shown.{entity_in, listed_table, listed_global, spaces_of}
 use Rattle.wasm_validator_core_laws.specs.Lists.{only_types, only_imports, add_imports}
 use Rattle.wasm_validator_core_laws.specs.Laws.{AreValidImports, ImportsAreAdded}
+use Rattle.wasm_validator_core_laws.specs.Imports.{KeepsLimits, RoomIn, FitsImport, with_kind, with_entry, OneImportIsAdded}
 use Rattle.wasm_validator_core_laws.proofs.Steps.{if_map, passed, law_of_verdict}
 use Rattle.wasm_validator_core_laws.proofs.Fronts.{All-front, All-last}
 use Rattle.wasm_validator_core_laws.proofs.Sizes.{valid_typed, entity_size_is}
-use Rattle.wasm_validator_core_laws.proofs.Rooms.{HasRoom, has_room, room_decided}
+use Rattle.wasm_validator_core_laws.proofs.Rooms.{has_room, room_decided}
 use Rattle.wasm_validator_core_laws.proofs.ImportRows.{rows-push}
 
 plus_zero : (n : ℕ) → n + 0 ≡ n
@@ -70,18 +71,6 @@ entity_is s (table_extern t) = ap table_extern (map_table-map (canonical_index s
 entity_is s (memory_extern m) = refl
 entity_is s (global_extern g) = ap global_extern (map_global-map (canonical_index s.types) written g)
 entity_is s (tag_extern x) = refl
-
--- an import at the end of its index space
-abbrev with_kind : Spaces → Extern ℕ → Spaces
-with_kind s x = record s {
-  functions = s.functions ++ functions_in x;
-  imported_functions = s.imported_functions ++ exact_in x;
-  tables = s.tables ++ map (listed_table s.types) (tables_in x);
-  memories = s.memories ++ memories_in x;
-  globals = s.globals ++ map (listed_global s.types) (globals_in x);
-  imported_globals = s.imported_globals + length (globals_in x);
-  tags = s.tags ++ tags_in x;
-}
 
 module _ (F : Features) (s : Spaces) where
   abbrev room_in : Extern ℕ → Bool
@@ -149,8 +138,8 @@ module _ (F : Features) (us : List DefType) (ids : List ℕ) (types : List DefTy
   type_of i = i.ty
 
   -- an import, with its names and size
-  abbrev with_entry : Spaces → Import ℕ → Spaces
-  with_entry s i = record (with_kind s i.ty) { imports = with_import s.imports i.module_name i.item_name (entity_in ids i.ty); size = s.size + extern_size types i.ty }
+  abbrev entered : Spaces → Import ℕ → Spaces
+  entered s i = with_entry ids types s i
 
   size_more : (done : List (Import ℕ)) (i : Import ℕ) → sum (map (import_size types) (done ++ i ∷ [])) ≡ sum (map (import_size types) done) + extern_size types i.ty
   size_more done i =
@@ -161,7 +150,7 @@ module _ (F : Features) (us : List DefType) (ids : List ℕ) (types : List DefTy
   size_moved a b c e = omega (arith, e)
 
   -- this is the state of the imports with one more
-  entry_is : (done : List (Import ℕ)) (i : Import ℕ) → with_entry (state done) i ≡ state (done ++ i ∷ [])
+  entry_is : (done : List (Import ℕ)) (i : Import ℕ) → entered (state done) i ≡ state (done ++ i ∷ [])
   entry_is done i = λ j. record {
     types = ids;
     functions = before_none functions_in done i j;
@@ -178,7 +167,7 @@ module _ (F : Features) (us : List DefType) (ids : List ℕ) (types : List DefTy
 
   -- the names and the size of an import in its index space
   named_verdict : (s : Spaces) → s.types ≡ ids → (i : Import ℕ) → IsValidImport F types i
-      → Verdict (s.size + extern_size types i.ty < 1000000) (with_named us (map_import written i) (machine.entity s (machine.listed s (map_extern written i.ty))) (with_kind s i.ty)) (with_entry s i)
+      → Verdict (s.size + extern_size types i.ty < 1000000) (with_named us (map_import written i) (machine.entity s (machine.listed s (map_extern written i.ty))) (with_kind s i.ty)) (entered s i)
   named_verdict s same i valid =
       let more : ℕ = extern_size types i.ty in
       let entry : Entity → ℕ → Spaces = λ e size. record (with_kind s i.ty) { imports = with_import s.imports i.module_name i.item_name e; size = size } in
@@ -186,33 +175,33 @@ module _ (F : Features) (us : List DefType) (ids : List ℕ) (types : List DefTy
       verdict_of
       _
       _
-      (with_entry s i)
+      (entered s i)
       ((λ j. option_map (entry (is j)) (grown s.size (entity_size us (is j))))
       ∙ ap (λ n. option_map (entry (entity_in ids i.ty)) (grown s.size n)) (entity_size_is (canonical F) us ids types stand i.ty (valid_typed F types i.ty valid))
       ∙ if_map (entry (entity_in ids i.ty)) (ltb (s.size + more) 1000000) (s.size + more))
-      (passed (ltb (s.size + more) 1000000) (with_entry s i) (Decides-ltb (s.size + more) 1000000))
+      (passed (ltb (s.size + more) 1000000) (entered s i) (Decides-ltb (s.size + more) 1000000))
 
   -- an import fits behind others
-  abbrev RoomIn : Spaces → Extern ℕ → Type 0
-  RoomIn s x = HasRoom F (length s.functions) (length s.tables) (length s.memories) (length s.globals) (length s.tags) x
+  abbrev Room : Spaces → Extern ℕ → Type 0
+  Room s x = RoomIn F s x
 
   abbrev Fits : Spaces → Import ℕ → Type 0
-  Fits s i = IsValidImport F types i × (RoomIn s i.ty × (s.size + extern_size types i.ty < 1000000))
+  Fits s i = FitsImport F types s i
 
-  step_verdict : (s : Spaces) → s.types ≡ ids → (i : Import ℕ) → Decides (room_in F s i.ty) (RoomIn s i.ty) → Verdict (Fits s i) (add_import F us s (map_import written i)) (with_entry s i)
+  step_verdict : (s : Spaces) → s.types ≡ ids → (i : Import ℕ) → Decides (room_in F s i.ty) (Room s i.ty) → Verdict (Fits s i) (add_import F us s (map_import written i)) (entered s i)
   step_verdict s same i room =
       let x = i.ty in
       let entity = machine.entity s (machine.listed s (map_extern written x)) in
       let decided : Decides (is_importable F (types_at us s.types) (map_extern written x)) (IsValidImport F types i) =
       subst (λ js. Decides (is_importable F (types_at us js) (map_extern written x)) (IsValidImport F types i)) (sym same) (externs_are_decided F (canonical F) us ids types stand x) in
-      let placed : Verdict (RoomIn s x) (with_imported F s (machine.listed s (map_extern written x))) (with_kind s x) =
+      let placed : Verdict (Room s x) (with_imported F s (machine.listed s (map_extern written x))) (with_kind s x) =
       verdict_of _ _ (with_kind s x) (imported_is F s x) (passed (room_in F s x) (with_kind s x) room) in
       if_verdict
       (is_importable F (types_at us s.types) (map_extern written x))
       (option_and_then (with_named us (map_import written i) entity) (with_imported F s (machine.listed s (map_extern written x))))
-      (with_entry s i)
+      (entered s i)
       decided
-      (λ valid. then_verdict (with_imported F s (machine.listed s (map_extern written x))) (with_kind s x) (with_named us (map_import written i) entity) (with_entry s i) placed (λ r. named_verdict s same i valid))
+      (λ valid. then_verdict (with_imported F s (machine.listed s (map_extern written x))) (with_kind s x) (with_named us (map_import written i) entity) (entered s i) placed (λ r. named_verdict s same i valid))
 
   abbrev Valid : List (Import ℕ) → Type 0
   Valid is = AreValidImports F types is
@@ -293,7 +282,7 @@ module _ (F : Features) (us : List DefType) (ids : List ℕ) (types : List DefTy
       let size : (1 + (size_of done + 0)) + extern_size types i.ty < 1000000 = h.1.1 in
       let sizes = size_more done i in
       let small : 1 + (size_of (done ++ i ∷ []) + 0) < 1000000 = omega (arith, size, sizes) in
-      let room : RoomIn (state done) i.ty = h.1.0 in
+      let room : Room (state done) i.ty = h.1.0 in
       let functions = room.few_functions in
       let tables = room.few_tables in
       let memories = room.few_memories in
@@ -319,7 +308,7 @@ module _ (F : Features) (us : List DefType) (ids : List ℕ) (types : List DefTy
         few_tags = omega (arith, tags, e, es);
       }
 
-  room_behind : (done : List (Import ℕ)) (x : Extern ℕ) → Valid done → Decides (room_in F (state done) x) (RoomIn (state done) x)
+  room_behind : (done : List (Import ℕ)) (x : Extern ℕ) → Valid done → Decides (room_in F (state done) x) (Room (state done) x)
   room_behind done x v =
       let s = state done in
       let functions = v.few_functions in
@@ -349,8 +338,8 @@ module _ (F : Features) (us : List DefType) (ids : List ℕ) (types : List DefTy
   one_added : (done : List (Import ℕ)) (i : Import ℕ) → Valid done → Verdict (Valid (done ++ i ∷ [])) (add_import F us (state done) (map_import written i)) (state (done ++ i ∷ []))
   one_added done i v =
       let o = add_import F us (state done) (map_import written i) in
-      verdict_to o (with_entry (state done) i) (state (done ++ i ∷ [])) (entry_is done i)
-      (verdict_as o (with_entry (state done) i) (fitting_valid done i v) (valid_fits done i) (step_verdict (state done) refl i (room_behind done i.ty v)))
+      verdict_to o (entered (state done) i) (state (done ++ i ∷ [])) (entry_is done i)
+      (verdict_as o (entered (state done) i) (fitting_valid done i v) (valid_fits done i) (step_verdict (state done) refl i (room_behind done i.ty v)))
 
   -- imports behind valid ones
   pub all_added : (is done : List (Import ℕ)) → Valid done → Verdict (Valid (done ++ is)) (add_imports F us (state done) is) (state (done ++ is))
@@ -380,3 +369,9 @@ pub imports_are_added : ImportsAreAdded
 imports_are_added F us ids types stand is t =
     law_of_verdict (add_imports F us (only_types ids) is) (spaces_of F types ids (only_imports is))
     (all_added F us ids types stand is [] (none_valid F us ids types stand)) t
+
+-- one behind any lists
+pub one_import_is_added : OneImportIsAdded
+one_import_is_added F us ids types stand s same few i t =
+    let room = room_decided F (length s.functions) (length s.tables) (length s.memories) (length s.globals) (length s.tags) few.few_functions few.few_tables few.few_memories few.few_globals few.few_tags i.ty in
+    law_of_verdict (add_import F us s (map_import written i)) (with_entry ids types s i) (step_verdict F us ids types stand s same i room) t

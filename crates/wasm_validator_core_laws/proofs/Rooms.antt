@@ -4,16 +4,8 @@ use Rattle.std.specs.Bool.{Decides}
 use Rattle.std.proofs.lemmas.Bool.{leb-true, le-leb}
 use Rattle.wasm_spec.specs.Syntax.{Extern, func_extern, func_exact_extern, table_extern, memory_extern, global_extern, tag_extern}
 use Rattle.wasm_spec.specs.Features.{Features}
-use Rattle.wasm_rules.specs.IndexSpaces.{functions_in, tables_in, memories_in, globals_in, tags_in}
 use Rattle.wasm_rules.specs.Limits.{most_tables, most_memories}
-
--- so many of each kind, with an external type, keep their limits
-pub record HasRoom (F : Features) (functions tables memories globals tags : ℕ) (x : Extern ℕ) : Type 0 where
-  pub few_functions : functions + length (functions_in x) ≤ 1000000
-  pub few_tables : tables + length (tables_in x) ≤ most_tables F
-  pub few_memories : memories + length (memories_in x) ≤ most_memories F
-  pub few_globals : globals + length (globals_in x) ≤ 1000000
-  pub few_tags : tags + length (tags_in x) ≤ 1000000
+use Rattle.wasm_validator_core_laws.specs.Imports.{HasRoom}
 
 module _ (F : Features) (functions tables memories globals tags : ℕ) where
   abbrev Room : Extern ℕ → Type 0

@@ -1,3 +1,4 @@
 pub mod Shown
 pub mod Lists
 pub mod Laws
+pub mod Imports

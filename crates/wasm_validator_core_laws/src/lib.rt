@@ -1,13 +1,15 @@
 //! The lists of a module, added item by item, keep the rules of whole lists.
 #![tactic(auto)]
 
+ghost use Rattle.wasm_validator_core_laws.specs.Imports.{OneImportIsAdded};
 ghost use Rattle.wasm_validator_core_laws.specs.Laws.{ImportsAreAdded, FunctionsAreAdded, TablesAreAdded, MemoriesAreAdded, TagsAreAdded, ExportsAreAdded, ValidListsAreAdded, StartsAreDecided};
 
 /// Imports, added one after another to the state of a module whose types stand in the list of types,
 /// are accepted exactly where they are valid, and the state then shows them (Core Specification 3.0,
-/// Validation, Modules, Imports).
+/// Validation, Modules, Imports). One import is, behind any lists, exactly where it is valid and fits.
 pub fn imports_are_added()
-    ensures { ImportsAreAdded }
+    ensures all { ImportsAreAdded }
+    ensures one { OneImportIsAdded }
 {}
 
 /// The same of the functions, tables, memories and tags that are defined, behind imports (Core

@@ -1,5 +1,9 @@
+use Rattle.wasm_validator.proofs.ImportsAdded.{imports_add}
 use Rattle.wasm_validator.proofs.SectionLaws.{functions_add, tables_add, memories_add, tags_add}
 use Rattle.wasm_validator.proofs.sections_add_their_items.Goals as goal
+
+pub returns-clause-imports : goal.returns-clause-imports
+returns-clause-imports c = imports_add
 
 pub returns-clause-functions : goal.returns-clause-functions
 returns-clause-functions c = functions_add

@@ -1,4 +1,4 @@
-use Rattle.std.proofs.Common.{sym, subst}
+use Rattle.std.proofs.Common.{ap, ◌∙◌, sym, subst}
 use Rattle.wasm_readers.specs.SectionsSeen.{count_of, bytes_of}
 use Rattle.wasm_validator_types.specs.Shown.{types_of}
 use Rattle.wasm_validator_core.specs.Answers.{HasValidTypes}
@@ -10,6 +10,16 @@ use Rattle.wasm_validator.specs.Standing.{Standing, Moves}
 use Rattle.wasm_validator.specs.States.{stage_of, after_section}
 use Rattle.wasm_validator.proofs.SectionMoves.{adds_beside, section_moves}
 use Rattle.wasm_validator.proofs.Sections.{open-ids, open-valid, kept-ids, kept-valid}
+use Rattle.wasm_readers.specs.SectionsSeen.{section_start, section_end}
+use Rattle.wasm_readers_errors.specs.declared.features.WasmFeatures.{WasmFeatures}
+use Rattle.wasm_validator_types.specs.Spaces.{Spaces}
+use Rattle.wasm_validator_core.specs.declared.error.Error.{Error}
+use Rattle.wasm_validator_core.specs.Answers.{Types}
+use Rattle.wasm_readers_errors.specs.Refusals.{plain}
+use Rattle.wasm_readers_errors.specs.declared.error.Fault.TheVariants as fault
+use Rattle.wasm_validator.specs.States.{order_at}
+use Rattle.wasm_validator.specs.SectionsTold.{TellsImports}
+use Rattle.wasm_validator.proofs.ToldMoves.{told_within, order_within}
 use Rattle.wasm_validator.proofs.validator.Validator.import_section.Goals as goal
 
 pub add_imports-added-requires : goal.add_imports-added-requires
@@ -29,8 +39,8 @@ invariant_of-self g c =
       valid = subst (AreValidIn features list) (sym c.kept.ensures.kept) (kept-valid list (record { «module» = added.new.opened }) features added.result valid);
     }
 
-pub returns-in-Ok : goal.returns-in-Ok
-returns-in-Ok g c =
+pub returns-in-Ok-clause-moves : goal.returns-in-Ok-clause-moves
+returns-in-Ok-clause-moves g c =
     let id = c.self.inside.id in
     let features = c.self.inside.features in
     let added = c.add_imports-added in
@@ -43,3 +53,13 @@ returns-in-Ok g c =
     (section_moves id features types before (λ g. section_items g 2 count bytes) c.self.inside.state added.result types (record { «module» = added.new.opened }) c.args.self.now new
     c.in-Ok.ensures.ok c.self.view_is (λ i. record { id = id; features = features; stage = stage_of types (sym c.kept.ensures.kept i) })
     (adds_beside (HasValidTypes features) types added.result (other_items (features_of features) types 2 count bytes before) added.new.opened added.ensures.added))
+
+pub returns-in-Ok-clause-told : goal.returns-in-Ok-clause-told
+returns-in-Ok-clause-told g c =
+    let tells : WasmFeatures → Types → Spaces → Error g.row.A.Denot → Type 0 = λ (f : WasmFeatures) (us : Types) (m : Spaces) (e : Error g.row.A.Denot). TellsImports f c.args.section.now us m e in
+    told_within c.self.inside.id c.self.inside.features (types_of c.self.inside.types) c.self.inside.state c.in-Ok.state.«module» tells (section_start c.args.section.now) c.args.self.now c.add_imports-added.result c.kept.result c.in-Ok.ensures.ok c.self.view_is c.kept.ensures.same c.add_imports-added.ensures.told
+
+pub returns-in-Err-clause-told : goal.returns-in-Err-clause-told
+returns-in-Err-clause-told g c =
+    let tells : WasmFeatures → Types → Spaces → Error g.row.A.Denot → Type 0 = λ (f : WasmFeatures) (us : Types) (m : Spaces) (e : Error g.row.A.Denot). TellsImports f c.args.section.now us m e in
+    order_within c.self.inside.id c.self.inside.features (types_of c.self.inside.types) c.self.inside.state tells (section_start c.args.section.now) c.args.self.now c.in-Err.refusal c.in-Err.ensures.none c.self.view_is (c.in-Err.ensures.refusal ∙ ap (λ place. plain (fault.OutOfOrder (order_at c.self.inside.state)) place) c.range.ensures.start)

@@ -1,4 +1,18 @@
-use Rattle.std.proofs.Common.{◌≡◌, ap, sym, subst, ◌∙◌, true}
+use Rattle.std.proofs.Common.{◌≡◌, ap, sym, subst, ◌∙◌, Bool, true}
+use Rattle.std.specs.Prelude.{IfErr}
+use Rattle.wasm_readers.specs.SectionsSeen.{section_start}
+use Rattle.wasm_readers_errors.specs.Refusals.{plain, lacking}
+use Rattle.wasm_readers_errors.specs.declared.error.Fault.TheVariants as fault
+use Rattle.wasm_readers_errors.specs.declared.error.Rule.TheVariants.{Exceptions}
+use Rattle.wasm_readers_errors.specs.declared.features.WasmFeatures.{WasmFeatures}
+use Rattle.wasm_readers_errors.specs.declared.features.TheConstants.WasmFeatures.{EXCEPTIONS}
+use Rattle.wasm_validator_types.specs.Spaces.{Spaces}
+use Rattle.wasm_validator_core.specs.declared.error.Error.{Error}
+use Rattle.wasm_validator_core.specs.declared.error.Error.TheVariants.{Refused}
+use Rattle.wasm_validator_core.specs.Answers.{Types}
+use Rattle.wasm_validator.specs.States.{order_at}
+use Rattle.wasm_validator.specs.SectionsTold.{OfContent, Either, TellsWithin, TellsTags}
+use Rattle.wasm_validator.proofs.ToldMoves.{told_within, order_within}
 use Rattle.wasm_readers.specs.SectionsSeen.{count_of, bytes_of}
 use Rattle.wasm_validator_types.specs.Shown.{types_of}
 use Rattle.wasm_validator_core.specs.Answers.{HasValidTypes}
@@ -29,8 +43,8 @@ invariant_of-self-in-Ok g c =
       valid = subst (AreValidIn features list) (sym c.kept.ensures.kept) (kept-valid list (record { «module» = added.new.opened }) features added.result valid);
     }
 
-pub returns-in-Ok : goal.returns-in-Ok
-returns-in-Ok g c =
+pub returns-in-Ok-clause-moves : goal.returns-in-Ok-clause-moves
+returns-in-Ok-clause-moves g c =
     let id = c.self.inside.id in
     let features = c.self.inside.features in
     let added = c.add_tags-added in
@@ -45,3 +59,22 @@ returns-in-Ok g c =
     (section_moves id features types before (λ g. section_items g 13 count bytes) c.self.inside.state added.result types (record { «module» = added.new.opened }) c.args.self.now new
     c.in-Ok.ensures.ok c.self.view_is (λ i. record { id = id; features = features; stage = stage_of types (sym c.kept.ensures.kept i) })
     (adds_beside (HasValidTypes features) types added.result (other_items (features_of features) types 13 count bytes before) added.new.opened added.ensures.added)))
+
+pub returns-in-Ok-clause-told : goal.returns-in-Ok-clause-told
+returns-in-Ok-clause-told g c =
+    let start = section_start c.args.section.now in
+    let old = c.args.self.now in
+    let tells : WasmFeatures → Types → Spaces → Error g.row.A.Denot → Type 0 = λ (f : WasmFeatures) (us : Types) (m : Spaces) (e : Error g.row.A.Denot). TellsTags f c.args.section.now us m e in
+    let on : (features_of old.features).exceptions ≡ true = ap (λ (s : Standing). (features_of s.features).exceptions) (sym c.self.view_is) ∙ (sym (c.contains.ensures tt) ∙ c.if-not-contains.false) in
+    subst (λ (b : Bool). IfErr c.kept.result (OfContent (λ (e : Error g.row.A.Denot). Either b (TellsWithin (tells old.features) start old.stage e) (e ≡ Refused (lacking EXCEPTIONS (fault.Rule Exceptions) start))))) (sym on)
+    (told_within c.self.inside.id c.self.inside.features (types_of c.self.inside.types) c.self.inside.state c.in-Ok.state.«module» tells start old c.add_tags-added.result c.kept.result c.in-Ok.ensures.ok c.self.view_is c.kept.ensures.same c.add_tags-added.ensures.told)
+
+pub returns-in-Err-clause-told : goal.returns-in-Err-clause-told
+returns-in-Err-clause-told g c =
+    let start = section_start c.args.section.now in
+    let old = c.args.self.now in
+    let tells : WasmFeatures → Types → Spaces → Error g.row.A.Denot → Type 0 = λ (f : WasmFeatures) (us : Types) (m : Spaces) (e : Error g.row.A.Denot). TellsTags f c.args.section.now us m e in
+    let refused : Error g.row.A.Denot = Refused c.in-Err.refusal in
+    let on : (features_of old.features).exceptions ≡ true = ap (λ (s : Standing). (features_of s.features).exceptions) (sym c.self.view_is) ∙ (sym (c.contains.ensures tt) ∙ c.if-not-contains.false) in
+    subst (λ (b : Bool). Either b (TellsWithin (tells old.features) start old.stage refused) (refused ≡ Refused (lacking EXCEPTIONS (fault.Rule Exceptions) start))) (sym on)
+    (order_within c.self.inside.id c.self.inside.features (types_of c.self.inside.types) c.self.inside.state tells start old c.in-Err.refusal c.in-Err.ensures.none c.self.view_is (c.in-Err.ensures.refusal ∙ ap (λ place. plain (fault.OutOfOrder (order_at c.self.inside.state)) place) c.range-offset.ensures.start))

@@ -1,0 +1,130 @@
+-- What a section tells, by where the validator stands.
+use Rattle.std.proofs.Common.{◌≡◌, sym, ap, subst, ◌∙◌, ℕ, ◌≤◌, Bool, true, false, cond, eqb, Option, Some, None, arith}
+use Rattle.std.specs.Prelude.{IfErr, is_ok}
+use Rattle.std.specs.Result.{IsErrAnd}
+use Rattle.std.specs.declared.result.Result.{Result}
+use Rattle.std.specs.declared.result.Result.TheVariants as results
+use Rattle.wasm_readers_errors.specs.Refusals.{plain, refused}
+use Rattle.wasm_readers_errors.specs.declared.error.Fault.{Fault}
+use Rattle.wasm_readers_errors.specs.declared.error.Fault.TheVariants as fault
+use Rattle.wasm_readers_errors.specs.declared.error.Malformed.TheVariants.{SectionSize}
+use Rattle.wasm_readers_errors.specs.declared.error.Refusal.{Refusal}
+use Rattle.wasm_readers_errors.specs.declared.error.Unserved.{Unserved}
+use Rattle.wasm_readers_errors.specs.declared.features.WasmFeatures.{WasmFeatures}
+use Rattle.wasm_readers.specs.SectionsSeen.{count_of, section_start, section_end, first_item_at}
+use Rattle.wasm_readers.specs.declared.section_limited.SectionLimited.{SectionLimited}
+use Rattle.wasm_validator_types.specs.Spaces.{Spaces}
+use Rattle.wasm_validator_core.specs.declared.error.Error.{Error}
+use Rattle.wasm_validator_core.specs.declared.error.Error.TheVariants.{Refused, DuplicateExport, OutOfMemory}
+use Rattle.wasm_validator_core.specs.Answers.{Types}
+use Rattle.wasm_validator.specs.declared.validator.State.{State}
+use Rattle.wasm_validator.specs.declared.validator.State.TheVariants.{Unparsed, Module, Code, End, Failed}
+use Rattle.wasm_validator.specs.Standing.{Stage, unparsed, in_module, in_code, ended, failed, Standing}
+use Rattle.wasm_validator.specs.States.{open_of, stage_of, order_at}
+use Rattle.wasm_validator.specs.SectionsTold.{OfContent, StandsBetween, TellsAt, TellsWithin, TellsUnserved, refusal_of_items, order_told}
+
+-- a module is being read, before the start of its code
+open_stage : {A : Type 0} (types : Types) (s : State A) (m : Spaces) → open_of s ≡ Some m → stage_of types s ≡ in_module types m
+open_stage types (Module n) m o = let same : n.«module» ≡ m = cc in ap (λ x. in_module types x) same
+open_stage types (Code n) m o = absurd (cc)
+open_stage types Unparsed m o = absurd (cc)
+open_stage types End m o = absurd (cc)
+open_stage types Failed m o = absurd (cc)
+
+-- elsewhere the order is told
+order_stage : {A : Type 0} (types : Types) (s : State A) (tells : Types → Spaces → Error A → Type 0) (place : ℕ) (r : Refusal) → open_of s ≡ None → r ≡ plain (fault.OutOfOrder (order_at s)) place → TellsWithin tells place (stage_of types s) (Refused r)
+order_stage types (Module n) tells place r o e = absurd (cc)
+order_stage types (Code n) tells place r o e = ap Refused e
+order_stage types Unparsed tells place r o e = ap Refused e
+order_stage types End tells place r o e = ap Refused e
+order_stage types Failed tells place r o e = ap Refused e
+
+module _ {A : Type 0} (id : ℕ) (features : WasmFeatures) (types : Types) (s : State A) where
+  abbrev here : Standing
+  here = record { id = id; features = features; stage = stage_of types s }
+
+  -- where a module is being read, what its lists say is told
+  error_told : (m : Spaces) (tells : WasmFeatures → Types → Spaces → Error A → Type 0) (place : ℕ) (old : Standing) (e : Error A) → open_of s ≡ Some m → here ≡ old
+      → OfContent (tells features types m) e → OfContent (TellsWithin (tells old.features) place old.stage) e
+  error_told m tells place old e o was h =
+      let opened : stage_of types s ≡ in_module types m = open_stage types s m o in
+      let start : Standing = record { id = id; features = features; stage = in_module types m } in
+      let same : start ≡ old = (λ i. record { id = id; features = features; stage = sym opened i }) ∙ was in
+      subst (λ (w : Standing). OfContent (TellsWithin (tells w.features) place w.stage) e) same h
+
+  pub told_within : {T : Type 0} (m : Spaces) (tells : WasmFeatures → Types → Spaces → Error A → Type 0) (place : ℕ) (old : Standing) (r q : Result T (Error A)) → open_of s ≡ Some m → here ≡ old → q ≡ r
+      → IfErr r (OfContent (tells features types m)) → IfErr q (OfContent (TellsWithin (tells old.features) place old.stage))
+  told_within m tells place old (results.Ok x) q o was same h = subst (λ w. IfErr w (OfContent (TellsWithin (tells old.features) place old.stage))) (sym same) h
+  told_within m tells place old (results.Err e) q o was same h = subst (λ w. IfErr w (OfContent (TellsWithin (tells old.features) place old.stage))) (sym same) (error_told m tells place old e o was h)
+
+  -- where none is, or its code has started, the order is told
+  pub order_within : (tells : WasmFeatures → Types → Spaces → Error A → Type 0) (place : ℕ) (old : Standing) (r : Refusal) → open_of s ≡ None → here ≡ old → r ≡ plain (fault.OutOfOrder (order_at s)) place
+      → TellsWithin (tells old.features) place old.stage (Refused r)
+  order_within tells place old r o was e = subst (λ (w : Standing). TellsWithin (tells w.features) place w.stage (Refused r)) was (order_stage types s (tells features) place r o e)
+
+  -- the same of what is told of any error
+  any_told : (m : Spaces) (tells : WasmFeatures → Types → Spaces → Error A → Type 0) (place : ℕ) (old : Standing) (e : Error A) → open_of s ≡ Some m → here ≡ old
+      → tells features types m e → TellsWithin (tells old.features) place old.stage e
+  any_told m tells place old e o was h =
+      let opened : stage_of types s ≡ in_module types m = open_stage types s m o in
+      let start : Standing = record { id = id; features = features; stage = in_module types m } in
+      let same : start ≡ old = (λ i. record { id = id; features = features; stage = sym opened i }) ∙ was in
+      subst (λ (w : Standing). TellsWithin (tells w.features) place w.stage e) same h
+
+  pub all_told_within : {T : Type 0} (m : Spaces) (tells : WasmFeatures → Types → Spaces → Error A → Type 0) (place : ℕ) (old : Standing) (r q : Result T (Error A)) → open_of s ≡ Some m → here ≡ old → q ≡ r
+      → IfErr r (tells features types m) → IfErr q (TellsWithin (tells old.features) place old.stage)
+  all_told_within m tells place old (results.Ok x) q o was same h = subst (λ w. IfErr w (TellsWithin (tells old.features) place old.stage)) (sym same) h
+  all_told_within m tells place old (results.Err e) q o was same h = subst (λ w. IfErr w (TellsWithin (tells old.features) place old.stage)) (sym same) (any_told m tells place old e o was h)
+
+module _ {A : Type 0} where
+  -- what a check of a module tells, as the answer of a section
+  pub checked_told : {T U : Type 0} (answer : Result T Refusal) (result : Result U (Error A)) (told : Option Refusal) (place : ℕ) → is_ok result ≡ is_ok answer → IfErr answer (λ r. IfErr result (λ e. e ≡ Refused r))
+      → refused answer ≡ told → IfErr answer (λ r. r.offset ≡ place) → IfErr result (TellsAt place told)
+  checked_told answer (results.Ok x) told place same is tells at = tt
+  checked_told (results.Ok y) (results.Err e) told place same is tells at = absurd (cc)
+  checked_told (results.Err r) (results.Err e) told place same is tells at = subst (TellsAt place told) (sym is) (sym tells, at)
+
+  -- what is told within a module, for another reason
+  within_map : (tells tells' : Types → Spaces → Error A → Type 0) (place : ℕ) (g : Stage) (e : Error A) → ((us : Types) (m : Spaces) → tells us m e → tells' us m e) → TellsWithin tells place g e → TellsWithin tells' place g e
+  within_map tells tells' place (unparsed us) e f h = h
+  within_map tells tells' place (in_module us m) e f h = f us m h
+  within_map tells tells' place (in_code us m) e f h = h
+  within_map tells tells' place (ended us) e f h = h
+  within_map tells tells' place failed e f h = h
+
+  unserved_is : {T : Type 0} (answer : Result T Refusal) (x : Refusal) (e : Error A) → IfErr answer (λ r. r ≡ x) → IsErrAnd answer (λ r. e ≡ Refused r) → e ≡ Refused x
+  unserved_is (results.Ok y) x e is h = absurd h
+  unserved_is (results.Err r) x e is h = h ∙ ap Refused is
+
+  module _ {T B : Type 0} (section : SectionLimited T B) (what : Unserved) (place : ℕ) (g : Stage) where
+    -- a section that isn't served
+    pub unserved_told : {U V : Type 0} (answer : Result U Refusal) (result : Result V (Error A)) → IfErr answer (λ r. r ≡ refusal_of_items section what)
+        → IfErr result (TellsWithin (λ us m e. IsErrAnd answer (λ r. e ≡ Refused r)) place g) → IfErr result (TellsWithin (TellsUnserved section what) place g)
+    unserved_told answer (results.Ok x) is h = tt
+    unserved_told answer (results.Err e) is h =
+        within_map (λ us m w. IsErrAnd answer (λ r. w ≡ Refused r)) (TellsUnserved section what) place g e (λ us m w. unserved_is answer (refusal_of_items section what) e is w) h
+
+-- where one of two refusals stands
+either_between : {A : Type 0} (e : Error A) (from to first start : ℕ) (a b : Fault) (is : Bool) → e ≡ Refused (cond is (plain a first) (plain b start)) → from ≤ first → first ≤ to → from ≤ start → start ≤ to → StandsBetween from to e
+either_between e from to first start a b true is h i j k = subst (StandsBetween from to) (sym is) (h, i)
+either_between e from to first start a b false is h i j k = subst (StandsBetween from to) (sym is) (j, k)
+
+module _ {A T B : Type 0} (section : SectionLimited T B) (what : Unserved) (inside : first_item_at section ≤ section_end section) where
+  abbrev Between : Error A → Type 0
+  Between e = StandsBetween (section_start section) (section_end section) e
+
+  at_start : (e : Error A) (f : Fault) → e ≡ Refused (plain f (section_start section)) → Between e
+  at_start e f is = subst (StandsBetween (section_start section) (section_end section)) (sym is) (omega arith, omega (arith, inside))
+
+  place_of_told : (g : Stage) (e : Error A) → TellsWithin (TellsUnserved section what) (section_start section) g e → Between e
+  place_of_told (unparsed us) e h = at_start e (fault.OutOfOrder (order_told (unparsed us))) h
+  place_of_told (in_module us m) e h =
+      either_between e (section_start section) (section_end section) (first_item_at section) (section_start section) (fault.Malformed SectionSize) (fault.NotServed what) (eqb (count_of section) 0) h (omega arith) inside (omega arith) (omega (arith, inside))
+  place_of_told (in_code us m) e h = at_start e (fault.OutOfOrder (order_told (in_code us m))) h
+  place_of_told (ended us) e h = at_start e (fault.OutOfOrder (order_told (ended us))) h
+  place_of_told failed e h = at_start e (fault.OutOfOrder (order_told failed)) h
+
+  -- where the refusal of a section stands that isn't served
+  pub unserved_place : {V : Type 0} (g : Stage) (result : Result V (Error A)) → IfErr result (TellsWithin (TellsUnserved section what) (section_start section) g) → IfErr result (λ e. StandsBetween (section_start section) (section_end section) e)
+  unserved_place g (results.Ok x) h = tt
+  unserved_place g (results.Err e) h = place_of_told g e h
