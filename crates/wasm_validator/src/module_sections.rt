@@ -3,7 +3,7 @@
 ghost use Rattle.std.specs.Prelude.{◌≡◌, ◌==◌, ◌&&◌, OnOk, IfErr, IsTrue, is_ok, length, None};
 ghost use Rattle.wasm_rules.specs.FeatureFlags.{features_of};
 ghost use Rattle.wasm_readers.specs.SectionsSeen.{count_of, bytes_of, first_item_at, section_start};
-ghost use Rattle.wasm_validator_types.specs.Shown.{types_of};
+ghost use Rattle.wasm_validator_type_list.specs.DefTypes.{types_of_list};
 ghost use Rattle.wasm_validator_canonical.specs.Groups.{AreValid};
 ghost use Rattle.wasm_validator_core.specs.Answers.{Adds, AddsWhere, HasValidTypes};
 ghost use Rattle.wasm_validator_core.specs.Ready.{IsOpenFor, AreHeld, AreIdsOf};
@@ -33,9 +33,9 @@ pub fn add_types<'a, A: Allocator + Copy>(
 ) -> Result<(), Error<A>>
     requires open { IsOpenFor features list.old }
     requires ids { AreIdsOf list.old opened.old.types }
-    requires valid { AreValid (features_of features) (types_of list.old) }
-    ensures added { AddsWhere (HasValidTypes features) result (type_items features (count_of section.now) (bytes_of section.now) (types_of list.old, opened.old)) (types_of list.new, opened.new) }
-    ensures valid { OnOk result (AreValid (features_of features) (types_of list.new)) }
+    requires valid { AreValid (features_of features) (types_of_list list.old) }
+    ensures added { AddsWhere (HasValidTypes features) result (type_items features (count_of section.now) (bytes_of section.now) (types_of_list list.old, opened.old)) (types_of_list list.new, opened.new) }
+    ensures valid { OnOk result (AreValid (features_of features) (types_of_list list.new)) }
     ensures open { IsOpenFor features list.new }
     ensures ids { OnOk result (AreIdsOf list.new opened.new.types) }
 {
@@ -64,7 +64,7 @@ pub fn add_imports<'a, A: Allocator + Copy>(
     section: &SectionLimited<'a, Import<'a>, A>,
 ) -> Result<(), Error<A>>
     requires { AreHeld list.now opened.old.types }
-    ensures added { Adds result (import_items (features_of features) (types_of list.now) (count_of section.now) (bytes_of section.now) opened.old) opened.new }
+    ensures added { Adds result (import_items (features_of features) (types_of_list list.now) (count_of section.now) (bytes_of section.now) opened.old) opened.new }
     ensures types { opened.new.types ≡ opened.old.types }
 {
     check_max(
@@ -88,7 +88,7 @@ pub fn add_functions<A: Allocator + Copy>(
     section: &SectionLimited<'_, u32, A>,
 ) -> Result<(), Error<A>>
     requires { AreHeld list.now opened.old.types }
-    ensures added { Adds result (function_items (types_of list.now) (count_of section.now) (bytes_of section.now) opened.old) opened.new }
+    ensures added { Adds result (function_items (types_of_list list.now) (count_of section.now) (bytes_of section.now) opened.old) opened.new }
     ensures types { opened.new.types ≡ opened.old.types }
 {
     check_max(
@@ -113,7 +113,7 @@ pub fn add_tables<'a, A: Allocator + Copy>(
     section: &SectionLimited<'a, Table<'a>, A>,
 ) -> Result<(), Error<A>>
     requires { AreHeld list.now opened.old.«module».types }
-    ensures added { Adds result (table_items (features_of features) (types_of list.now) (count_of section.now) (bytes_of section.now) opened.old.«module») opened.new.«module» }
+    ensures added { Adds result (table_items (features_of features) (types_of_list list.now) (count_of section.now) (bytes_of section.now) opened.old.«module») opened.new.«module» }
     ensures types { opened.new.«module».types ≡ opened.old.«module».types }
 {
     check_max(
@@ -141,7 +141,7 @@ fn add_table_head<A: Allocator + Copy>(
     offset: u64,
 ) -> Result<(), Error<A>>
     requires { AreHeld list.now opened.old.«module».types }
-    ensures added { Adds result (add_table_head (features_of features) (types_of list.now) opened.old.«module» (head_of head)) opened.new.«module» }
+    ensures added { Adds result (add_table_head (features_of features) (types_of_list list.now) opened.old.«module» (head_of head)) opened.new.«module» }
     ensures types { opened.new.«module».types ≡ opened.old.«module».types }
 {
     if head.has_init {
@@ -183,7 +183,7 @@ pub fn add_tags<A: Allocator + Copy>(
 ) -> Result<(), Error<A>>
     requires held { AreHeld list.now opened.old.types }
     requires exceptions { IsTrue (features_of features).exceptions }
-    ensures added { Adds result (tag_items (features_of features) (types_of list.now) (count_of section.now) (bytes_of section.now) opened.old) opened.new }
+    ensures added { Adds result (tag_items (features_of features) (types_of_list list.now) (count_of section.now) (bytes_of section.now) opened.old) opened.new }
     ensures types { opened.new.types ≡ opened.old.types }
 {
     check_max(
@@ -208,7 +208,7 @@ pub fn add_exports<'a, A: Allocator + Copy>(
     opened: &mut Module<A>,
     section: &SectionLimited<'a, Export<'a>, A>,
 ) -> Result<(), Error<A>>
-    ensures added { Adds result (export_items (features_of features) (types_of list.now) (count_of section.now) (bytes_of section.now) opened.old) opened.new }
+    ensures added { Adds result (export_items (features_of features) (types_of_list list.now) (count_of section.now) (bytes_of section.now) opened.old) opened.new }
     ensures types { opened.new.types ≡ opened.old.types }
 {
     check_max(
@@ -234,7 +234,7 @@ fn add_one_export<A: Allocator + Copy>(
     export: &Export,
     offset: u64,
 ) -> Result<(), Error<A>>
-    ensures added { Adds result (add_export (features_of features) (types_of list.now) opened.old (export_of export.now)) opened.new }
+    ensures added { Adds result (add_export (features_of features) (types_of_list list.now) opened.old (export_of export.now)) opened.new }
     ensures types { opened.new.types ≡ opened.old.types }
 {
     opened.add_export(features, alloc, list, export, offset)

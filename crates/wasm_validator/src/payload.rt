@@ -1,4 +1,5 @@
 ghost use Rattle.std.specs.Prelude.{◌≡◌, IfOk};
+ghost use Rattle.wasm_readers_errors.specs.declared.features.TheConstants.WasmFeatures.{STANDARD};
 ghost use Rattle.wasm_parser.specs.Seen.{seen};
 ghost use Rattle.wasm_validator_types.specs.Shown.{shown_of, HoldsIds};
 ghost use Rattle.wasm_validator.specs.Standing.{Leaves};
@@ -134,7 +135,7 @@ pub fn validate<A: Allocator + Copy>(
     bytes: &[u8],
     id: ValidatorId,
 ) -> Result<Types<A>, Error<A>>
-    ensures decided { DecidesAlone result bytes.now id (record { 0 = 32703 }) }
+    ensures decided { DecidesAlone result bytes.now id STANDARD }
     ensures held { IfOk result (λ t. HoldsIds (shown_of t)) }
 {
     Validator::new(alloc, id).validate_all(bytes)

@@ -1,6 +1,6 @@
 use Rattle.std.proofs.Common.{sym, subst}
 use Rattle.wasm_readers.specs.SectionsSeen.{count_of, bytes_of}
-use Rattle.wasm_validator_types.specs.Shown.{types_of}
+use Rattle.wasm_validator_type_list.specs.DefTypes.{types_of_list}
 use Rattle.wasm_validator_core.specs.Answers.{HasValidTypes}
 use Rattle.wasm_validator_core.specs.Ready.{AreIdsOf}
 use Rattle.wasm_rules.specs.FeatureFlags.{features_of}
@@ -33,7 +33,7 @@ returns-in-Ok g c =
     let added = c.add_exports-added in
     let count = count_of c.args.section.now in
     let bytes = bytes_of c.args.section.now in
-    let types = types_of c.self.inside.types in
+    let types = types_of_list c.self.inside.types in
     let before = c.in-Ok.state.«module» in
     let new : Standing = record { id = id; features = features; stage = stage_of types c.kept.new.state } in
     subst (λ r. Moves r (after_section c.args.self.now 7 count bytes) c.args.self.now new) (sym c.kept.ensures.same)

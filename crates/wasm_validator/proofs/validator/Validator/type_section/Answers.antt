@@ -1,6 +1,6 @@
 use Rattle.std.proofs.Common.{sym, subst}
 use Rattle.wasm_readers.specs.SectionsSeen.{count_of, bytes_of}
-use Rattle.wasm_validator_types.specs.Shown.{types_of}
+use Rattle.wasm_validator_type_list.specs.DefTypes.{types_of_list}
 use Rattle.wasm_validator.specs.Machine.{section_items}
 use Rattle.wasm_validator.specs.Standing.{Standing, Moves}
 use Rattle.wasm_validator.specs.States.{stage_of, after_section}
@@ -21,8 +21,8 @@ returns-in-Ok g c =
     let added = c.add_types-added in
     let count = count_of c.args.section.now in
     let bytes = bytes_of c.args.section.now in
-    let types = types_of added.new.list in
+    let types = types_of_list added.new.list in
     let new : Standing = record { id = id; features = features; stage = stage_of types c.kept.new.state } in
     subst (λ r. Moves r (after_section c.args.self.now 1 count bytes) c.args.self.now new) (sym c.kept.ensures.same)
-    (section_moves id features (types_of c.self.inside.types) c.in-Ok.state.«module» (λ g. section_items g 1 count bytes) c.self.inside.state added.result types (record { «module» = added.new.opened }) c.args.self.now new
+    (section_moves id features (types_of_list c.self.inside.types) c.in-Ok.state.«module» (λ g. section_items g 1 count bytes) c.self.inside.state added.result types (record { «module» = added.new.opened }) c.args.self.now new
     c.in-Ok.ensures.ok c.self.view_is (λ i. record { id = id; features = features; stage = stage_of types (sym c.kept.ensures.kept i) }) added.ensures.added)
