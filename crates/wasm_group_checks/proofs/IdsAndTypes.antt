@@ -18,12 +18,12 @@ use Rattle.wasm_readers_types.specs.declared.types.SubType.{SubType}
 use Rattle.wasm_grouped_list.specs.Groups.{first_of}
 use Rattle.wasm_validator_type_list.specs.Listable.{IsKnown, AreListable}
 use Rattle.wasm_validator_type_list.specs.Lookups.{leads_to}
-use Rattle.wasm_validator_type_list.specs.Standing.{standing, listed_sub, listed_group, tree_behind}
+use Rattle.wasm_validator_type_list.specs.DefTypes.{def_types, listed_sub, listed_group, tree_behind}
 use Rattle.wasm_validator_type_list.specs.Declares.{sub_by_ids, declares}
 use Rattle.wasm_validator_type_list.specs.Laws.{type_of_id}
 use Rattle.wasm_validator_type_list.proofs.Declares.{declared_by}
 use Rattle.wasm_validator_type_list.proofs.Lookups.{first_of-next}
-use Rattle.wasm_validator_type_list.proofs.Standing.{first_of-within, length-standing}
+use Rattle.wasm_validator_type_list.proofs.DefTypes.{first_of-within, length-def_types}
 use Rattle.wasm_validator_type_list.proofs.Joined.{types_declare_what_ids_declare}
 use Rattle.wasm_validator_type_list.proofs.Order.{ids_are_ordered_as_types, ids_match_as_types}
 use Rattle.wasm_group_checks.specs.Laws.{IdsKeepRulesAsTypes, GroupsKeepRulesAsTypes, SubTypesMatchAsTypes}
@@ -51,35 +51,35 @@ all_led start count end (r ∷ rs) h k =
 
 module _ {A : Type 0} (gs : List (List (SubType A))) (listable : AreListable gs) where
   -- what an id declares refers to ids of the list
-  closed : (c : Bool) (i : ℕ) (s : Sub ℕ) → declares gs i ≡ Some s → All (λ j. j < length (standing c gs)) (refs_sub s)
-  closed c i s e =
+  inside : (c : Bool) (i : ℕ) (s : Sub ℕ) → declares gs i ≡ Some s → All (λ j. j < length (def_types c gs)) (refs_sub s)
+  inside c i s e =
       let d = declared_by gs i s e in
       let start = first_of gs d.group in
       let count = length d.members in
-      let l : start + count ≤ length (standing c gs) = omega (arith, first_of-next gs d.group d.members d.there, first_of-within gs (d.group + 1), length-standing c gs) in
+      let l : start + count ≤ length (def_types c gs) = omega (arith, first_of-next gs d.group d.members d.there, first_of-within gs (d.group + 1), length-def_types c gs) in
       let at : All (IsKnown start count) (refs_sub (sub_of (get_or d.members d.position d.ty))) = (listable d.group d.members d.there).known d.position d.ty (slice_get_within d.members d.position d.ty d.member) in
       let known : All (IsKnown start count) (refs_sub (sub_of d.ty)) = subst (λ (t : SubType A). All (IsKnown start count) (refs_sub (sub_of t))) (get_or_from_slice_get d.members d.position d.ty d.ty d.member) at in
       let z : 0 + start ≡ start = omega arith in
       let says : sub_by_ids start d.ty ≡ s = ap (λ n. sub_by_ids n d.ty) (sym z) ∙ d.says in
-      subst (λ (t : Sub ℕ). All (λ j. j < length (standing c gs)) (refs_sub t)) says
-      (subst (λ is. All (λ j. j < length (standing c gs)) is) (sym (refs_sub-map (leads_to start) (sub_of d.ty))) (all_led start count (length (standing c gs)) (refs_sub (sub_of d.ty)) l known))
+      subst (λ (t : Sub ℕ). All (λ j. j < length (def_types c gs)) (refs_sub t)) says
+      (subst (λ is. All (λ j. j < length (def_types c gs)) is) (sym (refs_sub-map (leads_to start) (sub_of d.ty))) (all_led start count (length (def_types c gs)) (refs_sub (sub_of d.ty)) l known))
 
 pub ids_keep_rules_as_types : {A : Type 0} → IdsKeepRulesAsTypes A
 ids_keep_rules_as_types F c gs listable one id d there =
-    let ts = standing c gs in
+    let ts = def_types c gs in
     subst (λ x. IsValidType F (declares gs) id ↔ IsValidType F declared x) (get_or_from_slice_get ts id d d there)
     (valid_match (declares gs) declared (type_of_id ts d) (λ i. i < length ts)
     (λ i l. types_declare_what_ids_declare c gs d listable i (type_of_id ts d i) (slice_get-get_or ts i d l))
     (λ v w x y. ids_match_as_types c gs d listable one v w x y)
     (λ a b l m. ids_are_ordered_as_types c gs d listable one a b l m)
     (λ i j l m e. one.one_id i j (type_of_id ts d i) (slice_get-get_or ts i d l) (slice_get-get_or ts j d m ∙ ap Some (sym e)))
-    (λ i s e. closed gs listable c i s e)
+    (λ i s e. inside gs listable c i s e)
     F id (slice_get_within ts id d there))
 
 -- the members of a group of a list are as many in its recursive type
 length-members : {A : Type 0} (c : Bool) (hs : List (List (SubType A))) (g : List (SubType A)) → length (members (tree_behind c hs g)) ≡ length g
 length-members c hs g =
-    let ts = standing c hs in
+    let ts = def_types c hs in
     let subs = map (map_sub (resolve_listed ts)) (listed_group g) in
     ap length (members-close (start_unless c (length ts)) subs) ∙ length-map (listed_group g) (map_sub (resolve_listed ts)) ∙ length-map g listed_sub
 
@@ -103,7 +103,7 @@ groups_keep_rules_as_types F c gs hs listable one k g there stand =
 
 pub sub_types_match_as_types : {A : Type 0} → SubTypesMatchAsTypes A
 sub_types_match_as_types c gs other listable one s t x y =
-    let ts = standing c gs in
+    let ts = def_types c gs in
     sub_match (declares gs) declared (type_of_id ts other) (λ i. i < length ts)
     (λ i l. types_declare_what_ids_declare c gs other listable i (type_of_id ts other i) (slice_get-get_or ts i other l))
     (λ v w h k. ids_match_as_types c gs other listable one v w h k)

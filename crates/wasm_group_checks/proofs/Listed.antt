@@ -24,7 +24,7 @@ use Rattle.wasm_validator_type_list.specs.Grouped.{leads_in, IsKnownIn, AreIn}
 use Rattle.wasm_validator_type_list.proofs.Lookups.{group_found, member_at, first_of-next}
 use Rattle.wasm_validator_type_list.proofs.Declares.{declares-at, supertype_read, descends}
 use Rattle.wasm_validator_type_list.proofs.Grouped.{all-left, all-right}
-use Rattle.wasm_validator_type_list.proofs.Standing.{first_of-within}
+use Rattle.wasm_validator_type_list.proofs.DefTypes.{first_of-within}
 use Rattle.wasm_validator_type_list.proofs.Matches.{at_place}
 use Rattle.wasm_group_checks.proofs.Rules.{SupertypeDeclares}
 use Rattle.wasm_group_checks.specs.Listed.{numbered, IsIn, leads_packed, IsListed}

@@ -23,10 +23,10 @@ module _ {S : Type 0} (D : ℕ → Option (Sub ℕ)) (E : S → Option (Sub S)) 
     (vals : (v w : Val ℕ) → All IsHere (refs_val v) → All IsHere (refs_val w) → MatchesVal D v w ↔ MatchesVal E (map_val at v) (map_val at w))
     (ordered : (a b : ℕ) → IsHere a → IsHere b → IsAncestor D a b ↔ IsAncestor E (at a) (at b))
     (apart : (i j : ℕ) → IsHere i → IsHere j → at i ≡ at j → i ≡ j)
-    (closed : (i : ℕ) (s : Sub ℕ) → D i ≡ Some s → All IsHere (refs_sub s)) where
+    (inside : (i : ℕ) (s : Sub ℕ) → D i ≡ Some s → All IsHere (refs_sub s)) where
   -- what a type refers to is here
   behind_supers : (i : ℕ) (s : Sub ℕ) → D i ≡ Some s → All IsHere (refs_option s.describes ++ (refs_option s.descriptor ++ refs_comp s.comp))
-  behind_supers i s e = all-right IsHere s.supers (refs_option s.describes ++ (refs_option s.descriptor ++ refs_comp s.comp)) (closed i s e)
+  behind_supers i s e = all-right IsHere s.supers (refs_option s.describes ++ (refs_option s.descriptor ++ refs_comp s.comp)) (inside i s e)
 
   comp_here : (i : ℕ) (s : Sub ℕ) → D i ≡ Some s → All IsHere (refs_comp s.comp)
   comp_here i s e = all-right IsHere (refs_option s.descriptor) (refs_comp s.comp) (all-right IsHere (refs_option s.describes) (refs_option s.descriptor ++ refs_comp s.comp) (behind_supers i s e))
@@ -40,7 +40,7 @@ module _ {S : Type 0} (D : ℕ → Option (Sub ℕ)) (E : S → Option (Sub S)) 
   option_here (Some x) d h e = subst IsHere (same_Some x d e) (All-head IsHere x [] h)
 
   super_here : (i : ℕ) (s : Sub ℕ) → D i ≡ Some s → (b : ℕ) → supertype s ≡ Some b → IsHere b
-  super_here i s e b f = first_here s.supers b (all-left IsHere s.supers (refs_option s.describes ++ (refs_option s.descriptor ++ refs_comp s.comp)) (closed i s e)) f
+  super_here i s e b f = first_here s.supers b (all-left IsHere s.supers (refs_option s.describes ++ (refs_option s.descriptor ++ refs_comp s.comp)) (inside i s e)) f
 
   descriptor_here : (i : ℕ) (s : Sub ℕ) → D i ≡ Some s → (d : ℕ) → s.descriptor ≡ Some d → IsHere d
   descriptor_here i s e d f = option_here s.descriptor d (all-left IsHere (refs_option s.descriptor) (refs_comp s.comp) (all-right IsHere (refs_option s.describes) (refs_option s.descriptor ++ refs_comp s.comp) (behind_supers i s e))) f

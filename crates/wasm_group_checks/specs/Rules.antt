@@ -7,11 +7,12 @@ use Rattle.wasm_spec.specs.Features.{Features}
 use Rattle.wasm_spec.specs.Declared.{supertype, supertype_of, descriptor_of, described_by, ancestor_at}
 use Rattle.wasm_spec.specs.ValueTypes.{implies, allows_storage}
 use Rattle.wasm_spec.specs.Matching.{is_shared_storage}
-use Rattle.wasm_spec.specs.GroupRules.{storages, has_many_results, is_array, is_struct, is_cont, IsContinuationOfFunction, IsValidType}
+use Rattle.wasm_spec.specs.GroupRules.{storages, has_many_results, is_array, is_struct, is_cont, IsContinuationOfFunction, TypeRules, DescriptorRules, IsValidType}
+use Rattle.wasm_readers_types.specs.declared.types.CompositeInnerType.{CompositeInnerType}
 use Rattle.wasm_readers_types.specs.declared.types.SubType.{SubType}
 use Rattle.wasm_grouped_list.specs.Groups.{IsInGroup}
 use Rattle.wasm_validator_type_list.specs.Declares.{declares}
-use Rattle.wasm_validator_type_list.specs.Grouped.{MatchesDeclared}
+use Rattle.wasm_validator_type_list.specs.Grouped.{comp_in, MatchesDeclared}
 
 -- a declares something, and this holds of what it declares
 pub record Declares {R : Type 0} (D : R → Option (Sub R)) (a : R) (P : Sub R → Type 0) : Type 0 where
@@ -91,6 +92,25 @@ pub record ExtendsClauses {R : Type 0} (D : R → Option (Sub R)) (a b : R) : Ty
   pub descriptor_extends : ExtendsDescriptor D a b
   pub describes : DescribesLike D a b
   pub described_extends : ExtendsDescribed D a b
+
+-- What a extends, if it extends something, has clauses like it.
+abbrev pub ExtendsSupertypeClauses : {R : Type 0} → (R → Option (Sub R)) → R → Type 0
+ExtendsSupertypeClauses D a = IfSome (supertype_of D a) (ExtendsClauses D a)
+
+-- what a declares keeps the rules of its composite type, of what it extends and of its depth, and of its clauses
+module _ {R : Type 0} (F : Features) (D : R → Option (Sub R)) (a : R) where
+  abbrev pub KeepsCompositeRules : Type 0
+  KeepsCompositeRules = Declares D a (CompositeRules F D)
+
+  abbrev pub KeepsTypeRules : Type 0
+  KeepsTypeRules = Declares D a (TypeRules F D a)
+
+  abbrev pub KeepsDescriptorRules : Type 0
+  KeepsDescriptorRules = Declares D a (DescriptorRules F D a)
+
+-- all that is in a composite type of the k-th group may be shared
+abbrev pub are_members_shareable : {A : Type 0} → List (List (SubType A)) → ℕ → CompositeInnerType A → Bool
+are_members_shareable gs k c = list_all (is_shared_storage (declares gs)) (storages (comp_in gs k c))
 
 -- each type of the k-th group keeps its rules
 abbrev pub IsValidGroupAt : {A : Type 0} → Features → List (List (SubType A)) → ℕ → Type 0

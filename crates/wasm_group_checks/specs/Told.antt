@@ -40,6 +40,10 @@ pub data AtSome {X : Type 0} (A : X → Option Refusal → Type 0) : Option X �
   absent : AtSome A None None
   present : (x : X) (t : Option Refusal) → A x t → AtSome A (Some x) t
 
+-- a shared type has members that may be shared
+abbrev pub told_of_members : ℕ → Bool → Bool → Option Refusal
+told_of_members offset shared are_shareable = unless (implies shared are_shareable) (plain (Group SharedMembers) offset)
+
 module _ (features : WasmFeatures) (offset : ℕ) where
   abbrev pub told_of_extending : {R : Type 0} → Sub R → Option Refusal
   told_of_extending s = lack_if (not s.is_final || is_some (supertype s)) features GC (Group Subtypes) offset
@@ -107,7 +111,7 @@ module _ (features : WasmFeatures) (offset : ℕ) (D : ℕ → Option (Sub ℕ))
   told_before_continuation s =
       option_or (told_of_shared features offset s.shared)
       (option_or (told_of_comp features offset s.comp)
-      (unless (implies s.shared (list_all (is_shared_storage D) (storages s.comp))) (plain (Group SharedMembers) offset)))
+      (told_of_members offset s.shared (list_all (is_shared_storage D) (storages s.comp))))
 
   abbrev pub ToldOfComposite : ℕ → Option Refusal → Type 0
   ToldOfComposite a = AtSome (λ s. FirstOf (λ t. t ≡ told_before_continuation s) (ToldOfContinuation offset D s.comp)) (D a)

@@ -3,20 +3,19 @@
 ghost use Rattle.std.specs.Prelude.{◌≡◌, ◌<◌, ◌&&◌, length, is_ok, IsTrue};
 ghost use Rattle.std.specs.Bool.{Decides};
 ghost use Rattle.std.specs.List.{All, list_all};
-ghost use Rattle.wasm_spec.specs.Syntax.{map_heap, map_val, map_storage, map_comp};
 ghost use Rattle.wasm_spec.specs.References.{refs_heap, refs_val, refs_storage, refs_field, refs_comp};
 ghost use Rattle.wasm_spec.specs.Matching.{is_shared_type, is_shared_heap, is_shared_val, is_shared_storage};
 ghost use Rattle.wasm_spec.specs.ValueTypes.{implies};
-ghost use Rattle.wasm_spec.specs.GroupRules.{storages, is_func, IsFunction, IsContinuationOfFunction};
-ghost use Rattle.wasm_readers_errors.specs.Refusals.{unless, plain, refused};
+ghost use Rattle.wasm_spec.specs.GroupRules.{is_func, IsFunction, IsContinuationOfFunction};
+ghost use Rattle.wasm_readers_errors.specs.Refusals.{refused};
 ghost use Rattle.wasm_rules.specs.FeatureFlags.{features_of};
 ghost use Rattle.wasm_readers_types.specs.SeenValues.{heap_of, val_of, storage_of, field_of};
 ghost use Rattle.wasm_readers_types.specs.SeenTypes.{comp_of};
 ghost use Rattle.wasm_validator_type_list.specs.Listing.{types_in};
 ghost use Rattle.wasm_validator_type_list.specs.Declares.{declares};
-ghost use Rattle.wasm_validator_type_list.specs.Grouped.{leads_in, AreIn};
-ghost use Rattle.wasm_group_checks.specs.Rules.{Declares, CompositeRules};
-ghost use Rattle.wasm_group_checks.specs.Told.{told_of_shared, ToldOfContinuation, ToldOfComposite};
+ghost use Rattle.wasm_validator_type_list.specs.Grouped.{heap_in, val_in, storage_in, comp_in, AreIn};
+ghost use Rattle.wasm_group_checks.specs.Rules.{KeepsCompositeRules, are_members_shareable};
+ghost use Rattle.wasm_group_checks.specs.Told.{told_of_shared, told_of_members, ToldOfContinuation, ToldOfComposite};
 
 use crate::ids::{group_of, id_at};
 use std::alloc::Allocator;
@@ -57,7 +56,7 @@ fn is_heap_shared<A: Allocator + Copy>(
     heap: HeapType,
 ) -> bool
     requires { AreIn types.now.groups group.index (refs_heap (heap_of heap)) }
-    ensures { result ≡ is_shared_heap (declares types.now.groups) (map_heap (leads_in types.now.groups group.index) (heap_of heap)) }
+    ensures { result ≡ is_shared_heap (declares types.now.groups) (heap_in types.now.groups group.index heap) }
 {
     match heap {
         HeapType::Abstract { shared, .. } => shared,
@@ -69,7 +68,7 @@ fn is_heap_shared<A: Allocator + Copy>(
 /// Whether values of the type, which stands in the group, may be shared.
 fn is_shared<A: Allocator + Copy>(types: &TypeList<A>, group: RecGroupId, ty: ValType) -> bool
     requires { AreIn types.now.groups group.index (refs_val (val_of ty)) }
-    ensures { result ≡ is_shared_val (declares types.now.groups) (map_val (leads_in types.now.groups group.index) (val_of ty)) }
+    ensures { result ≡ is_shared_val (declares types.now.groups) (val_in types.now.groups group.index ty) }
 {
     match ty {
         ValType::Ref(reference) => is_heap_shared(types, group, reference.heap_type()),
@@ -84,7 +83,7 @@ fn is_stored_shared<A: Allocator + Copy>(
     ty: StorageType,
 ) -> bool
     requires { AreIn types.now.groups group.index (refs_storage (storage_of ty)) }
-    ensures { result ≡ is_shared_storage (declares types.now.groups) (map_storage (leads_in types.now.groups group.index) (storage_of ty)) }
+    ensures { result ≡ is_shared_storage (declares types.now.groups) (storage_in types.now.groups group.index ty) }
 {
     match ty {
         StorageType::Val(value) => is_shared(types, group, value),
@@ -99,7 +98,7 @@ fn are_shared<A: Allocator + Copy>(
     values: &[ValType],
 ) -> bool
     requires { All (λ v. AreIn types.now.groups group.index (refs_val (val_of v))) values.now }
-    ensures { result ≡ list_all (λ v. is_shared_val (declares types.now.groups) (map_val (leads_in types.now.groups group.index) (val_of v))) values.now }
+    ensures { result ≡ list_all (λ v. is_shared_val (declares types.now.groups) (val_in types.now.groups group.index v)) values.now }
 {
     'values: for i in 0..values.len() {
         if !is_shared(types, group, values[i]) {
@@ -116,7 +115,7 @@ fn are_fields_shared<A: Allocator + Copy>(
     fields: &[FieldType],
 ) -> bool
     requires { All (λ f. AreIn types.now.groups group.index (refs_field (field_of f))) fields.now }
-    ensures { result ≡ list_all (λ f. is_shared_storage (declares types.now.groups) (map_storage (leads_in types.now.groups group.index) (storage_of f.element_type))) fields.now }
+    ensures { result ≡ list_all (λ f. is_shared_storage (declares types.now.groups) (storage_in types.now.groups group.index f.element_type)) fields.now }
 {
     'fields: for i in 0..fields.len() {
         let field = fields[i];
@@ -134,7 +133,7 @@ fn are_members_shared<A: Allocator + Copy>(
     inner: &CompositeInnerType<A>,
 ) -> bool
     requires { AreIn types.now.groups group.index (refs_comp (comp_of inner.now)) }
-    ensures { result ≡ list_all (is_shared_storage (declares types.now.groups)) (storages (map_comp (leads_in types.now.groups group.index) (comp_of inner.now))) }
+    ensures { result ≡ are_members_shareable types.now.groups group.index inner.now }
 {
     match inner {
         CompositeInnerType::Func(signature) => {
@@ -174,8 +173,8 @@ fn check_continuation<A: Allocator + Copy>(
     offset: u64,
 ) -> Result<(), Refusal>
     requires { AreIn types.now.groups group.index (refs_comp (comp_of inner.now)) }
-    ensures decided { Decides (is_ok result) (IsContinuationOfFunction (declares types.now.groups) (map_comp (leads_in types.now.groups group.index) (comp_of inner.now))) }
-    ensures told { ToldOfContinuation offset (declares types.now.groups) (map_comp (leads_in types.now.groups group.index) (comp_of inner.now)) (refused result) }
+    ensures decided { Decides (is_ok result) (IsContinuationOfFunction (declares types.now.groups) (comp_in types.now.groups group.index inner.now)) }
+    ensures told { ToldOfContinuation offset (declares types.now.groups) (comp_in types.now.groups group.index inner.now) (refused result) }
 {
     match inner {
         CompositeInnerType::Cont(continuation) => {
@@ -197,8 +196,8 @@ fn check_members<A: Allocator + Copy>(
     offset: u64,
 ) -> Result<(), Refusal>
     requires { AreIn types.now.groups group.index (refs_comp (comp_of ty.now.inner)) }
-    ensures allowed { is_ok result ≡ implies ty.now.shared (list_all (is_shared_storage (declares types.now.groups)) (storages (map_comp (leads_in types.now.groups group.index) (comp_of ty.now.inner)))) }
-    ensures told { refused result ≡ unless (implies ty.now.shared (list_all (is_shared_storage (declares types.now.groups)) (storages (map_comp (leads_in types.now.groups group.index) (comp_of ty.now.inner))))) (plain (Fault.Group GroupRule.SharedMembers) offset) }
+    ensures allowed { is_ok result ≡ implies ty.now.shared (are_members_shareable types.now.groups group.index ty.now.inner) }
+    ensures told { refused result ≡ told_of_members offset ty.now.shared (are_members_shareable types.now.groups group.index ty.now.inner) }
 {
     if !ty.shared {
         return Ok(());
@@ -224,7 +223,7 @@ pub fn check_composite_type<A: Allocator + Copy>(
     offset: u64,
 ) -> Result<(), Refusal>
     requires { id.index < length (types_in types.now) }
-    ensures decided { Decides (is_ok result) (Declares (declares types.now.groups) id.index (CompositeRules (features_of features) (declares types.now.groups))) }
+    ensures decided { Decides (is_ok result) (KeepsCompositeRules (features_of features) (declares types.now.groups) id.index) }
     ensures told { ToldOfComposite features offset (declares types.now.groups) id.index (refused result) }
 {
     let group = group_of(types, id);

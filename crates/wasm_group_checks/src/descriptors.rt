@@ -3,13 +3,13 @@
 ghost use Rattle.std.specs.Prelude.{◌≡◌, ◌<◌, length, is_ok, IfErr, IfSome};
 ghost use Rattle.std.specs.Bool.{Decides};
 ghost use Rattle.wasm_spec.specs.Declared.{supertype_of};
-ghost use Rattle.wasm_spec.specs.GroupRules.{is_struct, DescriptorRules};
+ghost use Rattle.wasm_spec.specs.GroupRules.{is_struct};
 ghost use Rattle.wasm_readers_errors.specs.Refusals.{plain, refused};
 ghost use Rattle.wasm_rules.specs.FeatureFlags.{features_of};
 ghost use Rattle.wasm_readers_types.specs.SeenTypes.{comp_of, sub_of};
 ghost use Rattle.wasm_validator_type_list.specs.Listing.{types_in};
 ghost use Rattle.wasm_validator_type_list.specs.Declares.{declares};
-ghost use Rattle.wasm_group_checks.specs.Rules.{Declares, allows_clauses, HasSameFinality, HasDescriptorLike, DescribesLike, ExtendsDescriptor, ExtendsDescribed, ExtendsClauses, DescriptorDescribes, DescribedHasDescriptor, DescriptorHasSameFinality};
+ghost use Rattle.wasm_group_checks.specs.Rules.{KeepsDescriptorRules, allows_clauses, ExtendsSupertypeClauses, HasSameFinality, HasDescriptorLike, DescribesLike, ExtendsDescriptor, ExtendsDescribed, ExtendsClauses, DescriptorDescribes, DescribedHasDescriptor, DescriptorHasSameFinality};
 ghost use Rattle.wasm_group_checks.specs.Told.{told_of_clauses, unlike_descriptor, unlike_describes, ToldOfExtendedClauses, ToldOfSupertypeClauses, ToldOfDescriptors};
 
 use crate::ids::{are_same, described, descriptor, group_of, supertype};
@@ -168,7 +168,7 @@ fn check_supertype_clauses<A: Allocator + Copy>(
     offset: u64,
 ) -> Result<(), Refusal>
     requires { id.index < length (types_in types.now) }
-    ensures decided { Decides (is_ok result) (IfSome (supertype_of (declares types.now.groups) id.index) (ExtendsClauses (declares types.now.groups) id.index)) }
+    ensures decided { Decides (is_ok result) (ExtendsSupertypeClauses (declares types.now.groups) id.index) }
     ensures told { ToldOfSupertypeClauses offset (declares types.now.groups) id.index (refused result) }
 {
     match supertype(types, id) {
@@ -269,7 +269,7 @@ pub fn check_descriptors<A: Allocator + Copy>(
     offset: u64,
 ) -> Result<(), Refusal>
     requires { id.index < length (types_in types.now) }
-    ensures decided { Decides (is_ok result) (Declares (declares types.now.groups) id.index (DescriptorRules (features_of features) (declares types.now.groups) id.index)) }
+    ensures decided { Decides (is_ok result) (KeepsDescriptorRules (features_of features) (declares types.now.groups) id.index) }
     ensures told { ToldOfDescriptors features offset (declares types.now.groups) id.index (refused result) }
 {
     let _group = group_of(types, id);

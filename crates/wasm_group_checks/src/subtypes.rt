@@ -3,13 +3,12 @@
 ghost use Rattle.std.specs.Prelude.{◌≡◌, ◌<◌, length, is_ok, IfErr, IfSome};
 ghost use Rattle.std.specs.Bool.{Decides};
 ghost use Rattle.wasm_spec.specs.Declared.{supertype_of, IsDepth};
-ghost use Rattle.wasm_spec.specs.GroupRules.{TypeRules};
 ghost use Rattle.wasm_readers_errors.specs.Refusals.{plain, refused};
 ghost use Rattle.wasm_rules.specs.FeatureFlags.{features_of};
 ghost use Rattle.wasm_readers_types.specs.SeenTypes.{sub_of};
 ghost use Rattle.wasm_validator_type_list.specs.Listing.{types_in};
 ghost use Rattle.wasm_validator_type_list.specs.Declares.{declares};
-ghost use Rattle.wasm_group_checks.specs.Rules.{Declares, IsOpen, IsShallow, MayExtend, allows_extending};
+ghost use Rattle.wasm_group_checks.specs.Rules.{KeepsTypeRules, IsOpen, IsShallow, MayExtend, allows_extending};
 ghost use Rattle.wasm_group_checks.specs.Told.{told_of_extending, ToldOfExtended, ToldOfSupertype, ToldOfSubtype};
 
 use crate::composite_types::check_composite_type;
@@ -153,7 +152,7 @@ pub fn check_subtype<A: Allocator + Copy>(
     offset: u64,
 ) -> Result<(), Refusal>
     requires { id.index < length (types_in types.now) }
-    ensures decided { Decides (is_ok result) (Declares (declares types.now.groups) id.index (TypeRules (features_of features) (declares types.now.groups) id.index)) }
+    ensures decided { Decides (is_ok result) (KeepsTypeRules (features_of features) (declares types.now.groups) id.index) }
     ensures told { ToldOfSubtype features offset (declares types.now.groups) id.index (refused result) }
 {
     let _group = group_of(types, id);

@@ -21,11 +21,12 @@ use Rattle.wasm_validator_type_list.specs.Listing.{Listing, types_in}
 use Rattle.wasm_validator_type_list.specs.Lookups.{leads_to}
 use Rattle.wasm_validator_type_list.proofs.Joined.{types_declare_what_ids_declare}
 use Rattle.wasm_grouped_list.proofs.Places.{get-left, get-right, get-map, get-append}
-use Rattle.wasm_validator_type_list.proofs.Standing.{length-standing}
+use Rattle.wasm_validator_type_list.proofs.DefTypes.{length-def_types}
 use Rattle.wasm_validator_canonical.specs.Arities.{arity, type_arity}
 use Rattle.wasm_validator_canonical.specs.Groups.{nowhere}
 use Rattle.wasm_validator_canonical.specs.Indices.{numbers}
-use Rattle.wasm_item_checks.specs.ModuleTypes.{types_of_list, module_types, AreKnown, IsSubTypeAt, arity_at, func_arity}
+use Rattle.wasm_validator_type_list.specs.DefTypes.{types_of_list}
+use Rattle.wasm_item_checks.specs.ModuleTypes.{module_types, AreKnown, IsSubTypeAt, arity_at, func_arity}
 
 -- how many parameters and results a composite type has, whatever its references are
 abbrev comp_arity : {R : Type 0} → Comp R → Option (ℕ × ℕ)
@@ -78,7 +79,7 @@ module _ {A : Type 0} where
     declares_listed : AreListable list.groups → (n : ℕ) × (declared listed ≡ Some (map_sub (type_of_id (types_of_list list) nowhere) (sub_by_ids n ty)))
     declares_listed h =
         let us = types_of_list list in
-        let inside : id.index < length us = omega (arith, slice_get_within (types_in list) id.index ty there, length-standing list.is_canonical list.groups) in
+        let inside : id.index < length us = omega (arith, slice_get_within (types_in list) id.index ty there, length-def_types list.is_canonical list.groups) in
         let d = declares_at list.groups id.index ty there in
         (d.0, types_declare_what_ids_declare list.is_canonical list.groups nowhere h id.index listed (slice_get-get_or us id.index nowhere inside) ∙ ap (option_map (map_sub (type_of_id us nowhere))) d.1)
 
@@ -102,7 +103,7 @@ module _ {A : Type 0} where
 
   -- the list has a type under the id at each index
   pub known_listed : (list : Listing A) (ids : List CoreTypeId) → AreKnown list ids → (x : ℕ) (d : CoreTypeId) → x < length ids → (slice_index_or ids x d).index < length (types_in list)
-  known_listed list ids h x d l = omega (arith, h x d l, length-standing list.is_canonical list.groups)
+  known_listed list ids h x d l = omega (arith, h x d l, length-def_types list.is_canonical list.groups)
 
   pub sub_type_there : (list : Listing A) (ids : List CoreTypeId) (x : ℕ) (id : CoreTypeId) (ty : SubType A) → slice_get ids x ≡ Some id → id.index < length (types_in list) → ty ≡ slice_index_or (types_in list) id.index ty → IsSubTypeAt list ids x ty
   sub_type_there list ids x id ty at l e = record { id = id; at = at; there = slice_get_read (types_in list) (length (types_in list)) id.index ty refl l e }

@@ -9,16 +9,12 @@ use Rattle.wasm_readers_types.specs.declared.types.SubType.{SubType}
 use Rattle.wasm_readers_types.specs.declared.types.CompositeInnerType.{CompositeInnerType}
 use Rattle.wasm_readers_types.specs.declared.types.CompositeInnerType.TheVariants.{Func, Array, Struct, Cont}
 use Rattle.wasm_validator_type_list.specs.Listing.{Listing, types_in}
-use Rattle.wasm_validator_type_list.specs.Standing.{standing}
+use Rattle.wasm_validator_type_list.specs.DefTypes.{types_of_list}
 use Rattle.wasm_validator_canonical.specs.Arities.{type_arity}
 use Rattle.wasm_validator_canonical.specs.Groups.{types_at}
 use Rattle.wasm_validator_canonical.specs.Indices.{numbers}
 
 module _ {A : Type 0} where
-  -- all types of the list, in the order of their ids
-  abbrev pub types_of_list : Listing A → List DefType
-  types_of_list list = standing list.is_canonical list.groups
-
   -- the module's types, in the order of their indices
   abbrev pub module_types : Listing A → List CoreTypeId → List DefType
   module_types list ids = types_at (types_of_list list) (numbers ids)

@@ -62,6 +62,12 @@ module _ (offset : ℕ) where
 abbrev pub page_bytes : ℕ → ℕ
 page_bytes log = if log == 0 then 1 else 65536
 
+-- the pages of a memory, whose addresses have 64 bits or not and whose pages have so many bytes by their logarithm
+abbrev pub told_of_pages : ℕ → Bool → ℕ → ℕ → Option ℕ → Option Refusal
+told_of_pages offset is_64 log minimum maximum =
+    let most = most_of is_64 log in
+    told_of_sizes offset most minimum maximum (fault.MemorySize most (page_bytes log))
+
 module _ (features : WasmFeatures) (offset : ℕ) where
   -- for want of a proposal that an item needs
   abbrev pub lack_for_item : Bool → WasmFeatures → ItemRule → Option Refusal
@@ -96,12 +102,11 @@ module _ (features : WasmFeatures) (offset : ℕ) where
   abbrev pub told_of_memory : Memory → Option Refusal
   told_of_memory m =
       let log = log_of m.page_size_log2 in
-      let most = most_of m.is_64 log in
       option_or (told_of_limits offset m.minimum m.maximum)
       (option_or (lack_for_item m.is_64 MEMORY64 Memories64)
       (option_or (lack_for_item m.shared THREADS SharedMemories)
       (option_or (told_of_page m.page_size_log2)
-      (option_or (told_of_sizes offset most m.minimum m.maximum (fault.MemorySize most (page_bytes log)))
+      (option_or (told_of_pages offset m.is_64 log m.minimum m.maximum)
       (told_of_item offset SharedMemoryMaximum (implies m.shared (is_some m.maximum)))))))
 
   -- the results of a tag's type

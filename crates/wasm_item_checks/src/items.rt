@@ -9,7 +9,7 @@ ghost use Rattle.wasm_item_checks.specs.Answers.{IsRefusalAt, IsPlainRefusalAt};
 ghost use Rattle.wasm_item_checks.specs.ModuleTypes.{AreKnown, module_types};
 ghost use Rattle.wasm_item_checks.specs.Items.{is_funcref, is_allowed_element, is_allowed_content, are_at_most, is_allowed_page, log_of, most_of, is_valid_table, is_valid_defined_table, is_valid_memory, is_valid_tag, is_valid_global, is_movable_global, is_valid_extern};
 ghost use Rattle.wasm_readers_errors.specs.Refusals.{refused};
-ghost use Rattle.wasm_item_checks.specs.Told.{page_bytes, told_of_content, told_of_defined_table, told_of_element, told_of_extern, told_of_global, told_of_memory, told_of_movable, told_of_page, told_of_sizes, told_of_table, told_of_tag};
+ghost use Rattle.wasm_item_checks.specs.Told.{told_of_content, told_of_defined_table, told_of_element, told_of_extern, told_of_global, told_of_memory, told_of_movable, told_of_page, told_of_pages, told_of_sizes, told_of_table, told_of_tag};
 
 use crate::limits::{check_limits, check_sizes};
 use crate::module_types::{
@@ -197,7 +197,7 @@ fn check_pages(ty: MemoryType, log: u32, offset: u64) -> Result<(), Refusal>
     requires { IsTrue (log == 0 || log == 16) }
     ensures allowed { is_ok result ≡ are_at_most (most_of ty.memory64 log) ty.initial ty.maximum }
     ensures refusal { IfErr result (IsPlainRefusalAt offset) }
-    ensures told { refused result ≡ told_of_sizes offset (most_of ty.memory64 log) ty.initial ty.maximum (Fault.MemorySize (most_of ty.memory64 log) (page_bytes log)) }
+    ensures told { refused result ≡ told_of_pages offset ty.memory64 log ty.initial ty.maximum }
 {
     let pages = max_pages(ty.memory64, log);
     let page = if log == 0 { 1 } else { 0x1_0000 };

@@ -16,7 +16,7 @@ use Rattle.wasm_rules.proofs.Tests.{truth, when, unless, then_some}
 use Rattle.wasm_readers_errors.specs.declared.features.WasmFeatures.{WasmFeatures}
 use Rattle.wasm_validator_canonical.proofs.Canonical.{and_left, and_right}
 use Rattle.wasm_validator_types.specs.Spaces.{Spaces}
-use Rattle.wasm_validator_core.specs.Answers.{Types}
+use Rattle.wasm_validator_core.specs.Answers.{TypesSoFar}
 use Rattle.wasm_validator.specs.Machine.{no_items, type_items, import_items, function_items, table_items, memory_items, export_items, tag_items, other_items, section_items, beside}
 use Rattle.wasm_validator.specs.Served.{is_served_section, is_empty_section, is_served_piece}
 use Rattle.wasm_validator.proofs.ModuleRun.{either, step, is_item_piece, AreParts}
@@ -62,10 +62,10 @@ empty_id id n bytes e = (
 )
 
 -- no items are added
-none_added : (n : ℕ) (bytes : List ℕ) (p : Types × Spaces) → IsEmpty n bytes ≡ true → beside (λ us. no_items n bytes) p ≡ Some p
+none_added : (n : ℕ) (bytes : List ℕ) (p : TypesSoFar × Spaces) → IsEmpty n bytes ≡ true → beside (λ us. no_items n bytes) p ≡ Some p
 none_added n bytes p e = ap (option_and_then (λ (s : Spaces). Some (p.0, s))) (when (IsEmpty n bytes) (Some p.1) None e)
 
-empty_section : (features : WasmFeatures) (id n : ℕ) (bytes : List ℕ) (p : Types × Spaces) → is_empty_section id n bytes ≡ true → section_items features id n bytes p ≡ Some p
+empty_section : (features : WasmFeatures) (id n : ℕ) (bytes : List ℕ) (p : TypesSoFar × Spaces) → is_empty_section id n bytes ≡ true → section_items features id n bytes p ≡ Some p
 empty_section features id n bytes p e =
     let h = empty_id id n bytes e in
     let P : ℕ → Type 0 = λ k. section_items features k n bytes p ≡ Some p in
@@ -79,7 +79,7 @@ empty_section features id n bytes p e =
     ]
 
 -- such a piece changes nothing
-empty_step : (features : WasmFeatures) (p : Types × Spaces) (x : Piece) → has_no_items x ≡ true → step features p x ≡ Some p
+empty_step : (features : WasmFeatures) (p : TypesSoFar × Spaces) (x : Piece) → has_no_items x ≡ true → step features p x ≡ Some p
 empty_step features p (Version number kind) e = absurd cc
 empty_step features p (Custom name bytes) e = absurd cc
 empty_step features p (Counted id n bytes) e = empty_section features id n bytes p e
@@ -90,8 +90,8 @@ empty_step features p (CodeEntry bytes) e = absurd cc
 empty_step features p (Unknown id bytes) e = absurd cc
 empty_step features p End e = absurd cc
 
-run_case : (features : WasmFeatures) (x : Piece) (ps : List Piece) (p : Types × Spaces) → (has_no_items x ≡ true) ⊎ (has_no_items x ≡ false)
-    → ((q : Types × Spaces) → each (step features) q ps ≡ each (step features) q (with_items ps)) → each (step features) p (x ∷ ps) ≡ each (step features) p (with_items (x ∷ ps))
+run_case : (features : WasmFeatures) (x : Piece) (ps : List Piece) (p : TypesSoFar × Spaces) → (has_no_items x ≡ true) ⊎ (has_no_items x ≡ false)
+    → ((q : TypesSoFar × Spaces) → each (step features) q ps ≡ each (step features) q (with_items ps)) → each (step features) p (x ∷ ps) ≡ each (step features) p (with_items (x ∷ ps))
 run_case features x ps p (inl a) h =
     ap (option_and_then (λ t. each (step features) t ps)) (empty_step features p x a)
     ∙ h p
@@ -99,12 +99,12 @@ run_case features x ps p (inl a) h =
 run_case features x ps p (inr a) h =
     (λ i. option_and_then (λ t. h t i) (step features p x)) ∙ ap (each (step features) p) (sym (unless (has_no_items x) (with_items ps) (x ∷ with_items ps) a))
 
-pub run_with_items : (features : WasmFeatures) (ps : List Piece) (p : Types × Spaces) → each (step features) p ps ≡ each (step features) p (with_items ps)
+pub run_with_items : (features : WasmFeatures) (ps : List Piece) (p : TypesSoFar × Spaces) → each (step features) p ps ≡ each (step features) p (with_items ps)
 run_with_items features [] p = refl
 run_with_items features (x ∷ ps) p = run_case features x ps p (truth (has_no_items x)) (run_with_items features ps)
 
 -- a section that is accepted is served
-others_accepted : (F : Features) (us : Types) (n : ℕ) (bytes : List ℕ) (s t : Spaces) (a b c d g e h k f z : Bool)
+others_accepted : (F : Features) (us : TypesSoFar) (n : ℕ) (bytes : List ℕ) (s t : Spaces) (a b c d g e h k f z : Bool)
     → cond a (import_items F us n bytes s) (cond b (function_items us n bytes s) (cond c (table_items F us n bytes s) (cond d (memory_items F n bytes s) (cond g (cond z (Some s) None) (cond e (export_items F us n bytes s) (cond h (cond z (Some s) None) (cond k (cond z (Some s) None) (cond f (tag_items F us n bytes s) None)))))))) ≡ Some t
     → ((a || (b || (c || (d || (e || f))))) || (z && (g || (h || k)))) ≡ true
 others_accepted F us n bytes s t true b c d g e h k f z x = refl
@@ -121,7 +121,7 @@ others_accepted F us n bytes s t false false false false false false false true 
 others_accepted F us n bytes s t false false false false false false false false true z x = refl
 others_accepted F us n bytes s t false false false false false false false false false z x = absurd cc
 
-first_accepted : (features : WasmFeatures) (p q : Types × Spaces) (id n : ℕ) (bytes : List ℕ) (first : Bool)
+first_accepted : (features : WasmFeatures) (p q : TypesSoFar × Spaces) (id n : ℕ) (bytes : List ℕ) (first : Bool)
     → cond first (type_items features n bytes p) (beside (λ us. other_items (features_of features) us id n bytes) p) ≡ Some q
     → ((first || ((id == 2) || ((id == 3) || ((id == 4) || ((id == 5) || ((id == 7) || (id == 13))))))) || is_empty_section id n bytes) ≡ true
 first_accepted features p q id n bytes true e = refl
@@ -129,7 +129,7 @@ first_accepted features p q id n bytes false e =
     let a = then_some (λ (s : Spaces). Some (p.0, s)) (other_items (features_of features) p.0 id n bytes p.1) q e in
     others_accepted (features_of features) p.0 n bytes p.1 a.0 (eqb id 2) (eqb id 3) (eqb id 4) (eqb id 5) (eqb id 6) (eqb id 7) (eqb id 9) (eqb id 11) (eqb id 13) (IsEmpty n bytes) a.1
 
-pub section_served : (features : WasmFeatures) (p q : Types × Spaces) (id n : ℕ) (bytes : List ℕ) → section_items features id n bytes p ≡ Some q → is_served_piece (Counted id n bytes) ≡ true
+pub section_served : (features : WasmFeatures) (p q : TypesSoFar × Spaces) (id n : ℕ) (bytes : List ℕ) → section_items features id n bytes p ≡ Some q → is_served_piece (Counted id n bytes) ≡ true
 section_served features p q id n bytes e = first_accepted features p q id n bytes (eqb id 1) e
 
 -- what is served and isn't left out may have items

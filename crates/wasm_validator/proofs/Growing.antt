@@ -15,7 +15,7 @@ use Rattle.wasm_validator_canonical.specs.Groups.{with_written}
 use Rattle.wasm_validator_canonical.proofs.Steps.{written_front}
 use Rattle.wasm_validator_types.specs.Spaces.{Spaces, no_spaces}
 use Rattle.wasm_validator_core.specs.declared.limits.TheConstants.{MAX_TYPES}
-use Rattle.wasm_validator_core.specs.Answers.{Types}
+use Rattle.wasm_validator_core.specs.Answers.{TypesSoFar}
 use Rattle.wasm_validator_core.specs.Machine.{with_ids, add_group}
 use Rattle.wasm_validator.specs.Machine.{read_each, type_items, other_items, section_items, start_item, data_count_item, beside}
 use Rattle.wasm_validator.specs.Standing.{Stage, unparsed, in_module, in_code, ended, failed, Standing, HoldsAt, within, within_all, at_stage}
@@ -24,11 +24,11 @@ use Rattle.wasm_validator.specs.Payloads.{after_all}
 use Rattle.wasm_validator.proofs.ItemSteps.{read_back}
 
 -- a step within a module
-pub within_some : (s t : Standing) (types : Types) (spaces : Spaces) (f : Types × Spaces → Option (Types × Spaces)) → at_stage s (within f (in_module types spaces)) ≡ Some t
-    → (p : Types × Spaces) × (f (types, spaces) ≡ Some p) × (record s { stage = in_module p.0 p.1 } ≡ t)
+pub within_some : (s t : Standing) (types : TypesSoFar) (spaces : Spaces) (f : TypesSoFar × Spaces → Option (TypesSoFar × Spaces)) → at_stage s (within f (in_module types spaces)) ≡ Some t
+    → (p : TypesSoFar × Spaces) × (f (types, spaces) ≡ Some p) × (record s { stage = in_module p.0 p.1 } ≡ t)
 within_some s t types spaces f e =
     let a = then_some (λ (h : Stage). Some (record s { stage = h })) (within f (in_module types spaces)) t e in
-    let b = then_some (λ (p : Types × Spaces). Some (in_module p.0 p.1)) (f (types, spaces)) a.0 a.1 in
+    let b = then_some (λ (p : TypesSoFar × Spaces). Some (in_module p.0 p.1)) (f (types, spaces)) a.0 a.1 in
     (b.0, b.1, ap (λ (h : Stage). record s { stage = h }) (same_Some (in_module b.0.0 b.0.1) a.0 b.2) ∙ same_Some (record s { stage = a.0 }) t a.2)
 
 -- a step changes the stage alone
@@ -55,8 +55,8 @@ all_only (p ∷ ps) s t e =
     let here = piece_only s a.0 p a.1 in
     (λ i. record (here i) { stage = t.stage }) ∙ all_only ps a.0 t a.2
 
-module _ (V : Types → Type 0) (left : (us more : Types) → V (us ++ more) → V us) where
-  abbrev Over : Types × Spaces → Type 0
+module _ (V : TypesSoFar → Type 0) (left : (us more : TypesSoFar) → V (us ++ more) → V us) where
+  abbrev Over : TypesSoFar × Spaces → Type 0
   Over p = V p.0
 
   abbrev At : Standing → Type 0
@@ -64,38 +64,38 @@ module _ (V : Types → Type 0) (left : (us more : Types) → V (us ++ more) →
 
   module _ (features : WasmFeatures) where
     -- the list stays
-    stays : (p q : Types × Spaces) → p.0 ≡ q.0 → Over q → Over p
+    stays : (p q : TypesSoFar × Spaces) → p.0 ≡ q.0 → Over q → Over p
     stays p q e v = subst V (sym e) v
 
-    pub group_back : (p q : Types × Spaces) (g : Rec UnpackedIndex) → add_group features p g ≡ Some q → Over q → Over p
+    pub group_back : (p q : TypesSoFar × Spaces) (g : Rec UnpackedIndex) → add_group features p g ≡ Some q → Over q → Over p
     group_back p q g e v =
         let w = with_written (features_of features) p.0 p.1.types g in
         let a = guarded (leb (length p.1.types + length g.types) MAX_TYPES) (option_map (with_ids p.1) w) q e in
         let b = map_some (with_ids p.1) w q a.1 in
         let front = written_front (features_of features) p.0 p.1.types g b.0 b.1 in
-        left p.0 front.0 (subst V (sym (ap (λ (x : Types × Spaces). x.0) b.2) ∙ front.1) v)
+        left p.0 front.0 (subst V (sym (ap (λ (x : TypesSoFar × Spaces). x.0) b.2) ∙ front.1) v)
 
     -- sections
-    types_back : (n : ℕ) (bytes : List ℕ) (p q : Types × Spaces) → type_items features n bytes p ≡ Some q → Over q → Over p
+    types_back : (n : ℕ) (bytes : List ℕ) (p q : TypesSoFar × Spaces) → type_items features n bytes p ≡ Some q → Over q → Over p
     types_back n bytes p q e v =
         let a = guarded (leb (length p.1.types + n) MAX_TYPES) (read_each (rec_at written) (add_group features) n bytes p) q e in
         read_back (rec_at written) (add_group features) Over group_back n bytes p q a.1 v
 
-    pub beside_back : (f : Types → Spaces → Option Spaces) (p q : Types × Spaces) → beside f p ≡ Some q → Over q → Over p
+    pub beside_back : (f : TypesSoFar → Spaces → Option Spaces) (p q : TypesSoFar × Spaces) → beside f p ≡ Some q → Over q → Over p
     beside_back f p q e v =
         let a = then_some (λ (s : Spaces). Some (p.0, s)) (f p.0 p.1) q e in
-        stays p q (ap (λ (x : Types × Spaces). x.0) (same_Some (p.0, a.0) q a.2)) v
+        stays p q (ap (λ (x : TypesSoFar × Spaces). x.0) (same_Some (p.0, a.0) q a.2)) v
 
-    section_of : (first : Bool) (id n : ℕ) (bytes : List ℕ) (p q : Types × Spaces)
+    section_of : (first : Bool) (id n : ℕ) (bytes : List ℕ) (p q : TypesSoFar × Spaces)
         → cond first (type_items features n bytes p) (beside (λ us. other_items (features_of features) us id n bytes) p) ≡ Some q → Over q → Over p
     section_of true id n bytes p q e v = types_back n bytes p q e v
     section_of false id n bytes p q e v = beside_back (λ us. other_items (features_of features) us id n bytes) p q e v
 
-    pub section_back : (id n : ℕ) (bytes : List ℕ) (p q : Types × Spaces) → section_items features id n bytes p ≡ Some q → Over q → Over p
+    pub section_back : (id n : ℕ) (bytes : List ℕ) (p q : TypesSoFar × Spaces) → section_items features id n bytes p ≡ Some q → Over q → Over p
     section_back id n bytes p q e v = section_of (eqb id 1) id n bytes p q e v
 
   -- calls of a validator
-  within_back : (s t : Standing) (g : Stage) (f : Types × Spaces → Option (Types × Spaces)) → ((p q : Types × Spaces) → f p ≡ Some q → Over q → Over p)
+  within_back : (s t : Standing) (g : Stage) (f : TypesSoFar × Spaces → Option (TypesSoFar × Spaces)) → ((p q : TypesSoFar × Spaces) → f p ≡ Some q → Over q → Over p)
       → at_stage s (within f g) ≡ Some t → At t → HoldsAt V g
   within_back s t (unparsed types) f back e v = absurd (none-some t e)
   within_back s t (in_module types spaces) f back e v = let a = within_some s t types spaces f e in back (types, spaces) a.0 a.1 (subst At (sym a.2) v)
@@ -103,19 +103,19 @@ module _ (V : Types → Type 0) (left : (us more : Types) → V (us ++ more) →
   within_back s t (ended types) f back e v = absurd (none-some t e)
   within_back s t failed f back e v = absurd (none-some t e)
 
-  within_all_back : (s t : Standing) (g : Stage) (f : Types × Spaces → Option (Types × Spaces)) → ((p q : Types × Spaces) → f p ≡ Some q → Over q → Over p)
+  within_all_back : (s t : Standing) (g : Stage) (f : TypesSoFar × Spaces → Option (TypesSoFar × Spaces)) → ((p q : TypesSoFar × Spaces) → f p ≡ Some q → Over q → Over p)
       → at_stage s (within_all f g) ≡ Some t → At t → HoldsAt V g
   within_all_back s t (unparsed types) f back e v = absurd (none-some t e)
   within_all_back s t (in_module types spaces) f back e v = within_back s t (in_module types spaces) f back e v
   within_all_back s t (in_code types spaces) f back e v =
       let a = then_some (λ (h : Stage). Some (record s { stage = h })) (within_all f (in_code types spaces)) t e in
-      let b = then_some (λ (p : Types × Spaces). Some (in_code p.0 p.1)) (f (types, spaces)) a.0 a.1 in
+      let b = then_some (λ (p : TypesSoFar × Spaces). Some (in_code p.0 p.1)) (f (types, spaces)) a.0 a.1 in
       let there : record s { stage = in_code b.0.0 b.0.1 } ≡ t = ap (λ (h : Stage). record s { stage = h }) (same_Some (in_code b.0.0 b.0.1) a.0 b.2) ∙ same_Some (record s { stage = a.0 }) t a.2 in
       back (types, spaces) b.0 b.1 (subst At (sym there) v)
   within_all_back s t (ended types) f back e v = absurd (none-some t e)
   within_all_back s t failed f back e v = absurd (none-some t e)
 
-  section_step_back : (b : Bool) (s t : Standing) (g : Stage) (f : Types × Spaces → Option (Types × Spaces)) → ((p q : Types × Spaces) → f p ≡ Some q → Over q → Over p)
+  section_step_back : (b : Bool) (s t : Standing) (g : Stage) (f : TypesSoFar × Spaces → Option (TypesSoFar × Spaces)) → ((p q : TypesSoFar × Spaces) → f p ≡ Some q → Over q → Over p)
       → at_stage s (cond b (within_all f g) (within f g)) ≡ Some t → At t → HoldsAt V g
   section_step_back true s t g f back e v = within_all_back s t g f back e v
   section_step_back false s t g f back e v = within_back s t g f back e v

@@ -16,7 +16,7 @@ use Rattle.wasm_rules.proofs.Tests.{then_some, guarded}
 use Rattle.wasm_readers.specs.Written.{written}
 use Rattle.wasm_item_checks.specs.Laws.{Stand}
 use Rattle.wasm_validator_types.specs.Spaces.{Spaces}
-use Rattle.wasm_validator_core.specs.Answers.{Types}
+use Rattle.wasm_validator_core.specs.Answers.{TypesSoFar}
 use Rattle.wasm_validator_core.specs.Items.{add_import}
 use Rattle.wasm_validator_core_laws.specs.Imports.{KeepsLimits, FitsImport, with_entry}
 use Rattle.wasm_validator_core_laws.specs.Shown.{listed_table, listed_global}
@@ -29,7 +29,7 @@ use Rattle.wasm_validator.proofs.SectionLists.{limited, section_entries}
 use Rattle.wasm_validator.proofs.SectionLaws.{moved_from, moved_to, at_module}
 use Rattle.wasm_spec.proofs.LawSet.{import_renames}
 
-module _ (F : Features) (us : Types) (ids : List ℕ) (types : List DefType) (stand : Stand (canonical F) us ids types) where
+module _ (F : Features) (us : TypesSoFar) (ids : List ℕ) (types : List DefType) (stand : Stand (canonical F) us ids types) where
   abbrev next : Spaces → Import ℕ → Spaces
   next s i = with_entry ids types s i
 

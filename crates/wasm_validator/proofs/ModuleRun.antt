@@ -20,14 +20,14 @@ use Rattle.wasm_validator_types.specs.Spaces.{Spaces}
 use Rattle.wasm_validator.specs.Served.{is_served_section}
 use Rattle.wasm_validator_core.specs.declared.limits.TheConstants.{MAX_DATA_SEGMENTS}
 use Rattle.wasm_validator_core.specs.Items.{is_data_count}
-use Rattle.wasm_validator_core.specs.Answers.{Types, HasValidTypes}
+use Rattle.wasm_validator_core.specs.Answers.{TypesSoFar, HasValidTypes}
 use Rattle.wasm_validator.specs.Machine.{tag_items, section_items, start_item, data_count_item, beside}
 use Rattle.wasm_validator_canonical.proofs.Canonical.{and_left}
 use Rattle.std.proofs.lemmas.Option.{same_Some}
 use Rattle.wasm_validator.proofs.ValidTypes.{beside_back, section_back}
 
 -- one piece of a module that is being read
-abbrev pub step : WasmFeatures → Types × Spaces → Piece → Option (Types × Spaces)
+abbrev pub step : WasmFeatures → TypesSoFar × Spaces → Piece → Option (TypesSoFar × Spaces)
 step features p (Version number kind) = None
 step features p (Custom name bytes) = Some p
 step features p (Counted id n bytes) = section_items features id n bytes p
@@ -114,7 +114,7 @@ form_of (Unknown id bytes) h = absurd (let e = h.0 in cc)
 form_of End h = absurd h.1
 
 -- types that are valid behind a piece were valid before it
-pub step_back : (features : WasmFeatures) (p q : Types × Spaces) (x : Piece) → step features p x ≡ Some q → HasValidTypes features q → HasValidTypes features p
+pub step_back : (features : WasmFeatures) (p q : TypesSoFar × Spaces) (x : Piece) → step features p x ≡ Some q → HasValidTypes features q → HasValidTypes features p
 step_back features p q (Version number kind) e v = absurd cc
 step_back features p q (Custom name bytes) e v = subst (HasValidTypes features) (sym (same_Some p q e)) v
 step_back features p q (Counted id n bytes) e v = section_back features id n bytes p q e v
@@ -126,10 +126,10 @@ step_back features p q (Unknown id bytes) e v = absurd cc
 step_back features p q End e v = absurd cc
 
 -- what is accepted is allowed
-tags_allowed : (F : Features) (us : Types) (n : ℕ) (bytes : List ℕ) (s t : Spaces) → tag_items F us n bytes s ≡ Some t → IsTrue F.exceptions
+tags_allowed : (F : Features) (us : TypesSoFar) (n : ℕ) (bytes : List ℕ) (s t : Spaces) → tag_items F us n bytes s ≡ Some t → IsTrue F.exceptions
 tags_allowed F us n bytes s t e = (guarded F.exceptions _ t e).0
 
-form_accepted : (features : WasmFeatures) (p q : Types × Spaces) (x : Piece) → PartForm x → step features p x ≡ Some q → IsAllowedPiece (features_of features) x
+form_accepted : (features : WasmFeatures) (p q : TypesSoFar × Spaces) (x : Piece) → PartForm x → step features p x ≡ Some q → IsAllowedPiece (features_of features) x
 form_accepted features p q x custom e = tt
 form_accepted features p q x types e = λ h. absurd cc
 form_accepted features p q x imports e = λ h. absurd cc
@@ -146,7 +146,7 @@ form_accepted features p q x (tags {n} {bytes}) e = λ h.
     let a = then_some (λ (s : Spaces). Some (p.0, s)) (tag_items (features_of features) p.0 n bytes p.1) q e in
     tags_allowed (features_of features) p.0 n bytes p.1 a.0 a.1
 
-pub run_allowed : (features : WasmFeatures) (ps : List Piece) (p q : Types × Spaces) → AreParts ps → each (step features) p ps ≡ Some q → All (IsAllowedPiece (features_of features)) ps
+pub run_allowed : (features : WasmFeatures) (ps : List Piece) (p q : TypesSoFar × Spaces) → AreParts ps → each (step features) p ps ≡ Some q → All (IsAllowedPiece (features_of features)) ps
 run_allowed features [] p q a e = All-nil (IsAllowedPiece (features_of features))
 run_allowed features (x ∷ ps) p q a e =
     let h = then_some (λ t. each (step features) t ps) (step features p x) q e in
@@ -220,7 +220,7 @@ restrict (k ∷ ks) (p ∷ ps) z a (body r b f) = absurd (no_body p (form_of p a
 restrict (k ∷ ks) ps z a (later f) = restrict_later (is_served_rank k) k (restricted ks) ps (restrict ks ps z.1 a f)
 
 -- a custom section changes nothing
-part_free : (features : WasmFeatures) (p : Piece) → PartForm p → rank p ≡ 0 → (s : Types × Spaces) → step features s p ≡ Some s
+part_free : (features : WasmFeatures) (p : Piece) → PartForm p → rank p ≡ 0 → (s : TypesSoFar × Spaces) → step features s p ≡ Some s
 unfolding place
 part_free features p custom r s = refl
 part_free features p types r s = absurd cc
@@ -241,7 +241,7 @@ served_are_ranks : AreRanks served_ranks
 served_are_ranks = ((λ e. cc), (((λ e. cc), ((λ e. cc), ((λ e. cc), ((λ e. cc), ((λ e. cc), ((λ e. cc), ((λ e. cc), ((λ e. cc), tt)))))))), ((λ e. cc), (((λ e. cc), ((λ e. cc), ((λ e. cc), ((λ e. cc), ((λ e. cc), ((λ e. cc), ((λ e. cc), tt))))))), ((λ e. cc), (((λ e. cc), ((λ e. cc), ((λ e. cc), ((λ e. cc), ((λ e. cc), ((λ e. cc), tt)))))), ((λ e. cc), (((λ e. cc), ((λ e. cc), ((λ e. cc), ((λ e. cc), ((λ e. cc), tt))))), ((λ e. cc), (((λ e. cc), ((λ e. cc), ((λ e. cc), ((λ e. cc), tt)))), ((λ e. cc), (((λ e. cc), ((λ e. cc), ((λ e. cc), tt))), ((λ e. cc), (((λ e. cc), ((λ e. cc), tt)), ((λ e. cc), (((λ e. cc), tt), ((λ e. cc), (tt, tt))))))))))))))))))
 
 -- parts in the order of the ranks, as their sections
-pub by_sections : (features : WasmFeatures) (ps : List Piece) (s : Types × Spaces) → AreParts ps → Follows served_ranks ps → each (step features) s ps ≡ by_rank (step features) served_ranks s ps
+pub by_sections : (features : WasmFeatures) (ps : List Piece) (s : TypesSoFar × Spaces) → AreParts ps → Follows served_ranks ps → each (step features) s ps ≡ by_rank (step features) served_ranks s ps
 by_sections features ps s a f = by_ranks (step features) served_ranks ps s f served_are_ranks (leaves_free features ps a)
 
 -- the section of this id, if it is there

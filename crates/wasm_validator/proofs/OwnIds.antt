@@ -6,9 +6,10 @@ use Rattle.wasm_spec.specs.Features.{canonical}
 use Rattle.wasm_spec.specs.Trees.{DefType}
 use Rattle.wasm_rules.specs.FeatureFlags.{features_of}
 use Rattle.wasm_grouped_list.specs.Elements.{numbers_from}
-use Rattle.wasm_validator_types.specs.Shown.{shown_of, types_of}
+use Rattle.wasm_validator_type_list.specs.DefTypes.{types_of_list}
+use Rattle.wasm_validator_types.specs.Shown.{shown_of}
 use Rattle.wasm_validator_types.specs.declared.shown.Types as shown
-use Rattle.wasm_validator_core.specs.Answers.{Types}
+use Rattle.wasm_validator_core.specs.Answers.{TypesSoFar}
 use Rattle.wasm_validator.specs.Standing.{unparsed, Standing, after_reset}
 use Rattle.wasm_validator.specs.Verdict.{Expressions}
 use Rattle.wasm_validator.specs.Sequences.{Takes, TakesEach, its_types, all_types, OwnIdForEachType}
@@ -54,15 +55,15 @@ apart low (z ∷ ps) (suc j) zero p q r x y e =
     absurd (omega (arith, first, later, e))
 apart low (z ∷ ps) (suc j) (suc k) p q r x y e = ap suc (apart (z.0 + 1) ps j k p q r.1 x y e)
 
-stages_apart : (T U : Types) → unparsed T ≡ unparsed U → T ≡ U
+stages_apart : (T U : TypesSoFar) → unparsed T ≡ unparsed U → T ≡ U
 stages_apart T U e = cc
 
 module _ {A : Type 0} (expression_at : Expressions) where
   -- the ids of a module, and of those behind it
-  one_rises : (bytes : List ℕ) (answer : Option (shown.Types A)) (old new : Standing) (a : Takes expression_at bytes answer old new) (before : Types) (later : List (ℕ × DefType)) → canonical (features_of old.features) ≡ false → old.stage ≡ unparsed before
-      → ((next : Types) → (after_reset new).features ≡ old.features → (after_reset new).stage ≡ unparsed next → Rising (length next) later) → Rising (length before) (its_types expression_at bytes answer old new a ++ later)
+  one_rises : (bytes : List ℕ) (answer : Option (shown.Types A)) (old new : Standing) (a : Takes expression_at bytes answer old new) (before : TypesSoFar) (later : List (ℕ × DefType)) → canonical (features_of old.features) ≡ false → old.stage ≡ unparsed before
+      → ((next : TypesSoFar) → (after_reset new).features ≡ old.features → (after_reset new).stage ≡ unparsed next → Rising (length next) later) → Rising (length before) (its_types expression_at bytes answer old new a ++ later)
   one_rises bytes (Some t) old new a before later c w rest =
-      let list = types_of (shown_of t).list in
+      let list = types_of_list (shown_of t).list in
       let ds = a.module_valid.well_formed.types.types in
       let higher = rest list (ap (λ (s : Standing). (after_reset s).features) a.after) (ap (λ (s : Standing). (after_reset s).stage) a.after) in
       subst (λ us. Rising (length us) (zip (shown_of t).spaces.types ds ++ later)) (stages_apart a.before before (sym a.began ∙ w))
@@ -72,7 +73,7 @@ module _ {A : Type 0} (expression_at : Expressions) where
       let longer = length-append a.before a.more in
       subst (λ us. Rising (length us) later) (stages_apart a.before before (sym a.began ∙ w)) (from_lower (length a.before) (length (a.before ++ a.more)) later (omega (arith, longer)) higher)
 
-  all_rise : (ms : List (List ℕ × Option (shown.Types A))) (old : Standing) (before : Types) (a : TakesEach expression_at old ms) → canonical (features_of old.features) ≡ false → old.stage ≡ unparsed before
+  all_rise : (ms : List (List ℕ × Option (shown.Types A))) (old : Standing) (before : TypesSoFar) (a : TakesEach expression_at old ms) → canonical (features_of old.features) ≡ false → old.stage ≡ unparsed before
       → Rising (length before) (all_types expression_at old ms a)
   unfolding Rising
   all_rise [] old before a c w = tt
@@ -80,7 +81,7 @@ module _ {A : Type 0} (expression_at : Expressions) where
       one_rises m.0 m.1 old a.0 a.1 before (all_types expression_at (after_reset a.0) ms a.2) c w
       (λ next f s. all_rise ms (after_reset a.0) next a.2 (ap (λ g. canonical (features_of g)) f ∙ c) s)
 
-  began_with : (bytes : List ℕ) (answer : Option (shown.Types A)) (old new : Standing) → Takes expression_at bytes answer old new → (before : Types) × (old.stage ≡ unparsed before)
+  began_with : (bytes : List ℕ) (answer : Option (shown.Types A)) (old new : Standing) → Takes expression_at bytes answer old new → (before : TypesSoFar) × (old.stage ≡ unparsed before)
   began_with bytes (Some t) old new a = (a.before, a.began)
   began_with bytes None old new a = (a.before, a.began)
 

@@ -13,7 +13,7 @@ use Rattle.wasm_rules.proofs.Tests.{truth, when, unless, then_some}
 use Rattle.wasm_readers_errors.specs.declared.features.WasmFeatures.{WasmFeatures}
 use Rattle.wasm_validator_canonical.proofs.Canonical.{and_right}
 use Rattle.wasm_validator_types.specs.Spaces.{Spaces}
-use Rattle.wasm_validator_core.specs.Answers.{Types}
+use Rattle.wasm_validator_core.specs.Answers.{TypesSoFar}
 use Rattle.wasm_validator.specs.Machine.{section_items, start_item, data_count_item, beside}
 use Rattle.wasm_validator.specs.Served.{is_served_section, is_empty_section, is_served_piece}
 use Rattle.wasm_validator.specs.Standing.{Stage, Standing, in_module, in_code, ended, shown_at, within, within_all, at_stage}
@@ -24,47 +24,47 @@ use Rattle.wasm_validator.proofs.EmptyPieces.{section_served}
 use Rattle.wasm_validator.proofs.CodeOrder.{IsLate, InOrder}
 
 -- a validator in a module, before the start of its code or behind it
-abbrev pub stage_in : Bool → Types × Spaces → Stage
+abbrev pub stage_in : Bool → TypesSoFar × Spaces → Stage
 stage_in false p = in_module p.0 p.1
 stage_in true p = in_code p.0 p.1
 
-abbrev pub at : ℕ → WasmFeatures → Bool → Types × Spaces → Standing
+abbrev pub at : ℕ → WasmFeatures → Bool → TypesSoFar × Spaces → Standing
 at id features code p = record { id = id; features = features; stage = stage_in code p }
 
-pub shown_in : (code : Bool) (p : Types × Spaces) → shown_at (stage_in code p) ≡ Some p
+pub shown_in : (code : Bool) (p : TypesSoFar × Spaces) → shown_at (stage_in code p) ≡ Some p
 shown_in false p = refl
 shown_in true p = refl
 
 module _ (id : ℕ) (features : WasmFeatures) where
   -- the end
-  pub ends_in : (code : Bool) (p : Types × Spaces) → after_all (at id features code p) (parts.End ∷ []) ≡ Some (record { id = id; features = features; stage = ended p.0 })
+  pub ends_in : (code : Bool) (p : TypesSoFar × Spaces) → after_all (at id features code p) (parts.End ∷ []) ≡ Some (record { id = id; features = features; stage = ended p.0 })
   ends_in false p = refl
   ends_in true p = refl
 
   -- a step that was taken
-  record Stepped (p : Types × Spaces) (x : Piece) (t : Standing) : Type 0 where
+  record Stepped (p : TypesSoFar × Spaces) (x : Piece) (t : Standing) : Type 0 where
     code : Bool
-    q : Types × Spaces
+    q : TypesSoFar × Spaces
     there : at id features code q ≡ t
     stepped : step features p x ≡ Some q
     served : is_served_piece x ≡ true
 
   -- the same stage, by an item step
-  abbrev lifted : Bool → Standing → Option (Types × Spaces) → Option Standing
-  lifted code s o = at_stage s (option_and_then (λ (q : Types × Spaces). Some (stage_in code q)) o)
+  abbrev lifted : Bool → Standing → Option (TypesSoFar × Spaces) → Option Standing
+  lifted code s o = at_stage s (option_and_then (λ (q : TypesSoFar × Spaces). Some (stage_in code q)) o)
 
-  took : (code : Bool) (s t : Standing) (o : Option (Types × Spaces)) → lifted code s o ≡ Some t → (q : Types × Spaces) × (o ≡ Some q) × (record s { stage = stage_in code q } ≡ t)
+  took : (code : Bool) (s t : Standing) (o : Option (TypesSoFar × Spaces)) → lifted code s o ≡ Some t → (q : TypesSoFar × Spaces) × (o ≡ Some q) × (record s { stage = stage_in code q } ≡ t)
   took code s t o e =
-      let a = then_some (λ (g : Stage). Some (record s { stage = g })) (option_and_then (λ (q : Types × Spaces). Some (stage_in code q)) o) t e in
-      let b = then_some (λ (q : Types × Spaces). Some (stage_in code q)) o a.0 a.1 in
+      let a = then_some (λ (g : Stage). Some (record s { stage = g })) (option_and_then (λ (q : TypesSoFar × Spaces). Some (stage_in code q)) o) t e in
+      let b = then_some (λ (q : TypesSoFar × Spaces). Some (stage_in code q)) o a.0 a.1 in
       (b.0, b.1, ap (λ (g : Stage). record s { stage = g }) (same_Some (stage_in code b.0) a.0 b.2) ∙ same_Some (record s { stage = a.0 }) t a.2)
 
   -- before the start of the code it doesn't matter which section may come behind it
-  either_stage : (b : Bool) (p : Types × Spaces) (f : Types × Spaces → Option (Types × Spaces)) → cond b (within_all f (in_module p.0 p.1)) (within f (in_module p.0 p.1)) ≡ within f (in_module p.0 p.1)
+  either_stage : (b : Bool) (p : TypesSoFar × Spaces) (f : TypesSoFar × Spaces → Option (TypesSoFar × Spaces)) → cond b (within_all f (in_module p.0 p.1)) (within f (in_module p.0 p.1)) ≡ within f (in_module p.0 p.1)
   either_stage true p f = refl
   either_stage false p f = refl
 
-  section_step : (code : Bool) (p : Types × Spaces) (k n : ℕ) (bytes : List ℕ) (t : Standing) → after_piece (at id features code p) (Counted k n bytes) ≡ Some t → Stepped p (Counted k n bytes) t
+  section_step : (code : Bool) (p : TypesSoFar × Spaces) (k n : ℕ) (bytes : List ℕ) (t : Standing) → after_piece (at id features code p) (Counted k n bytes) ≡ Some t → Stepped p (Counted k n bytes) t
   section_step false p k n bytes t e =
       let h = took false (at id features false p) t (section_items features k n bytes p) (sym (ap (at_stage (at id features false p)) (either_stage (eqb k 11) p (section_items features k n bytes))) ∙ e) in
       record { code = false; q = h.0; there = h.2; stepped = h.1; served = section_served features p h.0 k n bytes h.1 }
@@ -78,7 +78,7 @@ module _ (id : ℕ) (features : WasmFeatures) where
         | inr a ↦ absurd (let none = sym (ap (at_stage s) (unless (eqb k 11) (within_all f (in_code p.0 p.1)) (within f (in_code p.0 p.1)) a)) ∙ e in cc)
       ]
 
-  one_step : (code : Bool) (p : Types × Spaces) (x : Piece) (t : Standing) → IsInner x → after_piece (at id features code p) x ≡ Some t → Stepped p x t
+  one_step : (code : Bool) (p : TypesSoFar × Spaces) (x : Piece) (t : Standing) → IsInner x → after_piece (at id features code p) x ≡ Some t → Stepped p x t
   one_step code p (Version number kind) t i e = absurd i
   one_step code p (Custom name bytes) t i e = record { code = code; q = p; there = same_Some (at id features code p) t e; stepped = refl; served = refl }
   one_step code p (Counted k n bytes) t i e = section_step code p k n bytes t e
@@ -97,14 +97,14 @@ module _ (id : ℕ) (features : WasmFeatures) where
   one_step code p parts.End t i e = absurd i
 
   -- all steps
-  pub record Went (p : Types × Spaces) (ps : List Piece) (t : Standing) : Type 0 where
+  pub record Went (p : TypesSoFar × Spaces) (ps : List Piece) (t : Standing) : Type 0 where
     pub code : Bool
-    pub q : Types × Spaces
+    pub q : TypesSoFar × Spaces
     pub there : at id features code q ≡ t
     pub ran : each (step features) p ps ≡ Some q
     pub served : list_all is_served_piece ps ≡ true
 
-  pub went : (ps : List Piece) (code : Bool) (p : Types × Spaces) (t : Standing) → AreInner ps → after_all (at id features code p) ps ≡ Some t → Went p ps t
+  pub went : (ps : List Piece) (code : Bool) (p : TypesSoFar × Spaces) (t : Standing) → AreInner ps → after_all (at id features code p) ps ≡ Some t → Went p ps t
   went [] code p t i e = record { code = code; q = p; there = same_Some (at id features code p) t e; ran = refl; served = refl }
   went (x ∷ ps) code p t i e =
       let a = then_some (λ s. after_all s ps) (after_piece (at id features code p) x) t e in
@@ -172,10 +172,10 @@ late_section id n bytes e =
 
 -- the machine's steps are a validator's, where pieces are in order
 module _ (id : ℕ) (features : WasmFeatures) where
-  lift : (code : Bool) (s : Standing) (o : Option (Types × Spaces)) (q : Types × Spaces) → o ≡ Some q → lifted id features code s o ≡ Some (record s { stage = stage_in code q })
+  lift : (code : Bool) (s : Standing) (o : Option (TypesSoFar × Spaces)) (q : TypesSoFar × Spaces) → o ≡ Some q → lifted id features code s o ≡ Some (record s { stage = stage_in code q })
   lift code s o q e = ap (lifted id features code s) e
 
-  section_taken : (code : Bool) (p q : Types × Spaces) (k n : ℕ) (bytes : List ℕ) → (code ≡ true → IsLate (rank_of_section k)) → section_items features k n bytes p ≡ Some q
+  section_taken : (code : Bool) (p q : TypesSoFar × Spaces) (k n : ℕ) (bytes : List ℕ) → (code ≡ true → IsLate (rank_of_section k)) → section_items features k n bytes p ≡ Some q
       → after_piece (at id features code p) (Counted k n bytes) ≡ Some (at id features code q)
   section_taken false p q k n bytes l e =
       ap (at_stage (at id features false p)) (either_stage id features (eqb k 11) p (section_items features k n bytes)) ∙ lift false (at id features false p) (section_items features k n bytes p) q e
@@ -186,10 +186,10 @@ module _ (id : ℕ) (features : WasmFeatures) where
       ap (at_stage s) (when (eqb k 11) (within_all f (in_code p.0 p.1)) (within f (in_code p.0 p.1)) (eq-eqb k 11 last)) ∙ lift true s (f p) q e
 
   -- a validator that went through all pieces
-  abbrev pub Goes : Bool → Types × Spaces → List Piece → Types × Spaces → Type 0
+  abbrev pub Goes : Bool → TypesSoFar × Spaces → List Piece → TypesSoFar × Spaces → Type 0
   Goes code p ps q = (c : Bool) × (after_all (at id features code p) ps ≡ Some (at id features c q))
 
-  onward : (code code' : Bool) (p r q : Types × Spaces) (x : Piece) (ps : List Piece) → after_piece (at id features code p) x ≡ Some (at id features code' r) → Goes code' r ps q → Goes code p (x ∷ ps) q
+  onward : (code code' : Bool) (p r q : TypesSoFar × Spaces) (x : Piece) (ps : List Piece) → after_piece (at id features code p) x ≡ Some (at id features code' r) → Goes code' r ps q → Goes code p (x ∷ ps) q
   onward code code' p r q x ps e g = (g.0, ap (option_and_then (λ t. after_all t ps)) e ∙ g.1)
 
   late_start : IsLate 9 → ⊥
@@ -202,7 +202,7 @@ module _ (id : ℕ) (features : WasmFeatures) where
   late_code l = early 12 (λ h. cc) (λ h. cc) (λ h. cc) l
 
   -- behind the start of the code
-  goes_behind : (ps : List Piece) (p q : Types × Spaces) → AreInner ps → InOrder true ps → each (step features) p ps ≡ Some q → Goes true p ps q
+  goes_behind : (ps : List Piece) (p q : TypesSoFar × Spaces) → AreInner ps → InOrder true ps → each (step features) p ps ≡ Some q → Goes true p ps q
   goes_behind [] p q i o e = (true, ap (λ r. Some (at id features true r)) (same_Some p q e))
   goes_behind (Version number kind ∷ ps) p q i o e = absurd i.0
   goes_behind (Custom name bytes ∷ ps) p q i o e = onward true true p p q (Custom name bytes) ps refl (goes_behind ps p q i.1 o.1 e)
@@ -216,7 +216,7 @@ module _ (id : ℕ) (features : WasmFeatures) where
   goes_behind (Unknown k bytes ∷ ps) p q i o e = absurd cc
   goes_behind (parts.End ∷ ps) p q i o e = absurd i.0
 
-  pub goes : (ps : List Piece) (p q : Types × Spaces) → AreInner ps → InOrder false ps → each (step features) p ps ≡ Some q → Goes false p ps q
+  pub goes : (ps : List Piece) (p q : TypesSoFar × Spaces) → AreInner ps → InOrder false ps → each (step features) p ps ≡ Some q → Goes false p ps q
   goes [] p q i o e = (false, ap (λ r. Some (at id features false r)) (same_Some p q e))
   goes (Version number kind ∷ ps) p q i o e = absurd i.0
   goes (Custom name bytes ∷ ps) p q i o e = onward false false p p q (Custom name bytes) ps refl (goes ps p q i.1 o e)

@@ -19,7 +19,7 @@ use Rattle.wasm_readers.specs.Written.{written}
 use Rattle.wasm_readers.specs.Tables.{ExpressionReading, Head, head_with, table_head_from, table_head_at}
 use Rattle.wasm_validator_types.specs.Spaces.{Spaces}
 use Rattle.wasm_validator_core.specs.Items.{add_table}
-use Rattle.wasm_validator_core.specs.Answers.{Types}
+use Rattle.wasm_validator_core.specs.Answers.{TypesSoFar}
 use Rattle.wasm_validator_core_laws.specs.Lists.{has_no_init}
 use Rattle.wasm_validator.specs.Machine.{read_each, add_table_head}
 use Rattle.wasm_validator.proofs.ModuleRun.{SectionOf, one_section}
@@ -216,6 +216,6 @@ bare_again [] none = refl
 bare_again (x ∷ es) none = bare_more _ x _ es (bare_entry x (All-head has_no_init x es none)) (bare_again es (All-tail has_no_init x es none))
 
 -- heads that are added one by one, as the table types that they have alone
-pub heads_are_plain : (F : Features) (us : Types) (n : ℕ) (bytes : List ℕ) (s : Spaces) → read_each table_head_at (add_table_head F us) n bytes s ≡ read_each (plain_at written) (add_table F us) n bytes s
+pub heads_are_plain : (F : Features) (us : TypesSoFar) (n : ℕ) (bytes : List ℕ) (s : Spaces) → read_each table_head_at (add_table_head F us) n bytes s ≡ read_each (plain_at written) (add_table F us) n bytes s
 unfolding add_table_head
 heads_are_plain F us n bytes s = heads_then_plain (add_table F us) n bytes s

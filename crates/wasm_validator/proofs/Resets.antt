@@ -4,7 +4,7 @@ use Rattle.wasm_parser.specs.Framing as parts
 use Rattle.wasm_parser.specs.Framing.{Piece, Version, Custom, Counted, Start, DataCount, CodeStart, CodeEntry, Unknown}
 use Rattle.wasm_parser.specs.Machine.{State, next_of}
 use Rattle.wasm_validator_types.specs.Spaces.{Spaces}
-use Rattle.wasm_validator_core.specs.Answers.{Types}
+use Rattle.wasm_validator_core.specs.Answers.{TypesSoFar}
 use Rattle.wasm_validator_module_state.specs.Bodies.{expected_bodies}
 use Rattle.wasm_validator.specs.Standing.{Stage, unparsed, in_module, in_code, ended, failed, Standing, HoldsAt, can_reset_at, may_reset, reset_at, after_reset, refused_at, read_refused_at, body_refused_at, ended_at}
 use Rattle.wasm_validator.specs.States.{is_barred, left_by}
@@ -13,7 +13,7 @@ use Rattle.wasm_validator.specs.Sequences.{KeepsTypes, RefusedKeepTypes}
 use Rattle.wasm_validator.proofs.Growing.{all_only, all_back}
 
 -- where a refusal leaves a validator that may be reset, its list was the same before
-module _ (V : Types → Type 0) where
+module _ (V : TypesSoFar → Type 0) where
   section_kept : (g : Stage) → can_reset_at (refused_at g) ≡ true → HoldsAt V (refused_at g) → HoldsAt V g
   section_kept (unparsed types) r h = h
   section_kept (in_module types spaces) r h = absurd cc
@@ -32,7 +32,7 @@ module _ (V : Types → Type 0) where
   either_kept true g r h = read_kept g r h
   either_kept false g r h = section_kept g r h
 
-  turn_kept : (b : Bool) (types : Types) (spaces : Spaces) → can_reset_at (cond b (in_code types spaces) failed) ≡ true → V types
+  turn_kept : (b : Bool) (types : TypesSoFar) (spaces : Spaces) → can_reset_at (cond b (in_code types spaces) failed) ≡ true → V types
   turn_kept true types spaces r = absurd cc
   turn_kept false types spaces r = absurd cc
 
@@ -62,13 +62,13 @@ module _ (V : Types → Type 0) where
   left_kept s parts.End r h = end_kept s.stage r h
 
 -- the fronts of a list
-abbrev IsFrontOf : Types → Types → Type 0
-IsFrontOf whole us = (more : Types) × (us ++ more ≡ whole)
+abbrev IsFrontOf : TypesSoFar → TypesSoFar → Type 0
+IsFrontOf whole us = (more : TypesSoFar) × (us ++ more ≡ whole)
 
-front_of_front : (whole us more : Types) → IsFrontOf whole (us ++ more) → IsFrontOf whole us
+front_of_front : (whole us more : TypesSoFar) → IsFrontOf whole (us ++ more) → IsFrontOf whole us
 front_of_front whole us more f = (more ++ f.0, sym (append_assoc us more f.0) ∙ f.1)
 
-from_list : (old new reached : Standing) (before whole : Types) (pieces : List Piece) → old.stage ≡ unparsed before → after_all old pieces ≡ Some reached → (h : Stage) → new ≡ record reached { stage = h } → reset_at h ≡ unparsed whole → can_reset_at h ≡ true
+from_list : (old new reached : Standing) (before whole : TypesSoFar) (pieces : List Piece) → old.stage ≡ unparsed before → after_all old pieces ≡ Some reached → (h : Stage) → new ≡ record reached { stage = h } → reset_at h ≡ unparsed whole → can_reset_at h ≡ true
     → HoldsAt (IsFrontOf whole) reached.stage → KeepsTypes old new
 from_list old new reached before whole pieces w run h is to can f =
     let only = all_only pieces old reached run in
@@ -82,15 +82,15 @@ from_list old new reached before whole pieces w run h is to can f =
     }
 
 -- at a stage that may be reset
-list_kept : (old new reached : Standing) (before : Types) (pieces : List Piece) → old.stage ≡ unparsed before → after_all old pieces ≡ Some reached → (h : Stage) → new ≡ record reached { stage = h } → can_reset_at h ≡ true
-    → ((V : Types → Type 0) → HoldsAt V h → HoldsAt V reached.stage) → KeepsTypes old new
+list_kept : (old new reached : Standing) (before : TypesSoFar) (pieces : List Piece) → old.stage ≡ unparsed before → after_all old pieces ≡ Some reached → (h : Stage) → new ≡ record reached { stage = h } → can_reset_at h ≡ true
+    → ((V : TypesSoFar → Type 0) → HoldsAt V h → HoldsAt V reached.stage) → KeepsTypes old new
 list_kept old new reached before pieces w run (unparsed types) is may kept = from_list old new reached before types pieces w run (unparsed types) is refl refl (kept (IsFrontOf types) ([], append-nil types))
 list_kept old new reached before pieces w run (in_module types spaces) is may kept = absurd cc
 list_kept old new reached before pieces w run (in_code types spaces) is may kept = absurd cc
 list_kept old new reached before pieces w run (ended types) is may kept = from_list old new reached before types pieces w run (ended types) is refl refl (kept (IsFrontOf types) ([], append-nil types))
 list_kept old new reached before pieces w run failed is may kept = absurd cc
 
-left_so : (old new reached : Standing) (before : Types) (pieces : List Piece) (behind : State) → old.stage ≡ unparsed before → after_all old pieces ≡ Some reached → may_reset new ≡ true
+left_so : (old new reached : Standing) (before : TypesSoFar) (pieces : List Piece) (behind : State) → old.stage ≡ unparsed before → after_all old pieces ≡ Some reached → may_reset new ≡ true
     → ((next_of behind ≡ None) × (new ≡ reached)) ⊎ HasRefused behind reached new → KeepsTypes old new
 left_so old new reached before pieces behind w run may (inl h) = list_kept old new reached before pieces w run reached.stage h.1 (ap (λ (s : Standing). can_reset_at s.stage) (sym h.1) ∙ may) (λ V k. k)
 left_so old new reached before pieces behind w run may (inr h) =

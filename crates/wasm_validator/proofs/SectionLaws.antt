@@ -29,7 +29,7 @@ use Rattle.wasm_item_checks.specs.Items.{is_function, is_valid_defined_table, is
 use Rattle.wasm_item_checks.specs.Laws.{Stand}
 use Rattle.wasm_item_checks.proofs.Decided.{functions_are_decided, defined_tables_are_decided, memories_are_decided, tags_are_decided}
 use Rattle.wasm_validator_types.specs.Spaces.{Spaces}
-use Rattle.wasm_validator_core.specs.Answers.{Types}
+use Rattle.wasm_validator_core.specs.Answers.{TypesSoFar}
 use Rattle.wasm_validator_core.specs.Items.{add_function, add_table, add_memory, add_tag}
 use Rattle.wasm_validator_core_laws.specs.Lists.{has_no_init}
 use Rattle.wasm_validator_core_laws.specs.Shown.{listed_table}
@@ -77,9 +77,9 @@ module _ {V W : Type 0} (f : V → W) (reads : List ℕ → Option (V × List �
       ∙ ap Some h.is
 
 -- a section within a module, by what its items make of the lists
-module _ (s new : Standing) (us : Types) where
+module _ (s new : Standing) (us : TypesSoFar) where
   abbrev moved : Option Spaces → Option Standing
-  moved o = option_and_then (λ (g : Stage). Some (record s { stage = g })) (option_and_then (λ (p : Types × Spaces). Some (in_module p.0 p.1)) (option_and_then (λ (t : Spaces). Some (us, t)) o))
+  moved o = option_and_then (λ (g : Stage). Some (record s { stage = g })) (option_and_then (λ (p : TypesSoFar × Spaces). Some (in_module p.0 p.1)) (option_and_then (λ (t : Spaces). Some (us, t)) o))
 
   pub moved_from : (o : Option Spaces) → moved o ≡ Some new → (t : Spaces) × (o ≡ Some t) × (new ≡ record s { stage = in_module us t })
   moved_from None e = absurd (none-some new e)
@@ -106,11 +106,11 @@ module _ (s new : Standing) (us : Types) where
         h.after
 
 -- the section of a standing
-pub at_module : (old : Standing) (us : Types) (m : Spaces) (id count : ℕ) (bytes : List ℕ) → old.stage ≡ in_module us m → after_section old id count bytes ≡ at_stage old (within_by id (section_items old.features id count bytes) (in_module us m))
+pub at_module : (old : Standing) (us : TypesSoFar) (m : Spaces) (id count : ℕ) (bytes : List ℕ) → old.stage ≡ in_module us m → after_section old id count bytes ≡ at_stage old (within_by id (section_items old.features id count bytes) (in_module us m))
 at_module old us m id count bytes e = ap (λ g. at_stage old (within_by id (section_items old.features id count bytes) g)) e
 
 -- functions
-module _ (F : Features) (us : Types) (m : Spaces) (types : List DefType) (stand : Stand (canonical F) us m.types types) where
+module _ (F : Features) (us : TypesSoFar) (m : Spaces) (types : List DefType) (stand : Stand (canonical F) us m.types types) where
   abbrev with_functions : List ℕ → Spaces
   with_functions xs = record m { functions = m.functions ++ xs }
 
@@ -166,7 +166,7 @@ memories_add old new us m types count bytes r =
     )
 
 -- a section under a test
-tested : (old new : Standing) (us : Types) (b : Bool) (o : Option Spaces) → moved old new us (cond b o None) ≡ Some new → (b ≡ true) × (moved old new us o ≡ Some new)
+tested : (old new : Standing) (us : TypesSoFar) (b : Bool) (o : Option Spaces) → moved old new us (cond b o None) ≡ Some new → (b ≡ true) × (moved old new us o ≡ Some new)
 tested old new us true o e = (refl, e)
 tested old new us false o e = absurd (none-some new e)
 
@@ -183,7 +183,7 @@ tags_add old new us m types count bytes r =
     )
 
 -- tables, by their types alone
-module _ (F : Features) (us : Types) (m : Spaces) (types : List DefType) (stand : Stand (canonical F) us m.types types) where
+module _ (F : Features) (us : TypesSoFar) (m : Spaces) (types : List DefType) (stand : Stand (canonical F) us m.types types) where
   abbrev with_tables : List (Table ℕ) → Spaces
   with_tables ts = record m { tables = m.tables ++ map (listed_table m.types) ts }
 

@@ -8,7 +8,7 @@ use Rattle.wasm_readers_errors.specs.declared.features.WasmFeatures.{WasmFeature
 use Rattle.wasm_validator_types.specs.Spaces.{Spaces}
 use Rattle.wasm_validator_core.specs.declared.error.Error.{Error}
 use Rattle.wasm_validator_core.specs.declared.error.Error.TheVariants.{Refused, DuplicateExport, OutOfMemory}
-use Rattle.wasm_validator_core.specs.Answers.{Types, IsNowhere, Adds, AddsWhere, HasValidTypes}
+use Rattle.wasm_validator_core.specs.Answers.{TypesSoFar, IsNowhere, Adds, AddsWhere, HasValidTypes}
 use Rattle.wasm_validator.specs.declared.validator.State.{State}
 use Rattle.wasm_validator.specs.declared.validator.State.TheVariants.{Unparsed, Module, Code, End, Failed}
 use Rattle.wasm_validator_module_state.specs.declared.module_state.ModuleState.{ModuleState}
@@ -17,29 +17,29 @@ use Rattle.wasm_validator.specs.States.{open_of, stage_of, state_kept, section_r
 use Rattle.wasm_validator.proofs.ItemSteps.{none_nowhere}
 use Rattle.wasm_validator.proofs.Growing.{within_some}
 
-module _ (id : ℕ) (features : WasmFeatures) (types : Types) (m : Spaces) where
+module _ (id : ℕ) (features : WasmFeatures) (types : TypesSoFar) (m : Spaces) where
   abbrev before : Standing
   before = record { id = id; features = features; stage = in_module types m }
 
-  abbrev after : {A : Type 0} → Types → State A → Standing
+  abbrev after : {A : Type 0} → TypesSoFar → State A → Standing
   after types' s = record { id = id; features = features; stage = stage_of types' s }
 
-  module _ (f : Types × Spaces → Option (Types × Spaces)) where
+  module _ (f : TypesSoFar × Spaces → Option (TypesSoFar × Spaces)) where
     nowhere_within : IsNowhere (HasValidTypes features) (f (types, m)) → IsNowhere HoldsValid (at_stage before (within f (in_module types m)))
     nowhere_within h q e v = let a = within_some before q types m f e in h a.0 a.1 (subst HoldsValid (sym a.2) v)
 
-    moves_here : {T A : Type 0} (r : Result T (Error A)) (types' : Types) (m' : ModuleState A) → AddsWhere (HasValidTypes features) r (f (types, m)) (types', m'.«module») → Moves r (at_stage before (within f (in_module types m))) before (after types' (state_kept r m'))
-    moves_here (results.Ok x) types' m' a = ap (λ o. at_stage before (option_and_then (λ (p : Types × Spaces). Some (in_module p.0 p.1)) o)) a
+    moves_here : {T A : Type 0} (r : Result T (Error A)) (types' : TypesSoFar) (m' : ModuleState A) → AddsWhere (HasValidTypes features) r (f (types, m)) (types', m'.«module») → Moves r (at_stage before (within f (in_module types m))) before (after types' (state_kept r m'))
+    moves_here (results.Ok x) types' m' a = ap (λ o. at_stage before (option_and_then (λ (p : TypesSoFar × Spaces). Some (in_module p.0 p.1)) o)) a
     moves_here (results.Err (Refused r)) types' m' a = (nowhere_within a, refl)
     moves_here (results.Err (DuplicateExport name offset)) types' m' a = (nowhere_within a, refl)
     moves_here (results.Err OutOfMemory) types' m' a = (refl, refl)
 
-module _ {T A : Type 0} (id : ℕ) (features : WasmFeatures) (types : Types) (m : Spaces) (f : WasmFeatures → Types × Spaces → Option (Types × Spaces)) where
+module _ {T A : Type 0} (id : ℕ) (features : WasmFeatures) (types : TypesSoFar) (m : Spaces) (f : WasmFeatures → TypesSoFar × Spaces → Option (TypesSoFar × Spaces)) where
   abbrev moves_by : Result T (Error A) → Standing → Standing → Type 0
   moves_by r old new = Moves r (at_stage old (within (f old.features) old.stage)) old new
 
   -- the same of the state that a validator has
-  pub section_moves : (s : State A) (r : Result T (Error A)) (types' : Types) (m' : ModuleState A) (old new : Standing) → open_of s ≡ Some m → record { id = id; features = features; stage = stage_of types s } ≡ old
+  pub section_moves : (s : State A) (r : Result T (Error A)) (types' : TypesSoFar) (m' : ModuleState A) (old new : Standing) → open_of s ≡ Some m → record { id = id; features = features; stage = stage_of types s } ≡ old
       → record { id = id; features = features; stage = stage_of types' (state_kept r m') } ≡ new → AddsWhere (HasValidTypes features) r (f features (types, m)) (types', m'.«module») → moves_by r old new
   section_moves (Module n) r types' m' old new o was is a =
       let same : n.«module» ≡ m = cc in
@@ -52,7 +52,7 @@ module _ {T A : Type 0} (id : ℕ) (features : WasmFeatures) (types : Types) (m 
   section_moves Failed r types' m' old new o was is a = absurd (cc)
 
 -- a section that leaves the list of types
-pub adds_beside : {T A : Type 0} (P : Types × Spaces → Type 0) (types : Types) (r : Result T (Error A)) (o : Option Spaces) (m : Spaces) → Adds r o m → AddsWhere P r (option_and_then (λ s. Some (types, s)) o) (types, m)
+pub adds_beside : {T A : Type 0} (P : TypesSoFar × Spaces → Type 0) (types : TypesSoFar) (r : Result T (Error A)) (o : Option Spaces) (m : Spaces) → Adds r o m → AddsWhere P r (option_and_then (λ s. Some (types, s)) o) (types, m)
 adds_beside P types (results.Ok x) o m a = ap (option_and_then (λ (s : Spaces). Some (types, s))) a
 adds_beside P types (results.Err (Refused r)) o m a = none_nowhere P (option_and_then (λ (s : Spaces). Some (types, s)) o) (ap (option_and_then (λ (s : Spaces). Some (types, s))) a)
 adds_beside P types (results.Err (DuplicateExport name offset)) o m a = none_nowhere P (option_and_then (λ (s : Spaces). Some (types, s)) o) (ap (option_and_then (λ (s : Spaces). Some (types, s))) a)

@@ -10,18 +10,19 @@ use Rattle.wasm_spec.proofs.Closing.{slice_get-append_left}
 use Rattle.wasm_rules.specs.FeatureFlags.{features_of}
 use Rattle.wasm_validator_canonical.specs.Sections.{StandsFor}
 use Rattle.wasm_validator_canonical.proofs.Sections.{one_id_for_one_type}
-use Rattle.wasm_validator_types.specs.Shown.{shown_of, types_of}
+use Rattle.wasm_validator_type_list.specs.DefTypes.{types_of_list}
+use Rattle.wasm_validator_types.specs.Shown.{shown_of}
 use Rattle.wasm_validator_types.specs.declared.shown.Types as shown
-use Rattle.wasm_validator_core.specs.Answers.{Types}
+use Rattle.wasm_validator_core.specs.Answers.{TypesSoFar}
 use Rattle.wasm_validator.specs.Standing.{unparsed, Standing, after_reset}
 use Rattle.wasm_validator.specs.Verdict.{Expressions, AcceptsModule}
 use Rattle.wasm_validator.specs.Sequences.{KeepsTypes, Takes, TakesEach, its_types, all_types, OneIdForOneType}
 
 -- the id is of this type in the list
-abbrev Stands : Types → ℕ × DefType → Type 0
+abbrev Stands : TypesSoFar → ℕ × DefType → Type 0
 Stands us p = StandsFor true us p.0 p.1
 
-longer : (us more : Types) (p : ℕ × DefType) → Stands us p → Stands (us ++ more) p
+longer : (us more : TypesSoFar) (p : ℕ × DefType) → Stands us p → Stands (us ++ more) p
 longer us more p s = record {
   listed = s.listed;
   is_there = slice_get-append_left us more p.0 (slice_get_within us p.0 s.listed s.is_there) ∙ s.is_there;
@@ -30,37 +31,37 @@ longer us more p s = record {
   same = s.same;
 }
 
-all_longer : (us more : Types) (ps : List (ℕ × DefType)) → All (Stands us) ps → All (Stands (us ++ more)) ps
+all_longer : (us more : TypesSoFar) (ps : List (ℕ × DefType)) → All (Stands us) ps → All (Stands (us ++ more)) ps
 all_longer us more [] a = All-nil (Stands (us ++ more))
 all_longer us more (p ∷ ps) a = All-cons (Stands (us ++ more)) p ps (longer us more p (All-head (Stands us) p ps a)) (all_longer us more ps (All-tail (Stands us) p ps a))
 
-zipped : (us : Types) (xs : List ℕ) (ds : List DefType) → AllZip (StandsFor true us) xs ds → All (Stands us) (zip xs ds)
+zipped : (us : TypesSoFar) (xs : List ℕ) (ds : List DefType) → AllZip (StandsFor true us) xs ds → All (Stands us) (zip xs ds)
 zipped us [] ds a = All-nil (Stands us)
 zipped us (x ∷ xs) [] a = All-nil (Stands us)
 zipped us (x ∷ xs) (d ∷ ds) a = All-cons (Stands us) (x, d) (zip xs ds) a.0 (zipped us xs ds a.1)
 
-join_all : (us : Types) (ps qs : List (ℕ × DefType)) → All (Stands us) ps → All (Stands us) qs → All (Stands us) (ps ++ qs)
+join_all : (us : TypesSoFar) (ps qs : List (ℕ × DefType)) → All (Stands us) ps → All (Stands us) qs → All (Stands us) (ps ++ qs)
 join_all us [] qs a b = b
 join_all us (p ∷ ps) qs a b = All-cons (Stands us) p (ps ++ qs) (All-head (Stands us) p ps a) (join_all us ps qs (All-tail (Stands us) p ps a) b)
 
-member : (us : Types) (ps : List (ℕ × DefType)) (k : ℕ) (p : ℕ × DefType) → All (Stands us) ps → slice_get ps k ≡ Some p → Stands us p
+member : (us : TypesSoFar) (ps : List (ℕ × DefType)) (k : ℕ) (p : ℕ × DefType) → All (Stands us) ps → slice_get ps k ≡ Some p → Stands us p
 member us [] k p a e = absurd cc
 member us (q ∷ ps) zero p a e = let same : q ≡ p = cc in subst (Stands us) same (All-head (Stands us) q ps a)
 member us (q ∷ ps) (suc k) p a e = member us ps k p (All-tail (Stands us) q ps a) e
 
 -- a list that begins with these types, in which no type has two ids, and where all these ids are of their types
-record AllStand (before : Types) (ps : List (ℕ × DefType)) : Type 0 where
-  list : Types
-  more : Types
+record AllStand (before : TypesSoFar) (ps : List (ℕ × DefType)) : Type 0 where
+  list : TypesSoFar
+  more : TypesSoFar
   front : list ≡ before ++ more
   once : HasNoRepetition list
   stand : All (Stands list) ps
 
-stages_apart : (T U : Types) → unparsed T ≡ unparsed U → T ≡ U
+stages_apart : (T U : TypesSoFar) → unparsed T ≡ unparsed U → T ≡ U
 stages_apart T U e = cc
 
 -- the same, unless there are no ids
-abbrev MayStand : Types → List (ℕ × DefType) → Type 0
+abbrev MayStand : TypesSoFar → List (ℕ × DefType) → Type 0
 MayStand before ps = (ps ≡ []) ⊎ AllStand before ps
 
 -- a module that is refused adds nothing but what stands behind
@@ -70,18 +71,18 @@ refused_stands old new a later (inr s) = inr (record { list = s.list; more = a.m
 
 module _ {A : Type 0} (expression_at : Expressions) where
   -- what an accepted module leaves, after `reset`
-  next_stage : (bytes : List ℕ) (old new : Standing) (t : shown.Types A) → AcceptsModule expression_at bytes old new t → (after_reset new).stage ≡ unparsed (types_of (shown_of t).list)
+  next_stage : (bytes : List ℕ) (old new : Standing) (t : shown.Types A) → AcceptsModule expression_at bytes old new t → (after_reset new).stage ≡ unparsed (types_of_list (shown_of t).list)
   next_stage bytes old new t a = ap (λ (s : Standing). (after_reset s).stage) a.after
 
   one_stands : (bytes : List ℕ) (old new : Standing) (t : shown.Types A) (m : AcceptsModule expression_at bytes old new t) → canonical (features_of old.features) ≡ true
-      → All (Stands (types_of (shown_of t).list)) (zip (shown_of t).spaces.types m.module_valid.well_formed.types.types)
-  one_stands bytes old new t m c = zipped (types_of (shown_of t).list) (shown_of t).spaces.types m.module_valid.well_formed.types.types (subst (λ b. AllZip (StandsFor b (types_of (shown_of t).list)) (shown_of t).spaces.types m.module_valid.well_formed.types.types) c m.shows.types)
+      → All (Stands (types_of_list (shown_of t).list)) (zip (shown_of t).spaces.types m.module_valid.well_formed.types.types)
+  one_stands bytes old new t m c = zipped (types_of_list (shown_of t).list) (shown_of t).spaces.types m.module_valid.well_formed.types.types (subst (λ b. AllZip (StandsFor b (types_of_list (shown_of t).list)) (shown_of t).spaces.types m.module_valid.well_formed.types.types) c m.shows.types)
 
   -- its types with those of later modules
   module_stands : (bytes : List ℕ) (old new : Standing) (t : shown.Types A) (a : AcceptsModule expression_at bytes old new t) (later : List (ℕ × DefType)) → canonical (features_of old.features) ≡ true
-      → AllStand (types_of (shown_of t).list) later → AllStand a.before (its_types expression_at bytes (Some t) old new a ++ later)
+      → AllStand (types_of_list (shown_of t).list) later → AllStand a.before (its_types expression_at bytes (Some t) old new a ++ later)
   module_stands bytes old new t a later c rest =
-      let here = types_of (shown_of t).list in
+      let here = types_of_list (shown_of t).list in
       let its = its_types expression_at bytes (Some t) old new a in
       record {
         list = rest.list;
@@ -93,35 +94,35 @@ module _ {A : Type 0} (expression_at : Expressions) where
 
   -- its own list, where no later module is accepted
   nothing_later : (bytes : List ℕ) (old new : Standing) (t : shown.Types A) (a : AcceptsModule expression_at bytes old new t) (later : List (ℕ × DefType)) → canonical (features_of old.features) ≡ true
-      → MayStand (types_of (shown_of t).list) later → AllStand (types_of (shown_of t).list) later
+      → MayStand (types_of_list (shown_of t).list) later → AllStand (types_of_list (shown_of t).list) later
   nothing_later bytes old new t a later c (inl none) =
-      let here = types_of (shown_of t).list in
+      let here = types_of_list (shown_of t).list in
       record { list = here; more = []; front = sym (append-nil here); once = a.shows.one_id c; stand = subst (All (Stands here)) (sym none) (All-nil (Stands here)) }
   nothing_later bytes old new t a later c (inr s) = s
 
-  took : (bytes : List ℕ) (answer : Option (shown.Types A)) (old new : Standing) (a : Takes expression_at bytes answer old new) (before : Types) (later : List (ℕ × DefType)) → canonical (features_of old.features) ≡ true → old.stage ≡ unparsed before
-      → ((next : Types) → (after_reset new).features ≡ old.features → (after_reset new).stage ≡ unparsed next → MayStand next later) → MayStand before (its_types expression_at bytes answer old new a ++ later)
+  took : (bytes : List ℕ) (answer : Option (shown.Types A)) (old new : Standing) (a : Takes expression_at bytes answer old new) (before : TypesSoFar) (later : List (ℕ × DefType)) → canonical (features_of old.features) ≡ true → old.stage ≡ unparsed before
+      → ((next : TypesSoFar) → (after_reset new).features ≡ old.features → (after_reset new).stage ≡ unparsed next → MayStand next later) → MayStand before (its_types expression_at bytes answer old new a ++ later)
   took bytes (Some t) old new a before later c w rest =
-      let here = types_of (shown_of t).list in
+      let here = types_of_list (shown_of t).list in
       let stood = nothing_later bytes old new t a later c (rest here (ap (λ (s : Standing). (after_reset s).features) a.after) (next_stage bytes old new t a)) in
       inr (subst (λ us. AllStand us (its_types expression_at bytes (Some t) old new a ++ later)) (stages_apart a.before before (sym a.began ∙ w)) (module_stands bytes old new t a later c stood))
   took bytes None old new a before later c w rest =
       subst (λ us. MayStand us later) (stages_apart a.before before (sym a.began ∙ w))
       (refused_stands old new a later (rest (a.before ++ a.more) (ap (λ (s : Standing). s.features) a.after) (ap (λ (s : Standing). s.stage) a.after)))
 
-  all_stand : (ms : List (List ℕ × Option (shown.Types A))) (old : Standing) (before : Types) (a : TakesEach expression_at old ms) → canonical (features_of old.features) ≡ true → old.stage ≡ unparsed before
+  all_stand : (ms : List (List ℕ × Option (shown.Types A))) (old : Standing) (before : TypesSoFar) (a : TakesEach expression_at old ms) → canonical (features_of old.features) ≡ true → old.stage ≡ unparsed before
       → MayStand before (all_types expression_at old ms a)
   all_stand [] old before a c w = inl refl
   all_stand (m ∷ ms) old before a c w =
       took m.0 m.1 old a.0 a.1 before (all_types expression_at (after_reset a.0) ms a.2) c w
       (λ next f s. all_stand ms (after_reset a.0) next a.2 (ap (λ g. canonical (features_of g)) f ∙ c) s)
 
-  began_with : (bytes : List ℕ) (answer : Option (shown.Types A)) (old new : Standing) → Takes expression_at bytes answer old new → (before : Types) × (old.stage ≡ unparsed before)
+  began_with : (bytes : List ℕ) (answer : Option (shown.Types A)) (old new : Standing) → Takes expression_at bytes answer old new → (before : TypesSoFar) × (old.stage ≡ unparsed before)
   began_with bytes (Some t) old new a = (a.before, a.began)
   began_with bytes None old new a = (a.before, a.began)
 
 -- two of the ids
-two_ids : (before : Types) (all : List (ℕ × DefType)) → MayStand before all → (j k : ℕ) (p q : ℕ × DefType) → slice_get all j ≡ Some p → slice_get all k ≡ Some q → (p.0 ≡ q.0) ↔ (p.1 ≡ q.1)
+two_ids : (before : TypesSoFar) (all : List (ℕ × DefType)) → MayStand before all → (j k : ℕ) (p q : ℕ × DefType) → slice_get all j ≡ Some p → slice_get all k ≡ Some q → (p.0 ≡ q.0) ↔ (p.1 ≡ q.1)
 two_ids before all (inl none) j k p q x y = absurd (let h : slice_get [] j ≡ Some p = subst (λ xs. slice_get xs j ≡ Some p) none x in cc)
 two_ids before all (inr s) j k p q x y =
     one_id_for_one_type s.list [] (subst HasNoRepetition (sym (append-nil s.list)) s.once) p.0 q.0 p.1 q.1 (member s.list all j p s.stand x) (subst (λ us. Stands us q) (sym (append-nil s.list)) (member s.list all k q s.stand y))

@@ -6,7 +6,7 @@ use Rattle.wasm_spec.specs.Trees.{DefType}
 use Rattle.wasm_rules.specs.IndexSpaces.{index_spaces, imported, functions_in, tables_in, memories_in, tags_in}
 use Rattle.wasm_rules.specs.Limits.{most_tables, most_memories}
 use Rattle.wasm_item_checks.specs.Laws.{Stand}
-use Rattle.wasm_validator_core.specs.Answers.{Types}
+use Rattle.wasm_validator_core.specs.Answers.{TypesSoFar}
 use Rattle.wasm_validator_core_laws.specs.Shown.{spaces_of}
 use Rattle.wasm_validator_core_laws.specs.Lists.{only_imports, up_to_functions, up_to_tables, up_to_memories, up_to_tags, listed_parts, has_no_init, AreValidLists}
 use Rattle.wasm_validator_core_laws.proofs.AddedImports.{imports_are_added}
@@ -16,7 +16,7 @@ use Rattle.wasm_validator_core_laws.proofs.AllLists.{fit_from, exports_law}
 use Rattle.wasm_validator_core_laws.proofs.AddedExports.{exports_are_added}
 use Rattle.wasm_validator.proofs.ServedLists.{Lists, parts_of, AreAdded}
 
-module _ (F : Features) (us : Types) (ids : List ℕ) (types : List DefType) (stand : Stand (canonical F) us ids types) (l : Lists) where
+module _ (F : Features) (us : TypesSoFar) (ids : List ℕ) (types : List DefType) (stand : Stand (canonical F) us ids types) (l : Lists) where
   pub lists_are_added : All has_no_init l.tables → AreValidLists F (index_spaces types (parts_of l)) (parts_of l) → AreAdded F us ids types l
   lists_are_added no_inits v =
       let fit = fit_from F us ids types stand (parts_of l) v in

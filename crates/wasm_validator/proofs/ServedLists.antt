@@ -11,7 +11,7 @@ use Rattle.wasm_spec.specs.Features.{Features}
 use Rattle.wasm_spec.specs.Trees.{DefType}
 use Rattle.wasm_parser.specs.Framing.{Piece}
 use Rattle.wasm_rules.specs.Parts.{Parts, Expression, index, all_items, starts_of, data_counts_of}
-use Rattle.wasm_validator_core.specs.Answers.{Types}
+use Rattle.wasm_validator_core.specs.Answers.{TypesSoFar}
 use Rattle.wasm_validator_core_laws.specs.Shown.{spaces_of}
 use Rattle.wasm_validator_core_laws.specs.Lists.{only_types, only_imports, up_to_functions, up_to_tables, up_to_memories, up_to_tags, listed_parts, has_no_init, add_imports, add_functions, add_tables, add_memories, add_tags, add_exports}
 
@@ -58,7 +58,7 @@ pub record AreOf (expression_at : Reading) (ps : List Piece) (l : Lists) : Type 
   pub data_counts : flat_map data_counts_of ps ≡ l.data_counts
 
 -- Lists that are valid are added one after another, each behind the state that the lists before it have left.
-pub record AreAdded (F : Features) (us : Types) (ids : List ℕ) (types : List DefType) (l : Lists) : Type 0 where
+pub record AreAdded (F : Features) (us : TypesSoFar) (ids : List ℕ) (types : List DefType) (l : Lists) : Type 0 where
   pub imports : add_imports F us (only_types ids) l.imports ≡ Some (spaces_of F types ids (only_imports l.imports))
   pub functions : add_functions us (spaces_of F types ids (only_imports l.imports)) l.functions ≡ Some (spaces_of F types ids (up_to_functions (parts_of l)))
   pub tables : add_tables F us (spaces_of F types ids (up_to_functions (parts_of l))) l.tables ≡ Some (spaces_of F types ids (up_to_tables (parts_of l)))

@@ -25,7 +25,7 @@ use Rattle.wasm_validator_canonical.proofs.Sections.{added_sections_are_valid, v
 use Rattle.wasm_validator.specs.Served.{is_served_piece, AreServed}
 use Rattle.wasm_validator_canonical.specs.Groups.{AreValid}
 use Rattle.wasm_validator_core.specs.declared.limits.TheConstants.{MAX_TYPES}
-use Rattle.wasm_validator_core.specs.Answers.{Types}
+use Rattle.wasm_validator_core.specs.Answers.{TypesSoFar}
 use Rattle.wasm_validator.proofs.AddedTypes.{TypesAdded, section, type_space, as_many_types, as_many_zipped}
 use Rattle.wasm_validator.proofs.ModuleRun.{AreParts}
 use Rattle.wasm_validator.proofs.EmptyPieces.{with_items, served_parts, all_with_items, all_allowed}
@@ -35,7 +35,7 @@ use Rattle.wasm_validator.proofs.ServedLists.{Lists, parts_of}
 use Rattle.wasm_validator.proofs.ServedValid.{lists_valid, valid_lists}
 use Rattle.wasm_validator.proofs.ServedPieces.{whole, all_parts, lists_of, parts_are, same_parts, allowed_to_end, allowed_before_end}
 
-module _ (expression_at : List ℕ → Option (Expression × List ℕ)) (features : WasmFeatures) (T : Types) (bytes : List ℕ) where
+module _ (expression_at : List ℕ → Option (Expression × List ℕ)) (features : WasmFeatures) (T : TypesSoFar) (bytes : List ℕ) where
   abbrev F : Features
   F = features_of features
 

@@ -16,71 +16,71 @@ use Rattle.wasm_validator_core.specs.declared.limits.TheConstants.{MAX_TAGS}
 use Rattle.wasm_validator_core.specs.Items.{add_tag}
 use Rattle.wasm_validator_canonical.proofs.Canonical.{and_left, and_right}
 use Rattle.wasm_spec.specs.BinaryTypes.{tag_at}
-use Rattle.wasm_validator_core.specs.Answers.{Types}
+use Rattle.wasm_validator_core.specs.Answers.{TypesSoFar}
 use Rattle.wasm_validator.specs.Standing.{Stage, unparsed, in_module, in_code, ended, failed, Standing, refused_at, read_refused_at, body_refused_at, ended_at, within, within_all, at_stage}
 use Rattle.wasm_validator.specs.States.{begun, code_started, module_ended, after_piece, is_barred}
 use Rattle.wasm_validator.specs.Machine.{no_items, read_section, section_items, start_item, data_count_item, beside}
 use Rattle.wasm_validator.specs.Table.{phase_of, bodies_at, call_of, AcceptedByTable, RefusedByTable}
 
-stays : (s t : Standing) (o : Option (Types × Spaces)) → at_stage s (option_and_then (λ (p : Types × Spaces). Some (in_module p.0 p.1)) o) ≡ Some t → phase_of t.stage ≡ table.in_module
+stays : (s t : Standing) (o : Option (TypesSoFar × Spaces)) → at_stage s (option_and_then (λ (p : TypesSoFar × Spaces). Some (in_module p.0 p.1)) o) ≡ Some t → phase_of t.stage ≡ table.in_module
 stays s t None e = absurd cc
 stays s t (Some p) e = let same : record s { stage = in_module p.0 p.1 } ≡ t = cc in ap (λ (u : Standing). phase_of u.stage) (sym same)
 
-begins : (s t : Standing) (a b : Bool) (types : Types) → at_stage s (cond (a && b) (Some (in_module types no_spaces)) None) ≡ Some t → phase_of t.stage ≡ table.in_module
+begins : (s t : Standing) (a b : Bool) (types : TypesSoFar) → at_stage s (cond (a && b) (Some (in_module types no_spaces)) None) ≡ Some t → phase_of t.stage ≡ table.in_module
 begins s t true true types e = let same : record s { stage = in_module types no_spaces } ≡ t = cc in ap (λ (u : Standing). phase_of u.stage) (sym same)
 begins s t true false types e = absurd cc
 begins s t false b types e = absurd cc
 
 -- a step within a module stays in it
-within_stays : (s t : Standing) (g : Stage) (f : Types × Spaces → Option (Types × Spaces)) → at_stage s (within f g) ≡ Some t → (phase_of g ≡ table.in_module) × (phase_of t.stage ≡ table.in_module)
+within_stays : (s t : Standing) (g : Stage) (f : TypesSoFar × Spaces → Option (TypesSoFar × Spaces)) → at_stage s (within f g) ≡ Some t → (phase_of g ≡ table.in_module) × (phase_of t.stage ≡ table.in_module)
 within_stays s t (unparsed types) f e = absurd cc
 within_stays s t (in_module types spaces) f e = (refl, stays s t (f (types, spaces)) e)
 within_stays s t (in_code types spaces) f e = absurd cc
 within_stays s t (ended types) f e = absurd cc
 within_stays s t failed f e = absurd cc
 
-section_accepted : (s t : Standing) (g : Stage) (f : Types × Spaces → Option (Types × Spaces)) → at_stage s (within f g) ≡ Some t → accepted_to section (phase_of g) ≡ Some (phase_of t.stage)
+section_accepted : (s t : Standing) (g : Stage) (f : TypesSoFar × Spaces → Option (TypesSoFar × Spaces)) → at_stage s (within f g) ≡ Some t → accepted_to section (phase_of g) ≡ Some (phase_of t.stage)
 section_accepted s t g f e = let h = within_stays s t g f e in ap (accepted_to section) h.0 ∙ ap Some (sym h.1)
 
 -- a data section has no items, and changes nothing
-no_items_stay : (n : ℕ) (bytes : List ℕ) (p q : Types × Spaces) → beside (λ us. no_items n bytes) p ≡ Some q → p ≡ q
+no_items_stay : (n : ℕ) (bytes : List ℕ) (p q : TypesSoFar × Spaces) → beside (λ us. no_items n bytes) p ≡ Some q → p ≡ q
 no_items_stay n bytes p q e =
     let a = then_some (λ (s : Spaces). Some (p.0, s)) (no_items n bytes p.1) q e in
     let b = guarded (eqb n 0 && eqb (length bytes) 0) (Some p.1) a.0 a.1 in
     (λ i. (p.0, same_Some p.1 a.0 b.1 i)) ∙ same_Some (p.0, a.0) q a.2
 
-data_stays : (features : WasmFeatures) (id n : ℕ) (bytes : List ℕ) (p q : Types × Spaces) → id ≡ 11 → section_items features id n bytes p ≡ Some q → p ≡ q
+data_stays : (features : WasmFeatures) (id n : ℕ) (bytes : List ℕ) (p q : TypesSoFar × Spaces) → id ≡ 11 → section_items features id n bytes p ≡ Some q → p ≡ q
 data_stays features id n bytes p q h e = no_items_stay n bytes p q (subst (λ k. section_items features k n bytes p ≡ Some q) h e)
 
 -- a step that changes nothing, before the start of the code or behind it
-within_all_stays : (s t : Standing) (g : Stage) (f : Types × Spaces → Option (Types × Spaces)) → ((p q : Types × Spaces) → f p ≡ Some q → p ≡ q) → at_stage s (within_all f g) ≡ Some t → accepted_to data_section (phase_of g) ≡ Some (phase_of t.stage)
+within_all_stays : (s t : Standing) (g : Stage) (f : TypesSoFar × Spaces → Option (TypesSoFar × Spaces)) → ((p q : TypesSoFar × Spaces) → f p ≡ Some q → p ≡ q) → at_stage s (within_all f g) ≡ Some t → accepted_to data_section (phase_of g) ≡ Some (phase_of t.stage)
 within_all_stays s t (unparsed types) f h e = absurd cc
 within_all_stays s t (in_module types spaces) f h e = ap Some (sym (stays s t (f (types, spaces)) e))
 within_all_stays s t (in_code types spaces) f h e =
     let a = then_some (λ (g : Stage). Some (record s { stage = g })) (within_all f (in_code types spaces)) t e in
-    let b = then_some (λ (p : Types × Spaces). Some (in_code p.0 p.1)) (f (types, spaces)) a.0 a.1 in
-    ap (λ (p : Types × Spaces). Some (phase_of (in_code p.0 p.1))) (h (types, spaces) b.0 b.1)
+    let b = then_some (λ (p : TypesSoFar × Spaces). Some (in_code p.0 p.1)) (f (types, spaces)) a.0 a.1 in
+    ap (λ (p : TypesSoFar × Spaces). Some (phase_of (in_code p.0 p.1))) (h (types, spaces) b.0 b.1)
     ∙ ap (λ g. Some (phase_of g)) (same_Some (in_code b.0.0 b.0.1) a.0 b.2)
     ∙ ap (λ (u : Standing). Some (phase_of u.stage)) (same_Some (record s { stage = a.0 }) t a.2)
 within_all_stays s t (ended types) f h e = absurd cc
 within_all_stays s t failed f h e = absurd cc
 
 -- a barred section is not accepted
-barred_nowhere : (features : WasmFeatures) (id n : ℕ) (bytes : List ℕ) (p : Types × Spaces) → is_barred features id ≡ true → section_items features id n bytes p ≡ None
+barred_nowhere : (features : WasmFeatures) (id n : ℕ) (bytes : List ℕ) (p : TypesSoFar × Spaces) → is_barred features id ≡ true → section_items features id n bytes p ≡ None
 barred_nowhere features id n bytes p e =
     let is = eqb-true id 13 (and_left (eqb id 13) (not (features_of features).exceptions) e) in
     let missing = not-true (features_of features).exceptions (and_right (eqb id 13) (not (features_of features).exceptions) e) in
     ap (λ k. section_items features k n bytes p) is
     ∙ ap (λ b. option_and_then (λ (s : Spaces). Some (p.0, s)) (cond b (read_section tag_at (add_tag (features_of features) p.0) (length p.1.tags) MAX_TAGS n bytes p.1) None)) missing
 
-nowhere_within : (s t : Standing) (g : Stage) (f : Types × Spaces → Option (Types × Spaces)) → ((p : Types × Spaces) → f p ≡ None) → at_stage s (within f g) ≡ Some t → ⊥
+nowhere_within : (s t : Standing) (g : Stage) (f : TypesSoFar × Spaces → Option (TypesSoFar × Spaces)) → ((p : TypesSoFar × Spaces) → f p ≡ None) → at_stage s (within f g) ≡ Some t → ⊥
 nowhere_within s t (unparsed types) f none e = cc
-nowhere_within s t (in_module types spaces) f none e = let h = ap (λ o. at_stage s (option_and_then (λ (p : Types × Spaces). Some (in_module p.0 p.1)) o)) (sym (none (types, spaces))) ∙ e in cc
+nowhere_within s t (in_module types spaces) f none e = let h = ap (λ o. at_stage s (option_and_then (λ (p : TypesSoFar × Spaces). Some (in_module p.0 p.1)) o)) (sym (none (types, spaces))) ∙ e in cc
 nowhere_within s t (in_code types spaces) f none e = cc
 nowhere_within s t (ended types) f none e = cc
 nowhere_within s t failed f none e = cc
 
-section_or_barred : (s t : Standing) (b : Bool) (f : Types × Spaces → Option (Types × Spaces)) → (b ≡ true → (p : Types × Spaces) → f p ≡ None) → at_stage s (within f s.stage) ≡ Some t
+section_or_barred : (s t : Standing) (b : Bool) (f : TypesSoFar × Spaces → Option (TypesSoFar × Spaces)) → (b ≡ true → (p : TypesSoFar × Spaces) → f p ≡ None) → at_stage s (within f s.stage) ≡ Some t
     → accepted_to (cond b barred_section section) (phase_of s.stage) ≡ Some (phase_of t.stage)
 section_or_barred s t true f none e = absurd (nowhere_within s t s.stage f (none refl) e)
 section_or_barred s t false f none e = section_accepted s t s.stage f e
@@ -175,7 +175,7 @@ refused_custom (ended types) = refl
 refused_custom failed = refl
 
 -- a body, where so many are to come
-body_turn : (types : Types) (spaces : Spaces) (n : ℕ) → expected_bodies spaces ≡ n → refused_to table.code_entry (table.in_code n) ≡ phase_of (cond (eqb n 0) (in_code types spaces) failed)
+body_turn : (types : TypesSoFar) (spaces : Spaces) (n : ℕ) → expected_bodies spaces ≡ n → refused_to table.code_entry (table.in_code n) ≡ phase_of (cond (eqb n 0) (in_code types spaces) failed)
 body_turn types spaces zero e = ap table.in_code (sym e)
 body_turn types spaces (suc n) e = ap phase_of (sym (unless (eqb (suc n) 0) (in_code types spaces) failed (ne_eqb (suc n) 0 (λ h. cc))))
 

@@ -16,7 +16,7 @@ use Rattle.wasm_readers.specs.declared.section_limited.SectionLimited.{SectionLi
 use Rattle.wasm_validator_types.specs.Spaces.{Spaces}
 use Rattle.wasm_validator_core.specs.declared.error.Error.{Error}
 use Rattle.wasm_validator_core.specs.declared.error.Error.TheVariants.{Refused, DuplicateExport, OutOfMemory}
-use Rattle.wasm_validator_core.specs.Answers.{Types}
+use Rattle.wasm_validator_core.specs.Answers.{TypesSoFar}
 use Rattle.wasm_validator.specs.declared.validator.State.{State}
 use Rattle.wasm_validator.specs.declared.validator.State.TheVariants.{Unparsed, Module, Code, End, Failed}
 use Rattle.wasm_validator.specs.Standing.{Stage, unparsed, in_module, in_code, ended, failed, Standing}
@@ -24,7 +24,7 @@ use Rattle.wasm_validator.specs.States.{open_of, stage_of, order_at}
 use Rattle.wasm_validator.specs.SectionsTold.{OfContent, StandsBetween, TellsAt, TellsWithin, TellsUnserved, refusal_of_items, order_told}
 
 -- a module is being read, before the start of its code
-open_stage : {A : Type 0} (types : Types) (s : State A) (m : Spaces) → open_of s ≡ Some m → stage_of types s ≡ in_module types m
+open_stage : {A : Type 0} (types : TypesSoFar) (s : State A) (m : Spaces) → open_of s ≡ Some m → stage_of types s ≡ in_module types m
 open_stage types (Module n) m o = let same : n.«module» ≡ m = cc in ap (λ x. in_module types x) same
 open_stage types (Code n) m o = absurd (cc)
 open_stage types Unparsed m o = absurd (cc)
@@ -32,19 +32,19 @@ open_stage types End m o = absurd (cc)
 open_stage types Failed m o = absurd (cc)
 
 -- elsewhere the order is told
-order_stage : {A : Type 0} (types : Types) (s : State A) (tells : Types → Spaces → Error A → Type 0) (place : ℕ) (r : Refusal) → open_of s ≡ None → r ≡ plain (fault.OutOfOrder (order_at s)) place → TellsWithin tells place (stage_of types s) (Refused r)
+order_stage : {A : Type 0} (types : TypesSoFar) (s : State A) (tells : TypesSoFar → Spaces → Error A → Type 0) (place : ℕ) (r : Refusal) → open_of s ≡ None → r ≡ plain (fault.OutOfOrder (order_at s)) place → TellsWithin tells place (stage_of types s) (Refused r)
 order_stage types (Module n) tells place r o e = absurd (cc)
 order_stage types (Code n) tells place r o e = ap Refused e
 order_stage types Unparsed tells place r o e = ap Refused e
 order_stage types End tells place r o e = ap Refused e
 order_stage types Failed tells place r o e = ap Refused e
 
-module _ {A : Type 0} (id : ℕ) (features : WasmFeatures) (types : Types) (s : State A) where
+module _ {A : Type 0} (id : ℕ) (features : WasmFeatures) (types : TypesSoFar) (s : State A) where
   abbrev here : Standing
   here = record { id = id; features = features; stage = stage_of types s }
 
   -- where a module is being read, what its lists say is told
-  error_told : (m : Spaces) (tells : WasmFeatures → Types → Spaces → Error A → Type 0) (place : ℕ) (old : Standing) (e : Error A) → open_of s ≡ Some m → here ≡ old
+  error_told : (m : Spaces) (tells : WasmFeatures → TypesSoFar → Spaces → Error A → Type 0) (place : ℕ) (old : Standing) (e : Error A) → open_of s ≡ Some m → here ≡ old
       → OfContent (tells features types m) e → OfContent (TellsWithin (tells old.features) place old.stage) e
   error_told m tells place old e o was h =
       let opened : stage_of types s ≡ in_module types m = open_stage types s m o in
@@ -52,18 +52,18 @@ module _ {A : Type 0} (id : ℕ) (features : WasmFeatures) (types : Types) (s : 
       let same : start ≡ old = (λ i. record { id = id; features = features; stage = sym opened i }) ∙ was in
       subst (λ (w : Standing). OfContent (TellsWithin (tells w.features) place w.stage) e) same h
 
-  pub told_within : {T : Type 0} (m : Spaces) (tells : WasmFeatures → Types → Spaces → Error A → Type 0) (place : ℕ) (old : Standing) (r q : Result T (Error A)) → open_of s ≡ Some m → here ≡ old → q ≡ r
+  pub told_within : {T : Type 0} (m : Spaces) (tells : WasmFeatures → TypesSoFar → Spaces → Error A → Type 0) (place : ℕ) (old : Standing) (r q : Result T (Error A)) → open_of s ≡ Some m → here ≡ old → q ≡ r
       → IfErr r (OfContent (tells features types m)) → IfErr q (OfContent (TellsWithin (tells old.features) place old.stage))
   told_within m tells place old (results.Ok x) q o was same h = subst (λ w. IfErr w (OfContent (TellsWithin (tells old.features) place old.stage))) (sym same) h
   told_within m tells place old (results.Err e) q o was same h = subst (λ w. IfErr w (OfContent (TellsWithin (tells old.features) place old.stage))) (sym same) (error_told m tells place old e o was h)
 
   -- where none is, or its code has started, the order is told
-  pub order_within : (tells : WasmFeatures → Types → Spaces → Error A → Type 0) (place : ℕ) (old : Standing) (r : Refusal) → open_of s ≡ None → here ≡ old → r ≡ plain (fault.OutOfOrder (order_at s)) place
+  pub order_within : (tells : WasmFeatures → TypesSoFar → Spaces → Error A → Type 0) (place : ℕ) (old : Standing) (r : Refusal) → open_of s ≡ None → here ≡ old → r ≡ plain (fault.OutOfOrder (order_at s)) place
       → TellsWithin (tells old.features) place old.stage (Refused r)
   order_within tells place old r o was e = subst (λ (w : Standing). TellsWithin (tells w.features) place w.stage (Refused r)) was (order_stage types s (tells features) place r o e)
 
   -- the same of what is told of any error
-  any_told : (m : Spaces) (tells : WasmFeatures → Types → Spaces → Error A → Type 0) (place : ℕ) (old : Standing) (e : Error A) → open_of s ≡ Some m → here ≡ old
+  any_told : (m : Spaces) (tells : WasmFeatures → TypesSoFar → Spaces → Error A → Type 0) (place : ℕ) (old : Standing) (e : Error A) → open_of s ≡ Some m → here ≡ old
       → tells features types m e → TellsWithin (tells old.features) place old.stage e
   any_told m tells place old e o was h =
       let opened : stage_of types s ≡ in_module types m = open_stage types s m o in
@@ -71,7 +71,7 @@ module _ {A : Type 0} (id : ℕ) (features : WasmFeatures) (types : Types) (s : 
       let same : start ≡ old = (λ i. record { id = id; features = features; stage = sym opened i }) ∙ was in
       subst (λ (w : Standing). TellsWithin (tells w.features) place w.stage e) same h
 
-  pub all_told_within : {T : Type 0} (m : Spaces) (tells : WasmFeatures → Types → Spaces → Error A → Type 0) (place : ℕ) (old : Standing) (r q : Result T (Error A)) → open_of s ≡ Some m → here ≡ old → q ≡ r
+  pub all_told_within : {T : Type 0} (m : Spaces) (tells : WasmFeatures → TypesSoFar → Spaces → Error A → Type 0) (place : ℕ) (old : Standing) (r q : Result T (Error A)) → open_of s ≡ Some m → here ≡ old → q ≡ r
       → IfErr r (tells features types m) → IfErr q (TellsWithin (tells old.features) place old.stage)
   all_told_within m tells place old (results.Ok x) q o was same h = subst (λ w. IfErr w (TellsWithin (tells old.features) place old.stage)) (sym same) h
   all_told_within m tells place old (results.Err e) q o was same h = subst (λ w. IfErr w (TellsWithin (tells old.features) place old.stage)) (sym same) (any_told m tells place old e o was h)
@@ -85,7 +85,7 @@ module _ {A : Type 0} where
   checked_told (results.Err r) (results.Err e) told place same is tells at = subst (TellsAt place told) (sym is) (sym tells, at)
 
   -- what is told within a module, for another reason
-  within_map : (tells tells' : Types → Spaces → Error A → Type 0) (place : ℕ) (g : Stage) (e : Error A) → ((us : Types) (m : Spaces) → tells us m e → tells' us m e) → TellsWithin tells place g e → TellsWithin tells' place g e
+  within_map : (tells tells' : TypesSoFar → Spaces → Error A → Type 0) (place : ℕ) (g : Stage) (e : Error A) → ((us : TypesSoFar) (m : Spaces) → tells us m e → tells' us m e) → TellsWithin tells place g e → TellsWithin tells' place g e
   within_map tells tells' place (unparsed us) e f h = h
   within_map tells tells' place (in_module us m) e f h = f us m h
   within_map tells tells' place (in_code us m) e f h = h

@@ -11,27 +11,27 @@ use Rattle.wasm_readers_types.specs.declared.indices.UnpackedIndex.{UnpackedInde
 use Rattle.wasm_validator_type_list.proofs.Grouped.{all-left}
 use Rattle.wasm_validator_canonical.specs.Groups.{AreValid}
 use Rattle.wasm_validator_types.specs.Spaces.{Spaces}
-use Rattle.wasm_validator_core.specs.Answers.{Types, HasValidTypes}
+use Rattle.wasm_validator_core.specs.Answers.{TypesSoFar, HasValidTypes}
 use Rattle.wasm_validator_core.specs.Machine.{add_group}
 use Rattle.wasm_validator.specs.Machine.{section_items, beside}
 use Rattle.wasm_validator.specs.Standing.{Standing, HoldsAt, HoldsValid}
 use Rattle.wasm_validator.specs.Payloads.{after_all}
 use Rattle.wasm_validator.proofs.Growing as growing
 
-fronts_valid : (F : Features) (us more : Types) → AreValid F (us ++ more) → AreValid F us
+fronts_valid : (F : Features) (us more : TypesSoFar) → AreValid F (us ++ more) → AreValid F us
 fronts_valid F us more v = all-left (IsValidType F declared) us more v
 
 module _ (features : WasmFeatures) where
-  abbrev V : Types → Type 0
+  abbrev V : TypesSoFar → Type 0
   V = AreValid (features_of features)
 
-  pub group_back : (p q : Types × Spaces) (g : Rec UnpackedIndex) → add_group features p g ≡ Some q → HasValidTypes features q → HasValidTypes features p
+  pub group_back : (p q : TypesSoFar × Spaces) (g : Rec UnpackedIndex) → add_group features p g ≡ Some q → HasValidTypes features q → HasValidTypes features p
   group_back p q g e v = growing.group_back V (fronts_valid (features_of features)) features p q g e v
 
-  pub beside_back : (f : Types → Spaces → Option Spaces) (p q : Types × Spaces) → beside f p ≡ Some q → HasValidTypes features q → HasValidTypes features p
+  pub beside_back : (f : TypesSoFar → Spaces → Option Spaces) (p q : TypesSoFar × Spaces) → beside f p ≡ Some q → HasValidTypes features q → HasValidTypes features p
   beside_back f p q e v = growing.beside_back V (fronts_valid (features_of features)) features f p q e v
 
-  pub section_back : (id n : ℕ) (bytes : List ℕ) (p q : Types × Spaces) → section_items features id n bytes p ≡ Some q → HasValidTypes features q → HasValidTypes features p
+  pub section_back : (id n : ℕ) (bytes : List ℕ) (p q : TypesSoFar × Spaces) → section_items features id n bytes p ≡ Some q → HasValidTypes features q → HasValidTypes features p
   section_back id n bytes p q e v = growing.section_back V (fronts_valid (features_of features)) features id n bytes p q e v
 
 pub all_back : (ps : List Piece) (s t : Standing) → after_all s ps ≡ Some t → HoldsValid t → HoldsValid s

@@ -20,13 +20,13 @@ use Rattle.wasm_rules.proofs.Ordered.{Follows}
 use Rattle.wasm_rules.proofs.Tests.{then_some}
 use Rattle.wasm_readers_errors.specs.declared.features.WasmFeatures.{WasmFeatures}
 use Rattle.wasm_validator_types.specs.Spaces.{Spaces, no_spaces}
-use Rattle.wasm_validator_type_list.specs.Standing.{standing}
-use Rattle.wasm_validator_types.specs.Shown.{shown_of, types_of, HoldsIds}
+use Rattle.wasm_validator_type_list.specs.DefTypes.{def_types, types_of_list}
+use Rattle.wasm_validator_types.specs.Shown.{shown_of, HoldsIds}
 use Rattle.wasm_validator_types.specs.declared.shown.Types as shown
 use Rattle.wasm_validator_core.specs.declared.error.Error.{Error}
 use Rattle.wasm_validator_core.specs.declared.error.Error.TheVariants.{Refused, DuplicateExport, OutOfMemory}
 use Rattle.wasm_validator_canonical.specs.Groups.{AreValid}
-use Rattle.wasm_validator_core.specs.Answers.{Types, HasValidTypes}
+use Rattle.wasm_validator_core.specs.Answers.{TypesSoFar, HasValidTypes}
 use Rattle.wasm_validator.specs.Served.{is_served_piece}
 use Rattle.wasm_validator.specs.Standing.{Stage, Standing, unparsed, in_module, in_code, ended, failed, fresh, shown_at, AreValidAt, HoldsValid}
 use Rattle.wasm_validator.specs.States.{after_piece, after_version, IsBeforeEnd}
@@ -68,7 +68,7 @@ unique_end (x ∷ xs) (y ∷ front) behind i e =
 
 -- where a header begins a module
 record Begins (old : Standing) (number kind : ℕ) (s : Standing) : Type 0 where
-  before : Types
+  before : TypesSoFar
   was : old.stage ≡ unparsed before
   header : Version number kind ≡ Version 1 0
   now : s ≡ at old.id old.features false (before, no_spaces)
@@ -115,25 +115,25 @@ the_same x y e = cc
 
 -- a run through the end, by its run inside
 record RunsInside {A : Type 0} (bytes : List ℕ) (old new : Standing) (t : shown.Types A) (pieces : List Piece) (f : IsFramed bytes pieces) : Type 0 where
-  before : Types
+  before : TypesSoFar
   was : old.stage ≡ unparsed before
   header : Version f.number f.kind ≡ Version 1 0
-  q : Types × Spaces
+  q : TypesSoFar × Spaces
   inside : each (step old.features) (before, no_spaces) (with_items f.others) ≡ Some q
   served : list_all is_served_piece f.others ≡ true
   valid : HasValidTypes old.features q
   after : new ≡ record old { stage = ended q.0 }
-  list : q.0 ≡ types_of (shown_of t).list
+  list : q.0 ≡ types_of_list (shown_of t).list
   spaces : q.1 ≡ (shown_of t).spaces
   same_id : (shown_of t).id ≡ old.id
-  once : canonical (features_of old.features) ≡ true → HasNoRepetition (types_of (shown_of t).list)
+  once : canonical (features_of old.features) ≡ true → HasNoRepetition (types_of_list (shown_of t).list)
 
 -- no type has two ids in what is shown
-same_once : {A : Type 0} (t : shown.Types A) (old s : Standing) → old.features ≡ s.features → Show s t → canonical (features_of old.features) ≡ true → HasNoRepetition (types_of (shown_of t).list)
+same_once : {A : Type 0} (t : shown.Types A) (old s : Standing) → old.features ≡ s.features → Show s t → canonical (features_of old.features) ≡ true → HasNoRepetition (types_of_list (shown_of t).list)
 same_once t old s f h e =
     let list = (shown_of t).list in
     let mode : list.is_canonical ≡ true = h.mode ∙ ap (λ (g : WasmFeatures). canonical (features_of g)) (sym f) ∙ e in
-    subst (λ (c : Bool). HasNoRepetition (standing c list.groups)) (sym mode) (h.once mode).types
+    subst (λ (c : Bool). HasNoRepetition (def_types c list.groups)) (sym mode) (h.once mode).types
 
 runs_inside : {A : Type 0} (bytes : List ℕ) (old new : Standing) (t : shown.Types A) (a : Accepts bytes old new t) → RunsInside bytes old new t a.pieces a.framed
 runs_inside bytes old new t a =
@@ -142,7 +142,7 @@ runs_inside bytes old new t a =
     let whole : after_all old (header ∷ (f.others ++ parts.End ∷ [])) ≡ Some new = sym (ap (after_all old) f.all) ∙ a.accepted in
     let first = then_some (λ s. after_all s (f.others ++ parts.End ∷ [])) (after_piece old header) new whole in
     let b = begins old f.number f.kind first.0 first.1 in
-    let start : Types × Spaces = (b.before, no_spaces) in
+    let start : TypesSoFar × Spaces = (b.before, no_spaces) in
     let inner = others_inner bytes a.pieces f in
     let rest : option_and_then (λ s. after_all s (parts.End ∷ [])) (after_all (at old.id old.features false start) f.others) ≡ Some new =
     sym (all_split f.others (parts.End ∷ []) (at old.id old.features false start)) ∙ sym (ap (λ s. after_all s (f.others ++ parts.End ∷ [])) b.now) ∙ first.2 in
@@ -155,8 +155,8 @@ runs_inside bytes old new t a =
     let reached : after_all old (header ∷ f.others) ≡ Some (at old.id old.features m.code q) =
     ap (option_and_then (λ s. after_all s f.others)) first.1 ∙ ap (λ s. after_all s f.others) b.now ∙ last.1 ∙ ap Some (sym m.there) in
     let at_end : at old.id old.features m.code q ≡ a.before_end = the_same (at old.id old.features m.code q) a.before_end (sym reached ∙ ap (after_all old) split ∙ a.reached) in
-    let seen : Some q ≡ Some (types_of (shown_of t).list, (shown_of t).spaces) = sym (shown_in m.code q) ∙ ap (λ (s : Standing). shown_at s.stage) at_end ∙ a.shown.held in
-    let shown_pair : Types × Spaces = (types_of (shown_of t).list, (shown_of t).spaces) in
+    let seen : Some q ≡ Some (types_of_list (shown_of t).list, (shown_of t).spaces) = sym (shown_in m.code q) ∙ ap (λ (s : Standing). shown_at s.stage) at_end ∙ a.shown.held in
+    let shown_pair : TypesSoFar × Spaces = (types_of_list (shown_of t).list, (shown_of t).spaces) in
     let pair : q ≡ shown_pair = the_same q shown_pair seen in
     record {
       before = b.before;
@@ -165,7 +165,7 @@ runs_inside bytes old new t a =
       q = q;
       inside = sym (run_with_items old.features f.others start) ∙ m.ran;
       served = m.served;
-      valid = subst (AreValid (features_of old.features)) (sym (λ i. (pair i).0)) (subst (λ (s : Standing). AreValid (features_of s.features) (types_of (shown_of t).list)) (sym at_end) a.shown.valid);
+      valid = subst (AreValid (features_of old.features)) (sym (λ i. (pair i).0)) (subst (λ (s : Standing). AreValid (features_of s.features) (types_of_list (shown_of t).list)) (sym at_end) a.shown.valid);
       after = sym stood;
       list = λ i. (pair i).0;
       spaces = λ i. (pair i).1;
@@ -174,7 +174,7 @@ runs_inside bytes old new t a =
     }
 
 -- what the lists at the end show
-module _ (expression_at : Expressions) (features : WasmFeatures) (T : Types) (ps : List Piece) (a : Accepted expression_at features T ps) where
+module _ (expression_at : Expressions) (features : WasmFeatures) (T : TypesSoFar) (ps : List Piece) (a : Accepted expression_at features T ps) where
   abbrev F : Features
   F = features_of features
 
@@ -214,12 +214,12 @@ accepts_valid bytes old new t a expression_at =
     let F = features_of old.features in
     let C = end_spaces expression_at old.features r.before ps acc in
     let its = end_parts expression_at old.features r.before ps acc in
-    let there : end_of expression_at old.features r.before ps acc ≡ (types_of (shown_of t).list, (shown_of t).spaces) = run.ends ∙ (λ i. (r.list i, r.spaces i)) in
+    let there : end_of expression_at old.features r.before ps acc ≡ (types_of_list (shown_of t).list, (shown_of t).spaces) = run.ends ∙ (λ i. (r.list i, r.spaces i)) in
     let once : canonical F ≡ true → HasNoRepetition (end_of expression_at old.features r.before ps acc).0 = λ e. subst HasNoRepetition (sym (λ i. (there i).0)) (r.once e) in
     let held = section old.features r.before acc.lists.groups acc.types in
     record {
       module_valid = accepted_valid expression_at old.features r.before bytes a.pieces f r.header parts allowed acc;
-      shows = subst (λ (x : Types × Spaces). ShowModule F x.0 x.1 C its) there (ends_shown expression_at old.features r.before ps acc once);
+      shows = subst (λ (x : TypesSoFar × Spaces). ShowModule F x.0 x.1 C its) there (ends_shown expression_at old.features r.before ps acc once);
       same_id = r.same_id;
       before = r.before;
       began = r.was;
@@ -227,11 +227,11 @@ accepts_valid bytes old new t a expression_at =
       kept = sym (λ i. (there i).0) ∙ held.front;
       own_ids = λ own. sym (λ i. (there i).1.types) ∙ held.own_ids own;
       own_types = λ own. ap length (sym (λ i. (there i).0)) ∙ held.grows own;
-      after = r.after ∙ ap (λ (xs : Types). record old { stage = ended xs }) r.list;
+      after = r.after ∙ ap (λ (xs : TypesSoFar). record old { stage = ended xs }) r.list;
     }
 
 -- what has no accepted run is no valid module of the forms that are served
-begins_at : (old : Standing) (T : Types) (number kind : ℕ) → old.stage ≡ unparsed T → Version number kind ≡ Version 1 0 → after_piece old (Version number kind) ≡ Some (at old.id old.features false (T, no_spaces))
+begins_at : (old : Standing) (T : TypesSoFar) (number kind : ℕ) → old.stage ≡ unparsed T → Version number kind ≡ Version 1 0 → after_piece old (Version number kind) ≡ Some (at old.id old.features false (T, no_spaces))
 begins_at old T number kind w e = ap (after_piece old) e ∙ ap (λ (g : Stage). after_version (record old { stage = g }) 1 true) w
 
 pub rejects_refuses : (bytes : List ℕ) (old : Standing) → HoldsValid old → Rejects bytes old → RefusesModule bytes old
@@ -239,7 +239,7 @@ rejects_refuses bytes old valid rejects expression_at T w m room =
     let v = m.module_valid.well_formed in
     let f = v.framed in
     let a = valid_accepted expression_at old.features T bytes (subst (AreValidAt old.features) w valid) v m.served room in
-    let start : Types × Spaces = (T, no_spaces) in
+    let start : TypesSoFar × Spaces = (T, no_spaces) in
     let ps = with_items f.others in
     let q = end_of expression_at old.features T ps a.accepted in
     let inside = run_with_items old.features f.others start ∙ runs expression_at old.features T ps a.parts (parts_follow bytes v.pieces f a.parts) a.allowed a.accepted in

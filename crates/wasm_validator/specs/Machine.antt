@@ -14,7 +14,7 @@ use Rattle.wasm_validator_types.specs.Spaces.{Spaces}
 use Rattle.wasm_validator_core.specs.declared.limits.TheConstants.{MAX_TYPES, MAX_IMPORTS, MAX_FUNCTIONS, MAX_TAGS, MAX_EXPORTS}
 use Rattle.wasm_validator_core.specs.Machine.{add_group}
 use Rattle.wasm_validator_core.specs.Items.{is_startable, is_data_count, add_import, add_function, add_table, add_memory, add_tag, add_export}
-use Rattle.wasm_validator_core.specs.Answers.{Types}
+use Rattle.wasm_validator_core.specs.Answers.{TypesSoFar}
 
 -- so many items, one after another, and nothing behind them
 abbrev pub read_each : {S V : Type 0} → (List ℕ → Option (V × List ℕ)) → (S → V → Option S) → ℕ → List ℕ → S → Option S
@@ -25,30 +25,30 @@ read_each encoded add (suc n) bytes s = option_and_then (λ x. option_and_then (
 abbrev pub read_section : {S V : Type 0} → (List ℕ → Option (V × List ℕ)) → (S → V → Option S) → ℕ → ℕ → ℕ → List ℕ → S → Option S
 read_section encoded add there most count bytes s = if nat_le (there + count) most then read_each encoded add count bytes s else None
 
-abbrev pub type_items : WasmFeatures → ℕ → List ℕ → Types × Spaces → Option (Types × Spaces)
+abbrev pub type_items : WasmFeatures → ℕ → List ℕ → TypesSoFar × Spaces → Option (TypesSoFar × Spaces)
 type_items features count bytes p = read_section (rec_at written) (add_group features) (length p.1.types) MAX_TYPES count bytes p
 
-abbrev pub import_items : Features → Types → ℕ → List ℕ → Spaces → Option Spaces
+abbrev pub import_items : Features → TypesSoFar → ℕ → List ℕ → Spaces → Option Spaces
 import_items F us count bytes s = read_section (import_at written) (add_import F us) (length s.imports) MAX_IMPORTS count bytes s
 
-abbrev pub function_items : Types → ℕ → List ℕ → Spaces → Option Spaces
+abbrev pub function_items : TypesSoFar → ℕ → List ℕ → Spaces → Option Spaces
 function_items us count bytes s = read_section u32_at (add_function us) (length s.functions) MAX_FUNCTIONS count bytes s
 
 -- a table by its first part; one with an initializer isn't served yet
-unfoldable pub add_table_head : Features → Types → Spaces → Head → Option Spaces
+unfoldable pub add_table_head : Features → TypesSoFar → Spaces → Head → Option Spaces
 add_table_head F us s h = if h.has_init then None else add_table F us s h.ty
 
-abbrev pub table_items : Features → Types → ℕ → List ℕ → Spaces → Option Spaces
+abbrev pub table_items : Features → TypesSoFar → ℕ → List ℕ → Spaces → Option Spaces
 table_items F us count bytes s = read_section table_head_at (add_table_head F us) (length s.tables) (most_tables F) count bytes s
 
 abbrev pub memory_items : Features → ℕ → List ℕ → Spaces → Option Spaces
 memory_items F count bytes s = read_section memory_at (add_memory F) (length s.memories) (most_memories F) count bytes s
 
-abbrev pub export_items : Features → Types → ℕ → List ℕ → Spaces → Option Spaces
+abbrev pub export_items : Features → TypesSoFar → ℕ → List ℕ → Spaces → Option Spaces
 export_items F us count bytes s = read_section export_at (add_export F us) (length s.exports) MAX_EXPORTS count bytes s
 
 -- tags, be they none, are there with exceptions alone
-abbrev pub tag_items : Features → Types → ℕ → List ℕ → Spaces → Option Spaces
+abbrev pub tag_items : Features → TypesSoFar → ℕ → List ℕ → Spaces → Option Spaces
 tag_items F us count bytes s = if F.exceptions then read_section tag_at (add_tag F us) (length s.tags) MAX_TAGS count bytes s else None
 
 -- globals, element segments and data segments need constant expressions, which aren't served yet: none of them
@@ -56,7 +56,7 @@ abbrev pub no_items : ℕ → List ℕ → Spaces → Option Spaces
 no_items count bytes s = if count == 0 && length bytes == 0 then Some s else None
 
 -- a section by its id, where the types of all modules so far are these
-abbrev pub other_items : Features → Types → ℕ → ℕ → List ℕ → Spaces → Option Spaces
+abbrev pub other_items : Features → TypesSoFar → ℕ → ℕ → List ℕ → Spaces → Option Spaces
 other_items F us id count bytes s =
     if id == 2 then import_items F us count bytes s
     else (if id == 3 then function_items us count bytes s
@@ -70,15 +70,15 @@ other_items F us id count bytes s =
     else None))))))))
 
 -- the same where the types of other modules stand beside
-abbrev pub beside : (Types → Spaces → Option Spaces) → Types × Spaces → Option (Types × Spaces)
+abbrev pub beside : (TypesSoFar → Spaces → Option Spaces) → TypesSoFar × Spaces → Option (TypesSoFar × Spaces)
 beside f p = option_and_then (λ s. Some (p.0, s)) (f p.0 p.1)
 
-abbrev pub section_items : WasmFeatures → ℕ → ℕ → List ℕ → Types × Spaces → Option (Types × Spaces)
+abbrev pub section_items : WasmFeatures → ℕ → ℕ → List ℕ → TypesSoFar × Spaces → Option (TypesSoFar × Spaces)
 section_items features id count bytes p =
     if id == 1 then type_items features count bytes p else beside (λ us. other_items (features_of features) us id count bytes) p
 
 -- a start function, and the number of data segments: where it may be so, nothing changes
-abbrev pub start_item : Types → Spaces → ℕ → Option Spaces
+abbrev pub start_item : TypesSoFar → Spaces → ℕ → Option Spaces
 start_item us s x = if is_startable us s x then Some s else None
 
 abbrev pub data_count_item : Features → Spaces → ℕ → Option Spaces

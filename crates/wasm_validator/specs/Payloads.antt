@@ -9,7 +9,8 @@ use Rattle.wasm_parser.specs.Machine.{State, start, next_of, Given}
 use Rattle.wasm_spec.specs.Features.{canonical}
 use Rattle.wasm_rules.specs.FeatureFlags.{features_of}
 use Rattle.wasm_validator_type_list.specs.Interned.{AreOnce}
-use Rattle.wasm_validator_types.specs.Shown.{shown_of, types_of, HoldsIds}
+use Rattle.wasm_validator_type_list.specs.DefTypes.{types_of_list}
+use Rattle.wasm_validator_types.specs.Shown.{shown_of, HoldsIds}
 use Rattle.wasm_validator_types.specs.declared.shown.Types.{Types}
 use Rattle.wasm_validator_core.specs.declared.error.Error.{Error}
 use Rattle.wasm_validator_core.specs.declared.error.Error.TheVariants.{Refused, DuplicateExport, OutOfMemory}
@@ -23,11 +24,11 @@ use Rattle.wasm_validator.specs.States.{IsBeforeEnd, after_piece, left_by}
 -- The types show what the validator held, in a list where equal types are one if the features ask for it; then no
 -- group is in it twice, and no type has two ids. The types of the list are valid, and it has each id of the module.
 pub record Show {A : Type 0} (s : Standing) (t : Types A) : Type 0 where
-  pub held : shown_at s.stage ≡ Some (types_of (shown_of t).list, (shown_of t).spaces)
+  pub held : shown_at s.stage ≡ Some (types_of_list (shown_of t).list, (shown_of t).spaces)
   pub same_id : (shown_of t).id ≡ s.id
   pub mode : (shown_of t).list.is_canonical ≡ canonical (features_of s.features)
   pub once : (shown_of t).list.is_canonical ≡ true → AreOnce (shown_of t).list.groups
-  pub valid : AreValid (features_of s.features) (types_of (shown_of t).list)
+  pub valid : AreValid (features_of s.features) (types_of_list (shown_of t).list)
   pub ids : HoldsIds (shown_of t)
 
 -- the end gives the types of the module that was being read, and any other payload gives nothing

@@ -4,7 +4,7 @@ use Rattle.wasm_rules.specs.FeatureFlags.{features_of}
 use Rattle.wasm_readers_errors.specs.declared.features.WasmFeatures.{WasmFeatures}
 use Rattle.wasm_validator_type_list.specs.Listing.{Listing}
 use Rattle.wasm_validator_canonical.specs.Groups.{AreValid}
-use Rattle.wasm_validator_types.specs.Shown.{types_of}
+use Rattle.wasm_validator_type_list.specs.DefTypes.{types_of_list}
 use Rattle.wasm_validator_core.specs.Ready.{IsOpenFor, AreIdsOf}
 use Rattle.wasm_validator.specs.declared.validator.State.{State}
 use Rattle.wasm_validator.specs.declared.validator.State.TheVariants.{Unparsed, Module, Code, End, Failed}
@@ -21,10 +21,10 @@ module _ {A : Type 0} where
 
   -- the types of the list are valid, unless one was refused
   abbrev pub AreValidIn : WasmFeatures → Listing A → State A → Type 0
-  AreValidIn features list (Module m) = AreValid (features_of features) (types_of list)
-  AreValidIn features list (Code m) = AreValid (features_of features) (types_of list)
-  AreValidIn features list Unparsed = AreValid (features_of features) (types_of list)
-  AreValidIn features list End = AreValid (features_of features) (types_of list)
+  AreValidIn features list (Module m) = AreValid (features_of features) (types_of_list list)
+  AreValidIn features list (Code m) = AreValid (features_of features) (types_of_list list)
+  AreValidIn features list Unparsed = AreValid (features_of features) (types_of_list list)
+  AreValidIn features list End = AreValid (features_of features) (types_of_list list)
   AreValidIn features list Failed = ⊤
 
   pub record IsSound (a : Inside A) : Type 0 where

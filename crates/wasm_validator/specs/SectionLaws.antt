@@ -16,7 +16,7 @@ use Rattle.wasm_rules.specs.ItemRules.{IsValidTableEntry, IsValidMemory, IsValid
 use Rattle.wasm_rules.specs.Limits.{most_tables, most_memories}
 use Rattle.wasm_item_checks.specs.Laws.{Stand}
 use Rattle.wasm_validator_types.specs.Spaces.{Spaces}
-use Rattle.wasm_validator_core.specs.Answers.{Types}
+use Rattle.wasm_validator_core.specs.Answers.{TypesSoFar}
 use Rattle.wasm_validator_core_laws.specs.Imports.{KeepsLimits, FitsImport, with_entry}
 use Rattle.wasm_validator_core_laws.specs.Lists.{has_no_init}
 use Rattle.wasm_validator_core_laws.specs.Shown.{listed_table}
@@ -26,13 +26,13 @@ use Rattle.wasm_validator.specs.Verdict.{Expressions}
 
 -- A module is being read, before the start of its code: the types of all modules, its lists, and its own types, which
 -- stand in the list of types under the ids of its list.
-pub record IsReading (s : Standing) (us : Types) (m : Spaces) (types : List DefType) : Type 0 where
+pub record IsReading (s : Standing) (us : TypesSoFar) (m : Spaces) (types : List DefType) : Type 0 where
   pub stage : s.stage ≡ in_module us m
   pub stand : Stand (canonical (features_of s.features)) us m.types types
 
 -- The bytes are so many items of which each keeps its rule, with so many that are there they keep to the limit, and the
 -- module has the lists that they make.
-pub record HasAdded {V : Type 0} (reads : List ℕ → Option (V × List ℕ)) (rule : V → Type 0) (there most : ℕ) (lists : List V → Spaces) (old new : Standing) (us : Types) (count : ℕ) (bytes : List ℕ) : Type 0 where
+pub record HasAdded {V : Type 0} (reads : List ℕ → Option (V × List ℕ)) (rule : V → Type 0) (there most : ℕ) (lists : List V → Spaces) (old new : Standing) (us : TypesSoFar) (count : ℕ) (bytes : List ℕ) : Type 0 where
   pub items : List V
   pub read : items_at reads count bytes ≡ Some items
   pub rules : All rule items
@@ -41,28 +41,28 @@ pub record HasAdded {V : Type 0} (reads : List ℕ → Option (V × List ℕ)) (
 
 abbrev pub FunctionsAdd : Type 0
 FunctionsAdd =
-    (old new : Standing) (us : Types) (m : Spaces) (types : List DefType) (count : ℕ) (bytes : List ℕ) → IsReading old us m types
+    (old new : Standing) (us : TypesSoFar) (m : Spaces) (types : List DefType) (count : ℕ) (bytes : List ℕ) → IsReading old us m types
     → (after_section old 3 count bytes ≡ Some new)
     ↔ HasAdded u32_at (IsFunctionType types) (length m.functions) 1000000 (λ xs. record m { functions = m.functions ++ xs }) old new us count bytes
 
 -- tables, of which those with initializers aren't served yet
 abbrev pub TablesAdd : Type 0
 TablesAdd =
-    (expression_at : Expressions) (old new : Standing) (us : Types) (m : Spaces) (types : List DefType) (count : ℕ) (bytes : List ℕ) → IsReading old us m types
+    (expression_at : Expressions) (old new : Standing) (us : TypesSoFar) (m : Spaces) (types : List DefType) (count : ℕ) (bytes : List ℕ) → IsReading old us m types
     → (after_section old 4 count bytes ≡ Some new)
     ↔ HasAdded (table_entry_at expression_at index) (λ t. has_no_init t × IsValidTableEntry (features_of old.features) types t) (length m.tables) (most_tables (features_of old.features))
     (λ ts. record m { tables = m.tables ++ map (listed_table m.types) (map table_type ts) }) old new us count bytes
 
 abbrev pub MemoriesAdd : Type 0
 MemoriesAdd =
-    (old new : Standing) (us : Types) (m : Spaces) (types : List DefType) (count : ℕ) (bytes : List ℕ) → IsReading old us m types
+    (old new : Standing) (us : TypesSoFar) (m : Spaces) (types : List DefType) (count : ℕ) (bytes : List ℕ) → IsReading old us m types
     → (after_section old 5 count bytes ≡ Some new)
     ↔ HasAdded memory_at (IsValidMemory (features_of old.features)) (length m.memories) (most_memories (features_of old.features)) (λ ms. record m { memories = m.memories ++ ms }) old new us count bytes
 
 -- tags, be they none, are there with exceptions alone
 abbrev pub TagsAdd : Type 0
 TagsAdd =
-    (old new : Standing) (us : Types) (m : Spaces) (types : List DefType) (count : ℕ) (bytes : List ℕ) → IsReading old us m types
+    (old new : Standing) (us : TypesSoFar) (m : Spaces) (types : List DefType) (count : ℕ) (bytes : List ℕ) → IsReading old us m types
     → (after_section old 13 count bytes ≡ Some new)
     ↔ ((IsTrue (features_of old.features).exceptions)
     × HasAdded tag_at (IsValidTag (features_of old.features) types) (length m.tags) 1000000 (λ xs. record m { tags = m.tags ++ xs }) old new us count bytes)
@@ -74,7 +74,7 @@ AddsEach rule next s (x ∷ xs) t = rule s x × AddsEach rule next (next s x) xs
 
 -- The bytes are so many items of which each keeps its rule on the lists so far, with so many that are there they keep to
 -- the limit, and the module has the lists that they make.
-pub record HasAddedEach {V : Type 0} (reads : List ℕ → Option (V × List ℕ)) (rule : Spaces → V → Type 0) (next : Spaces → V → Spaces) (there most : ℕ) (old new : Standing) (us : Types) (m : Spaces) (count : ℕ) (bytes : List ℕ) : Type 0 where
+pub record HasAddedEach {V : Type 0} (reads : List ℕ → Option (V × List ℕ)) (rule : Spaces → V → Type 0) (next : Spaces → V → Spaces) (there most : ℕ) (old new : Standing) (us : TypesSoFar) (m : Spaces) (count : ℕ) (bytes : List ℕ) : Type 0 where
   pub items : List V
   pub read : items_at reads count bytes ≡ Some items
   pub few : there + length items ≤ most
@@ -85,6 +85,6 @@ pub record HasAddedEach {V : Type 0} (reads : List ℕ → Option (V × List ℕ
 -- imports, behind lists that keep their limits
 abbrev pub ImportsAdd : Type 0
 ImportsAdd =
-    (old new : Standing) (us : Types) (m : Spaces) (types : List DefType) (count : ℕ) (bytes : List ℕ) → IsReading old us m types → KeepsLimits (features_of old.features) m
+    (old new : Standing) (us : TypesSoFar) (m : Spaces) (types : List DefType) (count : ℕ) (bytes : List ℕ) → IsReading old us m types → KeepsLimits (features_of old.features) m
     → (after_section old 2 count bytes ≡ Some new)
     ↔ HasAddedEach (import_at index) (FitsImport (features_of old.features) types) (with_entry m.types types) (length m.imports) 1000000 old new us m count bytes

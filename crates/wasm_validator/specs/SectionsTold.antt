@@ -34,7 +34,7 @@ use Rattle.wasm_validator_types.specs.Spaces.{Spaces, is_exported}
 use Rattle.wasm_validator_core.specs.declared.error.Error.{Error}
 use Rattle.wasm_validator_core.specs.declared.error.Error.TheVariants.{Refused, DuplicateExport, OutOfMemory}
 use Rattle.wasm_validator_core.specs.declared.limits.TheConstants.{MAX_TYPES, MAX_IMPORTS, MAX_FUNCTIONS, MAX_TAGS, MAX_EXPORTS}
-use Rattle.wasm_validator_core.specs.Answers.{Types, IsNowhere, HasValidTypes}
+use Rattle.wasm_validator_core.specs.Answers.{TypesSoFar, IsNowhere, HasValidTypes}
 use Rattle.wasm_validator_core.specs.Errors.{IsAt, offset_of}
 use Rattle.wasm_validator_core.specs.Items.{add_import, add_function, add_memory, add_tag, add_export, exported_entity}
 use Rattle.wasm_validator_core.specs.Machine.{add_group}
@@ -63,7 +63,7 @@ Added P None = ⊥
 Added P (Some s) = P s
 
 -- what is told of a table; one with an initializer isn't served yet
-abbrev pub told_of_head : WasmFeatures → Types → ℕ → Spaces → Head → Option Refusal
+abbrev pub told_of_head : WasmFeatures → TypesSoFar → ℕ → Spaces → Head → Option Refusal
 told_of_head features us place s h = if h.has_init then Some (plain (fault.NotServed TableInitializer) place) else told_of_added_table features place us s h.ty
 
 -- a section whose items aren't served: bytes behind none of them, or that there are any
@@ -122,7 +122,7 @@ module _ {A : Type 0} where
         (TellsEach encoded add nowhere tells (section_end section) e (count_of section) (bytes_of section) s)
 
   -- what is told of items that are added to the lists s, where us are the types of all modules
-  module _ (features : WasmFeatures) (us : Types) where
+  module _ (features : WasmFeatures) (us : TypesSoFar) where
     abbrev pub tells_import : ℕ → Spaces → Import UnpackedIndex → Error A → Type 0
     tells_import place s i e = TellsAt place (told_of_import features place us s i) e
 
@@ -138,18 +138,18 @@ module _ {A : Type 0} where
       pub is_kind : kind_of kind ≡ x.kind
       pub tells : TellsNamedAt s x.name place (told_of_entity features place us s kind x.index (exported_entity (features_of features) s x)) e
 
-  abbrev pub tells_function : Types → ℕ → Spaces → ℕ → Error A → Type 0
+  abbrev pub tells_function : TypesSoFar → ℕ → Spaces → ℕ → Error A → Type 0
   tells_function us place s x e = TellsAt place (told_of_added_function place us s x) e
 
   abbrev pub tells_memory : WasmFeatures → ℕ → Spaces → Memory → Error A → Type 0
   tells_memory features place s m e = TellsAt place (told_of_added_memory features place s m) e
 
   -- of a group its place is told
-  abbrev pub tells_group : ℕ → Types × Spaces → Rec UnpackedIndex → Error A → Type 0
+  abbrev pub tells_group : ℕ → TypesSoFar × Spaces → Rec UnpackedIndex → Error A → Type 0
   tells_group place p g e = IsAt place e
 
   -- the sections, by what they have
-  module _ {T B : Type 0} (features : WasmFeatures) (section : SectionLimited T B) (us : Types) (m : Spaces) (e : Error A) where
+  module _ {T B : Type 0} (features : WasmFeatures) (section : SectionLimited T B) (us : TypesSoFar) (m : Spaces) (e : Error A) where
     abbrev pub TellsTypes : Type 0
     TellsTypes = TellsSection section e (rec_at written) (add_group features) (IsNowhere (HasValidTypes features)) tells_group counted.Types (length m.types) MAX_TYPES (us, m)
 
@@ -167,7 +167,7 @@ module _ {A : Type 0} where
     TellsExports = TellsSection section e export_at (add_export (features_of features) us) IsNone (TellsOfExport features us) counted.Exports (length m.exports) MAX_EXPORTS m
 
   module _ {T B : Type 0} (section : SectionLimited T B) where
-    abbrev pub TellsFunctions : Types → Spaces → Error A → Type 0
+    abbrev pub TellsFunctions : TypesSoFar → Spaces → Error A → Type 0
     TellsFunctions us m e = TellsSection section e u32_at (add_function us) IsNone (tells_function us) counted.Functions (length m.functions) MAX_FUNCTIONS m
 
     -- memories need no types
@@ -175,7 +175,7 @@ module _ {A : Type 0} where
     TellsMemories features m e =
         TellsSection section e memory_at (add_memory (features_of features)) IsNone (tells_memory features) counted.Memories (length m.memories) (most_memories (features_of features)) m
 
-    abbrev pub TellsUnserved : Unserved → Types → Spaces → Error A → Type 0
+    abbrev pub TellsUnserved : Unserved → TypesSoFar → Spaces → Error A → Type 0
     TellsUnserved what us m e = e ≡ Refused (refusal_of_items section what)
 
 -- what is told of the order where a section may not come
@@ -218,7 +218,7 @@ module _ {A : Type 0} where
   TellsOrder place g e = e ≡ Refused (plain (fault.OutOfOrder (order_told g)) place)
 
   -- what is told of a section by the lists of the module that is being read, before the start of its code
-  abbrev pub TellsWithin : (Types → Spaces → Error A → Type 0) → ℕ → Stage → Error A → Type 0
+  abbrev pub TellsWithin : (TypesSoFar → Spaces → Error A → Type 0) → ℕ → Stage → Error A → Type 0
   TellsWithin tells place (unparsed us) e = TellsOrder place (unparsed us) e
   TellsWithin tells place (in_module us m) e = tells us m e
   TellsWithin tells place (in_code us m) e = TellsOrder place (in_code us m) e
@@ -226,7 +226,7 @@ module _ {A : Type 0} where
   TellsWithin tells place failed e = TellsOrder place failed e
 
   -- and of one that may come behind it as well
-  abbrev pub TellsReading : (Types → Spaces → Error A → Type 0) → ℕ → Stage → Error A → Type 0
+  abbrev pub TellsReading : (TypesSoFar → Spaces → Error A → Type 0) → ℕ → Stage → Error A → Type 0
   TellsReading tells place (unparsed us) e = TellsOrder place (unparsed us) e
   TellsReading tells place (in_module us m) e = tells us m e
   TellsReading tells place (in_code us m) e = tells us m e
@@ -241,8 +241,8 @@ module _ {A : Type 0} where
       (e ≡ Refused (lacking EXCEPTIONS (fault.Rule Exceptions) (section_start section)))
 
   -- a start function, and the number of data segments
-  abbrev pub TellsStart : ℕ → ℕ → Types → Spaces → Error A → Type 0
+  abbrev pub TellsStart : ℕ → ℕ → TypesSoFar → Spaces → Error A → Type 0
   TellsStart place x us m e = TellsAt place (told_of_start place us m x) e
 
-  abbrev pub TellsDataCount : WasmFeatures → ℕ → ℕ → Types → Spaces → Error A → Type 0
+  abbrev pub TellsDataCount : WasmFeatures → ℕ → ℕ → TypesSoFar → Spaces → Error A → Type 0
   TellsDataCount features place count us m e = TellsAt place (told_of_data_count features place count) e

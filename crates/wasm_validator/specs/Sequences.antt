@@ -7,22 +7,22 @@ use Rattle.wasm_spec.specs.Trees.{DefType}
 use Rattle.wasm_rules.specs.FeatureFlags.{features_of}
 use Rattle.wasm_validator_types.specs.Shown.{shown_of}
 use Rattle.wasm_validator_types.specs.declared.shown.Types as shown
-use Rattle.wasm_validator_core.specs.Answers.{Types}
+use Rattle.wasm_validator_core.specs.Answers.{TypesSoFar}
 use Rattle.wasm_validator.specs.Standing.{Standing, unparsed, may_reset, after_reset}
 use Rattle.wasm_validator.specs.Payloads.{IsLeft}
 use Rattle.wasm_validator.specs.Verdict.{Expressions, AcceptsModule}
 
 -- The validator may be reset, and then has a list that begins with the types that it had.
 pub record KeepsTypes (old new : Standing) : Type 0 where
-  pub before : Types
+  pub before : TypesSoFar
   pub began : old.stage ≡ unparsed before
   pub may : may_reset new ≡ true
-  pub more : Types
+  pub more : TypesSoFar
   pub after : after_reset new ≡ record old { stage = unparsed (before ++ more) }
 
 -- A module that is refused so that the validator may be reset does so.
 abbrev pub RefusedKeepTypes : Type 0
-RefusedKeepTypes = (bytes : List ℕ) (old new : Standing) (before : Types) → old.stage ≡ unparsed before → IsLeft bytes old new → may_reset new ≡ true → KeepsTypes old new
+RefusedKeepTypes = (bytes : List ℕ) (old new : Standing) (before : TypesSoFar) → old.stage ≡ unparsed before → IsLeft bytes old new → may_reset new ≡ true → KeepsTypes old new
 
 module _ {A : Type 0} where
   -- what a validator makes of a module: it is accepted with these types, or it is refused so that the validator may be reset

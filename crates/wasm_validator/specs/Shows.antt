@@ -7,14 +7,14 @@ use Rattle.wasm_rules.specs.Parts.{Parts}
 use Rattle.wasm_rules.specs.IndexSpaces.{IndexSpaces}
 use Rattle.wasm_validator_canonical.specs.Sections.{StandsFor}
 use Rattle.wasm_validator_types.specs.Spaces.{Spaces}
-use Rattle.wasm_validator_core.specs.Answers.{Types}
+use Rattle.wasm_validator_core.specs.Answers.{TypesSoFar}
 use Rattle.wasm_validator_core_laws.specs.Shown.{listed_table, listed_global, import_rows, export_rows, exact_functions}
 
 -- The list of types and the lists of a module show its index spaces: each type under an id that stands for it, in a
 -- list where no type has two ids if equal types are one; each function and tag with its type's index, each table,
 -- memory and global with its type; the imports by pairs of names in the order of their first appearance, all imports
 -- of a pair together; and the exports in their order.
-pub record ShowModule (F : Features) (list : Types) (spaces : Spaces) (C : IndexSpaces) (parts : Parts) : Type 0 where
+pub record ShowModule (F : Features) (list : TypesSoFar) (spaces : Spaces) (C : IndexSpaces) (parts : Parts) : Type 0 where
   pub types : AllZip (StandsFor (canonical F) list) spaces.types C.types
   pub one_id : IsTrue (canonical F) → HasNoRepetition list
   pub functions : spaces.functions ≡ C.functions

@@ -9,16 +9,16 @@ use Rattle.wasm_validator_core.specs.declared.error.Error.{Error}
 use Rattle.wasm_validator_core.specs.declared.error.Error.TheVariants.{Refused, DuplicateExport, OutOfMemory}
 use Rattle.wasm_rules.specs.FeatureFlags.{features_of}
 use Rattle.wasm_validator_canonical.specs.Groups.{AreValid}
-use Rattle.wasm_validator_core.specs.Answers.{Types, IsNowhere}
+use Rattle.wasm_validator_core.specs.Answers.{TypesSoFar, IsNowhere}
 use Rattle.wasm_validator_module_state.specs.Bodies.{expected_bodies}
 
 -- The stages of a validator: no header has been read, a module is being read, its code section has started, one has
 -- ended, or one was refused. A validator that has failed shows nothing of what it held.
 pub data Stage : Type 0 where
-  unparsed : Types → Stage
-  in_module : Types → Spaces → Stage
-  in_code : Types → Spaces → Stage
-  ended : Types → Stage
+  unparsed : TypesSoFar → Stage
+  in_module : TypesSoFar → Spaces → Stage
+  in_code : TypesSoFar → Spaces → Stage
+  ended : TypesSoFar → Stage
   failed : Stage
 
 pub record Standing : Type 0 where
@@ -86,7 +86,7 @@ abbrev pub after_reset : Standing → Standing
 after_reset s = record s { stage = reset_at s.stage }
 
 -- the types of all modules and the index spaces of this one, while a module is being read
-abbrev pub shown_at : Stage → Option (Types × Spaces)
+abbrev pub shown_at : Stage → Option (TypesSoFar × Spaces)
 shown_at (unparsed types) = None
 shown_at (in_module types spaces) = Some (types, spaces)
 shown_at (in_code types spaces) = Some (types, spaces)
@@ -94,7 +94,7 @@ shown_at (ended types) = None
 shown_at failed = None
 
 -- one step of a module that is being read, before the start of the code
-abbrev pub within : (Types × Spaces → Option (Types × Spaces)) → Stage → Option Stage
+abbrev pub within : (TypesSoFar × Spaces → Option (TypesSoFar × Spaces)) → Stage → Option Stage
 within f (unparsed types) = None
 within f (in_module types spaces) = option_and_then (λ p. Some (in_module p.0 p.1)) (f (types, spaces))
 within f (in_code types spaces) = None
@@ -102,7 +102,7 @@ within f (ended types) = None
 within f failed = None
 
 -- and one that may come behind it as well
-abbrev pub within_all : (Types × Spaces → Option (Types × Spaces)) → Stage → Option Stage
+abbrev pub within_all : (TypesSoFar × Spaces → Option (TypesSoFar × Spaces)) → Stage → Option Stage
 within_all f (unparsed types) = None
 within_all f (in_module types spaces) = option_and_then (λ p. Some (in_module p.0 p.1)) (f (types, spaces))
 within_all f (in_code types spaces) = option_and_then (λ p. Some (in_code p.0 p.1)) (f (types, spaces))
@@ -114,7 +114,7 @@ abbrev pub at_stage : Standing → Option Stage → Option Standing
 at_stage s next = option_and_then (λ g. Some (record s { stage = g })) next
 
 -- this holds of the list of types; a validator that has failed has none
-abbrev pub HoldsAt : (Types → Type 0) → Stage → Type 0
+abbrev pub HoldsAt : (TypesSoFar → Type 0) → Stage → Type 0
 HoldsAt V (unparsed types) = V types
 HoldsAt V (in_module types spaces) = V types
 HoldsAt V (in_code types spaces) = V types

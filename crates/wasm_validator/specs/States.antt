@@ -4,7 +4,7 @@ use Rattle.wasm_readers_errors.specs.declared.features.WasmFeatures.{WasmFeature
 use Rattle.wasm_readers_errors.specs.declared.error.OutOfOrder.{OutOfOrder}
 use Rattle.wasm_readers_errors.specs.declared.error.OutOfOrder.TheVariants.{SectionBeforeHeader, SectionAfterEnd, EndBeforeHeader, EndAfterEnd, SectionAfterFailure, SectionAfterCodeStart}
 use Rattle.wasm_rules.specs.FeatureFlags.{features_of}
-use Rattle.wasm_validator_types.specs.Shown.{types_of}
+use Rattle.wasm_validator_type_list.specs.DefTypes.{types_of_list}
 use Rattle.wasm_validator_types.specs.Spaces.{Spaces, no_spaces}
 use Rattle.std.specs.declared.result.Result.{Result}
 use Rattle.std.specs.declared.result.Result.TheVariants.{Ok, Err}
@@ -17,7 +17,7 @@ use Rattle.wasm_validator.specs.declared.validator.State.{State}
 use Rattle.wasm_validator_module_state.specs.declared.module_state.ModuleState.{ModuleState}
 use Rattle.wasm_validator.specs.declared.validator.State.TheVariants.{Unparsed, Module, Code, End, Failed}
 use Rattle.wasm_validator.specs.declared.validator.Validator.TheInside.{Inside}
-use Rattle.wasm_validator_core.specs.Answers.{Types}
+use Rattle.wasm_validator_core.specs.Answers.{TypesSoFar}
 use Rattle.wasm_validator.specs.Standing.{Stage, unparsed, in_module, in_code, ended, failed, Standing, ended_at, refused_at, read_refused_at, body_refused_at, within, within_all, at_stage}
 use Rattle.wasm_validator.specs.Machine.{section_items, start_item, data_count_item, beside}
 
@@ -53,7 +53,7 @@ module _ {A : Type 0} where
   end_order_at End = EndAfterEnd
   end_order_at Failed = SectionAfterFailure
 
-  abbrev pub stage_of : Types → State A → Stage
+  abbrev pub stage_of : TypesSoFar → State A → Stage
   stage_of types Unparsed = unparsed types
   stage_of types (Module m) = in_module types m.«module»
   stage_of types (Code m) = in_code types m.«module»
@@ -66,7 +66,7 @@ module _ {A : Type 0} where
   state_kept (Err e) m = Failed
 
   abbrev pub standing : Inside A → Standing
-  standing a = record { id = a.id; features = a.features; stage = stage_of (types_of a.types) a.state }
+  standing a = record { id = a.id; features = a.features; stage = stage_of (types_of_list a.types) a.state }
 
 -- the header is a module's
 abbrev pub is_module : Encoding → Bool
@@ -85,7 +85,7 @@ abbrev pub after_version : Standing → ℕ → Bool → Option Standing
 after_version s number is_module = at_stage s (begun number is_module s.stage)
 
 -- a section by its id: the data section may come behind the start of the code
-abbrev pub within_by : ℕ → (Types × Spaces → Option (Types × Spaces)) → Stage → Option Stage
+abbrev pub within_by : ℕ → (TypesSoFar × Spaces → Option (TypesSoFar × Spaces)) → Stage → Option Stage
 within_by id f g = if id == 11 then within_all f g else within f g
 
 abbrev pub after_section : Standing → ℕ → ℕ → List ℕ → Option Standing

@@ -10,13 +10,14 @@ use Rattle.wasm_rules.specs.Parts.{Expression}
 use Rattle.wasm_rules.specs.IndexSpaces.{index_spaces}
 use Rattle.wasm_rules.specs.Modules.{IsValid}
 use Rattle.wasm_grouped_list.specs.Elements.{numbers_from}
-use Rattle.wasm_validator_types.specs.Shown.{shown_of, types_of}
+use Rattle.wasm_validator_type_list.specs.DefTypes.{types_of_list}
+use Rattle.wasm_validator_types.specs.Shown.{shown_of}
 use Rattle.wasm_validator_types.specs.declared.shown.Types as shown
 use Rattle.wasm_validator_core.specs.declared.error.Error.{Error}
 use Rattle.wasm_validator_core.specs.declared.error.Error.TheVariants.{Refused, DuplicateExport, OutOfMemory}
 use Rattle.wasm_validator.specs.Served.{AreServed}
 use Rattle.wasm_validator.specs.Shows.{ShowModule}
-use Rattle.wasm_validator_core.specs.Answers.{Types}
+use Rattle.wasm_validator_core.specs.Answers.{TypesSoFar}
 use Rattle.wasm_validator.specs.Standing.{Standing, unparsed, ended, fresh}
 use Rattle.wasm_validator.specs.Payloads.{IsLeft, IsOutOfMemory}
 
@@ -34,23 +35,23 @@ pub record IsServedModule (expression_at : Expressions) (features : WasmFeatures
 pub record AcceptsModule {A : Type 0} (expression_at : Expressions) (bytes : List ℕ) (old new : Standing) (t : shown.Types A) : Type 0 where
   pub module_valid : IsValid expression_at (features_of old.features) bytes
   pub shows :
-      ShowModule (features_of old.features) (types_of (shown_of t).list) (shown_of t).spaces
+      ShowModule (features_of old.features) (types_of_list (shown_of t).list) (shown_of t).spaces
       (index_spaces module_valid.well_formed.types.types module_valid.well_formed.parts) module_valid.well_formed.parts
   pub same_id : (shown_of t).id ≡ old.id
-  pub before : Types
+  pub before : TypesSoFar
   pub began : old.stage ≡ unparsed before
-  pub more : Types
-  pub kept : types_of (shown_of t).list ≡ before ++ more
+  pub more : TypesSoFar
+  pub kept : types_of_list (shown_of t).list ≡ before ++ more
   -- where equal types aren't one, each type of the module has the next id behind those before it
   pub own_ids : canonical (features_of old.features) ≡ false → (shown_of t).spaces.types ≡ numbers_from (length before) (length module_valid.well_formed.types.types)
-  pub own_types : canonical (features_of old.features) ≡ false → length (types_of (shown_of t).list) ≡ length before + length module_valid.well_formed.types.types
-  pub after : new ≡ record old { stage = ended (types_of (shown_of t).list) }
+  pub own_types : canonical (features_of old.features) ≡ false → length (types_of_list (shown_of t).list) ≡ length before + length module_valid.well_formed.types.types
+  pub after : new ≡ record old { stage = ended (types_of_list (shown_of t).list) }
 
 -- Where no header had been read, the bytes are no valid module of the forms that are served, unless the list would
 -- pass its limit with the module's types.
 abbrev pub RefusesModule : List ℕ → Standing → Type 0
 RefusesModule bytes old =
-    (expression_at : Expressions) (before : Types) → old.stage ≡ unparsed before
+    (expression_at : Expressions) (before : TypesSoFar) → old.stage ≡ unparsed before
     → (m : IsServedModule expression_at old.features bytes) → length before + length m.module_valid.well_formed.types.types ≤ MAX_IDS → ⊥
 
 -- what the answer on whole bytes says: of acceptance with no premise, of a refusal unless memory was refused

@@ -1,3 +1,4 @@
+ghost use Rattle.wasm_readers_errors.specs.declared.features.TheConstants.WasmFeatures.{STANDARD};
 ghost use Rattle.std.specs.Prelude.{◌≡◌, ◌≤◌, IfOk, IfErr, OnErr, IfSome, Some, None, length};
 ghost use Rattle.std.specs.Option.{option_map};
 ghost use Rattle.wasm_parser.specs.Machine.{next_of};
@@ -177,7 +178,7 @@ pub fn validate<A: Allocator + Copy>(
     bytes: &[u8],
     id: ValidatorId,
 ) -> Result<Types<A>, Error<A>>
-    ensures decided { DecidesAlone result bytes.now id (record { 0 = 32703 }) }
+    ensures decided { DecidesAlone result bytes.now id STANDARD }
     ensures place { IfErr result (StandsBetween 0 (length bytes.now)) }
     ensures held { IfOk result (λ t. HoldsIds (shown_of t)) }
 {

@@ -1,3 +1,4 @@
+ghost use Rattle.wasm_readers_errors.specs.declared.features.TheConstants.WasmFeatures.{STANDARD};
 ghost use Rattle.std.specs.Prelude.{◌≡◌, IfOk, IfErr, IfSome, IsSome, IsErr, OnOk, OnErr, Some, None, true, is_ok, if◌then◌else◌, ◌↔◌, ◌+◌};
 ghost use Rattle.wasm_validator_core.specs.Errors.{IsContent, offset_of};
 ghost use Rattle.std.specs.Result.{IsErrAnd};
@@ -6,8 +7,9 @@ ghost use Rattle.wasm_readers_errors.specs.Refusals.{plain};
 ghost use Rattle.wasm_readers.specs.SectionsSeen.{count_of, bytes_of, section_start, section_end};
 ghost use Rattle.wasm_parser.specs.Seen.{body_reader};
 ghost use Rattle.wasm_validator_type_list.specs.Interned.{AreOnce};
-ghost use Rattle.wasm_validator_type_list.specs.Listing.{closed};
-ghost use Rattle.wasm_validator_types.specs.Shown.{shown_of, shown_by, types_of, HoldsIds};
+ghost use Rattle.wasm_validator_type_list.specs.Listing.{committed};
+ghost use Rattle.wasm_validator_type_list.specs.DefTypes.{types_of_list};
+ghost use Rattle.wasm_validator_types.specs.Shown.{shown_of, shown_by, HoldsIds};
 ghost use Rattle.wasm_validator.specs.Payloads.{Show};
 ghost use Rattle.wasm_validator.specs.Standing.{HoldsValid, Leaves, Moves, at_stage, within, read_refused_at, body_refused_at, ended_at, fresh, is_failed, may_reset, after_reset, shown_at};
 ghost use Rattle.wasm_validator.specs.SectionsTold.{OfContent, StandsBetween, TellsWithin, TellsReading, TellsOrder, TellsTypes, TellsImports, TellsExports, TellsFunctions, TellsTables, TellsMemories, TellsTagSection, TellsUnserved, TellsStart, TellsDataCount, header_told, body_told, end_order_told};
@@ -172,7 +174,7 @@ fn finished<A: Allocator + Copy>(
     state: ModuleState<A>,
 ) -> Result<Types<A>, AllocError>
     ensures same { types.new ≡ types.old }
-    ensures shown { IfOk result (λ t. shown_of t ≡ record { id = id; list = closed types.old; spaces = state.«module» }) }
+    ensures shown { IfOk result (λ t. shown_of t ≡ record { id = id; list = committed types.old; spaces = state.«module» }) }
     ensures once { types.old.is_canonical ≡ true → AreOnce types.old.groups }
 {
     // Asked for what it promises: where equal types are one, no type has two ids.
@@ -185,7 +187,7 @@ fn finished<A: Allocator + Copy>(
 impl<A: Allocator + Copy> Validator<A> {
     /// A validator with the default features that has seen no module.
     pub fn new(alloc: A, id: ValidatorId) -> Validator<A>
-        ensures { result ≡ fresh id (record { 0 = 32703 }) }
+        ensures { result ≡ fresh id STANDARD }
     {
         Validator::new_with_features(alloc, WasmFeatures::default(), id)
     }
@@ -250,7 +252,7 @@ impl<A: Allocator + Copy> Validator<A> {
     /// The types of the module that is being read: at level 0, and while one is.
     pub fn types(&self, level: usize) -> Option<TypesRef<'_, A>>
         ensures some { IsSome result ↔ (level ≡ 0) × IsSome (shown_at self.now.stage) }
-        ensures shown { IfSome result (λ t. shown_at self.now.stage ≡ Some (types_of (shown_by t).list, (shown_by t).spaces)) }
+        ensures shown { IfSome result (λ t. shown_at self.now.stage ≡ Some (types_of_list (shown_by t).list, (shown_by t).spaces)) }
         ensures id { IfSome result (λ t. (shown_by t).id ≡ self.now.id) }
         ensures held { IfSome result (λ t. HoldsIds (shown_by t)) }
     {

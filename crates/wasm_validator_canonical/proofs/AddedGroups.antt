@@ -22,8 +22,8 @@ use Rattle.wasm_grouped_list.specs.declared.elements.RecGroupElements.{RecGroupE
 use Rattle.wasm_grouped_list.specs.Elements.{ids_left}
 use Rattle.wasm_grouped_list.specs.Groups.{all_in}
 use Rattle.wasm_validator_type_list.specs.Listing.{Listing, types_in}
-use Rattle.wasm_validator_type_list.specs.Standing.{standing}
-use Rattle.wasm_validator_type_list.proofs.Standing.{length-standing}
+use Rattle.wasm_validator_type_list.specs.DefTypes.{def_types}
+use Rattle.wasm_validator_type_list.proofs.DefTypes.{length-def_types}
 use Rattle.wasm_validator_canonical.specs.Answers.{AddsNothing, AddsIds, Denies}
 use Rattle.wasm_validator_canonical.specs.Groups.{closes, types_at, AreValid, with_written}
 use Rattle.wasm_validator_canonical.specs.Indices.{numbers, canonical_group, is_written_sub, number_in}
@@ -34,22 +34,22 @@ use Rattle.wasm_validator_canonical.proofs.Written.{written_added}
 
 module _ {A : Type 0} (F : Features) (ids : List ℕ) (w : Rec UnpackedIndex) (closing : closes F (length ids) w ≡ true) where
   closing_added : (old new : Listing A) (g : List (SubType A)) (more : List ℕ) → old.is_canonical ≡ canonical F → new.is_canonical ≡ old.is_canonical
-      → All (λ i. i < length (standing old.is_canonical old.groups)) ids → length (all_in old.groups) + length w.types ≤ MAX_IDS
+      → All (λ i. i < length (def_types old.is_canonical old.groups)) ids → length (all_in old.groups) + length w.types ≤ MAX_IDS
       → map sub_of g ≡ canonical_group ids w.types → InternsUnder old new g more
-      → with_written F (standing old.is_canonical old.groups) ids w ≡ Some (standing new.is_canonical new.groups, ids ++ more)
+      → with_written F (def_types old.is_canonical old.groups) ids w ≡ Some (def_types new.is_canonical new.groups, ids ++ more)
   closing_added old new g more mode same below room e i =
-      let known : All (λ id. id < length (standing (canonical F) old.groups)) ids = subst (λ c. All (λ id. id < length (standing c old.groups)) ids) mode below in
-      let closable : is_closable F (length (types_at (standing (canonical F) old.groups) ids)) (map_rec number_in w) ≡ true = ap (λ n. is_closable F n (map_rec number_in w)) (length-map ids _) ∙ and_right (list_all is_written_sub w.types) (is_closable F (length ids) (map_rec number_in w)) closing in
-      let many = length-standing (canonical F) old.groups in
-      ap (λ c. with_written F (standing c old.groups) ids w) mode
+      let known : All (λ id. id < length (def_types (canonical F) old.groups)) ids = subst (λ c. All (λ id. id < length (def_types c old.groups)) ids) mode below in
+      let closable : is_closable F (length (types_at (def_types (canonical F) old.groups) ids)) (map_rec number_in w) ≡ true = ap (λ n. is_closable F n (map_rec number_in w)) (length-map ids _) ∙ and_right (list_all is_written_sub w.types) (is_closable F (length ids) (map_rec number_in w)) closing in
+      let many = length-def_types (canonical F) old.groups in
+      ap (λ c. with_written F (def_types c old.groups) ids w) mode
       ∙ written_added F old new ids w g i.is_new i.group (sym mode) known (and_left (list_all is_written_sub w.types) (is_closable F (length ids) (map_rec number_in w)) closing) (omega (arith, many, room)) closable e i.interned i.types i.once
-      ∙ (λ j. Some (standing (sym (same ∙ mode) j) new.groups, ids ++ sym i.are_ids j))
+      ∙ (λ j. Some (def_types (sym (same ∙ mode) j) new.groups, ids ++ sym i.are_ids j))
 
   -- the answer of interning
   adds_by : (old new : Listing A) (g : List (SubType A)) (r : Result RecGroupElements Error) → old.is_canonical ≡ canonical F → new.is_canonical ≡ old.is_canonical
-      → All (λ i. i < length (standing old.is_canonical old.groups)) ids → length (all_in old.groups) + length w.types ≤ MAX_IDS → length g ≡ length w.types
+      → All (λ i. i < length (def_types old.is_canonical old.groups)) ids → length (all_in old.groups) + length w.types ≤ MAX_IDS → length g ≡ length w.types
       → map sub_of g ≡ canonical_group ids w.types → InternsValid F r old new g
-      → AddsIds F r (with_written F (standing old.is_canonical old.groups) ids w) (standing new.is_canonical new.groups) ids
+      → AddsIds F r (with_written F (def_types old.is_canonical old.groups) ids w) (def_types new.is_canonical new.groups) ids
   adds_by old new g (Ok e) mode same below room as_many value i = closing_added old new g (ids_left e) mode same below room value i.0
   adds_by old new g (Err (Refused r)) mode same below room as_many value i =
       let here : length (types_in old) + length g ≤ MAX_IDS = omega (arith, room, as_many) in
@@ -59,20 +59,20 @@ module _ {A : Type 0} (F : Features) (ids : List ℕ) (w : Rec UnpackedIndex) (c
 
 -- the same of sub types that were made of a group that a module writes
 pub adds_canonical : {A : Type 0} (F : Features) (ids : List CoreTypeId) (group : RecGroup A) (old new : Listing A) (g made : List (SubType A)) (r : Result RecGroupElements Error) → closes F (length ids) (rec_of group) ≡ true
-    → old.is_canonical ≡ canonical F → new.is_canonical ≡ old.is_canonical → All (λ (id : CoreTypeId). id.index < length (standing old.is_canonical old.groups)) ids → length (types_in old) + length group.types ≤ MAX_IDS
+    → old.is_canonical ≡ canonical F → new.is_canonical ≡ old.is_canonical → All (λ (id : CoreTypeId). id.index < length (def_types old.is_canonical old.groups)) ids → length (types_in old) + length group.types ≤ MAX_IDS
     → g ≡ made → map sub_of made ≡ canonical_group (numbers ids) (rec_of group).types → InternsValid F r old new g
-    → AddsIds F r (with_written F (standing old.is_canonical old.groups) (numbers ids) (rec_of group)) (standing new.is_canonical new.groups) (numbers ids)
+    → AddsIds F r (with_written F (def_types old.is_canonical old.groups) (numbers ids) (rec_of group)) (def_types new.is_canonical new.groups) (numbers ids)
 adds_canonical F ids group old new g made r closing mode same_mode known room same value i =
     let w = rec_of group in
     let total : length w.types ≡ length group.types = length-map group.types sub_of in
     let longer = ap length same in
     let as_many : length made ≡ length w.types = sym (length-map made sub_of) ∙ ap length value ∙ length-map w.types _ in
-    adds_by F (numbers ids) w (ap (λ n. closes F n w) (length-map ids _) ∙ closing) old new g r mode same_mode (numbers_below (length (standing old.is_canonical old.groups)) ids known)
+    adds_by F (numbers ids) w (ap (λ n. closes F n w) (length-map ids _) ∙ closing) old new g r mode same_mode (numbers_below (length (def_types old.is_canonical old.groups)) ids known)
     (omega (arith, room, total)) (omega (arith, longer, as_many)) (ap (map sub_of) same ∙ value) i
 
 -- the types of a list of the same mode and groups
-pub same_standing : {A : Type 0} (mid new : Listing A) → new.is_canonical ≡ mid.is_canonical → new.groups ≡ mid.groups → standing mid.is_canonical mid.groups ≡ standing new.is_canonical new.groups
-same_standing mid new mode groups = λ j. standing (sym mode j) (sym groups j)
+pub same_standing : {A : Type 0} (mid new : Listing A) → new.is_canonical ≡ mid.is_canonical → new.groups ≡ mid.groups → def_types mid.is_canonical mid.groups ≡ def_types new.is_canonical new.groups
+same_standing mid new mode groups = λ j. def_types (sym mode j) (sym groups j)
 
 -- a test that fails, by numbers
 either : {P : Type 0} (b : Bool) → (b ≡ true → P) → (b ≡ false → P) → P

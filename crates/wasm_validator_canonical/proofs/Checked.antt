@@ -19,11 +19,11 @@ use Rattle.wasm_validator_type_list.specs.Interned.{AreOnce, Interns}
 use Rattle.wasm_validator_type_list.specs.Listable.{AreListable}
 use Rattle.wasm_validator_type_list.specs.Listing.{Listing, types_in}
 use Rattle.wasm_validator_type_list.specs.Refused.{RefusesTooMany}
-use Rattle.wasm_validator_type_list.specs.Standing.{standing, tree_behind, listed_group, listed_sub}
+use Rattle.wasm_validator_type_list.specs.DefTypes.{def_types, tree_behind, listed_group, listed_sub}
 use Rattle.wasm_grouped_list.proofs.Flat.{first_of-stays, first_of-all}
 use Rattle.wasm_grouped_list.proofs.Places.{get-end, get-right}
 use Rattle.wasm_validator_type_list.proofs.Placed.{once_in}
-use Rattle.wasm_validator_type_list.proofs.Standing.{standing-push, length-standing, first_of-within}
+use Rattle.wasm_validator_type_list.proofs.DefTypes.{def_types-push, length-def_types, first_of-within}
 use Rattle.wasm_group_checks.specs.Rules.{IsValidGroupAt}
 use Rattle.wasm_group_checks.proofs.IdsAndTypes.{ids_keep_rules_as_types}
 use Rattle.wasm_validator_canonical.specs.Groups.{AreValid}
@@ -38,23 +38,23 @@ too_many e = results.Err e
 
 module _ {A : Type 0} (F : Features) where
   -- the types of each group of a list of valid types keep the rules
-  pub group_valid : (c : Bool) (gs : List (List (SubType A))) (n : ℕ) → AreListable gs → (c ≡ true → AreOnce gs) → AreValid F (standing c gs) → IsValidGroupAt F gs n
+  pub group_valid : (c : Bool) (gs : List (List (SubType A))) (n : ℕ) → AreListable gs → (c ≡ true → AreOnce gs) → AreValid F (def_types c gs) → IsValidGroupAt F gs n
   group_valid c gs n listable once v id i =
       let below = i.below in
       let within = first_of-within gs (n + 1) in
-      let many = length-standing c gs in
-      let d = some_at (standing c gs) id (omega (arith, below, within, many)) in
-      (ids_keep_rules_as_types F c gs listable (once_in c gs once) id d.0 d.1).1 (all_at (IsValidType F declared) (standing c gs) v id d.0 d.1)
+      let many = length-def_types c gs in
+      let d = some_at (def_types c gs) id (omega (arith, below, within, many)) in
+      (ids_keep_rules_as_types F c gs listable (once_in c gs once) id d.0 d.1).1 (all_at (IsValidType F declared) (def_types c gs) v id d.0 d.1)
 
   -- and a group whose types keep the rules adds valid types
-  valid_more : (c : Bool) (gs : List (List (SubType A))) (g : List (SubType A)) → AreListable (gs ++ g ∷ []) → (c ≡ true → AreOnce (gs ++ g ∷ [])) → AreValid F (standing c gs) → IsValidGroupAt F (gs ++ g ∷ []) (length gs) → AreValid F (standing c (gs ++ g ∷ []))
+  valid_more : (c : Bool) (gs : List (List (SubType A))) (g : List (SubType A)) → AreListable (gs ++ g ∷ []) → (c ≡ true → AreOnce (gs ++ g ∷ [])) → AreValid F (def_types c gs) → IsValidGroupAt F (gs ++ g ∷ []) (length gs) → AreValid F (def_types c (gs ++ g ∷ []))
   valid_more c gs g listable once v here =
-      let us = standing c gs in
+      let us = def_types c gs in
       let new = positions (tree_behind c gs g) 0 (listed_group g) in
-      let push = standing-push c gs g in
+      let push = def_types-push c gs g in
       let first = first_of-stays gs (g ∷ []) (length gs) (omega arith) ∙ first_of-all gs in
       let next = first_of_next (gs ++ g ∷ []) (length gs) g (get-end gs g) in
-      let many = length-standing c gs in
+      let many = length-def_types c gs in
       let there = length-append gs (g ∷ []) in
       subst (AreValid F) (sym push)
       (All-append (IsValidType F declared) us new v
@@ -67,27 +67,27 @@ module _ {A : Type 0} (F : Features) where
 
   -- the answer of a check, of a group that is new
   checked_new : (old new : Listing A) (g : List (SubType A)) (n : ℕ) → new.is_canonical ≡ old.is_canonical → Interns old new g true n → AreListable new.groups → (old.is_canonical ≡ true → AreOnce new.groups)
-      → AreValid F (standing old.is_canonical old.groups) → IsValidGroupAt F new.groups n → AreValid F (standing new.is_canonical new.groups)
+      → AreValid F (def_types old.is_canonical old.groups) → IsValidGroupAt F new.groups n → AreValid F (def_types new.is_canonical new.groups)
   checked_new old new g n mode i listable once v here =
       let added : new.groups ≡ old.groups ++ g ∷ [] = ap (λ (l : Listing A). l.groups) (i.added refl) in
-      subst (λ c. AreValid F (standing c new.groups)) (sym mode)
-      (subst (λ gs. AreValid F (standing old.is_canonical gs)) (sym added)
+      subst (λ c. AreValid F (def_types c new.groups)) (sym mode)
+      (subst (λ gs. AreValid F (def_types old.is_canonical gs)) (sym added)
       (valid_more old.is_canonical old.groups g (subst AreListable added listable) (λ e. subst AreOnce added (once e)) v
       (subst (λ k. IsValidGroupAt F (old.groups ++ g ∷ []) k) (i.last refl) (subst (λ gs. IsValidGroupAt F gs n) added here))))
 
   -- a group that is known
-  checked_known : (old new : Listing A) (g : List (SubType A)) (n : ℕ) → Interns old new g false n → AreValid F (standing old.is_canonical old.groups) → AreValid F (standing new.is_canonical new.groups)
-  checked_known old new g n i v = subst (λ (l : Listing A). AreValid F (standing l.is_canonical l.groups)) (sym (i.known refl)) v
+  checked_known : (old new : Listing A) (g : List (SubType A)) (n : ℕ) → Interns old new g false n → AreValid F (def_types old.is_canonical old.groups) → AreValid F (def_types new.is_canonical new.groups)
+  checked_known old new g n i v = subst (λ (l : Listing A). AreValid F (def_types l.is_canonical l.groups)) (sym (i.known refl)) v
 
   -- both
   pub checked : (old new : Listing A) (g : List (SubType A)) (is_new : Bool) (n : ℕ) → new.is_canonical ≡ old.is_canonical → Interns old new g is_new n → AreListable new.groups → (old.is_canonical ≡ true → AreOnce new.groups)
-      → AreValid F (standing old.is_canonical old.groups) → (is_new ≡ true → IsValidGroupAt F new.groups n) → AreValid F (standing new.is_canonical new.groups)
+      → AreValid F (def_types old.is_canonical old.groups) → (is_new ≡ true → IsValidGroupAt F new.groups n) → AreValid F (def_types new.is_canonical new.groups)
   checked old new g true n mode i listable once v here = checked_new old new g n mode i listable once v (here refl)
   checked old new g false n mode i listable once v here = checked_known old new g n i v
 
   -- a group that was refused is new, and its list isn't valid
   pub refused : (new : Listing A) (n : ℕ) (is_new answer : Bool) → AreListable new.groups → (new.is_canonical ≡ true → AreOnce new.groups)
-      → (is_new ≡ true → Decides answer (IsValidGroupAt F new.groups n)) → (is_new ≡ false → answer ≡ true) → answer ≡ false → AreValid F (standing new.is_canonical new.groups) → ⊥
+      → (is_new ≡ true → Decides answer (IsValidGroupAt F new.groups n)) → (is_new ≡ false → answer ≡ true) → answer ≡ false → AreValid F (def_types new.is_canonical new.groups) → ⊥
   refused new n true answer listable once d k e v = not_from_Decides answer (d refl) e (group_valid new.is_canonical new.groups n listable once v)
   refused new n false answer listable once d k e v = absurd (let h : true ≡ false = sym (k refl) ∙ e in cc)
 

@@ -11,7 +11,7 @@ use Rattle.wasm_grouped_list.specs.Groups.{first_of}
 use Rattle.wasm_validator_type_list.specs.Listing.{Listing, types_in}
 use Rattle.wasm_validator_type_list.specs.Lookups.{IsSupertypeAt}
 use Rattle.wasm_validator_type_list.proofs.Declares.{supertype_read}
-use Rattle.wasm_validator_type_list.proofs.Standing.{first_of-within}
+use Rattle.wasm_validator_type_list.proofs.DefTypes.{first_of-within}
 use Rattle.wasm_validator_canonical.specs.Interned.{InternsUnder}
 use Rattle.wasm_validator_canonical.proofs.Interning.{there, first_of_next}
 

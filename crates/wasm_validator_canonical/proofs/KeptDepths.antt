@@ -22,7 +22,7 @@ use Rattle.wasm_validator_type_list.specs.Declares.{declares}
 use Rattle.wasm_validator_type_list.specs.Depths.{depth_of, with_depth}
 use Rattle.wasm_validator_type_list.specs.Interned.{Interns}
 use Rattle.wasm_validator_type_list.specs.Listable.{AreListable}
-use Rattle.wasm_validator_type_list.specs.Standing.{standing}
+use Rattle.wasm_validator_type_list.specs.DefTypes.{def_types}
 use Rattle.wasm_validator_type_list.specs.Listing.{Listing, with_depths}
 use Rattle.wasm_validator_type_list.specs.Lookups.{IsSupertypeAt}
 use Rattle.wasm_validator_type_list.proofs.Declares.{supertype_read, descends}
@@ -170,7 +170,7 @@ module _ {A : Type 0} where
 
   -- the types of a group of a list of valid types have few ancestors
   pub interned_fits : (F : Features) (old new : Listing A) (g : List (SubType A)) (ids : List ℕ) → new.is_canonical ≡ old.is_canonical → InternsUnder old new g ids → AreListable new.groups
-      → AreValid F (standing new.is_canonical new.groups) → All (FitsByte new) ids
+      → AreValid F (def_types new.is_canonical new.groups) → All (FitsByte new) ids
   interned_fits F old new g ids mode h listable v =
       let here = there old new g h.is_new h.group h.interned in
       let next = first_of_next new.groups h.group g here in

@@ -11,7 +11,7 @@ pub mod Interning
 pub mod Checked
 pub mod AddedGroups
 pub mod ValidAlone
-pub mod Standing
+pub mod StoodFor
 pub mod Steps
 pub mod OwnIds
 pub mod Sections

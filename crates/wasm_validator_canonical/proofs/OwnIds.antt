@@ -6,8 +6,8 @@ use Rattle.wasm_spec.specs.Trees.{DefType}
 use Rattle.wasm_readers_types.specs.declared.indices.UnpackedIndex.{UnpackedIndex}
 use Rattle.wasm_grouped_list.specs.Elements.{numbers_from}
 use Rattle.wasm_validator_type_list.specs.Listing.{Listing, types_in}
-use Rattle.wasm_validator_type_list.specs.Standing.{standing}
-use Rattle.wasm_validator_type_list.proofs.Standing.{length-standing}
+use Rattle.wasm_validator_type_list.specs.DefTypes.{def_types}
+use Rattle.wasm_validator_type_list.proofs.DefTypes.{length-def_types}
 use Rattle.wasm_validator_canonical.specs.Groups.{with_written}
 use Rattle.wasm_validator_canonical.proofs.Steps.{written_own}
 
@@ -17,20 +17,20 @@ same_behind (x ∷ xs) ys zs e = let h : xs ++ ys ≡ xs ++ zs = cc in same_behi
 
 module _ {A : Type 0} (F : Features) (own : canonical F ≡ false) (old new : Listing A) (ids more : List ℕ) (g : Rec UnpackedIndex) (count : ℕ) (many : length g.types ≡ count) where
   abbrev us : List DefType
-  us = standing old.is_canonical old.groups
+  us = def_types old.is_canonical old.groups
 
-  pub own_grows : with_written F us ids g ≡ Some (standing new.is_canonical new.groups, more) → length (types_in new) ≡ length (types_in old) + count
+  pub own_grows : with_written F us ids g ≡ Some (def_types new.is_canonical new.groups, more) → length (types_in new) ≡ length (types_in old) + count
   own_grows e =
-      let longer = (written_own F us ids g (standing new.is_canonical new.groups, more) own e).1 in
-      let before = length-standing old.is_canonical old.groups in
-      let after = length-standing new.is_canonical new.groups in
+      let longer = (written_own F us ids g (def_types new.is_canonical new.groups, more) own e).1 in
+      let before = length-def_types old.is_canonical old.groups in
+      let after = length-def_types new.is_canonical new.groups in
       omega (arith, longer, before, after, many)
 
-  pub own_all : with_written F us ids g ≡ Some (standing new.is_canonical new.groups, more) → more ≡ ids ++ numbers_from (length (types_in old)) count
+  pub own_all : with_written F us ids g ≡ Some (def_types new.is_canonical new.groups, more) → more ≡ ids ++ numbers_from (length (types_in old)) count
   own_all e =
-      (written_own F us ids g (standing new.is_canonical new.groups, more) own e).0
-      ∙ ap (λ n. ids ++ numbers_from n (length g.types)) (length-standing old.is_canonical old.groups) ∙ ap (λ n. ids ++ numbers_from (length (types_in old)) n) many
+      (written_own F us ids g (def_types new.is_canonical new.groups, more) own e).0
+      ∙ ap (λ n. ids ++ numbers_from n (length g.types)) (length-def_types old.is_canonical old.groups) ∙ ap (λ n. ids ++ numbers_from (length (types_in old)) n) many
 
 pub own_new : {A : Type 0} (F : Features) → canonical F ≡ false → (old new : Listing A) (ids more : List ℕ) (g : Rec UnpackedIndex) (count : ℕ) → length g.types ≡ count
-    → with_written F (standing old.is_canonical old.groups) ids g ≡ Some (standing new.is_canonical new.groups, ids ++ more) → more ≡ numbers_from (length (types_in old)) count
+    → with_written F (def_types old.is_canonical old.groups) ids g ≡ Some (def_types new.is_canonical new.groups, ids ++ more) → more ≡ numbers_from (length (types_in old)) count
 own_new F own old new ids more g count many e = same_behind ids more (numbers_from (length (types_in old)) count) (own_all F own old new ids (ids ++ more) g count many e)

@@ -19,7 +19,7 @@ use Rattle.wasm_validator_canonical.specs.Groups.{placed, AreValid, with_written
 use Rattle.wasm_validator_canonical.specs.Sections.{written, with_all_written, StandsFor, AddedSectionsAreValid, ValidSectionsAreAdded, OneIdForOneType}
 use Rattle.wasm_validator_canonical.proofs.Held.{length-positions}
 use Rattle.wasm_validator_canonical.proofs.Kept.{held_front, held_at_most, all_held}
-use Rattle.wasm_validator_canonical.proofs.Standing.{Stand, held_with, held_stand, valid_placed, zip_length}
+use Rattle.wasm_validator_canonical.proofs.StoodFor.{Stand, held_with, held_stand, valid_placed, zip_length}
 use Rattle.wasm_validator_canonical.proofs.Steps.{Fits, fits_added, added_fits, all_written_front, all_written_own}
 
 same_behind : {X : Type 0} (xs ys zs : List X) → xs ++ ys ≡ xs ++ zs → ys ≡ zs

@@ -20,7 +20,7 @@ use Rattle.wasm_validator_canonical.specs.Indices.{is_written, is_written_sub, n
 use Rattle.wasm_validator_canonical.specs.Sections.{written, with_all_written}
 use Rattle.wasm_validator_canonical.proofs.Held.{positions-map, length-positions}
 use Rattle.wasm_validator_canonical.proofs.Kept.{AreBelow, length_held, held_front, new_ids, held_known}
-use Rattle.wasm_validator_canonical.proofs.Standing.{Stand, held_with, same_closed, closed_alone, placed_valid, placed_members, standing_valid}
+use Rattle.wasm_validator_canonical.proofs.StoodFor.{Stand, held_with, same_closed, closed_alone, placed_valid, placed_members, standing_valid}
 use Rattle.wasm_validator_canonical.proofs.ValidAlone.{refs_sub-map}
 
 -- a group as it is written

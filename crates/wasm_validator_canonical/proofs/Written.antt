@@ -26,7 +26,7 @@ use Rattle.wasm_readers_types.specs.SeenTypes.{sub_of}
 use Rattle.wasm_grouped_list.specs.Elements.{numbers_from}
 use Rattle.wasm_grouped_list.specs.Groups.{first_of}
 use Rattle.wasm_validator_type_list.specs.Listing.{Listing}
-use Rattle.wasm_validator_type_list.specs.Standing.{listed_ref, listed_sub, listed_group, standing, tree_behind}
+use Rattle.wasm_validator_type_list.specs.DefTypes.{listed_ref, listed_sub, listed_group, def_types, tree_behind}
 use Rattle.wasm_validator_type_list.specs.Interned.{AreOnce, Interns, InternsTypes}
 use Rattle.wasm_grouped_list.proofs.Places.{get-map}
 use Rattle.wasm_validator_canonical.specs.Groups.{nowhere, types_at, placed, held, with_written}
@@ -87,7 +87,7 @@ module _ (us : List DefType) (ids : List ℕ) (known : All (λ id. id < length u
 
 module _ {A : Type 0} (F : Features) (old new : Listing A) (ids : List ℕ) (written : Rec UnpackedIndex) (g : List (SubType A)) (is_new : Bool) (n : ℕ) where
   abbrev us : List DefType
-  us = standing (canonical F) old.groups
+  us = def_types (canonical F) old.groups
 
   abbrev numbered : Rec ℕ
   numbered = map_rec number_in written
@@ -112,7 +112,7 @@ module _ {A : Type 0} (F : Features) (old new : Listing A) (ids : List ℕ) (wri
       → list_all is_written_sub written.types ≡ true
       → length us + length written.types ≤ MAX_IDS → is_closable F (length (types_at us ids)) numbered ≡ true
       → map sub_of g ≡ canonical_group ids written.types → Interns old new g is_new n → InternsTypes old new g is_new n → (old.is_canonical ≡ true → AreOnce new.groups)
-      → with_written F us ids written ≡ Some (standing (canonical F) new.groups, ids ++ numbers_from (first_of new.groups n) (length g))
+      → with_written F us ids written ≡ Some (def_types (canonical F) new.groups, ids ++ numbers_from (first_of new.groups n) (length g))
   written_added mode known w room closable e i j one =
       let c = canonical F in
       let t = same_tree known w e in
@@ -120,4 +120,4 @@ module _ {A : Type 0} (F : Features) (old new : Listing A) (ids : List ℕ) (wri
       ∙ ap (λ b. option_map (λ u. held c us ids (positions (placed c (length us) u) 0 written.types)) (cond b (Some tree) None)) closable
       ∙ ap (λ u. Some (held c us ids (positions u 0 written.types))) (sym t)
       ∙ ap (λ ds. Some (held c us ids ds)) (sym (same_positions (tree_behind c old.groups g) e))
-      ∙ ap Some (subst (λ b. held b (standing b old.groups) ids (positions (tree_behind b old.groups g) 0 g) ≡ (standing b new.groups, ids ++ numbers_from (first_of new.groups n) (length g))) (sym mode) (interned_held old new g is_new n ids i j one))
+      ∙ ap Some (subst (λ b. held b (def_types b old.groups) ids (positions (tree_behind b old.groups g) 0 g) ≡ (def_types b new.groups, ids ++ numbers_from (first_of new.groups n) (length g))) (sym mode) (interned_held old new g is_new n ids i j one))

@@ -6,6 +6,7 @@ use Rattle.wasm_spec.specs.Features.{Features}
 use Rattle.wasm_spec.specs.Trees.{DefType}
 use Rattle.wasm_readers_errors.specs.declared.error.Error.{Error}
 use Rattle.wasm_readers_errors.specs.declared.error.Error.TheVariants.{Refused, OutOfMemory}
+use Rattle.wasm_readers_errors.specs.declared.error.Refusal.{Refusal}
 use Rattle.wasm_grouped_list.specs.declared.elements.RecGroupElements.{RecGroupElements}
 use Rattle.wasm_grouped_list.specs.Elements.{ids_left}
 use Rattle.wasm_validator_canonical.specs.Groups.{AreValid}
@@ -35,6 +36,10 @@ Denies OutOfMemory b = ⊤
 abbrev pub Says : {T : Type 0} → Result T Error → Bool → Type 0
 Says (Ok x) b = b ≡ true
 Says (Err e) b = Denies e b
+
+-- the call refuses the content with this
+abbrev pub IsRefusal : {T : Type 0} → Result T Error → Refusal → Type 0
+IsRefusal r refusal = r ≡ Err (Refused refusal)
 
 -- a refusal of the content stands at this offset
 abbrev pub IsAt : ℕ → Error → Type 0

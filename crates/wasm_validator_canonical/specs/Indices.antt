@@ -1,14 +1,19 @@
 -- Type indices of a module as a list of types writes them. Core Specification 3.0, Validation, Types (Recursive Types):
 -- an index of the types so far stands for the type there, and one behind them for a position in the group.
-use Rattle.std.specs.Prelude.{ℕ, ◌+◌, ◌-◌, ◌==◌, ◌<◌, ◌≤◌, nat_lt, nat_le, Bool, true, false, ◌&&◌, ◌||◌, List, [], ◌∷◌, ◌++◌, map, length, slice_get, Option}
+use Rattle.std.specs.Option.{option_map}
+use Rattle.std.specs.Prelude.{ℕ, ◌≡◌, ◌+◌, ◌-◌, ◌==◌, ◌<◌, ◌≤◌, nat_lt, nat_le, Bool, true, false, ◌&&◌, ◌||◌, List, [], ◌∷◌, ◌++◌, map, length, slice_get, Option}
 use Rattle.std.specs.declared.option.Option.TheVariants.{Some, None}
 use Rattle.std.specs.List.{All, list_all}
-use Rattle.wasm_spec.specs.Syntax.{Val, Field, Sub, map_sub}
+use Rattle.wasm_spec.specs.Syntax.{Val, Field, Sub, Rec, map_sub}
 use Rattle.wasm_spec.specs.References.{refs_option, refs_val, refs_field, refs_comp, refs_sub}
 use Rattle.wasm_readers_types.specs.declared.indices.CoreTypeId.{CoreTypeId}
+use Rattle.wasm_readers_types.specs.declared.indices.PackedIndex.{PackedIndex}
 use Rattle.wasm_readers_types.specs.declared.indices.TheConstants.{MAX_IDS}
 use Rattle.wasm_readers_types.specs.declared.indices.UnpackedIndex.{UnpackedIndex}
 use Rattle.wasm_readers_types.specs.declared.indices.UnpackedIndex.TheVariants.{Module, RecGroup, Id}
+use Rattle.wasm_readers_types.specs.declared.types.CompositeType.{CompositeType}
+use Rattle.wasm_readers_types.specs.SeenTypes.{comp_of}
+use Rattle.wasm_readers_types.specs.SeenValues.{index_of}
 use Rattle.wasm_validator_canonical.specs.declared.type_canonicalizer.TypeCanonicalizer.{TypeCanonicalizer}
 
 -- the numbers of ids
@@ -83,6 +88,16 @@ abbrev pub are_bound : Bool → ℕ → ℕ → ℕ → List (Sub UnpackedIndex)
 are_bound gc start end n [] = true
 are_bound gc start end n (s ∷ ss) = is_bound gc start end n s && are_bound gc start end (n + 1) ss
 
+-- a composite type at the index n: what it describes comes before it, and any other reference is known
+abbrev pub knows_composite : {A : Type 0} → TypeCanonicalizer → ℕ → CompositeType A → Bool
+knows_composite c n ty =
+    list_all (is_earlier n) (refs_option (option_map index_of ty.describes_idx))
+    && list_all (is_known_by c) (refs_option (option_map index_of ty.descriptor_idx) ++ refs_comp (comp_of ty.inner))
+
+-- the index, if there is one, as the list has it
+abbrev pub IsCanonicalOf : TypeCanonicalizer → Option PackedIndex → Option PackedIndex → Type 0
+IsCanonicalOf c old new = option_map index_of new ≡ option_map (canonical_by c) (option_map index_of old)
+
 abbrev pub is_bound_by : TypeCanonicalizer → ℕ → Sub UnpackedIndex → Bool
 is_bound_by c = is_bound c.has_gc (length c.ids.now) c.end
 
@@ -91,6 +106,10 @@ are_bound_by c = are_bound c.has_gc (length c.ids.now) c.end
 
 abbrev pub extends_at_most_one : Sub UnpackedIndex → Bool
 extends_at_most_one s = nat_le (length s.supers) 1
+
+-- the same of each type of a group
+abbrev pub extend_at_most_one : Rec UnpackedIndex → Bool
+extend_at_most_one g = list_all extends_at_most_one g.types
 
 -- the value type refers to no type
 abbrev pub has_no_index : {R : Type 0} → Val R → Bool

@@ -1,24 +1,23 @@
 ghost use Rattle.std.specs.Prelude.{◌≡◌, ◌+◌, ◌<◌, ◌≤◌, ◌^◌, true, false, not, ◌||◌, map, length, is_ok, IfOk, IfErr, OnOk, IsTrue};
 ghost use Rattle.std.specs.Bool.{Decides};
 ghost use Rattle.std.specs.List.{All, list_all};
-ghost use Rattle.std.specs.declared.result.Result.TheVariants.{Err};
 ghost use Rattle.wasm_spec.specs.Features.{canonical};
 ghost use Rattle.wasm_rules.specs.FeatureFlags.{features_of};
 ghost use Rattle.wasm_readers_types.specs.declared.indices.TheConstants.{MAX_IDS};
 ghost use Rattle.wasm_readers_types.specs.declared.indices.CoreTypeId.{CoreTypeId};
 ghost use Rattle.wasm_readers_types.specs.SeenTypes.{sub_of, rec_of};
-ghost use Rattle.wasm_grouped_list.specs.Elements.{ids_left, numbers_from};
+ghost use Rattle.wasm_grouped_list.specs.Elements.{ids_left};
 ghost use Rattle.wasm_validator_type_list.specs.Listable.{IsListable, AreListable};
 ghost use Rattle.wasm_validator_type_list.specs.Listing.{types_in};
 ghost use Rattle.wasm_validator_type_list.specs.Refused.{too_many_types};
-ghost use Rattle.wasm_validator_type_list.specs.Standing.{standing};
+ghost use Rattle.wasm_validator_type_list.specs.DefTypes.{types_of_list};
 ghost use Rattle.wasm_group_checks.specs.Rules.{IsValidGroupAt};
-ghost use Rattle.wasm_validator_canonical.specs.Indices.{numbers, canonical_group, extends_at_most_one};
-ghost use Rattle.wasm_validator_canonical.specs.Groups.{has_form, allows_written, closes, AreValid, with_written};
-ghost use Rattle.wasm_validator_canonical.specs.Answers.{AddsIds, Says, IsAt};
+ghost use Rattle.wasm_validator_canonical.specs.Indices.{numbers, canonical_group, extend_at_most_one};
+ghost use Rattle.wasm_validator_canonical.specs.Groups.{has_form, allows_written, closes, AreValid};
+ghost use Rattle.wasm_validator_canonical.specs.Answers.{Says, IsRefusal, IsAt};
 ghost use Rattle.wasm_validator_canonical.specs.Refusals.{rec_without_gc, extends_many};
 ghost use Rattle.wasm_validator_canonical.specs.Depths.{KeepsDepth, StillKept};
-ghost use Rattle.wasm_validator_canonical.specs.Interned.{InternsValid};
+ghost use Rattle.wasm_validator_canonical.specs.Interned.{next_ids, HasIdsFor, AddsWritten, InternsValid};
 
 use crate::depths::keep_depths;
 use crate::type_canonicalizer::{TypeCanonicalizer, extend_at_most_one};
@@ -61,8 +60,8 @@ fn canonical_types<A: Allocator + Copy>(
     ensures value { IfOk result (λ ss. map sub_of ss.items ≡ canonical_group (numbers ids.now) (rec_of group).types) }
     ensures closes { Says result (closes (features_of features) (length ids.now) (rec_of group)) }
     ensures place { IfErr result (IsAt offset) }
-    ensures written { allows_written (features_of features) (rec_of group) ≡ false → result ≡ Err (Error.Refused (rec_without_gc offset)) }
-    ensures extends { allows_written (features_of features) (rec_of group) ≡ true → list_all extends_at_most_one (rec_of group).types ≡ false → result ≡ Err (Error.Refused (extends_many offset)) }
+    ensures written { allows_written (features_of features) (rec_of group) ≡ false → IsRefusal result (rec_without_gc offset) }
+    ensures extends { allows_written (features_of features) (rec_of group) ≡ true → extend_at_most_one (rec_of group) ≡ false → IsRefusal result (extends_many offset) }
 {
     if !may_be_written(features, &group) {
         let fault = Fault::Group(GroupRule::RecGroups);
@@ -105,19 +104,19 @@ pub fn canonicalize_and_intern_rec_group<A: Allocator + Copy>(
 ) -> Result<RecGroupElements, Error>
     requires open { IsTrue types.old.is_open }
     requires mode { types.old.is_canonical ≡ canonical (features_of features) }
-    requires known { All (λ (id : CoreTypeId). id.index < length (standing types.old.is_canonical types.old.groups)) ids.now }
+    requires known { All (λ (id : CoreTypeId). id.index < length (types_of_list types.old)) ids.now }
     requires few { length ids.now < 2 ^ 31 }
     requires form { has_form (rec_of group) ≡ true }
-    requires valid { AreValid (features_of features) (standing types.old.is_canonical types.old.groups) }
-    ensures added { AddsIds (features_of features) result (with_written (features_of features) (standing types.old.is_canonical types.old.groups) (numbers ids.now) (rec_of group)) (standing types.new.is_canonical types.new.groups) (numbers ids.now) }
-    ensures valid { OnOk result (AreValid (features_of features) (standing types.new.is_canonical types.new.groups)) }
-    ensures own_ids { canonical (features_of features) ≡ false → IfOk result (λ elements. ids_left elements ≡ numbers_from (length (types_in types.old)) (length group.types)) }
+    requires valid { AreValid (features_of features) (types_of_list types.old) }
+    ensures added { AddsWritten (features_of features) result types.old (numbers ids.now) (rec_of group) types.new }
+    ensures valid { OnOk result (AreValid (features_of features) (types_of_list types.new)) }
+    ensures own_ids { canonical (features_of features) ≡ false → IfOk result (λ elements. ids_left elements ≡ next_ids types.old (length group.types)) }
     ensures grows { canonical (features_of features) ≡ false → OnOk result (length (types_in types.new) ≡ length (types_in types.old) + length group.types) }
     ensures depths { IfOk result (λ elements. All (KeepsDepth types.new) (ids_left elements)) }
     ensures earlier_depths { OnOk result (StillKept types.old types.new) }
     ensures place { IfErr result (IsAt offset) }
-    ensures limit { MAX_IDS < length (types_in types.old) + length group.types → result ≡ Err (Error.Refused (too_many_types offset)) }
-    ensures written { length (types_in types.old) + length group.types ≤ MAX_IDS → allows_written (features_of features) (rec_of group) ≡ false → result ≡ Err (Error.Refused (rec_without_gc offset)) }
+    ensures limit { MAX_IDS < length (types_in types.old) + length group.types → IsRefusal result (too_many_types offset) }
+    ensures written { HasIdsFor types.old (length group.types) → allows_written (features_of features) (rec_of group) ≡ false → IsRefusal result (rec_without_gc offset) }
     ensures same_open { types.new.is_open ≡ types.old.is_open }
     ensures same_mode { types.new.is_canonical ≡ types.old.is_canonical }
 {
@@ -167,7 +166,7 @@ fn intern<A: Allocator + Copy>(
     requires open { IsTrue types.old.is_open }
     requires members { types.old.is_canonical ≡ false → 0 < length group.types }
     requires listable { IsListable (length (types_in types.old)) group.types }
-    requires valid { AreValid (features_of features) (standing types.old.is_canonical types.old.groups) }
+    requires valid { AreValid (features_of features) (types_of_list types.old) }
     ensures interned { InternsValid (features_of features) result types.old types.new group.types }
     ensures listable { OnOk result (AreListable types.new.groups) }
     ensures place { IfErr result (IsAt offset) }

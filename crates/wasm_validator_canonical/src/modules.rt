@@ -5,11 +5,11 @@ ghost use Rattle.std.specs.List.{All};
 ghost use Rattle.wasm_spec.specs.Features.{canonical};
 ghost use Rattle.wasm_rules.specs.FeatureFlags.{features_of};
 ghost use Rattle.wasm_readers_types.specs.SeenTypes.{rec_of};
-ghost use Rattle.wasm_grouped_list.specs.Elements.{numbers_from};
 ghost use Rattle.wasm_validator_type_list.specs.Listing.{types_in};
-ghost use Rattle.wasm_validator_type_list.specs.Standing.{standing};
-ghost use Rattle.wasm_validator_canonical.specs.Groups.{has_form, AreValid, with_written};
-ghost use Rattle.wasm_validator_canonical.specs.Answers.{AddsGroup, IsAt};
+ghost use Rattle.wasm_validator_type_list.specs.DefTypes.{types_of_list};
+ghost use Rattle.wasm_validator_canonical.specs.Groups.{has_form, AreValid};
+ghost use Rattle.wasm_validator_canonical.specs.Answers.{IsAt};
+ghost use Rattle.wasm_validator_canonical.specs.Interned.{next_ids, AddsWrittenGroup};
 ghost use Rattle.wasm_validator_canonical.specs.Refusals.{unknown_type};
 ghost use Rattle.wasm_validator_canonical.specs.Indices.{numbers};
 
@@ -120,13 +120,13 @@ pub fn intern_rec_group_of<A: Allocator + Copy, M: InternRecGroup<A>>(
 ) -> Result<(), Error>
     requires open { IsTrue types.old.is_open }
     requires mode { types.old.is_canonical ≡ canonical (features_of features) }
-    requires known { All (λ id. id < length (standing types.old.is_canonical types.old.groups)) (M.ids target.old) }
+    requires known { All (λ id. id < length (types_of_list types.old)) (M.ids target.old) }
     requires few { length (M.ids target.old) + length group.types < 2 ^ 31 }
     requires form { has_form (rec_of group) ≡ true }
-    requires valid { AreValid (features_of features) (standing types.old.is_canonical types.old.groups) }
-    ensures added { AddsGroup (features_of features) result (with_written (features_of features) (standing types.old.is_canonical types.old.groups) (M.ids target.old) (rec_of group)) (standing types.new.is_canonical types.new.groups) (M.ids target.new) }
-    ensures valid { OnOk result (AreValid (features_of features) (standing types.new.is_canonical types.new.groups)) }
-    ensures own_ids { canonical (features_of features) ≡ false → OnOk result (M.ids target.new ≡ M.ids target.old ++ numbers_from (length (types_in types.old)) (length group.types)) }
+    requires valid { AreValid (features_of features) (types_of_list types.old) }
+    ensures added { AddsWrittenGroup (features_of features) result types.old (M.ids target.old) (rec_of group) types.new (M.ids target.new) }
+    ensures valid { OnOk result (AreValid (features_of features) (types_of_list types.new)) }
+    ensures own_ids { canonical (features_of features) ≡ false → OnOk result (M.ids target.new ≡ M.ids target.old ++ next_ids types.old (length group.types)) }
     ensures grows { canonical (features_of features) ≡ false → OnOk result (length (types_in types.new) ≡ length (types_in types.old) + length group.types) }
     ensures others { M.others target.new ≡ M.others target.old }
     ensures place { IfErr result (IsAt offset) }

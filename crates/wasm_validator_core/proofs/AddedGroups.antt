@@ -17,12 +17,12 @@ use Rattle.wasm_validator_canonical.specs.Answers.{AddsNothing}
 use Rattle.wasm_validator_canonical.specs.Answers as canonical
 use Rattle.wasm_validator_canonical.specs.Groups.{AreValid, with_written}
 use Rattle.wasm_validator_canonical.proofs.Steps.{written_length, written_known}
-use Rattle.wasm_validator_types.specs.Shown.{types_of}
+use Rattle.wasm_validator_type_list.specs.DefTypes.{types_of_list}
 use Rattle.wasm_validator_types.specs.Spaces.{Spaces}
 use Rattle.wasm_validator_core.specs.declared.limits.TheConstants.{MAX_TYPES}
 use Rattle.wasm_validator_core.specs.declared.error.Error.{Error}
 use Rattle.wasm_validator_core.specs.Errors.{IsAt, lifted}
-use Rattle.wasm_validator_core.specs.Answers.{Types, IsNowhere, AddsWhere, HasValidTypes}
+use Rattle.wasm_validator_core.specs.Answers.{TypesSoFar, IsNowhere, AddsWhere, HasValidTypes}
 use Rattle.wasm_validator_core.specs.Machine.{with_ids, add_group}
 use Rattle.wasm_validator_core.specs.Ready.{AreIdsOf}
 
@@ -35,30 +35,30 @@ pub lifted_at : (A : Type 0) (place : ℕ) (e : below.Error) → canonical.IsAt 
 lifted_at A place (read.Refused r) h = h
 lifted_at A place read.OutOfMemory h = tt
 
-module _ (features : WasmFeatures) (us : Types) (s : Spaces) (g : Rec UnpackedIndex) where
+module _ (features : WasmFeatures) (us : TypesSoFar) (s : Spaces) (g : Rec UnpackedIndex) where
   -- too many types
   pub group_over : leb (length s.types + length g.types) MAX_TYPES ≡ false → IsNowhere (HasValidTypes features) (add_group features (us, s) g)
   group_over e q h v = none-some q (sym (ap (λ b. cond b (option_map (with_ids s) (with_written (features_of features) us s.types g)) None) e) ∙ h)
 
   -- a group that isn't added
-  pub group_refused : (A : Type 0) (e : below.Error) (here : Types × Spaces) → AddsNothing (features_of features) e (with_written (features_of features) us s.types g) → AddsWhere (HasValidTypes features) (refusal {A = A} (lifted e)) (add_group features (us, s) g) here
+  pub group_refused : (A : Type 0) (e : below.Error) (here : TypesSoFar × Spaces) → AddsNothing (features_of features) e (with_written (features_of features) us s.types g) → AddsWhere (HasValidTypes features) (refusal {A = A} (lifted e)) (add_group features (us, s) g) here
   group_refused A (read.Refused r) here h =
       λ q e v.
       let a = guarded (leb (length s.types + length g.types) MAX_TYPES) (option_map (with_ids s) (with_written (features_of features) us s.types g)) q e in
       let m = map_some (with_ids s) (with_written (features_of features) us s.types g) q a.1 in
-      h m.0 m.1 (subst (λ (p : Types × Spaces). AreValid (features_of features) p.0) (sym m.2) v)
+      h m.0 m.1 (subst (λ (p : TypesSoFar × Spaces). AreValid (features_of features) p.0) (sym m.2) v)
   group_refused A read.OutOfMemory here h = tt
 
 -- what adding a group says of the module, which has its ids and is otherwise as it was
 module _ {A : Type 0} (features : WasmFeatures) (list list' : Listing A) (s s' : Spaces) (g : Rec UnpackedIndex) (few : leb (length s.types + length g.types) MAX_TYPES ≡ true)
-    (e : with_written (features_of features) (types_of list) s.types g ≡ Some (types_of list', s'.types)) where
+    (e : with_written (features_of features) (types_of_list list) s.types g ≡ Some (types_of_list list', s'.types)) where
   many : length s'.types ≡ length s.types + length g.types
-  many = written_length (features_of features) (types_of list) s.types g (types_of list', s'.types) e
+  many = written_length (features_of features) (types_of_list list) s.types g (types_of_list list', s'.types) e
 
-  pub group_added : record s' { types = [] } ≡ record s { types = [] } → add_group features (types_of list, s) g ≡ Some (types_of list', s')
-  group_added same = (λ i. cond (few i) (option_map (with_ids s) (e i)) None) ∙ ap (λ (t : Spaces). Some (types_of list', record t { types = s'.types })) (sym same)
+  pub group_added : record s' { types = [] } ≡ record s { types = [] } → add_group features (types_of_list list, s) g ≡ Some (types_of_list list', s')
+  group_added same = (λ i. cond (few i) (option_map (with_ids s) (e i)) None) ∙ ap (λ (t : Spaces). Some (types_of_list list', record t { types = s'.types })) (sym same)
 
   pub ids_of_new : AreIdsOf list s.types → AreIdsOf list' s'.types
   ids_of_new a =
       let room = leb-true (length s.types + length g.types) MAX_TYPES few in
-      record { known = written_known (features_of features) (types_of list) s.types g (types_of list', s'.types) e a.known; few = omega (arith, room, many) }
+      record { known = written_known (features_of features) (types_of_list list) s.types g (types_of_list list', s'.types) e a.known; few = omega (arith, room, many) }

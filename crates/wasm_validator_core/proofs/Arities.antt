@@ -13,9 +13,9 @@ use Rattle.wasm_grouped_list.specs.Groups.{all_in}
 use Rattle.wasm_validator_type_list.specs.Laws.{type_of_id}
 use Rattle.wasm_validator_type_list.specs.Listable.{AreListable}
 use Rattle.wasm_validator_type_list.specs.Lookups.{leads_to}
-use Rattle.wasm_validator_type_list.specs.Standing.{standing}
+use Rattle.wasm_validator_type_list.specs.DefTypes.{def_types}
 use Rattle.wasm_validator_type_list.proofs.Joined.{types_declare_what_ids_declare}
-use Rattle.wasm_validator_type_list.proofs.Standing.{length-standing}
+use Rattle.wasm_validator_type_list.proofs.DefTypes.{length-def_types}
 use Rattle.wasm_validator_canonical.specs.Arities.{arity, type_arity, arity_at}
 use Rattle.wasm_validator_core.specs.Machine.{written_arity, written_arity_at}
 
@@ -70,16 +70,16 @@ module _ {A : Type 0} where
   unfolding declares
   declared_in gs id = joined sub_arity (subs_by_ids 0 gs) id ∙ ap (λ l. option_and_then (λ o. o) (slice_get l id)) (list_arities 0 gs) ∙ sym (joined sub_arity (map sub_of (all_in gs)) id)
 
-  at_type : (c : Bool) (gs : List (List (SubType A))) → AreListable gs → (id : ℕ) (o : Option DefType) → slice_get (standing c gs) id ≡ o → option_and_then type_arity o ≡ written_arity_at (map sub_of (all_in gs)) id
+  at_type : (c : Bool) (gs : List (List (SubType A))) → AreListable gs → (id : ℕ) (o : Option DefType) → slice_get (def_types c gs) id ≡ o → option_and_then type_arity o ≡ written_arity_at (map sub_of (all_in gs)) id
   at_type c gs l id None e =
-      let behind = past (standing c gs) id e in
-      let many = length-standing c gs in
+      let behind = past (def_types c gs) id e in
+      let many = length-def_types c gs in
       let listed = length-map (all_in gs) sub_of in
       sym (ap (option_and_then (λ (t : Sub UnpackedIndex). written_arity t.comp)) (none_past (map sub_of (all_in gs)) id (omega (arith, behind, many, listed))))
   at_type c gs l id (Some d) e =
       ap (λ o. option_map arity (option_and_then (λ (s : Sub DefType). signature s.comp) o)) (types_declare_what_ids_declare c gs nowhere l id d e)
-      ∙ declared_arity (type_of_id (standing c gs) nowhere) (declares gs id)
+      ∙ declared_arity (type_of_id (def_types c gs) nowhere) (declares gs id)
       ∙ declared_in gs id
 
-  pub written_arities : (c : Bool) (gs : List (List (SubType A))) → AreListable gs → (id : ℕ) → written_arity_at (map sub_of (all_in gs)) id ≡ arity_at (standing c gs) id
-  written_arities c gs l id = sym (at_type c gs l id (slice_get (standing c gs) id) refl)
+  pub written_arities : (c : Bool) (gs : List (List (SubType A))) → AreListable gs → (id : ℕ) → written_arity_at (map sub_of (all_in gs)) id ≡ arity_at (def_types c gs) id
+  written_arities c gs l id = sym (at_type c gs l id (slice_get (def_types c gs) id) refl)

@@ -10,8 +10,8 @@ use Rattle.wasm_validator_core.specs.declared.error.Error.{Error}
 use Rattle.wasm_validator_core.specs.declared.error.Error.TheVariants.{Refused, DuplicateExport, OutOfMemory}
 
 -- the types of all modules so far, as what their ids stand for
-abbrev pub Types : Type 0
-Types = List DefType
+abbrev pub TypesSoFar : Type 0
+TypesSoFar = List DefType
 
 -- A call that changes what it is given moves to where the machine moves; where it refuses the content so does the
 -- machine, and nothing is said of what is left.
@@ -33,5 +33,5 @@ AddsWhere P (Err (DuplicateExport name offset)) next new = IsNowhere P next
 AddsWhere P (Err OutOfMemory) next new = ⊤
 
 -- the types of all modules so far are valid
-abbrev pub HasValidTypes : {S : Type 0} → WasmFeatures → Types × S → Type 0
+abbrev pub HasValidTypes : {S : Type 0} → WasmFeatures → TypesSoFar × S → Type 0
 HasValidTypes features p = AreValid (features_of features) p.0

@@ -15,10 +15,10 @@ use Rattle.wasm_item_checks.specs.Items.{is_function, is_valid_defined_table, is
 use Rattle.wasm_validator_types.specs.Entities.{Entity}
 use Rattle.wasm_validator_types.specs.Spaces.{Spaces, with_import, is_exported, is_exact}
 use Rattle.wasm_validator_core.specs.declared.limits.TheConstants.{MAX_FUNCTIONS, MAX_GLOBALS, MAX_TAGS, MAX_DATA_SEGMENTS, MAX_EFFECTIVE_SIZE}
-use Rattle.wasm_validator_core.specs.Answers.{Types}
+use Rattle.wasm_validator_core.specs.Answers.{TypesSoFar}
 
 -- the module's types, in the order of their indices
-abbrev pub types_of_module : Types → Spaces → List DefType
+abbrev pub types_of_module : TypesSoFar → Spaces → List DefType
 types_of_module us s = types_at us s.types
 
 -- one more item, where so many keep to the limit
@@ -41,17 +41,17 @@ abbrev pub with_tag : Spaces → ℕ → Option Spaces
 with_tag s x = limited (length s.tags + 1) MAX_TAGS (record s { tags = s.tags ++ x ∷ [] })
 
 -- items that are defined
-abbrev pub add_function : Types → Spaces → ℕ → Option Spaces
+abbrev pub add_function : TypesSoFar → Spaces → ℕ → Option Spaces
 add_function us s x = if is_function (types_of_module us s) x then with_function s x else None
 
 -- a table without an initializer; the list of types has its references as ids
-abbrev pub add_table : Features → Types → Spaces → Table UnpackedIndex → Option Spaces
+abbrev pub add_table : Features → TypesSoFar → Spaces → Table UnpackedIndex → Option Spaces
 add_table F us s t = if is_valid_defined_table F (types_of_module us s) t false then with_table F s (map_table (canonical_index s.types) t) else None
 
 abbrev pub add_memory : Features → Spaces → Memory → Option Spaces
 add_memory F s m = if is_valid_memory F m then with_memory F s m else None
 
-abbrev pub add_tag : Features → Types → Spaces → ℕ → Option Spaces
+abbrev pub add_tag : Features → TypesSoFar → Spaces → ℕ → Option Spaces
 add_tag F us s x = if is_valid_tag F (types_of_module us s) x then with_tag s x else None
 
 -- an external type of the module, with its references as the list of types has them
@@ -73,7 +73,7 @@ abbrev pub function_size : Option (ℕ × ℕ) → ℕ
 function_size None = 2
 function_size (Some arity) = 2 + (arity.0 + arity.1)
 
-abbrev pub entity_size : Types → Entity → ℕ
+abbrev pub entity_size : TypesSoFar → Entity → ℕ
 entity_size us (func_extern id) = function_size (arity_at us id)
 entity_size us (func_exact_extern id) = function_size (arity_at us id)
 entity_size us (table_extern t) = 1
@@ -98,10 +98,10 @@ with_imported F s (global_extern g) = with_imported_global s g
 with_imported F s (tag_extern x) = with_tag s x
 
 -- an entity under the names of an import, and in the effective size
-abbrev pub with_named : Types → Import UnpackedIndex → Entity → Spaces → Option Spaces
+abbrev pub with_named : TypesSoFar → Import UnpackedIndex → Entity → Spaces → Option Spaces
 with_named us i e s = option_map (λ size. record s { imports = with_import s.imports i.module_name i.item_name e; size = size }) (grown s.size (entity_size us e))
 
-abbrev pub add_import : Features → Types → Spaces → Import UnpackedIndex → Option Spaces
+abbrev pub add_import : Features → TypesSoFar → Spaces → Import UnpackedIndex → Option Spaces
 add_import F us s i =
     if is_importable F (types_of_module us s) i.ty
     then option_and_then (with_named us i (entity s (listed s i.ty))) (with_imported F s (listed s i.ty))
@@ -137,20 +137,20 @@ exported_entity F s e =
     else None))))
 
 -- an entity under the name of an export, and in the effective size
-abbrev pub with_export : Types → List ℕ → Entity → Spaces → Option Spaces
+abbrev pub with_export : TypesSoFar → List ℕ → Entity → Spaces → Option Spaces
 with_export us name e s =
     if is_exported s.exports name then None
     else option_map (λ size. record s { exports = s.exports ++ (name, e) ∷ []; size = size }) (grown s.size (entity_size us e))
 
-abbrev pub export_movable : Features → Types → Spaces → List ℕ → Entity → Option Spaces
+abbrev pub export_movable : Features → TypesSoFar → Spaces → List ℕ → Entity → Option Spaces
 export_movable F us s name e = if is_movable F e then with_export us name e s else None
 
-abbrev pub add_export : Features → Types → Spaces → Export → Option Spaces
+abbrev pub add_export : Features → TypesSoFar → Spaces → Export → Option Spaces
 add_export F us s e = option_and_then (export_movable F us s e.name) (exported_entity F s e)
 
 -- how many parameters and results a function has, by its index, where the type of the function at this index is a
 -- function type
-abbrev pub arity_of_function : Types → Spaces → ℕ → Option (ℕ × ℕ)
+abbrev pub arity_of_function : TypesSoFar → Spaces → ℕ → Option (ℕ × ℕ)
 arity_of_function us s x = option_and_then (arity_at (types_of_module us s)) (slice_get s.functions x)
 
 -- neither parameters nor results
@@ -159,7 +159,7 @@ takes_and_gives_nothing None = false
 takes_and_gives_nothing (Some arity) = arity.0 == 0 && arity.1 == 0
 
 -- a function that is there and may be the start function
-abbrev pub is_startable : Types → Spaces → ℕ → Bool
+abbrev pub is_startable : TypesSoFar → Spaces → ℕ → Bool
 is_startable us s x = takes_and_gives_nothing (arity_of_function us s x)
 
 -- so many data segments may be said before the code

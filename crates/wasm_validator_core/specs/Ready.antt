@@ -9,7 +9,7 @@ use Rattle.wasm_readers_types.specs.declared.indices.UnpackedIndex.{UnpackedInde
 use Rattle.wasm_readers_types.specs.declared.indices.TheConstants.{MAX_IDS}
 use Rattle.wasm_readers_errors.specs.declared.features.WasmFeatures.{WasmFeatures}
 use Rattle.wasm_validator_type_list.specs.Listing.{Listing}
-use Rattle.wasm_validator_types.specs.Shown.{types_of}
+use Rattle.wasm_validator_type_list.specs.DefTypes.{types_of_list}
 use Rattle.wasm_validator_core.specs.declared.limits.TheConstants.{MAX_TYPES}
 
 -- ids that fit a packed index
@@ -33,9 +33,9 @@ module _ {A : Type 0} where
 
   -- the list has a type under each of the ids
   abbrev pub AreHeld : Listing A → List ℕ → Type 0
-  AreHeld list ids = All (λ id. id < length (types_of list)) ids
+  AreHeld list ids = All (λ id. id < length (types_of_list list)) ids
 
   -- the ids of a module's types are of the list, and no more than a module may have
   pub record AreIdsOf (list : Listing A) (ids : List ℕ) : Type 0 where
-    pub known : All (λ id. id < length (types_of list)) ids
+    pub known : All (λ id. id < length (types_of_list list)) ids
     pub few : length ids ≤ MAX_TYPES

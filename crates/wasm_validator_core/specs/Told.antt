@@ -30,7 +30,7 @@ use Rattle.wasm_validator_types.specs.Spaces.{Spaces, is_exported}
 use Rattle.wasm_validator_core.specs.declared.error.Error.{Error}
 use Rattle.wasm_validator_core.specs.declared.error.Error.TheVariants.{Refused, DuplicateExport, OutOfMemory}
 use Rattle.wasm_validator_core.specs.declared.limits.TheConstants.{MAX_FUNCTIONS, MAX_GLOBALS, MAX_TAGS, MAX_DATA_SEGMENTS}
-use Rattle.wasm_validator_core.specs.Answers.{Types}
+use Rattle.wasm_validator_core.specs.Answers.{TypesSoFar}
 use Rattle.wasm_validator_core.specs.Items.{types_of_module, listed, entity, entity_size, grown, arity_of_function, takes_and_gives_nothing}
 
 -- the call tells this, unless memory is refused
@@ -62,21 +62,21 @@ module _ (offset : ℕ) where
   told_of_limit what there most = unless (nat_le (there + 1) most) (plain (fault.Limit what most) offset)
 
   -- the effective size with an entity more
-  abbrev pub told_of_size : Types → ℕ → Entity → Option Refusal
+  abbrev pub told_of_size : TypesSoFar → ℕ → Entity → Option Refusal
   told_of_size us size e = unless (is_some (grown size (entity_size us e))) (plain (fault.Rule EffectiveSize) offset)
 
-  abbrev pub told_of_added_function : Types → Spaces → ℕ → Option Refusal
+  abbrev pub told_of_added_function : TypesSoFar → Spaces → ℕ → Option Refusal
   told_of_added_function us s x = option_or (told_of_function offset (types_of_module us s) x) (told_of_limit Functions (length s.functions) MAX_FUNCTIONS)
 
   -- the type index of a function, where there is one
-  abbrev pub told_of_type_index : Types → Spaces → ℕ → Option ℕ → Option Refusal
+  abbrev pub told_of_type_index : TypesSoFar → Spaces → ℕ → Option ℕ → Option Refusal
   told_of_type_index us s x None = Some (plain (fault.UnknownFunction x) offset)
   told_of_type_index us s x (Some type_index) = told_of_function offset (types_of_module us s) type_index
 
-  abbrev pub told_of_function_type : Types → Spaces → ℕ → Option Refusal
+  abbrev pub told_of_function_type : TypesSoFar → Spaces → ℕ → Option Refusal
   told_of_function_type us s x = told_of_type_index us s x (slice_get s.functions x)
 
-  abbrev pub told_of_start : Types → Spaces → ℕ → Option Refusal
+  abbrev pub told_of_start : TypesSoFar → Spaces → ℕ → Option Refusal
   told_of_start us s x = option_or (told_of_function_type us s x) (unless (takes_and_gives_nothing (arity_of_function us s x)) (plain (fault.Item StartType) offset))
 
   -- what an export names is there
@@ -91,13 +91,13 @@ module _ (features : WasmFeatures) (offset : ℕ) where
   abbrev pub told_of_memory_limit : Spaces → Option Refusal
   told_of_memory_limit s = told_of_limit offset Memories (length s.memories) (most_memories (features_of features))
 
-  abbrev pub told_of_added_table : Types → Spaces → Table UnpackedIndex → Option Refusal
+  abbrev pub told_of_added_table : TypesSoFar → Spaces → Table UnpackedIndex → Option Refusal
   told_of_added_table us s t = option_or (told_of_defined_table features offset (types_of_module us s) t false) (told_of_table_limit s)
 
   abbrev pub told_of_added_memory : Spaces → Memory → Option Refusal
   told_of_added_memory s m = option_or (told_of_memory features offset m) (told_of_memory_limit s)
 
-  abbrev pub told_of_added_tag : Types → Spaces → ℕ → Option Refusal
+  abbrev pub told_of_added_tag : TypesSoFar → Spaces → ℕ → Option Refusal
   told_of_added_tag us s x = option_or (told_of_tag features offset (types_of_module us s) x) (told_of_limit offset Tags (length s.tags) MAX_TAGS)
 
   -- an import at the end of its index space
@@ -114,14 +114,14 @@ module _ (features : WasmFeatures) (offset : ℕ) where
   told_of_moved (global_extern g) = told_of_movable features offset g
   told_of_moved _ = None
 
-  abbrev pub told_of_import : Types → Spaces → Import UnpackedIndex → Option Refusal
+  abbrev pub told_of_import : TypesSoFar → Spaces → Import UnpackedIndex → Option Refusal
   told_of_import us s i =
       option_or (told_of_extern features offset (types_of_module us s) i.ty)
       (option_or (told_of_moved i.ty)
       (option_or (told_of_imported s (listed s i.ty)) (told_of_size offset us s.size (entity s (listed s i.ty)))))
 
   -- what an export names: it is there, may be exported, and counts in the effective size
-  abbrev pub told_of_entity : Types → Spaces → ExternalKind → ℕ → Option Entity → Option Refusal
+  abbrev pub told_of_entity : TypesSoFar → Spaces → ExternalKind → ℕ → Option Entity → Option Refusal
   told_of_entity us s kind index None = Some (plain (fault.UnknownExport (kind_named kind) index) offset)
   told_of_entity us s kind index (Some e) = option_or (told_of_moved e) (told_of_size offset us s.size e)
 

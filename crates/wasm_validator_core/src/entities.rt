@@ -13,8 +13,8 @@ ghost use Rattle.wasm_readers_types.specs.SeenExterns.{table_of, global_of, exte
 ghost use Rattle.wasm_validator_canonical.specs.Indices.{numbers, canonical_index};
 ghost use Rattle.wasm_item_checks.specs.ModuleTypes.{AreKnown, module_types};
 ghost use Rattle.wasm_item_checks.specs.Items.{is_in_range, is_ref_in_range, is_val_in_range, is_valid_extern};
-ghost use Rattle.wasm_validator_types.specs.Entities.{entity_of};
-ghost use Rattle.wasm_validator_types.specs.Shown.{types_of};
+ghost use Rattle.wasm_validator_types.specs.Entities.{entity_of, IsAmong};
+ghost use Rattle.wasm_validator_type_list.specs.DefTypes.{types_of_list};
 ghost use Rattle.wasm_validator_core.specs.Items.{entity, entity_size, grown};
 ghost use Rattle.wasm_validator_core.specs.Ready.{AreHeld, AreSmall, IsTyped};
 ghost use Rattle.wasm_readers_errors.specs.Refusals.{refused};
@@ -132,7 +132,8 @@ pub(crate) fn listed_type_ref<A: Allocator + Copy>(
 /// The entity of an external type whose type index is as the list has it.
 pub(crate) fn entity_type<A: Allocator + Copy>(spaces: &IndexSpaces<A>, ty: TypeRef) -> EntityType
     requires { IsTyped (length spaces.now.types) (extern_of ty) }
-    ensures { entity_of result ≡ entity spaces.now (extern_of ty) }
+    ensures value { entity_of result ≡ entity spaces.now (extern_of ty) }
+    ensures typed { IsAmong spaces.now.types (entity_of result) }
 {
     match ty {
         TypeRef::Func(index) => EntityType::Func(spaces.type_at(index)),
@@ -179,7 +180,7 @@ pub(crate) fn size_with<A: Allocator + Copy>(
     size: u32,
     entity: EntityType,
 ) -> Option<u32>
-    ensures { result ≡ grown size (entity_size (types_of list.now) (entity_of entity)) }
+    ensures { result ≡ grown size (entity_size (types_of_list list.now) (entity_of entity)) }
 {
     match entity {
         EntityType::Func(id) | EntityType::FuncExact(id) | EntityType::Tag(id) => {

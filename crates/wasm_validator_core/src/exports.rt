@@ -1,13 +1,13 @@
 //! What a module exports (Core Specification 3.0, Validation, Modules, Exports).
 
-ghost use Rattle.std.specs.Prelude.{◌≡◌, OnErr, IfOk, IfErr};
+ghost use Rattle.std.specs.Prelude.{◌≡◌, OnErr, IfOk, IfErr, IfSome};
 ghost use Rattle.std.specs.declared.option.Option.TheVariants.{Some, None};
 ghost use Rattle.std.specs.Option.{option_map};
 ghost use Rattle.wasm_rules.specs.FeatureFlags.{features_of};
 ghost use Rattle.wasm_readers.specs.Items.{export_of};
 ghost use Rattle.wasm_item_checks.specs.Answers.{IsPlainRefusalAt};
-ghost use Rattle.wasm_validator_types.specs.Entities.{entity_of};
-ghost use Rattle.wasm_validator_types.specs.Shown.{types_of};
+ghost use Rattle.wasm_validator_types.specs.Entities.{entity_of, IsAmong};
+ghost use Rattle.wasm_validator_type_list.specs.DefTypes.{types_of_list};
 ghost use Rattle.wasm_validator_core.specs.Errors.{IsAt};
 ghost use Rattle.wasm_validator_core.specs.Answers.{Adds};
 ghost use Rattle.wasm_validator_core.specs.Items.{exported_function, exported_table, exported_memory, exported_global, exported_tag, exported_entity, with_export, add_export};
@@ -28,7 +28,8 @@ pub(crate) fn function_entity<A: Allocator + Copy>(
     spaces: &IndexSpaces<A>,
     index: u32,
 ) -> Option<EntityType>
-    ensures { option_map entity_of result ≡ exported_function (features_of features) spaces.now index }
+    ensures value { option_map entity_of result ≡ exported_function (features_of features) spaces.now index }
+    ensures typed { IfSome result (λ e. IsAmong spaces.now.types (entity_of e)) }
 {
     if index >= spaces.function_count() {
         return None;
@@ -43,7 +44,8 @@ pub(crate) fn function_entity<A: Allocator + Copy>(
 
 /// The table with this index as an entity, if there is one.
 fn table_entity<A: Allocator + Copy>(spaces: &IndexSpaces<A>, index: u32) -> Option<EntityType>
-    ensures { option_map entity_of result ≡ exported_table spaces.now index }
+    ensures value { option_map entity_of result ≡ exported_table spaces.now index }
+    ensures typed { IfSome result (λ e. IsAmong spaces.now.types (entity_of e)) }
 {
     if index < spaces.table_count() {
         Some(EntityType::Table(spaces.table_at(index)))
@@ -54,7 +56,8 @@ fn table_entity<A: Allocator + Copy>(spaces: &IndexSpaces<A>, index: u32) -> Opt
 
 /// The memory with this index as an entity, if there is one.
 fn memory_entity<A: Allocator + Copy>(spaces: &IndexSpaces<A>, index: u32) -> Option<EntityType>
-    ensures { option_map entity_of result ≡ exported_memory spaces.now index }
+    ensures value { option_map entity_of result ≡ exported_memory spaces.now index }
+    ensures typed { IfSome result (λ e. IsAmong spaces.now.types (entity_of e)) }
 {
     if index < spaces.memory_count() {
         Some(EntityType::Memory(spaces.memory_at(index)))
@@ -65,7 +68,8 @@ fn memory_entity<A: Allocator + Copy>(spaces: &IndexSpaces<A>, index: u32) -> Op
 
 /// The global with this index as an entity, if there is one.
 fn global_entity<A: Allocator + Copy>(spaces: &IndexSpaces<A>, index: u32) -> Option<EntityType>
-    ensures { option_map entity_of result ≡ exported_global spaces.now index }
+    ensures value { option_map entity_of result ≡ exported_global spaces.now index }
+    ensures typed { IfSome result (λ e. IsAmong spaces.now.types (entity_of e)) }
 {
     if index < spaces.global_count() {
         Some(EntityType::Global(spaces.global_at(index)))
@@ -76,7 +80,8 @@ fn global_entity<A: Allocator + Copy>(spaces: &IndexSpaces<A>, index: u32) -> Op
 
 /// The tag with this index as an entity, if there is one.
 fn tag_entity<A: Allocator + Copy>(spaces: &IndexSpaces<A>, index: u32) -> Option<EntityType>
-    ensures { option_map entity_of result ≡ exported_tag spaces.now index }
+    ensures value { option_map entity_of result ≡ exported_tag spaces.now index }
+    ensures typed { IfSome result (λ e. IsAmong spaces.now.types (entity_of e)) }
 {
     if index < spaces.tag_count() {
         Some(EntityType::Tag(spaces.tag_type_id(index)))
@@ -93,6 +98,7 @@ pub(crate) fn exported<A: Allocator + Copy>(
     offset: u64,
 ) -> Result<EntityType, Refusal>
     ensures ok { IfOk result (λ e. exported_entity (features_of features) spaces.now (export_of export.now) ≡ Some (entity_of e)) }
+    ensures typed { IfOk result (λ e. IsAmong spaces.now.types (entity_of e)) }
     ensures err { OnErr result (exported_entity (features_of features) spaces.now (export_of export.now) ≡ None) }
     ensures place { IfErr result (IsPlainRefusalAt offset) }
     ensures told { refused result ≡ told_of_entity_there offset export.now.kind export.now.index (exported_entity (features_of features) spaces.now (export_of export.now)) }
@@ -111,7 +117,8 @@ pub(crate) fn exported<A: Allocator + Copy>(
     }
 }
 
-/// Puts an entity under the name of an export.
+/// Puts an entity under the name of an export. Its type, if it is a function or a tag, is one of the
+/// module's.
 fn name_export<A: Allocator + Copy>(
     alloc: A,
     list: &TypeList<A>,
@@ -120,10 +127,11 @@ fn name_export<A: Allocator + Copy>(
     entity: EntityType,
     offset: u64,
 ) -> Result<(), Error<A>>
-    ensures added { Adds result (with_export (types_of list.now) name.now (entity_of entity) spaces.old) spaces.new }
+    requires { IsAmong spaces.old.types (entity_of entity) }
+    ensures added { Adds result (with_export (types_of_list list.now) name.now (entity_of entity) spaces.old) spaces.new }
     ensures types { spaces.new.types ≡ spaces.old.types }
     ensures place { IfErr result (IsAt offset) }
-    ensures told { TellsExport spaces.old name.now offset result (told_of_size offset (types_of list.now) spaces.old.size (entity_of entity)) }
+    ensures told { TellsExport spaces.old name.now offset result (told_of_size offset (types_of_list list.now) spaces.old.size (entity_of entity)) }
 {
     let Some(size) = size_with(list, spaces.effective_size(), entity) else {
         return Err(Error::new(Fault::Rule(Rule::EffectiveSize), offset));
@@ -146,10 +154,10 @@ pub(crate) fn add_one_export<A: Allocator + Copy>(
     export: &Export,
     offset: u64,
 ) -> Result<(), Error<A>>
-    ensures added { Adds result (add_export (features_of features) (types_of list.now) spaces.old (export_of export.now)) spaces.new }
+    ensures added { Adds result (add_export (features_of features) (types_of_list list.now) spaces.old (export_of export.now)) spaces.new }
     ensures types { spaces.new.types ≡ spaces.old.types }
     ensures place { IfErr result (IsAt offset) }
-    ensures told { TellsExport spaces.old export.now.name.now offset result (told_of_entity features offset (types_of list.now) spaces.old export.now.kind export.now.index (exported_entity (features_of features) spaces.old (export_of export.now))) }
+    ensures told { TellsExport spaces.old export.now.name.now offset result (told_of_entity features offset (types_of_list list.now) spaces.old export.now.kind export.now.index (exported_entity (features_of features) spaces.old (export_of export.now))) }
 {
     let entity = exported(features, spaces, export, offset)?;
     if let EntityType::Global(global) = entity {

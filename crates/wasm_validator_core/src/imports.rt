@@ -4,8 +4,8 @@ ghost use Rattle.std.specs.Prelude.{◌≡◌, length, IfErr};
 ghost use Rattle.wasm_rules.specs.FeatureFlags.{features_of};
 ghost use Rattle.wasm_readers.specs.Items.{import_of};
 ghost use Rattle.wasm_readers_types.specs.SeenExterns.{extern_of};
-ghost use Rattle.wasm_validator_types.specs.Entities.{entity_of};
-ghost use Rattle.wasm_validator_types.specs.Shown.{types_of};
+ghost use Rattle.wasm_validator_types.specs.Entities.{entity_of, IsAmong};
+ghost use Rattle.wasm_validator_type_list.specs.DefTypes.{types_of_list};
 ghost use Rattle.wasm_validator_core.specs.Errors.{IsAt};
 ghost use Rattle.wasm_validator_core.specs.Answers.{Adds};
 ghost use Rattle.wasm_validator_core.specs.Items.{with_imported, with_named, add_import};
@@ -53,7 +53,8 @@ fn place_imported<A: Allocator + Copy>(
     }
 }
 
-/// Puts an entity under the names of an import.
+/// Puts an entity under the names of an import. Its type, if it is a function or a tag, is one of the
+/// module's.
 fn name_import<A: Allocator + Copy>(
     list: &TypeList<A>,
     spaces: &mut IndexSpaces<A>,
@@ -61,10 +62,11 @@ fn name_import<A: Allocator + Copy>(
     entity: EntityType,
     offset: u64,
 ) -> Result<(), Error<A>>
-    ensures added { Adds result (with_named (types_of list.now) (import_of import.now) (entity_of entity) spaces.old) spaces.new }
+    requires { IsAmong spaces.old.types (entity_of entity) }
+    ensures added { Adds result (with_named (types_of_list list.now) (import_of import.now) (entity_of entity) spaces.old) spaces.new }
     ensures types { spaces.new.types ≡ spaces.old.types }
     ensures place { IfErr result (IsAt offset) }
-    ensures told { Tells result (told_of_size offset (types_of list.now) spaces.old.size (entity_of entity)) }
+    ensures told { Tells result (told_of_size offset (types_of_list list.now) spaces.old.size (entity_of entity)) }
 {
     let Some(size) = size_with(list, spaces.effective_size(), entity) else {
         return Err(Error::new(Fault::Rule(Rule::EffectiveSize), offset));
@@ -83,10 +85,10 @@ pub(crate) fn add_one_import<A: Allocator + Copy>(
     offset: u64,
 ) -> Result<(), Error<A>>
     requires { AreHeld list.now spaces.old.types }
-    ensures added { Adds result (add_import (features_of features) (types_of list.now) spaces.old (import_of import.now)) spaces.new }
+    ensures added { Adds result (add_import (features_of features) (types_of_list list.now) spaces.old (import_of import.now)) spaces.new }
     ensures types { spaces.new.types ≡ spaces.old.types }
     ensures place { IfErr result (IsAt offset) }
-    ensures told { Tells result (told_of_import features offset (types_of list.now) spaces.old (import_of import.now)) }
+    ensures told { Tells result (told_of_import features offset (types_of_list list.now) spaces.old (import_of import.now)) }
 {
     let ty = listed_type_ref(features, list, known_ids(list, spaces), import.ty, offset)?;
     if let TypeRef::Global(global) = import.ty {

@@ -4,7 +4,7 @@
 ghost use Rattle.std.specs.Prelude.{◌≡◌, ◌<◌, length, IfErr};
 ghost use Rattle.wasm_rules.specs.FeatureFlags.{features_of};
 ghost use Rattle.wasm_readers_types.specs.SeenExterns.{table_of, memory_of, global_of};
-ghost use Rattle.wasm_validator_types.specs.Shown.{types_of};
+ghost use Rattle.wasm_validator_type_list.specs.DefTypes.{types_of_list};
 ghost use Rattle.wasm_validator_core.specs.Errors.{IsAt};
 ghost use Rattle.wasm_validator_core.specs.Answers.{Adds};
 ghost use Rattle.wasm_validator_core.specs.Items.{with_function, with_table, with_memory, with_imported_global, with_tag, add_function, add_table, add_memory, add_tag};
@@ -121,10 +121,10 @@ pub(crate) fn add_defined_function<A: Allocator + Copy>(
     offset: u64,
 ) -> Result<(), Error<A>>
     requires { AreHeld list.now spaces.old.types }
-    ensures added { Adds result (add_function (types_of list.now) spaces.old type_index) spaces.new }
+    ensures added { Adds result (add_function (types_of_list list.now) spaces.old type_index) spaces.new }
     ensures types { spaces.new.types ≡ spaces.old.types }
     ensures place { IfErr result (IsAt offset) }
-    ensures told { Tells result (told_of_added_function offset (types_of list.now) spaces.old type_index) }
+    ensures told { Tells result (told_of_added_function offset (types_of_list list.now) spaces.old type_index) }
 {
     func_type_at(list, known_ids(list, spaces), type_index, offset)?;
     place_function(spaces, type_index, offset)
@@ -139,10 +139,10 @@ pub(crate) fn add_defined_table<A: Allocator + Copy>(
     offset: u64,
 ) -> Result<(), Error<A>>
     requires { AreHeld list.now spaces.old.types }
-    ensures added { Adds result (add_table (features_of features) (types_of list.now) spaces.old (table_of ty)) spaces.new }
+    ensures added { Adds result (add_table (features_of features) (types_of_list list.now) spaces.old (table_of ty)) spaces.new }
     ensures types { spaces.new.types ≡ spaces.old.types }
     ensures place { IfErr result (IsAt offset) }
-    ensures told { Tells result (told_of_added_table features offset (types_of list.now) spaces.old (table_of ty)) }
+    ensures told { Tells result (told_of_added_table features offset (types_of_list list.now) spaces.old (table_of ty)) }
 {
     let ids = known_ids(list, spaces);
     check_defined_table(features, list, ids, ty, false, offset)?;
@@ -175,10 +175,10 @@ pub(crate) fn add_defined_tag<A: Allocator + Copy>(
     offset: u64,
 ) -> Result<(), Error<A>>
     requires { AreHeld list.now spaces.old.types }
-    ensures added { Adds result (add_tag (features_of features) (types_of list.now) spaces.old ty.func_type_idx) spaces.new }
+    ensures added { Adds result (add_tag (features_of features) (types_of_list list.now) spaces.old ty.func_type_idx) spaces.new }
     ensures types { spaces.new.types ≡ spaces.old.types }
     ensures place { IfErr result (IsAt offset) }
-    ensures told { Tells result (told_of_added_tag features offset (types_of list.now) spaces.old ty.func_type_idx) }
+    ensures told { Tells result (told_of_added_tag features offset (types_of_list list.now) spaces.old ty.func_type_idx) }
 {
     check_tag_type(features, list, known_ids(list, spaces), ty, offset)?;
     place_tag(spaces, ty.func_type_idx, offset)

@@ -11,7 +11,7 @@ ghost use Rattle.wasm_readers_types.specs.SeenTypes.{rec_of};
 ghost use Rattle.wasm_item_checks.specs.Answers.{IsRefusalAt, IsPlainRefusalAt};
 ghost use Rattle.wasm_item_checks.specs.Items.{is_valid_extern};
 ghost use Rattle.wasm_validator_types.specs.Entities.{entity_of};
-ghost use Rattle.wasm_validator_types.specs.Shown.{types_of};
+ghost use Rattle.wasm_validator_type_list.specs.DefTypes.{types_of_list};
 ghost use Rattle.wasm_validator_types.specs.Spaces.{no_spaces};
 ghost use Rattle.wasm_validator_canonical.specs.Groups.{has_form, AreValid};
 ghost use Rattle.wasm_validator_core.specs.Errors.{IsAt};
@@ -104,9 +104,9 @@ impl<A: Allocator + Copy> Module<A> {
         requires open { IsOpenFor features list.old }
         requires ids { AreIdsOf list.old self.old.types }
         requires form { has_form (rec_of group) ≡ true }
-        requires valid { AreValid (features_of features) (types_of list.old) }
-        ensures added { AddsWhere (HasValidTypes features) result (add_group features (types_of list.old, self.old) (rec_of group)) (types_of list.new, self.new) }
-        ensures valid { OnOk result (AreValid (features_of features) (types_of list.new)) }
+        requires valid { AreValid (features_of features) (types_of_list list.old) }
+        ensures added { AddsWhere (HasValidTypes features) result (add_group features (types_of_list list.old, self.old) (rec_of group)) (types_of_list list.new, self.new) }
+        ensures valid { OnOk result (AreValid (features_of features) (types_of_list list.new)) }
         ensures open { IsOpenFor features list.new }
         ensures ids { OnOk result (AreIdsOf list.new self.new.types) }
         ensures place { IfErr result (IsAt offset) }
@@ -140,10 +140,10 @@ impl<A: Allocator + Copy> Module<A> {
         offset: u64,
     ) -> Result<(), Error<A>>
         requires { AreHeld list.now self.old.types }
-        ensures added { Adds result (add_import (features_of features) (types_of list.now) self.old (import_of import.now)) self.new }
+        ensures added { Adds result (add_import (features_of features) (types_of_list list.now) self.old (import_of import.now)) self.new }
         ensures types { self.new.types ≡ self.old.types }
         ensures place { IfErr result (IsAt offset) }
-        ensures told { Tells result (told_of_import features offset (types_of list.now) self.old (import_of import.now)) }
+        ensures told { Tells result (told_of_import features offset (types_of_list list.now) self.old (import_of import.now)) }
     {
         add_one_import(features, list, &mut self.spaces, import, offset)
     }
@@ -164,10 +164,10 @@ impl<A: Allocator + Copy> Module<A> {
         offset: u64,
     ) -> Result<(), Error<A>>
         requires { AreHeld list.now self.old.types }
-        ensures added { Adds result (add_function (types_of list.now) self.old type_index) self.new }
+        ensures added { Adds result (add_function (types_of_list list.now) self.old type_index) self.new }
         ensures types { self.new.types ≡ self.old.types }
         ensures place { IfErr result (IsAt offset) }
-        ensures told { Tells result (told_of_added_function offset (types_of list.now) self.old type_index) }
+        ensures told { Tells result (told_of_added_function offset (types_of_list list.now) self.old type_index) }
     {
         add_defined_function(list, &mut self.spaces, type_index, offset)
     }
@@ -189,10 +189,10 @@ impl<A: Allocator + Copy> Module<A> {
         offset: u64,
     ) -> Result<(), Error<A>>
         requires { AreHeld list.now self.old.types }
-        ensures added { Adds result (add_table (features_of features) (types_of list.now) self.old (table_of ty)) self.new }
+        ensures added { Adds result (add_table (features_of features) (types_of_list list.now) self.old (table_of ty)) self.new }
         ensures types { self.new.types ≡ self.old.types }
         ensures place { IfErr result (IsAt offset) }
-        ensures told { Tells result (told_of_added_table features offset (types_of list.now) self.old (table_of ty)) }
+        ensures told { Tells result (told_of_added_table features offset (types_of_list list.now) self.old (table_of ty)) }
     {
         add_defined_table(features, list, &mut self.spaces, ty, offset)
     }
@@ -235,10 +235,10 @@ impl<A: Allocator + Copy> Module<A> {
         offset: u64,
     ) -> Result<(), Error<A>>
         requires { AreHeld list.now self.old.types }
-        ensures added { Adds result (add_tag (features_of features) (types_of list.now) self.old ty.func_type_idx) self.new }
+        ensures added { Adds result (add_tag (features_of features) (types_of_list list.now) self.old ty.func_type_idx) self.new }
         ensures types { self.new.types ≡ self.old.types }
         ensures place { IfErr result (IsAt offset) }
-        ensures told { Tells result (told_of_added_tag features offset (types_of list.now) self.old ty.func_type_idx) }
+        ensures told { Tells result (told_of_added_tag features offset (types_of_list list.now) self.old ty.func_type_idx) }
     {
         add_defined_tag(features, list, &mut self.spaces, ty, offset)
     }
@@ -258,10 +258,10 @@ impl<A: Allocator + Copy> Module<A> {
         export: &Export,
         offset: u64,
     ) -> Result<(), Error<A>>
-        ensures added { Adds result (add_export (features_of features) (types_of list.now) self.old (export_of export.now)) self.new }
+        ensures added { Adds result (add_export (features_of features) (types_of_list list.now) self.old (export_of export.now)) self.new }
         ensures types { self.new.types ≡ self.old.types }
         ensures place { IfErr result (IsAt offset) }
-        ensures told { TellsExport self.old export.now.name.now offset result (told_of_entity features offset (types_of list.now) self.old export.now.kind export.now.index (exported_entity (features_of features) self.old (export_of export.now))) }
+        ensures told { TellsExport self.old export.now.name.now offset result (told_of_entity features offset (types_of_list list.now) self.old export.now.kind export.now.index (exported_entity (features_of features) self.old (export_of export.now))) }
     {
         add_one_export(features, alloc, list, &mut self.spaces, export, offset)
     }
@@ -280,11 +280,11 @@ impl<A: Allocator + Copy> Module<A> {
         offset: u64,
     ) -> Result<&'a FuncType<A>, Refusal>
         requires { AreHeld list.now self.now.types }
-        ensures there { is_ok result ≡ is_some (arity_of_function (types_of list.now) self.now func_idx) }
-        ensures arity { IfOk result (λ f. arity_of_function (types_of list.now) self.now func_idx ≡ Some (length f.now.params, length f.now.results)) }
+        ensures there { is_ok result ≡ is_some (arity_of_function (types_of_list list.now) self.now func_idx) }
+        ensures arity { IfOk result (λ f. arity_of_function (types_of_list list.now) self.now func_idx ≡ Some (length f.now.params, length f.now.results)) }
         ensures value { IfOk result (λ f. IsTypeOfFunction list.now self.now func_idx f.now) }
         ensures refusal { IfErr result (IsPlainRefusalAt offset) }
-        ensures told { refused result ≡ told_of_function_type offset (types_of list.now) self.now func_idx }
+        ensures told { refused result ≡ told_of_function_type offset (types_of_list list.now) self.now func_idx }
         ensures unknown { slice_get self.now.functions func_idx ≡ None → IfErr result (IsUnknownFunction func_idx offset) }
     {
         function_type(list, &self.spaces, func_idx, offset)
@@ -301,9 +301,9 @@ impl<A: Allocator + Copy> Module<A> {
     /// results.
     pub fn check_start(&self, list: &TypeList<A>, func_idx: u32, offset: u64) -> Result<(), Refusal>
         requires { AreHeld list.now self.now.types }
-        ensures allowed { is_ok result ≡ is_startable (types_of list.now) self.now func_idx }
+        ensures allowed { is_ok result ≡ is_startable (types_of_list list.now) self.now func_idx }
         ensures refusal { IfErr result (IsPlainRefusalAt offset) }
-        ensures told { refused result ≡ told_of_start offset (types_of list.now) self.now func_idx }
+        ensures told { refused result ≡ told_of_start offset (types_of_list list.now) self.now func_idx }
     {
         check_start_function(list, &self.spaces, func_idx, offset)
     }
@@ -324,10 +324,10 @@ impl<A: Allocator + Copy> Module<A> {
         offset: u64,
     ) -> Result<EntityType, Refusal>
         requires { AreHeld list.now self.now.types }
-        ensures allowed { is_ok result ≡ is_valid_extern (features_of features) (types_of_module (types_of list.now) self.now) (extern_of ty) }
+        ensures allowed { is_ok result ≡ is_valid_extern (features_of features) (types_of_module (types_of_list list.now) self.now) (extern_of ty) }
         ensures value { IfOk result (λ e. entity_of e ≡ entity self.now (listed self.now (extern_of ty))) }
         ensures refusal { IfErr result (IsRefusalAt features offset) }
-        ensures told { refused result ≡ told_of_extern features offset (types_of_module (types_of list.now) self.now) (extern_of ty) }
+        ensures told { refused result ≡ told_of_extern features offset (types_of_module (types_of_list list.now) self.now) (extern_of ty) }
     {
         let ty = listed_type_ref(features, list, known_ids(list, &self.spaces), ty, offset)?;
         Ok(entity_type(&self.spaces, ty))

@@ -4,7 +4,7 @@ ghost use Rattle.std.specs.Prelude.{◌≡◌, map};
 ghost use Rattle.wasm_readers_types.specs.SeenTypes.{sub_of};
 ghost use Rattle.wasm_validator_type_list.specs.Listing.{types_in};
 ghost use Rattle.wasm_validator_canonical.specs.Arities.{arity_at};
-ghost use Rattle.wasm_validator_types.specs.Shown.{types_of};
+ghost use Rattle.wasm_validator_type_list.specs.DefTypes.{types_of_list};
 ghost use Rattle.wasm_validator_core.specs.Machine.{written_arity_at};
 
 use std::alloc::Allocator;
@@ -16,7 +16,7 @@ pub(crate) fn function_arity<A: Allocator + Copy>(
     list: &TypeList<A>,
     id: CoreTypeId,
 ) -> Option<(usize, usize)>
-    ensures { result ≡ arity_at (types_of list.now) id.index }
+    ensures { result ≡ arity_at (types_of_list list.now) id.index }
 {
     // Asked for what it promises: each type refers to types before it, or to those of its group.
     let _count = list.len();

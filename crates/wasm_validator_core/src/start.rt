@@ -4,7 +4,7 @@
 ghost use Rattle.std.specs.Prelude.{◌≡◌, length, slice_get, is_ok, is_some, IfOk, IfErr};
 ghost use Rattle.std.specs.declared.option.Option.TheVariants.{Some, None};
 ghost use Rattle.wasm_item_checks.specs.Answers.{IsPlainRefusalAt};
-ghost use Rattle.wasm_validator_types.specs.Shown.{types_of};
+ghost use Rattle.wasm_validator_type_list.specs.DefTypes.{types_of_list};
 ghost use Rattle.wasm_validator_core.specs.Functions.{IsTypeOfFunction, IsUnknownFunction};
 ghost use Rattle.wasm_validator_core.specs.Items.{arity_of_function, is_startable};
 ghost use Rattle.wasm_validator_core.specs.Ready.{AreHeld};
@@ -25,11 +25,11 @@ pub(crate) fn function_type<'a, A: Allocator + Copy>(
     offset: u64,
 ) -> Result<&'a FuncType<A>, Refusal>
     requires { AreHeld list.now spaces.now.types }
-    ensures there { is_ok result ≡ is_some (arity_of_function (types_of list.now) spaces.now func_idx) }
-    ensures arity { IfOk result (λ f. arity_of_function (types_of list.now) spaces.now func_idx ≡ Some (length f.now.params, length f.now.results)) }
+    ensures there { is_ok result ≡ is_some (arity_of_function (types_of_list list.now) spaces.now func_idx) }
+    ensures arity { IfOk result (λ f. arity_of_function (types_of_list list.now) spaces.now func_idx ≡ Some (length f.now.params, length f.now.results)) }
     ensures value { IfOk result (λ f. IsTypeOfFunction list.now spaces.now func_idx f.now) }
     ensures refusal { IfErr result (IsPlainRefusalAt offset) }
-    ensures told { refused result ≡ told_of_function_type offset (types_of list.now) spaces.now func_idx }
+    ensures told { refused result ≡ told_of_function_type offset (types_of_list list.now) spaces.now func_idx }
     ensures unknown { slice_get spaces.now.functions func_idx ≡ None → IfErr result (IsUnknownFunction func_idx offset) }
 {
     if func_idx >= spaces.function_count() {
@@ -47,9 +47,9 @@ pub(crate) fn check_start_function<A: Allocator + Copy>(
     offset: u64,
 ) -> Result<(), Refusal>
     requires { AreHeld list.now spaces.now.types }
-    ensures allowed { is_ok result ≡ is_startable (types_of list.now) spaces.now func_idx }
+    ensures allowed { is_ok result ≡ is_startable (types_of_list list.now) spaces.now func_idx }
     ensures refusal { IfErr result (IsPlainRefusalAt offset) }
-    ensures told { refused result ≡ told_of_start offset (types_of list.now) spaces.now func_idx }
+    ensures told { refused result ≡ told_of_start offset (types_of_list list.now) spaces.now func_idx }
 {
     let signature = function_type(list, spaces, func_idx, offset)?;
     if signature.params().is_empty() && signature.results().is_empty() {

@@ -15,33 +15,33 @@ use Rattle.wasm_rules.specs.Limits.{most_tables, most_memories}
 use Rattle.wasm_rules.specs.Sections.{each}
 use Rattle.wasm_validator_canonical.specs.Sections.{written}
 use Rattle.wasm_validator_types.specs.Spaces.{Spaces, no_spaces}
-use Rattle.wasm_validator_core.specs.Answers.{Types}
+use Rattle.wasm_validator_core.specs.Answers.{TypesSoFar}
 use Rattle.wasm_validator_core.specs.Items.{add_import, add_function, add_table, add_memory, add_tag, add_export}
 
 -- a module of which only the types have been read
 abbrev pub only_types : List ℕ → Spaces
 only_types ids = record no_spaces { types = ids }
 
-abbrev pub add_imports : Features → Types → Spaces → List (Import ℕ) → Option Spaces
+abbrev pub add_imports : Features → TypesSoFar → Spaces → List (Import ℕ) → Option Spaces
 add_imports F us s is = each (add_import F us) s (map (map_import written) is)
 
-abbrev pub add_functions : Types → Spaces → List ℕ → Option Spaces
+abbrev pub add_functions : TypesSoFar → Spaces → List ℕ → Option Spaces
 add_functions us s xs = each (add_function us) s xs
 
-abbrev pub add_tables : Features → Types → Spaces → List (TableEntry Expression ℕ) → Option Spaces
+abbrev pub add_tables : Features → TypesSoFar → Spaces → List (TableEntry Expression ℕ) → Option Spaces
 add_tables F us s ts = each (add_table F us) s (map (map_table written) (map table_type ts))
 
 abbrev pub add_memories : Features → Spaces → List Memory → Option Spaces
 add_memories F s ms = each (add_memory F) s ms
 
-abbrev pub add_tags : Features → Types → Spaces → List ℕ → Option Spaces
+abbrev pub add_tags : Features → TypesSoFar → Spaces → List ℕ → Option Spaces
 add_tags F us s xs = each (add_tag F us) s xs
 
-abbrev pub add_exports : Features → Types → Spaces → List Export → Option Spaces
+abbrev pub add_exports : Features → TypesSoFar → Spaces → List Export → Option Spaces
 add_exports F us s es = each (add_export F us) s es
 
 -- list after list, in the order of their sections
-abbrev pub add_lists : Features → Types → Spaces → Parts → Option Spaces
+abbrev pub add_lists : Features → TypesSoFar → Spaces → Parts → Option Spaces
 add_lists F us s parts =
     option_and_then (λ a. option_and_then (λ b. option_and_then (λ c. option_and_then (λ d. option_and_then (λ e. add_exports F us e parts.exports)
     (add_tags F us d parts.tags)) (add_memories F c parts.memories)) (add_tables F us b parts.tables)) (add_functions us a parts.functions)) (add_imports F us s parts.imports)

@@ -5,7 +5,7 @@ use Rattle.wasm_readers_types.specs.declared.indices.UnpackedIndex.TheVariants.{
 use Rattle.wasm_readers_types.specs.declared.types.SubType.{SubType}
 use Rattle.wasm_grouped_list.specs.Groups.{all_in}
 use Rattle.wasm_validator_type_list.specs.Grouped.{leads_in, IsKnownIn}
-use Rattle.wasm_validator_type_list.proofs.Standing.{first_of-within}
+use Rattle.wasm_validator_type_list.proofs.DefTypes.{first_of-within}
 
 pub known_there : {A : Type 0} (gs : List (List (SubType A))) (k : ℕ) (r : UnpackedIndex) → IsKnownIn gs k r → leads_in gs k r < length (all_in gs)
 known_there gs k (Module i) h = absurd h

@@ -1,9 +1,9 @@
 -- Parts of types, each in a group of a list.
 use Rattle.std.specs.Prelude.{ℕ, ◌≡◌, List, map}
 use Rattle.std.specs.List.{All}
-use Rattle.wasm_spec.specs.Syntax.{Val, Comp, map_ref, map_val, map_storage, map_comp, map_sub}
+use Rattle.wasm_spec.specs.Syntax.{Val, Comp, func, map_val, map_comp}
 use Rattle.wasm_spec.specs.References.{refs_heap, refs_val, refs_storage, refs_field, refs_comp}
-use Rattle.wasm_spec.specs.Matching.{MatchesRef, MatchesStorage, MatchesComp, MatchesSub}
+use Rattle.wasm_spec.specs.Matching.{MatchesComp}
 use Rattle.wasm_readers_types.specs.declared.types.SubType.{SubType}
 use Rattle.wasm_readers_types.specs.declared.types.ArrayType.{ArrayType}
 use Rattle.wasm_readers_types.specs.declared.types.CompositeType.{CompositeType}
@@ -16,7 +16,7 @@ use Rattle.wasm_readers_types.specs.declared.values.FieldType.{FieldType}
 use Rattle.wasm_readers_types.specs.SeenValues.{ref_of, val_of, storage_of, field_of}
 use Rattle.wasm_readers_types.specs.SeenTypes.{array_of, cont_of, comp_of, sub_of}
 use Rattle.wasm_validator_type_list.specs.Declares.{declares}
-use Rattle.wasm_validator_type_list.specs.Grouped.{leads_in, AreIn, ValsMatch, FieldsMatch}
+use Rattle.wasm_validator_type_list.specs.Grouped.{leads_in, AreIn, RefsMatch, ValsMatch, StoragesMatch, FieldsMatch, SubsMatch}
 use Rattle.wasm_validator_matches.specs.declared.with_rec_group.WithRecGroup.{WithRecGroup}
 
 module _ {A : Type 0} (gs : List (List (SubType A))) where
@@ -40,15 +40,22 @@ module _ {A : Type 0} (gs : List (List (SubType A))) where
   abbrev pub vals_by_ids : ℕ → List ValType → List (Val ℕ)
   vals_by_ids k vs = map (map_val (leads_in gs k)) (map val_of vs)
 
+  -- function types with these parameters and results match, over ids
+  abbrev pub SignaturesAgree : WithRecGroup (Bor (List ValType)) → WithRecGroup (Bor (List ValType)) → WithRecGroup (Bor (List ValType)) → WithRecGroup (Bor (List ValType)) → Type 0
+  SignaturesAgree ps rs qs ss =
+      MatchesComp (declares gs)
+      (func (vals_by_ids ps.rec_group.index ps.inner.now) (vals_by_ids rs.rec_group.index rs.inner.now))
+      (func (vals_by_ids qs.rec_group.index qs.inner.now) (vals_by_ids ss.rec_group.index ss.inner.now))
+
   -- the first matches the second, over ids
   abbrev pub RefsAgree : WithRecGroup RefType → WithRecGroup RefType → Type 0
-  RefsAgree a b = MatchesRef (declares gs) (map_ref (leads_in gs a.rec_group.index) (ref_of a.inner)) (map_ref (leads_in gs b.rec_group.index) (ref_of b.inner))
+  RefsAgree a b = RefsMatch gs a.rec_group.index b.rec_group.index a.inner b.inner
 
   abbrev pub ValsAgree : WithRecGroup ValType → WithRecGroup ValType → Type 0
   ValsAgree a b = ValsMatch gs a.rec_group.index b.rec_group.index a.inner b.inner
 
   abbrev pub StoragesAgree : WithRecGroup StorageType → WithRecGroup StorageType → Type 0
-  StoragesAgree a b = MatchesStorage (declares gs) (map_storage (leads_in gs a.rec_group.index) (storage_of a.inner)) (map_storage (leads_in gs b.rec_group.index) (storage_of b.inner))
+  StoragesAgree a b = StoragesMatch gs a.rec_group.index b.rec_group.index a.inner b.inner
 
   abbrev pub FieldsAgree : WithRecGroup FieldType → WithRecGroup FieldType → Type 0
   FieldsAgree a b = FieldsMatch gs a.rec_group.index b.rec_group.index a.inner b.inner
@@ -79,4 +86,4 @@ module _ {A : Type 0} (gs : List (List (SubType A))) where
 
   -- what sub types say matches, their finality, supertypes and clauses aside
   abbrev pub SubsAgree : ℕ → ℕ → SubType A → SubType A → Type 0
-  SubsAgree j k a b = MatchesSub (declares gs) (map_sub (leads_in gs j) (sub_of a)) (map_sub (leads_in gs k) (sub_of b))
+  SubsAgree j k a b = SubsMatch gs j k a b

@@ -1,16 +1,13 @@
 //! Matching of composite types, each in the group that its references stand in.
 
-ghost use Rattle.std.specs.Prelude.{◌≡◌, ◌<◌, length, map};
+ghost use Rattle.std.specs.Prelude.{◌≡◌, ◌<◌, length};
 ghost use Rattle.std.specs.Bool.{Decides};
 ghost use Rattle.std.specs.List.{All, AllZip};
-ghost use Rattle.wasm_spec.specs.Syntax.{func, map_field, map_comp};
 ghost use Rattle.wasm_spec.specs.References.{refs_val, refs_field, refs_comp};
-ghost use Rattle.wasm_spec.specs.Matching.{MatchesFields, MatchesComp};
 ghost use Rattle.wasm_readers_types.specs.SeenValues.{val_of, field_of};
 ghost use Rattle.wasm_readers_types.specs.SeenTypes.{comp_of};
-ghost use Rattle.wasm_validator_type_list.specs.Declares.{declares};
-ghost use Rattle.wasm_validator_type_list.specs.Grouped.{leads_in, AreIn, ValsMatch};
-ghost use Rattle.wasm_validator_matches.specs.Parts.{ListStands, vals_by_ids};
+ghost use Rattle.wasm_validator_type_list.specs.Grouped.{AreIn, ValsMatch, FieldListsMatch, CompsMatch};
+ghost use Rattle.wasm_validator_matches.specs.Parts.{ListStands, SignaturesAgree};
 
 use crate::matches::Matches;
 use crate::references::id_at;
@@ -57,7 +54,7 @@ pub(crate) fn all_fields_match<A: Allocator + Copy>(
 ) -> bool
     requires sub { All (λ f. AreIn types.now.groups a_group.index (refs_field (field_of f))) a.now }
     requires sup { All (λ f. AreIn types.now.groups b_group.index (refs_field (field_of f))) b.now }
-    ensures { Decides result (MatchesFields (declares types.now.groups) (map (λ f. map_field (leads_in types.now.groups a_group.index) (field_of f)) a.now) (map (λ f. map_field (leads_in types.now.groups b_group.index) (field_of f)) b.now)) }
+    ensures { Decides result (FieldListsMatch types.now.groups a_group.index b_group.index a.now b.now) }
 {
     if a.len() < b.len() {
         return false;
@@ -87,7 +84,7 @@ pub fn func_signature_matches<A: Allocator + Copy>(
     requires sub_results { ListStands types.now.groups a_results.rec_group.index a_results.inner.now }
     requires sup_params { ListStands types.now.groups b_params.rec_group.index b_params.inner.now }
     requires sup_results { ListStands types.now.groups b_results.rec_group.index b_results.inner.now }
-    ensures { Decides result (MatchesComp (declares types.now.groups) (func (vals_by_ids types.now.groups a_params.entry.rec_group.index a_params.entry.inner.now) (vals_by_ids types.now.groups a_results.entry.rec_group.index a_results.entry.inner.now)) (func (vals_by_ids types.now.groups b_params.entry.rec_group.index b_params.entry.inner.now) (vals_by_ids types.now.groups b_results.entry.rec_group.index b_results.entry.inner.now))) }
+    ensures { Decides result (SignaturesAgree types.now.groups a_params.entry a_results.entry b_params.entry b_results.entry) }
 {
     all_vals_match(types, b_params, a_params) && all_vals_match(types, a_results, b_results)
 }
@@ -102,7 +99,7 @@ pub(crate) fn inners_match<A: Allocator + Copy>(
 ) -> bool
     requires sub { AreIn types.now.groups a_group.index (refs_comp (comp_of a.now)) }
     requires sup { AreIn types.now.groups b_group.index (refs_comp (comp_of b.now)) }
-    ensures { Decides result (MatchesComp (declares types.now.groups) (map_comp (leads_in types.now.groups a_group.index) (comp_of a.now)) (map_comp (leads_in types.now.groups b_group.index) (comp_of b.now))) }
+    ensures { Decides result (CompsMatch types.now.groups a_group.index b_group.index a.now b.now) }
 {
     match (a, b) {
         (CompositeInnerType::Func(sub), CompositeInnerType::Func(sup)) => Matches::matches(

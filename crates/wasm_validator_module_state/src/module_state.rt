@@ -3,7 +3,7 @@
 ghost use Rattle.std.specs.Prelude.{◌≡◌, IfErr};
 ghost use Rattle.wasm_rules.specs.FeatureFlags.{features_of};
 ghost use Rattle.wasm_readers_types.specs.SeenExterns.{table_of};
-ghost use Rattle.wasm_validator_types.specs.Shown.{types_of};
+ghost use Rattle.wasm_validator_type_list.specs.DefTypes.{types_of_list};
 ghost use Rattle.wasm_validator_types.specs.Spaces.{no_spaces};
 ghost use Rattle.wasm_validator_core.specs.Errors.{IsAt};
 ghost use Rattle.wasm_validator_core.specs.Answers.{Adds};
@@ -51,10 +51,10 @@ impl<A: Allocator + Copy> ModuleState<A> {
         offset: u64,
     ) -> Result<(), Error<A>>
         requires { AreHeld list.now self.old.module.types }
-        ensures added { Adds result (add_table (features_of features) (types_of list.now) self.old.module (table_of ty)) self.new.module }
+        ensures added { Adds result (add_table (features_of features) (types_of_list list.now) self.old.module (table_of ty)) self.new.module }
         ensures types { self.new.module.types ≡ self.old.module.types }
         ensures place { IfErr result (IsAt offset) }
-        ensures told { Tells result (told_of_added_table features offset (types_of list.now) self.old.module (table_of ty)) }
+        ensures told { Tells result (told_of_added_table features offset (types_of_list list.now) self.old.module (table_of ty)) }
     {
         self.module.add_table(features, list, ty, offset)
     }

@@ -20,12 +20,12 @@ use Rattle.wasm_readers_types.specs.declared.types.SubType.{SubType}
 use Rattle.wasm_grouped_list.specs.Groups.{all_in, first_of}
 use Rattle.wasm_validator_type_list.specs.Listable.{IsKnown, AreListable}
 use Rattle.wasm_validator_type_list.specs.Lookups.{leads_to}
-use Rattle.wasm_validator_type_list.specs.Standing.{listed_ref, listed_sub, listed_group, standing, tree_behind}
+use Rattle.wasm_validator_type_list.specs.DefTypes.{listed_ref, listed_sub, listed_group, def_types, tree_behind}
 use Rattle.wasm_validator_type_list.specs.Declares.{sub_by_ids, subs_by_ids, declares}
 use Rattle.wasm_validator_type_list.specs.Laws.{TypesDeclareWhatIdsDeclare}
 use Rattle.wasm_grouped_list.proofs.Places.{get-left, get-right, get-map, split-at}
 use Rattle.wasm_validator_type_list.proofs.Lookups.{group_found}
-use Rattle.wasm_validator_type_list.proofs.Standing.{place_in, get-positions, standing-push, length-standing, front}
+use Rattle.wasm_validator_type_list.proofs.DefTypes.{place_in, get-positions, def_types-push, length-def_types, front}
 use Rattle.wasm_validator_type_list.proofs.Declares.{IsDeclared, declared_by, declares-member}
 
 -- a reference that is known behind ts and in a group of n members stands for what us has at the id that it leads to
@@ -62,44 +62,44 @@ module _ {A : Type 0} (c : Bool) where
 
   module _ (gs : List (List (SubType A))) (k : ℕ) (g : List (SubType A)) (e : slice_get gs k ≡ Some g) where
     -- the types of a list, around those of a group
-    around : (more : List DefType) × (standing c gs ≡ (standing c (take k gs) ++ positions (tree_behind c (take k gs) g) 0 (listed_group g)) ++ more)
+    around : (more : List DefType) × (def_types c gs ≡ (def_types c (take k gs) ++ positions (tree_behind c (take k gs) g) 0 (listed_group g)) ++ more)
     around =
         let a = take k gs in
         let b = drop (k + 1) gs in
         let is : (a ++ g ∷ []) ++ b ≡ gs = append_assoc a (g ∷ []) b ∙ split-at gs k g e in
         let f = front c (a ++ g ∷ []) b in
-        (f.0, ap (standing c) (sym is) ∙ f.1 ∙ ap (λ l. l ++ f.0) (standing-push c a g))
+        (f.0, ap (def_types c) (sym is) ∙ f.1 ∙ ap (λ l. l ++ f.0) (def_types-push c a g))
 
-    early_at : (m : ℕ) → m < first_of gs k → slice_get (standing c gs) m ≡ slice_get (standing c (take k gs)) m
+    early_at : (m : ℕ) → m < first_of gs k → slice_get (def_types c gs) m ≡ slice_get (def_types c (take k gs)) m
     early_at m l =
-        let ts = standing c (take k gs) in
+        let ts = def_types c (take k gs) in
         let here = positions (tree_behind c (take k gs) g) 0 (listed_group g) in
-        let n : m < length ts = omega (arith, l, length-standing c (take k gs)) in
+        let n : m < length ts = omega (arith, l, length-def_types c (take k gs)) in
         let o : m < length (ts ++ here) = omega (arith, n, length-append ts here) in
         ap (λ l. slice_get l m) around.1 ∙ get-left (ts ++ here) around.0 m o ∙ get-left ts here m n
 
-    own_at : (m : ℕ) → m < length g → slice_get (standing c gs) (first_of gs k + m) ≡ Some (place_in (tree_behind c (take k gs) g) m)
+    own_at : (m : ℕ) → m < length g → slice_get (def_types c gs) (first_of gs k + m) ≡ Some (place_in (tree_behind c (take k gs) g) m)
     own_at m l =
-        let ts = standing c (take k gs) in
+        let ts = def_types c (take k gs) in
         let t = tree_behind c (take k gs) g in
         let here = positions t 0 (listed_group g) in
         let n : m < length (listed_group g) = omega (arith, l, length-map g listed_sub) in
         let z : 0 + m ≡ m = omega arith in
         let there : slice_get here m ≡ Some (place_in t m) = get-positions t 0 (listed_group g) m n ∙ (λ j. Some (place_in t (z j))) in
-        let place : first_of gs k + m ≡ length ts + m = omega (arith, length-standing c (take k gs)) in
+        let place : first_of gs k + m ≡ length ts + m = omega (arith, length-def_types c (take k gs)) in
         let o : length ts + m < length (ts ++ here) = omega (arith, length-append ts here, slice_get_within here m (place_in t m) there) in
-        ap (slice_get (standing c gs)) place ∙ ap (λ l. slice_get l (length ts + m)) around.1 ∙ get-left (ts ++ here) around.0 (length ts + m) o ∙ get-right ts here m ∙ there
+        ap (slice_get (def_types c gs)) place ∙ ap (λ l. slice_get l (length ts + m)) around.1 ∙ get-left (ts ++ here) around.0 (length ts + m) o ∙ get-right ts here m ∙ there
 
-    member-joined : (i : ℕ) (ty : SubType A) (d x : DefType) → slice_get g i ≡ Some ty → All (IsKnown (first_of gs k) (length g)) (refs_sub (sub_of ty)) → slice_get (standing c gs) (first_of gs k + i) ≡ Some d
-        → declared d ≡ option_map (map_sub (λ j. get_or (standing c gs) j x)) (declares gs (first_of gs k + i))
+    member-joined : (i : ℕ) (ty : SubType A) (d x : DefType) → slice_get g i ≡ Some ty → All (IsKnown (first_of gs k) (length g)) (refs_sub (sub_of ty)) → slice_get (def_types c gs) (first_of gs k + i) ≡ Some d
+        → declared d ≡ option_map (map_sub (λ j. get_or (def_types c gs) j x)) (declares gs (first_of gs k + i))
     member-joined i ty d x f known h =
-        let ts = standing c (take k gs) in
+        let ts = def_types c (take k gs) in
         let t = tree_behind c (take k gs) g in
-        let at = λ (j : ℕ). get_or (standing c gs) j x in
+        let at = λ (j : ℕ). get_or (def_types c gs) j x in
         let same : d ≡ place_in t i = same_Some d (place_in t i) (sym h ∙ own_at i (slice_get_within g i ty f)) in
-        let long : first_of gs k ≡ length ts = sym (length-standing c (take k gs)) in
+        let long : first_of gs k ≡ length ts = sym (length-def_types c (take k gs)) in
         ap declared same ∙ declared-member ts g i ty f
-        ∙ ap Some (sub-joined ts (standing c gs) t (first_of gs k) (length g) x early_at long own_at (sub_of ty) known)
+        ∙ ap Some (sub-joined ts (def_types c gs) t (first_of gs k) (length g) x early_at long own_at (sub_of ty) known)
         ∙ sym (ap (option_map (map_sub at)) (declares-member gs k i g ty e f))
 
 module _ {A : Type 0} where
@@ -113,15 +113,15 @@ module _ {A : Type 0} where
   unfolding declares
   declared_at gs id h = group_found (subs_by_ids 0 gs) id (omega (arith, h, length-subs gs 0))
 
-  id-joined : (c : Bool) (gs : List (List (SubType A))) → AreListable gs → (id : ℕ) (d x : DefType) → slice_get (standing c gs) id ≡ Some d
-      → (s : Sub ℕ) → IsDeclared gs 0 id s → declared d ≡ option_map (map_sub (λ i. get_or (standing c gs) i x)) (declares gs id)
+  id-joined : (c : Bool) (gs : List (List (SubType A))) → AreListable gs → (id : ℕ) (d x : DefType) → slice_get (def_types c gs) id ≡ Some d
+      → (s : Sub ℕ) → IsDeclared gs 0 id s → declared d ≡ option_map (map_sub (λ i. get_or (def_types c gs) i x)) (declares gs id)
   id-joined c gs h id d x e s p =
       let P = λ (ty : SubType A). All (IsKnown (first_of gs p.group) (length p.members)) (refs_sub (sub_of ty)) in
       let known : P p.ty = subst P (get_or_from_slice_get p.members p.position p.ty p.ty p.member) ((h p.group p.members p.there).known p.position p.ty (slice_get_within p.members p.position p.ty p.member)) in
-      subst (λ j. slice_get (standing c gs) j ≡ Some d → declared d ≡ option_map (map_sub (λ i. get_or (standing c gs) i x)) (declares gs j)) (sym p.place)
+      subst (λ j. slice_get (def_types c gs) j ≡ Some d → declared d ≡ option_map (map_sub (λ i. get_or (def_types c gs) i x)) (declares gs j)) (sym p.place)
       (member-joined c gs p.group p.members p.there p.position p.ty d x p.member known) e
 
 pub types_declare_what_ids_declare : {A : Type 0} → TypesDeclareWhatIdsDeclare A
 types_declare_what_ids_declare c gs x h id d e =
-    let s = declared_at gs id (omega (arith, slice_get_within (standing c gs) id d e, length-standing c gs)) in
+    let s = declared_at gs id (omega (arith, slice_get_within (def_types c gs) id d e, length-def_types c gs)) in
     id-joined c gs h id d x e s.0 (declared_by gs id s.0 s.1)

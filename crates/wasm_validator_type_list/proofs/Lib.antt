@@ -1,5 +1,5 @@
 pub mod Listed
-pub mod Standing
+pub mod DefTypes
 pub mod Once
 pub mod Placed
 pub mod Few

@@ -16,7 +16,7 @@ use Rattle.wasm_readers_types.specs.declared.types.SubType.{SubType}
 use Rattle.wasm_readers_types.specs.SeenTypes.{sub_of}
 use Rattle.wasm_readers_types.specs.SeenApart.{subs_of-apart}
 use Rattle.wasm_validator_type_list.specs.Listable.{IsKnown, IsListable}
-use Rattle.wasm_validator_type_list.specs.Standing.{listed_ref, listed_sub, listed_group}
+use Rattle.wasm_validator_type_list.specs.DefTypes.{listed_ref, listed_sub, listed_group}
 
 abbrev Each : {X : Type 0} → (X → Type 0) → List X → Type 0
 Each P xs = AllByRecursion P xs

@@ -11,7 +11,7 @@ use Rattle.wasm_spec.specs.Matching.{kind_of, bottom_of, MatchesAbstract, Matche
 use Rattle.wasm_spec.specs.TypeLaws.{HasNoRepetition}
 use Rattle.wasm_readers_types.specs.declared.types.SubType.{SubType}
 use Rattle.wasm_validator_type_list.specs.Listable.{AreListable}
-use Rattle.wasm_validator_type_list.specs.Standing.{standing}
+use Rattle.wasm_validator_type_list.specs.DefTypes.{def_types}
 use Rattle.wasm_validator_type_list.specs.Declares.{declares}
 use Rattle.wasm_validator_type_list.specs.Laws.{IdsAreOrderedAsTypes, IdsMatchAsTypes}
 use Rattle.wasm_validator_type_list.proofs.Declares.{descends}
@@ -28,9 +28,9 @@ supertype_renamed : {R S : Type 0} (f : R → S) (o : Option (Sub R)) → option
 supertype_renamed f None = refl
 supertype_renamed f (Some s) = first_renamed f s.supers
 
-module _ {A : Type 0} (c : Bool) (gs : List (List (SubType A))) (other : DefType) (listable : AreListable gs) (one : HasNoRepetition (standing c gs)) where
+module _ {A : Type 0} (c : Bool) (gs : List (List (SubType A))) (other : DefType) (listable : AreListable gs) (one : HasNoRepetition (def_types c gs)) where
   abbrev ts : List DefType
-  ts = standing c gs
+  ts = def_types c gs
 
   abbrev D : ℕ → Option (Sub ℕ)
   D = declares gs

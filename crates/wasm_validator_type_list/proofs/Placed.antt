@@ -11,12 +11,12 @@ use Rattle.wasm_spec.proofs.Numbering.{start_of-close}
 use Rattle.wasm_readers_types.specs.declared.types.SubType.{SubType}
 use Rattle.wasm_validator_type_list.specs.declared.type_list.TypeList.TheInside.{Inside}
 use Rattle.wasm_validator_type_list.specs.Listing.{Listing}
-use Rattle.wasm_validator_type_list.specs.Standing.{listed_group, standing}
+use Rattle.wasm_validator_type_list.specs.DefTypes.{listed_group, def_types}
 use Rattle.wasm_validator_type_list.specs.Interned.{AreOnce}
 use Rattle.wasm_validator_type_list.specs.Laws.{TypesHaveTheirPlaces}
 use Rattle.wasm_validator_type_list.specs.Sound.{shown, IsSound}
 use Rattle.wasm_grouped_list.proofs.Places.{get-append}
-use Rattle.wasm_validator_type_list.proofs.Standing.{from-positions}
+use Rattle.wasm_validator_type_list.proofs.DefTypes.{from-positions}
 
 -- the type's place is where its recursive type begins, and its position behind
 record IsPlaced (place : ℕ) (d : DefType) : Type 0 where
@@ -51,11 +51,11 @@ placed_once ts h = record {
 
 module _ {A : Type 0} where
   pub types_have_their_places : TypesHaveTheirPlaces A
-  types_have_their_places gs = placed_once (standing false gs) (all_placed (map listed_group gs) [] (λ k d e. absurd (none-some d e)))
+  types_have_their_places gs = placed_once (def_types false gs) (all_placed (map listed_group gs) [] (λ k d e. absurd (none-some d e)))
 
-  pub once_in : (c : Bool) (gs : List (List (SubType A))) → (c ≡ true → AreOnce gs) → HasNoRepetition (standing c gs)
+  pub once_in : (c : Bool) (gs : List (List (SubType A))) → (c ≡ true → AreOnce gs) → HasNoRepetition (def_types c gs)
   once_in true gs h = (h refl).types
   once_in false gs h = types_have_their_places gs
 
-  pub apart_in : (a : Inside A) (l : Listing A) → shown a ≡ l → IsSound a → HasNoRepetition (standing l.is_canonical l.groups)
-  apart_in a l e h = subst (λ (m : Listing A). HasNoRepetition (standing m.is_canonical m.groups)) e (once_in a.is_canonical a.groups h.once)
+  pub apart_in : (a : Inside A) (l : Listing A) → shown a ≡ l → IsSound a → HasNoRepetition (def_types l.is_canonical l.groups)
+  apart_in a l e h = subst (λ (m : Listing A). HasNoRepetition (def_types m.is_canonical m.groups)) e (once_in a.is_canonical a.groups h.once)

@@ -14,7 +14,7 @@ use Rattle.wasm_readers_types.specs.declared.indices.PackedIndex.{PackedIndex}
 use Rattle.wasm_readers_types.specs.declared.indices.UnpackedIndex.{UnpackedIndex}
 use Rattle.wasm_grouped_list.specs.Spans.{span}
 use Rattle.wasm_validator_type_list.specs.Lookups.{leads_to, IsSupertypeAt}
-use Rattle.wasm_validator_type_list.proofs.Standing.{first_of-within}
+use Rattle.wasm_validator_type_list.proofs.DefTypes.{first_of-within}
 use Rattle.wasm_validator_type_list.proofs.Lookups.{supertype_listed}
 use Rattle.std.proofs.lemmas.Option.{none-some, MatchOption-at_some, MatchOption-at_none}
 use Rattle.wasm_readers_types.specs.declared.indices.TheConstants.{MAX_IDS}
@@ -23,7 +23,7 @@ use Rattle.wasm_readers_types.specs.declared.types.SubType.{SubType}
 use Rattle.wasm_readers_types.specs.TypesExact.{group_equal, group-exact}
 use Rattle.wasm_validator_type_list.specs.declared.type_list.TypeList.TheInside.{Inside}
 use Rattle.wasm_grouped_list.specs.Groups.{all_in, first_of, IsInGroup}
-use Rattle.wasm_validator_type_list.specs.Listing.{Listing, no_groups, types_in, closed, with_depths}
+use Rattle.wasm_validator_type_list.specs.Listing.{Listing, no_groups, types_in, committed, with_depths}
 use Rattle.wasm_validator_type_list.specs.Listable.{IsListable}
 use Rattle.wasm_validator_type_list.specs.Interned.{IsNew, IsPlaceOf, Interns, InternsTypes}
 use Rattle.wasm_spec.specs.Declared.{IsDepth}
@@ -75,12 +75,12 @@ module _ {A : Type 0} where
     deep = no_depths a.groups a d;
   }
 
-  -- what is seen of no groups, of a copy that is closed, and of other depths
+  -- what is seen of no groups, of a committed list, and of other depths
   pub shown_none : (a : Inside A) (b : Bool) → a.groups ≡ [] → a.depths.entries ≡ [] → a.is_canonical ≡ b → a.is_open ≡ true → shown a ≡ no_groups b
   shown_none a b e d c o = λ i. record { is_canonical = c i; is_open = o i; groups = e i; depths = (ap in_order d ∙ in_order-none) i }
 
-  pub shown_closed : (a b : Inside A) (l : Listing A) → shown a ≡ l → b.groups ≡ a.groups → b.depths.entries ≡ [] → b.is_canonical ≡ a.is_canonical → b.is_open ≡ false → shown b ≡ closed l
-  shown_closed a b l v e d c o = (λ i. record { is_canonical = c i; is_open = o i; groups = e i; depths = (ap in_order d ∙ in_order-none) i }) ∙ ap closed v
+  pub shown_closed : (a b : Inside A) (l : Listing A) → shown a ≡ l → b.groups ≡ a.groups → b.depths.entries ≡ [] → b.is_canonical ≡ a.is_canonical → b.is_open ≡ false → shown b ≡ committed l
+  shown_closed a b l v e d c o = (λ i. record { is_canonical = c i; is_open = o i; groups = e i; depths = (ap in_order d ∙ in_order-none) i }) ∙ ap committed v
 
   pub shown_depths : (a b : Inside A) (l : Listing A) (id n : ℕ) → shown a ≡ l → b.groups ≡ a.groups → b.is_canonical ≡ a.is_canonical → b.is_open ≡ a.is_open
       → in_order b.depths.entries ≡ with_depth (in_order a.depths.entries) id n → shown b ≡ with_depths l (with_depth l.depths id n)
@@ -101,7 +101,7 @@ module _ {A : Type 0} where
     deep = rw (e, s) h.deep;
   }
 
-  -- a copy that is closed
+  -- a committed list
   pub sound_closed : (a b : Inside A) → IsSound a → b.groups ≡ a.groups → b.is_canonical ≡ a.is_canonical → b.is_open ≡ false → b.depths.entries ≡ [] → IsSound b
   sound_closed a b h e c o d = record {
     room = rw e h.room;

@@ -1,5 +1,5 @@
 -- What interning a group does to a list.
-use Rattle.std.specs.Prelude.{ℕ, ◌≡◌, ◌<◌, ◌≤◌, Bool, true, false, ◌↔◌, List, [], ◌∷◌, ◌++◌, length, slice_get}
+use Rattle.std.specs.Prelude.{ℕ, ◌≡◌, ◌<◌, ◌≤◌, Bool, true, false, cond, ◌↔◌, List, [], ◌∷◌, ◌++◌, length, slice_get}
 use Rattle.std.specs.Option.{MatchOption}
 use Rattle.std.specs.declared.option.Option.{Option}
 use Rattle.std.specs.declared.option.Option.TheVariants.{Some}
@@ -7,15 +7,21 @@ use Rattle.wasm_spec.specs.Syntax.{Sub}
 use Rattle.wasm_spec.specs.TypeLaws.{HasNoRepetition}
 use Rattle.wasm_readers_types.specs.declared.indices.UnpackedIndex.{UnpackedIndex}
 use Rattle.wasm_readers_types.specs.SeenTypes.{sub_of}
+use Rattle.wasm_readers_types.specs.declared.types.RecGroup.{RecGroup}
 use Rattle.wasm_readers_types.specs.declared.types.SubType.{SubType}
+use Rattle.wasm_readers_types.specs.TypesExact.{group_equal}
 use Rattle.wasm_grouped_list.specs.Groups.{all_in, first_of}
 use Rattle.wasm_validator_type_list.specs.Listing.{Listing}
-use Rattle.wasm_validator_type_list.specs.Standing.{standing, tree_behind, IsTreeOfOne, StandFor}
+use Rattle.wasm_validator_type_list.specs.DefTypes.{def_types, tree_behind, IsTreeOfOne, StandFor}
 
 module _ {A : Type 0} where
   -- none of the groups has these sub types
   abbrev pub IsNew : List (List (SubType A)) → List (SubType A) → Type 0
   IsNew gs g = (k : ℕ) → slice_get gs k ≡ Some g → ⊥
+
+  -- the group is found by its sub types under the number, and any other as before
+  abbrev pub FindsOneMore : (RecGroup A → Option ℕ) → RecGroup A → ℕ → (RecGroup A → Option ℕ) → Type 0
+  FindsOneMore old group number new = (q : RecGroup A) → new q ≡ cond (group_equal group q) (Some number) (old q)
 
   -- the number of the group with these sub types, if there is one
   abbrev pub IsPlaceOf : Option ℕ → List (List (SubType A)) → List (SubType A) → Type 0
@@ -24,7 +30,7 @@ module _ {A : Type 0} where
   -- no group is there twice, and no type has two ids
   pub record AreOnce (gs : List (List (SubType A))) : Type 0 where
     pub groups : (j k : ℕ) (g : List (SubType A)) → slice_get gs j ≡ Some g → slice_get gs k ≡ Some g → j ≡ k
-    pub types : HasNoRepetition (standing true gs)
+    pub types : HasNoRepetition (def_types true gs)
 
   abbrev pub with_one : Listing A → List (SubType A) → Listing A
   with_one l g = record { is_canonical = l.is_canonical; is_open = l.is_open; groups = l.groups ++ g ∷ []; depths = l.depths }
@@ -45,9 +51,9 @@ module _ {A : Type 0} where
   -- list had stands for what it stood for.
   pub record InternsTypes (old new : Listing A) (g : List (SubType A)) (is_new : Bool) (n : ℕ) : Type 0 where
     pub known : old.is_canonical ≡ true → (is_new ≡ false) ↔ IsTreeOfOne true old.groups (tree_behind true old.groups g)
-    pub members : StandFor (standing old.is_canonical new.groups) (first_of new.groups n) g (tree_behind old.is_canonical old.groups g)
+    pub members : StandFor (def_types old.is_canonical new.groups) (first_of new.groups n) g (tree_behind old.is_canonical old.groups g)
     pub kept : length (all_in old.groups) ≤ length (all_in new.groups)
-    pub earlier : (id : ℕ) → id < length (all_in old.groups) → slice_get (standing old.is_canonical new.groups) id ≡ slice_get (standing old.is_canonical old.groups) id
+    pub earlier : (id : ℕ) → id < length (all_in old.groups) → slice_get (def_types old.is_canonical new.groups) id ≡ slice_get (def_types old.is_canonical old.groups) id
 
   -- The id is that of the one member of a group that is interned.
   pub record InternsOne (old new : Listing A) (ty : SubType A) (id : ℕ) : Type 0 where

@@ -1,6 +1,6 @@
 pub mod Listing
 pub mod Listable
-pub mod Standing
+pub mod DefTypes
 pub mod Interned
 pub mod Depths
 pub mod Sound

@@ -21,8 +21,8 @@ module _ {A : Type 0} where
   types_in l = all_in l.groups
 
   -- the same groups, to which none may be added, with no depths
-  abbrev pub closed : Listing A → Listing A
-  closed l = record { is_canonical = l.is_canonical; is_open = false; groups = l.groups; depths = [] }
+  abbrev pub committed : Listing A → Listing A
+  committed l = record { is_canonical = l.is_canonical; is_open = false; groups = l.groups; depths = [] }
 
   -- the same list with other depths
   abbrev pub with_depths : Listing A → List (ℕ × ℕ) → Listing A

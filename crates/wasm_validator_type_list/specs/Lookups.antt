@@ -1,5 +1,6 @@
 -- Where references in a list lead.
 use Rattle.std.specs.Prelude.{ℕ, ◌≡◌, ◌+◌, ◌<◌, ⊤, List, slice_get, Option, option_map}
+use Rattle.std.specs.declared.ops.Range.{Range}
 use Rattle.std.specs.declared.option.Option.TheVariants.{Some}
 use Rattle.wasm_readers_types.specs.declared.indices.CoreTypeId.{CoreTypeId}
 use Rattle.wasm_readers_types.specs.declared.indices.PackedIndex.{PackedIndex}
@@ -7,6 +8,7 @@ use Rattle.wasm_readers_types.specs.declared.indices.UnpackedIndex.{UnpackedInde
 use Rattle.wasm_readers_types.specs.declared.indices.UnpackedIndex.TheVariants.{Module, RecGroup, Id}
 use Rattle.wasm_readers_types.specs.declared.types.SubType.{SubType}
 use Rattle.wasm_grouped_list.specs.Groups.{all_in, first_of, IsInGroup}
+use Rattle.wasm_grouped_list.specs.Spans.{span}
 
 -- the number of the id that a reference in a group leads to, where the group's first id has this number; a module's index isn't in lists
 abbrev pub leads_to : ℕ → UnpackedIndex → ℕ
@@ -19,6 +21,10 @@ abbrev pub Leads : ℕ → ℕ → UnpackedIndex → Type 0
 Leads start end (Module i) = ⊥
 Leads start end (RecGroup i) = start + i < end
 Leads start end (Id id) = ⊤
+
+-- the range of ids of the k-th group
+abbrev pub group_span : {A : Type 0} → List (List (SubType A)) → ℕ → Range CoreTypeId
+group_span gs k = span (first_of gs k) (first_of gs (k + 1))
 
 -- it is the supertype of the type with this id, or there is none
 pub record IsSupertypeAt {A : Type 0} (gs : List (List (SubType A))) (place : ℕ) (supertype : Option CoreTypeId) : Type 0 where

@@ -68,12 +68,11 @@ impl<A: Allocator + Copy> Index<RecGroupId> for TypeAlloc<A> {
     type Output = Range<CoreTypeId>;
 
     ghost use Rattle.std.specs.Prelude.{◌≡◌, ◌<◌, ◌+◌, length};
-    ghost use Rattle.wasm_grouped_list.specs.Groups.{first_of};
-    ghost use Rattle.wasm_grouped_list.specs.Spans.{span};
+    ghost use Rattle.wasm_validator_type_list.specs.Lookups.{group_span};
 
     ghost can_index = { λ types group. group.index < length types.list.groups };
 
-    ghost index_gives = { λ types group ids. ids ≡ span (first_of types.list.groups group.index) (first_of types.list.groups (group.index + 1)) };
+    ghost index_gives = { λ types group ids. ids ≡ group_span types.list.groups group.index };
 
     fn index(&self, group: RecGroupId) -> &Range<CoreTypeId> {
         &self.list[group]

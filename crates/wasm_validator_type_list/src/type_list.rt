@@ -3,10 +3,10 @@ ghost use Rattle.std.specs.declared.option.Option.TheVariants.{None};
 ghost use Rattle.wasm_readers_types.specs.Indices.{number_of, module_of};
 ghost use Rattle.wasm_readers_types.specs.declared.indices.TheConstants.{MAX_IDS};
 ghost use Rattle.wasm_grouped_list.specs.Groups.{first_of, IsInGroup};
-ghost use Rattle.wasm_grouped_list.specs.Spans.{span, spans_of};
+ghost use Rattle.wasm_grouped_list.specs.Spans.{spans_of};
 ghost use Rattle.wasm_grouped_list.specs.Elements.{ids_left, ids_of_group};
 ghost use Rattle.wasm_validator_type_list.specs.Refused.{not_in_group};
-ghost use Rattle.wasm_validator_type_list.specs.Lookups.{leads_to, Leads};
+ghost use Rattle.wasm_validator_type_list.specs.Lookups.{leads_to, Leads, group_span};
 
 use std::alloc::{AllocError, Allocator, Global};
 use std::collections::HashMap;
@@ -58,10 +58,10 @@ impl<A: Allocator> Model for TypeList<A> {
 }
 
 impl<A: Allocator + Copy> TypeList<A> {
-    ghost use Rattle.wasm_validator_type_list.specs.Listing.{no_groups, types_in, closed};
+    ghost use Rattle.wasm_validator_type_list.specs.Listing.{no_groups, types_in, committed};
     ghost use Rattle.wasm_validator_type_list.specs.Listable.{AreListable};
     ghost use Rattle.wasm_validator_type_list.specs.Interned.{AreOnce};
-    ghost use Rattle.wasm_validator_type_list.specs.Standing.{standing};
+    ghost use Rattle.wasm_validator_type_list.specs.DefTypes.{def_types};
     ghost use Rattle.wasm_spec.specs.TypeLaws.{HasNoRepetition};
     ghost use Rattle.wasm_validator_type_list.specs.Lookups.{IsSupertypeAt};
 
@@ -84,7 +84,7 @@ impl<A: Allocator + Copy> TypeList<A> {
     pub fn is_canonical(&self) -> bool
         ensures mode { result ≡ self.now.is_canonical }
         ensures once { IsTrue result → AreOnce self.now.groups }
-        ensures apart { HasNoRepetition (standing self.now.is_canonical self.now.groups) }
+        ensures apart { HasNoRepetition (def_types self.now.is_canonical self.now.groups) }
     {
         self.is_canonical
     }
@@ -102,7 +102,7 @@ impl<A: Allocator + Copy> TypeList<A> {
         ensures count { result ≡ length (types_in self.now) }
         ensures room { result ≤ MAX_IDS }
         ensures listable { AreListable self.now.groups }
-        ensures apart { HasNoRepetition (standing self.now.is_canonical self.now.groups) }
+        ensures apart { HasNoRepetition (def_types self.now.is_canonical self.now.groups) }
     {
         self.groups.item_count()
     }
@@ -131,7 +131,7 @@ impl<A: Allocator + Copy> TypeList<A> {
 
     /// The ids of the types of the group with this id, if there is one.
     pub fn get_rec_group(&self, group: RecGroupId) -> Option<&Range<CoreTypeId>>
-        ensures found { IfSome result (λ ids. ids.now ≡ span (first_of self.now.groups group.index) (first_of self.now.groups (group.index + 1))) }
+        ensures found { IfSome result (λ ids. ids.now ≡ group_span self.now.groups group.index) }
         ensures when { IsSome result ↔ (group.index < length self.now.groups) }
     {
         if group.index() < self.groups.group_count() {
@@ -260,7 +260,7 @@ impl<A: Allocator + Copy> TypeList<A> {
     /// Fails where memory is refused.
     pub fn commit(&mut self) -> Result<TypeList<A>, AllocError>
         ensures same { self.new ≡ self.old }
-        ensures copy { IfOk result (λ copy. copy ≡ closed self.old) }
+        ensures copy { IfOk result (λ copy. copy ≡ committed self.old) }
     {
         let groups = self.groups.commit()?;
         Ok(TypeList {
@@ -325,11 +325,11 @@ impl<A: Allocator + Copy> Index<RecGroupId> for TypeList<A> {
 
     ghost use Rattle.std.specs.Prelude.{◌≡◌, ◌<◌, ◌+◌, length};
     ghost use Rattle.wasm_grouped_list.specs.Groups.{first_of};
-    ghost use Rattle.wasm_grouped_list.specs.Spans.{span};
+    ghost use Rattle.wasm_validator_type_list.specs.Lookups.{group_span};
 
     ghost can_index = { λ list group. group.index < length list.groups };
 
-    ghost index_gives = { λ list group ids. ids ≡ span (first_of list.groups group.index) (first_of list.groups (group.index + 1)) };
+    ghost index_gives = { λ list group ids. ids ≡ group_span list.groups group.index };
 
     fn index(&self, group: RecGroupId) -> &Range<CoreTypeId> {
         self.groups.members(group.index())

@@ -1,2 +1,3 @@
 mod Imports
 mod Exports
+mod Typed

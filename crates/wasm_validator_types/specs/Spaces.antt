@@ -1,5 +1,5 @@
 -- The index spaces of a module, as far as it has been read.
-use Rattle.std.specs.Prelude.{ℕ, Bool, true, ◌&&◌, if◌then◌else◌, List, [], ◌∷◌, ◌++◌, get_or}
+use Rattle.std.specs.Prelude.{ℕ, ◌+◌, Bool, true, ◌&&◌, if◌then◌else◌, List, [], ◌∷◌, ◌++◌, get_or}
 use Rattle.std.specs.List.{list_any}
 use Rattle.std.specs.Str.{bytes_eq}
 use Rattle.wasm_spec.specs.Syntax.{Table, Memory, Global, func_extern}
@@ -38,6 +38,10 @@ no_spaces = record {
   exports = [];
   size = 1;
 }
+
+-- one more global, which is imported
+abbrev pub importing_global : Spaces → Global UnpackedIndex → Spaces
+importing_global s g = record s { globals = s.globals ++ g ∷ []; imported_globals = s.imported_globals + 1 }
 
 -- the function has exactly its type: it is imported so, or it isn't among the imported ones
 abbrev pub is_exact : Spaces → ℕ → Bool

@@ -1,5 +1,6 @@
 -- What a contract sees of the index spaces, and what is always true of them.
 use Rattle.std.specs.Prelude.{ℕ, ◌≡◌, ◌≤◌, ◌<◌, ◌^◌, List, [], ◌∷◌, ◌++◌, map, length, slice_index, slice_get, Some}
+use Rattle.std.specs.List.{All}
 use Rattle.std.specs.Map.{values_of}
 use Rattle.indexmap.specs.Layout.{set_value_at}
 use Rattle.std.specs.String.{string_bytes}
@@ -8,8 +9,8 @@ use Rattle.wasm_readers_types.specs.SeenExterns.{table_of, memory_of, global_of}
 use Rattle.wasm_readers_types.specs.declared.indices.CoreTypeId.{CoreTypeId}
 use Rattle.wasm_validator_types.specs.declared.entity_type.EntityType.{EntityType}
 use Rattle.wasm_validator_types.specs.declared.index_spaces.IndexSpaces.TheInside.{Inside}
-use Rattle.wasm_validator_types.specs.Entities.{Entity, entity_of}
-use Rattle.wasm_validator_types.specs.Spaces.{Spaces}
+use Rattle.wasm_validator_types.specs.Entities.{Entity, entity_of, IsAmong}
+use Rattle.wasm_validator_types.specs.Spaces.{Spaces, with_import}
 
 -- the numbers of ids
 abbrev pub numbers : List CoreTypeId → List ℕ
@@ -18,6 +19,13 @@ numbers ids = map (λ id. id.index) ids
 -- each number of the list is below this one
 abbrev pub AreBelow : List ℕ → ℕ → Type 0
 AreBelow ns n = (k : ℕ) → k < length ns → slice_index ns k < n
+
+-- functions and tags that are imported or exported have types with these ids
+abbrev pub AreImportsAmong : List ℕ → List ((List ℕ × List ℕ) × List Entity) → Type 0
+AreImportsAmong ids imports = All (λ (p : (List ℕ × List ℕ) × List Entity). All (IsAmong ids) p.1) imports
+
+abbrev pub AreExportsAmong : List ℕ → List (List ℕ × Entity) → Type 0
+AreExportsAmong ids exports = All (λ (e : List ℕ × Entity). IsAmong ids e.1) exports
 
 module _ {A : Type 0} where
   -- a pair of names with what is imported from there
@@ -43,7 +51,8 @@ module _ {A : Type 0} where
     size = a.size;
   }
 
-  -- the counts fit a `u32`, each function and each tag has a type of the module, and imported globals are among all
+  -- the counts fit a `u32`, each function and each tag has a type of the module, also those that are imported or exported,
+  -- and imported globals are among all
   pub record IsSound (a : Inside A) : Type 0 where
     pub types : length a.types.items < 2 ^ 32
     pub functions : length a.functions.items < 2 ^ 32
@@ -54,7 +63,13 @@ module _ {A : Type 0} where
     pub functions_typed : AreBelow a.functions.items (length a.types.items)
     pub tags_typed : AreBelow a.tags.items (length a.types.items)
     pub imported_globals : a.imported_globals ≤ length a.globals.items
+    pub imports_typed : AreImportsAmong (numbers a.types.items) (map shown_import a.imports.entries)
+    pub exports_typed : AreExportsAmong (numbers a.types.items) (map shown_export a.exports.entries)
 
   -- the i-th pair has one more entity, and all else is the same
   abbrev pub PutsAt : List ((String A × String A) × List EntityType) → ℕ → EntityType → List ((String A × String A) × List EntityType) → Type 0
   PutsAt old i entity new = (v : List EntityType) × (slice_get (values_of old) i ≡ Some v) × (new ≡ set_value_at old i (v ++ entity ∷ []))
+
+  -- an entity more, after the others of its pair of names, or with the pair at the end
+  abbrev pub AddsToPair : List ((String A × String A) × List EntityType) → String A × String A → EntityType → List ((String A × String A) × List EntityType) → Type 0
+  AddsToPair old pair entity new = map shown_import new ≡ with_import (map shown_import old) (string_bytes pair.0) (string_bytes pair.1) (entity_of entity)

@@ -5,13 +5,12 @@ ghost use Rattle.std.specs.Prelude.{◌≡◌, ◌+◌, ◌<◌, ◌^◌, ◌++�
 ghost use Rattle.std.specs.List.{All};
 ghost use Rattle.std.specs.declared.option.Option.TheVariants.{Some};
 ghost use Rattle.wasm_readers_types.specs.SeenExterns.{table_of, memory_of, global_of};
-ghost use Rattle.wasm_validator_types.specs.Entities.{entity_of};
-ghost use Rattle.wasm_validator_types.specs.Spaces.{no_spaces, with_import, is_exported, is_exact};
+ghost use Rattle.wasm_validator_types.specs.Entities.{entity_of, IsAmong};
+ghost use Rattle.wasm_validator_types.specs.Spaces.{no_spaces, importing_global, with_import, is_exported, is_exact};
 ghost use Rattle.indexmap.specs.IndexMap.{index_map_len};
-ghost use Rattle.std.specs.String.{string_bytes};
 ghost use Rattle.wasm_validator_types.specs.Left.{imports_left, exports_left};
 ghost use Rattle.wasm_validator_types.specs.Rows.{all_imports};
-ghost use Rattle.wasm_validator_types.specs.SpacesSeen.{numbers, shown_import, PutsAt};
+ghost use Rattle.wasm_validator_types.specs.SpacesSeen.{numbers, PutsAt, AddsToPair};
 
 use crate::entity_type::EntityType;
 use crate::imports_exports::{CoreExports, CoreImports};
@@ -310,7 +309,7 @@ impl<A: Allocator + Copy> IndexSpaces<A> {
     /// Fails where memory is refused, and nothing changes then.
     pub fn push_imported_global(&mut self, ty: GlobalType) -> Result<(), AllocError>
         requires room { length self.old.globals + 1 < 2 ^ 32 }
-        ensures ok { OnOk result (self.new ≡ record self.old { globals = self.old.globals ++ global_of ty ∷ []; imported_globals = self.old.imported_globals + 1 }) }
+        ensures ok { OnOk result (self.new ≡ importing_global self.old (global_of ty)) }
         ensures err { OnErr result (self.new ≡ self.old) }
     {
         self.globals.push(ty)?;
@@ -389,14 +388,16 @@ impl<A: Allocator + Copy> IndexSpaces<A> {
 
     /// The imports, each with its two names: pairs of names in the order in which they first came.
     pub fn imports(&self) -> CoreImports<'_, A>
-        ensures { imports_left result ≡ all_imports self.now.imports }
+        ensures all { imports_left result ≡ all_imports self.now.imports }
+        ensures typed { All (λ i. IsAmong self.now.types i.2) (imports_left result) }
     {
         CoreImports::new(&self.imports)
     }
 
     /// The exports in order, each with its name.
     pub fn exports(&self) -> CoreExports<'_, A>
-        ensures { exports_left result ≡ self.now.exports }
+        ensures all { exports_left result ≡ self.now.exports }
+        ensures typed { All (λ e. IsAmong self.now.types e.1) (exports_left result) }
     {
         CoreExports::new(&self.exports)
     }
@@ -415,13 +416,15 @@ impl<A: Allocator + Copy> IndexSpaces<A> {
         self.exports.contains_key(name)
     }
 
-    /// Puts an export at the end. No other may have its name ([`IndexSpaces::has_export`]).
+    /// Puts an export at the end. No other may have its name ([`IndexSpaces::has_export`]), and the
+    /// type of a function or tag must be one of the module's.
     ///
     /// # Errors
     ///
     /// Fails where memory is refused, and nothing changes then.
     pub fn add_export(&mut self, name: &str, entity: EntityType) -> Result<(), AllocError>
-        requires { is_exported self.old.exports name.now ≡ false }
+        requires new { is_exported self.old.exports name.now ≡ false }
+        requires typed { IsAmong self.old.types (entity_of entity) }
         ensures ok { OnOk result (self.new ≡ record self.old { exports = self.old.exports ++ (name.now, entity_of entity) ∷ [] }) }
         ensures err { OnErr result (self.new ≡ self.old) }
     {
@@ -430,7 +433,8 @@ impl<A: Allocator + Copy> IndexSpaces<A> {
         Ok(())
     }
 
-    /// Puts an import after the others of its pair of names, or as a new pair at the end.
+    /// Puts an import after the others of its pair of names, or as a new pair at the end. The type of
+    /// a function or tag must be one of the module's.
     ///
     /// # Errors
     ///
@@ -441,6 +445,7 @@ impl<A: Allocator + Copy> IndexSpaces<A> {
         name: &str,
         entity: EntityType,
     ) -> Result<(), AllocError>
+        requires { IsAmong self.old.types (entity_of entity) }
         ensures ok { OnOk result (self.new ≡ record self.old { imports = with_import self.old.imports source.now name.now (entity_of entity) }) }
         ensures err { OnErr result (self.new ≡ self.old) }
     {
@@ -457,7 +462,7 @@ fn add_to_pair<A: Allocator + Copy>(
     pair: (String<A>, String<A>),
     entity: EntityType,
 ) -> Result<(), AllocError>
-    ensures ok { OnOk result (map shown_import imports.new.entries ≡ with_import (map shown_import imports.old.entries) (string_bytes pair.0) (string_bytes pair.1) (entity_of entity)) }
+    ensures ok { OnOk result (AddsToPair imports.old.entries pair entity imports.new.entries) }
     ensures err { OnErr result (imports.new.entries ≡ imports.old.entries) }
 {
     match imports.get_index_of(&pair) {

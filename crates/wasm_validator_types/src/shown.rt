@@ -1,14 +1,13 @@
 ghost use Rattle.std.specs.Prelude.{◌≡◌, ◌+◌, ◌<◌, length, slice_get, slice_index, slice_index_or, IfSome, IsSome, ◌↔◌};
 ghost use Rattle.std.specs.declared.option.Option.TheVariants.{Some};
 ghost use Rattle.wasm_readers_types.specs.SeenExterns.{table_of, memory_of, global_of};
-ghost use Rattle.wasm_grouped_list.specs.Groups.{IsInGroup, first_of};
-ghost use Rattle.wasm_grouped_list.specs.Spans.{span};
+ghost use Rattle.wasm_grouped_list.specs.Groups.{IsInGroup};
 ghost use Rattle.wasm_grouped_list.specs.Elements.{ids_left, ids_of_group};
 ghost use Rattle.wasm_validator_type_list.specs.Listing.{types_in};
-ghost use Rattle.wasm_validator_type_list.specs.Lookups.{IsSupertypeAt};
+ghost use Rattle.wasm_validator_type_list.specs.Lookups.{IsSupertypeAt, group_span};
 ghost use Rattle.wasm_validator_types.specs.Left.{imports_left, exports_left};
 ghost use Rattle.wasm_validator_types.specs.Rows.{all_imports};
-ghost use Rattle.wasm_validator_types.specs.Shown.{shown_of, shown_by, HoldsIds};
+ghost use Rattle.wasm_validator_types.specs.Shown.{shown_of, shown_by, HoldsIds, HoldsImports, HoldsExports};
 
 use crate::id::ValidatorId;
 use crate::imports_exports::{CoreExports, CoreImports};
@@ -68,13 +67,12 @@ impl<A: Allocator + Copy> Index<RecGroupId> for Types<A> {
     type Output = Range<CoreTypeId>;
 
     ghost use Rattle.std.specs.Prelude.{◌≡◌, ◌<◌, ◌+◌, length};
-    ghost use Rattle.wasm_grouped_list.specs.Groups.{first_of};
-    ghost use Rattle.wasm_grouped_list.specs.Spans.{span};
+    ghost use Rattle.wasm_validator_type_list.specs.Lookups.{group_span};
     ghost use Rattle.wasm_validator_types.specs.Shown.{shown_of};
 
     ghost can_index = { λ types group. group.index < length (shown_of types).list.groups };
 
-    ghost index_gives = { λ types group ids. let groups = (shown_of types).list.groups in ids ≡ span (first_of groups group.index) (first_of groups (group.index + 1)) };
+    ghost index_gives = { λ types group ids. ids ≡ group_span (shown_of types).list.groups group.index };
 
     fn index(&self, group: RecGroupId) -> &Range<CoreTypeId> {
         &self.types[group]
@@ -119,7 +117,7 @@ impl<'a, A: Allocator + Copy> TypesRef<'a, A> {
 
     /// The ids of the types of the recursion group with this id, if there is one.
     pub fn get_rec_group(&self, group: RecGroupId) -> Option<&'a Range<CoreTypeId>>
-        ensures found { IfSome result (λ ids. let groups = (shown_by self.now).list.groups in ids.now ≡ span (first_of groups group.index) (first_of groups (group.index + 1))) }
+        ensures found { IfSome result (λ ids. ids.now ≡ group_span (shown_by self.now).list.groups group.index) }
         ensures when { IsSome result ↔ (group.index < length (shown_by self.now).list.groups) }
     {
         self.list.get_rec_group(group)
@@ -260,18 +258,22 @@ impl<'a, A: Allocator + Copy> TypesRef<'a, A> {
         0
     }
 
-    /// The imports of the module. There are always some, be they none.
+    /// The imports of the module. There are always some, be they none. The list has the type of each
+    /// function and tag among them, where it has those of all types of the module.
     pub fn core_imports(&self) -> Option<CoreImports<'a, A>>
         ensures some { IsSome result }
         ensures all { IfSome result (λ imports. imports_left imports ≡ all_imports (shown_by self.now).spaces.imports) }
+        ensures held { HoldsIds (shown_by self.now) → IfSome result (HoldsImports (shown_by self.now)) }
     {
         Some(self.spaces.imports())
     }
 
-    /// The exports of the module.
+    /// The exports of the module. The list has the type of each function and tag among them, where it
+    /// has those of all types of the module.
     pub fn core_exports(&self) -> Option<CoreExports<'a, A>>
         ensures some { IsSome result }
         ensures all { IfSome result (λ exports. exports_left exports ≡ (shown_by self.now).spaces.exports) }
+        ensures held { HoldsIds (shown_by self.now) → IfSome result (HoldsExports (shown_by self.now)) }
     {
         Some(self.spaces.exports())
     }
@@ -297,13 +299,12 @@ impl<'a, A: Allocator + Copy> Index<RecGroupId> for TypesRef<'a, A> {
     type Output = Range<CoreTypeId>;
 
     ghost use Rattle.std.specs.Prelude.{◌≡◌, ◌<◌, ◌+◌, length};
-    ghost use Rattle.wasm_grouped_list.specs.Groups.{first_of};
-    ghost use Rattle.wasm_grouped_list.specs.Spans.{span};
+    ghost use Rattle.wasm_validator_type_list.specs.Lookups.{group_span};
     ghost use Rattle.wasm_validator_types.specs.Shown.{shown_by};
 
     ghost can_index = { λ types group. group.index < length (shown_by types).list.groups };
 
-    ghost index_gives = { λ types group ids. let groups = (shown_by types).list.groups in ids ≡ span (first_of groups group.index) (first_of groups (group.index + 1)) };
+    ghost index_gives = { λ types group ids. ids ≡ group_span (shown_by types).list.groups group.index };
 
     fn index(&self, group: RecGroupId) -> &Range<CoreTypeId> {
         &self.list[group]

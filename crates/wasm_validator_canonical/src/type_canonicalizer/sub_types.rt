@@ -6,7 +6,7 @@ ghost use Rattle.wasm_readers_types.specs.SeenValues.{index_of};
 ghost use Rattle.wasm_readers_types.specs.SeenTypes.{comp_of, sub_of};
 ghost use Rattle.wasm_validator_canonical.specs.Answers.{Says, IsAt};
 ghost use Rattle.wasm_validator_canonical.specs.Refusals.{late_by};
-ghost use Rattle.wasm_validator_canonical.specs.Indices.{IsSmall, canonical_by, is_known_by, is_earlier, extends_at_most_one, is_bound_by, are_bound_by};
+ghost use Rattle.wasm_validator_canonical.specs.Indices.{IsSmall, IsCanonicalOf, knows_composite, canonical_by, is_known_by, is_earlier, extends_at_most_one, is_bound_by, are_bound_by};
 
 use crate::type_canonicalizer::TypeCanonicalizer;
 use std::alloc::Allocator;
@@ -105,9 +105,9 @@ impl<'a> TypeCanonicalizer<'a> {
         requires inside { index ≤ self.now.end }
         ensures inner { IfOk result (λ c. comp_of c.inner ≡ map_comp (canonical_by self.now) (comp_of ty.inner)) }
         ensures shared { IfOk result (λ c. c.shared ≡ ty.shared) }
-        ensures descriptor { IfOk result (λ c. option_map index_of c.descriptor_idx ≡ option_map (canonical_by self.now) (option_map index_of ty.descriptor_idx)) }
-        ensures describes { IfOk result (λ c. option_map index_of c.describes_idx ≡ option_map (canonical_by self.now) (option_map index_of ty.describes_idx)) }
-        ensures known { Says result (list_all (is_earlier index) (refs_option (option_map index_of ty.describes_idx)) && list_all (is_known_by self.now) (refs_option (option_map index_of ty.descriptor_idx) ++ refs_comp (comp_of ty.inner))) }
+        ensures descriptor { IfOk result (λ c. IsCanonicalOf self.now ty.descriptor_idx c.descriptor_idx) }
+        ensures describes { IfOk result (λ c. IsCanonicalOf self.now ty.describes_idx c.describes_idx) }
+        ensures known { Says result (knows_composite self.now index ty) }
         ensures place { IfErr result (IsAt self.now.offset) }
     {
         let describes_idx = match self.described(index, ty.describes_idx) {

@@ -9,7 +9,7 @@ ghost use Rattle.wasm_readers_types.specs.TypesExact.{group_equal};
 ghost use Rattle.wasm_grouped_list.specs.Groups.{all_in};
 ghost use Rattle.wasm_validator_type_list.specs.Listing.{types_in};
 ghost use Rattle.wasm_validator_type_list.specs.Listable.{IsKnown, IsListable};
-ghost use Rattle.wasm_validator_type_list.specs.Interned.{Interns, InternsTypes, InternsOne, InternsSeen};
+ghost use Rattle.wasm_validator_type_list.specs.Interned.{FindsOneMore, Interns, InternsTypes, InternsOne, InternsSeen};
 ghost use Rattle.wasm_validator_type_list.specs.Refused.{RefusesTooMany};
 
 use crate::type_list::{KnownGroups, TypeList};
@@ -117,7 +117,7 @@ fn put_known<A: Allocator + Copy>(
     requires room { length (all_in groups.old) + length group.types < 2 ^ 32 }
     requires group_room { length groups.old < 2 ^ 32 }
     ensures groups { OnOk result (groups.new ≡ groups.old ++ group.types ∷ []) }
-    ensures known { OnOk result ((q : RecGroup A) → hash.get group_equal known.new q ≡ cond (group_equal group q) (Some number) (hash.get group_equal known.old q)) }
+    ensures known { OnOk result (FindsOneMore (hash.get group_equal known.old) group number (hash.get group_equal known.new)) }
     ensures same_groups { OnErr result (groups.new ≡ groups.old) }
     ensures same_known { OnErr result ((q : RecGroup A) → hash.get group_equal known.new q ≡ hash.get group_equal known.old q) }
 {

@@ -1,15 +1,13 @@
-ghost use Rattle.std.specs.Prelude.{◌≡◌, ◌<◌, length, map};
+ghost use Rattle.std.specs.Prelude.{◌≡◌, ◌<◌, length};
 ghost use Rattle.std.specs.Bool.{Decides};
 ghost use Rattle.std.specs.List.{All, AllZip};
-ghost use Rattle.wasm_spec.specs.Syntax.{map_heap, map_ref, map_storage, map_field, map_comp, map_sub};
 ghost use Rattle.wasm_spec.specs.References.{refs_heap, refs_val, refs_storage, refs_field, refs_comp, refs_sub};
-ghost use Rattle.wasm_spec.specs.Matching.{MatchesRef, MatchesVal, MatchesStorage, MatchesFields, MatchesComp, MatchesSub};
 ghost use Rattle.wasm_readers_types.specs.SeenValues.{heap_of, ref_of, val_of, storage_of, field_of};
 ghost use Rattle.wasm_readers_types.specs.SeenTypes.{comp_of, sub_of};
 ghost use Rattle.wasm_validator_type_list.specs.Listing.{types_in};
 ghost use Rattle.wasm_validator_type_list.specs.Declares.{declares};
 ghost use Rattle.wasm_validator_type_list.specs.Subtyping.{IsHeapOver, heap_by_ids};
-ghost use Rattle.wasm_validator_type_list.specs.Grouped.{leads_in, IsKnownIn, AreIn, ValsMatch, FieldsMatch, MatchesDeclared};
+ghost use Rattle.wasm_validator_type_list.specs.Grouped.{leads_in, heap_in, IsKnownIn, AreIn, RefsMatch, ValsMatch, StoragesMatch, FieldsMatch, FieldListsMatch, CompsMatch, SubsMatch, MatchesDeclared};
 
 use crate::type_list::{TypeList, id_from};
 use crate::with_rec_group::WithRecGroup;
@@ -34,7 +32,7 @@ impl<A: Allocator + Copy> TypeList<A> {
     /// The heap type with the id that its reference leads to.
     fn heap_at(&self, group: RecGroupId, heap: HeapType) -> HeapType
         requires { AreIn self.now.groups group.index (refs_heap (heap_of heap)) }
-        ensures same { heap_by_ids result ≡ map_heap (leads_in self.now.groups group.index) (heap_of heap) }
+        ensures same { heap_by_ids result ≡ heap_in self.now.groups group.index heap }
         ensures there { IsHeapOver (length (types_in self.now)) result }
     {
         match heap {
@@ -50,7 +48,7 @@ impl<A: Allocator + Copy> TypeList<A> {
     fn refs_match(&self, a: WithRecGroup<RefType>, b: WithRecGroup<RefType>) -> bool
         requires sub { AreIn self.now.groups a.rec_group.index (refs_heap (ref_of a.inner).heap) }
         requires sup { AreIn self.now.groups b.rec_group.index (refs_heap (ref_of b.inner).heap) }
-        ensures { Decides result (MatchesRef (declares self.now.groups) (map_ref (leads_in self.now.groups a.rec_group.index) (ref_of a.inner)) (map_ref (leads_in self.now.groups b.rec_group.index) (ref_of b.inner))) }
+        ensures { Decides result (RefsMatch self.now.groups a.rec_group.index b.rec_group.index a.inner b.inner) }
     {
         if a.inner.is_nullable() && !b.inner.is_nullable() {
             return false;
@@ -86,7 +84,7 @@ impl<A: Allocator + Copy> TypeList<A> {
     fn storages_match(&self, a: WithRecGroup<StorageType>, b: WithRecGroup<StorageType>) -> bool
         requires sub { AreIn self.now.groups a.rec_group.index (refs_storage (storage_of a.inner)) }
         requires sup { AreIn self.now.groups b.rec_group.index (refs_storage (storage_of b.inner)) }
-        ensures { Decides result (MatchesStorage (declares self.now.groups) (map_storage (leads_in self.now.groups a.rec_group.index) (storage_of a.inner)) (map_storage (leads_in self.now.groups b.rec_group.index) (storage_of b.inner))) }
+        ensures { Decides result (StoragesMatch self.now.groups a.rec_group.index b.rec_group.index a.inner b.inner) }
     {
         match (a.inner, b.inner) {
             (StorageType::Val(sub), StorageType::Val(sup)) => self.vals_match(
@@ -152,7 +150,7 @@ fn all_fields_match<A: Allocator + Copy>(
 ) -> bool
     requires sub { All (λ f. AreIn types.now.groups a_group.index (refs_field (field_of f))) a.now }
     requires sup { All (λ f. AreIn types.now.groups b_group.index (refs_field (field_of f))) b.now }
-    ensures { Decides result (MatchesFields (declares types.now.groups) (map (λ f. map_field (leads_in types.now.groups a_group.index) (field_of f)) a.now) (map (λ f. map_field (leads_in types.now.groups b_group.index) (field_of f)) b.now)) }
+    ensures { Decides result (FieldListsMatch types.now.groups a_group.index b_group.index a.now b.now) }
 {
     if a.len() < b.len() {
         return false;
@@ -179,7 +177,7 @@ fn inners_match<A: Allocator + Copy>(
 ) -> bool
     requires sub { AreIn types.now.groups a_group.index (refs_comp (comp_of a.now)) }
     requires sup { AreIn types.now.groups b_group.index (refs_comp (comp_of b.now)) }
-    ensures { Decides result (MatchesComp (declares types.now.groups) (map_comp (leads_in types.now.groups a_group.index) (comp_of a.now)) (map_comp (leads_in types.now.groups b_group.index) (comp_of b.now))) }
+    ensures { Decides result (CompsMatch types.now.groups a_group.index b_group.index a.now b.now) }
 {
     match (a, b) {
         (CompositeInnerType::Func(sub), CompositeInnerType::Func(sup)) => {
@@ -216,7 +214,7 @@ fn subs_match<A: Allocator + Copy>(
 ) -> bool
     requires sub { AreIn types.now.groups a_group.index (refs_comp (comp_of a.now.composite_type.inner)) }
     requires sup { AreIn types.now.groups b_group.index (refs_comp (comp_of b.now.composite_type.inner)) }
-    ensures { Decides result (MatchesSub (declares types.now.groups) (map_sub (leads_in types.now.groups a_group.index) (sub_of a.now)) (map_sub (leads_in types.now.groups b_group.index) (sub_of b.now))) }
+    ensures { Decides result (SubsMatch types.now.groups a_group.index b_group.index a.now b.now) }
 {
     let sub = &a.composite_type;
     let sup = &b.composite_type;

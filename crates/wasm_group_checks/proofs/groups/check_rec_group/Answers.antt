@@ -3,7 +3,7 @@ use Rattle.std.specs.declared.ops.Range.{Range}
 use Rattle.wasm_readers_types.specs.declared.indices.CoreTypeId.{CoreTypeId}
 use Rattle.wasm_grouped_list.specs.Groups.{first_of, IsInGroup}
 use Rattle.wasm_validator_type_list.specs.Listing.{types_in}
-use Rattle.wasm_validator_type_list.proofs.Standing.{first_of-within}
+use Rattle.wasm_validator_type_list.proofs.DefTypes.{first_of-within}
 use Rattle.std.proofs.lemmas.Grind.{common_steps}
 use Rattle.wasm_readers_errors.specs.Refusals.{refused}
 use Rattle.wasm_group_checks.proofs.Told.{group_tells}

@@ -1,3 +1,4 @@
+use Rattle.wasm_readers_errors.specs.declared.features.TheConstants.WasmFeatures.{STANDARD}
 use Rattle.std.proofs.Common.{◌≡◌, refl, sym, subst, ◌∙◌, ℕ, true≢false, List, Option, Some}
 use Rattle.std.specs.Prelude.{IsSome, IfSome}
 use Rattle.std.specs.declared.result.Result.TheVariants as results
@@ -13,7 +14,7 @@ read_as {V} o v P e p = subst (λ (x : Option V). IsSome x × IfSome x P) (sym e
 
 -- what the refusal of bytes says, as an answer of any type
 abbrev Decided : {A : Type 0} → Error A → List ℕ → ℕ → Type 0
-Decided {A} e bytes id = DecidesAlone {A = A} (results.Err e) bytes id (record { 0 = 32703 })
+Decided {A} e bytes id = DecidesAlone {A = A} (results.Err e) bytes id STANDARD
 
 -- a refusal that isn't want of memory
 no_module : {A : Type 0} (e : Error A) (bytes : List ℕ) (id : ℕ) → (IsMemory e → ⊥) → Decided e bytes id → AreRefused bytes

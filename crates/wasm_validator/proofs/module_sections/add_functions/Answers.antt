@@ -7,7 +7,7 @@ use Rattle.wasm_readers.specs.SectionsSeen.{count_of, bytes_of, section_start, s
 use Rattle.wasm_validator_core.specs.Items.{add_function}
 use Rattle.wasm_validator_core.specs.Told.{told_of_added_function}
 use Rattle.wasm_readers_errors.specs.declared.error.Counted.TheVariants as counted
-use Rattle.wasm_validator_types.specs.Shown.{types_of}
+use Rattle.wasm_validator_type_list.specs.DefTypes.{types_of_list}
 use Rattle.wasm_validator_types.specs.Spaces.{Spaces}
 use Rattle.wasm_validator_core.specs.declared.error.Error.{Error}
 use Rattle.wasm_validator_core.specs.declared.error.Error.TheVariants.{Refused}
@@ -21,14 +21,14 @@ use Rattle.wasm_validator.proofs.module_sections.add_functions.Goals as goal
 pub returns-in_err-check_max-clause-told : goal.returns-in_err-check_max-clause-told
 returns-in_err-check_max-clause-told g c =
     let over : leb (length c.args.opened.now.functions + count_of c.args.section.now) MAX_FUNCTIONS ≡ false = cc (c.in_err-check_max.ensures.fits, c.function_count.ensures, c.count.ensures, c.spaces.ensures) in
-    err_as c.from_residual.result (Refused c.in_err-check_max.field-0.0) (OfContent (λ (w : Error g.row.A.Denot). TellsCount counted.Functions (length c.args.opened.now.functions) MAX_FUNCTIONS (section_start c.args.section.now) (count_of c.args.section.now) w ((λ (w : Error g.row.A.Denot). TellsEach u32_at (add_function (types_of c.args.list.now)) IsNone (tells_function (types_of c.args.list.now)) (section_end c.args.section.now) w (count_of c.args.section.now) (bytes_of c.args.section.now) c.args.opened.now) w))) c.from_residual.ensures.1
-    (over_told counted.Functions (length c.args.opened.now.functions) MAX_FUNCTIONS (section_start c.args.section.now) (count_of c.args.section.now) (λ (w : Error g.row.A.Denot). TellsEach u32_at (add_function (types_of c.args.list.now)) IsNone (tells_function (types_of c.args.list.now)) (section_end c.args.section.now) w (count_of c.args.section.now) (bytes_of c.args.section.now) c.args.opened.now) c.in_err-check_max.field-0.0 over (cc (c.in_err-check_max.ensures.refusal, c.range.ensures.start)))
+    err_as c.from_residual.result (Refused c.in_err-check_max.field-0.0) (OfContent (λ (w : Error g.row.A.Denot). TellsCount counted.Functions (length c.args.opened.now.functions) MAX_FUNCTIONS (section_start c.args.section.now) (count_of c.args.section.now) w ((λ (w : Error g.row.A.Denot). TellsEach u32_at (add_function (types_of_list c.args.list.now)) IsNone (tells_function (types_of_list c.args.list.now)) (section_end c.args.section.now) w (count_of c.args.section.now) (bytes_of c.args.section.now) c.args.opened.now) w))) c.from_residual.ensures.1
+    (over_told counted.Functions (length c.args.opened.now.functions) MAX_FUNCTIONS (section_start c.args.section.now) (count_of c.args.section.now) (λ (w : Error g.row.A.Denot). TellsEach u32_at (add_function (types_of_list c.args.list.now)) IsNone (tells_function (types_of_list c.args.list.now)) (section_end c.args.section.now) w (count_of c.args.section.now) (bytes_of c.args.section.now) c.args.opened.now) c.in_err-check_max.field-0.0 over (cc (c.in_err-check_max.ensures.refusal, c.range.ensures.start)))
 
 pub returns-in_err-offset-clause-told : goal.returns-in_err-offset-clause-told
 returns-in_err-offset-clause-told g c =
     let encoded = u32_at in
-    let add = (add_function (types_of c.args.list.now)) in
-    let tells : ℕ → Spaces → ℕ → Error g.row.A.Denot → Type 0 = (tells_function (types_of c.args.list.now)) in
+    let add = (add_function (types_of_list c.args.list.now)) in
+    let tells : ℕ → Spaces → ℕ → Error g.row.A.Denot → Type 0 = (tells_function (types_of_list c.args.list.now)) in
     let stop = section_end c.args.section.now in
     let left = items_left c.functions.functions in
     let rest = items_rest c.functions.functions in
@@ -38,15 +38,15 @@ returns-in_err-offset-clause-told g c =
     let within : position_in c.functions.functions.reader ≤ length (input c.functions.functions.reader) = omega arith in
     let here = items_here c.functions.functions within in
     let end = c.functions.invariant.3 in
-    err_as c.from_residual-in_err-offset.result (lifted c.in_err-offset.field-0.0) (OfContent (λ (w : Error g.row.A.Denot). TellsCount counted.Functions (length c.args.opened.now.functions) MAX_FUNCTIONS (section_start c.args.section.now) (count_of c.args.section.now) w ((λ (w : Error g.row.A.Denot). TellsEach u32_at (add_function (types_of c.args.list.now)) IsNone (tells_function (types_of c.args.list.now)) (section_end c.args.section.now) w (count_of c.args.section.now) (bytes_of c.args.section.now) c.args.opened.now) w))) c.from_residual-in_err-offset.ensures.1
+    err_as c.from_residual-in_err-offset.result (lifted c.in_err-offset.field-0.0) (OfContent (λ (w : Error g.row.A.Denot). TellsCount counted.Functions (length c.args.opened.now.functions) MAX_FUNCTIONS (section_start c.args.section.now) (count_of c.args.section.now) w ((λ (w : Error g.row.A.Denot). TellsEach u32_at (add_function (types_of_list c.args.list.now)) IsNone (tells_function (types_of_list c.args.list.now)) (section_end c.args.section.now) w (count_of c.args.section.now) (bytes_of c.args.section.now) c.args.opened.now) w))) c.from_residual-in_err-offset.ensures.1
     (unread_told encoded add IsNone tells stop counted.Functions (length c.args.opened.now.functions) MAX_FUNCTIONS (section_start c.args.section.now) (count_of c.args.section.now) (bytes_of c.args.section.now) c.args.opened.now few left n rest after c.functions.opened (λ (x : ℕ). x) c.functions.functions.reader c.in_err-offset.field-0.0
     c.functions.invariant.5 c.in_err-offset.ensures.reads c.in_err-offset.ensures.failure (here ∙ end) end)
 
 pub functions-preserved : goal.functions-preserved
 functions-preserved g c =
     let encoded = u32_at in
-    let add = (add_function (types_of c.args.list.now)) in
-    let tells : ℕ → Spaces → ℕ → Error g.row.A.Denot → Type 0 = (tells_function (types_of c.args.list.now)) in
+    let add = (add_function (types_of_list c.args.list.now)) in
+    let tells : ℕ → Spaces → ℕ → Error g.row.A.Denot → Type 0 = (tells_function (types_of_list c.args.list.now)) in
     let stop = section_end c.args.section.now in
     let left = items_left c.functions.functions in
     let rest = items_rest c.functions.functions in
@@ -67,8 +67,8 @@ functions-preserved g c =
 pub returns-in_err-add_function-clause-told : goal.returns-in_err-add_function-clause-told
 returns-in_err-add_function-clause-told g c =
     let encoded = u32_at in
-    let add = (add_function (types_of c.args.list.now)) in
-    let tells : ℕ → Spaces → ℕ → Error g.row.A.Denot → Type 0 = (tells_function (types_of c.args.list.now)) in
+    let add = (add_function (types_of_list c.args.list.now)) in
+    let tells : ℕ → Spaces → ℕ → Error g.row.A.Denot → Type 0 = (tells_function (types_of_list c.args.list.now)) in
     let stop = section_end c.args.section.now in
     let left = items_left c.functions.functions in
     let rest = items_rest c.functions.functions in
@@ -81,6 +81,6 @@ returns-in_err-add_function-clause-told g c =
     let within : position_in c.functions.functions.reader ≤ length (input c.functions.functions.reader) = omega arith in
     let here = items_here c.functions.functions within in
     let end = c.functions.invariant.3 in
-    err_as c.from_residual-in_err-add_function.result c.in_err-add_function.field-0.0 (OfContent (λ (w : Error g.row.A.Denot). TellsCount counted.Functions (length c.args.opened.now.functions) MAX_FUNCTIONS (section_start c.args.section.now) (count_of c.args.section.now) w ((λ (w : Error g.row.A.Denot). TellsEach u32_at (add_function (types_of c.args.list.now)) IsNone (tells_function (types_of c.args.list.now)) (section_end c.args.section.now) w (count_of c.args.section.now) (bytes_of c.args.section.now) c.args.opened.now) w))) c.from_residual-in_err-add_function.ensures.1
+    err_as c.from_residual-in_err-add_function.result c.in_err-add_function.field-0.0 (OfContent (λ (w : Error g.row.A.Denot). TellsCount counted.Functions (length c.args.opened.now.functions) MAX_FUNCTIONS (section_start c.args.section.now) (count_of c.args.section.now) w ((λ (w : Error g.row.A.Denot). TellsEach u32_at (add_function (types_of_list c.args.list.now)) IsNone (tells_function (types_of_list c.args.list.now)) (section_end c.args.section.now) w (count_of c.args.section.now) (bytes_of c.args.section.now) c.args.opened.now) w))) c.from_residual-in_err-add_function.ensures.1
     (refused_told encoded add IsNone tells stop counted.Functions (length c.args.opened.now.functions) MAX_FUNCTIONS (section_start c.args.section.now) (count_of c.args.section.now) (bytes_of c.args.section.now) c.args.opened.now few left n rest after value c.functions.opened c.in-Some.offset c.in_err-add_function.field-0.0
-    c.functions.invariant.5 reads (omega (arith, at, here, end)) (item_told c.in_err-add_function.field-0.0 (add c.functions.opened value) c.add_function.new.self c.in-Some.offset (told_of_added_function c.in-Some.offset (types_of c.args.list.now) c.functions.opened value) c.in_err-add_function.ensures.added c.in_err-add_function.ensures.told c.in_err-add_function.ensures.place))
+    c.functions.invariant.5 reads (omega (arith, at, here, end)) (item_told c.in_err-add_function.field-0.0 (add c.functions.opened value) c.add_function.new.self c.in-Some.offset (told_of_added_function c.in-Some.offset (types_of_list c.args.list.now) c.functions.opened value) c.in_err-add_function.ensures.added c.in_err-add_function.ensures.told c.in_err-add_function.ensures.place))

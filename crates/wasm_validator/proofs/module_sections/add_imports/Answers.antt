@@ -10,7 +10,7 @@ use Rattle.wasm_readers.specs.Items.{import_of}
 use Rattle.wasm_validator_core.specs.Items.{add_import}
 use Rattle.wasm_validator_core.specs.Told.{told_of_import}
 use Rattle.wasm_readers_errors.specs.declared.error.Counted.TheVariants as counted
-use Rattle.wasm_validator_types.specs.Shown.{types_of}
+use Rattle.wasm_validator_type_list.specs.DefTypes.{types_of_list}
 use Rattle.wasm_validator_types.specs.Spaces.{Spaces}
 use Rattle.wasm_validator_core.specs.declared.error.Error.{Error}
 use Rattle.wasm_validator_core.specs.declared.error.Error.TheVariants.{Refused}
@@ -24,14 +24,14 @@ use Rattle.wasm_validator.proofs.module_sections.add_imports.Goals as goal
 pub returns-in_err-check_max-clause-told : goal.returns-in_err-check_max-clause-told
 returns-in_err-check_max-clause-told g c =
     let over : leb (length c.args.opened.now.imports + count_of c.args.section.now) MAX_IMPORTS ≡ false = cc (c.in_err-check_max.ensures.fits, c.import_count.ensures, c.count.ensures, c.spaces.ensures) in
-    err_as c.from_residual.result (Refused c.in_err-check_max.field-0.0) (OfContent (λ (w : Error g.row.A.Denot). TellsCount counted.Imports (length c.args.opened.now.imports) MAX_IMPORTS (section_start c.args.section.now) (count_of c.args.section.now) w ((λ (w : Error g.row.A.Denot). TellsEach (import_at written) (add_import (features_of c.args.features) (types_of c.args.list.now)) IsNone (tells_import c.args.features (types_of c.args.list.now)) (section_end c.args.section.now) w (count_of c.args.section.now) (bytes_of c.args.section.now) c.args.opened.now) w))) c.from_residual.ensures.1
-    (over_told counted.Imports (length c.args.opened.now.imports) MAX_IMPORTS (section_start c.args.section.now) (count_of c.args.section.now) (λ (w : Error g.row.A.Denot). TellsEach (import_at written) (add_import (features_of c.args.features) (types_of c.args.list.now)) IsNone (tells_import c.args.features (types_of c.args.list.now)) (section_end c.args.section.now) w (count_of c.args.section.now) (bytes_of c.args.section.now) c.args.opened.now) c.in_err-check_max.field-0.0 over (cc (c.in_err-check_max.ensures.refusal, c.range.ensures.start)))
+    err_as c.from_residual.result (Refused c.in_err-check_max.field-0.0) (OfContent (λ (w : Error g.row.A.Denot). TellsCount counted.Imports (length c.args.opened.now.imports) MAX_IMPORTS (section_start c.args.section.now) (count_of c.args.section.now) w ((λ (w : Error g.row.A.Denot). TellsEach (import_at written) (add_import (features_of c.args.features) (types_of_list c.args.list.now)) IsNone (tells_import c.args.features (types_of_list c.args.list.now)) (section_end c.args.section.now) w (count_of c.args.section.now) (bytes_of c.args.section.now) c.args.opened.now) w))) c.from_residual.ensures.1
+    (over_told counted.Imports (length c.args.opened.now.imports) MAX_IMPORTS (section_start c.args.section.now) (count_of c.args.section.now) (λ (w : Error g.row.A.Denot). TellsEach (import_at written) (add_import (features_of c.args.features) (types_of_list c.args.list.now)) IsNone (tells_import c.args.features (types_of_list c.args.list.now)) (section_end c.args.section.now) w (count_of c.args.section.now) (bytes_of c.args.section.now) c.args.opened.now) c.in_err-check_max.field-0.0 over (cc (c.in_err-check_max.ensures.refusal, c.range.ensures.start)))
 
 pub returns-in_err-offset-clause-told : goal.returns-in_err-offset-clause-told
 returns-in_err-offset-clause-told g c =
     let encoded = (import_at written) in
-    let add = (add_import (features_of c.args.features) (types_of c.args.list.now)) in
-    let tells : ℕ → Spaces → Import UnpackedIndex → Error g.row.A.Denot → Type 0 = (tells_import c.args.features (types_of c.args.list.now)) in
+    let add = (add_import (features_of c.args.features) (types_of_list c.args.list.now)) in
+    let tells : ℕ → Spaces → Import UnpackedIndex → Error g.row.A.Denot → Type 0 = (tells_import c.args.features (types_of_list c.args.list.now)) in
     let stop = section_end c.args.section.now in
     let left = items_left c.imports.imports in
     let rest = items_rest c.imports.imports in
@@ -41,15 +41,15 @@ returns-in_err-offset-clause-told g c =
     let within : position_in c.imports.imports.reader ≤ length (input c.imports.imports.reader) = omega arith in
     let here = items_here c.imports.imports within in
     let end = c.imports.invariant.3 in
-    err_as c.from_residual-in_err-offset.result (lifted c.in_err-offset.field-0.0) (OfContent (λ (w : Error g.row.A.Denot). TellsCount counted.Imports (length c.args.opened.now.imports) MAX_IMPORTS (section_start c.args.section.now) (count_of c.args.section.now) w ((λ (w : Error g.row.A.Denot). TellsEach (import_at written) (add_import (features_of c.args.features) (types_of c.args.list.now)) IsNone (tells_import c.args.features (types_of c.args.list.now)) (section_end c.args.section.now) w (count_of c.args.section.now) (bytes_of c.args.section.now) c.args.opened.now) w))) c.from_residual-in_err-offset.ensures.1
+    err_as c.from_residual-in_err-offset.result (lifted c.in_err-offset.field-0.0) (OfContent (λ (w : Error g.row.A.Denot). TellsCount counted.Imports (length c.args.opened.now.imports) MAX_IMPORTS (section_start c.args.section.now) (count_of c.args.section.now) w ((λ (w : Error g.row.A.Denot). TellsEach (import_at written) (add_import (features_of c.args.features) (types_of_list c.args.list.now)) IsNone (tells_import c.args.features (types_of_list c.args.list.now)) (section_end c.args.section.now) w (count_of c.args.section.now) (bytes_of c.args.section.now) c.args.opened.now) w))) c.from_residual-in_err-offset.ensures.1
     (unread_told encoded add IsNone tells stop counted.Imports (length c.args.opened.now.imports) MAX_IMPORTS (section_start c.args.section.now) (count_of c.args.section.now) (bytes_of c.args.section.now) c.args.opened.now few left n rest after c.imports.opened import_of c.imports.imports.reader c.in_err-offset.field-0.0
     c.imports.invariant.5 c.in_err-offset.ensures.reads c.in_err-offset.ensures.failure (here ∙ end) end)
 
 pub imports-preserved : goal.imports-preserved
 imports-preserved g c =
     let encoded = (import_at written) in
-    let add = (add_import (features_of c.args.features) (types_of c.args.list.now)) in
-    let tells : ℕ → Spaces → Import UnpackedIndex → Error g.row.A.Denot → Type 0 = (tells_import c.args.features (types_of c.args.list.now)) in
+    let add = (add_import (features_of c.args.features) (types_of_list c.args.list.now)) in
+    let tells : ℕ → Spaces → Import UnpackedIndex → Error g.row.A.Denot → Type 0 = (tells_import c.args.features (types_of_list c.args.list.now)) in
     let stop = section_end c.args.section.now in
     let left = items_left c.imports.imports in
     let rest = items_rest c.imports.imports in
@@ -70,8 +70,8 @@ imports-preserved g c =
 pub returns-in_err-add_import-clause-told : goal.returns-in_err-add_import-clause-told
 returns-in_err-add_import-clause-told g c =
     let encoded = (import_at written) in
-    let add = (add_import (features_of c.args.features) (types_of c.args.list.now)) in
-    let tells : ℕ → Spaces → Import UnpackedIndex → Error g.row.A.Denot → Type 0 = (tells_import c.args.features (types_of c.args.list.now)) in
+    let add = (add_import (features_of c.args.features) (types_of_list c.args.list.now)) in
+    let tells : ℕ → Spaces → Import UnpackedIndex → Error g.row.A.Denot → Type 0 = (tells_import c.args.features (types_of_list c.args.list.now)) in
     let stop = section_end c.args.section.now in
     let left = items_left c.imports.imports in
     let rest = items_rest c.imports.imports in
@@ -84,6 +84,6 @@ returns-in_err-add_import-clause-told g c =
     let within : position_in c.imports.imports.reader ≤ length (input c.imports.imports.reader) = omega arith in
     let here = items_here c.imports.imports within in
     let end = c.imports.invariant.3 in
-    err_as c.from_residual-in_err-add_import.result c.in_err-add_import.field-0.0 (OfContent (λ (w : Error g.row.A.Denot). TellsCount counted.Imports (length c.args.opened.now.imports) MAX_IMPORTS (section_start c.args.section.now) (count_of c.args.section.now) w ((λ (w : Error g.row.A.Denot). TellsEach (import_at written) (add_import (features_of c.args.features) (types_of c.args.list.now)) IsNone (tells_import c.args.features (types_of c.args.list.now)) (section_end c.args.section.now) w (count_of c.args.section.now) (bytes_of c.args.section.now) c.args.opened.now) w))) c.from_residual-in_err-add_import.ensures.1
+    err_as c.from_residual-in_err-add_import.result c.in_err-add_import.field-0.0 (OfContent (λ (w : Error g.row.A.Denot). TellsCount counted.Imports (length c.args.opened.now.imports) MAX_IMPORTS (section_start c.args.section.now) (count_of c.args.section.now) w ((λ (w : Error g.row.A.Denot). TellsEach (import_at written) (add_import (features_of c.args.features) (types_of_list c.args.list.now)) IsNone (tells_import c.args.features (types_of_list c.args.list.now)) (section_end c.args.section.now) w (count_of c.args.section.now) (bytes_of c.args.section.now) c.args.opened.now) w))) c.from_residual-in_err-add_import.ensures.1
     (refused_told encoded add IsNone tells stop counted.Imports (length c.args.opened.now.imports) MAX_IMPORTS (section_start c.args.section.now) (count_of c.args.section.now) (bytes_of c.args.section.now) c.args.opened.now few left n rest after value c.imports.opened c.in-Some.offset c.in_err-add_import.field-0.0
-    c.imports.invariant.5 reads (omega (arith, at, here, end)) (item_told c.in_err-add_import.field-0.0 (add c.imports.opened value) c.add_import.new.self c.in-Some.offset (told_of_import c.args.features c.in-Some.offset (types_of c.args.list.now) c.imports.opened value) c.in_err-add_import.ensures.added c.in_err-add_import.ensures.told c.in_err-add_import.ensures.place))
+    c.imports.invariant.5 reads (omega (arith, at, here, end)) (item_told c.in_err-add_import.field-0.0 (add c.imports.opened value) c.add_import.new.self c.in-Some.offset (told_of_import c.args.features c.in-Some.offset (types_of_list c.args.list.now) c.imports.opened value) c.in_err-add_import.ensures.added c.in_err-add_import.ensures.told c.in_err-add_import.ensures.place))

@@ -9,7 +9,7 @@ use Rattle.wasm_readers_types.specs.SeenExterns.{memory_of}
 use Rattle.wasm_validator_core.specs.Items.{add_memory}
 use Rattle.wasm_validator_core.specs.Told.{told_of_added_memory}
 use Rattle.wasm_readers_errors.specs.declared.error.Counted.TheVariants as counted
-use Rattle.wasm_validator_types.specs.Shown.{types_of}
+use Rattle.wasm_validator_type_list.specs.DefTypes.{types_of_list}
 use Rattle.wasm_validator_types.specs.Spaces.{Spaces}
 use Rattle.wasm_validator_core.specs.declared.error.Error.{Error}
 use Rattle.wasm_validator_core.specs.declared.error.Error.TheVariants.{Refused}

@@ -6,7 +6,7 @@ use Rattle.wasm_rules.specs.Limits.{most_tables}
 use Rattle.wasm_readers.specs.SectionsSeen.{count_of, bytes_of, section_start, section_end, items_left, items_rest, items_end, next_item_at}
 use Rattle.wasm_validator.specs.Machine.{add_table_head}
 use Rattle.wasm_readers_errors.specs.declared.error.Counted.TheVariants as counted
-use Rattle.wasm_validator_types.specs.Shown.{types_of}
+use Rattle.wasm_validator_type_list.specs.DefTypes.{types_of_list}
 use Rattle.wasm_validator_types.specs.Spaces.{Spaces}
 use Rattle.wasm_validator_core.specs.declared.error.Error.{Error}
 use Rattle.wasm_validator_core.specs.declared.error.Error.TheVariants.{Refused}
@@ -20,14 +20,14 @@ use Rattle.wasm_validator.proofs.module_sections.add_tables.Goals as goal
 pub returns-in_err-check_max-clause-told : goal.returns-in_err-check_max-clause-told
 returns-in_err-check_max-clause-told g c =
     let over : leb (length c.args.opened.now.«module».tables + count_of c.args.section.now) (most_tables (features_of c.args.features)) ≡ false = cc (c.in_err-check_max.ensures.fits, c.table_count.ensures, c.count.ensures, c.spaces.ensures, c.max_tables.ensures) in
-    err_as c.from_residual.result (Refused c.in_err-check_max.field-0.0) (OfContent (λ (w : Error g.row.A.Denot). TellsCount counted.Tables (length c.args.opened.now.«module».tables) (most_tables (features_of c.args.features)) (section_start c.args.section.now) (count_of c.args.section.now) w ((λ (w : Error g.row.A.Denot). TellsEach table_head_at (add_table_head (features_of c.args.features) (types_of c.args.list.now)) IsNone (tells_table c.args.features (types_of c.args.list.now)) (section_end c.args.section.now) w (count_of c.args.section.now) (bytes_of c.args.section.now) c.args.opened.now.«module») w))) c.from_residual.ensures.1
-    (over_told counted.Tables (length c.args.opened.now.«module».tables) (most_tables (features_of c.args.features)) (section_start c.args.section.now) (count_of c.args.section.now) (λ (w : Error g.row.A.Denot). TellsEach table_head_at (add_table_head (features_of c.args.features) (types_of c.args.list.now)) IsNone (tells_table c.args.features (types_of c.args.list.now)) (section_end c.args.section.now) w (count_of c.args.section.now) (bytes_of c.args.section.now) c.args.opened.now.«module») c.in_err-check_max.field-0.0 over (cc (c.in_err-check_max.ensures.refusal, c.range.ensures.start, c.max_tables.ensures)))
+    err_as c.from_residual.result (Refused c.in_err-check_max.field-0.0) (OfContent (λ (w : Error g.row.A.Denot). TellsCount counted.Tables (length c.args.opened.now.«module».tables) (most_tables (features_of c.args.features)) (section_start c.args.section.now) (count_of c.args.section.now) w ((λ (w : Error g.row.A.Denot). TellsEach table_head_at (add_table_head (features_of c.args.features) (types_of_list c.args.list.now)) IsNone (tells_table c.args.features (types_of_list c.args.list.now)) (section_end c.args.section.now) w (count_of c.args.section.now) (bytes_of c.args.section.now) c.args.opened.now.«module») w))) c.from_residual.ensures.1
+    (over_told counted.Tables (length c.args.opened.now.«module».tables) (most_tables (features_of c.args.features)) (section_start c.args.section.now) (count_of c.args.section.now) (λ (w : Error g.row.A.Denot). TellsEach table_head_at (add_table_head (features_of c.args.features) (types_of_list c.args.list.now)) IsNone (tells_table c.args.features (types_of_list c.args.list.now)) (section_end c.args.section.now) w (count_of c.args.section.now) (bytes_of c.args.section.now) c.args.opened.now.«module») c.in_err-check_max.field-0.0 over (cc (c.in_err-check_max.ensures.refusal, c.range.ensures.start, c.max_tables.ensures)))
 
 pub returns-in_err-offset-clause-told : goal.returns-in_err-offset-clause-told
 returns-in_err-offset-clause-told g c =
     let encoded = table_head_at in
-    let add = (add_table_head (features_of c.args.features) (types_of c.args.list.now)) in
-    let tells : ℕ → Spaces → Head → Error g.row.A.Denot → Type 0 = (tells_table c.args.features (types_of c.args.list.now)) in
+    let add = (add_table_head (features_of c.args.features) (types_of_list c.args.list.now)) in
+    let tells : ℕ → Spaces → Head → Error g.row.A.Denot → Type 0 = (tells_table c.args.features (types_of_list c.args.list.now)) in
     let stop = section_end c.args.section.now in
     let left = items_left c.tables.tables in
     let rest = items_rest c.tables.tables in
@@ -37,15 +37,15 @@ returns-in_err-offset-clause-told g c =
     let within : position_in c.tables.tables.reader ≤ length (input c.tables.tables.reader) = omega arith in
     let here = items_here c.tables.tables within in
     let end = c.tables.invariant.3 in
-    err_as c.from_residual-in_err-offset.result (lifted c.in_err-offset.field-0.0) (OfContent (λ (w : Error g.row.A.Denot). TellsCount counted.Tables (length c.args.opened.now.«module».tables) (most_tables (features_of c.args.features)) (section_start c.args.section.now) (count_of c.args.section.now) w ((λ (w : Error g.row.A.Denot). TellsEach table_head_at (add_table_head (features_of c.args.features) (types_of c.args.list.now)) IsNone (tells_table c.args.features (types_of c.args.list.now)) (section_end c.args.section.now) w (count_of c.args.section.now) (bytes_of c.args.section.now) c.args.opened.now.«module») w))) c.from_residual-in_err-offset.ensures.1
+    err_as c.from_residual-in_err-offset.result (lifted c.in_err-offset.field-0.0) (OfContent (λ (w : Error g.row.A.Denot). TellsCount counted.Tables (length c.args.opened.now.«module».tables) (most_tables (features_of c.args.features)) (section_start c.args.section.now) (count_of c.args.section.now) w ((λ (w : Error g.row.A.Denot). TellsEach table_head_at (add_table_head (features_of c.args.features) (types_of_list c.args.list.now)) IsNone (tells_table c.args.features (types_of_list c.args.list.now)) (section_end c.args.section.now) w (count_of c.args.section.now) (bytes_of c.args.section.now) c.args.opened.now.«module») w))) c.from_residual-in_err-offset.ensures.1
     (unread_told encoded add IsNone tells stop counted.Tables (length c.args.opened.now.«module».tables) (most_tables (features_of c.args.features)) (section_start c.args.section.now) (count_of c.args.section.now) (bytes_of c.args.section.now) c.args.opened.now.«module» few left n rest after c.tables.opened.«module» head_of c.tables.tables.reader c.in_err-offset.field-0.0
     c.tables.invariant.5 c.in_err-offset.ensures.reads c.in_err-offset.ensures.failure (here ∙ end) end)
 
 pub tables-preserved : goal.tables-preserved
 tables-preserved g c =
     let encoded = table_head_at in
-    let add = (add_table_head (features_of c.args.features) (types_of c.args.list.now)) in
-    let tells : ℕ → Spaces → Head → Error g.row.A.Denot → Type 0 = (tells_table c.args.features (types_of c.args.list.now)) in
+    let add = (add_table_head (features_of c.args.features) (types_of_list c.args.list.now)) in
+    let tells : ℕ → Spaces → Head → Error g.row.A.Denot → Type 0 = (tells_table c.args.features (types_of_list c.args.list.now)) in
     let stop = section_end c.args.section.now in
     let left = items_left c.tables.tables in
     let rest = items_rest c.tables.tables in
@@ -66,8 +66,8 @@ tables-preserved g c =
 pub returns-in_err-add_table_head-clause-told : goal.returns-in_err-add_table_head-clause-told
 returns-in_err-add_table_head-clause-told g c =
     let encoded = table_head_at in
-    let add = (add_table_head (features_of c.args.features) (types_of c.args.list.now)) in
-    let tells : ℕ → Spaces → Head → Error g.row.A.Denot → Type 0 = (tells_table c.args.features (types_of c.args.list.now)) in
+    let add = (add_table_head (features_of c.args.features) (types_of_list c.args.list.now)) in
+    let tells : ℕ → Spaces → Head → Error g.row.A.Denot → Type 0 = (tells_table c.args.features (types_of_list c.args.list.now)) in
     let stop = section_end c.args.section.now in
     let left = items_left c.tables.tables in
     let rest = items_rest c.tables.tables in
@@ -80,6 +80,6 @@ returns-in_err-add_table_head-clause-told g c =
     let within : position_in c.tables.tables.reader ≤ length (input c.tables.tables.reader) = omega arith in
     let here = items_here c.tables.tables within in
     let end = c.tables.invariant.3 in
-    err_as c.from_residual-in_err-add_table_head.result c.in_err-add_table_head.field-0.0 (OfContent (λ (w : Error g.row.A.Denot). TellsCount counted.Tables (length c.args.opened.now.«module».tables) (most_tables (features_of c.args.features)) (section_start c.args.section.now) (count_of c.args.section.now) w ((λ (w : Error g.row.A.Denot). TellsEach table_head_at (add_table_head (features_of c.args.features) (types_of c.args.list.now)) IsNone (tells_table c.args.features (types_of c.args.list.now)) (section_end c.args.section.now) w (count_of c.args.section.now) (bytes_of c.args.section.now) c.args.opened.now.«module») w))) c.from_residual-in_err-add_table_head.ensures.1
+    err_as c.from_residual-in_err-add_table_head.result c.in_err-add_table_head.field-0.0 (OfContent (λ (w : Error g.row.A.Denot). TellsCount counted.Tables (length c.args.opened.now.«module».tables) (most_tables (features_of c.args.features)) (section_start c.args.section.now) (count_of c.args.section.now) w ((λ (w : Error g.row.A.Denot). TellsEach table_head_at (add_table_head (features_of c.args.features) (types_of_list c.args.list.now)) IsNone (tells_table c.args.features (types_of_list c.args.list.now)) (section_end c.args.section.now) w (count_of c.args.section.now) (bytes_of c.args.section.now) c.args.opened.now.«module») w))) c.from_residual-in_err-add_table_head.ensures.1
     (refused_told encoded add IsNone tells stop counted.Tables (length c.args.opened.now.«module».tables) (most_tables (features_of c.args.features)) (section_start c.args.section.now) (count_of c.args.section.now) (bytes_of c.args.section.now) c.args.opened.now.«module» few left n rest after value c.tables.opened.«module» c.in-Some.offset c.in_err-add_table_head.field-0.0
-    c.tables.invariant.5 reads (omega (arith, at, here, end)) (item_told c.in_err-add_table_head.field-0.0 (add c.tables.opened.«module» value) c.add_table_head.new.opened.«module» c.in-Some.offset (told_of_head c.args.features (types_of c.args.list.now) c.in-Some.offset c.tables.opened.«module» value) c.in_err-add_table_head.ensures.added c.in_err-add_table_head.ensures.told c.in_err-add_table_head.ensures.place))
+    c.tables.invariant.5 reads (omega (arith, at, here, end)) (item_told c.in_err-add_table_head.field-0.0 (add c.tables.opened.«module» value) c.add_table_head.new.opened.«module» c.in-Some.offset (told_of_head c.args.features (types_of_list c.args.list.now) c.in-Some.offset c.tables.opened.«module» value) c.in_err-add_table_head.ensures.added c.in_err-add_table_head.ensures.told c.in_err-add_table_head.ensures.place))

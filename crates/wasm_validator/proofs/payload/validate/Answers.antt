@@ -1,3 +1,4 @@
+use Rattle.wasm_readers_errors.specs.declared.features.TheConstants.WasmFeatures.{STANDARD}
 use Rattle.std.proofs.Common.{subst}
 use Rattle.wasm_validator.specs.Verdict.{DecidesModule}
 use Rattle.wasm_validator.specs.Standing.{Standing}
@@ -7,4 +8,4 @@ use Rattle.wasm_validator.proofs.payload.validate.Goals as goal
 pub returns-clause-decided : goal.returns-clause-decided
 returns-clause-decided g c =
     let P : Standing → Type 0 = λ s. DecidesModule c.validate_all.result c.args.bytes.now s c.validate_all.new.self in
-    decides_alone c.args.bytes.now c.args.id (record { 0 = 32703 }) c.validate_all.new.self c.validate_all.result (subst P c.new.ensures c.validate_all.ensures.decided)
+    decides_alone c.args.bytes.now c.args.id STANDARD c.validate_all.new.self c.validate_all.result (subst P c.new.ensures c.validate_all.ensures.decided)

@@ -9,8 +9,8 @@ use Rattle.wasm_readers_types.specs.declared.types.SubType.{SubType}
 use Rattle.wasm_grouped_list.specs.Elements.{ids_left}
 use Rattle.wasm_validator_type_list.specs.Listing.{types_in}
 use Rattle.wasm_validator_type_list.specs.Listable.{IsListable}
-use Rattle.wasm_validator_type_list.specs.Standing.{standing}
-use Rattle.wasm_validator_type_list.proofs.Standing.{length-standing}
+use Rattle.wasm_validator_type_list.specs.DefTypes.{def_types}
+use Rattle.wasm_validator_type_list.proofs.DefTypes.{length-def_types}
 use Rattle.wasm_validator_canonical.specs.Groups.{closes, AreValid, with_written}
 use Rattle.wasm_validator_canonical.specs.Indices.{numbers}
 use Rattle.wasm_validator_canonical.proofs.NewIds.{numbers_below, below_limit}
@@ -26,12 +26,12 @@ pub returns-then-types-len-clause-added : goal.returns-then-types-len-clause-add
 returns-then-types-len-clause-added g c =
     let F = features_of c.args.features in
     let old = c.args.types.now in
-    let us = standing old.is_canonical old.groups in
+    let us = def_types old.is_canonical old.groups in
     let w = rec_of c.args.group in
     let over = c.if-types-len.true in
     let count = c.len.ensures.count in
     let room = c.len.ensures.room in
-    let many = length-standing old.is_canonical old.groups in
+    let many = length-def_types old.is_canonical old.groups in
     let here = ap length c.types.ensures in
     let total : length w.types ≡ length c.args.group.types = length-map c.args.group.types sub_of in
     none_added F (with_written F us (numbers c.args.ids.now) w) (none_full F us (numbers c.args.ids.now) w (not_within (length us + length w.types) MAX_IDS (omega (arith, over, count, room, many, here, total))))
@@ -41,8 +41,8 @@ canonical_types-requires-clause-small g c =
     let old = c.args.types.now in
     let count = c.len.ensures.count in
     let room = c.len.ensures.room in
-    let many = length-standing old.is_canonical old.groups in
-    below_limit (length (standing old.is_canonical old.groups)) MAX_IDS c.args.ids.now (omega (arith, count, room, many)) c.requires.known
+    let many = length-def_types old.is_canonical old.groups in
+    below_limit (length (def_types old.is_canonical old.groups)) MAX_IDS c.args.ids.now (omega (arith, count, room, many)) c.requires.known
 
 pub intern-requires-clause-members : goal.intern-requires-clause-members
 intern-requires-clause-members g c =
@@ -60,7 +60,7 @@ intern-requires-clause-listable g c =
     let ids = numbers c.args.ids.now in
     let w = rec_of c.args.group in
     let closing : closes F (length ids) w ≡ true = ap (λ n. closes F n w) (length-map c.args.ids.now _) ∙ c.in-Ok.ensures.closes in
-    let below : All (λ i. i < length (types_in old)) ids = numbers_below (length (types_in old)) c.args.ids.now (subst (λ n. All (λ (id : CoreTypeId). id.index < n) c.args.ids.now) (length-standing old.is_canonical old.groups) c.requires.known) in
+    let below : All (λ i. i < length (types_in old)) ids = numbers_below (length (types_in old)) c.args.ids.now (subst (λ n. All (λ (id : CoreTypeId). id.index < n) c.args.ids.now) (length-def_types old.is_canonical old.groups) c.requires.known) in
     subst (λ (l : List (SubType _)). IsListable (length (types_in old)) l) (sym c.explicit.ensures.types)
     (closing_listable F ids w closing (length (types_in old)) c.in-Ok.canonical.items below c.in-Ok.ensures.value)
 
@@ -105,8 +105,8 @@ returns-in-Err-clause-added g c =
     let old = c.args.types.now in
     let ids = numbers c.args.ids.now in
     let w = rec_of c.args.group in
-    denies_adds F c.in-Err.error (closes F (length c.args.ids.now) w) (with_written F (standing old.is_canonical old.groups) ids w)
-    (λ h. none_open F (standing old.is_canonical old.groups) ids w (ap (λ n. closes F n w) (length-map c.args.ids.now _) ∙ h))
+    denies_adds F c.in-Err.error (closes F (length c.args.ids.now) w) (with_written F (def_types old.is_canonical old.groups) ids w)
+    (λ h. none_open F (def_types old.is_canonical old.groups) ids w (ap (λ n. closes F n w) (length-map c.args.ids.now _) ∙ h))
     c.in-Err.ensures.closes
 
 pub returns-in-Ok-keep_depths-clause-own_ids : goal.returns-in-Ok-keep_depths-clause-own_ids

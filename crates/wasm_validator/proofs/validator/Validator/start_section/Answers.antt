@@ -3,10 +3,10 @@ use Rattle.wasm_validator.specs.Ready.{AreIdsIn, AreValidIn}
 use Rattle.wasm_validator.proofs.Sections.{open-ids, open-valid, kept-ids, kept-valid}
 use Rattle.std.proofs.Common.{rules}
 use Rattle.wasm_readers_errors.specs.declared.features.WasmFeatures.{WasmFeatures}
-use Rattle.wasm_validator_types.specs.Shown.{types_of}
+use Rattle.wasm_validator_type_list.specs.DefTypes.{types_of_list}
 use Rattle.wasm_validator_types.specs.Spaces.{Spaces}
 use Rattle.wasm_validator_core.specs.declared.error.Error.{Error}
-use Rattle.wasm_validator_core.specs.Answers.{Types}
+use Rattle.wasm_validator_core.specs.Answers.{TypesSoFar}
 use Rattle.wasm_validator_core.specs.Told.{told_of_start}
 use Rattle.wasm_validator.specs.SectionsTold.{TellsStart}
 use Rattle.wasm_validator.proofs.ToldMoves.{all_told_within, checked_told}
@@ -29,8 +29,8 @@ invariant_of-self g c =
 pub returns-in-Ok-clause-told : goal.returns-in-Ok-clause-told
 returns-in-Ok-clause-told g c =
     let place = c.args.range.now.start in
-    let tells : WasmFeatures → Types → Spaces → Error g.row.A.Denot → Type 0 = λ (f : WasmFeatures) (us : Types) (m : Spaces) (e : Error g.row.A.Denot). TellsStart place c.args.function us m e in
+    let tells : WasmFeatures → TypesSoFar → Spaces → Error g.row.A.Denot → Type 0 = λ (f : WasmFeatures) (us : TypesSoFar) (m : Spaces) (e : Error g.row.A.Denot). TellsStart place c.args.function us m e in
     let module_read = c.in-Ok.state.«module» in
-    let told = told_of_start place (types_of c.self.inside.types) module_read c.args.function in
-    all_told_within c.self.inside.id c.self.inside.features (types_of c.self.inside.types) c.self.inside.state module_read tells place c.args.self.now c.checked.result c.kept.result c.in-Ok.ensures.ok c.self.view_is c.kept.ensures.same
+    let told = told_of_start place (types_of_list c.self.inside.types) module_read c.args.function in
+    all_told_within c.self.inside.id c.self.inside.features (types_of_list c.self.inside.types) c.self.inside.state module_read tells place c.args.self.now c.checked.result c.kept.result c.in-Ok.ensures.ok c.self.view_is c.kept.ensures.same
     (checked_told c.check_start-answer.result c.checked.result told place c.checked.ensures.same c.checked.ensures.refusal c.check_start-answer.ensures.told (search rules))

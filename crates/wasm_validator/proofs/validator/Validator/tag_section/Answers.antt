@@ -9,12 +9,12 @@ use Rattle.wasm_readers_errors.specs.declared.features.TheConstants.WasmFeatures
 use Rattle.wasm_validator_types.specs.Spaces.{Spaces}
 use Rattle.wasm_validator_core.specs.declared.error.Error.{Error}
 use Rattle.wasm_validator_core.specs.declared.error.Error.TheVariants.{Refused}
-use Rattle.wasm_validator_core.specs.Answers.{Types}
+use Rattle.wasm_validator_core.specs.Answers.{TypesSoFar}
 use Rattle.wasm_validator.specs.States.{order_at}
 use Rattle.wasm_validator.specs.SectionsTold.{OfContent, Either, TellsWithin, TellsTags}
 use Rattle.wasm_validator.proofs.ToldMoves.{told_within, order_within}
 use Rattle.wasm_readers.specs.SectionsSeen.{count_of, bytes_of}
-use Rattle.wasm_validator_types.specs.Shown.{types_of}
+use Rattle.wasm_validator_type_list.specs.DefTypes.{types_of_list}
 use Rattle.wasm_validator_core.specs.Answers.{HasValidTypes}
 use Rattle.wasm_validator_core.specs.Ready.{AreIdsOf}
 use Rattle.wasm_rules.specs.FeatureFlags.{features_of}
@@ -50,7 +50,7 @@ returns-in-Ok-clause-moves g c =
     let added = c.add_tags-added in
     let count = count_of c.args.section.now in
     let bytes = bytes_of c.args.section.now in
-    let types = types_of c.self.inside.types in
+    let types = types_of_list c.self.inside.types in
     let before = c.in-Ok.state.«module» in
     let new : Standing = record { id = id; features = features; stage = stage_of types c.kept.new.state } in
     let on : (features_of features).exceptions ≡ true = sym (c.contains.ensures tt) ∙ c.if-not-contains.false in
@@ -64,17 +64,17 @@ pub returns-in-Ok-clause-told : goal.returns-in-Ok-clause-told
 returns-in-Ok-clause-told g c =
     let start = section_start c.args.section.now in
     let old = c.args.self.now in
-    let tells : WasmFeatures → Types → Spaces → Error g.row.A.Denot → Type 0 = λ (f : WasmFeatures) (us : Types) (m : Spaces) (e : Error g.row.A.Denot). TellsTags f c.args.section.now us m e in
+    let tells : WasmFeatures → TypesSoFar → Spaces → Error g.row.A.Denot → Type 0 = λ (f : WasmFeatures) (us : TypesSoFar) (m : Spaces) (e : Error g.row.A.Denot). TellsTags f c.args.section.now us m e in
     let on : (features_of old.features).exceptions ≡ true = ap (λ (s : Standing). (features_of s.features).exceptions) (sym c.self.view_is) ∙ (sym (c.contains.ensures tt) ∙ c.if-not-contains.false) in
     subst (λ (b : Bool). IfErr c.kept.result (OfContent (λ (e : Error g.row.A.Denot). Either b (TellsWithin (tells old.features) start old.stage e) (e ≡ Refused (lacking EXCEPTIONS (fault.Rule Exceptions) start))))) (sym on)
-    (told_within c.self.inside.id c.self.inside.features (types_of c.self.inside.types) c.self.inside.state c.in-Ok.state.«module» tells start old c.add_tags-added.result c.kept.result c.in-Ok.ensures.ok c.self.view_is c.kept.ensures.same c.add_tags-added.ensures.told)
+    (told_within c.self.inside.id c.self.inside.features (types_of_list c.self.inside.types) c.self.inside.state c.in-Ok.state.«module» tells start old c.add_tags-added.result c.kept.result c.in-Ok.ensures.ok c.self.view_is c.kept.ensures.same c.add_tags-added.ensures.told)
 
 pub returns-in-Err-clause-told : goal.returns-in-Err-clause-told
 returns-in-Err-clause-told g c =
     let start = section_start c.args.section.now in
     let old = c.args.self.now in
-    let tells : WasmFeatures → Types → Spaces → Error g.row.A.Denot → Type 0 = λ (f : WasmFeatures) (us : Types) (m : Spaces) (e : Error g.row.A.Denot). TellsTags f c.args.section.now us m e in
+    let tells : WasmFeatures → TypesSoFar → Spaces → Error g.row.A.Denot → Type 0 = λ (f : WasmFeatures) (us : TypesSoFar) (m : Spaces) (e : Error g.row.A.Denot). TellsTags f c.args.section.now us m e in
     let refused : Error g.row.A.Denot = Refused c.in-Err.refusal in
     let on : (features_of old.features).exceptions ≡ true = ap (λ (s : Standing). (features_of s.features).exceptions) (sym c.self.view_is) ∙ (sym (c.contains.ensures tt) ∙ c.if-not-contains.false) in
     subst (λ (b : Bool). Either b (TellsWithin (tells old.features) start old.stage refused) (refused ≡ Refused (lacking EXCEPTIONS (fault.Rule Exceptions) start))) (sym on)
-    (order_within c.self.inside.id c.self.inside.features (types_of c.self.inside.types) c.self.inside.state tells start old c.in-Err.refusal c.in-Err.ensures.none c.self.view_is (c.in-Err.ensures.refusal ∙ ap (λ place. plain (fault.OutOfOrder (order_at c.self.inside.state)) place) c.range-offset.ensures.start))
+    (order_within c.self.inside.id c.self.inside.features (types_of_list c.self.inside.types) c.self.inside.state tells start old c.in-Err.refusal c.in-Err.ensures.none c.self.view_is (c.in-Err.ensures.refusal ∙ ap (λ place. plain (fault.OutOfOrder (order_at c.self.inside.state)) place) c.range-offset.ensures.start))

@@ -1,6 +1,6 @@
 use Rattle.std.proofs.Common.{ap, ◌∙◌, sym, subst}
 use Rattle.wasm_readers.specs.SectionsSeen.{count_of, bytes_of}
-use Rattle.wasm_validator_types.specs.Shown.{types_of}
+use Rattle.wasm_validator_type_list.specs.DefTypes.{types_of_list}
 use Rattle.wasm_validator.specs.Machine.{section_items}
 use Rattle.wasm_validator.specs.Standing.{Standing, Moves}
 use Rattle.wasm_validator.specs.States.{stage_of, after_section}
@@ -10,7 +10,7 @@ use Rattle.wasm_readers.specs.SectionsSeen.{section_start, section_end}
 use Rattle.wasm_readers_errors.specs.declared.features.WasmFeatures.{WasmFeatures}
 use Rattle.wasm_validator_types.specs.Spaces.{Spaces}
 use Rattle.wasm_validator_core.specs.declared.error.Error.{Error}
-use Rattle.wasm_validator_core.specs.Answers.{Types}
+use Rattle.wasm_validator_core.specs.Answers.{TypesSoFar}
 use Rattle.wasm_readers_errors.specs.Refusals.{plain}
 use Rattle.wasm_readers_errors.specs.declared.error.Fault.TheVariants as fault
 use Rattle.wasm_validator.specs.States.{order_at}
@@ -31,18 +31,18 @@ returns-in-Ok-clause-moves g c =
     let added = c.add_types-added in
     let count = count_of c.args.section.now in
     let bytes = bytes_of c.args.section.now in
-    let types = types_of added.new.list in
+    let types = types_of_list added.new.list in
     let new : Standing = record { id = id; features = features; stage = stage_of types c.kept.new.state } in
     subst (λ r. Moves r (after_section c.args.self.now 1 count bytes) c.args.self.now new) (sym c.kept.ensures.same)
-    (section_moves id features (types_of c.self.inside.types) c.in-Ok.state.«module» (λ g. section_items g 1 count bytes) c.self.inside.state added.result types (record { «module» = added.new.opened }) c.args.self.now new
+    (section_moves id features (types_of_list c.self.inside.types) c.in-Ok.state.«module» (λ g. section_items g 1 count bytes) c.self.inside.state added.result types (record { «module» = added.new.opened }) c.args.self.now new
     c.in-Ok.ensures.ok c.self.view_is (λ i. record { id = id; features = features; stage = stage_of types (sym c.kept.ensures.kept i) }) added.ensures.added)
 
 pub returns-in-Ok-clause-told : goal.returns-in-Ok-clause-told
 returns-in-Ok-clause-told g c =
-    let tells : WasmFeatures → Types → Spaces → Error g.row.A.Denot → Type 0 = λ (f : WasmFeatures) (us : Types) (m : Spaces) (e : Error g.row.A.Denot). TellsTypes f c.args.section.now us m e in
-    told_within c.self.inside.id c.self.inside.features (types_of c.self.inside.types) c.self.inside.state c.in-Ok.state.«module» tells (section_start c.args.section.now) c.args.self.now c.add_types-added.result c.kept.result c.in-Ok.ensures.ok c.self.view_is c.kept.ensures.same c.add_types-added.ensures.told
+    let tells : WasmFeatures → TypesSoFar → Spaces → Error g.row.A.Denot → Type 0 = λ (f : WasmFeatures) (us : TypesSoFar) (m : Spaces) (e : Error g.row.A.Denot). TellsTypes f c.args.section.now us m e in
+    told_within c.self.inside.id c.self.inside.features (types_of_list c.self.inside.types) c.self.inside.state c.in-Ok.state.«module» tells (section_start c.args.section.now) c.args.self.now c.add_types-added.result c.kept.result c.in-Ok.ensures.ok c.self.view_is c.kept.ensures.same c.add_types-added.ensures.told
 
 pub returns-in-Err-clause-told : goal.returns-in-Err-clause-told
 returns-in-Err-clause-told g c =
-    let tells : WasmFeatures → Types → Spaces → Error g.row.A.Denot → Type 0 = λ (f : WasmFeatures) (us : Types) (m : Spaces) (e : Error g.row.A.Denot). TellsTypes f c.args.section.now us m e in
-    order_within c.self.inside.id c.self.inside.features (types_of c.self.inside.types) c.self.inside.state tells (section_start c.args.section.now) c.args.self.now c.in-Err.refusal c.in-Err.ensures.none c.self.view_is (c.in-Err.ensures.refusal ∙ ap (λ place. plain (fault.OutOfOrder (order_at c.self.inside.state)) place) c.range.ensures.start)
+    let tells : WasmFeatures → TypesSoFar → Spaces → Error g.row.A.Denot → Type 0 = λ (f : WasmFeatures) (us : TypesSoFar) (m : Spaces) (e : Error g.row.A.Denot). TellsTypes f c.args.section.now us m e in
+    order_within c.self.inside.id c.self.inside.features (types_of_list c.self.inside.types) c.self.inside.state tells (section_start c.args.section.now) c.args.self.now c.in-Err.refusal c.in-Err.ensures.none c.self.view_is (c.in-Err.ensures.refusal ∙ ap (λ place. plain (fault.OutOfOrder (order_at c.self.inside.state)) place) c.range.ensures.start)

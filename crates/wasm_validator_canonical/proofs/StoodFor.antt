@@ -16,7 +16,7 @@ use Rattle.wasm_spec.proofs.Closing.{slice_get-append_left}
 use Rattle.wasm_rules.proofs.Tests.{guarded}
 use Rattle.wasm_grouped_list.specs.Elements.{numbers_from}
 use Rattle.wasm_grouped_list.proofs.Places.{get-map}
-use Rattle.wasm_validator_type_list.proofs.Standing.{get-positions}
+use Rattle.wasm_validator_type_list.proofs.DefTypes.{get-positions}
 use Rattle.wasm_validator_canonical.specs.Groups.{nowhere, types_at, placed, held, AreValid}
 use Rattle.wasm_validator_canonical.specs.Sections.{StandsFor}
 use Rattle.wasm_validator_canonical.proofs.Found.{StandAt}

@@ -8,6 +8,7 @@ use Rattle.wasm_readers_types.specs.declared.indices.UnpackedIndex.{UnpackedInde
 use Rattle.wasm_readers_types.specs.declared.indices.UnpackedIndex.TheVariants.{Module, RecGroup, Id}
 use Rattle.wasm_readers_types.specs.declared.types.SubType.{SubType}
 use Rattle.wasm_readers_types.specs.SeenTypes.{sub_of}
+use Rattle.wasm_validator_type_list.specs.Listing.{Listing}
 
 -- a reference in a group of a list; a module's index isn't in lists
 abbrev pub listed_ref : UnpackedIndex → ListedUse
@@ -23,12 +24,16 @@ module _ {A : Type 0} where
   listed_group g = map listed_sub g
 
   -- what the ids stand for, in their order, where equal types are one or each has its place
-  abbrev pub standing : Bool → List (List (SubType A)) → List DefType
-  standing is_canonical gs = types_of is_canonical (map listed_group gs)
+  abbrev pub def_types : Bool → List (List (SubType A)) → List DefType
+  def_types is_canonical gs = types_of is_canonical (map listed_group gs)
+
+  -- the same of all groups of a list
+  abbrev pub types_of_list : Listing A → List DefType
+  types_of_list l = def_types l.is_canonical l.groups
 
   -- the recursive type that a group behind these is
   abbrev pub tree_behind : Bool → List (List (SubType A)) → List (SubType A) → RecTree
-  tree_behind is_canonical gs g = listed_tree is_canonical (standing is_canonical gs) (listed_group g)
+  tree_behind is_canonical gs g = listed_tree is_canonical (def_types is_canonical gs) (listed_group g)
 
   -- one of the groups is this recursive type
   pub record IsTreeOfOne (is_canonical : Bool) (gs : List (List (SubType A))) (t : RecTree) : Type 0 where

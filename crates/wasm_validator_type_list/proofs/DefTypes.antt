@@ -16,7 +16,7 @@ use Rattle.wasm_spec.proofs.Listed.{appended_listed_group}
 use Rattle.wasm_readers_types.specs.declared.types.SubType.{SubType}
 use Rattle.wasm_grouped_list.specs.Groups.{all_in, first_of}
 use Rattle.wasm_validator_type_list.specs.Listable.{IsListable, AreListable}
-use Rattle.wasm_validator_type_list.specs.Standing.{listed_sub, listed_group, standing, tree_behind}
+use Rattle.wasm_validator_type_list.specs.DefTypes.{listed_sub, listed_group, def_types, tree_behind}
 use Rattle.wasm_grouped_list.proofs.Places.{get-left, get-append, first_of-suc}
 use Rattle.wasm_validator_type_list.proofs.Listed.{mentions_known}
 
@@ -68,8 +68,8 @@ goes_on c (g ∷ gs) ts =
     (here ++ h.0, h.1 ∙ append_assoc ts here h.0)
 
 module _ {A : Type 0} where
-  pub standing-push : (c : Bool) (gs : List (List (SubType A))) (g : List (SubType A)) → standing c (gs ++ g ∷ []) ≡ standing c gs ++ positions (tree_behind c gs g) 0 (listed_group g)
-  standing-push c gs g = ap (types_of c) (map_push listed_group gs g) ∙ appended_listed_group c (map listed_group gs) (listed_group g)
+  pub def_types-push : (c : Bool) (gs : List (List (SubType A))) (g : List (SubType A)) → def_types c (gs ++ g ∷ []) ≡ def_types c gs ++ positions (tree_behind c gs g) 0 (listed_group g)
+  def_types-push c gs g = ap (types_of c) (map_push listed_group gs g) ∙ appended_listed_group c (map listed_group gs) (listed_group g)
 
   length-with_all : (c : Bool) (gs : List (List (SubType A))) (ts : List DefType) → length (with_all_listed c ts (map listed_group gs)) ≡ length ts + length (all_in gs)
   length-with_all c [] ts = omega arith
@@ -77,20 +77,20 @@ module _ {A : Type 0} where
       let here = positions (listed_tree c ts (listed_group g)) 0 (listed_group g) in
       omega (arith, length-with_all c gs (ts ++ here), length-append ts here, length-positions (listed_tree c ts (listed_group g)) 0 (listed_group g), length-map g listed_sub, length-append g (all_in gs))
 
-  pub length-standing : (c : Bool) (gs : List (List (SubType A))) → length (standing c gs) ≡ length (all_in gs)
-  length-standing c gs = omega (arith, length-with_all c gs [])
+  pub length-def_types : (c : Bool) (gs : List (List (SubType A))) → length (def_types c gs) ≡ length (all_in gs)
+  length-def_types c gs = omega (arith, length-with_all c gs [])
 
   -- the types of the first groups stand in front
-  pub front : (c : Bool) (gs hs : List (List (SubType A))) → (more : List DefType) × (standing c (gs ++ hs) ≡ standing c gs ++ more)
+  pub front : (c : Bool) (gs hs : List (List (SubType A))) → (more : List DefType) × (def_types c (gs ++ hs) ≡ def_types c gs ++ more)
   front c gs hs =
-      let h = goes_on c (map listed_group hs) (standing c gs) in
+      let h = goes_on c (map listed_group hs) (def_types c gs) in
       (h.0, ap (types_of c) (map-append listed_group gs hs) ∙ with_all-append c (map listed_group gs) (map listed_group hs) [] ∙ h.1)
 
   -- a group is the same recursive type behind more groups
   pub tree_behind-more : (gs hs : List (List (SubType A))) (n : ℕ) (g : List (SubType A)) → n ≤ length (all_in gs) → IsListable n g → tree_behind true gs g ≡ tree_behind true (gs ++ hs) g
   tree_behind-more gs hs n g l h =
       let f = front true gs hs in
-      tree-more (standing true gs) f.0 (listed_group g) (mentions_known (standing true gs) n g (omega (arith, l, length-standing true gs)) h) ∙ ap (λ ts. listed_tree true ts (listed_group g)) (sym f.1)
+      tree-more (def_types true gs) f.0 (listed_group g) (mentions_known (def_types true gs) n g (omega (arith, l, length-def_types true gs)) h) ∙ ap (λ ts. listed_tree true ts (listed_group g)) (sym f.1)
 
   pub first_of-within : (gs : List (List (SubType A))) (k : ℕ) → first_of gs k ≤ length (all_in gs)
   first_of-within gs k =
@@ -135,5 +135,5 @@ module _ {A : Type 0} where
       (λ o. g (record { place = suc o.place; members = o.members; there = o.there; tree = o.tree }))
 
   -- each type that an id stands for is one of a group's
-  pub of_one : (gs : List (List (SubType A))) → AreListable gs → (k : ℕ) (d : DefType) → slice_get (standing true gs) k ≡ Some d → IsOfOne (standing true gs) gs d.tree
+  pub of_one : (gs : List (List (SubType A))) → AreListable gs → (k : ℕ) (d : DefType) → slice_get (def_types true gs) k ≡ Some d → IsOfOne (def_types true gs) gs d.tree
   of_one gs h k d e = each_of_one gs 0 [] refl (λ j g f. let m : first_of gs j ≡ 0 + first_of gs j = omega arith in subst (λ m. IsListable m g) m (h j g f)) k d e (λ f. absurd (none-some d f)) (λ o. o)
