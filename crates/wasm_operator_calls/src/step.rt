@@ -1,0 +1,49 @@
+//! Any call.
+
+ghost use Rattle.wasm_operator_steps.specs.Shapes.{call_shape};
+ghost use Rattle.wasm_operator_stacks.specs.Seen.{Kept};
+ghost use Rattle.wasm_operator_checks.specs.Steps.{Performs};
+
+use crate::calls::{call, call_indirect, call_ref};
+use crate::tails::{return_call, return_call_indirect, return_call_ref};
+use std::alloc::Allocator;
+use wasm_flat_operators::CallOperator;
+use wasm_module_resources::WasmModuleResources;
+use wasm_operator_checks::OperatorError;
+use wasm_operator_stacks::Stacks;
+
+/// A call or a tail call (Core Specification 3.0, Validation, Control Instructions).
+///
+/// # Errors
+///
+/// Refuses a call that isn't valid here, with the rule that it breaks, and where memory for operands
+/// is refused. All stays then.
+pub fn step_call<A: Allocator, T: WasmModuleResources>(
+    stacks: &mut Stacks<A>,
+    resources: &T,
+    op: CallOperator,
+) -> Result<(), OperatorError>
+    ensures took { Performs result (T.context resources.now) (call_shape op) stacks.old stacks.new }
+    ensures same { Kept stacks.old stacks.new }
+{
+    match op {
+        CallOperator::Call { function_index } => call(stacks, resources, function_index),
+        CallOperator::CallIndirect {
+            type_index,
+            table_index,
+        } => call_indirect(stacks, resources, type_index, table_index),
+        CallOperator::ReturnCall { function_index } => return_call(
+            stacks,
+            resources,
+            function_index,
+        ),
+        CallOperator::ReturnCallIndirect {
+            type_index,
+            table_index,
+        } => return_call_indirect(stacks, resources, type_index, table_index),
+        CallOperator::CallRef { type_index } => call_ref(stacks, resources, type_index),
+        CallOperator::ReturnCallRef { type_index } => return_call_ref(
+            stacks, resources, type_index,
+        ),
+    }
+}
