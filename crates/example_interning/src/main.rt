@@ -1,0 +1,27 @@
+//! A component validator keeps its own types beside those of its modules: equal types have one id.
+#![tactic(auto)]
+
+use std::alloc::Allocator;
+use std::io;
+use wasm_validator::{CoreTypeId, Error, FuncType, TypeList, ValType};
+
+/// The ids of `[] -> []`, of `[i32] -> []`, and of `[] -> []` once more, in one list.
+fn intern_three<A: Allocator + Copy>(alloc: A) -> Result<[CoreTypeId; 3], Error<A>> {
+    let mut types = TypeList::new(alloc, true);
+    let first = types.intern_func_type(FuncType::new(Vec::new(alloc), Vec::new(alloc)), 0)?;
+    let mut params = Vec::new(alloc);
+    params.push(ValType::I32)?;
+    let second = types.intern_func_type(FuncType::new(params, Vec::new(alloc)), 0)?;
+    let third = types.intern_func_type(FuncType::new(Vec::new(alloc), Vec::new(alloc)), 0)?;
+    Ok([first, second, third])
+}
+
+fn main(rt: HostRuntime) -> io::Result<()> {
+    match intern_three(rt.alloc()) {
+        Ok(ids) => {
+            let [first, second, third] = ids;
+            println!(rt; "{} {} {}", first.index(), second.index(), third.index())
+        }
+        Err(error) => println!(rt; "refused at {}: {error}", error.offset()),
+    }
+}
