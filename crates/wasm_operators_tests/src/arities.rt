@@ -193,9 +193,6 @@ fn wrong_line<'a>(
     let body = body_with(alloc, block)?;
     for line in table.lines() {
         let (bytes, wanted) = parts(alloc, line)?;
-        if bytes.len() >= 100 {
-            return Err("bytes of one operator")?;
-        }
         let op = first(bytes.as_slice()).ok_or("an operator")?;
         let given = format!(in alloc; "{:?}", operator_arity(&op, &body))?;
         if given.as_str() != wanted {
@@ -208,28 +205,28 @@ fn wrong_line<'a>(
 #[test]
 fn every_arity(rt: HostRuntime) -> Result<(), Fail> {
     let alloc = rt.alloc();
-    assert_eq!(rt; wrong_line(alloc, None, BODY)?, None);
     let function = BlockType::FuncType(0);
-    let within = Some((function, FrameKind::Loop));
-    assert_eq!(rt; wrong_line(alloc, within, LOOP)?, None);
-    let within = Some((function, FrameKind::If));
-    assert_eq!(rt; wrong_line(alloc, within, "05|Some((1, 2))")?, None);
-    let within = Some((BlockType::Empty, FrameKind::Block));
-    let table = "d500|Some((1, 1))\nd600|None";
-    assert_eq!(rt; wrong_line(alloc, within, table)?, None);
+    let empty = Some((BlockType::Empty, FrameKind::Block));
+    for (block, table) in [
+        (None, BODY),
+        (Some((function, FrameKind::Loop)), LOOP),
+        (Some((function, FrameKind::If)), "05|Some((1, 2))"),
+        (empty, "d500|Some((1, 1))\nd600|None"),
+    ] {
+        let wrong = wrong_line(alloc, block, table)?;
+        assert!(rt; wrong.is_none(), "{wrong:?}");
+    }
     Ok(())
 }
 
-/// Whether an `else` may stand where these frames are open.
-fn may_turn<F: FrameStack>(frames: &F) -> bool {
-    frames.current_frame() == Some(FrameKind::If)
+/// Whether an `else` may stand where this block is open in the body.
+fn may_turn(alloc: Global, block: Option<(BlockType, FrameKind)>) -> Result<bool, Fail> {
+    Ok(body_with(alloc, block)?.current_frame() == Some(FrameKind::If))
 }
 
 #[test]
 fn the_innermost_frame(rt: HostRuntime) -> Result<(), Fail> {
-    let body = body_with(rt.alloc(), None)?;
-    assert!(rt; !may_turn(&body));
-    let within = body_with(rt.alloc(), Some((BlockType::Empty, FrameKind::If)))?;
-    assert!(rt; may_turn(&within));
+    assert!(rt; !may_turn(rt.alloc(), None)?);
+    assert!(rt; may_turn(rt.alloc(), Some((BlockType::Empty, FrameKind::If)))?);
     Ok(())
 }

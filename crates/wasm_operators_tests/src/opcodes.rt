@@ -14,11 +14,17 @@ fn length_of(opcode: u8) -> Option<u64> {
     }
 }
 
+/// How many bytes the operator takes that begins with these three before zeros, if it is one.
+fn taken_of(first: u8, second: u8, third: u8) -> Option<u64> {
+    taken(&[
+        first, second, third, 0, 0, 0, 0, 0, 0, 0, 0, 0, 0, 0, 0, 0, 0, 0,
+    ])
+}
+
 #[test]
 fn every_opcode(rt: HostRuntime) {
     for opcode in 0u8..=255 {
-        let bytes = [opcode, 0, 0, 0, 0, 0, 0, 0, 0, 0];
-        assert_eq!(rt; taken(&bytes), length_of(opcode));
+        assert!(rt; taken_of(opcode, 0, 0) == length_of(opcode), "{opcode}");
     }
 }
 
@@ -43,19 +49,35 @@ fn bulk_length_of(code: u8) -> Option<u64> {
     }
 }
 
+/// The same behind the prefix `0xfd`.
+fn vector_length_of(code: u8) -> Option<u64> {
+    if code == 12 { Some(18) } else { None }
+}
+
+/// The same behind the prefix `0xfe`.
+fn shared_length_of(code: u8) -> Option<u64> {
+    if code == 0x72 { Some(2) } else { None }
+}
+
 #[test]
 fn every_prefixed_opcode(rt: HostRuntime) {
     for code in 0u8..128 {
-        assert_eq!(rt;
-            taken(&[0xfb, code, 0, 0, 0, 0, 0]),
-            aggregate_length_of(code)
+        assert!(rt;
+            taken_of(0xfb, code, 0) == aggregate_length_of(code),
+            "{code}"
         );
-        assert_eq!(rt; taken(&[0xfc, code, 0, 0, 0, 0, 0]), bulk_length_of(code));
-        let vector = [0xfd, code, 0, 0, 0, 0, 0, 0, 0, 0, 0, 0, 0, 0, 0, 0, 0, 0];
-        assert_eq!(rt; taken(&vector), if code == 12 { Some(18) } else { None });
-        let shared = [0xfe, code, 0, 0, 0];
-        assert_eq!(rt; taken(&shared), if code == 0x72 { Some(2) } else { None });
+        assert!(rt; taken_of(0xfc, code, 0) == bulk_length_of(code), "{code}");
+        assert!(rt; taken_of(0xfd, code, 0) == vector_length_of(code), "{code}");
+        assert!(rt; taken_of(0xfe, code, 0) == shared_length_of(code), "{code}");
     }
+}
+
+/// Whether an operator stands behind one of the prefixes and these two bytes.
+fn is_operator(low: u8, high: u8) -> bool {
+    taken_of(0xfb, low, high).is_some()
+        || taken_of(0xfc, low, high).is_some()
+        || taken_of(0xfd, low, high).is_some()
+        || taken_of(0xfe, low, high).is_some()
 }
 
 /// No prefix has an operator whose number needs two bytes.
@@ -64,9 +86,6 @@ fn no_greater_opcode(rt: HostRuntime) {
     for code in 128u16..16_384 {
         let low = (code % 128) as u8 + 128;
         let high = (code / 128) as u8;
-        assert_eq!(rt; taken(&[0xfb, low, high, 0, 0, 0, 0, 0]), None);
-        assert_eq!(rt; taken(&[0xfc, low, high, 0, 0, 0, 0, 0]), None);
-        assert_eq!(rt; taken(&[0xfd, low, high, 0, 0, 0, 0, 0]), None);
-        assert_eq!(rt; taken(&[0xfe, low, high, 0, 0, 0, 0, 0]), None);
+        assert!(rt; !is_operator(low, high), "{code}");
     }
 }
