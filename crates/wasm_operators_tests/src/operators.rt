@@ -1,45 +1,41 @@
 use crate::numbers::{is_whole, parts};
 use crate::table::{EXPRESSIONS, LISTS};
 use crate::{first, reader};
-use std::alloc::{AllocError, Global};
-use std::fmt::{Debug, Write};
+use std::alloc::Global;
 use std::test::Fail;
 use wasm_operators::{
     ControlOperator, Operator, ParametricOperator, read_expression, read_operator,
 };
 use wasm_readers_errors::{Fault, Malformed};
 
-/// Adds each item, behind a space.
-fn push_items<I: Iterator<Item: Debug + Drop>>(
-    text: &mut String,
-    items: I,
-) -> Result<(), AllocError> {
-    for item in items {
-        write!(text, " {item:?}")?;
-    }
-    Ok(())
-}
-
-/// What an operator with a list holds: its other part, and the items.
+/// What an operator with a list holds: its other part, and its first items.
 fn listed(alloc: Global, bytes: &[u8]) -> Result<String, Fail> {
-    let mut text = String::new(alloc);
-    match first(bytes) {
+    let text = match first(bytes) {
         Some(Operator::Control(ControlOperator::BrTable { targets })) => {
             let default = targets.default;
-            write!(text, "{default}:")?;
-            push_items(&mut text, targets.targets.items())?;
+            let mut items = targets.targets.items();
+            let items = [items.next(), items.next(), items.next()];
+            format!(in alloc; "{default}: {items:?}")?
         }
         Some(Operator::Control(ControlOperator::TryTable { try_table })) => {
             let ty = try_table.ty;
-            write!(text, "{ty:?}:")?;
-            push_items(&mut text, try_table.catches.items())?;
+            let mut items = try_table.catches.items();
+            let items = [
+                items.next(),
+                items.next(),
+                items.next(),
+                items.next(),
+                items.next(),
+            ];
+            format!(in alloc; "{ty:?}: {items:?}")?
         }
         Some(Operator::Parametric(ParametricOperator::TypedSelect { tys })) => {
-            text.push_str(":")?;
-            push_items(&mut text, tys.items())?;
+            let mut items = tys.items();
+            let items = [items.next(), items.next(), items.next()];
+            format!(in alloc; "{items:?}")?
         }
-        _ => text.push_str("no list")?,
-    }
+        _ => String::from_str(alloc, "no list")?,
+    };
     Ok(text)
 }
 

@@ -333,13 +333,13 @@ fb18ff006e6d|refused
 1f40010401|refused
 1c027e40|refused";
 
-/// Operators with lists, what they hold beside the list, and its items.
+/// Operators with lists, what they hold beside the list, and the first items, three or five.
 pub(crate) const LISTS: &str = "\
-0e0280010709|9: 128 7
-0e0007|7:
-1f7f0400050601020302040307|Value(I32): One { tag: 5, label: 6 } OneRef { tag: 2, label: 3 } All { label: 4 } AllRef { label: 7 }
-1f400400010201030402050306|Empty: One { tag: 1, label: 2 } OneRef { tag: 3, label: 4 } All { label: 5 } AllRef { label: 6 }
-1c027e70|: I64 Ref(RefType { nullable: true, heap: Abstract { shared: false, ty: Func } })";
+0e0280010709|9: [Some(128), Some(7), None]
+0e0007|7: [None, None, None]
+1f7f0400050601020302040307|Value(I32): [Some(One { tag: 5, label: 6 }), Some(OneRef { tag: 2, label: 3 }), Some(All { label: 4 }), Some(AllRef { label: 7 }), None]
+1f400400010201030402050306|Empty: [Some(One { tag: 1, label: 2 }), Some(OneRef { tag: 3, label: 4 }), Some(All { label: 5 }), Some(AllRef { label: 6 }), None]
+1c027e70|[Some(I64), Some(Ref(RefType { nullable: true, heap: Abstract { shared: false, ty: Func } })), None]";
 
 /// Bytes, and how many of them the expression takes that they begin with, if it is one.
 pub(crate) const EXPRESSIONS: &str = "\

@@ -47,18 +47,56 @@ impl<'a> Row<'a> {
     }
 }
 
-/// An answer that isn't the wanted one.
+/// An answer that isn't right: not the wanted one, or the one that must not be given.
 #[derive(Drop)]
 pub struct Difference<'a> {
     pub wanted: &'a str,
     pub given: String,
 }
 
-/// Gives the modules of a row to one validator, up to the first whose answer isn't the wanted one.
-pub fn first_difference<'a>(
-    alloc: Global,
-    row: Row<'a>,
-) -> Result<Option<Difference<'a>>, Trouble> {
+/// What stands before a line that must not be a row.
+const NO_ROW: &str = "no row | ";
+
+/// What stands before an answer that must not be given.
+const NOT: &str = "not ";
+
+/// The first answer of the row that this line is, where one isn't right. Of a line that must not be a row:
+/// why it is none, where that isn't the wanted reason.
+pub fn judge<'a>(alloc: Global, line: &'a str) -> Result<Option<Difference<'a>>, Trouble> {
+    match line.strip_prefix(NO_ROW) {
+        Some(rest) => judge_no_row(alloc, rest),
+        None => first_difference(alloc, Row::of(line)?),
+    }
+}
+
+/// The reason why this line, behind the wanted reason, is no row, where it isn't the wanted one.
+fn judge_no_row<'a>(alloc: Global, text: &'a str) -> Result<Option<Difference<'a>>, Trouble> {
+    let Some((wanted, line)) = text.split_once(" | ") else {
+        return Err(Trouble::Malformed("no row, and no reason why"));
+    };
+    let given = reason(alloc, line)?;
+    if given == wanted {
+        return Ok(None);
+    }
+    let given = String::from_str(alloc, given)?;
+    Ok(Some(Difference { wanted, given }))
+}
+
+/// Why this line is no row, or that it is one.
+fn reason(alloc: Global, line: &str) -> Result<&'static str, AllocError> {
+    let answer = match Row::of(line) {
+        Ok(row) => first_difference(alloc, row),
+        Err(trouble) => Err(trouble),
+    };
+    match answer {
+        Ok(_) => Ok("a row"),
+        Err(Trouble::OutOfMemory) => Err(AllocError),
+        Err(Trouble::Malformed(reason)) => Ok(reason),
+    }
+}
+
+/// Gives the modules of a row to one validator, up to the first whose answer isn't right.
+fn first_difference<'a>(alloc: Global, row: Row<'a>) -> Result<Option<Difference<'a>>, Trouble> {
     let features = parse_features(row.features.trim())?;
     let mut validator = Validator::new_with_features(alloc, features, ValidatorId::from_number(0));
     let mut bytes: Option<&'a str> = None;
@@ -66,10 +104,9 @@ pub fn first_difference<'a>(
         match bytes {
             None => bytes = Some(part.trim()),
             Some(module) => {
-                let wanted = part.trim();
-                let given = answer(alloc, &mut validator, module, wanted)?;
-                if given.as_str() != wanted {
-                    return Ok(Some(Difference { wanted, given }));
+                let difference = difference_among(alloc, &mut validator, module, part.trim())?;
+                if difference.is_some() {
+                    return Ok(difference);
                 }
                 bytes = None;
             }
@@ -78,6 +115,51 @@ pub fn first_difference<'a>(
     match bytes {
         None => Ok(None),
         Some(_) => Err(Trouble::Malformed("bytes without a wanted answer")),
+    }
+}
+
+/// Gives a module to the validator as often as it is to be, up to the first time that its answer isn't
+/// right.
+fn difference_among<'a>(
+    alloc: Global,
+    validator: &mut Validator,
+    module: &'a str,
+    wanted: &'a str,
+) -> Result<Option<Difference<'a>>, Trouble> {
+    let (times, bytes) = times_of(module)?;
+    for _ in 0..times {
+        let given = answer(alloc, validator, bytes, named(wanted))?;
+        if !is_right(wanted, given.as_str()) {
+            return Ok(Some(Difference { wanted, given }));
+        }
+    }
+    Ok(None)
+}
+
+/// How often a module is to be given, and its bytes: `N times BYTES`, or `BYTES` for once.
+fn times_of(module: &str) -> Result<(u32, &str), Trouble> {
+    let Some((number, bytes)) = module.split_once(" times ") else {
+        return Ok((1, module));
+    };
+    match number.parse::<u32>() {
+        Ok(times) => Ok((times, bytes)),
+        Err(_) => Err(Trouble::Malformed("a number of times that isn't one")),
+    }
+}
+
+/// The answer that the wanted part of a row names, wanted or not.
+fn named(wanted: &str) -> &str {
+    match wanted.strip_prefix(NOT) {
+        Some(unwanted) => unwanted,
+        None => wanted,
+    }
+}
+
+/// Whether an answer is right: it is the named one exactly where that is wanted.
+fn is_right(wanted: &str, given: &str) -> bool {
+    match wanted.strip_prefix(NOT) {
+        Some(unwanted) => given != unwanted,
+        None => given == wanted,
     }
 }
 

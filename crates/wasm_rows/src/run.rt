@@ -1,6 +1,6 @@
 ghost use Rattle.std.specs.Prelude.{◌≡◌, ◌<◌, ◌≤◌, ◌↔◌, true, false};
 
-use crate::row::{Difference, Row, Trouble, first_difference};
+use crate::row::{Difference, judge};
 use std::alloc::Global;
 use std::io::{self, Write};
 
@@ -170,11 +170,6 @@ fn run_line<W: Write, E: Write>(alloc: Global, line: &str, out: &mut W, err: &mu
     }
 }
 
-/// The first answer of this row that isn't the wanted one.
-fn judge<'a>(alloc: Global, line: &'a str) -> Result<Option<Difference<'a>>, Trouble> {
-    first_difference(alloc, Row::of(line)?)
-}
-
 fn print_difference<W: Write>(
     line: &str,
     difference: &Difference<'_>,
@@ -186,6 +181,3 @@ fn print_difference<W: Write>(
     writeln!(out, "  wanted {wanted}")?;
     writeln!(out, "  given  {given}")
 }
-
-#[cfg(test)]
-mod tests;
