@@ -1,0 +1,3 @@
+pub mod Defaulting
+pub mod Filling
+pub mod Structures

@@ -1,0 +1,17 @@
+use Rattle.std.proofs.Common.{sym, ◌∙◌, ap}
+use Rattle.std.specs.Option.{option_map}
+use Rattle.std.specs.Prelude.{Option, Some}
+use Rattle.wasm_readers_types.specs.SeenValues.{index_of}
+use Rattle.wasm_readers_types.specs.declared.indices.PackedIndex.{PackedIndex}
+use Rattle.wasm_operator_checks.proofs.Acting.{needed, plainly}
+use Rattle.wasm_operator_aggregates.proofs.Naming.{new_typed}
+use Rattle.wasm_operator_structs.proofs.Structures.{defaults_held, descriptor_typed}
+use Rattle.wasm_operator_structs.proofs.made.struct_new_default_desc.Goals as goal
+
+pub returns-clause-took : goal.returns-clause-took
+returns-clause-took g c =
+    needed _ _ _ _ _ _ _ c.in-Ok.ensures.on
+    (needed _ _ _ _ _ _ _ c.in-Ok.ensures.reached
+    (needed _ _ _ _ _ _ _ (defaults_held _ _ _ _ _ c.in-Ok.ensures.fields (sym c.have_defaults.ensures ∙ c.if-not-have_defaults.false))
+    (plainly _ _ _ _ _ _ _ _ _ c.plain.ensures.took (descriptor_typed _ _ _ _ _ (c.in-Ok.ensures.descriptor ∙ ap (λ (o : Option PackedIndex). Some (option_map index_of o)) c.in-Some.is) c.exact_or_null.ensures) (new_typed _ _ _ _ _ c.in-Ok.ensures.identity c.new_reference-given.ensures))))
+

@@ -1,0 +1,123 @@
+//! Fields that are read and written.
+
+ghost use Rattle.std.specs.Prelude.{◌≡◌};
+ghost use Rattle.wasm_flat_operators.specs.declared.structs.StructOperator.TheVariants.{StructGet, StructGetS, StructGetU, StructSet};
+ghost use Rattle.wasm_operator_steps.specs.Shapes.{getting, struct_shape};
+ghost use Rattle.wasm_operator_stacks.specs.Seen.{Kept};
+ghost use Rattle.wasm_operator_checks.specs.Steps.{Performs};
+
+use crate::reached::reach_member;
+use std::alloc::Allocator;
+use wasm_module_resources::WasmModuleResources;
+use wasm_operator_aggregates::{is_packed, nullable, same_flag, unpack};
+use wasm_operator_checks::{OperatorError, OperatorFault, OperatorRule, Takes, Types, plain};
+use wasm_operator_stacks::Stacks;
+use wasm_type_words::TypeWord;
+
+/// The rule that a field is packed, or that it isn't.
+fn packed_rule(packed: bool) -> OperatorRule {
+    if packed {
+        OperatorRule::FieldNotPacked
+    } else {
+        OperatorRule::FieldPacked
+    }
+}
+
+/// Reads a field that is packed, or one that isn't.
+#[tactic(auto, using(wasm_operator_checks::proofs::Acting::acts, crate::proofs::Structures::structures))]
+fn get<A: Allocator, T: WasmModuleResources>(
+    stacks: &mut Stacks<A>,
+    resources: &T,
+    packed: bool,
+    struct_type_index: u32,
+    field_index: u32,
+) -> Result<(), OperatorError>
+    ensures took { Performs result (T.context resources.now) (getting packed struct_type_index field_index) stacks.old stacks.new }
+    ensures same { Kept stacks.old stacks.new }
+{
+    let field = match reach_member(stacks, resources, struct_type_index, field_index) {
+        Ok(field) => field,
+        Err(fault) => return Err(OperatorError::Refused(fault)),
+    };
+    if !same_flag(packed, is_packed(field.ty.element_type)) {
+        return Err(OperatorError::Refused(OperatorFault::at(packed_rule(packed), field_index)));
+    }
+    plain(
+        stacks,
+        resources,
+        Takes::One(nullable(field.identity)),
+        Types::One(TypeWord::new(unpack(field.ty.element_type))),
+    )
+}
+
+/// `struct.get`.
+pub fn struct_get<A: Allocator, T: WasmModuleResources>(
+    stacks: &mut Stacks<A>,
+    resources: &T,
+    struct_type_index: u32,
+    field_index: u32,
+) -> Result<(), OperatorError>
+    ensures took { Performs result (T.context resources.now) (struct_shape (StructGet struct_type_index field_index)) stacks.old stacks.new }
+    ensures same { Kept stacks.old stacks.new }
+{
+    get(stacks, resources, false, struct_type_index, field_index)
+}
+
+/// `struct.get_s`.
+pub fn struct_get_s<A: Allocator, T: WasmModuleResources>(
+    stacks: &mut Stacks<A>,
+    resources: &T,
+    struct_type_index: u32,
+    field_index: u32,
+) -> Result<(), OperatorError>
+    ensures took { Performs result (T.context resources.now) (struct_shape (StructGetS struct_type_index field_index)) stacks.old stacks.new }
+    ensures same { Kept stacks.old stacks.new }
+{
+    get(stacks, resources, true, struct_type_index, field_index)
+}
+
+/// `struct.get_u`.
+pub fn struct_get_u<A: Allocator, T: WasmModuleResources>(
+    stacks: &mut Stacks<A>,
+    resources: &T,
+    struct_type_index: u32,
+    field_index: u32,
+) -> Result<(), OperatorError>
+    ensures took { Performs result (T.context resources.now) (struct_shape (StructGetU struct_type_index field_index)) stacks.old stacks.new }
+    ensures same { Kept stacks.old stacks.new }
+{
+    get(stacks, resources, true, struct_type_index, field_index)
+}
+
+/// `struct.set`.
+#[tactic(auto, using(wasm_operator_checks::proofs::Acting::acts, crate::proofs::Structures::structures))]
+pub fn struct_set<A: Allocator, T: WasmModuleResources>(
+    stacks: &mut Stacks<A>,
+    resources: &T,
+    struct_type_index: u32,
+    field_index: u32,
+) -> Result<(), OperatorError>
+    ensures took { Performs result (T.context resources.now) (struct_shape (StructSet struct_type_index field_index)) stacks.old stacks.new }
+    ensures same { Kept stacks.old stacks.new }
+{
+    let field = match reach_member(stacks, resources, struct_type_index, field_index) {
+        Ok(field) => field,
+        Err(fault) => return Err(OperatorError::Refused(fault)),
+    };
+    if field.ty.mutable {
+        plain(
+            stacks,
+            resources,
+            Takes::Two(
+                nullable(field.identity),
+                TypeWord::new(unpack(field.ty.element_type)),
+            ),
+            Types::None,
+        )
+    } else {
+        Err(OperatorError::Refused(OperatorFault::at(
+            OperatorRule::ImmutableField,
+            field_index,
+        )))
+    }
+}

@@ -1,0 +1,82 @@
+//! Operands for all fields of a structure.
+
+ghost use Rattle.std.specs.Prelude.{◌≡◌, ◌≤◌, ◌∷◌, [], length, map};
+ghost use Rattle.wasm_readers_types.specs.SeenValues.{field_of};
+ghost use Rattle.wasm_type_words.specs.Seen.{val_in};
+ghost use Rattle.wasm_operator_steps.specs.Machine.{pop_vals};
+ghost use Rattle.wasm_operator_steps.specs.Meanings.{all_have_defaults};
+ghost use Rattle.wasm_module_resources.specs.Answers.{world};
+ghost use Rattle.wasm_operator_stacks.specs.Seen.{state_of, below, Kept};
+ghost use Rattle.wasm_operator_checks.specs.Steps.{Checked, Took};
+ghost use Rattle.wasm_operator_checks.specs.SeenTypes.{exchanged};
+ghost use Rattle.wasm_operator_structs.specs.Fields.{unpacked_types};
+
+use std::alloc::Allocator;
+use wasm_module_resources::WasmModuleResources;
+use wasm_operator_aggregates::{has_default, unpack};
+use wasm_operator_checks::{OperatorError, OperatorFault, check_type};
+use wasm_operator_stacks::{Stacks, Word};
+use wasm_readers_types::FieldType;
+use wasm_type_words::TypeWord;
+
+/// Whether all fields have a default.
+#[tactic(auto, using(crate::proofs::Defaulting::defaults))]
+pub fn have_defaults(fields: &[FieldType]) -> bool
+    ensures { result ≡ all_have_defaults (map field_of fields.now) }
+{
+    'defaulting: for i in 0..fields.len() {
+        if !has_default(unpack(fields[i].element_type)) {
+            return false;
+        }
+    }
+    true
+}
+
+/// Whether operands of all fields, the last one on top, are below so many that are taken already,
+/// and how many are taken with them.
+#[tactic(auto, using(crate::proofs::Filling::fills))]
+fn check_fields<A: Allocator, T: WasmModuleResources>(
+    stacks: &Stacks<A>,
+    resources: &T,
+    taken: usize,
+    fields: &[FieldType],
+) -> Result<usize, OperatorFault>
+    requires { taken ≤ length (state_of stacks.now).operands }
+    ensures { Checked result (pop_vals (world (T.context resources.now)) (unpacked_types fields.now) (below taken (state_of stacks.now))) (state_of stacks.now) }
+{
+    let count = fields.len();
+    let mut taken = taken;
+    'filling: for i in 0..count {
+        taken = check_type(
+            stacks,
+            resources,
+            taken,
+            TypeWord::new(unpack(fields[count - 1 - i].element_type)),
+        )?;
+    }
+    Ok(taken)
+}
+
+/// Takes operands of all fields below so many that are taken already, and gives one in the place of
+/// all these. Where that can't be, all stays.
+#[tactic(auto, using(wasm_operator_checks::proofs::Taking::exchanges), unfolding(wasm_operator_checks::specs::Steps::Took))]
+pub fn exchange_fields<A: Allocator, T: WasmModuleResources>(
+    stacks: &mut Stacks<A>,
+    resources: &T,
+    taken: usize,
+    fields: &[FieldType],
+    given: TypeWord,
+) -> Result<(), OperatorError>
+    requires { taken ≤ length (state_of stacks.old).operands }
+    ensures took { Took result (exchanged (world (T.context resources.now)) (unpacked_types fields.now) (val_in given ∷ []) (below taken (state_of stacks.old))) (state_of stacks.old) (state_of stacks.new) }
+    ensures same { Kept stacks.old stacks.new }
+{
+    let taken = match check_fields(stacks, resources, taken, fields) {
+        Ok(taken) => taken,
+        Err(fault) => return Err(OperatorError::Refused(fault)),
+    };
+    match stacks.exchange(taken, Word::known(given)) {
+        Ok(()) => Ok(()),
+        Err(_) => Err(OperatorError::OutOfMemory),
+    }
+}

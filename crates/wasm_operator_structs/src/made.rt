@@ -1,0 +1,135 @@
+//! New structures.
+
+ghost use Rattle.std.specs.Prelude.{◌≡◌};
+ghost use Rattle.wasm_flat_operators.specs.declared.structs.StructOperator.TheVariants.{StructNew, StructNewDefault, StructNewDesc, StructNewDefaultDesc};
+ghost use Rattle.wasm_operator_steps.specs.Shapes.{struct_shape};
+ghost use Rattle.wasm_operator_stacks.specs.Seen.{Kept};
+ghost use Rattle.wasm_operator_checks.specs.Steps.{Performs};
+
+use crate::fields::{exchange_fields, have_defaults};
+use crate::reached::{Proposal, reach_structure};
+use std::alloc::Allocator;
+use wasm_module_resources::WasmModuleResources;
+use wasm_operator_aggregates::{exact_or_null, new_reference};
+use wasm_operator_checks::{
+    OperatorError, OperatorFault, OperatorRule, Takes, Types, check_type, plain,
+};
+use wasm_operator_stacks::Stacks;
+
+/// `struct.new`.
+#[tactic(auto, using(wasm_operator_checks::proofs::Acting::acts, crate::proofs::Structures::structures))]
+pub fn struct_new<A: Allocator, T: WasmModuleResources>(
+    stacks: &mut Stacks<A>,
+    resources: &T,
+    struct_type_index: u32,
+) -> Result<(), OperatorError>
+    ensures took { Performs result (T.context resources.now) (struct_shape (StructNew struct_type_index)) stacks.old stacks.new }
+    ensures same { Kept stacks.old stacks.new }
+{
+    let ty = match reach_structure(stacks, resources, Proposal::Gc, struct_type_index) {
+        Ok(ty) => ty,
+        Err(fault) => return Err(OperatorError::Refused(fault)),
+    };
+    if ty.descriptor.is_some() {
+        return Err(OperatorError::Refused(OperatorFault::at(
+            OperatorRule::CustomDescriptors,
+            struct_type_index,
+        )));
+    }
+    let given = new_reference(stacks, ty.identity);
+    exchange_fields(stacks, resources, 0, ty.fields, given)
+}
+
+/// `struct.new_default`.
+#[tactic(auto, using(wasm_operator_checks::proofs::Acting::acts, crate::proofs::Structures::structures))]
+pub fn struct_new_default<A: Allocator, T: WasmModuleResources>(
+    stacks: &mut Stacks<A>,
+    resources: &T,
+    struct_type_index: u32,
+) -> Result<(), OperatorError>
+    ensures took { Performs result (T.context resources.now) (struct_shape (StructNewDefault struct_type_index)) stacks.old stacks.new }
+    ensures same { Kept stacks.old stacks.new }
+{
+    let ty = match reach_structure(stacks, resources, Proposal::Gc, struct_type_index) {
+        Ok(ty) => ty,
+        Err(fault) => return Err(OperatorError::Refused(fault)),
+    };
+    if ty.descriptor.is_some() {
+        return Err(OperatorError::Refused(OperatorFault::at(
+            OperatorRule::CustomDescriptors,
+            struct_type_index,
+        )));
+    }
+    if !have_defaults(ty.fields) {
+        return Err(OperatorError::Refused(OperatorFault::at(
+            OperatorRule::NoDefault,
+            struct_type_index,
+        )));
+    }
+    let given = new_reference(stacks, ty.identity);
+    plain(stacks, resources, Takes::None, Types::One(given))
+}
+
+/// `struct.new_desc`.
+#[tactic(auto, using(wasm_operator_checks::proofs::Acting::acts, crate::proofs::Structures::structures))]
+pub fn struct_new_desc<A: Allocator, T: WasmModuleResources>(
+    stacks: &mut Stacks<A>,
+    resources: &T,
+    struct_type_index: u32,
+) -> Result<(), OperatorError>
+    ensures took { Performs result (T.context resources.now) (struct_shape (StructNewDesc struct_type_index)) stacks.old stacks.new }
+    ensures same { Kept stacks.old stacks.new }
+{
+    let described = match reach_structure(stacks, resources, Proposal::CustomDescriptors, struct_type_index) {
+        Ok(described) => described,
+        Err(fault) => return Err(OperatorError::Refused(fault)),
+    };
+    let descriptor = match described.descriptor {
+        Some(descriptor) => descriptor,
+        None => return Err(OperatorError::Refused(OperatorFault::at(
+            OperatorRule::CustomDescriptors,
+            struct_type_index,
+        ))),
+    };
+    let given = new_reference(stacks, described.identity);
+    match check_type(stacks, resources, 0, exact_or_null(descriptor)) {
+        Ok(taken) => exchange_fields(stacks, resources, taken, described.fields, given),
+        Err(fault) => Err(OperatorError::Refused(fault)),
+    }
+}
+
+/// `struct.new_default_desc`.
+#[tactic(auto, using(wasm_operator_checks::proofs::Acting::acts, crate::proofs::Structures::structures))]
+pub fn struct_new_default_desc<A: Allocator, T: WasmModuleResources>(
+    stacks: &mut Stacks<A>,
+    resources: &T,
+    struct_type_index: u32,
+) -> Result<(), OperatorError>
+    ensures took { Performs result (T.context resources.now) (struct_shape (StructNewDefaultDesc struct_type_index)) stacks.old stacks.new }
+    ensures same { Kept stacks.old stacks.new }
+{
+    let described = match reach_structure(stacks, resources, Proposal::CustomDescriptors, struct_type_index) {
+        Ok(described) => described,
+        Err(fault) => return Err(OperatorError::Refused(fault)),
+    };
+    let descriptor = match described.descriptor {
+        Some(descriptor) => descriptor,
+        None => return Err(OperatorError::Refused(OperatorFault::at(
+            OperatorRule::CustomDescriptors,
+            struct_type_index,
+        ))),
+    };
+    if !have_defaults(described.fields) {
+        return Err(OperatorError::Refused(OperatorFault::at(
+            OperatorRule::NoDefault,
+            struct_type_index,
+        )));
+    }
+    let given = new_reference(stacks, described.identity);
+    plain(
+        stacks,
+        resources,
+        Takes::One(exact_or_null(descriptor)),
+        Types::One(given),
+    )
+}
