@@ -61,10 +61,6 @@ module _ (M : Asked) where
   block_counts (value_block v) = Some (0, 1)
   block_counts (func_block n) = type_counts n
 
-  -- what an operator takes that begins a block, where it takes so many besides, and what the block begins with
-  abbrev pub opening_counts : {R : Type 0} → ℕ → Block R → Option (ℕ × ℕ)
-  opening_counts besides b = pair (plus (Some besides) (takes_of (block_counts b))) (takes_of (block_counts b))
-
   -- what the innermost frame takes and gives
   abbrev pub innermost_counts : Option (ℕ × ℕ)
   innermost_counts = option_and_then (λ x. block_counts x.0) (slice_get M.frames 0)

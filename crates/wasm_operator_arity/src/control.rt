@@ -7,7 +7,7 @@ ghost use Rattle.wasm_operators.specs.Maps.{map_block, map_control, map_parametr
 ghost use Rattle.wasm_operators.specs.SeenControl.{block_of, control_of, parametric_of};
 ghost use Rattle.wasm_operators.specs.SeenLists.{listed};
 ghost use Rattle.wasm_operator_steps.specs.Shapes.{control_shape, call_shape, parametric_shape};
-ghost use Rattle.wasm_operator_arity.specs.Arities.{pair, opening_counts, arity, index_number};
+ghost use Rattle.wasm_operator_arity.specs.Arities.{pair, plus, takes_of, block_counts, arity, index_number};
 
 use crate::counts::{
     block_counts, function_counts, innermost_counts, label_count, returned_count, tag_count,
@@ -19,7 +19,7 @@ use wasm_readers_types::ValType;
 
 /// How many operands an operator takes that begins a block, and takes so many besides, and how many the block begins with.
 fn opening_counts<M: ModuleArity>(resources: &M, ty: BlockType, besides: u8) -> Option<(u128, u128)>
-    ensures { result ≡ opening_counts (M.asked resources.now) besides (map_block index_number (block_of ty)) }
+    ensures { result ≡ pair (plus (Some besides) (takes_of (block_counts (M.asked resources.now) (map_block index_number (block_of ty))))) (takes_of (block_counts (M.asked resources.now) (map_block index_number (block_of ty)))) }
 {
     match block_counts(resources, ty) {
         Some((takes, _)) => Some((besides as u128 + takes, takes)),

@@ -31,10 +31,6 @@ pub record Kept {A : Type 0} (v w : Stacks A) : Type 0 where
 abbrev pub below : ℕ → State UnpackedIndex → State UnpackedIndex
 below k s = record s { operands = drop k s.operands }
 
--- the state without its innermost frame, and with no more locals set than these
-abbrev pub without_frame : ℕ → State UnpackedIndex → State UnpackedIndex
-without_frame height s = record s { frames = drop 1 s.frames; inits = drop (length s.inits - height) s.inits }
-
 -- the state with a frame more, below so many operands
 abbrev pub with_frame : Kind → Block UnpackedIndex → ℕ → State UnpackedIndex → State UnpackedIndex
 with_frame k b taken s = record s { frames = record { kind = k; block = b; height = length s.operands - taken; unreachable = false; init_height = length s.inits } ∷ s.frames }

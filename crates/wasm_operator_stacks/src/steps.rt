@@ -211,7 +211,7 @@ impl<A: Allocator> Stacks<A> {
     #[tactic(auto, using(crate::proofs::Framing::closes))]
     pub fn close(&mut self)
         requires { self.old.is_open ≡ true }
-        ensures state { state_of self.new ≡ without_frame self.old.frame.init_height (state_of self.old) }
+        ensures state { state_of self.new ≡ record (state_of self.old) { frames = drop 1 (state_of self.old).frames; inits = drop (length (state_of self.old).inits - self.old.frame.init_height) (state_of self.old).inits } }
         ensures same { Kept self.old self.new }
     {
         self.locals.unset(self.frame.init_height);

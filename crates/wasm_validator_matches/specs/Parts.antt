@@ -1,5 +1,6 @@
 -- Parts of types, each in a group of a list.
 use Rattle.std.specs.Prelude.{ℕ, ◌≡◌, List, map}
+use Rattle.std.specs.Borrow.{Bor}
 use Rattle.std.specs.List.{All}
 use Rattle.wasm_spec.specs.Syntax.{Val, Comp, func, map_val, map_comp}
 use Rattle.wasm_spec.specs.References.{refs_heap, refs_val, refs_storage, refs_field, refs_comp}
