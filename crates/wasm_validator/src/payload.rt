@@ -32,8 +32,8 @@ impl<A: Allocator + Copy> Validator<A> {
     ///
     /// # Errors
     ///
-    /// Refused as by the method of its section, at an offset from the payload's first byte to the one
-    /// behind it, and where memory is.
+    /// Refused as by the method of its section, at an offset from the payload's first byte to the
+    /// one behind it, and where memory is.
     pub fn payload<'a>(&mut self, payload: &Payload<'a, A>) -> Result<ValidPayload<A>, Error<A>>
         ensures moves { Leaves result (after_piece self.old (seen payload.now)) (left_by self.old (seen payload.now)) self.old self.new }
         ensures shown { IfOk result (ShowsModule self.old (seen payload.now)) }
@@ -92,17 +92,17 @@ impl<A: Allocator + Copy> Validator<A> {
         }
     }
 
-    /// Checks the module that these bytes are, and gives its types, which show its index spaces. It is
-    /// accepted exactly where it is valid (Core Specification 3.0, Validation, Modules), as far as its
-    /// forms are served and the list of types has room for its own.
+    /// Checks the module that these bytes are, and gives its types, which show its index spaces. It
+    /// is accepted exactly where it is valid (Core Specification 3.0, Validation, Modules), as far
+    /// as its forms are served and the list of types has room for its own.
     ///
     /// The validator has to be fresh or reset: elsewhere the header is refused.
     ///
     /// # Errors
     ///
-    /// Refused where the parser refuses the bytes, as it does; as by [`Validator::payload`] where that
-    /// refuses a payload; and where memory is. The offset is that of a byte of the input, or behind
-    /// its last.
+    /// Refused where the parser refuses the bytes, as it does; as by [`Validator::payload`] where
+    /// that refuses a payload; and where memory is. The offset is that of a byte of the input, or
+    /// behind its last.
     pub fn validate_all(&mut self, bytes: &[u8]) -> Result<Types<A>, Error<A>>
         ensures decided { DecidesModule result bytes.now self.old self.new }
         ensures place { IfErr result (StandsBetween 0 (length bytes.now)) }
@@ -166,9 +166,10 @@ fn latest<A: Allocator>(before: Option<Types<A>>, valid: ValidPayload<A>) -> Opt
     }
 }
 
-/// Checks with the default features the module that these bytes are, and gives its types, which show
-/// its index spaces. It is accepted exactly where it is valid (Core Specification 3.0, Validation,
-/// Modules), as far as its forms are served. The id is that of the validator that does it.
+/// Checks with the default features the module that these bytes are, and gives its types, which
+/// show its index spaces. It is accepted exactly where it is valid (Core Specification 3.0,
+/// Validation, Modules), as far as its forms are served. The id is that of the validator that does
+/// it.
 ///
 /// # Errors
 ///

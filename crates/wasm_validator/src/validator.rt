@@ -97,8 +97,8 @@ fn end_out_of_order<A: Allocator>(state: &State<A>) -> OutOfOrder
     }
 }
 
-/// Takes the module out, where one is being read whose code has not started, and leaves `Failed` in its
-/// place.
+/// Takes the module out, where one is being read whose code has not started, and leaves `Failed` in
+/// its place.
 fn opened<A: Allocator>(state: &mut State<A>, offset: u64) -> Result<ModuleState<A>, Refusal>
     ensures ok { IfOk result (λ m. open_of state.old ≡ Some m.«module») }
     ensures left { OnOk result (state.new ≡ State.Failed) }
@@ -136,7 +136,8 @@ fn closing<A: Allocator>(state: &mut State<A>) -> Result<ModuleState<A>, OutOfOr
     }
 }
 
-/// Puts the module back where a section was added to it. Where one was refused, the validator has failed.
+/// Puts the module back where a section was added to it. Where one was refused, the validator has
+/// failed.
 fn kept<A: Allocator>(
     state: &mut State<A>,
     read: ModuleState<A>,
@@ -269,9 +270,9 @@ impl<A: Allocator + Copy> Validator<A> {
         }
     }
 
-    /// The header, with the version that it has, the encoding, and the offsets of its first byte and
-    /// of the one behind it, in bytes from the start of the input (Core Specification 3.0, Binary
-    /// Format, Modules).
+    /// The header, with the version that it has, the encoding, and the offsets of its first byte
+    /// and of the one behind it, in bytes from the start of the input (Core Specification 3.0,
+    /// Binary Format, Modules).
     ///
     /// # Errors
     ///
@@ -326,9 +327,10 @@ impl<A: Allocator + Copy> Validator<A> {
     ///
     /// # Errors
     ///
-    /// Refused, at the section's start, where no module is being read or its code has started, which
-    /// changes nothing. In a module refused, at the section's start, where a module would have too
-    /// many types; at the first recursion group that can't be read or added, or has a type that isn't valid; and where memory is. The validator has then failed.
+    /// Refused, at the section's start, where no module is being read or its code has started,
+    /// which changes nothing. In a module refused, at the section's start, where a module would
+    /// have too many types; at the first recursion group that can't be read or added, or has a type
+    /// that isn't valid; and where memory is. The validator has then failed.
     pub fn type_section(
         &mut self,
         section: &SectionLimited<'_, RecGroup<A>, A>,
@@ -356,9 +358,10 @@ impl<A: Allocator + Copy> Validator<A> {
     ///
     /// # Errors
     ///
-    /// Refused, at the section's start, where no module is being read or its code has started, which
-    /// changes nothing. In a module refused, at the section's start, where a module would have too
-    /// many imports; at the first import that can't be read or keeps no rule; and where memory is. The validator has then failed.
+    /// Refused, at the section's start, where no module is being read or its code has started,
+    /// which changes nothing. In a module refused, at the section's start, where a module would
+    /// have too many imports; at the first import that can't be read or keeps no rule; and where
+    /// memory is. The validator has then failed.
     pub fn import_section<'a>(
         &mut self,
         section: &SectionLimited<'a, Import<'a>, A>,
@@ -380,9 +383,10 @@ impl<A: Allocator + Copy> Validator<A> {
     ///
     /// # Errors
     ///
-    /// Refused, at the section's start, where no module is being read or its code has started, which
-    /// changes nothing. In a module refused, at the section's start, where a module would have too
-    /// many exports; at the first export that can't be read or keeps no rule, or whose name is taken; and where memory is. The validator has then failed.
+    /// Refused, at the section's start, where no module is being read or its code has started,
+    /// which changes nothing. In a module refused, at the section's start, where a module would
+    /// have too many exports; at the first export that can't be read or keeps no rule, or whose
+    /// name is taken; and where memory is. The validator has then failed.
     pub fn export_section<'a>(
         &mut self,
         section: &SectionLimited<'a, Export<'a>, A>,
@@ -406,8 +410,8 @@ impl<A: Allocator + Copy> Validator<A> {
         }
     }
 
-    /// What a check that needs nothing of the module says of a section: where it refuses while a module
-    /// is being read, the validator has failed.
+    /// What a check that needs nothing of the module says of a section: where it refuses while a
+    /// module is being read, the validator has failed.
     fn answered(&mut self, offset: u64, answer: Result<(), Refusal>) -> Result<(), Error<A>>
         ensures moves { Moves result (at_stage self.old (within (λ p. if is_ok answer then Some p else None) self.old.stage)) self.old self.new }
         ensures content { IfErr result IsContent }
@@ -426,14 +430,15 @@ impl<A: Allocator + Copy> Validator<A> {
         }
     }
 
-    /// The functions of a module, by their type indices (Core Specification 3.0, Validation, Modules,
-    /// Functions).
+    /// The functions of a module, by their type indices (Core Specification 3.0, Validation,
+    /// Modules, Functions).
     ///
     /// # Errors
     ///
-    /// Refused, at the section's start, where no module is being read or its code has started, which
-    /// changes nothing. In a module refused, at the section's start, where a module would have too
-    /// many functions; at the first one that can't be read or is no function type's; and where memory is. The validator has then failed.
+    /// Refused, at the section's start, where no module is being read or its code has started,
+    /// which changes nothing. In a module refused, at the section's start, where a module would
+    /// have too many functions; at the first one that can't be read or is no function type's; and
+    /// where memory is. The validator has then failed.
     pub fn function_section(&mut self, section: &SectionLimited<'_, u32, A>) -> Result<(), Error<A>>
         ensures moves { Moves result (after_section self.old 3 (count_of section.now) (bytes_of section.now)) self.old self.new }
         ensures place { IfErr result (StandsBetween (section_start section.now) (section_end section.now)) }
@@ -453,9 +458,10 @@ impl<A: Allocator + Copy> Validator<A> {
     ///
     /// # Errors
     ///
-    /// Refused, at the section's start, where no module is being read or its code has started, which
-    /// changes nothing. In a module refused, at the section's start, where a module would have too
-    /// many tables; at the first table that can't be read, keeps no rule or has an initializer; and where memory is. The validator has then failed.
+    /// Refused, at the section's start, where no module is being read or its code has started,
+    /// which changes nothing. In a module refused, at the section's start, where a module would
+    /// have too many tables; at the first table that can't be read, keeps no rule or has an
+    /// initializer; and where memory is. The validator has then failed.
     pub fn table_section<'a>(
         &mut self,
         section: &SectionLimited<'a, Table<'a>, A>,
@@ -477,9 +483,10 @@ impl<A: Allocator + Copy> Validator<A> {
     ///
     /// # Errors
     ///
-    /// Refused, at the section's start, where no module is being read or its code has started, which
-    /// changes nothing. In a module refused, at the section's start, where a module would have too
-    /// many memories; at the first memory that can't be read or keeps no rule; and where memory is. The validator has then failed.
+    /// Refused, at the section's start, where no module is being read or its code has started,
+    /// which changes nothing. In a module refused, at the section's start, where a module would
+    /// have too many memories; at the first memory that can't be read or keeps no rule; and where
+    /// memory is. The validator has then failed.
     pub fn memory_section(
         &mut self,
         section: &SectionLimited<'_, MemoryType, A>,
@@ -503,9 +510,10 @@ impl<A: Allocator + Copy> Validator<A> {
     ///
     /// # Errors
     ///
-    /// Refused, at the section's start, where no module is being read or its code has started, which
-    /// changes nothing. In a module refused, at the section's start, where a module would have too
-    /// many tags; at the first tag that can't be read or keeps no rule; and where memory is. The validator has then failed.
+    /// Refused, at the section's start, where no module is being read or its code has started,
+    /// which changes nothing. In a module refused, at the section's start, where a module would
+    /// have too many tags; at the first tag that can't be read or keeps no rule; and where memory
+    /// is. The validator has then failed.
     pub fn tag_section(&mut self, section: &SectionLimited<'_, TagType, A>) -> Result<(), Error<A>>
         ensures moves { Leaves result (after_section self.old 13 (count_of section.now) (bytes_of section.now)) (section_refused_at self.old.features 13 self.old.stage) self.old self.new }
         ensures place { IfErr result (StandsBetween (section_start section.now) (section_end section.now)) }
@@ -531,14 +539,15 @@ impl<A: Allocator + Copy> Validator<A> {
         }
     }
 
-    /// The globals of a module (Core Specification 3.0, Validation, Modules, Globals). A section that
-    /// has any is not served yet.
+    /// The globals of a module (Core Specification 3.0, Validation, Modules, Globals). A section
+    /// that has any is not served yet.
     ///
     /// # Errors
     ///
-    /// Refused, at the section's start, where no module is being read or its code has started, which changes
-    /// nothing. In a module refused, at the section's start, where it has any, and behind
-    /// the count where it has none and bytes follow; the validator has then failed. It takes no memory.
+    /// Refused, at the section's start, where no module is being read or its code has started,
+    /// which changes nothing. In a module refused, at the section's start, where it has any, and
+    /// behind the count where it has none and bytes follow; the validator has then failed. It takes
+    /// no memory.
     pub fn global_section<'a>(
         &mut self,
         section: &SectionLimited<'a, GlobalItem<'a>, A>,
@@ -554,15 +563,15 @@ impl<A: Allocator + Copy> Validator<A> {
         )
     }
 
-    /// The function that starts a module, by its index (Core Specification 3.0, Validation, Modules,
-    /// Start Function). The range has the offsets of the section's first byte and of the one behind
-    /// it, in bytes from the start of the input.
+    /// The function that starts a module, by its index (Core Specification 3.0, Validation,
+    /// Modules, Start Function). The range has the offsets of the section's first byte and of the
+    /// one behind it, in bytes from the start of the input.
     ///
     /// # Errors
     ///
-    /// Refused, at the section's start, where no module is being read or its code has started, which
-    /// changes nothing; and where there is no such function or it takes or gives something, and the
-    /// validator has then failed. It takes no memory.
+    /// Refused, at the section's start, where no module is being read or its code has started,
+    /// which changes nothing; and where there is no such function or it takes or gives something,
+    /// and the validator has then failed. It takes no memory.
     pub fn start_section(&mut self, function: u32, range: &Range<u64>) -> Result<(), Error<A>>
         ensures moves { Moves result (after_start self.old function) self.old self.new }
         ensures place { IfErr result (λ e. offset_of e ≡ range.now.start) }
@@ -583,9 +592,10 @@ impl<A: Allocator + Copy> Validator<A> {
     ///
     /// # Errors
     ///
-    /// Refused, at the section's start, where no module is being read or its code has started, which changes
-    /// nothing. In a module refused, at the section's start, where it has any, and behind
-    /// the count where it has none and bytes follow; the validator has then failed. It takes no memory.
+    /// Refused, at the section's start, where no module is being read or its code has started,
+    /// which changes nothing. In a module refused, at the section's start, where it has any, and
+    /// behind the count where it has none and bytes follow; the validator has then failed. It takes
+    /// no memory.
     pub fn element_section<'a>(
         &mut self,
         section: &SectionLimited<'a, Element<'a>, A>,
@@ -602,14 +612,14 @@ impl<A: Allocator + Copy> Validator<A> {
     }
 
     /// The number of data segments that the data section is to have (Core Specification 3.0, Binary
-    /// Format, Modules, Data Count Section). The range has the offsets of the section's first byte and
-    /// of the one behind it, in bytes from the start of the input.
+    /// Format, Modules, Data Count Section). The range has the offsets of the section's first byte
+    /// and of the one behind it, in bytes from the start of the input.
     ///
     /// # Errors
     ///
-    /// Refused, at the section's start, where no module is being read or its code has started, which
-    /// changes nothing; and without `BULK_MEMORY` and where there would be too many, and the validator
-    /// has then failed. It takes no memory.
+    /// Refused, at the section's start, where no module is being read or its code has started,
+    /// which changes nothing; and without `BULK_MEMORY` and where there would be too many, and the
+    /// validator has then failed. It takes no memory.
     pub fn data_count_section(&mut self, count: u32, range: &Range<u64>) -> Result<(), Error<A>>
         ensures moves { Moves result (after_data_count self.old count) self.old self.new }
         ensures place { IfErr result (λ e. offset_of e ≡ range.now.start) }
@@ -625,14 +635,14 @@ impl<A: Allocator + Copy> Validator<A> {
         }
     }
 
-    /// The start of the code section, with the offsets of its first byte and of the one behind it, in
-    /// bytes from the start of the input (Core Specification 3.0, Binary Format, Modules, Code
+    /// The start of the code section, with the offsets of its first byte and of the one behind it,
+    /// in bytes from the start of the input (Core Specification 3.0, Binary Format, Modules, Code
     /// Section).
     ///
     /// # Errors
     ///
-    /// Refused, at the section's start, where no module is being read or its code has started, which
-    /// changes nothing. It takes no memory.
+    /// Refused, at the section's start, where no module is being read or its code has started,
+    /// which changes nothing. It takes no memory.
     pub fn code_section_start(&mut self, range: &Range<u64>) -> Result<(), Error<A>>
         ensures moves { Moves result (after_code_start self.old) self.old self.new }
         ensures place { IfErr result (λ e. offset_of e ≡ range.now.start) }
@@ -648,13 +658,13 @@ impl<A: Allocator + Copy> Validator<A> {
         }
     }
 
-    /// The body of a function (Core Specification 3.0, Validation, Modules, Functions). Bodies are not
-    /// served yet.
+    /// The body of a function (Core Specification 3.0, Validation, Modules, Functions). Bodies are
+    /// not served yet.
     ///
     /// # Errors
     ///
-    /// Refused always, at the body's first byte: where none may come for that, which changes nothing,
-    /// and else as not served, and the validator has then failed. It takes no memory.
+    /// Refused always, at the body's first byte: where none may come for that, which changes
+    /// nothing, and else as not served, and the validator has then failed. It takes no memory.
     pub fn code_section_entry(&mut self, body: &FunctionBody<'_>) -> Result<(), Error<A>>
         ensures moves { Leaves result None (body_refused_at self.old.stage) self.old self.new }
         ensures content { IfErr result IsContent }
@@ -678,14 +688,14 @@ impl<A: Allocator + Copy> Validator<A> {
         Err(Error::Refused(Refusal::new(fault, body.range().start)))
     }
 
-    /// The data segments of a module (Core Specification 3.0, Validation, Modules, Data Segments). A
-    /// section that has any is not served yet.
+    /// The data segments of a module (Core Specification 3.0, Validation, Modules, Data Segments).
+    /// A section that has any is not served yet.
     ///
     /// # Errors
     ///
-    /// Refused, at the section's start, where no module is being read, which changes
-    /// nothing. In a module refused, at the section's start, where it has any, and behind
-    /// the count where it has none and bytes follow; the validator has then failed. It takes no memory.
+    /// Refused, at the section's start, where no module is being read, which changes nothing. In a
+    /// module refused, at the section's start, where it has any, and behind the count where it has
+    /// none and bytes follow; the validator has then failed. It takes no memory.
     pub fn data_section<'a>(
         &mut self,
         section: &SectionLimited<'a, Data<'a>, A>,
@@ -708,9 +718,9 @@ impl<A: Allocator + Copy> Validator<A> {
         }
     }
 
-    /// A section of an id that the standard does not know, with the offsets of its first byte and of
-    /// the one behind it, in bytes from the start of the input (Core Specification 3.0, Binary Format,
-    /// Modules, Sections).
+    /// A section of an id that the standard does not know, with the offsets of its first byte and
+    /// of the one behind it, in bytes from the start of the input (Core Specification 3.0, Binary
+    /// Format, Modules, Sections).
     ///
     /// # Errors
     ///
@@ -723,8 +733,8 @@ impl<A: Allocator + Copy> Validator<A> {
         Err(Error::Refused(Refusal::new(Fault::UnknownSection(id), range.start)))
     }
 
-    /// The end of a module at this offset, in bytes from the start of the input, with its types (Core
-    /// Specification 3.0, Validation, Modules).
+    /// The end of a module at this offset, in bytes from the start of the input, with its types
+    /// (Core Specification 3.0, Validation, Modules).
     ///
     /// # Errors
     ///
