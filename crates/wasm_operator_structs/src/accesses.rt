@@ -115,9 +115,6 @@ pub fn struct_set<A: Allocator, T: WasmModuleResources>(
             Types::None,
         )
     } else {
-        Err(OperatorError::Refused(OperatorFault::at(
-            OperatorRule::ImmutableField,
-            field_index,
-        )))
+        Err(OperatorError::Refused(OperatorFault::at(OperatorRule::ImmutableField, field_index)))
     }
 }

@@ -80,7 +80,12 @@ pub fn struct_new_desc<A: Allocator, T: WasmModuleResources>(
     ensures took { Performs result (T.context resources.now) (struct_shape (StructNewDesc struct_type_index)) stacks.old stacks.new }
     ensures same { Kept stacks.old stacks.new }
 {
-    let described = match reach_structure(stacks, resources, Proposal::CustomDescriptors, struct_type_index) {
+    let described = match reach_structure(
+        stacks,
+        resources,
+        Proposal::CustomDescriptors,
+        struct_type_index,
+    ) {
         Ok(described) => described,
         Err(fault) => return Err(OperatorError::Refused(fault)),
     };
@@ -108,7 +113,12 @@ pub fn struct_new_default_desc<A: Allocator, T: WasmModuleResources>(
     ensures took { Performs result (T.context resources.now) (struct_shape (StructNewDefaultDesc struct_type_index)) stacks.old stacks.new }
     ensures same { Kept stacks.old stacks.new }
 {
-    let described = match reach_structure(stacks, resources, Proposal::CustomDescriptors, struct_type_index) {
+    let described = match reach_structure(
+        stacks,
+        resources,
+        Proposal::CustomDescriptors,
+        struct_type_index,
+    ) {
         Ok(described) => described,
         Err(fault) => return Err(OperatorError::Refused(fault)),
     };

@@ -30,10 +30,14 @@ pub fn step_struct<A: Allocator, T: WasmModuleResources>(
 {
     match op {
         StructOperator::StructNew { struct_type_index } => struct_new(
-            stacks, resources, struct_type_index,
+            stacks,
+            resources,
+            struct_type_index,
         ),
         StructOperator::StructNewDefault { struct_type_index } => struct_new_default(
-            stacks, resources, struct_type_index,
+            stacks,
+            resources,
+            struct_type_index,
         ),
         StructOperator::StructGet {
             struct_type_index,
@@ -52,10 +56,14 @@ pub fn step_struct<A: Allocator, T: WasmModuleResources>(
             field_index,
         } => struct_set(stacks, resources, struct_type_index, field_index),
         StructOperator::StructNewDesc { struct_type_index } => struct_new_desc(
-            stacks, resources, struct_type_index,
+            stacks,
+            resources,
+            struct_type_index,
         ),
         StructOperator::StructNewDefaultDesc { struct_type_index } => struct_new_default_desc(
-            stacks, resources, struct_type_index,
+            stacks,
+            resources,
+            struct_type_index,
         ),
     }
 }

@@ -15,4 +15,3 @@ returns-clause-took g c =
     (needed _ _ _ _ _ _ _ c.in-Ok.ensures.reached
     (needed _ _ _ _ _ _ _ (packed_held _ _ _ _ _ _ _ c.in-Ok.ensures.field (sym (c.same_flag.ensures ∙ ap (same_flag c.args.packed) c.is_packed.ensures) ∙ c.if-not-same_flag.false))
     (plainly _ _ _ _ _ _ _ _ _ c.plain.ensures.took (nullable_typed _ _ _ _ _ c.in-Ok.ensures.identity c.nullable.ensures) (field_typed _ _ _ _ _ _ c.in-Ok.ensures.field (c.new.ensures ∙ c.unpack.ensures)))))
-

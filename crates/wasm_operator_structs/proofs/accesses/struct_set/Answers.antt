@@ -15,4 +15,3 @@ returns-then-field-clause-took g c =
 pub returns-else-field-clause-took : goal.returns-else-field-clause-took
 returns-else-field-clause-took g c =
     refused_later _ _ _ _ _ _ _ (refused_later _ _ _ _ _ _ _ (refused_here _ _ _ _ _ _ (mutable_held _ _ _ _ _ _ c.in-Ok.ensures.field c.if-field.false)))
-

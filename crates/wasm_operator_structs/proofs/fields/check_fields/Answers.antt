@@ -11,4 +11,3 @@ returns-in_err-taken g c =
     next_missing (world (g.T.WasmModuleResources.context c.args.resources.now)) c.args.fields.now c.filling.i c.index-fields-count.result (val_in c.new.result) (below c.args.taken (state_of c.args.stacks.now)) (below c.filling.taken (state_of c.args.stacks.now))
     c.filling-test.true (c.new.ensures ∙ c.unpack.ensures) c.filling.invariant.so_far c.in_err-taken.ensures in
     search rules
-

@@ -13,4 +13,3 @@ unfolding Took
 returns-in-Ok-exchange-clause-took g c =
     are_exchanged (world (g.T.WasmModuleResources.context c.args.resources.now)) (unpacked_types c.args.fields.now) (val_in c.args.given ∷ []) (below c.args.taken (state_of c.args.stacks.now)) (below c.in-Ok.taken (state_of c.args.stacks.now)) (state_of c.exchange.new.self)
     c.in-Ok.ensures.0 (c.in-Ok-exchange.ensures.ok ∙ ap (λ o. push_operand o (below c.in-Ok.taken (state_of c.args.stacks.now))) c.known.ensures)
-

@@ -13,4 +13,3 @@ returns-clause-took g c =
     (needed _ _ _ _ _ _ _ c.in-Ok.ensures.reached
     (needed _ _ _ _ _ _ _ (undescribed_held _ _ _ _ _ _ c.in-Ok.ensures.descriptor c.is_some.ensures c.if-is_some.false)
     (plainly _ _ _ _ _ _ _ _ _ c.exchange_fields.ensures.took (fields_typed _ _ _ _ c.in-Ok.ensures.fields) (new_typed _ _ _ _ _ c.in-Ok.ensures.identity c.new_reference-given.ensures))))
-

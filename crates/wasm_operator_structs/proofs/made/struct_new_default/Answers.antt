@@ -16,4 +16,3 @@ returns-clause-took g c =
     (needed _ _ _ _ _ _ _ (undescribed_held _ _ _ _ _ _ c.in-Ok.ensures.descriptor c.is_some.ensures c.if-is_some.false)
     (needed _ _ _ _ _ _ _ (defaults_held _ _ _ _ _ c.in-Ok.ensures.fields (sym c.have_defaults.ensures ∙ c.if-not-have_defaults.false))
     (plainly _ _ _ _ _ _ _ _ _ c.plain.ensures.took (nothing_typed _ _) (new_typed _ _ _ _ _ c.in-Ok.ensures.identity c.new_reference-given.ensures)))))
-

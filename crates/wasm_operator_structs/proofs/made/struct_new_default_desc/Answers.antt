@@ -14,4 +14,3 @@ returns-clause-took g c =
     (needed _ _ _ _ _ _ _ c.in-Ok.ensures.reached
     (needed _ _ _ _ _ _ _ (defaults_held _ _ _ _ _ c.in-Ok.ensures.fields (sym c.have_defaults.ensures ∙ c.if-not-have_defaults.false))
     (plainly _ _ _ _ _ _ _ _ _ c.plain.ensures.took (descriptor_typed _ _ _ _ _ (c.in-Ok.ensures.descriptor ∙ ap (λ (o : Option PackedIndex). Some (option_map index_of o)) c.in-Some.is) c.exact_or_null.ensures) (new_typed _ _ _ _ _ c.in-Ok.ensures.identity c.new_reference-given.ensures))))
-

@@ -37,4 +37,3 @@ returns-in-Err-check_type-clause-took g c =
     (needed _ _ _ _ _ _ _ c.in-Ok.ensures.reached
     (plainly _ _ _ _ _ _ _ _ _ (took_refused _ _ _ _ (top_missing (world (g.T.WasmModuleResources.context c.args.resources.now)) (unpacked_types c.in-Ok.described.fields.now) (val_in c.new_reference-given.result ∷ []) (val_in c.exact_or_null.result) (state_of c.args.stacks.now) c.in-Err-check_type.ensures) refl)
     (both_typed _ _ _ _ _ _ (fields_typed _ _ _ _ c.in-Ok.ensures.fields) (descriptor_typed _ _ _ _ _ (c.in-Ok.ensures.descriptor ∙ ap (λ (o : Option PackedIndex). Some (option_map index_of o)) c.in-Some.is) c.exact_or_null.ensures)) (new_typed _ _ _ _ _ c.in-Ok.ensures.identity c.new_reference-given.ensures)))
-

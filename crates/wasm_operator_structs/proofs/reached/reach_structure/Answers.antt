@@ -11,4 +11,3 @@ returns-then-not-reaches-clause-barred g c =
 pub returns-else-not-reaches-clause-reached : goal.returns-else-not-reaches-clause-reached
 returns-else-not-reaches-clause-reached g c =
     reached_held _ _ _ (sub_of c.in-Some-sub_type_at.sub.now) _ c.in-Some-sub_type_at.ensures (sym c.reaches.ensures ∙ c.if-not-reaches.false)
-
