@@ -30,7 +30,7 @@ fn constants_are_the_types_of_their_names(rt: HostRuntime) {
         (true, AbstractHeapType::Cont, RefType::CONTREF),
     ] {
         let heap = HeapType::Abstract { shared: false, ty };
-        assert_eq!(rt; RefType::new(nullable, heap), Some(constant));
+        assert!(rt; RefType::new(nullable, heap) == Some(constant));
     }
     assert!(rt; same_val(&ValType::FUNCREF, &ValType::Ref(RefType::FUNCREF)));
 }
@@ -39,12 +39,12 @@ fn constants_are_the_types_of_their_names(rt: HostRuntime) {
 fn indices_and_lists_print_what_they_are(rt: HostRuntime) -> Result<(), Fail> {
     let id = PackedIndex::from_id(CoreTypeId::from_index(7)).ok_or("seven fits")?;
     let text = format!(in rt.alloc(); "{:?}", id.unpack())?;
-    assert_eq!(rt; text.as_str(), "Id(CoreTypeId { index: 7 })");
+    assert!(rt; text.as_str() == "Id(CoreTypeId { index: 7 })");
     assert!(rt; UnpackedIndex::RecGroup(MAX_IDS).pack().is_none());
     assert!(rt; UnpackedIndex::Module(MAX_IDS).pack().is_some());
     let items = Items::from_vec([ValType::I32, ValType::F64].to_vec(rt.alloc())?);
     let text = format!(in rt.alloc(); "{items:?}")?;
-    assert_eq!(rt; text.as_str(), "[I32, F64]");
+    assert!(rt; text.as_str() == "[I32, F64]");
     assert!(rt; same(&copied(&items)?, &items));
     Ok(())
 }
@@ -64,7 +64,7 @@ fn a_group_is_found_however_it_is_written(rt: HostRuntime) -> Result<(), Fail> {
     assert!(rt; same_group(&explicit, &implicit));
     let mut map = HashMap::new(alloc);
     map.insert(explicit, 3u32)?;
-    assert_eq!(rt; map.get(&implicit).copied(), Some(3));
+    assert!(rt; map.get(&implicit).copied() == Some(3));
     Ok(())
 }
 
