@@ -21,42 +21,6 @@ fn ends_with(alloc: Global, file: Input, status: u8, out: &str, err: &str) -> bo
 }
 
 #[test]
-fn a_valid_module(rt: HostRuntime) -> Result<(), Fail> {
-    let input = file(
-        rt.alloc(),
-        "a.wasm",
-        b"\0asm\x01\0\0\0\x01\x06\x01\x60\x01\x7f\x01\x7c",
-    )?;
-    let printed = ends_with(
-        rt.alloc(),
-        input,
-        0,
-        "a.wasm: ok types 1 functions 0 imports 0 exports 0\n",
-        "",
-    );
-    assert!(rt; printed);
-    Ok(())
-}
-
-#[test]
-fn a_module_of_one_import_and_one_export(rt: HostRuntime) -> Result<(), Fail> {
-    let input = file(
-        rt.alloc(),
-        "FILE",
-        b"\0asm\x01\0\0\0\x01\x04\x01\x60\0\0\x02\x07\x01\x01a\x01b\0\0\x07\x05\x01\x01c\0\0",
-    )?;
-    let printed = ends_with(
-        rt.alloc(),
-        input,
-        0,
-        "FILE: ok types 1 functions 1 imports 1 exports 1\n",
-        "",
-    );
-    assert!(rt; printed);
-    Ok(())
-}
-
-#[test]
 fn a_refused_module(rt: HostRuntime) -> Result<(), Fail> {
     let input = file(rt.alloc(), "FILE", b"\0asm\x01\0\0\0\x07\x05\x01\x01a\0\0")?;
     let line = "FILE: refused at 11: unknown function 0: exported function index out of bounds\n";
@@ -87,7 +51,6 @@ fn no_file(rt: HostRuntime) {
     let mut written = Vec::new(rt.alloc());
     let mut complained = Vec::new(rt.alloc());
     let status = run::<Global, _, _>(rt.alloc(), &[], &mut written, &mut complained);
-    assert_eq!(rt; status, 2);
-    assert!(rt; written.is_empty());
+    assert!(rt; status == 2 && written.is_empty());
     assert!(rt; complained.as_slice() == b"usage: wasm-validate FILE...\n".as_slice());
 }
