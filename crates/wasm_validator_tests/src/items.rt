@@ -49,25 +49,6 @@ fn imports(list: &TypeList, module: &mut Module, ty: TypeRef) -> Result<(), Erro
     module.add_import(WasmFeatures::all(), list, &import, 7)
 }
 
-/// Adds an export of the first item of this kind.
-fn exports(
-    alloc: Global,
-    list: &TypeList,
-    module: &mut Module,
-    name: &str,
-    kind: ExternalKind,
-) -> Result<(), Error>
-    requires { AreHeld list.now module.old.types }
-    ensures { AreHeld list.now module.new.types }
-{
-    let export = Export {
-        name,
-        kind,
-        index: 0,
-    };
-    module.add_export(WasmFeatures::all(), alloc, list, &export, 7)
-}
-
 const TABLE: TableType = TableType {
     element_type: RefType::FUNCREF,
     table64: false,
@@ -139,46 +120,61 @@ fn takes_two(list: &TypeList, module: &Module, index: u32) -> bool
     }
 }
 
+/// How many functions, tables, memories, globals, imported globals and tags there are, and their size.
+fn counts(module: &Module) -> [u32; 7] {
+    let spaces = module.spaces();
+    [
+        spaces.function_count(),
+        spaces.table_count(),
+        spaces.memory_count(),
+        spaces.global_count(),
+        spaces.imported_global_count(),
+        spaces.tag_count(),
+        spaces.effective_size(),
+    ]
+}
+
 #[test]
 fn items_are_imported_and_defined(rt: HostRuntime) -> Result<(), Fail> {
-    let all = WasmFeatures::all();
     let (list, mut module) = module_of(rt.alloc())?;
     imports_each_kind(&list, &mut module)?;
     defines_each_kind(&list, &mut module)?;
-    assert_eq!(rt; module.spaces().function_count(), 3);
-    assert_eq!(rt; module.spaces().table_count(), 2);
-    assert_eq!(rt; module.spaces().memory_count(), 2);
-    assert_eq!(rt; module.spaces().global_count(), 1);
-    assert_eq!(rt; module.spaces().imported_global_count(), 1);
-    assert_eq!(rt; module.spaces().tag_count(), 2);
-    // One, three times two with two parameters and a result, and three of one.
-    assert_eq!(rt; module.spaces().effective_size(), 19);
-    let fewer = all_but(WasmFeatures::CUSTOM_DESCRIPTORS);
-    assert_eq!(rt; is_exact(all, &module, 0), Some(false));
-    assert_eq!(rt; is_exact(all, &module, 1), Some(true));
-    assert_eq!(rt; is_exact(all, &module, 2), Some(true));
-    assert_eq!(rt; is_exact(all, &module, 3), None);
-    assert_eq!(rt; is_exact(fewer, &module, 2), Some(false));
-    assert!(rt; takes_two(&list, &module, 0));
-    assert!(rt; takes_two(&list, &module, 2));
-    assert!(rt; !takes_two(&list, &module, 3));
+    // The size: one, three times two with two parameters and a result, and three of one.
+    assert!(rt; counts(&module) == [3, 2, 2, 1, 1, 2, 19]);
     Ok(())
 }
 
 #[test]
-fn exports_have_a_size(rt: HostRuntime) -> Result<(), Fail> {
-    let alloc = rt.alloc();
-    let (list, mut module) = module_of(alloc)?;
-    imports_each_kind(&list, &mut module)?;
-    exports(alloc, &list, &mut module, "f", ExternalKind::Func)?;
-    exports(alloc, &list, &mut module, "t", ExternalKind::Table)?;
-    exports(alloc, &list, &mut module, "m", ExternalKind::Memory)?;
-    exports(alloc, &list, &mut module, "g", ExternalKind::Global)?;
-    exports(alloc, &list, &mut module, "e", ExternalKind::Tag)?;
-    assert_eq!(rt; module.spaces().export_count(), 5);
-    // Nineteen, twice two with two parameters and a result, and three of one.
-    assert_eq!(rt; module.spaces().effective_size(), 32);
+fn functions_are_found_by_their_indices(rt: HostRuntime) -> Result<(), Fail> {
+    let all = WasmFeatures::all();
+    let (list, mut module) = module_of(rt.alloc())?;
+    imports(&list, &mut module, TypeRef::Func(0))?;
+    module.add_function(&list, 0, 7)?;
+    assert!(rt; is_exact(all, &module, 0) == Some(false));
+    assert!(rt; is_exact(all, &module, 1) == Some(true));
+    assert!(rt; is_exact(all, &module, 2).is_none());
+    assert!(rt; takes_two(&list, &module, 1));
+    assert!(rt; !takes_two(&list, &module, 2));
     Ok(())
+}
+
+/// What is said of an export of the first global under these features, and the size behind it.
+fn exports_global(
+    alloc: Global,
+    list: &TypeList,
+    module: &mut Module,
+    features: WasmFeatures,
+) -> Result<u32, Error>
+    requires { AreHeld list.now module.old.types }
+    ensures { AreHeld list.now module.new.types }
+{
+    let export = Export {
+        name: "g",
+        kind: ExternalKind::Global,
+        index: 0,
+    };
+    module.add_export(features, alloc, list, &export, 7)?;
+    Ok(module.spaces().effective_size())
 }
 
 #[test]
@@ -186,14 +182,12 @@ fn mutable_globals_are_exported_by_their_proposal(rt: HostRuntime) -> Result<(),
     let alloc = rt.alloc();
     let (list, mut module) = module_of(alloc)?;
     imports(&list, &mut module, TypeRef::Global(GLOBAL))?;
-    let export = Export {
-        name: "g",
-        kind: ExternalKind::Global,
-        index: 0,
-    };
     let fewer = all_but(WasmFeatures::MUTABLE_GLOBAL);
-    let answer = module.add_export(fewer, alloc, &list, &export, 7);
-    assert!(rt; says(alloc, &answer, 7, "mutable global support is not enabled"));
+    let refused = exports_global(alloc, &list, &mut module, fewer);
+    assert!(rt; says(alloc, &refused, 7, "mutable global support is not enabled"));
+    let size = exports_global(alloc, &list, &mut module, WasmFeatures::all());
+    // One, and the global twice.
+    assert!(rt; size.ok() == Some(3));
     Ok(())
 }
 
@@ -202,8 +196,6 @@ fn limits_follow_the_features(rt: HostRuntime) {
     let module: Module = Module::new(rt.alloc());
     let none = WasmFeatures::empty();
     let all = WasmFeatures::all();
-    assert_eq!(rt; module.max_tables(none), 1);
-    assert_eq!(rt; module.max_memories(none), 1);
-    assert_eq!(rt; module.max_tables(all), 100);
-    assert_eq!(rt; module.max_memories(all), 100);
+    assert!(rt; (module.max_tables(none), module.max_memories(none)) == (1, 1));
+    assert!(rt; (module.max_tables(all), module.max_memories(all)) == (100, 100));
 }

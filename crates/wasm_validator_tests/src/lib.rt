@@ -6,10 +6,6 @@ mod items;
 #[cfg(test)]
 mod owned;
 #[cfg(test)]
-mod repetition;
-#[cfg(test)]
-mod robustness;
-#[cfg(test)]
 mod states;
 #[cfg(test)]
 mod types;
@@ -24,7 +20,7 @@ pub fn check(alloc: Global, bytes: &[u8]) -> Result<Types, Error> {
 }
 
 /// Whether the answer is a refusal at this offset with this message.
-pub fn says(alloc: Global, answer: &Result<(), Error>, offset: u64, message: &str) -> bool {
+pub fn says<T>(alloc: Global, answer: &Result<T, Error>, offset: u64, message: &str) -> bool {
     let Err(error) = answer else {
         return false;
     };

@@ -8,20 +8,20 @@ use wasm_validator::MaybeOwned;
 fn a_value_is_written_while_it_is_owned(rt: HostRuntime) -> Result<(), Fail> {
     let mut value: MaybeOwned<u32> = MaybeOwned::new(3);
     *value.as_mut().ok_or("shared")? = 4;
-    assert_eq!(rt; *value, 4);
+    assert!(rt; *value == 4);
     let first = value.arc(rt.alloc())?.clone()?;
     let second = value.arc(rt.alloc())?.clone()?;
     assert!(rt; Rc::ptr_eq(&first, &second));
     assert!(rt; value.as_mut().is_none());
-    assert_eq!(rt; *value, 4);
-    assert_eq!(rt; *first, 4);
+    assert!(rt; *value == 4);
+    assert!(rt; *first == 4);
     Ok(())
 }
 
 #[test]
 fn a_default_is_owned(rt: HostRuntime) {
     let mut value: MaybeOwned<u32> = MaybeOwned::default();
-    assert_eq!(rt; *value, 0);
+    assert!(rt; *value == 0);
     *value.assert_mut() = 1;
-    assert_eq!(rt; *value, 1);
+    assert!(rt; *value == 1);
 }

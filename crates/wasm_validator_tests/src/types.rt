@@ -43,13 +43,18 @@ fn links(list: &TypeList, a: u32, b: u32) -> Option<(bool, u64)> {
 fn links_are_counted(rt: HostRuntime) -> Result<(), Fail> {
     let types = check(rt.alloc(), &chain(rt.alloc())?)?;
     let list = types.as_ref().type_list();
-    assert_eq!(rt; links(list, 63, 0), Some((true, 63)));
-    assert_eq!(rt; links(list, 0, 63), Some((false, 0)));
-    assert_eq!(rt; links(list, 63, 63), Some((true, 0)));
+    assert!(rt; links(list, 63, 0) == Some((true, 63)));
+    assert!(rt; links(list, 0, 63) == Some((false, 0)));
+    assert!(rt; links(list, 63, 63) == Some((true, 0)));
+    Ok(())
+}
+
+#[test]
+fn links_to_another_type_are_counted(rt: HostRuntime) -> Result<(), Fail> {
     let types = check(rt.alloc(), FOUR)?;
     let list = types.as_ref().type_list();
-    assert_eq!(rt; links(list, 3, 0), Some((false, 1)));
-    assert_eq!(rt; links(list, 3, 2), Some((true, 1)));
+    assert!(rt; links(list, 3, 0) == Some((false, 1)));
+    assert!(rt; links(list, 3, 2) == Some((true, 1)));
     Ok(())
 }
 
@@ -77,47 +82,76 @@ fn plain(ty: AbstractHeapType, shared: bool) -> Option<RefType>
     RefType::new(false, HeapType::Abstract { shared, ty })
 }
 
+/// Whether the reference to the first type is below that to the second, each exactly or not, if the list
+/// has both.
+fn is_below(list: &TypeList, a: (u32, bool), b: (u32, bool)) -> Option<bool> {
+    let a = reference(list, a.0, a.1)?;
+    let b = reference(list, b.0, b.1)?;
+    Some(list.reftype_is_subtype(a, b))
+}
+
 #[test]
 fn references_are_ordered_as_declared(rt: HostRuntime) -> Result<(), Fail> {
     let types = check(rt.alloc(), FOUR)?;
     let list = types.as_ref().type_list();
-    let zero = reference(list, 0, false).ok_or("no type 0")?;
-    let one = reference(list, 1, false).ok_or("no type 1")?;
-    let three = reference(list, 3, false).ok_or("no type 3")?;
-    let exactly_zero = reference(list, 0, true).ok_or("no type 0")?;
-    let exactly_one = reference(list, 1, true).ok_or("no type 1")?;
-    assert!(rt; list.reftype_is_subtype(one, zero));
-    assert!(rt; !list.reftype_is_subtype(one.nullable(), zero));
-    assert!(rt; !list.reftype_is_subtype(zero, one));
-    assert!(rt; list.reftype_is_subtype(exactly_one, zero));
-    assert!(rt; !list.reftype_is_subtype(one, exactly_one));
-    assert!(rt; !list.reftype_is_subtype(exactly_one, exactly_zero));
-    assert!(rt; list.reftype_is_subtype(three, RefType::FUNCREF));
-    let none = plain(AbstractHeapType::None, false).ok_or("no none")?;
-    let no_func = plain(AbstractHeapType::NoFunc, false).ok_or("no nofunc")?;
-    let shared_any = plain(AbstractHeapType::Any, true).ok_or("no shared any")?;
-    assert!(rt; list.reftype_is_subtype(none, one));
-    assert!(rt; !list.reftype_is_subtype(no_func, one));
-    assert!(rt; !list.reftype_is_subtype(one, shared_any));
+    assert!(rt; is_below(list, (1, false), (0, false)) == Some(true));
+    assert!(rt; is_below(list, (0, false), (1, false)) == Some(false));
+    assert!(rt; is_below(list, (1, true), (0, false)) == Some(true));
+    assert!(rt; is_below(list, (1, false), (1, true)) == Some(false));
+    assert!(rt; is_below(list, (1, true), (0, true)) == Some(false));
     Ok(())
 }
 
+/// Whether the reference to the type, or null, is below that to the abstract heap type, or null, if the list
+/// has the type.
+fn is_below_plain(list: &TypeList, id: u32, ty: AbstractHeapType, shared: bool) -> Option<bool> {
+    let a = reference(list, id, false)?;
+    let b = plain(ty, shared)?;
+    Some(list.reftype_is_subtype(a.nullable(), b.nullable()))
+}
+
+/// Whether the reference to the abstract heap type is below that to the type, if the list has it.
+fn plain_is_below(list: &TypeList, ty: AbstractHeapType, id: u32) -> Option<bool> {
+    let a = plain(ty, false)?;
+    let b = reference(list, id, false)?;
+    Some(list.reftype_is_subtype(a, b))
+}
+
 #[test]
-fn a_structure_type_is_below_structures(rt: HostRuntime) -> Result<(), Fail> {
+fn types_are_below_abstract_ones(rt: HostRuntime) -> Result<(), Fail> {
     let types = check(rt.alloc(), FOUR)?;
     let list = types.as_ref().type_list();
-    let zero = reference(list, 0, false).ok_or("no type 0")?;
+    assert!(rt; is_below_plain(list, 0, AbstractHeapType::Struct, false) == Some(true));
+    assert!(rt; is_below_plain(list, 0, AbstractHeapType::Eq, false) == Some(true));
+    assert!(rt; is_below_plain(list, 0, AbstractHeapType::Any, false) == Some(true));
+    assert!(rt; is_below_plain(list, 0, AbstractHeapType::Array, false) == Some(false));
+    assert!(rt; is_below_plain(list, 0, AbstractHeapType::Func, false) == Some(false));
+    assert!(rt; is_below_plain(list, 1, AbstractHeapType::Any, true) == Some(false));
+    assert!(rt; is_below_plain(list, 3, AbstractHeapType::Func, false) == Some(true));
+    assert!(rt; plain_is_below(list, AbstractHeapType::None, 1) == Some(true));
+    assert!(rt; plain_is_below(list, AbstractHeapType::NoFunc, 1) == Some(false));
+    Ok(())
+}
+
+/// Of the first type: whether the reference is below the one or null, and that below it; whether it is
+/// shared; and whether its top is that of all but functions and what comes from outside.
+fn answers_on_first(list: &TypeList) -> Option<[bool; 4]> {
+    let zero = reference(list, 0, false)?;
     let nullable = zero.nullable();
-    assert!(rt; list.reftype_is_subtype(nullable, RefType::STRUCTREF));
-    assert!(rt; list.reftype_is_subtype(nullable, RefType::EQREF));
-    assert!(rt; list.reftype_is_subtype(nullable, RefType::ANYREF));
-    assert!(rt; !list.reftype_is_subtype(nullable, RefType::ARRAYREF));
-    assert!(rt; !list.reftype_is_subtype(nullable, RefType::FUNCREF));
-    assert!(rt; list.valtype_is_subtype(ValType::Ref(zero), ValType::Ref(nullable)));
-    assert!(rt; !list.valtype_is_subtype(ValType::Ref(nullable), ValType::Ref(zero)));
-    assert!(rt; !list.reftype_is_shared(zero));
+    Some([
+        list.valtype_is_subtype(ValType::Ref(zero), ValType::Ref(nullable)),
+        list.valtype_is_subtype(ValType::Ref(nullable), ValType::Ref(zero)),
+        list.reftype_is_shared(zero),
+        list.top_type(&zero.heap_type()) == RefType::ANYREF.heap_type(),
+    ])
+}
+
+#[test]
+fn the_first_type_is_a_structure(rt: HostRuntime) -> Result<(), Fail> {
+    let types = check(rt.alloc(), FOUR)?;
+    let list = types.as_ref().type_list();
+    assert!(rt; answers_on_first(list) == Some([true, false, false, true]));
     assert!(rt; list.valtype_is_shared(ValType::I32));
-    assert!(rt; list.top_type(&zero.heap_type()) == RefType::ANYREF.heap_type());
     Ok(())
 }
 
@@ -133,14 +167,20 @@ fn matches(list: &TypeList, a: u32, b: u32) -> Option<bool> {
 #[test]
 fn types_match_by_their_structure(rt: HostRuntime) -> Result<(), Fail> {
     let types = check(rt.alloc(), FOUR)?;
+    let list = types.as_ref().type_list();
+    assert!(rt; matches(list, 1, 0) == Some(true));
+    assert!(rt; matches(list, 0, 1) == Some(false));
+    assert!(rt; matches(list, 1, 1) == Some(true));
+    assert!(rt; matches(list, 3, 2) == Some(true));
+    assert!(rt; matches(list, 2, 3) == Some(false));
+    assert!(rt; matches(list, 2, 0) == Some(false));
+    Ok(())
+}
+
+#[test]
+fn a_type_is_shown_by_its_id(rt: HostRuntime) -> Result<(), Fail> {
+    let types = check(rt.alloc(), FOUR)?;
     assert!(rt; types.as_ref().get(CoreTypeId::from_index(3)).is_some());
     assert!(rt; types.as_ref().get(CoreTypeId::from_index(4)).is_none());
-    let list = types.as_ref().type_list();
-    assert_eq!(rt; matches(list, 1, 0), Some(true));
-    assert_eq!(rt; matches(list, 0, 1), Some(false));
-    assert_eq!(rt; matches(list, 1, 1), Some(true));
-    assert_eq!(rt; matches(list, 3, 2), Some(true));
-    assert_eq!(rt; matches(list, 2, 3), Some(false));
-    assert_eq!(rt; matches(list, 2, 0), Some(false));
     Ok(())
 }
