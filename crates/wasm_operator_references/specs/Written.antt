@@ -1,0 +1,19 @@
+-- Operators as they are written in a module: each index in a type is a type index of the module. And what a context tells of functions.
+use Rattle.std.specs.Prelude.{ℕ, IsSome, slice_get, ⊤}
+use Rattle.wasm_rules.specs.Contexts.{Context}
+use Rattle.wasm_readers_types.specs.declared.indices.UnpackedIndex.{UnpackedIndex}
+use Rattle.wasm_operators.specs.References.{Reference, ref_null, ref_is_null, ref_eq, ref_as_non_null, ref_func, br_on_null, br_on_non_null}
+use Rattle.wasm_module_resources.specs.Answers.{IsWrittenHeap}
+
+abbrev pub IsWrittenReference : Reference UnpackedIndex → Type 0
+IsWrittenReference (ref_null h) = IsWrittenHeap h
+IsWrittenReference ref_is_null = ⊤
+IsWrittenReference ref_eq = ⊤
+IsWrittenReference ref_as_non_null = ⊤
+IsWrittenReference (ref_func x) = ⊤
+IsWrittenReference (br_on_null l) = ⊤
+IsWrittenReference (br_on_non_null l) = ⊤
+
+-- of each function it is told whether it is exactly of its type
+abbrev pub TellsExact : Context UnpackedIndex → Type 0
+TellsExact C = (n : ℕ) → IsSome (slice_get C.functions n) → IsSome (slice_get C.exact n)
