@@ -59,7 +59,14 @@ fn convert<A: Allocator, T: WasmModuleResources>(
     if !has(stacks, WasmFeatures::GC) {
         return Err(OperatorError::Refused(OperatorFault::new(OperatorRule::Gc)));
     }
-    if !allows_heap(stacks, true, HeapType::Abstract { shared: false, ty: to }) {
+    if !allows_heap(
+        stacks,
+        true,
+        HeapType::Abstract {
+            shared: false,
+            ty: to,
+        },
+    ) {
         return Err(OperatorError::Refused(OperatorFault::new(OperatorRule::ValueType)));
     }
     match look_below(stacks, resources, 0, from) {
@@ -85,7 +92,12 @@ pub fn any_convert_extern<A: Allocator, T: WasmModuleResources>(
     ensures took { Performs result (T.context resources.now) (conversion_shape AnyConvertExtern) stacks.old stacks.new }
     ensures same { Kept stacks.old stacks.new }
 {
-    convert(stacks, resources, AbstractHeapType::Extern, AbstractHeapType::Any)
+    convert(
+        stacks,
+        resources,
+        AbstractHeapType::Extern,
+        AbstractHeapType::Any,
+    )
 }
 
 /// `extern.convert_any` (Core Specification 3.0, Validation, Instructions, Reference Instructions).
@@ -100,7 +112,12 @@ pub fn extern_convert_any<A: Allocator, T: WasmModuleResources>(
     ensures took { Performs result (T.context resources.now) (conversion_shape ExternConvertAny) stacks.old stacks.new }
     ensures same { Kept stacks.old stacks.new }
 {
-    convert(stacks, resources, AbstractHeapType::Any, AbstractHeapType::Extern)
+    convert(
+        stacks,
+        resources,
+        AbstractHeapType::Any,
+        AbstractHeapType::Extern,
+    )
 }
 
 /// Makes a reference of an integer, where the features allow its type.

@@ -75,10 +75,7 @@ pub(crate) fn send<A: Allocator, T: WasmModuleResources>(
     let last = match last_type(types) {
         Some(last) => last,
         None => {
-            return Err(OperatorError::Refused(OperatorFault::at(
-                OperatorRule::LabelTypes,
-                depth,
-            )));
+            return Err(OperatorError::Refused(OperatorFault::at(OperatorRule::LabelTypes, depth)));
         }
     };
     if !resources.is_subtype(ValType::Ref(sent), last.ty()) {

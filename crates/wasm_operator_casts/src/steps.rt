@@ -44,12 +44,24 @@ pub fn step_cast<A: Allocator, T: WasmModuleResources>(
             relative_depth,
             from_ref_type,
             to_ref_type,
-        } => br_on_cast(stacks, resources, relative_depth, from_ref_type, to_ref_type),
+        } => br_on_cast(
+            stacks,
+            resources,
+            relative_depth,
+            from_ref_type,
+            to_ref_type,
+        ),
         CastOperator::BrOnCastFail {
             relative_depth,
             from_ref_type,
             to_ref_type,
-        } => br_on_cast_fail(stacks, resources, relative_depth, from_ref_type, to_ref_type),
+        } => br_on_cast_fail(
+            stacks,
+            resources,
+            relative_depth,
+            from_ref_type,
+            to_ref_type,
+        ),
     }
 }
 

@@ -12,9 +12,7 @@ ghost use Rattle.wasm_operator_casts.specs.Tops.{top_in, top_seen};
 
 use std::alloc::Allocator;
 use wasm_module_resources::WasmModuleResources;
-use wasm_readers_types::{
-    AbstractHeapType, CompositeInnerType, HeapType, RefType, UnpackedIndex,
-};
+use wasm_readers_types::{AbstractHeapType, CompositeInnerType, HeapType, RefType, UnpackedIndex};
 
 /// The greatest type of the hierarchy of an abstract heap type.
 fn top_of_abstract(ty: AbstractHeapType) -> AbstractHeapType

@@ -27,7 +27,10 @@ some_same p q e = cc
 none_is : (p : Popped) → None ≡ Some p → ⊥
 none_is p e = cc
 
-same_state : (x z : Operand UnpackedIndex) (s t : State UnpackedIndex) → Some {T = Popped} (z, s) ≡ Some (x, t) → s ≡ t
+abbrev as_popped : Operand UnpackedIndex → State UnpackedIndex → Option Popped
+as_popped x s = Some (x, s)
+
+same_state : (x z : Operand UnpackedIndex) (s t : State UnpackedIndex) → as_popped z s ≡ as_popped x t → s ≡ t
 same_state x z s t e = ap (λ (p : Popped). p.1) (some_same (z, s) (x, t) e)
 
 -- a reference was an operand
@@ -37,7 +40,7 @@ as_some (Some y) r t x e = same_state x y r t e
 
 referred : (o : Option Popped) (x : Operand UnpackedIndex) (t : State UnpackedIndex) → ◌>>=◌ {B = Popped} o (λ p. ◌>>=◌ {B = Popped} (as_reference p.0) (λ y. Some (y, p.1))) ≡ Some (x, t) → (z : Operand UnpackedIndex) × (o ≡ Some (z, t))
 referred None x t e = absurd (none_is (x, t) e)
-referred (Some p) x t e = (p.0, ap (λ (r : State UnpackedIndex). Some {T = Popped} (p.0, r)) (as_some (as_reference p.0) p.1 t x e))
+referred (Some p) x t e = (p.0, ap (λ (r : State UnpackedIndex). as_popped p.0 r) (as_some (as_reference p.0) p.1 t x e))
 
 -- an operand that is put back on top can be taken again
 above : (n h : ℕ) → (n == h) ≡ true → (suc n == h) ≡ false
