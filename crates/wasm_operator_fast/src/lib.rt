@@ -1,0 +1,17 @@
+//! Frequent operators, read and typed at once.
+#![tactic(auto)]
+
+mod accesses;
+mod allowed;
+mod ends;
+mod globals;
+mod immediates;
+mod locals;
+mod not_taken;
+mod numbers;
+mod peeks;
+mod plain;
+mod steps;
+
+pub use not_taken::NotTaken;
+pub use steps::fast_step;
