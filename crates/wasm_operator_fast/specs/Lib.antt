@@ -1,3 +1,4 @@
 pub mod Accesses
 pub mod Fast
 pub mod Fused
+pub mod Openings

@@ -16,7 +16,7 @@ use wasm_operators::FrameKind;
 
 /// Whether a frame is that of an `if` before its `else`.
 #[inline(always)]
-fn is_if(kind: FrameKind) -> bool
+pub(crate) fn is_if(kind: FrameKind) -> bool
     ensures { result ≡ is_if (kind_of kind) }
 {
     match kind {

@@ -3,6 +3,9 @@
 
 mod accesses;
 mod allowed;
+mod blocks;
+mod branches;
+mod calls;
 mod ends;
 mod globals;
 mod immediates;
@@ -11,7 +14,9 @@ mod not_taken;
 mod numbers;
 mod peeks;
 mod plain;
+mod selects;
 mod steps;
+mod turns;
 
 pub use not_taken::NotTaken;
 pub use steps::fast_step;

@@ -7,17 +7,23 @@ ghost use Rattle.wasm_operator_stacks.specs.Seen.{state_of, around, Kept};
 ghost use Rattle.wasm_operator_fast.specs.Fused.{Fuses, step_at};
 
 use crate::accesses::access_memory;
+use crate::blocks::{next_opening, open, open_if};
+use crate::branches::{branch, branch_if, give_back};
+use crate::calls::call;
 use crate::ends::end;
 use crate::globals::{global_get, global_set};
 use crate::immediates::{next_byte, next_i32, next_i64, next_index, next_memarg};
 use crate::locals::{drop_any, local_get, local_set, local_tee};
 use crate::not_taken::NotTaken;
 use crate::numbers::{compute, constant};
+use crate::selects::select;
+use crate::turns::turn_to_else;
 use std::alloc::Allocator;
 use wasm_flat_operators::access_from_opcode;
 use wasm_module_resources::WasmModuleResources;
 use wasm_numeric_operators::{NumberType, numeric_from_opcode, numeric_signature};
 use wasm_operator_stacks::Stacks;
+use wasm_operators::FrameKind;
 use wasm_readers::BinaryReader;
 
 /// A numeric operator, a load or a store.
@@ -53,7 +59,54 @@ fn step_by_table<A: Allocator, T: WasmModuleResources>(
     }
 }
 
-/// A constant or a control operator, or another.
+/// A frequent control operator or a call, or another.
+#[inline(always)]
+#[tactic(auto, using(crate::proofs::Fusing::controls))]
+fn step_control<A: Allocator, T: WasmModuleResources>(
+    reader: &mut BinaryReader,
+    stacks: &mut Stacks<A>,
+    resources: &T,
+    opcode: u8,
+) -> Result<(), NotTaken>
+    ensures input { SameInput reader.old reader.new }
+    ensures onward { position_in reader.old ≤ position_in reader.new }
+    ensures plain { OnOk result (opcode < 0xfb) }
+    ensures took { Fuses result (T.context resources.now) opcode reader.old stacks.old reader.new stacks.new }
+    ensures same { Kept stacks.old stacks.new }
+{
+    match opcode {
+        0x02 => {
+            let opening = next_opening(reader)?;
+            open(stacks, resources, FrameKind::Block, opening)
+        }
+        0x03 => {
+            let opening = next_opening(reader)?;
+            open(stacks, resources, FrameKind::Loop, opening)
+        }
+        0x04 => {
+            let opening = next_opening(reader)?;
+            open_if(stacks, resources, opening)
+        }
+        0x05 => turn_to_else(stacks, resources),
+        0x0b => end(stacks, resources),
+        0x0c => {
+            let depth = next_index(reader)?;
+            branch(stacks, resources, depth)
+        }
+        0x0d => {
+            let depth = next_index(reader)?;
+            branch_if(stacks, resources, depth)
+        }
+        0x0f => give_back(stacks, resources),
+        0x10 => {
+            let index = next_index(reader)?;
+            call(stacks, resources, index)
+        }
+        _ => step_by_table(reader, stacks, resources, opcode),
+    }
+}
+
+/// A constant or a parametric operator, or another.
 #[inline(always)]
 #[tactic(auto, using(crate::proofs::Fusing::structures))]
 fn step_structural<A: Allocator, T: WasmModuleResources>(
@@ -69,8 +122,8 @@ fn step_structural<A: Allocator, T: WasmModuleResources>(
     ensures same { Kept stacks.old stacks.new }
 {
     match opcode {
-        0x0b => end(stacks, resources),
         0x1a => drop_any(stacks, resources),
+        0x1b => select(stacks, resources),
         0x41 => {
             let _value = next_i32(reader)?;
             constant(stacks, resources, NumberType::I32)
@@ -79,7 +132,7 @@ fn step_structural<A: Allocator, T: WasmModuleResources>(
             let _value = next_i64(reader)?;
             constant(stacks, resources, NumberType::I64)
         }
-        _ => step_by_table(reader, stacks, resources, opcode),
+        _ => step_control(reader, stacks, resources, opcode),
     }
 }
 

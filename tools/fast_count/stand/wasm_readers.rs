@@ -1,0 +1,1 @@
+pub use wasm_binary_reader::BinaryReader;
