@@ -1,0 +1,12 @@
+//! The typing of operators, one by one, over any look-ups: function bodies and constant expressions
+//! (Core Specification 3.0, Validation, Instructions, and Appendix, Validation Algorithm).
+#![tactic(auto)]
+
+mod queries;
+mod steps;
+mod stubs;
+mod validator;
+
+pub use queries::Frame;
+pub use steps::step;
+pub use validator::{OperatorValidator, OperatorValidatorAllocations};
