@@ -5,4 +5,4 @@ mod fields;
 mod named;
 
 pub use fields::{has_default, is_packed, same_flag, unpack};
-pub use named::{exact_or_null, has, identity, new_reference, nullable, reaches};
+pub use named::{exact_or_null, identity, new_reference, nullable};

@@ -1,38 +1,18 @@
-//! Types that operators name, and what the body may reach.
+//! Types that operators name.
 
 ghost use Rattle.std.specs.Prelude.{◌≡◌, true, false, slice_get, option_map};
 ghost use Rattle.wasm_spec.specs.Syntax.{concrete, exact};
-ghost use Rattle.wasm_spec.specs.ValueTypes.{implies};
-ghost use Rattle.wasm_readers_errors.specs.On.{has_flag};
 ghost use Rattle.wasm_readers_types.specs.SeenValues.{index_of};
 ghost use Rattle.wasm_rules.specs.FeatureFlags.{features_of};
 ghost use Rattle.wasm_type_words.specs.Seen.{val_in};
 ghost use Rattle.wasm_operator_steps.specs.Meanings.{ref_to};
 ghost use Rattle.wasm_operator_aggregates.specs.Declared.{new_heap};
 
-use bitflags::Flags;
 use std::alloc::Allocator;
 use wasm_module_resources::WasmModuleResources;
 use wasm_operator_stacks::Stacks;
-use wasm_readers_errors::WasmFeatures;
 use wasm_readers_types::{HeapType, PackedIndex, RefType, UnpackedIndex};
 use wasm_type_words::TypeWord;
-
-/// Whether a proposal is on.
-#[inline(always)]
-pub fn has<A: Allocator>(stacks: &Stacks<A>, feature: WasmFeatures) -> bool
-    ensures { result ≡ has_flag feature.0 stacks.now.features }
-{
-    stacks.features.contains(feature)
-}
-
-/// Whether what is shared or not may be reached from the body.
-#[inline(always)]
-pub fn reaches<A: Allocator>(stacks: &Stacks<A>, shared: bool) -> bool
-    ensures { result ≡ implies stacks.now.is_shared shared }
-{
-    !stacks.is_shared || shared
-}
 
 /// The identity of the type of this type index, if there is one.
 pub fn identity<T: WasmModuleResources>(resources: &T, type_index: u32) -> Option<PackedIndex>

@@ -10,10 +10,10 @@ use crate::results::listed;
 use std::alloc::Allocator;
 use wasm_module_resources::WasmModuleResources;
 use wasm_operator_checks::{
-    OperatorError, OperatorFault, OperatorRule, Takes, Types, plain, plain_with,
+    OperatorError, OperatorFault, OperatorRule, Takes, Types, address, has, plain, plain_with,
 };
 use wasm_operator_stacks::Stacks;
-use wasm_operator_tables::{address, has, table_reached};
+use wasm_operator_tables::table_reached;
 use wasm_readers_errors::WasmFeatures;
 use wasm_readers_types::ValType;
 

@@ -10,9 +10,8 @@ ghost use Rattle.wasm_operator_calls.specs.Callees.{type_in, function_in};
 
 use std::alloc::Allocator;
 use wasm_module_resources::WasmModuleResources;
-use wasm_operator_checks::{OperatorFault, OperatorRule};
+use wasm_operator_checks::{OperatorFault, OperatorRule, reaches};
 use wasm_operator_stacks::Stacks;
-use wasm_operator_tables::reaches;
 use wasm_readers_types::{CompositeInnerType, FuncType, HeapType, RefType, UnpackedIndex};
 use wasm_type_words::TypeWord;
 

@@ -10,9 +10,9 @@ use crate::reach::{function_reached, null_or, type_reached};
 use crate::results::returns;
 use std::alloc::Allocator;
 use wasm_module_resources::WasmModuleResources;
-use wasm_operator_checks::{OperatorError, OperatorFault, OperatorRule, Types, halt};
+use wasm_operator_checks::{OperatorError, OperatorFault, OperatorRule, Types, address, halt, has};
 use wasm_operator_stacks::Stacks;
-use wasm_operator_tables::{address, has, table_reached};
+use wasm_operator_tables::table_reached;
 use wasm_readers_errors::WasmFeatures;
 use wasm_readers_types::ValType;
 

@@ -5,6 +5,7 @@ mod faults;
 mod lists;
 mod looks;
 mod matching;
+mod reach;
 mod steps;
 mod types;
 
@@ -12,5 +13,6 @@ pub use faults::{OperatorError, OperatorFault, OperatorRule};
 pub use lists::match_all;
 pub use looks::{check_many, check_type, look};
 pub use matching::matches;
+pub use reach::{address, has, lesser, reaches};
 pub use steps::{halt, plain, plain_with};
 pub use types::{Takes, Types, check_takes, check_types, exchange_types};

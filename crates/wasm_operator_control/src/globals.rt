@@ -1,7 +1,6 @@
 //! Operators on globals.
 
 ghost use Rattle.std.specs.Prelude.{◌≡◌, slice_get};
-ghost use Rattle.wasm_spec.specs.ValueTypes.{implies};
 ghost use Rattle.wasm_flat_operators.specs.declared.variables.VariableOperator.TheVariants.{GlobalGet, GlobalSet};
 ghost use Rattle.wasm_operator_steps.specs.Shapes.{variable_shape};
 ghost use Rattle.wasm_operator_stacks.specs.Seen.{Kept};
@@ -9,18 +8,12 @@ ghost use Rattle.wasm_operator_checks.specs.Steps.{Performs};
 
 use std::alloc::Allocator;
 use wasm_module_resources::WasmModuleResources;
-use wasm_operator_checks::{OperatorError, OperatorFault, OperatorRule, Takes, Types, plain};
+use wasm_operator_checks::{
+    OperatorError, OperatorFault, OperatorRule, Takes, Types, plain, reaches,
+};
 use wasm_operator_stacks::Stacks;
 use wasm_readers_types::GlobalType;
 use wasm_type_words::TypeWord;
-
-/// Whether what is shared or not may be reached from the body.
-#[inline(always)]
-pub(crate) fn reaches<A: Allocator>(stacks: &Stacks<A>, shared: bool) -> bool
-    ensures { result ≡ implies stacks.now.is_shared shared }
-{
-    !stacks.is_shared || shared
-}
 
 /// `global.get`.
 #[tactic(auto, using(wasm_operator_checks::proofs::Acting::acts, crate::proofs::Globally::globals))]

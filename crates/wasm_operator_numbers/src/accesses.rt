@@ -8,12 +8,14 @@ ghost use Rattle.wasm_operator_stacks.specs.Seen.{Kept};
 ghost use Rattle.wasm_operator_checks.specs.Steps.{Performs};
 ghost use Rattle.wasm_operator_numbers.specs.Accesses.{accessing};
 
-use crate::allowed::{address, allows_number};
+use crate::allowed::allows_number;
 use std::alloc::Allocator;
 use wasm_flat_operators::max_align;
 use wasm_module_resources::WasmModuleResources;
 use wasm_numeric_operators::NumberType;
-use wasm_operator_checks::{OperatorError, OperatorFault, OperatorRule, Takes, Types, plain};
+use wasm_operator_checks::{
+    OperatorError, OperatorFault, OperatorRule, Takes, Types, address, plain,
+};
 use wasm_operator_stacks::Stacks;
 use wasm_operators::{MemArg, MemoryOperator};
 use wasm_readers_types::MemoryType;

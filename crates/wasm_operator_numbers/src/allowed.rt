@@ -2,19 +2,14 @@
 
 ghost use Rattle.std.specs.Prelude.{◌≡◌, ℕ};
 ghost use Rattle.wasm_spec.specs.ValueTypes.{allows_val};
-ghost use Rattle.wasm_readers_errors.specs.On.{has_flag};
 ghost use Rattle.wasm_rules.specs.FeatureFlags.{features_of};
-ghost use Rattle.wasm_operator_steps.specs.Meanings.{address};
 ghost use Rattle.wasm_operator_steps.specs.Shapes.{number_type};
-ghost use Rattle.wasm_readers_types.specs.declared.indices.UnpackedIndex.{UnpackedIndex};
-ghost use Rattle.wasm_type_words.specs.Seen.{val_in};
 
 use bitflags::Flags;
 use std::alloc::Allocator;
 use wasm_numeric_operators::NumberType;
 use wasm_operator_stacks::Stacks;
 use wasm_readers_errors::WasmFeatures;
-use wasm_type_words::TypeWord;
 
 /// Whether the features allow this number type.
 #[inline(always)]
@@ -24,25 +19,5 @@ pub fn allows_number<A: Allocator>(stacks: &Stacks<A>, ty: NumberType) -> bool
     match ty {
         NumberType::I32 | NumberType::I64 => true,
         NumberType::F32 | NumberType::F64 => stacks.features.contains(WasmFeatures::FLOATS),
-    }
-}
-
-/// Whether a proposal is on.
-#[inline(always)]
-pub(crate) fn has<A: Allocator>(stacks: &Stacks<A>, feature: WasmFeatures) -> bool
-    ensures { result ≡ has_flag feature.0 stacks.now.features }
-{
-    stacks.features.contains(feature)
-}
-
-/// What addresses a memory, of 64 bits or of 32.
-#[inline(always)]
-pub(crate) fn address(is_64: bool) -> TypeWord
-    ensures { val_in result ≡ address {R = UnpackedIndex} is_64 }
-{
-    if is_64 {
-        TypeWord::number(NumberType::I64)
-    } else {
-        TypeWord::number(NumberType::I32)
     }
 }

@@ -10,12 +10,13 @@ ghost use Rattle.wasm_operator_steps.specs.Shapes.{memory_shape};
 ghost use Rattle.wasm_operator_stacks.specs.Seen.{Kept};
 ghost use Rattle.wasm_operator_checks.specs.Steps.{Performs};
 
-use crate::allowed::{address, has};
 use std::alloc::Allocator;
 use wasm_flat_operators::BulkMemoryOperator;
 use wasm_module_resources::WasmModuleResources;
 use wasm_numeric_operators::NumberType;
-use wasm_operator_checks::{OperatorError, OperatorFault, OperatorRule, Takes, Types, plain};
+use wasm_operator_checks::{
+    OperatorError, OperatorFault, OperatorRule, Takes, Types, address, has, lesser, plain,
+};
 use wasm_operator_stacks::Stacks;
 use wasm_readers_errors::WasmFeatures;
 use wasm_type_words::TypeWord;
@@ -28,13 +29,6 @@ fn has_data<T: WasmModuleResources>(resources: &T, data_index: u32) -> bool
         Some(count) => data_index < count,
         None => false,
     }
-}
-
-/// What is as wide as both of these addresses are at the least.
-fn lesser(to: bool, from: bool) -> TypeWord
-    ensures { val_in result ≡ address_by {R = UnpackedIndex} (to && from) }
-{
-    address(to && from)
 }
 
 /// `memory.size`.

@@ -8,11 +8,11 @@ ghost use Rattle.wasm_operator_steps.specs.Shapes.{computing, constant_shape, nu
 ghost use Rattle.wasm_operator_stacks.specs.Seen.{Kept};
 ghost use Rattle.wasm_operator_checks.specs.Steps.{Performs};
 
-use crate::allowed::{allows_number, has};
+use crate::allowed::allows_number;
 use std::alloc::Allocator;
 use wasm_module_resources::WasmModuleResources;
 use wasm_numeric_operators::{NumberType, Signature};
-use wasm_operator_checks::{OperatorError, OperatorFault, OperatorRule, Takes, Types, plain};
+use wasm_operator_checks::{OperatorError, OperatorFault, OperatorRule, Takes, Types, has, plain};
 use wasm_operator_stacks::Stacks;
 use wasm_operators::ConstantOperator;
 use wasm_readers_errors::WasmFeatures;

@@ -11,8 +11,8 @@ ghost use Rattle.wasm_operator_structs.specs.Fields.{needed_of, field_in};
 
 use std::alloc::Allocator;
 use wasm_module_resources::WasmModuleResources;
-use wasm_operator_aggregates::{has as has_feature, identity, reaches};
-use wasm_operator_checks::{OperatorFault, OperatorRule};
+use wasm_operator_aggregates::identity;
+use wasm_operator_checks::{OperatorFault, OperatorRule, has, reaches};
 use wasm_operator_stacks::Stacks;
 use wasm_readers_errors::WasmFeatures;
 use wasm_readers_types::{CompositeInnerType, FieldType, PackedIndex};
@@ -44,8 +44,8 @@ fn is_on<A: Allocator>(stacks: &Stacks<A>, proposal: Proposal) -> bool
     ensures { result ≡ allowed (features_of stacks.now.features) (needed_of proposal) }
 {
     match proposal {
-        Proposal::Gc => has_feature(stacks, WasmFeatures::GC),
-        Proposal::CustomDescriptors => has_feature(stacks, WasmFeatures::CUSTOM_DESCRIPTORS),
+        Proposal::Gc => has(stacks, WasmFeatures::GC),
+        Proposal::CustomDescriptors => has(stacks, WasmFeatures::CUSTOM_DESCRIPTORS),
     }
 }
 

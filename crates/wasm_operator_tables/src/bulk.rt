@@ -9,22 +9,17 @@ ghost use Rattle.wasm_operator_steps.specs.Shapes.{table_shape};
 ghost use Rattle.wasm_operator_stacks.specs.Seen.{Kept};
 ghost use Rattle.wasm_operator_checks.specs.Steps.{Performs};
 
-use crate::reach::{address, has, table_reached};
+use crate::reach::table_reached;
 use std::alloc::Allocator;
 use wasm_module_resources::WasmModuleResources;
 use wasm_numeric_operators::NumberType;
-use wasm_operator_checks::{OperatorError, OperatorFault, OperatorRule, Takes, Types, plain};
+use wasm_operator_checks::{
+    OperatorError, OperatorFault, OperatorRule, Takes, Types, address, has, lesser, plain,
+};
 use wasm_operator_stacks::Stacks;
 use wasm_readers_errors::WasmFeatures;
 use wasm_readers_types::ValType;
 use wasm_type_words::TypeWord;
-
-/// The lesser of two addresses: of 64 bits where both are.
-fn lesser(to: bool, from: bool) -> TypeWord
-    ensures { val_in result ≡ address_by {R = UnpackedIndex} (to && from) }
-{
-    address(to && from)
-}
 
 /// `table.copy`: takes an address in each of two tables, the one that is read on top, and a number
 /// of elements above them (Core Specification 3.0, Validation, Table Instructions).

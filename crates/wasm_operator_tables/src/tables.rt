@@ -5,10 +5,12 @@ ghost use Rattle.wasm_operator_steps.specs.Shapes.{table_shape};
 ghost use Rattle.wasm_operator_stacks.specs.Seen.{Kept};
 ghost use Rattle.wasm_operator_checks.specs.Steps.{Performs};
 
-use crate::reach::{address, has, table_reached};
+use crate::reach::table_reached;
 use std::alloc::Allocator;
 use wasm_module_resources::WasmModuleResources;
-use wasm_operator_checks::{OperatorError, OperatorFault, OperatorRule, Takes, Types, plain};
+use wasm_operator_checks::{
+    OperatorError, OperatorFault, OperatorRule, Takes, Types, address, has, plain,
+};
 use wasm_operator_stacks::Stacks;
 use wasm_readers_errors::WasmFeatures;
 use wasm_type_words::TypeWord;
