@@ -151,6 +151,6 @@ pub trait WasmModuleResources {
     /// Whether a function is exactly of its type, and not of a subtype: one that is defined in the
     /// module, or imported as such.
     fn has_function_exact_type(&self, function_index: u32) -> bool
-        ensures { result ≡ passes (λ b. b) (slice_get (context self.now).exact function_index) }
+        ensures exact { result ≡ passes (λ b. b) (slice_get (context self.now).exact function_index) }
         ensures told { IsSome (slice_get (context self.now).functions function_index) → IsSome (slice_get (context self.now).exact function_index) };
 }

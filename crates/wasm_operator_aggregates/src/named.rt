@@ -8,9 +8,11 @@ ghost use Rattle.wasm_type_words.specs.Seen.{val_in};
 ghost use Rattle.wasm_operator_steps.specs.Meanings.{ref_to};
 ghost use Rattle.wasm_operator_aggregates.specs.Declared.{new_heap};
 
+use bitflags::Flags;
 use std::alloc::Allocator;
 use wasm_module_resources::WasmModuleResources;
 use wasm_operator_stacks::Stacks;
+use wasm_readers_errors::WasmFeatures;
 use wasm_readers_types::{HeapType, PackedIndex, RefType, UnpackedIndex};
 use wasm_type_words::TypeWord;
 
