@@ -1,5 +1,5 @@
 ghost use Rattle.std.specs.Prelude.{◌≡◌, ◌==◌, ◌≤◌, ◌<◌, ◌^◌, ◌-◌, ◌+◌, ◌≤ℤ◌, ◌<ℤ◌, ◌-ℤ◌, pos, IfOk, OnOk, OnErr, IfSome, OnSome, IfNone, length, take, drop, slice_range, [], ◌∷◌, ◌++◌, Some, None, IfErr};
-ghost use Rattle.wasm_spec.specs.Values.{byte_at, u32_at, u64_at, s33_index_at, bytes_at, sized_at, name_at, signed_at as integer_at};
+ghost use Rattle.wasm_spec.specs.Values.{byte_at, u32_at, u64_at, s33_index_at, bytes_at, sized_at, name_at, signed_at as integer_at, unsigned_at};
 
 use crate::leb128::{long_signed_at, signed_at};
 use std::ops::Range;
@@ -335,6 +335,39 @@ impl<'a> BinaryReader<'a> {
         if fourth < 128 {
             return Ok(low + (u64::from(fourth) << 21));
         }
+        let low = low + (u64::from(fourth - 128) << 21);
+        Ok(low + (self.next_upper_bits()? << 28))
+    }
+
+    /// The bits of such a number behind its first 28, and why they aren't there.
+    fn next_upper_bits(&mut self) -> Result<u64, Malformed>
+        ensures same { SameInput self.old self.new }
+        ensures onward { position_in self.old ≤ position_in self.new }
+        ensures ok { IfOk result (λ n. unsigned_at 36 (rest self.old) ≡ Some (n, rest self.new)) }
+        ensures fits { IfOk result (λ n. n < 2 ^ 36) }
+        ensures further { OnOk result (position_in self.old < position_in self.new) }
+        ensures err { OnErr result (unsigned_at 36 (rest self.old) ≡ None) }
+        ensures told { IfErr result (λ m. m ≡ unsigned_fault 36 (rest self.old)) }
+    {
+        let first = self.next_byte()?;
+        if first < 128 {
+            return Ok(u64::from(first));
+        }
+        let second = self.next_byte()?;
+        let low = u64::from(first - 128);
+        if second < 128 {
+            return Ok(low + (u64::from(second) << 7));
+        }
+        let third = self.next_byte()?;
+        let low = low + (u64::from(second - 128) << 7);
+        if third < 128 {
+            return Ok(low + (u64::from(third) << 14));
+        }
+        let fourth = self.next_byte()?;
+        let low = low + (u64::from(third - 128) << 14);
+        if fourth < 128 {
+            return Ok(low + (u64::from(fourth) << 21));
+        }
         let fifth = self.next_byte()?;
         let low = low + (u64::from(fourth - 128) << 21);
         if fifth < 128 {
@@ -342,30 +375,10 @@ impl<'a> BinaryReader<'a> {
         }
         let sixth = self.next_byte()?;
         let low = low + (u64::from(fifth - 128) << 28);
-        if sixth < 128 {
-            return Ok(low + (u64::from(sixth) << 35));
-        }
-        let seventh = self.next_byte()?;
-        let low = low + (u64::from(sixth - 128) << 35);
-        if seventh < 128 {
-            return Ok(low + (u64::from(seventh) << 42));
-        }
-        let eighth = self.next_byte()?;
-        let low = low + (u64::from(seventh - 128) << 42);
-        if eighth < 128 {
-            return Ok(low + (u64::from(eighth) << 49));
-        }
-        let ninth = self.next_byte()?;
-        let low = low + (u64::from(eighth - 128) << 49);
-        if ninth < 128 {
-            return Ok(low + (u64::from(ninth) << 56));
-        }
-        let tenth = self.next_byte()?;
-        let low = low + (u64::from(ninth - 128) << 56);
-        if tenth < 2 {
-            Ok(low + (u64::from(tenth) << 63))
+        if sixth < 2 {
+            Ok(low + (u64::from(sixth) << 35))
         } else {
-            Err(if tenth < 128 {
+            Err(if sixth < 128 {
                 Malformed::IntegerTooLarge
             } else {
                 Malformed::IntegerTooLong
