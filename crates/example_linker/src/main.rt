@@ -1,6 +1,6 @@
-//! A linker compares the ids of types across the modules of one validator: where equal types are one,
-//! two ids are equal exactly where the types are, and a function may be imported where its type is a
-//! subtype of the one that is asked for.
+//! A linker compares the ids of types across the modules of one validator: where equal types are
+//! one, two ids are equal exactly where the types are, and a function may be imported where its
+//! type is a subtype of the one that is asked for.
 #![tactic(auto)]
 
 use std::alloc::Allocator;
@@ -30,8 +30,8 @@ fn first_export<A: Allocator + Copy>(types: &Types<A>) -> Option<CoreTypeId> {
     }
 }
 
-/// Whether a function of this type may be imported as one of the wanted type. The types are those of
-/// the module that was checked last, so that its list has both ids.
+/// Whether a function of this type may be imported as one of the wanted type. The types are those
+/// of the module that was checked last, so that its list has both ids.
 fn may_be_linked<A: Allocator + Copy>(
     types: &Types<A>,
     given: CoreTypeId,

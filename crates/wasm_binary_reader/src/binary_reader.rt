@@ -77,7 +77,12 @@ impl<'a> BinaryReader<'a> {
 
     /// A refusal at the next byte.
     fn refusal(&self, malformed: Malformed) -> Refusal
-        ensures { result ≡ record { fault = Fault.Malformed malformed; offset = original self.now + position_in self.now; missing = None } }
+        ensures { result ≡ record {
+          fault = Fault.Malformed malformed;
+          offset = original self.now +
+              position_in self.now;
+          missing = None;
+        } }
     {
         Refusal::new(Fault::Malformed(malformed), self.original_position())
     }
@@ -143,7 +148,8 @@ impl<'a> BinaryReader<'a> {
         ensures ok { IfOk result (λ byte. rest self.old ≡ byte ∷ rest self.new) }
         ensures further { OnOk result (position_in self.new ≡ position_in self.old + 1) }
         ensures err { OnErr result (rest self.old ≡ []) }
-        ensures told { IfErr result (λ r. r ≡ plain (Fault.Malformed Malformed.UnexpectedEnd) (place_of_next self.old)) }
+        ensures told { IfErr result (λ r. r ≡ plain (Fault.Malformed Malformed.UnexpectedEnd)
+            (place_of_next self.old)) }
     {
         match self.next_byte() {
             Ok(byte) => Ok(byte),
@@ -166,7 +172,8 @@ impl<'a> BinaryReader<'a> {
         ensures ok { IfOk result (λ n. u32_at (rest self.old) ≡ Some (n, rest self.new)) }
         ensures further { OnOk result (position_in self.old < position_in self.new) }
         ensures err { OnErr result (u32_at (rest self.old) ≡ None) }
-        ensures told { IfErr result (λ r. r ≡ plain (Fault.Malformed (unsigned_fault 32 (rest self.old))) (place_of_next self.new)) }
+        ensures told { IfErr result (λ r. r ≡ plain
+            (Fault.Malformed (unsigned_fault 32 (rest self.old))) (place_of_next self.new)) }
     {
         match self.next_u32() {
             Ok(number) => Ok(number),
@@ -264,7 +271,8 @@ impl<'a> BinaryReader<'a> {
         ensures ok { IfOk result (λ n. u64_at (rest self.old) ≡ Some (n, rest self.new)) }
         ensures further { OnOk result (position_in self.old < position_in self.new) }
         ensures err { OnErr result (u64_at (rest self.old) ≡ None) }
-        ensures told { IfErr result (λ r. r ≡ plain (Fault.Malformed (unsigned_fault 64 (rest self.old))) (place_of_next self.new)) }
+        ensures told { IfErr result (λ r. r ≡ plain
+            (Fault.Malformed (unsigned_fault 64 (rest self.old))) (place_of_next self.new)) }
     {
         match self.next_u64() {
             Ok(number) => Ok(number),
@@ -400,7 +408,9 @@ impl<'a> BinaryReader<'a> {
         ensures ok { IfOk result (λ n. s33_index_at (rest self.old) ≡ Some (n, rest self.new)) }
         ensures further { OnOk result (position_in self.old < position_in self.new) }
         ensures err { OnErr result ((s33_index_at (rest self.old) ≡ None) × (self.new ≡ self.old)) }
-        ensures told { IfErr result (λ r. r ≡ plain (Fault.Malformed (index_fault (integer_at 33 (rest self.old)))) (place_of_next self.old)) }
+        ensures told { IfErr result (λ r. r ≡ plain
+            (Fault.Malformed (index_fault (integer_at 33 (rest self.old))))
+            (place_of_next self.old)) }
     {
         match signed_at(self.remaining(), 33) {
             Some((value, used)) => {
@@ -420,11 +430,13 @@ impl<'a> BinaryReader<'a> {
         requires low { 0 < bits }
         requires high { bits ≤ 64 }
         ensures same { SameInput self.old self.new }
-        ensures some { IfSome result (λ n. integer_at bits (rest self.old) ≡ Some (n, rest self.new)) }
+        ensures some { IfSome result (λ n. integer_at bits (rest self.old)
+            ≡ Some (n, rest self.new)) }
         ensures at_least { IfSome result (λ n. (pos 0 -ℤ pos (2 ^ (bits - 1))) ≤ℤ n) }
         ensures below { IfSome result (λ n. n <ℤ pos (2 ^ (bits - 1))) }
         ensures further { OnSome result (position_in self.old < position_in self.new) }
-        ensures none { IfNone result ((integer_at bits (rest self.old) ≡ None) × (self.new ≡ self.old)) }
+        ensures none { IfNone result ((integer_at bits (rest self.old) ≡ None)
+            × (self.new ≡ self.old)) }
     {
         let (value, used) = long_signed_at(self.remaining(), bits)?;
         self.position += used;
@@ -445,7 +457,8 @@ impl<'a> BinaryReader<'a> {
         ensures ok { IfOk result (λ n. integer_at 32 (rest self.old) ≡ Some (n, rest self.new)) }
         ensures further { OnOk result (position_in self.old < position_in self.new) }
         ensures err { OnErr result (integer_at 32 (rest self.old) ≡ None) }
-        ensures told { IfErr result (λ r. r ≡ plain (Fault.Malformed Malformed.IntegerTooLong) (place_of_next self.old)) }
+        ensures told { IfErr result (λ r. r ≡ plain (Fault.Malformed Malformed.IntegerTooLong)
+            (place_of_next self.old)) }
     {
         match self.next_var_i32() {
             Some(value) => Ok(value),
@@ -458,9 +471,11 @@ impl<'a> BinaryReader<'a> {
     pub fn next_var_i32(&mut self) -> Option<i32>
         ensures same { SameInput self.old self.new }
         ensures onward { position_in self.old ≤ position_in self.new }
-        ensures some { IfSome result (λ n. integer_at 32 (rest self.old) ≡ Some (n, rest self.new)) }
+        ensures some { IfSome result (λ n. integer_at 32 (rest self.old)
+            ≡ Some (n, rest self.new)) }
         ensures further { OnSome result (position_in self.old < position_in self.new) }
-        ensures none { IfNone result ((integer_at 32 (rest self.old) ≡ None) × (self.new ≡ self.old)) }
+        ensures none { IfNone result ((integer_at 32 (rest self.old) ≡ None)
+            × (self.new ≡ self.old)) }
     {
         match self.next_last_byte() {
             Some(byte) if byte < 64 => Some(i32::from(byte)),
@@ -486,7 +501,8 @@ impl<'a> BinaryReader<'a> {
         ensures ok { IfOk result (λ n. integer_at 64 (rest self.old) ≡ Some (n, rest self.new)) }
         ensures further { OnOk result (position_in self.old < position_in self.new) }
         ensures err { OnErr result (integer_at 64 (rest self.old) ≡ None) }
-        ensures told { IfErr result (λ r. r ≡ plain (Fault.Malformed Malformed.IntegerTooLong) (place_of_next self.old)) }
+        ensures told { IfErr result (λ r. r ≡ plain (Fault.Malformed Malformed.IntegerTooLong)
+            (place_of_next self.old)) }
     {
         match self.next_var_i64() {
             Some(value) => Ok(value),
@@ -499,9 +515,11 @@ impl<'a> BinaryReader<'a> {
     pub fn next_var_i64(&mut self) -> Option<i64>
         ensures same { SameInput self.old self.new }
         ensures onward { position_in self.old ≤ position_in self.new }
-        ensures some { IfSome result (λ n. integer_at 64 (rest self.old) ≡ Some (n, rest self.new)) }
+        ensures some { IfSome result (λ n. integer_at 64 (rest self.old)
+            ≡ Some (n, rest self.new)) }
         ensures further { OnSome result (position_in self.old < position_in self.new) }
-        ensures none { IfNone result ((integer_at 64 (rest self.old) ≡ None) × (self.new ≡ self.old)) }
+        ensures none { IfNone result ((integer_at 64 (rest self.old) ≡ None)
+            × (self.new ≡ self.old)) }
     {
         match self.next_last_byte() {
             Some(byte) if byte < 64 => Some(i64::from(byte)),
@@ -523,12 +541,16 @@ impl<'a> BinaryReader<'a> {
         ensures same { SameInput self.old self.new }
         ensures onward { position_in self.old ≤ position_in self.new }
         ensures refusal { IfErr result (RefusedFrom self.old) }
-        ensures start { IfOk result (λ part. original part ≡ original self.old + position_in self.old) }
-        ensures end { IfOk result (λ part. original part + length (input part) ≡ original self.new + position_in self.new) }
+        ensures start { IfOk result (λ part. original part
+            ≡ original self.old + position_in self.old) }
+        ensures end { IfOk result (λ part. original part + length (input part)
+            ≡ original self.new + position_in self.new) }
         ensures whole { IfOk result (λ part. input part ≡ rest part) }
-        ensures ok { IfOk result (λ part. bytes_at size (rest self.old) ≡ Some (rest part, rest self.new)) }
+        ensures ok { IfOk result (λ part. bytes_at size (rest self.old)
+            ≡ Some (rest part, rest self.new)) }
         ensures err { OnErr result (bytes_at size (rest self.old) ≡ None) }
-        ensures told { IfErr result (λ r. r ≡ plain (Fault.Malformed Malformed.UnexpectedEnd) (place_of_next self.old)) }
+        ensures told { IfErr result (λ r. r ≡ plain (Fault.Malformed Malformed.UnexpectedEnd)
+            (place_of_next self.old)) }
     {
         if size > self.buffer.len() - self.position {
             return Err(self.refusal(Malformed::UnexpectedEnd));
@@ -553,13 +575,18 @@ impl<'a> BinaryReader<'a> {
         ensures same { SameInput self.old self.new }
         ensures onward { position_in self.old ≤ position_in self.new }
         ensures refusal { IfErr result (RefusedFrom self.old) }
-        ensures start { IfOk result (λ part. original self.old + position_in self.old ≤ original part) }
-        ensures end { IfOk result (λ part. original part + length (input part) ≡ original self.new + position_in self.new) }
+        ensures start { IfOk result (λ part. original self.old + position_in
+            self.old ≤ original part) }
+        ensures end { IfOk result (λ part. original part + length (input part)
+            ≡ original self.new + position_in self.new) }
         ensures whole { IfOk result (λ part. input part ≡ rest part) }
-        ensures ok { IfOk result (λ part. sized_at (rest self.old) ≡ Some (rest part, rest self.new)) }
+        ensures ok { IfOk result (λ part. sized_at (rest self.old)
+            ≡ Some (rest part, rest self.new)) }
         ensures further { OnOk result (position_in self.old < position_in self.new) }
         ensures err { OnErr result (sized_at (rest self.old) ≡ None) }
-        ensures told { IfErr result (λ r. r.fault ≡ Fault.Malformed (sized_fault (unsigned_fault 32 (rest self.old)) (u32_at (rest self.old)))) }
+        ensures told { IfErr result (λ r. r.fault
+            ≡ Fault.Malformed (sized_fault (unsigned_fault 32 (rest self.old))
+            (u32_at (rest self.old)))) }
     {
         let size = self.read_var_u32()?;
         self.read_reader(size as usize)
@@ -577,10 +604,14 @@ impl<'a> BinaryReader<'a> {
         ensures same { SameInput self.old self.new }
         ensures onward { position_in self.old ≤ position_in self.new }
         ensures refusal { IfErr result (RefusedFrom self.old) }
-        ensures ok { IfOk result (λ name. name_at (rest self.old) ≡ Some (name.now, rest self.new)) }
+        ensures ok { IfOk result (λ name. name_at (rest self.old)
+            ≡ Some (name.now, rest self.new)) }
         ensures further { OnOk result (position_in self.old < position_in self.new) }
         ensures err { OnErr result (name_at (rest self.old) ≡ None) }
-        ensures told { IfErr result (λ r. r.fault ≡ Fault.Malformed (name_fault (sized_fault (unsigned_fault 32 (rest self.old)) (u32_at (rest self.old))) (sized_at (rest self.old)))) }
+        ensures told { IfErr result (λ r. r.fault
+            ≡ Fault.Malformed (name_fault
+            (sized_fault (unsigned_fault 32 (rest self.old)) (u32_at (rest self.old)))
+            (sized_at (rest self.old)))) }
     {
         let part = self.read_sized()?;
         match std::str::from_utf8(part.remaining()) {

@@ -6,7 +6,8 @@ ghost use Rattle.wasm_spec.specs.Values.{signed_at as encoded_at};
 pub(crate) fn signed_at(bytes: &[u8], bits: u8) -> Option<(i64, usize)>
     requires low { 0 < bits }
     requires high { bits ≤ 64 }
-    ensures found { IfSome result (λ r. encoded_at bits bytes.now ≡ Some (r.0, drop r.1 bytes.now)) }
+    ensures found { IfSome result (λ r. encoded_at bits bytes.now
+        ≡ Some (r.0, drop r.1 bytes.now)) }
     ensures within { IfSome result (λ r. r.1 ≤ length bytes.now) }
     ensures some { IfSome result (λ r. 0 < r.1) }
     ensures at_least { IfSome result (λ r. (pos 0 -ℤ pos (2 ^ (bits - 1))) ≤ℤ r.0) }
@@ -44,7 +45,8 @@ pub(crate) fn signed_at(bytes: &[u8], bits: u8) -> Option<(i64, usize)>
 pub(crate) fn long_signed_at(bytes: &[u8], bits: u8) -> Option<(i64, usize)>
     requires low { 0 < bits }
     requires high { bits ≤ 64 }
-    ensures found { IfSome result (λ r. encoded_at bits bytes.now ≡ Some (r.0, drop r.1 bytes.now)) }
+    ensures found { IfSome result (λ r. encoded_at bits bytes.now
+        ≡ Some (r.0, drop r.1 bytes.now)) }
     ensures within { IfSome result (λ r. r.1 ≤ length bytes.now) }
     ensures some { IfSome result (λ r. 0 < r.1) }
     ensures at_least { IfSome result (λ r. (pos 0 -ℤ pos (2 ^ (bits - 1))) ≤ℤ r.0) }

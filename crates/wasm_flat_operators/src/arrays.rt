@@ -71,7 +71,8 @@ pub fn read_array(
     ensures same { SameInput reader.old reader.new }
     ensures onward { position_in reader.old ≤ position_in reader.new }
     ensures refusal { IfErr result (RefusedBetween offset reader.old) }
-    ensures ok { IfOk result (λ op. array_from code (rest reader.old) ≡ Some (op, rest reader.new)) }
+    ensures ok { IfOk result (λ op. array_from code (rest reader.old)
+        ≡ Some (op, rest reader.new)) }
     ensures err { OnErr result (array_from code (rest reader.old) ≡ None) }
 {
     match code {

@@ -32,7 +32,8 @@ pub fn read_call(
     ensures same { SameInput reader.old reader.new }
     ensures onward { position_in reader.old ≤ position_in reader.new }
     ensures refusal { IfErr result (RefusedBetween offset reader.old) }
-    ensures ok { IfOk result (λ op. call_from opcode (rest reader.old) ≡ Some (op, rest reader.new)) }
+    ensures ok { IfOk result (λ op. call_from opcode (rest reader.old)
+        ≡ Some (op, rest reader.new)) }
     ensures err { OnErr result (call_from opcode (rest reader.old) ≡ None) }
 {
     match opcode {

@@ -25,8 +25,8 @@ pub struct V128 {
     pub high: u64,
 }
 
-/// The constants (Core Specification 3.0, Binary Format, Instructions, Numeric Instructions and Vector
-/// Instructions).
+/// The constants (Core Specification 3.0, Binary Format, Instructions, Numeric Instructions and
+/// Vector Instructions).
 #[derive(Clone, Copy, PartialEq, Eq, Debug)]
 pub enum ConstantOperator {
     I32Const { value: i32 },
@@ -97,7 +97,8 @@ pub fn read_constant(
     ensures same { SameInput reader.old reader.new }
     ensures onward { position_in reader.old ≤ position_in reader.new }
     ensures refusal { IfErr result (RefusedBetween offset reader.old) }
-    ensures ok { IfOk result (λ op. constant_from opcode (rest reader.old) ≡ Some (op, rest reader.new)) }
+    ensures ok { IfOk result (λ op. constant_from opcode (rest reader.old)
+        ≡ Some (op, rest reader.new)) }
     ensures err { OnErr result (constant_from opcode (rest reader.old) ≡ None) }
 {
     match opcode {
@@ -128,7 +129,8 @@ pub fn read_vector(
     ensures same { SameInput reader.old reader.new }
     ensures onward { position_in reader.old ≤ position_in reader.new }
     ensures refusal { IfErr result (RefusedBetween offset reader.old) }
-    ensures ok { IfOk result (λ op. vector_from code (rest reader.old) ≡ Some (op, rest reader.new)) }
+    ensures ok { IfOk result (λ op. vector_from code (rest reader.old)
+        ≡ Some (op, rest reader.new)) }
     ensures err { OnErr result (vector_from code (rest reader.old) ≡ None) }
 {
     if code == 12 {

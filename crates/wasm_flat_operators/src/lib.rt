@@ -1,5 +1,6 @@
-//! Operators whose immediates are numbers: indices, constants and memory arguments. None has a type or a list among them. Each
-//! reading function takes the byte or the code that was read before the immediates.
+//! Operators whose immediates are numbers: indices, constants and memory arguments. None has a type
+//! or a list among them. Each reading function takes the byte or the code that was read before the
+//! immediates.
 #![tactic(auto)]
 
 ghost use Rattle.wasm_numeric_operators.specs.Opcodes.{IsTableOf};
@@ -26,7 +27,8 @@ pub use structs::{StructOperator, read_struct};
 pub use tables::{TableOperator, read_table, read_table_access};
 pub use variables::{VariableOperator, read_variable};
 
-/// The table of loads and stores in the order of their opcodes says what their own opcodes say, and nothing more.
+/// The table of loads and stores in the order of their opcodes says what their own opcodes say, and
+/// nothing more.
 pub fn accesses_are_a_table()
     ensures { IsTableOf access_opcode access_from }
 {}

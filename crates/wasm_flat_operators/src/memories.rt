@@ -144,7 +144,8 @@ pub fn read_memory_size(
     ensures same { SameInput reader.old reader.new }
     ensures onward { position_in reader.old ≤ position_in reader.new }
     ensures refusal { IfErr result (RefusedBetween offset reader.old) }
-    ensures ok { IfOk result (λ op. memory_size_from opcode (rest reader.old) ≡ Some (op, rest reader.new)) }
+    ensures ok { IfOk result (λ op. memory_size_from opcode (rest reader.old)
+        ≡ Some (op, rest reader.new)) }
     ensures err { OnErr result (memory_size_from opcode (rest reader.old) ≡ None) }
 {
     match opcode {
@@ -169,7 +170,8 @@ pub fn read_memory(
     ensures same { SameInput reader.old reader.new }
     ensures onward { position_in reader.old ≤ position_in reader.new }
     ensures refusal { IfErr result (RefusedBetween offset reader.old) }
-    ensures ok { IfOk result (λ op. memory_from code (rest reader.old) ≡ Some (op, rest reader.new)) }
+    ensures ok { IfOk result (λ op. memory_from code (rest reader.old)
+        ≡ Some (op, rest reader.new)) }
     ensures err { OnErr result (memory_from code (rest reader.old) ≡ None) }
 {
     match code {

@@ -33,7 +33,8 @@ pub fn read_table_access(
     ensures same { SameInput reader.old reader.new }
     ensures onward { position_in reader.old ≤ position_in reader.new }
     ensures refusal { IfErr result (RefusedBetween offset reader.old) }
-    ensures ok { IfOk result (λ op. table_access_from opcode (rest reader.old) ≡ Some (op, rest reader.new)) }
+    ensures ok { IfOk result (λ op. table_access_from opcode (rest reader.old)
+        ≡ Some (op, rest reader.new)) }
     ensures err { OnErr result (table_access_from opcode (rest reader.old) ≡ None) }
 {
     match opcode {
@@ -58,7 +59,8 @@ pub fn read_table(
     ensures same { SameInput reader.old reader.new }
     ensures onward { position_in reader.old ≤ position_in reader.new }
     ensures refusal { IfErr result (RefusedBetween offset reader.old) }
-    ensures ok { IfOk result (λ op. table_from code (rest reader.old) ≡ Some (op, rest reader.new)) }
+    ensures ok { IfOk result (λ op. table_from code (rest reader.old)
+        ≡ Some (op, rest reader.new)) }
     ensures err { OnErr result (table_from code (rest reader.old) ≡ None) }
 {
     match code {

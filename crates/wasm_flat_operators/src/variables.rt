@@ -31,7 +31,8 @@ pub fn read_variable(
     ensures same { SameInput reader.old reader.new }
     ensures onward { position_in reader.old ≤ position_in reader.new }
     ensures refusal { IfErr result (RefusedBetween offset reader.old) }
-    ensures ok { IfOk result (λ op. variable_from opcode (rest reader.old) ≡ Some (op, rest reader.new)) }
+    ensures ok { IfOk result (λ op. variable_from opcode (rest reader.old)
+        ≡ Some (op, rest reader.new)) }
     ensures err { OnErr result (variable_from opcode (rest reader.old) ≡ None) }
 {
     match opcode {

@@ -28,7 +28,8 @@ use wasm_value_checks as value_types;
 
 /// Accepts a shared type where the proposal for them is on.
 fn check_shared_flag(features: WasmFeatures, shared: bool, offset: u64) -> Result<(), Refusal>
-    ensures allowed { is_ok result ≡ implies shared (features_of features).shared_everything_threads }
+    ensures allowed { is_ok result ≡ implies shared
+        (features_of features).shared_everything_threads }
     ensures told { refused result ≡ told_of_shared features offset shared }
 {
     let fault = Fault::Group(GroupRule::SharedComposites);
@@ -56,7 +57,8 @@ fn is_heap_shared<A: Allocator + Copy>(
     heap: HeapType,
 ) -> bool
     requires { AreIn types.now.groups group.index (refs_heap (heap_of heap)) }
-    ensures { result ≡ is_shared_heap (declares types.now.groups) (heap_in types.now.groups group.index heap) }
+    ensures { result ≡ is_shared_heap (declares types.now.groups)
+        (heap_in types.now.groups group.index heap) }
 {
     match heap {
         HeapType::Abstract { shared, .. } => shared,
@@ -68,7 +70,8 @@ fn is_heap_shared<A: Allocator + Copy>(
 /// Whether values of the type, which stands in the group, may be shared.
 fn is_shared<A: Allocator + Copy>(types: &TypeList<A>, group: RecGroupId, ty: ValType) -> bool
     requires { AreIn types.now.groups group.index (refs_val (val_of ty)) }
-    ensures { result ≡ is_shared_val (declares types.now.groups) (val_in types.now.groups group.index ty) }
+    ensures { result ≡ is_shared_val (declares types.now.groups)
+        (val_in types.now.groups group.index ty) }
 {
     match ty {
         ValType::Ref(reference) => is_heap_shared(types, group, reference.heap_type()),
@@ -83,7 +86,8 @@ fn is_stored_shared<A: Allocator + Copy>(
     ty: StorageType,
 ) -> bool
     requires { AreIn types.now.groups group.index (refs_storage (storage_of ty)) }
-    ensures { result ≡ is_shared_storage (declares types.now.groups) (storage_in types.now.groups group.index ty) }
+    ensures { result ≡ is_shared_storage (declares types.now.groups)
+        (storage_in types.now.groups group.index ty) }
 {
     match ty {
         StorageType::Val(value) => is_shared(types, group, value),
@@ -98,7 +102,8 @@ fn are_shared<A: Allocator + Copy>(
     values: &[ValType],
 ) -> bool
     requires { All (λ v. AreIn types.now.groups group.index (refs_val (val_of v))) values.now }
-    ensures { result ≡ list_all (λ v. is_shared_val (declares types.now.groups) (val_in types.now.groups group.index v)) values.now }
+    ensures { result ≡ list_all (λ v. is_shared_val (declares types.now.groups)
+        (val_in types.now.groups group.index v)) values.now }
 {
     'values: for i in 0..values.len() {
         if !is_shared(types, group, values[i]) {
@@ -115,7 +120,8 @@ fn are_fields_shared<A: Allocator + Copy>(
     fields: &[FieldType],
 ) -> bool
     requires { All (λ f. AreIn types.now.groups group.index (refs_field (field_of f))) fields.now }
-    ensures { result ≡ list_all (λ f. is_shared_storage (declares types.now.groups) (storage_in types.now.groups group.index f.element_type)) fields.now }
+    ensures { result ≡ list_all (λ f. is_shared_storage (declares types.now.groups)
+        (storage_in types.now.groups group.index f.element_type)) fields.now }
 {
     'fields: for i in 0..fields.len() {
         let field = fields[i];
@@ -173,8 +179,10 @@ fn check_continuation<A: Allocator + Copy>(
     offset: u64,
 ) -> Result<(), Refusal>
     requires { AreIn types.now.groups group.index (refs_comp (comp_of inner.now)) }
-    ensures decided { Decides (is_ok result) (IsContinuationOfFunction (declares types.now.groups) (comp_in types.now.groups group.index inner.now)) }
-    ensures told { ToldOfContinuation offset (declares types.now.groups) (comp_in types.now.groups group.index inner.now) (refused result) }
+    ensures decided { Decides (is_ok result) (IsContinuationOfFunction (declares types.now.groups)
+        (comp_in types.now.groups group.index inner.now)) }
+    ensures told { ToldOfContinuation offset (declares types.now.groups)
+        (comp_in types.now.groups group.index inner.now) (refused result) }
 {
     match inner {
         CompositeInnerType::Cont(continuation) => {
@@ -196,8 +204,10 @@ fn check_members<A: Allocator + Copy>(
     offset: u64,
 ) -> Result<(), Refusal>
     requires { AreIn types.now.groups group.index (refs_comp (comp_of ty.now.inner)) }
-    ensures allowed { is_ok result ≡ implies ty.now.shared (are_members_shareable types.now.groups group.index ty.now.inner) }
-    ensures told { refused result ≡ told_of_members offset ty.now.shared (are_members_shareable types.now.groups group.index ty.now.inner) }
+    ensures allowed { is_ok result ≡ implies ty.now.shared
+        (are_members_shareable types.now.groups group.index ty.now.inner) }
+    ensures told { refused result ≡ told_of_members offset ty.now.shared
+        (are_members_shareable types.now.groups group.index ty.now.inner) }
 {
     if !ty.shared {
         return Ok(());
@@ -223,8 +233,10 @@ pub fn check_composite_type<A: Allocator + Copy>(
     offset: u64,
 ) -> Result<(), Refusal>
     requires { id.index < length (types_in types.now) }
-    ensures decided { Decides (is_ok result) (KeepsCompositeRules (features_of features) (declares types.now.groups) id.index) }
-    ensures told { ToldOfComposite features offset (declares types.now.groups) id.index (refused result) }
+    ensures decided { Decides (is_ok result) (KeepsCompositeRules (features_of features)
+        (declares types.now.groups) id.index) }
+    ensures told { ToldOfComposite features offset (declares types.now.groups)
+        id.index (refused result) }
 {
     let group = group_of(types, id);
     let ty = &types[id].composite_type;

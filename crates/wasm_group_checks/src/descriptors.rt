@@ -63,8 +63,10 @@ fn check_descriptor_alike<A: Allocator + Copy>(
 ) -> Result<(), Refusal>
     requires sub { id.index < length (types_in types.now) }
     requires sup { extended.index < length (types_in types.now) }
-    ensures decided { Decides (is_ok result) (HasDescriptorLike (declares types.now.groups) id.index extended.index) }
-    ensures told { IfErr result (λ r. r ≡ plain (Fault.Descriptor (unlike_descriptor offset (declares types.now.groups) id.index)) offset) }
+    ensures decided { Decides (is_ok result) (HasDescriptorLike (declares types.now.groups)
+        id.index extended.index) }
+    ensures told { IfErr result (λ r. r ≡ plain
+        (Fault.Descriptor (unlike_descriptor offset (declares types.now.groups) id.index)) offset) }
 {
     let has_descriptor = descriptor(types, id).is_some();
     let rule = if has_descriptor {
@@ -85,8 +87,10 @@ fn check_describes_alike<A: Allocator + Copy>(
 ) -> Result<(), Refusal>
     requires sub { id.index < length (types_in types.now) }
     requires sup { extended.index < length (types_in types.now) }
-    ensures decided { Decides (is_ok result) (DescribesLike (declares types.now.groups) id.index extended.index) }
-    ensures told { IfErr result (λ r. r ≡ plain (Fault.Descriptor (unlike_describes offset (declares types.now.groups) id.index)) offset) }
+    ensures decided { Decides (is_ok result) (DescribesLike (declares types.now.groups)
+        id.index extended.index) }
+    ensures told { IfErr result (λ r. r ≡ plain
+        (Fault.Descriptor (unlike_describes offset (declares types.now.groups) id.index)) offset) }
 {
     let describes = described(types, id).is_some();
     let rule = if describes {
@@ -107,8 +111,10 @@ fn check_descriptor_extends<A: Allocator + Copy>(
 ) -> Result<(), Refusal>
     requires sub { id.index < length (types_in types.now) }
     requires sup { extended.index < length (types_in types.now) }
-    ensures decided { Decides (is_ok result) (ExtendsDescriptor (declares types.now.groups) id.index extended.index) }
-    ensures told { IfErr result (λ r. r ≡ plain (Fault.Descriptor DescriptorRule.DescribedSupertype) offset) }
+    ensures decided { Decides (is_ok result) (ExtendsDescriptor (declares types.now.groups)
+        id.index extended.index) }
+    ensures told { IfErr result (λ r. r ≡ plain
+        (Fault.Descriptor DescriptorRule.DescribedSupertype) offset) }
 {
     match descriptor(types, id) {
         Some(of_type) => {
@@ -130,8 +136,10 @@ fn check_described_extends<A: Allocator + Copy>(
 ) -> Result<(), Refusal>
     requires sub { id.index < length (types_in types.now) }
     requires sup { extended.index < length (types_in types.now) }
-    ensures decided { Decides (is_ok result) (ExtendsDescribed (declares types.now.groups) id.index extended.index) }
-    ensures told { IfErr result (λ r. r ≡ plain (Fault.Descriptor DescriptorRule.DescriptorSupertype) offset) }
+    ensures decided { Decides (is_ok result) (ExtendsDescribed (declares types.now.groups)
+        id.index extended.index) }
+    ensures told { IfErr result (λ r. r ≡ plain
+        (Fault.Descriptor DescriptorRule.DescriptorSupertype) offset) }
 {
     match described(types, id) {
         Some(by_type) => {
@@ -152,8 +160,10 @@ fn check_extended_clauses<A: Allocator + Copy>(
 ) -> Result<(), Refusal>
     requires sub { id.index < length (types_in types.now) }
     requires sup { extended.index < length (types_in types.now) }
-    ensures decided { Decides (is_ok result) (ExtendsClauses (declares types.now.groups) id.index extended.index) }
-    ensures told { ToldOfExtendedClauses offset (declares types.now.groups) id.index extended.index (refused result) }
+    ensures decided { Decides (is_ok result) (ExtendsClauses (declares types.now.groups)
+        id.index extended.index) }
+    ensures told { ToldOfExtendedClauses offset (declares types.now.groups) id.index
+        extended.index (refused result) }
 {
     check_descriptor_alike(types, id, extended, offset)?;
     check_descriptor_extends(types, id, extended, offset)?;
@@ -168,8 +178,10 @@ fn check_supertype_clauses<A: Allocator + Copy>(
     offset: u64,
 ) -> Result<(), Refusal>
     requires { id.index < length (types_in types.now) }
-    ensures decided { Decides (is_ok result) (ExtendsSupertypeClauses (declares types.now.groups) id.index) }
-    ensures told { ToldOfSupertypeClauses offset (declares types.now.groups) id.index (refused result) }
+    ensures decided { Decides (is_ok result) (ExtendsSupertypeClauses
+        (declares types.now.groups) id.index) }
+    ensures told { ToldOfSupertypeClauses offset (declares types.now.groups)
+        id.index (refused result) }
 {
     match supertype(types, id) {
         Some(extended) => check_extended_clauses(types, id, extended, offset),
@@ -184,8 +196,10 @@ fn check_descriptor<A: Allocator + Copy>(
     offset: u64,
 ) -> Result<(), Refusal>
     requires { id.index < length (types_in types.now) }
-    ensures decided { Decides (is_ok result) (DescriptorDescribes (declares types.now.groups) id.index) }
-    ensures told { IfErr result (λ r. r ≡ plain (Fault.Descriptor DescriptorRule.DescriptorWithoutDescribes) offset) }
+    ensures decided { Decides (is_ok result) (DescriptorDescribes
+        (declares types.now.groups) id.index) }
+    ensures told { IfErr result (λ r. r ≡ plain
+        (Fault.Descriptor DescriptorRule.DescriptorWithoutDescribes) offset) }
 {
     match descriptor(types, id) {
         Some(of_type) => {
@@ -203,8 +217,10 @@ fn check_described<A: Allocator + Copy>(
     offset: u64,
 ) -> Result<(), Refusal>
     requires { id.index < length (types_in types.now) }
-    ensures decided { Decides (is_ok result) (DescribedHasDescriptor (declares types.now.groups) id.index) }
-    ensures told { IfErr result (λ r. r ≡ plain (Fault.Descriptor DescriptorRule.DescribesWithoutDescriptor) offset) }
+    ensures decided { Decides (is_ok result) (DescribedHasDescriptor
+        (declares types.now.groups) id.index) }
+    ensures told { IfErr result (λ r. r ≡ plain
+        (Fault.Descriptor DescriptorRule.DescribesWithoutDescriptor) offset) }
 {
     match described(types, id) {
         Some(by_type) => {
@@ -241,8 +257,10 @@ fn check_finality<A: Allocator + Copy>(
     offset: u64,
 ) -> Result<(), Refusal>
     requires { id.index < length (types_in types.now) }
-    ensures decided { Decides (is_ok result) (DescriptorHasSameFinality (declares types.now.groups) id.index) }
-    ensures told { IfErr result (λ r. r ≡ plain (Fault.Descriptor DescriptorRule.DescriptorFinality) offset) }
+    ensures decided { Decides (is_ok result) (DescriptorHasSameFinality
+        (declares types.now.groups) id.index) }
+    ensures told { IfErr result (λ r. r ≡ plain
+        (Fault.Descriptor DescriptorRule.DescriptorFinality) offset) }
 {
     match descriptor(types, id) {
         Some(of_type) => {
@@ -269,8 +287,10 @@ pub fn check_descriptors<A: Allocator + Copy>(
     offset: u64,
 ) -> Result<(), Refusal>
     requires { id.index < length (types_in types.now) }
-    ensures decided { Decides (is_ok result) (KeepsDescriptorRules (features_of features) (declares types.now.groups) id.index) }
-    ensures told { ToldOfDescriptors features offset (declares types.now.groups) id.index (refused result) }
+    ensures decided { Decides (is_ok result) (KeepsDescriptorRules (features_of features)
+        (declares types.now.groups) id.index) }
+    ensures told { ToldOfDescriptors features offset (declares types.now.groups)
+        id.index (refused result) }
 {
     let _group = group_of(types, id);
     check_clauses(features, &types[id], offset)?;

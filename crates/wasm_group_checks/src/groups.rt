@@ -32,8 +32,10 @@ pub fn check_type<A: Allocator + Copy>(
     offset: u64,
 ) -> Result<(), Refusal>
     requires { id.index < length (types_in types.now) }
-    ensures decided { Decides (is_ok result) (IsValidType (features_of features) (declares types.now.groups) id.index) }
-    ensures told { ToldOfType features offset (declares types.now.groups) id.index (refused result) }
+    ensures decided { Decides (is_ok result) (IsValidType (features_of features)
+        (declares types.now.groups) id.index) }
+    ensures told { ToldOfType features offset (declares types.now.groups)
+        id.index (refused result) }
 {
     check_subtype(features, types, id, offset)?;
     check_descriptors(features, types, id, offset)
@@ -54,7 +56,8 @@ pub fn check_rec_group<A: Allocator + Copy>(
     offset: u64,
 ) -> Result<(), Refusal>
     requires { group.index < length types.now.groups }
-    ensures decided { Decides (is_ok result) (IsValidGroupAt (features_of features) types.now.groups group.index) }
+    ensures decided { Decides (is_ok result) (IsValidGroupAt (features_of features)
+        types.now.groups group.index) }
     ensures told { IfErr result (ToldOfGroup features offset types.now.groups group.index) }
     ensures place { IfErr result (λ r. r.offset ≡ offset) }
 {

@@ -17,7 +17,8 @@ use wasm_validator_type_list::{RecGroupId, TypeList};
 /// The group that the references of the type stand in.
 pub(crate) fn group_of<A: Allocator + Copy>(types: &TypeList<A>, id: CoreTypeId) -> RecGroupId
     requires { id.index < length (types_in types.now) }
-    ensures listed { (ty : SubType A) → ty ≡ slice_index_or (types_in types.now) id.index ty → IsListed types.now.groups id.index result.index ty }
+    ensures listed { (ty : SubType A) → ty ≡ slice_index_or (types_in types.now) id.index ty
+        → IsListed types.now.groups id.index result.index ty }
     ensures listable { AreListable types.now.groups }
 {
     // Asked for what it promises of all references in the list.

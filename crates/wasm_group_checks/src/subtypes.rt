@@ -53,8 +53,10 @@ fn check_extended<A: Allocator + Copy>(
 ) -> Result<(), Refusal>
     requires sub { id.index < length (types_in types.now) }
     requires sup { extended.index < length (types_in types.now) }
-    ensures decided { Decides (is_ok result) (MayExtend (declares types.now.groups) id.index extended.index) }
-    ensures told { ToldOfExtended offset (declares types.now.groups) id.index extended.index (refused result) }
+    ensures decided { Decides (is_ok result) (MayExtend (declares types.now.groups)
+        id.index extended.index) }
+    ensures told { ToldOfExtended offset (declares types.now.groups) id.index
+        extended.index (refused result) }
 {
     let open = is_open(types, extended);
     if !open {
@@ -71,7 +73,9 @@ fn check_supertype<A: Allocator + Copy>(
     offset: u64,
 ) -> Result<(), Refusal>
     requires { id.index < length (types_in types.now) }
-    ensures decided { Decides (is_ok result) (IfSome (supertype_of (declares types.now.groups) id.index) (MayExtend (declares types.now.groups) id.index)) }
+    ensures decided { Decides (is_ok result) (IfSome
+        (supertype_of (declares types.now.groups) id.index)
+        (MayExtend (declares types.now.groups) id.index)) }
     ensures told { ToldOfSupertype offset (declares types.now.groups) id.index (refused result) }
 {
     match supertype(types, id) {
@@ -152,8 +156,10 @@ pub fn check_subtype<A: Allocator + Copy>(
     offset: u64,
 ) -> Result<(), Refusal>
     requires { id.index < length (types_in types.now) }
-    ensures decided { Decides (is_ok result) (KeepsTypeRules (features_of features) (declares types.now.groups) id.index) }
-    ensures told { ToldOfSubtype features offset (declares types.now.groups) id.index (refused result) }
+    ensures decided { Decides (is_ok result) (KeepsTypeRules (features_of features)
+        (declares types.now.groups) id.index) }
+    ensures told { ToldOfSubtype features offset (declares types.now.groups)
+        id.index (refused result) }
 {
     let _group = group_of(types, id);
     check_extending(features, &types[id], offset)?;

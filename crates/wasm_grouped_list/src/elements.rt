@@ -16,7 +16,8 @@ impl RecGroupElements {
     pub fn new(ids: &Range<CoreTypeId>) -> RecGroupElements
         requires start { ids.now.start.index < 2 ^ 32 }
         requires end { ids.now.end.index < 2 ^ 32 }
-        ensures { ids_left result ≡ numbers_from ids.now.start.index (ids.now.end.index - ids.now.start.index) }
+        ensures { ids_left result ≡ numbers_from ids.now.start.index
+            (ids.now.end.index - ids.now.start.index) }
     {
         RecGroupElements {
             next: ids.start.index() as u32,

@@ -73,7 +73,8 @@ impl<T, A: Allocator + Copy> GroupedList<T, A> {
 
     /// The item at the place, if there is one.
     pub fn get(&self, place: usize) -> Option<&T>
-        ensures found { IfSome result (λ item. item.now ≡ slice_index_or (all_in self.now) place item.now) }
+        ensures found { IfSome result (λ item. item.now
+            ≡ slice_index_or (all_in self.now) place item.now) }
         ensures when { IsSome result ↔ (place < length (all_in self.now)) }
     {
         self.items.get(place)
@@ -134,8 +135,10 @@ fn push_flat<T: Drop, A: Allocator + Copy>(
     requires room { length items.old.items + length group.items < 2 ^ 32 }
     requires group_room { length spans.old.items < 2 ^ 32 }
     ensures items { OnOk result (items.new.items ≡ items.old.items ++ group.items) }
-    ensures spans { OnOk result (spans.new.items ≡ spans.old.items ++ span (length items.old.items) (length items.old.items + length group.items) ∷ []) }
-    ensures owners { OnOk result (owners.new.items ≡ owners.old.items ++ replicate (length group.items) (length spans.old.items)) }
+    ensures spans { OnOk result (spans.new.items ≡ spans.old.items
+        ++ span (length items.old.items) (length items.old.items + length group.items) ∷ []) }
+    ensures owners { OnOk result (owners.new.items ≡ owners.old.items
+        ++ replicate (length group.items) (length spans.old.items)) }
     ensures same_items { OnErr result (items.new.items ≡ items.old.items) }
     ensures same_spans { OnErr result (spans.new.items ≡ spans.old.items) }
     ensures same_owners { OnErr result (owners.new.items ≡ owners.old.items) }

@@ -1,5 +1,5 @@
-//! Groups of items in one flat list: the group and the place of each item, and the ids of groups and of
-//! what is in them.
+//! Groups of items in one flat list: the group and the place of each item, and the ids of groups
+//! and of what is in them.
 #![tactic(auto)]
 
 mod copies;

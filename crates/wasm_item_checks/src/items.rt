@@ -90,9 +90,11 @@ pub fn check_table_type<A: Allocator + Copy>(
     offset: u64,
 ) -> Result<(), Refusal>
     requires { AreKnown types.now ids.now }
-    ensures allowed { is_ok result ≡ is_valid_table (features_of features) (module_types types.now ids.now) (table_of ty) }
+    ensures allowed { is_ok result ≡ is_valid_table (features_of features)
+        (module_types types.now ids.now) (table_of ty) }
     ensures refusal { IfErr result (IsRefusalAt features offset) }
-    ensures told { refused result ≡ told_of_table features offset (module_types types.now ids.now) (table_of ty) }
+    ensures told { refused result ≡ told_of_table features offset
+        (module_types types.now ids.now) (table_of ty) }
 {
     check_element_type(features, ids.len(), ty.element_type, offset)?;
     check_limits(ty.initial, ty.maximum, offset)?;
@@ -136,9 +138,11 @@ pub fn check_defined_table<A: Allocator + Copy>(
     offset: u64,
 ) -> Result<(), Refusal>
     requires { AreKnown types.now ids.now }
-    ensures allowed { is_ok result ≡ is_valid_defined_table (features_of features) (module_types types.now ids.now) (table_of ty) has_init }
+    ensures allowed { is_ok result ≡ is_valid_defined_table (features_of features)
+        (module_types types.now ids.now) (table_of ty) has_init }
     ensures refusal { IfErr result (IsRefusalAt features offset) }
-    ensures told { refused result ≡ told_of_defined_table features offset (module_types types.now ids.now) (table_of ty) has_init }
+    ensures told { refused result ≡ told_of_defined_table features offset
+        (module_types types.now ids.now) (table_of ty) has_init }
 {
     check_table_type(features, types, ids, ty, offset)?;
     let has_entries = has_init || ty.element_type.is_nullable();
@@ -246,9 +250,11 @@ pub fn check_tag_type<A: Allocator + Copy>(
     offset: u64,
 ) -> Result<(), Refusal>
     requires { AreKnown types.now ids.now }
-    ensures allowed { is_ok result ≡ is_valid_tag (features_of features) (module_types types.now ids.now) ty.func_type_idx }
+    ensures allowed { is_ok result ≡ is_valid_tag (features_of features)
+        (module_types types.now ids.now) ty.func_type_idx }
     ensures refusal { IfErr result (IsRefusalAt features offset) }
-    ensures told { refused result ≡ told_of_tag features offset (module_types types.now ids.now) ty.func_type_idx }
+    ensures told { refused result ≡ told_of_tag features offset
+        (module_types types.now ids.now) ty.func_type_idx }
 {
     let fault = Fault::Rule(Rule::Exceptions);
     require(features, WasmFeatures::EXCEPTIONS, fault, offset)?;
@@ -281,9 +287,11 @@ pub fn check_global_type<A: Allocator + Copy>(
     offset: u64,
 ) -> Result<(), Refusal>
     requires { AreKnown types.now ids.now }
-    ensures allowed { is_ok result ≡ is_valid_global (features_of features) (module_types types.now ids.now) (global_of ty) }
+    ensures allowed { is_ok result ≡ is_valid_global (features_of features)
+        (module_types types.now ids.now) (global_of ty) }
     ensures refusal { IfErr result (IsRefusalAt features offset) }
-    ensures told { refused result ≡ told_of_global features offset (module_types types.now ids.now) (global_of ty) }
+    ensures told { refused result ≡ told_of_global features offset
+        (module_types types.now ids.now) (global_of ty) }
 {
     check_content_type(features, ids.len(), ty.content_type, offset)?;
     let fault = Fault::Item(ItemRule::SharedGlobals);
@@ -340,9 +348,11 @@ pub fn check_type_ref<A: Allocator + Copy>(
     offset: u64,
 ) -> Result<(), Refusal>
     requires { AreKnown types.now ids.now }
-    ensures allowed { is_ok result ≡ is_valid_extern (features_of features) (module_types types.now ids.now) (extern_of ty) }
+    ensures allowed { is_ok result ≡ is_valid_extern (features_of features)
+        (module_types types.now ids.now) (extern_of ty) }
     ensures refusal { IfErr result (IsRefusalAt features offset) }
-    ensures told { refused result ≡ told_of_extern features offset (module_types types.now ids.now) (extern_of ty) }
+    ensures told { refused result ≡ told_of_extern features offset
+        (module_types types.now ids.now) (extern_of ty) }
 {
     match ty {
         TypeRef::Func(index) => {

@@ -73,8 +73,10 @@ fn sub_type_at<'a, A: Allocator + Copy>(
     requires known { AreKnown types.now ids.now }
     requires in_range { index < length ids.now }
     ensures there { IsSubTypeAt types.now ids.now index result.now }
-    ensures shared { result.now.composite_type.shared ≡ is_shared_type declared (type_at (module_types types.now ids.now) index) }
-    ensures arity { func_arity result.now.composite_type.inner ≡ arity_at (module_types types.now ids.now) index }
+    ensures shared { result.now.composite_type.shared
+        ≡ is_shared_type declared (type_at (module_types types.now ids.now) index) }
+    ensures arity { func_arity result.now.composite_type.inner
+        ≡ arity_at (module_types types.now ids.now) index }
 {
     // Asked for what it promises: what the types of the list refer to is known.
     let _count = types.len();
@@ -89,7 +91,8 @@ fn is_index_shared<A: Allocator + Copy>(
 ) -> bool
     requires known { AreKnown types.now ids.now }
     requires in_range { IsTrue (is_in_range (length ids.now) index) }
-    ensures { result ≡ is_shared_type declared (type_at (module_types types.now ids.now) (number_in index)) }
+    ensures { result ≡ is_shared_type declared
+        (type_at (module_types types.now ids.now) (number_in index)) }
 {
     match index {
         UnpackedIndex::Module(number) => sub_type_at(types, ids, number).composite_type.shared,
@@ -145,7 +148,8 @@ pub fn func_type_at<'a, A: Allocator + Copy>(
 ) -> Result<&'a FuncType<A>, Refusal>
     requires { AreKnown types.now ids.now }
     ensures function { is_ok result ≡ is_function (module_types types.now ids.now) index }
-    ensures arity { IfOk result (λ f. arity_at (module_types types.now ids.now) index ≡ Some (length f.now.params, length f.now.results)) }
+    ensures arity { IfOk result (λ f. arity_at (module_types types.now ids.now) index
+        ≡ Some (length f.now.params, length f.now.results)) }
     ensures value { IfOk result (λ f. IsFuncTypeAt types.now ids.now index f.now) }
     ensures refusal { IfErr result (IsPlainRefusalAt offset) }
     ensures told { refused result ≡ told_of_function offset (module_types types.now ids.now) index }

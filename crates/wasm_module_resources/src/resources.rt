@@ -88,7 +88,8 @@ pub trait WasmModuleResources {
         offset: u64,
     ) -> Result<(), Refusal>
         requires { IsWrittenVal (val_of ty.old) }
-        ensures { Puts result (val_in (context self.now) (features_of features.now) (val_of ty.old)) (val_of ty.new) }
+        ensures { Puts result (val_in (context self.now) (features_of features.now)
+            (val_of ty.old)) (val_of ty.new) }
     {
         check_value_type(*features, *ty, offset)?;
         match *ty {
@@ -127,13 +128,15 @@ pub trait WasmModuleResources {
     /// Refuses an unknown type index, at `offset`.
     fn check_heap_type(&self, heap_type: &mut HeapType, offset: u64) -> Result<(), Refusal>
         requires { IsWrittenHeap (heap_of heap_type.old) }
-        ensures puts { Puts result (heap_in (context self.now) (heap_of heap_type.old)) (heap_of heap_type.new) }
+        ensures puts { Puts result (heap_in (context self.now) (heap_of heap_type.old))
+            (heap_of heap_type.new) }
         ensures fits { OnOk result (HeapFits heap_type.new) };
 
     /// The greatest heap type of the hierarchy that this one stands in. A type that it names is
     /// known.
     fn top_type(&self, heap_type: &HeapType) -> HeapType
-        requires { IsSome (top_of_heap (world (context self.now)).declared (heap_of heap_type.now)) }
+        requires { IsSome (top_of_heap (world (context self.now)).declared
+            (heap_of heap_type.now)) }
         ensures { top_of_heap (world (context self.now)).declared (heap_of heap_type.now) ≡ Some (heap_of result) };
 
     /// How many element segments there are.
@@ -151,6 +154,7 @@ pub trait WasmModuleResources {
     /// Whether a function is exactly of its type, and not of a subtype: one that is defined in the
     /// module, or imported as such.
     fn has_function_exact_type(&self, function_index: u32) -> bool
-        ensures exact { result ≡ passes (λ b. b) (slice_get (context self.now).exact function_index) }
+        ensures exact { result ≡ passes (λ b. b)
+            (slice_get (context self.now).exact function_index) }
         ensures told { IsSome (slice_get (context self.now).functions function_index) → IsSome (slice_get (context self.now).exact function_index) };
 }

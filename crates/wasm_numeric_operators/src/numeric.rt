@@ -5,8 +5,8 @@ ghost use Rattle.wasm_numeric_operators.specs.Numeric.{numeric_opcode, numeric_f
 ghost use Rattle.wasm_numeric_operators.specs.declared.numeric.NumericOperator.{NumericOperator};
 ghost use Rattle.wasm_numeric_operators.specs.declared.numeric.SaturatingOperator.{SaturatingOperator};
 
-/// The numeric operators of one byte that have no immediates (Core Specification 3.0, Binary Format,
-/// Instructions, Numeric Instructions).
+/// The numeric operators of one byte that have no immediates (Core Specification 3.0, Binary
+/// Format, Instructions, Numeric Instructions).
 #[derive(Clone, Copy, PartialEq, Eq, Debug)]
 pub enum NumericOperator {
     I32Eqz,

@@ -23,8 +23,8 @@ pub enum Signature {
     Binary(NumberType, NumberType),
 }
 
-/// What a numeric operator takes and gives (Core Specification 3.0, Validation, Instructions, Numeric
-/// Instructions).
+/// What a numeric operator takes and gives (Core Specification 3.0, Validation, Instructions,
+/// Numeric Instructions).
 pub fn numeric_signature(op: NumericOperator) -> Signature
     ensures { result ≡ signature_of op }
 {

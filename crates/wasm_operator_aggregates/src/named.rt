@@ -46,7 +46,8 @@ pub fn exact_or_null(identity: PackedIndex) -> TypeWord
 
 /// A reference to a new value of a type, which is exactly of it where descriptors can tell.
 pub fn new_reference<A: Allocator>(stacks: &Stacks<A>, identity: PackedIndex) -> TypeWord
-    ensures { val_in result ≡ ref_to false (new_heap (features_of stacks.now.features).custom_descriptors (index_of identity)) }
+    ensures { val_in result ≡ ref_to false
+        (new_heap (features_of stacks.now.features).custom_descriptors (index_of identity)) }
 {
     if stacks.features.contains(WasmFeatures::CUSTOM_DESCRIPTORS) {
         TypeWord::reference(RefType::new(false, HeapType::Exact(identity.unpack())).unwrap())

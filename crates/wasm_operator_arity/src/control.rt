@@ -17,9 +17,12 @@ use crate::module::ModuleArity;
 use wasm_operators::{BlockType, CallOperator, ControlOperator, Listed, ParametricOperator};
 use wasm_readers_types::ValType;
 
-/// How many operands an operator takes that begins a block, and takes so many besides, and how many the block begins with.
+/// How many operands an operator takes that begins a block, and takes so many besides, and how many
+/// the block begins with.
 fn opening_counts<M: ModuleArity>(resources: &M, ty: BlockType, besides: u8) -> Option<(u128, u128)>
-    ensures { result ≡ pair (plus (Some besides) (takes_of (block_counts (M.asked resources.now) (map_block index_number (block_of ty))))) (takes_of (block_counts (M.asked resources.now) (map_block index_number (block_of ty)))) }
+    ensures { result ≡ pair (plus (Some besides)
+        (takes_of (block_counts (M.asked resources.now) (map_block index_number (block_of ty)))))
+        (takes_of (block_counts (M.asked resources.now) (map_block index_number (block_of ty)))) }
 {
     match block_counts(resources, ty) {
         Some((takes, _)) => Some((besides as u128 + takes, takes)),
@@ -42,7 +45,8 @@ pub(crate) fn control_arity<M: ModuleArity>(
     op: &ControlOperator,
     resources: &M,
 ) -> Option<(u128, u128)>
-    ensures { result ≡ arity (M.asked resources.now) (control_shape (map_control index_number (control_of op.now))) }
+    ensures { result ≡ arity (M.asked resources.now)
+        (control_shape (map_control index_number (control_of op.now))) }
 {
     match *op {
         ControlOperator::Unreachable | ControlOperator::Nop => Some((0, 0)),
@@ -121,7 +125,8 @@ pub(crate) fn parametric_arity<M: ModuleArity>(
     op: &ParametricOperator,
     resources: &M,
 ) -> Option<(u128, u128)>
-    ensures { result ≡ arity (M.asked resources.now) (parametric_shape (map_parametric index_number (parametric_of op.now))) }
+    ensures { result ≡ arity (M.asked resources.now)
+        (parametric_shape (map_parametric index_number (parametric_of op.now))) }
 {
     match op {
         ParametricOperator::Drop => Some((1, 0)),

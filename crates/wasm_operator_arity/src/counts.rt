@@ -1,4 +1,5 @@
-//! How many types a list has that a module or a body names. Counts have 128 bits, so that no sum of them wraps.
+//! How many types a list has that a module or a body names. Counts have 128 bits, so that no sum of
+//! them wraps.
 
 ghost use Rattle.std.specs.Prelude.{◌≡◌, IfSome};
 ghost use Rattle.wasm_readers_types.specs.SeenTypes.{sub_of};
@@ -42,7 +43,8 @@ pub(crate) fn function_counts<M: ModuleArity>(
     resources: &M,
     function_index: u32,
 ) -> Option<(u128, u128)>
-    ensures counted { result ≡ signature_counts (M.asked resources.now) (of_function function_index) }
+    ensures counted { result ≡ signature_counts (M.asked resources.now)
+        (of_function function_index) }
     ensures small { IfSome result AreSmall }
 {
     match resources.type_index_of_function(function_index) {
@@ -64,7 +66,8 @@ pub(crate) fn tag_count<M: ModuleArity>(resources: &M, tag_index: u32) -> Option
 /// How many operands a block takes and gives.
 pub(crate) fn block_counts<M: ModuleArity>(resources: &M, ty: BlockType) -> Option<(u128, u128)>
     ensures seen { result ≡ block_counts (M.asked resources.now) (block_of ty) }
-    ensures numbered { result ≡ block_counts (M.asked resources.now) (map_block index_number (block_of ty)) }
+    ensures numbered { result ≡ block_counts (M.asked resources.now)
+        (map_block index_number (block_of ty)) }
     ensures small { IfSome result AreSmall }
 {
     match ty {

@@ -7,8 +7,9 @@ ghost use Rattle.wasm_operator_arity.specs.Asked.{kind_of};
 
 use wasm_operators::FrameKind;
 
-/// The frames that a body has open: `else` may stand only in an `if`, and where no frame is left the body has ended (Core
-/// Specification 3.0, Binary Format, Instructions, Control Instructions, and Expressions).
+/// The frames that a body has open: `else` may stand only in an `if`, and where no frame is left
+/// the body has ended (Core Specification 3.0, Binary Format, Instructions, Control Instructions,
+/// and Expressions).
 pub trait FrameStack {
     /// The kinds of the frames, the innermost first.
     ghost kinds: { Self → List Kind };

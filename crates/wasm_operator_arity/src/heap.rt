@@ -21,7 +21,8 @@ pub(crate) fn reference_arity<M: ModuleArity>(
     op: &ReferenceOperator,
     resources: &M,
 ) -> Option<(u128, u128)>
-    ensures { result ≡ arity (M.asked resources.now) (reference_shape (map_reference index_number (reference_of op.now))) }
+    ensures { result ≡ arity (M.asked resources.now)
+        (reference_shape (map_reference index_number (reference_of op.now))) }
 {
     match *op {
         ReferenceOperator::RefNull { .. } | ReferenceOperator::RefFunc { .. } => Some((0, 1)),
@@ -42,9 +43,11 @@ pub(crate) fn reference_arity<M: ModuleArity>(
     }
 }
 
-/// How many operands a branch on a cast leaves where it is not taken: as many as its label takes, and one at least.
+/// How many operands a branch on a cast leaves where it is not taken: as many as its label takes,
+/// and one at least.
 fn kept_count<M: ModuleArity>(resources: &M, depth: u32) -> Option<u128>
-    ensures counted { result ≡ how_many (M.asked resources.now) (joined (front (label depth)) (these (i32 ∷ []))) }
+    ensures counted { result ≡ how_many (M.asked resources.now)
+        (joined (front (label depth)) (these (i32 ∷ []))) }
     ensures small { IfSome result IsSmall }
 {
     match label_count(resources, depth) {
@@ -56,7 +59,8 @@ fn kept_count<M: ModuleArity>(resources: &M, depth: u32) -> Option<u128>
 
 /// How many operands a test or a cast of a reference takes and gives, or a branch on one.
 pub(crate) fn cast_arity<M: ModuleArity>(op: &CastOperator, resources: &M) -> Option<(u128, u128)>
-    ensures { result ≡ arity (M.asked resources.now) (cast_shape (map_cast index_number (cast_of op.now))) }
+    ensures { result ≡ arity (M.asked resources.now)
+        (cast_shape (map_cast index_number (cast_of op.now))) }
 {
     match *op {
         CastOperator::RefTestNonNull { .. }

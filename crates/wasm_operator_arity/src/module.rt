@@ -11,7 +11,8 @@ use std::alloc::Allocator;
 use wasm_operators::{BlockType, FrameKind};
 use wasm_readers_types::{ContType, FuncType, RefType, SubType};
 
-/// What is asked of a module, and of the frames of a body, to tell how many operands an operator takes and gives.
+/// What is asked of a module, and of the frames of a body, to tell how many operands an operator
+/// takes and gives.
 pub trait ModuleArity {
     /// The memory that the types are in.
     type A: Allocator;
@@ -31,12 +32,13 @@ pub trait ModuleArity {
     fn type_index_of_function(&self, function_index: u32) -> Option<u32>
         ensures { result ≡ (asked self.now).functions function_index };
 
-    /// The function type of a continuation type that has an id: none where it has another index, or where the id's type
-    /// isn't a function type.
+    /// The function type of a continuation type that has an id: none where it has another index, or
+    /// where the id's type isn't a function type.
     fn func_type_of_cont_type(&self, cont_type: &ContType) -> Option<&FuncType<Self::A>>
         ensures { option_map (λ f. func_of f.now) result ≡ option_and_then (λ d. func_alone d.comp) (type_of_id (asked self.now) (index_of cont_type.now.0)) };
 
-    /// The type that a reference type names by its id: none where it is abstract or has another index.
+    /// The type that a reference type names by its id: none where it is abstract or has another
+    /// index.
     fn sub_type_of_ref_type(&self, ref_type: &RefType) -> Option<&SubType<Self::A>>
         ensures { option_map (λ t. sub_of t.now) result ≡ option_and_then (type_of_id (asked self.now)) (index_in (ref_of ref_type.now).heap) };
 
@@ -44,7 +46,8 @@ pub trait ModuleArity {
     fn control_stack_height(&self) -> u32
         ensures { result ≡ length (asked self.now).frames };
 
-    /// The block type and the kind of the frame of this label, counted from the innermost, if there is one.
+    /// The block type and the kind of the frame of this label, counted from the innermost, if there
+    /// is one.
     fn label_block(&self, depth: u32) -> Option<(BlockType, FrameKind)>
         ensures { option_map (λ x. (block_of x.0, kind_of x.1)) result ≡ slice_get (asked self.now).frames depth };
 }

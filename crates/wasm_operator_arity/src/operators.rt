@@ -35,12 +35,14 @@ fn counts_of<M: ModuleArity>(op: &Operator, resources: &M) -> Option<(u128, u128
     }
 }
 
-/// How many operands an operator takes and how many it gives, in a body of a module (Core Specification 3.0, Validation,
-/// Instructions). None where a type, function, tag or label that tells a count isn't there or is of another kind, where a `select`
-/// names other than one type or a `br_on_non_null` branches to a label without types, and where a count passes 32 bits.
-/// Other indices, as those of locals and tables, are not looked at.
+/// How many operands an operator takes and how many it gives, in a body of a module (Core
+/// Specification 3.0, Validation, Instructions). None where a type, function, tag or label that
+/// tells a count isn't there or is of another kind, where a `select` names other than one type or a
+/// `br_on_non_null` branches to a label without types, and where a count passes 32 bits. Other
+/// indices, as those of locals and tables, are not looked at.
 pub fn operator_arity<M: ModuleArity>(op: &Operator, resources: &M) -> Option<(u32, u32)>
-    ensures { result ≡ option_and_then in_u32 (arity (M.asked resources.now) (operator_shape op.now)) }
+    ensures { result ≡ option_and_then in_u32
+        (arity (M.asked resources.now) (operator_shape op.now)) }
 {
     match counts_of(op, resources) {
         Some((takes, gives)) => {

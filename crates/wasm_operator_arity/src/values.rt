@@ -1,4 +1,5 @@
-//! How many operands operators on variables, tables, memories and numbers take and give, which no index tells.
+//! How many operands operators on variables, tables, memories and numbers take and give, which no
+//! index tells.
 
 ghost use Rattle.std.specs.Prelude.{◌≡◌, Some};
 ghost use Rattle.wasm_operator_steps.specs.Shapes.{variable_shape, table_shape, access_shape, memory_shape, computing};

@@ -17,15 +17,16 @@ use wasm_operator_tables::table_reached;
 use wasm_readers_errors::WasmFeatures;
 use wasm_readers_types::ValType;
 
-/// `call`: takes a function's parameters, and gives its results (Core Specification 3.0, Validation,
-/// Control Instructions).
+/// `call`: takes a function's parameters, and gives its results (Core Specification 3.0,
+/// Validation, Control Instructions).
 #[tactic(auto, using(wasm_operator_checks::proofs::Acting::acts, wasm_operator_checks::proofs::Typing::types, crate::proofs::Called::calls))]
 pub fn call<A: Allocator, T: WasmModuleResources>(
     stacks: &mut Stacks<A>,
     resources: &T,
     function_index: u32,
 ) -> Result<(), OperatorError>
-    ensures took { Performs result (T.context resources.now) (call_shape (Call function_index)) stacks.old stacks.new }
+    ensures took { Performs result (T.context resources.now) (call_shape (Call function_index))
+        stacks.old stacks.new }
     ensures same { Kept stacks.old stacks.new }
 {
     match function_reached(stacks, resources, function_index) {
@@ -48,7 +49,8 @@ pub fn call_indirect<A: Allocator, T: WasmModuleResources>(
     type_index: u32,
     table_index: u32,
 ) -> Result<(), OperatorError>
-    ensures took { Performs result (T.context resources.now) (call_shape (CallIndirect type_index table_index)) stacks.old stacks.new }
+    ensures took { Performs result (T.context resources.now)
+        (call_shape (CallIndirect type_index table_index)) stacks.old stacks.new }
     ensures same { Kept stacks.old stacks.new }
 {
     let table = match table_reached(stacks, resources, table_index) {
@@ -73,15 +75,16 @@ pub fn call_indirect<A: Allocator, T: WasmModuleResources>(
     }
 }
 
-/// `call_ref`: takes the parameters of a function type with a reference to such a function, or null,
-/// on top, and gives the results (Core Specification 3.0, Validation, Control Instructions).
+/// `call_ref`: takes the parameters of a function type with a reference to such a function, or
+/// null, on top, and gives the results (Core Specification 3.0, Validation, Control Instructions).
 #[tactic(auto, using(wasm_operator_checks::proofs::Acting::acts, wasm_operator_checks::proofs::Typing::types, crate::proofs::Called::calls))]
 pub fn call_ref<A: Allocator, T: WasmModuleResources>(
     stacks: &mut Stacks<A>,
     resources: &T,
     type_index: u32,
 ) -> Result<(), OperatorError>
-    ensures took { Performs result (T.context resources.now) (call_shape (CallRef type_index)) stacks.old stacks.new }
+    ensures took { Performs result (T.context resources.now) (call_shape (CallRef type_index))
+        stacks.old stacks.new }
     ensures same { Kept stacks.old stacks.new }
 {
     if !has(stacks, WasmFeatures::FUNCTION_REFERENCES) {

@@ -24,7 +24,8 @@ pub fn halt_with<'a, A: Allocator, T: WasmModuleResources>(
     takes: Types<'a>,
     top: TypeWord,
 ) -> Result<(), OperatorError>
-    ensures took { Turns result (halted (world (T.context resources.now)) (types_seen takes.entry ++ val_in top ∷ [])) stacks.old stacks.new }
+    ensures took { Turns result (halted (world (T.context resources.now))
+        (types_seen takes.entry ++ val_in top ∷ [])) stacks.old stacks.new }
     ensures same { Kept stacks.old stacks.new }
 {
     let first = match check_type(stacks, resources, 0, top) {

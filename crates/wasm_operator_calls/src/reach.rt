@@ -27,8 +27,10 @@ pub fn type_reached<'a, A: Allocator, T: WasmModuleResources>(
     resources: &'a T,
     type_index: u32,
 ) -> Result<&'a FuncType<T::A>, OperatorFault>
-    ensures ok { IfOk result (λ f. type_in (T.context resources.now) stacks.now.is_shared type_index ≡ Some (signature_seen f.now)) }
-    ensures err { OnErr result (type_in (T.context resources.now) stacks.now.is_shared type_index ≡ None) }
+    ensures ok { IfOk result (λ f. type_in (T.context resources.now) stacks.now.is_shared type_index
+        ≡ Some (signature_seen f.now)) }
+    ensures err { OnErr result (type_in (T.context resources.now)
+        stacks.now.is_shared type_index ≡ None) }
 {
     match resources.sub_type_at(type_index) {
         Some(ty) => match &ty.composite_type.inner {
@@ -57,8 +59,10 @@ pub fn function_reached<'a, A: Allocator, T: WasmModuleResources>(
     resources: &'a T,
     function_index: u32,
 ) -> Result<&'a FuncType<T::A>, OperatorFault>
-    ensures ok { IfOk result (λ f. function_in (T.context resources.now) stacks.now.is_shared function_index ≡ Some (signature_seen f.now)) }
-    ensures err { OnErr result (function_in (T.context resources.now) stacks.now.is_shared function_index ≡ None) }
+    ensures ok { IfOk result (λ f. function_in (T.context resources.now) stacks.now.is_shared
+        function_index ≡ Some (signature_seen f.now)) }
+    ensures err { OnErr result (function_in (T.context resources.now) stacks.now.is_shared
+        function_index ≡ None) }
 {
     match resources.type_index_of_function(function_index) {
         Some(type_index) => type_reached(stacks, resources, type_index),
@@ -68,7 +72,8 @@ pub fn function_reached<'a, A: Allocator, T: WasmModuleResources>(
 
 /// A reference, or null, to a value of the type of this index, if there is one.
 pub fn null_or<T: WasmModuleResources>(resources: &T, type_index: u32) -> Option<TypeWord>
-    ensures { option_map val_in result ≡ resolve_val (T.context resources.now).types (nullable_to type_index) }
+    ensures { option_map val_in result ≡ resolve_val (T.context resources.now).types
+        (nullable_to type_index) }
 {
     let mut heap = HeapType::Concrete(UnpackedIndex::Module(type_index));
     match resources.check_heap_type(&mut heap, 0) {

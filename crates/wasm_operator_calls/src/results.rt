@@ -37,7 +37,8 @@ pub fn match_types<'a, T: WasmModuleResources>(
     types: &[ValType],
     others: Types<'a>,
 ) -> bool
-    ensures { result ≡ matches_vals (world (T.context resources.now)) (map val_of types.now) (types_seen others.entry) }
+    ensures { result ≡ matches_vals (world (T.context resources.now)) (map val_of types.now)
+        (types_seen others.entry) }
 {
     match others {
         Types::None => {
@@ -63,7 +64,8 @@ pub fn returns<A: Allocator, T: WasmModuleResources>(
     resources: &T,
     types: &[ValType],
 ) -> bool
-    ensures { result ≡ passes (matches_vals (world (T.context resources.now)) (map val_of types.now)) (typed stacks.now (T.context resources.now) returned) }
+    ensures { result ≡ passes (matches_vals (world (T.context resources.now))
+        (map val_of types.now)) (typed stacks.now (T.context resources.now) returned) }
 {
     match returned_types(stacks, resources) {
         Some(returned) => match_types(resources, types, returned),

@@ -16,8 +16,8 @@ use wasm_operator_stacks::Stacks;
 ///
 /// # Errors
 ///
-/// Refuses a call that isn't valid here, with the rule that it breaks, and where memory for operands
-/// is refused. All stays then.
+/// Refuses a call that isn't valid here, with the rule that it breaks, and where memory for
+/// operands is refused. All stays then.
 pub fn step_call<A: Allocator, T: WasmModuleResources>(
     stacks: &mut Stacks<A>,
     resources: &T,

@@ -24,7 +24,8 @@ pub fn return_call<A: Allocator, T: WasmModuleResources>(
     resources: &T,
     function_index: u32,
 ) -> Result<(), OperatorError>
-    ensures took { Performs result (T.context resources.now) (call_shape (ReturnCall function_index)) stacks.old stacks.new }
+    ensures took { Performs result (T.context resources.now)
+        (call_shape (ReturnCall function_index)) stacks.old stacks.new }
     ensures same { Kept stacks.old stacks.new }
 {
     let signature = match function_reached(stacks, resources, function_index) {
@@ -47,7 +48,8 @@ pub fn return_call_indirect<A: Allocator, T: WasmModuleResources>(
     type_index: u32,
     table_index: u32,
 ) -> Result<(), OperatorError>
-    ensures took { Performs result (T.context resources.now) (call_shape (ReturnCallIndirect type_index table_index)) stacks.old stacks.new }
+    ensures took { Performs result (T.context resources.now)
+        (call_shape (ReturnCallIndirect type_index table_index)) stacks.old stacks.new }
     ensures same { Kept stacks.old stacks.new }
 {
     let table = match table_reached(stacks, resources, table_index) {
@@ -84,7 +86,8 @@ pub fn return_call_ref<A: Allocator, T: WasmModuleResources>(
     resources: &T,
     type_index: u32,
 ) -> Result<(), OperatorError>
-    ensures took { Performs result (T.context resources.now) (call_shape (ReturnCallRef type_index)) stacks.old stacks.new }
+    ensures took { Performs result (T.context resources.now) (call_shape (ReturnCallRef type_index))
+        stacks.old stacks.new }
     ensures same { Kept stacks.old stacks.new }
 {
     if !has(stacks, WasmFeatures::FUNCTION_REFERENCES) {

@@ -15,7 +15,8 @@ pub fn match_all<T: WasmModuleResources>(
     types: &[ValType],
     others: &[ValType],
 ) -> bool
-    ensures { result ≡ matches_vals (world (T.context resources.now)) (map val_of types.now) (map val_of others.now) }
+    ensures { result ≡ matches_vals (world (T.context resources.now)) (map val_of types.now)
+        (map val_of others.now) }
 {
     if types.len() != others.len() {
         return false;

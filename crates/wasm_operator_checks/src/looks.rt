@@ -49,7 +49,8 @@ pub fn check_type<A: Allocator, T: WasmModuleResources>(
     ty: TypeWord,
 ) -> Result<usize, OperatorFault>
     requires { taken ≤ length (state_of stacks.now).operands }
-    ensures { Checked result (pop_val (world (T.context resources.now)) (val_in ty) (below taken (state_of stacks.now))) (state_of stacks.now) }
+    ensures { Checked result (pop_val (world (T.context resources.now)) (val_in ty)
+        (below taken (state_of stacks.now))) (state_of stacks.now) }
 {
     match look(stacks, taken) {
         Some((operand, taken)) => {
@@ -73,7 +74,8 @@ pub fn check_many<A: Allocator, T: WasmModuleResources>(
     types: &[ValType],
 ) -> Result<usize, OperatorFault>
     requires { taken ≤ length (state_of stacks.now).operands }
-    ensures { Checked result (pop_vals (world (T.context resources.now)) (map val_of types.now) (below taken (state_of stacks.now))) (state_of stacks.now) }
+    ensures { Checked result (pop_vals (world (T.context resources.now)) (map val_of types.now)
+        (below taken (state_of stacks.now))) (state_of stacks.now) }
 {
     let count = types.len();
     let mut taken = taken;

@@ -15,7 +15,8 @@ use wasm_type_words::TypeWord;
 /// Whether a reference to an abstract heap type whose shared flag is open is of a type.
 #[tactic(auto, using(crate::proofs::Agreeing::opens))]
 fn matches_open<T: WasmModuleResources>(resources: &T, heap: AbstractHeapType, ty: ValType) -> bool
-    ensures { result ≡ matches_operand (world (T.context resources.now)) (open_reference (abstract_heap_of heap)) (val_of ty) }
+    ensures { result ≡ matches_operand (world (T.context resources.now))
+        (open_reference (abstract_heap_of heap)) (val_of ty) }
 {
     match ty {
         ValType::Ref(expected) => {
@@ -33,7 +34,8 @@ fn matches_open<T: WasmModuleResources>(resources: &T, heap: AbstractHeapType, t
 #[inline(never)]
 #[tactic(auto, using(crate::proofs::Agreeing::kinds))]
 fn matches_otherwise<T: WasmModuleResources>(resources: &T, operand: Operand, ty: ValType) -> bool
-    ensures { result ≡ matches_operand (world (T.context resources.now)) (operand_seen operand) (val_of ty) }
+    ensures { result ≡ matches_operand (world (T.context resources.now))
+        (operand_seen operand) (val_of ty) }
 {
     match operand {
         Operand::Known(known) => resources.is_subtype(known, ty),
@@ -50,7 +52,8 @@ fn matches_otherwise<T: WasmModuleResources>(resources: &T, operand: Operand, ty
 #[inline(always)]
 #[tactic(auto, using(crate::proofs::Agreeing::matchings))]
 pub fn matches<T: WasmModuleResources>(resources: &T, operand: Word, ty: TypeWord) -> bool
-    ensures { result ≡ matches_operand (world (T.context resources.now)) (operand_of operand) (val_in ty) }
+    ensures { result ≡ matches_operand (world (T.context resources.now))
+        (operand_of operand) (val_in ty) }
 {
     operand.is(ty) || matches_otherwise(resources, operand.seen(), ty.ty())
 }

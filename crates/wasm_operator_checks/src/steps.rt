@@ -24,7 +24,8 @@ pub fn plain<'a, A: Allocator, T: WasmModuleResources>(
     takes: Takes<'a>,
     gives: Types<'a>,
 ) -> Result<(), OperatorError>
-    ensures took { Turns result (exchanged (world (T.context resources.now)) (takes_seen takes.entry) (types_seen gives.entry)) stacks.old stacks.new }
+    ensures took { Turns result (exchanged (world (T.context resources.now))
+        (takes_seen takes.entry) (types_seen gives.entry)) stacks.old stacks.new }
     ensures same { Kept stacks.old stacks.new }
 {
     let taken = match check_takes(stacks, resources, takes) {
@@ -47,7 +48,9 @@ pub fn plain_with<'a, A: Allocator, T: WasmModuleResources>(
     top: TypeWord,
     gives: Types<'a>,
 ) -> Result<(), OperatorError>
-    ensures took { Turns result (exchanged (world (T.context resources.now)) (types_seen takes.entry ++ val_in top ∷ []) (types_seen gives.entry)) stacks.old stacks.new }
+    ensures took { Turns result (exchanged (world (T.context resources.now))
+        (types_seen takes.entry ++ val_in top ∷ []) (types_seen gives.entry))
+        stacks.old stacks.new }
     ensures same { Kept stacks.old stacks.new }
 {
     let first = match check_type(stacks, resources, 0, top) {
@@ -72,7 +75,8 @@ pub fn halt<'a, A: Allocator, T: WasmModuleResources>(
     resources: &T,
     takes: Types<'a>,
 ) -> Result<(), OperatorError>
-    ensures took { Turns result (halted (world (T.context resources.now)) (types_seen takes.entry)) stacks.old stacks.new }
+    ensures took { Turns result (halted (world (T.context resources.now)) (types_seen takes.entry))
+        stacks.old stacks.new }
     ensures same { Kept stacks.old stacks.new }
 {
     let taken = match check_types(stacks, resources, 0, takes) {

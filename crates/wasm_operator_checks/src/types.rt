@@ -45,7 +45,9 @@ fn check_two<A: Allocator, T: WasmModuleResources>(
     second: TypeWord,
 ) -> Result<usize, OperatorFault>
     requires { taken ≤ length (state_of stacks.now).operands }
-    ensures { Checked result (pop_vals (world (T.context resources.now)) (val_in first ∷ val_in second ∷ []) (below taken (state_of stacks.now))) (state_of stacks.now) }
+    ensures { Checked result (pop_vals (world (T.context resources.now))
+        (val_in first ∷ val_in second ∷ []) (below taken (state_of stacks.now)))
+        (state_of stacks.now) }
 {
     let taken = match check_type(stacks, resources, taken, second) {
         Ok(taken) => taken,
@@ -64,7 +66,8 @@ pub fn check_types<'a, A: Allocator, T: WasmModuleResources>(
     types: Types<'a>,
 ) -> Result<usize, OperatorFault>
     requires { taken ≤ length (state_of stacks.now).operands }
-    ensures { Checked result (pop_vals (world (T.context resources.now)) (types_seen types.entry) (below taken (state_of stacks.now))) (state_of stacks.now) }
+    ensures { Checked result (pop_vals (world (T.context resources.now)) (types_seen types.entry)
+        (below taken (state_of stacks.now))) (state_of stacks.now) }
 {
     match types {
         Types::None => Ok(taken),
@@ -81,7 +84,8 @@ pub fn check_takes<'a, A: Allocator, T: WasmModuleResources>(
     resources: &T,
     takes: Takes<'a>,
 ) -> Result<usize, OperatorFault>
-    ensures { Checked result (pop_vals (world (T.context resources.now)) (takes_seen takes.entry) (state_of stacks.now)) (state_of stacks.now) }
+    ensures { Checked result (pop_vals (world (T.context resources.now)) (takes_seen takes.entry)
+        (state_of stacks.now)) (state_of stacks.now) }
 {
     match takes {
         Takes::None => Ok(0),
@@ -103,7 +107,8 @@ pub fn exchange_types<'a, A: Allocator>(
     types: Types<'a>,
 ) -> Result<(), AllocError>
     requires { taken ≤ length (state_of stacks.old).operands }
-    ensures ok { OnOk result (state_of stacks.new ≡ push_vals (types_seen types.entry) (below taken (state_of stacks.old))) }
+    ensures ok { OnOk result (state_of stacks.new
+        ≡ push_vals (types_seen types.entry) (below taken (state_of stacks.old))) }
     ensures err { OnErr result (state_of stacks.new ≡ state_of stacks.old) }
     ensures frame { stacks.new.frame ≡ stacks.old.frame }
     ensures open { stacks.new.is_open ≡ stacks.old.is_open }

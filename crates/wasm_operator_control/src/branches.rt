@@ -23,7 +23,8 @@ pub fn do_nothing<A: Allocator, T: WasmModuleResources>(
     stacks: &mut Stacks<A>,
     resources: &T,
 ) -> Result<(), OperatorError>
-    ensures took { Performs result (T.context resources.now) (control_shape nop) stacks.old stacks.new }
+    ensures took { Performs result (T.context resources.now) (control_shape nop)
+        stacks.old stacks.new }
     ensures same { Kept stacks.old stacks.new }
 {
     plain(stacks, resources, Takes::None, Types::None)
@@ -35,7 +36,8 @@ pub fn trap<A: Allocator, T: WasmModuleResources>(
     stacks: &mut Stacks<A>,
     resources: &T,
 ) -> Result<(), OperatorError>
-    ensures took { Performs result (T.context resources.now) (control_shape unreachable) stacks.old stacks.new }
+    ensures took { Performs result (T.context resources.now) (control_shape unreachable)
+        stacks.old stacks.new }
     ensures same { Kept stacks.old stacks.new }
 {
     halt(stacks, resources, Types::None)
@@ -48,7 +50,8 @@ pub fn branch<A: Allocator, T: WasmModuleResources>(
     resources: &T,
     depth: u32,
 ) -> Result<(), OperatorError>
-    ensures took { Performs result (T.context resources.now) (control_shape (br depth)) stacks.old stacks.new }
+    ensures took { Performs result (T.context resources.now) (control_shape (br depth))
+        stacks.old stacks.new }
     ensures same { Kept stacks.old stacks.new }
 {
     match label_types(stacks, resources, depth) {
@@ -64,7 +67,8 @@ pub fn branch_if<A: Allocator, T: WasmModuleResources>(
     resources: &T,
     depth: u32,
 ) -> Result<(), OperatorError>
-    ensures took { Performs result (T.context resources.now) (control_shape (br_if depth)) stacks.old stacks.new }
+    ensures took { Performs result (T.context resources.now) (control_shape (br_if depth))
+        stacks.old stacks.new }
     ensures same { Kept stacks.old stacks.new }
 {
     match label_types(stacks, resources, depth) {
@@ -82,7 +86,8 @@ pub fn give_back<A: Allocator, T: WasmModuleResources>(
     stacks: &mut Stacks<A>,
     resources: &T,
 ) -> Result<(), OperatorError>
-    ensures took { Performs result (T.context resources.now) (control_shape return_) stacks.old stacks.new }
+    ensures took { Performs result (T.context resources.now) (control_shape return_)
+        stacks.old stacks.new }
     ensures same { Kept stacks.old stacks.new }
 {
     match returned_types(stacks, resources) {

@@ -23,7 +23,9 @@ use wasm_operators::FrameKind;
 /// Whether an `if` of this type may end without `else`.
 #[tactic(auto, using(crate::proofs::Ended::ends))]
 fn gives_what_it_takes<T: WasmModuleResources>(resources: &T, block: BlockWord) -> bool
-    ensures { (g : Signature UnpackedIndex) → signature_in (T.context resources.now) (block_in block) ≡ Some g → result ≡ matches_vals (world (T.context resources.now)) g.takes g.gives }
+    ensures { (g : Signature UnpackedIndex)
+        → signature_in (T.context resources.now) (block_in block) ≡ Some g
+        → result ≡ matches_vals (world (T.context resources.now)) g.takes g.gives }
 {
     match block.seen() {
         Block::Empty => true,
@@ -37,7 +39,9 @@ fn gives_what_it_takes<T: WasmModuleResources>(resources: &T, block: BlockWord) 
 
 /// Whether a frame of this kind and type may end.
 fn may_end<T: WasmModuleResources>(resources: &T, kind: FrameKind, block: BlockWord) -> bool
-    ensures { (g : Signature UnpackedIndex) → signature_in (T.context resources.now) (block_in block) ≡ Some g → result ≡ ends_in (world (T.context resources.now)) (kind_of kind) g }
+    ensures { (g : Signature UnpackedIndex)
+        → signature_in (T.context resources.now) (block_in block) ≡ Some g
+        → result ≡ ends_in (world (T.context resources.now)) (kind_of kind) g }
 {
     match kind {
         FrameKind::If => gives_what_it_takes(resources, block),

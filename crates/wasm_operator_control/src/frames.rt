@@ -26,7 +26,8 @@ pub fn open_frame<'a, A: Allocator, T: WasmModuleResources>(
     takes: Types<'a>,
 ) -> Result<(), OperatorError>
     requires { first ≤ length (state_of stacks.old).operands }
-    ensures took { Turns result (λ s. entered (world (T.context resources.now)) (kind_of kind) (block_in block) (types_seen takes.entry) (below first s)) stacks.old stacks.new }
+    ensures took { Turns result (λ s. entered (world (T.context resources.now)) (kind_of kind)
+        (block_in block) (types_seen takes.entry) (below first s)) stacks.old stacks.new }
     ensures same { Kept stacks.old stacks.new }
 {
     let taken = match check_types(stacks, resources, first, takes) {

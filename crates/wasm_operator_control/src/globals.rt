@@ -22,7 +22,8 @@ pub fn global_get<A: Allocator, T: WasmModuleResources>(
     resources: &T,
     index: u32,
 ) -> Result<(), OperatorError>
-    ensures took { Performs result (T.context resources.now) (variable_shape (GlobalGet index)) stacks.old stacks.new }
+    ensures took { Performs result (T.context resources.now) (variable_shape (GlobalGet index))
+        stacks.old stacks.new }
     ensures same { Kept stacks.old stacks.new }
 {
     match resources.global_at(index) {
@@ -48,7 +49,8 @@ pub fn global_set<A: Allocator, T: WasmModuleResources>(
     resources: &T,
     index: u32,
 ) -> Result<(), OperatorError>
-    ensures took { Performs result (T.context resources.now) (variable_shape (GlobalSet index)) stacks.old stacks.new }
+    ensures took { Performs result (T.context resources.now) (variable_shape (GlobalSet index))
+        stacks.old stacks.new }
     ensures same { Kept stacks.old stacks.new }
 {
     match resources.global_at(index) {

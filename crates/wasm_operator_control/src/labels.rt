@@ -24,7 +24,8 @@ pub fn function_type<'a, T: WasmModuleResources>(
     resources: &'a T,
     type_index: u32,
 ) -> Option<&'a FuncType<T::A>>
-    ensures { option_map (λ f. signature_seen f.now) result ≡ function_in (T.context resources.now) type_index }
+    ensures { option_map (λ f. signature_seen f.now) result
+        ≡ function_in (T.context resources.now) type_index }
 {
     match resources.sub_type_at(type_index) {
         Some(sub) => match &sub.composite_type.inner {
@@ -42,7 +43,8 @@ pub fn block_takes<'a, T: WasmModuleResources>(
     resources: &'a T,
     block: BlockWord,
 ) -> Option<Types<'a>>
-    ensures { option_map types_seen result ≡ option_map (λ g. g.takes) (signature_in (T.context resources.now) (block_in block)) }
+    ensures { option_map types_seen result
+        ≡ option_map (λ g. g.takes) (signature_in (T.context resources.now) (block_in block)) }
 {
     match block.seen() {
         Block::Empty => Some(Types::None),
@@ -61,7 +63,8 @@ pub fn block_gives<'a, T: WasmModuleResources>(
     resources: &'a T,
     block: BlockWord,
 ) -> Option<Types<'a>>
-    ensures { option_map types_seen result ≡ option_map (λ g. g.gives) (signature_in (T.context resources.now) (block_in block)) }
+    ensures { option_map types_seen result
+        ≡ option_map (λ g. g.gives) (signature_in (T.context resources.now) (block_in block)) }
 {
     match block.seen() {
         Block::Empty => Some(Types::None),
@@ -79,7 +82,9 @@ fn branch_types<'a, T: WasmModuleResources>(
     kind: FrameKind,
     block: BlockWord,
 ) -> Option<Types<'a>>
-    ensures { option_map types_seen result ≡ option_map (label_by (kind_of kind)) (signature_in (T.context resources.now) (block_in block)) }
+    ensures { option_map types_seen result
+        ≡ option_map (label_by (kind_of kind))
+        (signature_in (T.context resources.now) (block_in block)) }
 {
     match kind {
         FrameKind::Loop => block_takes(resources, block),
@@ -112,7 +117,8 @@ pub fn label_types<'a, A: Allocator, T: WasmModuleResources>(
     resources: &'a T,
     depth: u32,
 ) -> Option<Types<'a>>
-    ensures { typed stacks.now (T.context resources.now) (label depth) ≡ option_map types_seen result }
+    ensures { typed stacks.now (T.context resources.now) (label depth)
+        ≡ option_map types_seen result }
 {
     match frame_at(stacks, depth) {
         Some(frame) => branch_types(resources, frame.kind, frame.block),

@@ -32,7 +32,9 @@ fn mark<A: Allocator>(
     index: u32,
     local: LocalWord,
 ) -> Result<(), AllocError>
-    ensures ok { OnOk result (state_of stacks.new ≡ set_local ((local_of local).set || among index stacks.old.locals.inits) index (state_of stacks.old)) }
+    ensures ok { OnOk result (state_of stacks.new
+        ≡ set_local ((local_of local).set || among index stacks.old.locals.inits) index
+        (state_of stacks.old)) }
     ensures err { OnErr result (state_of stacks.new ≡ state_of stacks.old) }
     ensures operands { stacks.new.operands ≡ stacks.old.operands }
     ensures same { Kept stacks.old stacks.new }
@@ -51,7 +53,8 @@ pub fn local_get<A: Allocator, T: WasmModuleResources>(
     resources: &T,
     index: u32,
 ) -> Result<(), OperatorError>
-    ensures took { Performs result (T.context resources.now) (variable_shape (LocalGet index)) stacks.old stacks.new }
+    ensures took { Performs result (T.context resources.now) (variable_shape (LocalGet index))
+        stacks.old stacks.new }
     ensures same { Kept stacks.old stacks.new }
 {
     match stacks.locals.get(index) {
@@ -75,7 +78,8 @@ pub fn local_set<A: Allocator, T: WasmModuleResources>(
     resources: &T,
     index: u32,
 ) -> Result<(), OperatorError>
-    ensures took { Performs result (T.context resources.now) (variable_shape (LocalSet index)) stacks.old stacks.new }
+    ensures took { Performs result (T.context resources.now) (variable_shape (LocalSet index))
+        stacks.old stacks.new }
     ensures same { Kept stacks.old stacks.new }
 {
     let local = match stacks.locals.get(index) {
@@ -107,7 +111,8 @@ pub fn local_tee<A: Allocator, T: WasmModuleResources>(
     resources: &T,
     index: u32,
 ) -> Result<(), OperatorError>
-    ensures took { Performs result (T.context resources.now) (variable_shape (LocalTee index)) stacks.old stacks.new }
+    ensures took { Performs result (T.context resources.now) (variable_shape (LocalTee index))
+        stacks.old stacks.new }
     ensures same { Kept stacks.old stacks.new }
 {
     let local = match stacks.locals.get(index) {

@@ -61,7 +61,8 @@ fn access_of(op: MemoryOperator) -> Access
 
 /// Whether a memory may be accessed so.
 fn fits(memory: MemoryType, op: MemoryOperator, arg: MemArg) -> bool
-    ensures { result ≡ (nat_le arg.align (max_align_of op) && (memory.memory64 || nat_lt arg.offset (2 ^ 32))) }
+    ensures { result ≡ (nat_le arg.align (max_align_of op)
+        && (memory.memory64 || nat_lt arg.offset (2 ^ 32))) }
 {
     arg.align <= max_align(op) && (memory.memory64 || arg.offset < 4_294_967_296)
 }
@@ -75,7 +76,8 @@ fn load<A: Allocator, T: WasmModuleResources>(
     op: MemoryOperator,
     arg: MemArg,
 ) -> Result<(), OperatorError>
-    ensures took { Performs result (T.context resources.now) (loading op arg (number_type ty)) stacks.old stacks.new }
+    ensures took { Performs result (T.context resources.now) (loading op arg (number_type ty))
+        stacks.old stacks.new }
     ensures same { Kept stacks.old stacks.new }
 {
     if !allows_number(stacks, ty) {
@@ -108,7 +110,8 @@ fn store<A: Allocator, T: WasmModuleResources>(
     op: MemoryOperator,
     arg: MemArg,
 ) -> Result<(), OperatorError>
-    ensures took { Performs result (T.context resources.now) (storing op arg (number_type ty)) stacks.old stacks.new }
+    ensures took { Performs result (T.context resources.now) (storing op arg (number_type ty))
+        stacks.old stacks.new }
     ensures same { Kept stacks.old stacks.new }
 {
     if !allows_number(stacks, ty) {
@@ -140,7 +143,8 @@ fn access_as<A: Allocator, T: WasmModuleResources>(
     op: MemoryOperator,
     arg: MemArg,
 ) -> Result<(), OperatorError>
-    ensures took { Performs result (T.context resources.now) (accessing access op arg) stacks.old stacks.new }
+    ensures took { Performs result (T.context resources.now) (accessing access op arg)
+        stacks.old stacks.new }
     ensures same { Kept stacks.old stacks.new }
 {
     match access {
@@ -156,7 +160,8 @@ pub fn access_memory<A: Allocator, T: WasmModuleResources>(
     op: MemoryOperator,
     arg: MemArg,
 ) -> Result<(), OperatorError>
-    ensures took { Performs result (T.context resources.now) (access_shape op arg) stacks.old stacks.new }
+    ensures took { Performs result (T.context resources.now) (access_shape op arg)
+        stacks.old stacks.new }
     ensures same { Kept stacks.old stacks.new }
 {
     access_as(stacks, resources, access_of(op), op, arg)

@@ -38,7 +38,8 @@ fn memory_size<A: Allocator, T: WasmModuleResources>(
     resources: &T,
     mem: u32,
 ) -> Result<(), OperatorError>
-    ensures took { Performs result (T.context resources.now) (memory_shape (MemorySize mem)) stacks.old stacks.new }
+    ensures took { Performs result (T.context resources.now) (memory_shape (MemorySize mem))
+        stacks.old stacks.new }
     ensures same { Kept stacks.old stacks.new }
 {
     match resources.memory_at(mem) {
@@ -59,7 +60,8 @@ fn memory_grow<A: Allocator, T: WasmModuleResources>(
     resources: &T,
     mem: u32,
 ) -> Result<(), OperatorError>
-    ensures took { Performs result (T.context resources.now) (memory_shape (MemoryGrow mem)) stacks.old stacks.new }
+    ensures took { Performs result (T.context resources.now) (memory_shape (MemoryGrow mem))
+        stacks.old stacks.new }
     ensures same { Kept stacks.old stacks.new }
 {
     match resources.memory_at(mem) {
@@ -78,7 +80,8 @@ fn memory_fill<A: Allocator, T: WasmModuleResources>(
     resources: &T,
     mem: u32,
 ) -> Result<(), OperatorError>
-    ensures took { Performs result (T.context resources.now) (memory_shape (MemoryFill mem)) stacks.old stacks.new }
+    ensures took { Performs result (T.context resources.now) (memory_shape (MemoryFill mem))
+        stacks.old stacks.new }
     ensures same { Kept stacks.old stacks.new }
 {
     if !has(stacks, WasmFeatures::BULK_MEMORY) {
@@ -106,7 +109,8 @@ fn memory_init<A: Allocator, T: WasmModuleResources>(
     data_index: u32,
     mem: u32,
 ) -> Result<(), OperatorError>
-    ensures took { Performs result (T.context resources.now) (memory_shape (MemoryInit data_index mem)) stacks.old stacks.new }
+    ensures took { Performs result (T.context resources.now)
+        (memory_shape (MemoryInit data_index mem)) stacks.old stacks.new }
     ensures same { Kept stacks.old stacks.new }
 {
     if !has(stacks, WasmFeatures::BULK_MEMORY) {
@@ -139,7 +143,8 @@ fn data_drop<A: Allocator, T: WasmModuleResources>(
     resources: &T,
     data_index: u32,
 ) -> Result<(), OperatorError>
-    ensures took { Performs result (T.context resources.now) (memory_shape (DataDrop data_index)) stacks.old stacks.new }
+    ensures took { Performs result (T.context resources.now) (memory_shape (DataDrop data_index))
+        stacks.old stacks.new }
     ensures same { Kept stacks.old stacks.new }
 {
     if !has(stacks, WasmFeatures::BULK_MEMORY) {
@@ -162,7 +167,8 @@ fn memory_copy<A: Allocator, T: WasmModuleResources>(
     dst_mem: u32,
     src_mem: u32,
 ) -> Result<(), OperatorError>
-    ensures took { Performs result (T.context resources.now) (memory_shape (MemoryCopy dst_mem src_mem)) stacks.old stacks.new }
+    ensures took { Performs result (T.context resources.now)
+        (memory_shape (MemoryCopy dst_mem src_mem)) stacks.old stacks.new }
     ensures same { Kept stacks.old stacks.new }
 {
     if !has(stacks, WasmFeatures::BULK_MEMORY) {
@@ -196,7 +202,8 @@ pub fn bulk_memory<A: Allocator, T: WasmModuleResources>(
     resources: &T,
     op: BulkMemoryOperator,
 ) -> Result<(), OperatorError>
-    ensures took { Performs result (T.context resources.now) (memory_shape op) stacks.old stacks.new }
+    ensures took { Performs result (T.context resources.now) (memory_shape op)
+        stacks.old stacks.new }
     ensures same { Kept stacks.old stacks.new }
 {
     match op {

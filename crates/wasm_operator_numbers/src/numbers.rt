@@ -27,7 +27,8 @@ fn unary<A: Allocator, T: WasmModuleResources>(
     from: NumberType,
     to: NumberType,
 ) -> Result<(), OperatorError>
-    ensures took { Performs result (T.context resources.now) (computing (Unary from to)) stacks.old stacks.new }
+    ensures took { Performs result (T.context resources.now) (computing (Unary from to))
+        stacks.old stacks.new }
     ensures same { Kept stacks.old stacks.new }
 {
     if !allows_number(stacks, from) {
@@ -52,7 +53,8 @@ fn binary<A: Allocator, T: WasmModuleResources>(
     from: NumberType,
     to: NumberType,
 ) -> Result<(), OperatorError>
-    ensures took { Performs result (T.context resources.now) (computing (Binary from to)) stacks.old stacks.new }
+    ensures took { Performs result (T.context resources.now) (computing (Binary from to))
+        stacks.old stacks.new }
     ensures same { Kept stacks.old stacks.new }
 {
     if !allows_number(stacks, from) {
@@ -75,7 +77,8 @@ pub fn compute<A: Allocator, T: WasmModuleResources>(
     resources: &T,
     signature: Signature,
 ) -> Result<(), OperatorError>
-    ensures took { Performs result (T.context resources.now) (computing signature) stacks.old stacks.new }
+    ensures took { Performs result (T.context resources.now) (computing signature)
+        stacks.old stacks.new }
     ensures same { Kept stacks.old stacks.new }
 {
     match signature {
@@ -91,7 +94,9 @@ fn number<A: Allocator, T: WasmModuleResources>(
     resources: &T,
     ty: NumberType,
 ) -> Result<(), OperatorError>
-    ensures took { Performs result (T.context resources.now) (plain (allows (number_type ty) ∷ []) nothing (one (number_type ty))) stacks.old stacks.new }
+    ensures took { Performs result (T.context resources.now)
+        (plain (allows (number_type ty) ∷ []) nothing (one (number_type ty)))
+        stacks.old stacks.new }
     ensures same { Kept stacks.old stacks.new }
 {
     if !allows_number(stacks, ty) {
@@ -111,7 +116,8 @@ fn vector<A: Allocator, T: WasmModuleResources>(
     stacks: &mut Stacks<A>,
     resources: &T,
 ) -> Result<(), OperatorError>
-    ensures took { Performs result (T.context resources.now) (plain (allows v128 ∷ []) nothing (one v128)) stacks.old stacks.new }
+    ensures took { Performs result (T.context resources.now)
+        (plain (allows v128 ∷ []) nothing (one v128)) stacks.old stacks.new }
     ensures same { Kept stacks.old stacks.new }
 {
     if !has(stacks, WasmFeatures::SIMD) {
@@ -131,7 +137,8 @@ pub fn constant<A: Allocator, T: WasmModuleResources>(
     resources: &T,
     op: ConstantOperator,
 ) -> Result<(), OperatorError>
-    ensures took { Performs result (T.context resources.now) (constant_shape op) stacks.old stacks.new }
+    ensures took { Performs result (T.context resources.now) (constant_shape op)
+        stacks.old stacks.new }
     ensures same { Kept stacks.old stacks.new }
 {
     match op {

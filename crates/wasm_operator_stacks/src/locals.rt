@@ -106,7 +106,8 @@ impl<A: Allocator> Locals<A> {
     /// Adds so many like locals.
     pub fn define(&mut self, count: u32, local: LocalWord) -> Result<(), AllocError>
         requires { length self.old.content + count ≤ 50000 }
-        ensures ok { OnOk result (self.new.content ≡ self.old.content ++ replicate count (local_of local)) }
+        ensures ok { OnOk result (self.new.content ≡ self.old.content
+            ++ replicate count (local_of local)) }
         ensures inits { self.new.inits ≡ self.old.inits }
     {
         let len = self.front.len();

@@ -51,8 +51,10 @@ fn push_each<A: Allocator>(
     operands: &mut Stack<Word, A>,
     types: &[ValType],
 ) -> Result<(), AllocError>
-    ensures ok { OnOk result (map operand_of operands.new ≡ pushed_onto (map val_of types.now) (map operand_of operands.old)) }
-    ensures err { OnErr result (drop (length operands.new - length operands.old) operands.new ≡ operands.old) }
+    ensures ok { OnOk result (map operand_of operands.new
+        ≡ pushed_onto (map val_of types.now) (map operand_of operands.old)) }
+    ensures err { OnErr result (drop (length operands.new - length operands.old)
+        operands.new ≡ operands.old) }
 {
     'pushing: for i in 0..types.len() {
         operands.push(Word::known(TypeWord::new(types[i])))?;
@@ -94,7 +96,8 @@ impl<A: Allocator> Stacks<A> {
     /// Gives an operand. Where memory is refused, all stays.
     #[inline(always)]
     pub fn push(&mut self, operand: Word) -> Result<(), AllocError>
-        ensures ok { OnOk result (state_of self.new ≡ push_operand (operand_of operand) (state_of self.old)) }
+        ensures ok { OnOk result (state_of self.new
+            ≡ push_operand (operand_of operand) (state_of self.old)) }
         ensures err { OnErr result (state_of self.new ≡ state_of self.old) }
         ensures frame { self.new.frame ≡ self.old.frame }
         ensures open { self.new.is_open ≡ self.old.is_open }
@@ -107,7 +110,8 @@ impl<A: Allocator> Stacks<A> {
     #[inline(always)]
     pub fn exchange(&mut self, taken: usize, operand: Word) -> Result<(), AllocError>
         requires { taken ≤ length (state_of self.old).operands }
-        ensures ok { OnOk result (state_of self.new ≡ push_operand (operand_of operand) (below taken (state_of self.old))) }
+        ensures ok { OnOk result (state_of self.new
+            ≡ push_operand (operand_of operand) (below taken (state_of self.old))) }
         ensures err { OnErr result (state_of self.new ≡ state_of self.old) }
         ensures frame { self.new.frame ≡ self.old.frame }
         ensures open { self.new.is_open ≡ self.old.is_open }
@@ -118,7 +122,8 @@ impl<A: Allocator> Stacks<A> {
 
     /// Gives operands of these types, the last one on top. Where memory is refused, all stays.
     pub fn push_many(&mut self, types: &[ValType]) -> Result<(), AllocError>
-        ensures ok { OnOk result (state_of self.new ≡ push_vals (map val_of types.now) (state_of self.old)) }
+        ensures ok { OnOk result (state_of self.new
+            ≡ push_vals (map val_of types.now) (state_of self.old)) }
         ensures err { OnErr result (state_of self.new ≡ state_of self.old) }
         ensures frame { self.new.frame ≡ self.old.frame }
         ensures open { self.new.is_open ≡ self.old.is_open }
@@ -139,7 +144,8 @@ impl<A: Allocator> Stacks<A> {
     #[tactic(auto, using(crate::proofs::Pushing::sinks))]
     pub fn exchange_many(&mut self, taken: usize, types: &[ValType]) -> Result<(), AllocError>
         requires { taken ≤ length (state_of self.old).operands }
-        ensures ok { OnOk result (state_of self.new ≡ push_vals (map val_of types.now) (below taken (state_of self.old))) }
+        ensures ok { OnOk result (state_of self.new
+            ≡ push_vals (map val_of types.now) (below taken (state_of self.old))) }
         ensures err { OnErr result (state_of self.new ≡ state_of self.old) }
         ensures frame { self.new.frame ≡ self.old.frame }
         ensures open { self.new.is_open ≡ self.old.is_open }
@@ -154,7 +160,8 @@ impl<A: Allocator> Stacks<A> {
     #[inline(always)]
     #[tactic(auto, using(crate::proofs::Framing::opens))]
     pub fn open(&mut self, kind: FrameKind, block: BlockWord) -> Result<(), AllocError>
-        ensures ok { OnOk result (state_of self.new ≡ push_frame (kind_of kind) (block_in block) [] (state_of self.old)) }
+        ensures ok { OnOk result (state_of self.new
+            ≡ push_frame (kind_of kind) (block_in block) [] (state_of self.old)) }
         ensures err { OnErr result (state_of self.new ≡ state_of self.old) }
         ensures same { Kept self.old self.new }
     {
@@ -184,10 +191,12 @@ impl<A: Allocator> Stacks<A> {
         taken: usize,
     ) -> Result<(), AllocError>
         requires { taken ≤ length (state_of self.old).operands }
-        ensures ok { OnOk result (state_of self.new ≡ with_frame (kind_of kind) (block_in block) taken (state_of self.old)) }
+        ensures ok { OnOk result (state_of self.new
+            ≡ with_frame (kind_of kind) (block_in block) taken (state_of self.old)) }
         ensures err { OnErr result (state_of self.new ≡ state_of self.old) }
         ensures open { OnOk result (self.new.is_open ≡ true) }
-        ensures inits { OnOk result (self.new.frame.init_height ≡ length (state_of self.old).inits) }
+        ensures inits { OnOk result (self.new.frame.init_height
+            ≡ length (state_of self.old).inits) }
         ensures same { Kept self.old self.new }
     {
         if self.is_open {
@@ -211,7 +220,12 @@ impl<A: Allocator> Stacks<A> {
     #[tactic(auto, using(crate::proofs::Framing::closes))]
     pub fn close(&mut self)
         requires { self.old.is_open ≡ true }
-        ensures state { state_of self.new ≡ record (state_of self.old) { frames = drop 1 (state_of self.old).frames; inits = drop (length (state_of self.old).inits - self.old.frame.init_height) (state_of self.old).inits } }
+        ensures state { state_of self.new ≡ record (state_of self.old) {
+          frames = drop 1 (state_of self.old).frames;
+          inits = drop
+              (length (state_of self.old).inits - self.old.frame.init_height)
+              (state_of self.old).inits;
+        } }
         ensures same { Kept self.old self.new }
     {
         self.locals.unset(self.frame.init_height);

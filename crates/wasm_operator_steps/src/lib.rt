@@ -1,6 +1,6 @@
-//! Steps of validation: what each operator does to the operands and the frames of a body or a constant expression, as
-//! definitions over any kind of identity of types (Core Specification 3.0, Validation, Instructions, and Appendix,
-//! Validation Algorithm).
+//! Steps of validation: what each operator does to the operands and the frames of a body or a
+//! constant expression, as definitions over any kind of identity of types (Core Specification 3.0,
+//! Validation, Instructions, and Appendix, Validation Algorithm).
 #![tactic(auto)]
 
 ghost use Rattle.wasm_operator_steps.specs.Laws.{StepsRename, NumericShapesByOpcode, VerdictsRename, ConstantsGiveReferences, WorldsAreRight};
@@ -9,14 +9,15 @@ ghost use Rattle.wasm_operator_steps.specs.ControlExamples.{Blocks, NoBlocks, Br
 ghost use Rattle.wasm_operator_steps.specs.HeapExamples.{Memories, NoMemories, Tables, NoTables, References, NoReferences, Casts, NoCasts, Conversions, NoConversions, Structures, NoStructures, Arrays, NoArrays, Descriptors, NoDescriptors, MemoriesNeedFeatures, ReferencesNeedFeatures, AggregatesNeedFeatures};
 ghost use Rattle.wasm_operator_steps.specs.SharedExamples.{ReachesGlobalsAndTables, ReachesFunctions, ReachesStructures, ReachesArrays, ReachesTheRest};
 
-/// Steps over other identities of types are the same steps with each identity renamed, where the renaming keeps which
-/// are the same.
+/// Steps over other identities of types are the same steps with each identity renamed, where the
+/// renaming keeps which are the same.
 #[tactic(auto, using(crate::proofs::StepsRenamed::steps_rename))]
 pub fn steps_rename<R, S>()
     ensures renamed { StepsRename R S }
 {}
 
-/// Bodies of control, parametric and variable instructions, and constant expressions: valid ones, and ones that are not.
+/// Bodies of control, parametric and variable instructions, and constant expressions: valid ones,
+/// and ones that are not.
 #[tactic(auto, using(crate::proofs::ControlRuns::runs))]
 pub fn control_examples()
     ensures blocks { Blocks }
@@ -38,7 +39,8 @@ pub fn control_examples()
     ensures no_constant_instructions { NoConstantInstructions }
 {}
 
-/// Bodies of memory, table, reference and aggregate instructions: valid ones, and ones that are not.
+/// Bodies of memory, table, reference and aggregate instructions: valid ones, and ones that are
+/// not.
 #[tactic(auto, using(crate::proofs::HeapRuns::heap_runs))]
 pub fn heap_examples()
     ensures memories { Memories }
@@ -78,28 +80,29 @@ pub fn numeric_shapes_by_opcode()
     ensures shapes { NumericShapesByOpcode }
 {}
 
-/// Verdicts do not depend on the identities of types: a renaming that is one-to-one on those of the context, the locals
-/// and the state changes none.
+/// Verdicts do not depend on the identities of types: a renaming that is one-to-one on those of the
+/// context, the locals and the state changes none.
 #[tactic(auto, using(crate::proofs::VerdictsRenamed::verdicts_rename))]
 pub fn verdicts_rename<R, S>()
     ensures renamed { VerdictsRename R S }
 {}
 
-/// Each operator of constant expressions gives exactly one reference, or takes none: constants, numeric operators and
-/// `global.get` take none, and the others give one.
+/// Each operator of constant expressions gives exactly one reference, or takes none: constants,
+/// numeric operators and `global.get` take none, and the others give one.
 #[tactic(auto, using(crate::proofs::ConstantReferences::constants_give_references))]
 pub fn constants_give_references<R>()
     ensures references { ConstantsGiveReferences R }
 {}
 
-/// What a context says of the order of types is right, where no ancestor is further away than there are types.
+/// What a context says of the order of types is right, where no ancestor is further away than there
+/// are types.
 #[tactic(auto, using(crate::proofs::WorldsDecided::worlds_are_right))]
 pub fn worlds_are_right<R>()
     ensures right { WorldsAreRight R }
 {}
 
-/// Two lists, or a list and its last item, are taken and given in turn, and only operands change. In code that is not
-/// reached anything can be taken at the height of the frame.
+/// Two lists, or a list and its last item, are taken and given in turn, and only operands change.
+/// In code that is not reached anything can be taken at the height of the frame.
 #[tactic(auto, using(crate::proofs::TakenInTurn::taken_in_turn))]
 pub fn operands_are_taken_in_turn<R>()
     ensures lists { ListsAreTakenInTurn R }
@@ -108,13 +111,15 @@ pub fn operands_are_taken_in_turn<R>()
     ensures unreached { UnreachedCodeTakesAnything R }
 {}
 
-/// Actions and steps one behind the other are run in turn, and where the first are refused so is all of the run.
+/// Actions and steps one behind the other are run in turn, and where the first are refused so is
+/// all of the run.
 #[tactic(auto, using(crate::proofs::TakenInTurn::actions_are_run_in_turn))]
 pub fn actions_are_run_in_turn<R>()
     ensures { ActionsAreRunInTurn R }
 {}
 
-/// Equal types match, in each world in which each identity is below itself and the same as itself, and in each context.
+/// Equal types match, in each world in which each identity is below itself and the same as itself,
+/// and in each context.
 #[tactic(auto, using(crate::proofs::EqualTypesMatch::themselves))]
 pub fn equal_types_match<R>()
     ensures worlds { EqualTypesMatch R }

@@ -32,7 +32,8 @@ fn get<A: Allocator, T: WasmModuleResources>(
     struct_type_index: u32,
     field_index: u32,
 ) -> Result<(), OperatorError>
-    ensures took { Performs result (T.context resources.now) (getting packed struct_type_index field_index) stacks.old stacks.new }
+    ensures took { Performs result (T.context resources.now)
+        (getting packed struct_type_index field_index) stacks.old stacks.new }
     ensures same { Kept stacks.old stacks.new }
 {
     let field = match reach_member(stacks, resources, struct_type_index, field_index) {
@@ -57,7 +58,8 @@ pub fn struct_get<A: Allocator, T: WasmModuleResources>(
     struct_type_index: u32,
     field_index: u32,
 ) -> Result<(), OperatorError>
-    ensures took { Performs result (T.context resources.now) (struct_shape (StructGet struct_type_index field_index)) stacks.old stacks.new }
+    ensures took { Performs result (T.context resources.now)
+        (struct_shape (StructGet struct_type_index field_index)) stacks.old stacks.new }
     ensures same { Kept stacks.old stacks.new }
 {
     get(stacks, resources, false, struct_type_index, field_index)
@@ -70,7 +72,8 @@ pub fn struct_get_s<A: Allocator, T: WasmModuleResources>(
     struct_type_index: u32,
     field_index: u32,
 ) -> Result<(), OperatorError>
-    ensures took { Performs result (T.context resources.now) (struct_shape (StructGetS struct_type_index field_index)) stacks.old stacks.new }
+    ensures took { Performs result (T.context resources.now)
+        (struct_shape (StructGetS struct_type_index field_index)) stacks.old stacks.new }
     ensures same { Kept stacks.old stacks.new }
 {
     get(stacks, resources, true, struct_type_index, field_index)
@@ -83,7 +86,8 @@ pub fn struct_get_u<A: Allocator, T: WasmModuleResources>(
     struct_type_index: u32,
     field_index: u32,
 ) -> Result<(), OperatorError>
-    ensures took { Performs result (T.context resources.now) (struct_shape (StructGetU struct_type_index field_index)) stacks.old stacks.new }
+    ensures took { Performs result (T.context resources.now)
+        (struct_shape (StructGetU struct_type_index field_index)) stacks.old stacks.new }
     ensures same { Kept stacks.old stacks.new }
 {
     get(stacks, resources, true, struct_type_index, field_index)
@@ -97,7 +101,8 @@ pub fn struct_set<A: Allocator, T: WasmModuleResources>(
     struct_type_index: u32,
     field_index: u32,
 ) -> Result<(), OperatorError>
-    ensures took { Performs result (T.context resources.now) (struct_shape (StructSet struct_type_index field_index)) stacks.old stacks.new }
+    ensures took { Performs result (T.context resources.now)
+        (struct_shape (StructSet struct_type_index field_index)) stacks.old stacks.new }
     ensures same { Kept stacks.old stacks.new }
 {
     let field = match reach_member(stacks, resources, struct_type_index, field_index) {

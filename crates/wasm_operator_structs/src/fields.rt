@@ -42,7 +42,8 @@ fn check_fields<A: Allocator, T: WasmModuleResources>(
     fields: &[FieldType],
 ) -> Result<usize, OperatorFault>
     requires { taken ≤ length (state_of stacks.now).operands }
-    ensures { Checked result (pop_vals (world (T.context resources.now)) (unpacked_types fields.now) (below taken (state_of stacks.now))) (state_of stacks.now) }
+    ensures { Checked result (pop_vals (world (T.context resources.now)) (unpacked_types fields.now)
+        (below taken (state_of stacks.now))) (state_of stacks.now) }
 {
     let count = fields.len();
     let mut taken = taken;
@@ -68,7 +69,9 @@ pub fn exchange_fields<A: Allocator, T: WasmModuleResources>(
     given: TypeWord,
 ) -> Result<(), OperatorError>
     requires { taken ≤ length (state_of stacks.old).operands }
-    ensures took { Took result (exchanged (world (T.context resources.now)) (unpacked_types fields.now) (val_in given ∷ []) (below taken (state_of stacks.old))) (state_of stacks.old) (state_of stacks.new) }
+    ensures took { Took result (exchanged (world (T.context resources.now))
+        (unpacked_types fields.now) (val_in given ∷ []) (below taken (state_of stacks.old)))
+        (state_of stacks.old) (state_of stacks.new) }
     ensures same { Kept stacks.old stacks.new }
 {
     let taken = match check_fields(stacks, resources, taken, fields) {

@@ -23,7 +23,8 @@ pub fn struct_new<A: Allocator, T: WasmModuleResources>(
     resources: &T,
     struct_type_index: u32,
 ) -> Result<(), OperatorError>
-    ensures took { Performs result (T.context resources.now) (struct_shape (StructNew struct_type_index)) stacks.old stacks.new }
+    ensures took { Performs result (T.context resources.now)
+        (struct_shape (StructNew struct_type_index)) stacks.old stacks.new }
     ensures same { Kept stacks.old stacks.new }
 {
     let ty = match reach_structure(stacks, resources, Proposal::Gc, struct_type_index) {
@@ -47,7 +48,8 @@ pub fn struct_new_default<A: Allocator, T: WasmModuleResources>(
     resources: &T,
     struct_type_index: u32,
 ) -> Result<(), OperatorError>
-    ensures took { Performs result (T.context resources.now) (struct_shape (StructNewDefault struct_type_index)) stacks.old stacks.new }
+    ensures took { Performs result (T.context resources.now)
+        (struct_shape (StructNewDefault struct_type_index)) stacks.old stacks.new }
     ensures same { Kept stacks.old stacks.new }
 {
     let ty = match reach_structure(stacks, resources, Proposal::Gc, struct_type_index) {
@@ -77,7 +79,8 @@ pub fn struct_new_desc<A: Allocator, T: WasmModuleResources>(
     resources: &T,
     struct_type_index: u32,
 ) -> Result<(), OperatorError>
-    ensures took { Performs result (T.context resources.now) (struct_shape (StructNewDesc struct_type_index)) stacks.old stacks.new }
+    ensures took { Performs result (T.context resources.now)
+        (struct_shape (StructNewDesc struct_type_index)) stacks.old stacks.new }
     ensures same { Kept stacks.old stacks.new }
 {
     let described = match reach_structure(
@@ -110,7 +113,8 @@ pub fn struct_new_default_desc<A: Allocator, T: WasmModuleResources>(
     resources: &T,
     struct_type_index: u32,
 ) -> Result<(), OperatorError>
-    ensures took { Performs result (T.context resources.now) (struct_shape (StructNewDefaultDesc struct_type_index)) stacks.old stacks.new }
+    ensures took { Performs result (T.context resources.now)
+        (struct_shape (StructNewDefaultDesc struct_type_index)) stacks.old stacks.new }
     ensures same { Kept stacks.old stacks.new }
 {
     let described = match reach_structure(

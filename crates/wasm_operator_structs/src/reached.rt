@@ -65,12 +65,18 @@ pub fn reach_structure<'a, A: Allocator, T: WasmModuleResources>(
     proposal: Proposal,
     type_index: u32,
 ) -> Result<Structure<'a>, OperatorFault>
-    ensures identity { IfOk result (λ s. Some (index_of s.identity) ≡ slice_get (T.context resources.now).types type_index) }
-    ensures fields { IfOk result (λ s. fields_in (T.context resources.now) type_index ≡ Some (map field_of s.fields.now)) }
-    ensures descriptor { IfOk result (λ s. descriptor_in (T.context resources.now) type_index ≡ Some (option_map index_of s.descriptor)) }
-    ensures on { OnOk result (held stacks.now (T.context resources.now) (has (needed_of proposal)) ≡ true) }
-    ensures reached { OnOk result (held stacks.now (T.context resources.now) (reaches_type type_index) ≡ true) }
-    ensures barred { OnErr result (Barred stacks.now (T.context resources.now) (needed_of proposal) type_index (fields_in (T.context resources.now) type_index ≡ None)) }
+    ensures identity { IfOk result (λ s. Some (index_of s.identity)
+        ≡ slice_get (T.context resources.now).types type_index) }
+    ensures fields { IfOk result (λ s. fields_in (T.context resources.now) type_index
+        ≡ Some (map field_of s.fields.now)) }
+    ensures descriptor { IfOk result (λ s. descriptor_in (T.context resources.now) type_index
+        ≡ Some (option_map index_of s.descriptor)) }
+    ensures on { OnOk result (held stacks.now (T.context resources.now)
+        (has (needed_of proposal)) ≡ true) }
+    ensures reached { OnOk result (held stacks.now (T.context resources.now)
+        (reaches_type type_index) ≡ true) }
+    ensures barred { OnErr result (Barred stacks.now (T.context resources.now) (needed_of proposal)
+        type_index (fields_in (T.context resources.now) type_index ≡ None)) }
 {
     if !is_on(stacks, proposal) {
         return Err(OperatorFault::new(rule(proposal)));
@@ -104,11 +110,15 @@ pub fn reach_member<A: Allocator, T: WasmModuleResources>(
     type_index: u32,
     field_index: u32,
 ) -> Result<Member, OperatorFault>
-    ensures identity { IfOk result (λ m. Some (index_of m.identity) ≡ slice_get (T.context resources.now).types type_index) }
-    ensures field { IfOk result (λ m. field_in (T.context resources.now) type_index field_index ≡ Some (field_of m.ty)) }
+    ensures identity { IfOk result (λ m. Some (index_of m.identity)
+        ≡ slice_get (T.context resources.now).types type_index) }
+    ensures field { IfOk result (λ m. field_in (T.context resources.now) type_index field_index
+        ≡ Some (field_of m.ty)) }
     ensures on { OnOk result (held stacks.now (T.context resources.now) (has gc) ≡ true) }
-    ensures reached { OnOk result (held stacks.now (T.context resources.now) (reaches_type type_index) ≡ true) }
-    ensures barred { OnErr result (Barred stacks.now (T.context resources.now) gc type_index (field_in (T.context resources.now) type_index field_index ≡ None)) }
+    ensures reached { OnOk result (held stacks.now (T.context resources.now)
+        (reaches_type type_index) ≡ true) }
+    ensures barred { OnErr result (Barred stacks.now (T.context resources.now) gc type_index
+        (field_in (T.context resources.now) type_index field_index ≡ None)) }
 {
     let structure = match reach_structure(stacks, resources, Proposal::Gc, type_index) {
         Ok(structure) => structure,

@@ -25,7 +25,8 @@ pub fn step_struct<A: Allocator, T: WasmModuleResources>(
     resources: &T,
     op: StructOperator,
 ) -> Result<(), OperatorError>
-    ensures took { Performs result (T.context resources.now) (struct_shape op) stacks.old stacks.new }
+    ensures took { Performs result (T.context resources.now) (struct_shape op)
+        stacks.old stacks.new }
     ensures same { Kept stacks.old stacks.new }
 {
     match op {

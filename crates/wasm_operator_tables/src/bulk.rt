@@ -30,7 +30,8 @@ pub fn table_copy<A: Allocator, T: WasmModuleResources>(
     dst_table: u32,
     src_table: u32,
 ) -> Result<(), OperatorError>
-    ensures took { Performs result (T.context resources.now) (table_shape (TableCopy dst_table src_table)) stacks.old stacks.new }
+    ensures took { Performs result (T.context resources.now)
+        (table_shape (TableCopy dst_table src_table)) stacks.old stacks.new }
     ensures same { Kept stacks.old stacks.new }
 {
     if !has(stacks, WasmFeatures::BULK_MEMORY) {
@@ -71,7 +72,8 @@ pub fn table_init<A: Allocator, T: WasmModuleResources>(
     elem_index: u32,
     table: u32,
 ) -> Result<(), OperatorError>
-    ensures took { Performs result (T.context resources.now) (table_shape (TableInit elem_index table)) stacks.old stacks.new }
+    ensures took { Performs result (T.context resources.now)
+        (table_shape (TableInit elem_index table)) stacks.old stacks.new }
     ensures same { Kept stacks.old stacks.new }
 {
     if !has(stacks, WasmFeatures::BULK_MEMORY) {
@@ -108,7 +110,8 @@ pub fn elem_drop<A: Allocator, T: WasmModuleResources>(
     resources: &T,
     elem_index: u32,
 ) -> Result<(), OperatorError>
-    ensures took { Performs result (T.context resources.now) (table_shape (ElemDrop elem_index)) stacks.old stacks.new }
+    ensures took { Performs result (T.context resources.now) (table_shape (ElemDrop elem_index))
+        stacks.old stacks.new }
     ensures same { Kept stacks.old stacks.new }
 {
     if !has(stacks, WasmFeatures::BULK_MEMORY) {

@@ -20,8 +20,10 @@ pub fn table_reached<A: Allocator, T: WasmModuleResources>(
     resources: &T,
     table: u32,
 ) -> Result<TableType, OperatorFault>
-    ensures ok { IfOk result (λ t. table_in (T.context resources.now) stacks.now.is_shared table ≡ Some (table_of t)) }
-    ensures err { OnErr result (table_in (T.context resources.now) stacks.now.is_shared table ≡ None) }
+    ensures ok { IfOk result (λ t. table_in (T.context resources.now) stacks.now.is_shared
+        table ≡ Some (table_of t)) }
+    ensures err { OnErr result (table_in (T.context resources.now)
+        stacks.now.is_shared table ≡ None) }
 {
     match resources.table_at(table) {
         Some(ty) => {

@@ -23,7 +23,8 @@ pub fn step_table<A: Allocator, T: WasmModuleResources>(
     resources: &T,
     op: TableOperator,
 ) -> Result<(), OperatorError>
-    ensures took { Performs result (T.context resources.now) (table_shape op) stacks.old stacks.new }
+    ensures took { Performs result (T.context resources.now) (table_shape op)
+        stacks.old stacks.new }
     ensures same { Kept stacks.old stacks.new }
 {
     match op {

@@ -23,7 +23,8 @@ pub fn table_get<A: Allocator, T: WasmModuleResources>(
     resources: &T,
     table: u32,
 ) -> Result<(), OperatorError>
-    ensures took { Performs result (T.context resources.now) (table_shape (TableGet table)) stacks.old stacks.new }
+    ensures took { Performs result (T.context resources.now) (table_shape (TableGet table))
+        stacks.old stacks.new }
     ensures same { Kept stacks.old stacks.new }
 {
     if !has(stacks, WasmFeatures::REFERENCE_TYPES) {
@@ -48,7 +49,8 @@ pub fn table_set<A: Allocator, T: WasmModuleResources>(
     resources: &T,
     table: u32,
 ) -> Result<(), OperatorError>
-    ensures took { Performs result (T.context resources.now) (table_shape (TableSet table)) stacks.old stacks.new }
+    ensures took { Performs result (T.context resources.now) (table_shape (TableSet table))
+        stacks.old stacks.new }
     ensures same { Kept stacks.old stacks.new }
 {
     if !has(stacks, WasmFeatures::REFERENCE_TYPES) {
@@ -73,7 +75,8 @@ pub fn table_size<A: Allocator, T: WasmModuleResources>(
     resources: &T,
     table: u32,
 ) -> Result<(), OperatorError>
-    ensures took { Performs result (T.context resources.now) (table_shape (TableSize table)) stacks.old stacks.new }
+    ensures took { Performs result (T.context resources.now) (table_shape (TableSize table))
+        stacks.old stacks.new }
     ensures same { Kept stacks.old stacks.new }
 {
     if !has(stacks, WasmFeatures::REFERENCE_TYPES) {
@@ -98,7 +101,8 @@ pub fn table_grow<A: Allocator, T: WasmModuleResources>(
     resources: &T,
     table: u32,
 ) -> Result<(), OperatorError>
-    ensures took { Performs result (T.context resources.now) (table_shape (TableGrow table)) stacks.old stacks.new }
+    ensures took { Performs result (T.context resources.now) (table_shape (TableGrow table))
+        stacks.old stacks.new }
     ensures same { Kept stacks.old stacks.new }
 {
     if !has(stacks, WasmFeatures::REFERENCE_TYPES) {
@@ -126,7 +130,8 @@ pub fn table_fill<A: Allocator, T: WasmModuleResources>(
     resources: &T,
     table: u32,
 ) -> Result<(), OperatorError>
-    ensures took { Performs result (T.context resources.now) (table_shape (TableFill table)) stacks.old stacks.new }
+    ensures took { Performs result (T.context resources.now) (table_shape (TableFill table))
+        stacks.old stacks.new }
     ensures same { Kept stacks.old stacks.new }
 {
     if !has(stacks, WasmFeatures::REFERENCE_TYPES) {

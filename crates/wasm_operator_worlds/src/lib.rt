@@ -1,13 +1,13 @@
-//! The context that a list of types gives to operators: a context that declares what the ids of a list do has the tests of
-//! the list, so that the list's own test of subtyping may stand for the context's (Core Specification 3.0, Validation,
-//! Matching).
+//! The context that a list of types gives to operators: a context that declares what the ids of a
+//! list do has the tests of the list, so that the list's own test of subtyping may stand for the
+//! context's (Core Specification 3.0, Validation, Matching).
 #![tactic(auto)]
 
 ghost use Rattle.wasm_operator_worlds.specs.ListContexts.{ListsAreSeen, ListContextsAreWorlds};
 ghost use Rattle.wasm_operator_worlds.specs.IndexContexts.{ListsAreListed};
 
-/// In a context that declares what the ids of a list of types do, ids declare, are ordered and match as in the list, and
-/// what is no id declares nothing.
+/// In a context that declares what the ids of a list of types do, ids declare, are ordered and
+/// match as in the list, and what is no id declares nothing.
 pub fn lists_are_seen<A, R>()
     ensures { ListsAreSeen A R }
 {}
@@ -17,8 +17,8 @@ pub fn list_contexts_are_worlds<A, R>()
     ensures { ListContextsAreWorlds A R }
 {}
 
-/// So it is of contexts over the references of types as they are read, where value types match exactly where they do by the
-/// numbers of their ids.
+/// So it is of contexts over the references of types as they are read, where value types match
+/// exactly where they do by the numbers of their ids.
 pub fn lists_are_listed<A>()
     ensures { ListsAreListed A }
 {}

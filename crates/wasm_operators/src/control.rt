@@ -158,7 +158,8 @@ pub fn read_block_type(reader: &mut BinaryReader) -> Result<BlockType, Refusal>
     ensures same { SameInput reader.old reader.new }
     ensures onward { position_in reader.old ≤ position_in reader.new }
     ensures refusal { IfErr result (RefusedFrom reader.old) }
-    ensures ok { IfOk result (λ b. block_at written (rest reader.old) ≡ Some (block_of b, rest reader.new)) }
+    ensures ok { IfOk result (λ b. block_at written (rest reader.old)
+        ≡ Some (block_of b, rest reader.new)) }
     ensures further { OnOk result (position_in reader.old < position_in reader.new) }
     ensures err { OnErr result (block_at written (rest reader.old) ≡ None) }
 {
@@ -180,7 +181,8 @@ fn read_br_table<'a>(reader: &mut BinaryReader<'a>) -> Result<BrTable<'a>, Refus
     ensures same { SameInput reader.old reader.new }
     ensures onward { position_in reader.old ≤ position_in reader.new }
     ensures refusal { IfErr result (RefusedFrom reader.old) }
-    ensures ok { IfOk result (λ t. br_table_at (rest reader.old) ≡ Some (labels_of t, rest reader.new)) }
+    ensures ok { IfOk result (λ t. br_table_at (rest reader.old)
+        ≡ Some (labels_of t, rest reader.new)) }
     ensures err { OnErr result (br_table_at (rest reader.old) ≡ None) }
 {
     let targets = read_listed(reader)?;
@@ -193,7 +195,8 @@ fn read_try_table<'a>(reader: &mut BinaryReader<'a>) -> Result<TryTable<'a>, Ref
     ensures same { SameInput reader.old reader.new }
     ensures onward { position_in reader.old ≤ position_in reader.new }
     ensures refusal { IfErr result (RefusedFrom reader.old) }
-    ensures ok { IfOk result (λ t. try_table_at written (rest reader.old) ≡ Some (catches_of t, rest reader.new)) }
+    ensures ok { IfOk result (λ t. try_table_at written (rest reader.old)
+        ≡ Some (catches_of t, rest reader.new)) }
     ensures err { OnErr result (try_table_at written (rest reader.old) ≡ None) }
 {
     let ty = read_block_type(reader)?;
@@ -213,7 +216,8 @@ pub(crate) fn read_control<'a>(
     ensures same { SameInput reader.old reader.new }
     ensures onward { position_in reader.old ≤ position_in reader.new }
     ensures refusal { IfErr result (RefusedBetween offset reader.old) }
-    ensures ok { IfOk result (λ op. control_from written opcode (rest reader.old) ≡ Some (control_of op, rest reader.new)) }
+    ensures ok { IfOk result (λ op. control_from written opcode (rest reader.old)
+        ≡ Some (control_of op, rest reader.new)) }
     ensures err { OnErr result (control_from written opcode (rest reader.old) ≡ None) }
 {
     match opcode {
@@ -263,7 +267,8 @@ pub(crate) fn read_parametric<'a>(
     ensures same { SameInput reader.old reader.new }
     ensures onward { position_in reader.old ≤ position_in reader.new }
     ensures refusal { IfErr result (RefusedBetween offset reader.old) }
-    ensures ok { IfOk result (λ op. parametric_from written opcode (rest reader.old) ≡ Some (parametric_of op, rest reader.new)) }
+    ensures ok { IfOk result (λ op. parametric_from written opcode (rest reader.old)
+        ≡ Some (parametric_of op, rest reader.new)) }
     ensures err { OnErr result (parametric_from written opcode (rest reader.old) ≡ None) }
 {
     match opcode {

@@ -58,7 +58,8 @@ fn skip_expression(reader: &mut BinaryReader) -> Result<(), Refusal>
     ensures same { SameInput reader.old reader.new }
     ensures onward { position_in reader.old ≤ position_in reader.new }
     ensures refusal { IfErr result (RefusedFrom reader.old) }
-    ensures ok { OnOk result (behind_expression written (rest reader.old) ≡ Some (rest reader.new)) }
+    ensures ok { OnOk result (behind_expression written (rest reader.old)
+        ≡ Some (rest reader.new)) }
     ensures further { OnOk result (position_in reader.old < position_in reader.new) }
     ensures err { OnErr result (behind_expression written (rest reader.old) ≡ None) }
 {
@@ -78,10 +79,13 @@ pub fn read_expression<'a>(reader: &mut BinaryReader<'a>) -> Result<BinaryReader
     ensures same { SameInput reader.old reader.new }
     ensures onward { position_in reader.old ≤ position_in reader.new }
     ensures refusal { IfErr result (RefusedFrom reader.old) }
-    ensures start { IfOk result (λ part. original part ≡ original reader.old + position_in reader.old) }
-    ensures end { IfOk result (λ part. original part + length (input part) ≡ original reader.new + position_in reader.new) }
+    ensures start { IfOk result (λ part. original part
+        ≡ original reader.old + position_in reader.old) }
+    ensures end { IfOk result (λ part. original part + length (input part)
+        ≡ original reader.new + position_in reader.new) }
     ensures whole { IfOk result (λ part. input part ≡ rest part) }
-    ensures ok { IfOk result (λ part. expression_at written (rest reader.old) ≡ Some (rest part, rest reader.new)) }
+    ensures ok { IfOk result (λ part. expression_at written (rest reader.old)
+        ≡ Some (rest part, rest reader.new)) }
     ensures further { OnOk result (position_in reader.old < position_in reader.new) }
     ensures err { OnErr result (expression_at written (rest reader.old) ≡ None) }
 {

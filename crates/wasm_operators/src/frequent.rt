@@ -24,7 +24,8 @@ use wasm_readers_types::ValType;
 fn next_memarg(reader: &mut BinaryReader) -> Option<MemArg>
     ensures same { SameInput reader.old reader.new }
     ensures onward { position_in reader.old ≤ position_in reader.new }
-    ensures some { IfSome result (λ arg. memarg_at (rest reader.old) ≡ Some (arg, rest reader.new)) }
+    ensures some { IfSome result (λ arg. memarg_at (rest reader.old)
+        ≡ Some (arg, rest reader.new)) }
 {
     let flags = reader.next_var_u32()?;
     if flags >= 64 {
@@ -45,7 +46,8 @@ fn next_by_table<'a>(reader: &mut BinaryReader<'a>, opcode: u8) -> Option<Operat
     ensures same { SameInput reader.old reader.new }
     ensures onward { position_in reader.old ≤ position_in reader.new }
     ensures below { OnSome result (opcode < 0xfb) }
-    ensures some { IfSome result (λ op. plain_from written opcode (rest reader.old) ≡ Some (operator_of op, rest reader.new)) }
+    ensures some { IfSome result (λ op. plain_from written opcode (rest reader.old)
+        ≡ Some (operator_of op, rest reader.new)) }
 {
     if 0x45 <= opcode && opcode < 0xd0 {
         Some(Operator::Numeric(numeric_from_opcode(opcode)?))
@@ -63,7 +65,8 @@ fn next_by_table<'a>(reader: &mut BinaryReader<'a>, opcode: u8) -> Option<Operat
 fn next_block_type(reader: &mut BinaryReader) -> Option<BlockType>
     ensures same { SameInput reader.old reader.new }
     ensures onward { position_in reader.old ≤ position_in reader.new }
-    ensures some { IfSome result (λ b. block_at written (rest reader.old) ≡ Some (block_of b, rest reader.new)) }
+    ensures some { IfSome result (λ b. block_at written (rest reader.old)
+        ≡ Some (block_of b, rest reader.new)) }
 {
     match reader.next_u8()? {
         0x40 => Some(BlockType::Empty),
@@ -82,7 +85,8 @@ fn next_structural<'a>(reader: &mut BinaryReader<'a>, opcode: u8) -> Option<Oper
     ensures same { SameInput reader.old reader.new }
     ensures onward { position_in reader.old ≤ position_in reader.new }
     ensures below { OnSome result (opcode < 0xfb) }
-    ensures some { IfSome result (λ op. plain_from written opcode (rest reader.old) ≡ Some (operator_of op, rest reader.new)) }
+    ensures some { IfSome result (λ op. plain_from written opcode (rest reader.old)
+        ≡ Some (operator_of op, rest reader.new)) }
 {
     match opcode {
         0x02 => Some(Operator::Control(ControlOperator::Block {
@@ -117,7 +121,8 @@ fn next_structural<'a>(reader: &mut BinaryReader<'a>, opcode: u8) -> Option<Oper
 #[tactic(auto, unfolding(crate::specs::Instructions::instruction_at, crate::specs::Instructions::plain_from, wasm_flat_operators::specs::Variables::variable_from, wasm_flat_operators::specs::Constants::constant_from))]
 pub(crate) fn next_frequent<'a>(reader: &mut BinaryReader<'a>) -> Option<Operator<'a>>
     ensures same { SameInput reader.old reader.new }
-    ensures some { IfSome result (λ op. instruction_at written (rest reader.old) ≡ Some (operator_of op, rest reader.new)) }
+    ensures some { IfSome result (λ op. instruction_at written (rest reader.old)
+        ≡ Some (operator_of op, rest reader.new)) }
     ensures further { OnSome result (position_in reader.old < position_in reader.new) }
 {
     match reader.next_u8()? {

@@ -22,8 +22,8 @@ pub fn reading_ignores_what_follows<R>()
     ensures expressions { (to : ℕ → R) → ReadingIgnoresWhatFollows (expression_at to) }
 {}
 
-/// Reading with renamed type indices is reading, and renaming what was read. An expression is the same bytes whatever type
-/// indices stand for.
+/// Reading with renamed type indices is reading, and renaming what was read. An expression is the
+/// same bytes whatever type indices stand for.
 pub fn reading_renames<R, S>()
     ensures instructions { ReadingRenames R S map_instruction instruction_at instruction_at }
     ensures expressions { ReadingIsOfBytes R S expression_at expression_at }

@@ -25,7 +25,8 @@ pub trait Immediate<'a>: Sized + Copy {
         ensures same { SameInput reader.old reader.new }
         ensures onward { position_in reader.old ≤ position_in reader.new }
         ensures refusal { IfErr result (RefusedFrom reader.old) }
-        ensures ok { IfOk result (λ x. encoded (rest reader.old) ≡ Some (value x, rest reader.new)) }
+        ensures ok { IfOk result (λ x. encoded (rest reader.old)
+            ≡ Some (value x, rest reader.new)) }
         ensures err { OnErr result (encoded (rest reader.old) ≡ None) };
 }
 
@@ -109,7 +110,8 @@ pub(crate) fn read_listed<'a, T: Immediate<'a>>(
     ensures same { SameInput reader.old reader.new }
     ensures onward { position_in reader.old ≤ position_in reader.new }
     ensures refusal { IfErr result (RefusedFrom reader.old) }
-    ensures ok { IfOk result (λ l. list_at T.encoded (rest reader.old) ≡ Some (listed T.encoded l, rest reader.new)) }
+    ensures ok { IfOk result (λ l. list_at T.encoded (rest reader.old)
+        ≡ Some (listed T.encoded l, rest reader.new)) }
     ensures err { OnErr result (list_at T.encoded (rest reader.old) ≡ None) }
 {
     let count = reader.read_var_u32()?;
@@ -127,7 +129,8 @@ fn skip_many<'a, T: Immediate<'a>>(count: u32, reader: &mut BinaryReader<'a>) ->
     ensures same { SameInput reader.old reader.new }
     ensures onward { position_in reader.old ≤ position_in reader.new }
     ensures refusal { IfErr result (RefusedFrom reader.old) }
-    ensures ok { OnOk result (behind (many_at T.encoded count (rest reader.old)) ≡ Some (rest reader.new)) }
+    ensures ok { OnOk result (behind (many_at T.encoded count (rest reader.old))
+        ≡ Some (rest reader.new)) }
     ensures err { OnErr result (many_at T.encoded count (rest reader.old) ≡ None) }
 {
     let mut left = count;

@@ -46,7 +46,11 @@ pub enum Operator<'a> {
 
 /// A refusal of an opcode that stands at this offset.
 fn unknown(offset: u64) -> Refusal
-    ensures { result ≡ record { fault = Fault.Malformed Malformed.Opcode; offset = offset; missing = None } }
+    ensures { result ≡ record {
+      fault = Fault.Malformed Malformed.Opcode;
+      offset = offset;
+      missing = None;
+    } }
 {
     Refusal::new(Fault::Malformed(Malformed::Opcode), offset)
 }
@@ -62,7 +66,8 @@ fn read_aggregate<'a>(
     ensures same { SameInput reader.old reader.new }
     ensures onward { position_in reader.old ≤ position_in reader.new }
     ensures refusal { IfErr result (RefusedBetween offset reader.old) }
-    ensures ok { IfOk result (λ op. aggregate_from written code (rest reader.old) ≡ Some (operator_of op, rest reader.new)) }
+    ensures ok { IfOk result (λ op. aggregate_from written code (rest reader.old)
+        ≡ Some (operator_of op, rest reader.new)) }
     ensures err { OnErr result (aggregate_from written code (rest reader.old) ≡ None) }
 {
     if code < 6 {
@@ -92,7 +97,8 @@ fn read_bulk<'a>(
     ensures same { SameInput reader.old reader.new }
     ensures onward { position_in reader.old ≤ position_in reader.new }
     ensures refusal { IfErr result (RefusedBetween offset reader.old) }
-    ensures ok { IfOk result (λ op. bulk_from written code (rest reader.old) ≡ Some (operator_of op, rest reader.new)) }
+    ensures ok { IfOk result (λ op. bulk_from written code (rest reader.old)
+        ≡ Some (operator_of op, rest reader.new)) }
     ensures err { OnErr result (bulk_from written code (rest reader.old) ≡ None) }
 {
     if code < 8 {
@@ -119,7 +125,8 @@ fn read_prefixed<'a>(
     ensures same { SameInput reader.old reader.new }
     ensures onward { position_in reader.old ≤ position_in reader.new }
     ensures refusal { IfErr result (RefusedBetween offset reader.old) }
-    ensures ok { IfOk result (λ op. prefixed_from written prefix code (rest reader.old) ≡ Some (operator_of op, rest reader.new)) }
+    ensures ok { IfOk result (λ op. prefixed_from written prefix code (rest reader.old)
+        ≡ Some (operator_of op, rest reader.new)) }
     ensures err { OnErr result (prefixed_from written prefix code (rest reader.old) ≡ None) }
 {
     match prefix {
@@ -145,7 +152,8 @@ fn read_plain<'a>(
     ensures same { SameInput reader.old reader.new }
     ensures onward { position_in reader.old ≤ position_in reader.new }
     ensures refusal { IfErr result (RefusedBetween offset reader.old) }
-    ensures ok { IfOk result (λ op. plain_from written opcode (rest reader.old) ≡ Some (operator_of op, rest reader.new)) }
+    ensures ok { IfOk result (λ op. plain_from written opcode (rest reader.old)
+        ≡ Some (operator_of op, rest reader.new)) }
     ensures err { OnErr result (plain_from written opcode (rest reader.old) ≡ None) }
 {
     if opcode < 0x10 {
@@ -186,7 +194,8 @@ fn read_any<'a>(reader: &mut BinaryReader<'a>) -> Result<Operator<'a>, Refusal>
     ensures same { SameInput reader.old reader.new }
     ensures onward { position_in reader.old ≤ position_in reader.new }
     ensures refusal { IfErr result (RefusedFrom reader.old) }
-    ensures ok { IfOk result (λ op. instruction_at written (rest reader.old) ≡ Some (operator_of op, rest reader.new)) }
+    ensures ok { IfOk result (λ op. instruction_at written (rest reader.old)
+        ≡ Some (operator_of op, rest reader.new)) }
     ensures further { OnOk result (position_in reader.old < position_in reader.new) }
     ensures err { OnErr result (instruction_at written (rest reader.old) ≡ None) }
 {
@@ -206,7 +215,8 @@ pub fn read_operator<'a>(reader: &mut BinaryReader<'a>) -> Result<Operator<'a>, 
     ensures same { SameInput reader.old reader.new }
     ensures onward { position_in reader.old ≤ position_in reader.new }
     ensures refusal { IfErr result (RefusedFrom reader.old) }
-    ensures ok { IfOk result (λ op. instruction_at written (rest reader.old) ≡ Some (operator_of op, rest reader.new)) }
+    ensures ok { IfOk result (λ op. instruction_at written (rest reader.old)
+        ≡ Some (operator_of op, rest reader.new)) }
     ensures further { OnOk result (position_in reader.old < position_in reader.new) }
     ensures err { OnErr result (instruction_at written (rest reader.old) ≡ None) }
 {

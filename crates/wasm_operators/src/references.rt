@@ -67,7 +67,8 @@ pub(crate) fn read_reference(
     ensures same { SameInput reader.old reader.new }
     ensures onward { position_in reader.old ≤ position_in reader.new }
     ensures refusal { IfErr result (RefusedBetween offset reader.old) }
-    ensures ok { IfOk result (λ op. reference_from written opcode (rest reader.old) ≡ Some (reference_of op, rest reader.new)) }
+    ensures ok { IfOk result (λ op. reference_from written opcode (rest reader.old)
+        ≡ Some (reference_of op, rest reader.new)) }
     ensures err { OnErr result (reference_from written opcode (rest reader.old) ≡ None) }
 {
     match opcode {
@@ -96,7 +97,8 @@ fn read_cast_flags(reader: &mut BinaryReader) -> Result<(bool, bool), Refusal>
     ensures same { SameInput reader.old reader.new }
     ensures onward { position_in reader.old ≤ position_in reader.new }
     ensures refusal { IfErr result (RefusedFrom reader.old) }
-    ensures ok { IfOk result (λ flags. cast_flags_at (rest reader.old) ≡ Some (flags, rest reader.new)) }
+    ensures ok { IfOk result (λ flags. cast_flags_at (rest reader.old)
+        ≡ Some (flags, rest reader.new)) }
     ensures err { OnErr result (cast_flags_at (rest reader.old) ≡ None) }
 {
     let offset = reader.original_position();
@@ -114,7 +116,8 @@ fn read_type(reader: &mut BinaryReader, nullable: bool) -> Result<RefType, Refus
     ensures same { SameInput reader.old reader.new }
     ensures onward { position_in reader.old ≤ position_in reader.new }
     ensures refusal { IfErr result (RefusedFrom reader.old) }
-    ensures ok { IfOk result (λ x. heap_at written (rest reader.old) ≡ Some ((ref_of x).heap, rest reader.new)) }
+    ensures ok { IfOk result (λ x. heap_at written (rest reader.old)
+        ≡ Some ((ref_of x).heap, rest reader.new)) }
     ensures null { IfOk result (λ x. (ref_of x).nullable ≡ nullable) }
     ensures err { OnErr result (heap_at written (rest reader.old) ≡ None) }
 {
@@ -131,7 +134,8 @@ fn read_branch(reader: &mut BinaryReader) -> Result<(u32, RefType, RefType), Ref
     ensures same { SameInput reader.old reader.new }
     ensures onward { position_in reader.old ≤ position_in reader.new }
     ensures refusal { IfErr result (RefusedFrom reader.old) }
-    ensures ok { IfOk result (λ x. branch_at written (rest reader.old) ≡ Some ((x.0, ref_of x.1, ref_of x.2), rest reader.new)) }
+    ensures ok { IfOk result (λ x. branch_at written (rest reader.old)
+        ≡ Some ((x.0, ref_of x.1, ref_of x.2), rest reader.new)) }
     ensures err { OnErr result (branch_at written (rest reader.old) ≡ None) }
 {
     let (from_nullable, to_nullable) = read_cast_flags(reader)?;
@@ -152,7 +156,8 @@ pub(crate) fn read_cast(
     ensures same { SameInput reader.old reader.new }
     ensures onward { position_in reader.old ≤ position_in reader.new }
     ensures refusal { IfErr result (RefusedBetween offset reader.old) }
-    ensures ok { IfOk result (λ op. cast_from written code (rest reader.old) ≡ Some (cast_of op, rest reader.new)) }
+    ensures ok { IfOk result (λ op. cast_from written code (rest reader.old)
+        ≡ Some (cast_of op, rest reader.new)) }
     ensures err { OnErr result (cast_from written code (rest reader.old) ≡ None) }
 {
     match code {

@@ -11,8 +11,8 @@ use wasm_readers_types::{
     StructType, SubType, ValType,
 };
 
-/// A module whose types are one of a function and one of a structure, where functions 0 and 1 and the one tag have the first, and
-/// a body of that type, maybe with a block in it.
+/// A module whose types are one of a function and one of a structure, where functions 0 and 1 and
+/// the one tag have the first, and a body of that type, maybe with a block in it.
 #[derive(Drop)]
 struct Sample {
     function: SubType,

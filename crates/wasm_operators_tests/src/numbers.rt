@@ -11,8 +11,8 @@ fn printed(alloc: Global, bytes: &[u8]) -> Result<String, Fail> {
     }
 }
 
-/// Whether an operator takes these bytes and not the one behind them, and none stands in their first
-/// ones, however many but not all of them.
+/// Whether an operator takes these bytes and not the one behind them, and none stands in their
+/// first ones, however many but not all of them.
 pub(crate) fn is_whole(bytes: &mut Vec<u8>) -> Result<bool, Fail> {
     let size = bytes.len();
     bytes.push(0xff)?;

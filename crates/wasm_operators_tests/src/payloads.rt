@@ -1,4 +1,5 @@
-//! Parsing of whole inputs, whose first byte has the offset 100: how many payloads come, and what each holds.
+//! Parsing of whole inputs, whose first byte has the offset 100: how many payloads come, and what
+//! each holds.
 
 use crate::numbers::parts;
 use std::alloc::Global;

@@ -1,5 +1,6 @@
-//! Bytes of operators, and what they are, by the Core Specification 3.0, Binary Format, Instructions. Each line has the bytes in
-//! hexadecimal digits, and behind a bar the operator as it prints itself, or `refused`.
+//! Bytes of operators, and what they are, by the Core Specification 3.0, Binary Format,
+//! Instructions. Each line has the bytes in hexadecimal digits, and behind a bar the operator as it
+//! prints itself, or `refused`.
 
 /// Every operator but those with lists, each number in its immediates another.
 pub(crate) const OPERATORS: &str = "\
@@ -273,7 +274,8 @@ fc108501|Table(TableSize { table: 133 })
 fc118501|Table(TableFill { table: 133 })
 fd0c01000000000000000200000000000000|Constant(V128Const { value: V128 { low: 1, high: 2 } })";
 
-/// Numbers at the ends of their ranges and past them, of as many bytes as they may have, and of one more.
+/// Numbers at the ends of their ranges and past them, of as many bytes as they may have, and of one
+/// more.
 pub(crate) const ENDS: &str = "\
 20ffffffff0f|Variable(LocalGet { local_index: 4294967295 })
 20ffffffff1f|refused

@@ -58,7 +58,8 @@ impl<'a> CustomSectionReader<'a> {
     /// them.
     pub fn range(&self) -> Range<u64>
         ensures start { result.start ≡ original (data_reader self.now) }
-        ensures end { result.end ≡ original (data_reader self.now) + length (input (data_reader self.now)) }
+        ensures end { result.end ≡ original (data_reader self.now) + length
+            (input (data_reader self.now)) }
     {
         self.reader.range()
     }

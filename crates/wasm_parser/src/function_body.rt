@@ -24,8 +24,10 @@ impl<'a> FunctionBody<'a> {
     /// The offsets, from the start of the input, of the body's first byte and of the byte behind
     /// it.
     pub fn range(&self) -> Range<u64>
-        ensures start { result.start ≡ original (body_reader self.now) + position_in (body_reader self.now) }
-        ensures end { result.end ≡ original (body_reader self.now) + length (input (body_reader self.now)) }
+        ensures start { result.start ≡ original (body_reader self.now) + position_in
+            (body_reader self.now) }
+        ensures end { result.end ≡ original (body_reader self.now) + length
+            (input (body_reader self.now)) }
     {
         let reader = self.get_binary_reader();
         reader.original_position()..reader.range().end

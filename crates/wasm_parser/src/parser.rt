@@ -52,7 +52,11 @@ const MAGIC: [u8; 4] = [0x00, 0x61, 0x73, 0x6d];
 const PLACES: [u8; 14] = [0, 1, 2, 3, 4, 5, 7, 8, 9, 10, 12, 13, 11, 6];
 
 fn refusal(malformed: Malformed, offset: u64) -> Refusal
-    ensures { result ≡ record { fault = Fault.Malformed malformed; offset = offset; missing = None } }
+    ensures { result ≡ record {
+      fault = Fault.Malformed malformed;
+      offset = offset;
+      missing = None;
+    } }
 {
     Refusal::new(Fault::Malformed(malformed), offset)
 }
@@ -170,7 +174,8 @@ impl<'a, A: Allocator + Copy> ParseAll<'a, A> {
     /// The header behind the magic.
     fn read_version(&mut self, start: u64) -> Result<Payload<'a, A>, Refusal>
         ensures whole { OfSameInput self.old self.new }
-        ensures ok { IfOk result (λ p. numbers_of (state self.old) (state self.old).bytes ≡ Some (seen p, state self.new)) }
+        ensures ok { IfOk result (λ p. numbers_of (state self.old) (state self.old).bytes
+            ≡ Some (seen p, state self.new)) }
         ensures start { IfOk result (λ p. starts_at p ≡ start) }
         ensures end { IfOk result (λ p. ends_at p ≡ stands_at self.new) }
         ensures four { OnOk result (stands_at self.new ≡ stands_at self.old + 4) }
@@ -218,7 +223,8 @@ impl<'a, A: Allocator + Copy> ParseAll<'a, A> {
         requires { 0 < self.old.bodies_left }
         ensures whole { OfSameInput self.old self.new }
         ensures ok { IfOk result (λ p. entry_of (state self.old) ≡ Some (seen p, state self.new)) }
-        ensures size { IfOk result (λ p. starts_at p + body_size (state self.old).code ≡ ends_at p) }
+        ensures size { IfOk result (λ p. starts_at p + body_size
+            (state self.old).code ≡ ends_at p) }
         ensures end { IfOk result (λ p. ends_at p ≡ stands_in_code self.new) }
         ensures bodies { CodeIsLast self.old → OnOk result (CodeIsLast self.new) }
         ensures format { IfErr result IsFormat }
@@ -234,7 +240,8 @@ impl<'a, A: Allocator + Copy> ParseAll<'a, A> {
     /// Notes a section of this id that is this payload.
     fn go_behind(&mut self, id: u8, payload: &Payload<'a, A>)
         ensures whole { OfSameInput self.old self.new }
-        ensures notes { state self.new ≡ behind (state self.old) id (state self.old).bytes (seen payload.now) }
+        ensures notes { state self.new ≡ behind (state self.old) id
+            (state self.old).bytes (seen payload.now) }
         ensures code { stands_in_code self.new ≡ stands_in_code self.old }
         ensures reads { ReadsInput self.old → ReadsInput self.new }
         ensures position { stands_at self.new ≡ stands_at self.old }
@@ -262,7 +269,8 @@ impl<'a, A: Allocator + Copy> ParseAll<'a, A> {
         requires last { reader_end body ≡ stands_at self.old }
         requires part { IsPartOf self.old.reader body }
         ensures whole { OfSameInput self.old self.new }
-        ensures ok { IfOk result (λ p. contents_of (state self.old) 10 (rest body.entry) (state self.old).bytes ≡ Some (seen p, state self.new)) }
+        ensures ok { IfOk result (λ p. contents_of (state self.old) 10 (rest body.entry)
+            (state self.old).bytes ≡ Some (seen p, state self.new)) }
         ensures start { IfOk result (λ p. starts_at p ≡ original body.entry) }
         ensures end { IfOk result (λ p. ends_at p ≡ reader_end body.entry) }
         ensures bodies { OnOk result (CodeIsLast self.new) }
@@ -270,7 +278,8 @@ impl<'a, A: Allocator + Copy> ParseAll<'a, A> {
         ensures format { IfErr result IsFormat }
         ensures place { IfErr result (IsInInput self.old) }
         ensures reads { ReadsInput self.old → ReadsInput self.new }
-        ensures err { OnErr result (contents_of (state self.old) 10 (rest body.entry) (state self.old).bytes ≡ None) }
+        ensures err { OnErr result (contents_of (state self.old) 10 (rest body.entry)
+            (state self.old).bytes ≡ None) }
     {
         let mut code = body;
         let count = code.read_var_u32()?;
@@ -289,7 +298,8 @@ impl<'a, A: Allocator + Copy> ParseAll<'a, A> {
     fn read_alone(&mut self) -> Result<Payload<'a, A>, Refusal>
         ensures whole { OfSameInput self.old self.new }
         ensures ok { IfOk result (λ p. alone_of (state self.old) ≡ Some (seen p, state self.new)) }
-        ensures size { IfOk result (λ p. starts_at p + section_size (state self.old).bytes ≡ ends_at p) }
+        ensures size { IfOk result (λ p. starts_at p + section_size
+            (state self.old).bytes ≡ ends_at p) }
         ensures end { IfOk result (λ p. ends_at p ≡ stands_at self.new) }
         ensures bodies { (state self.old).left ≡ 0 → OnOk result (BodiesAreLast self.new) }
         ensures format { IfErr result IsFormat }
@@ -315,8 +325,10 @@ impl<'a, A: Allocator + Copy> ParseAll<'a, A> {
 
     fn read_section(&mut self) -> Result<Payload<'a, A>, Refusal>
         ensures whole { OfSameInput self.old self.new }
-        ensures ok { IfOk result (λ p. section_of (state self.old) ≡ Some (seen p, state self.new)) }
-        ensures size { IfOk result (λ p. starts_at p + section_size (state self.old).bytes ≡ ends_at p) }
+        ensures ok { IfOk result (λ p. section_of (state self.old)
+            ≡ Some (seen p, state self.new)) }
+        ensures size { IfOk result (λ p. starts_at p + section_size
+            (state self.old).bytes ≡ ends_at p) }
         ensures end { IfOk result (λ p. ends_at p ≡ stands_at self.new) }
         ensures bodies { (state self.old).left ≡ 0 → OnOk result (BodiesAreLast self.new) }
         ensures format { IfErr result IsFormat }
@@ -377,7 +389,8 @@ impl<'a, A: Allocator + Copy> ParseAll<'a, A> {
         ensures ok { IfOk result (λ p. part_of (state self.old) ≡ Some (seen p, state self.new)) }
         ensures size { IfOk result (λ p. starts_at p + part_size (state self.old) ≡ ends_at p) }
         ensures end { IfOk result (λ p. ends_at p ≡ part_end (state self.old) self.new) }
-        ensures code { 0 < (state self.old).left → CodeIsLast self.old → OnOk result (CodeIsLast self.new) }
+        ensures code { 0 < (state self.old).left → CodeIsLast self.old
+            → OnOk result (CodeIsLast self.new) }
         ensures bodies { (state self.old).left ≡ 0 → OnOk result (BodiesAreLast self.new) }
         ensures format { IfErr result IsFormat }
         ensures place { ReadsInput self.old → IfErr result (IsInInput self.old) }
@@ -399,13 +412,18 @@ impl<'a, A: Allocator + Copy> ParseAll<'a, A> {
 
     fn advance(&mut self) -> Result<Option<Payload<'a, A>>, Refusal>
         ensures whole { OfSameInput self.old self.new }
-        ensures ok { IfOk result (λ p. next_of (state self.old) ≡ Some (option_map (λ q. (seen q, state self.new)) p)) }
-        ensures size { IfOk result (λ p. IfSome p (λ q. starts_at q + next_size (state self.old).stage (state self.old) ≡ ends_at q)) }
-        ensures end { IfOk result (λ p. IfSome p (λ q. ends_at q ≡ next_end (state self.old).stage (state self.old) self.new)) }
+        ensures ok { IfOk result (λ p. next_of (state self.old)
+            ≡ Some (option_map (λ q. (seen q, state self.new)) p)) }
+        ensures size { IfOk result (λ p. IfSome p
+            (λ q. starts_at q + next_size (state self.old).stage (state self.old) ≡ ends_at q)) }
+        ensures end { IfOk result (λ p. IfSome p
+            (λ q. ends_at q ≡ next_end (state self.old).stage (state self.old) self.new)) }
         ensures over { IfOk result (λ p. p ≡ None → state self.new ≡ state self.old) }
-        ensures code { (state self.old).stage ≡ at_sections → 0 < (state self.old).left → CodeIsLast self.old → OnOk result (CodeIsLast self.new) }
+        ensures code { (state self.old).stage ≡ at_sections → 0 < (state self.old).left
+            → CodeIsLast self.old → OnOk result (CodeIsLast self.new) }
         ensures bodies { (state self.old).left ≡ 0 → OnOk result (BodiesAreLast self.new) }
-        ensures within { ReadsInput self.old → IfOk result (λ p. IfSome p (λ q. ends_at q ≤ input_end self.new)) }
+        ensures within { ReadsInput self.old → IfOk result
+            (λ p. IfSome p (λ q. ends_at q ≤ input_end self.new)) }
         ensures format { refused_with self.old ≡ None → IfErr result IsFormat }
         ensures place { ReadsInput self.old → IfErr result (IsInInput self.old) }
         ensures reads { ReadsInput self.old → ReadsInput self.new }
@@ -429,13 +447,18 @@ impl<'a, A: Allocator + Copy> ParseAll<'a, A> {
     /// input; and then, with the same refusal, at each further call.
     pub fn next_payload(&mut self) -> Result<Option<Payload<'a, A>>, Refusal>
         ensures whole { OfSameInput self.old self.new }
-        ensures ok { IfOk result (λ p. next_of (state self.old) ≡ Some (option_map (λ q. (seen q, state self.new)) p)) }
-        ensures size { IfOk result (λ p. IfSome p (λ q. starts_at q + next_size (state self.old).stage (state self.old) ≡ ends_at q)) }
-        ensures end { IfOk result (λ p. IfSome p (λ q. ends_at q ≡ next_end (state self.old).stage (state self.old) self.new)) }
+        ensures ok { IfOk result (λ p. next_of (state self.old)
+            ≡ Some (option_map (λ q. (seen q, state self.new)) p)) }
+        ensures size { IfOk result (λ p. IfSome p
+            (λ q. starts_at q + next_size (state self.old).stage (state self.old) ≡ ends_at q)) }
+        ensures end { IfOk result (λ p. IfSome p
+            (λ q. ends_at q ≡ next_end (state self.old).stage (state self.old) self.new)) }
         ensures over { IfOk result (λ p. p ≡ None → state self.new ≡ state self.old) }
-        ensures code { (state self.old).stage ≡ at_sections → 0 < (state self.old).left → CodeIsLast self.old → OnOk result (CodeIsLast self.new) }
+        ensures code { (state self.old).stage ≡ at_sections → 0 < (state self.old).left
+            → CodeIsLast self.old → OnOk result (CodeIsLast self.new) }
         ensures bodies { (state self.old).left ≡ 0 → OnOk result (BodiesAreLast self.new) }
-        ensures within { ReadsInput self.old → IfOk result (λ p. IfSome p (λ q. ends_at q ≤ input_end self.new)) }
+        ensures within { ReadsInput self.old → IfOk result
+            (λ p. IfSome p (λ q. ends_at q ≤ input_end self.new)) }
         ensures format { refused_with self.old ≡ None → IfErr result IsFormat }
         ensures place { ReadsInput self.old → IfErr result (IsInInput self.old) }
         ensures reads { ReadsInput self.old → ReadsInput self.new }

@@ -30,7 +30,8 @@ pub fn read_type_index(reader: &mut BinaryReader<'_>) -> Result<PackedIndex, Ref
     ensures same { SameInput reader.old reader.new }
     ensures onward { position_in reader.old ≤ position_in reader.new }
     ensures refusal { IfErr result (RefusedFrom reader.old) }
-    ensures ok { IfOk result (λ x. index_at written (rest reader.old) ≡ Some (index_of x, rest reader.new)) }
+    ensures ok { IfOk result (λ x. index_at written (rest reader.old)
+        ≡ Some (index_of x, rest reader.new)) }
     ensures further { OnOk result (position_in reader.old < position_in reader.new) }
     ensures err { OnErr result (index_at written (rest reader.old) ≡ None) }
 {
@@ -68,7 +69,8 @@ fn read_marked_index(
     ensures same { SameInput reader.old reader.new }
     ensures onward { position_in reader.old ≤ position_in reader.new }
     ensures refusal { IfErr result (RefusedFrom reader.old) }
-    ensures ok { IfOk result (λ x. marked_index_at written mark (rest reader.old) ≡ Some (option_map index_of x, rest reader.new)) }
+    ensures ok { IfOk result (λ x. marked_index_at written mark (rest reader.old)
+        ≡ Some (option_map index_of x, rest reader.new)) }
     ensures err { OnErr result (marked_index_at written mark (rest reader.old) ≡ None) }
 {
     if read_mark(reader, mark) {
@@ -116,7 +118,8 @@ fn read_struct_type<'a, A: Allocator + Copy>(
     ensures same { SameInput reader.old reader.new }
     ensures onward { position_in reader.old ≤ position_in reader.new }
     ensures failure { IfErr result (FailedFrom reader.old) }
-    ensures reads { Reads (λ s. map field_of s.fields) result (list_at (field_at written) (rest reader.old)) (rest reader.new) }
+    ensures reads { Reads (λ s. map field_of s.fields) result
+        (list_at (field_at written) (rest reader.old)) (rest reader.new) }
 {
     let fields: Vec<FieldType, A> = read_list(alloc, reader)?;
     Ok(StructType {
@@ -156,7 +159,8 @@ fn read_final_or_not<'a, A: Allocator + Copy>(
     ensures same { SameInput reader.old reader.new }
     ensures onward { position_in reader.old ≤ position_in reader.new }
     ensures failure { IfErr result (FailedFrom reader.old) }
-    ensures reads { Reads sub_of result (final_or_not written is_final (map index_of supertypes.items) (rest reader.old)) (rest reader.new) }
+    ensures reads { Reads sub_of result (final_or_not written is_final
+        (map index_of supertypes.items) (rest reader.old)) (rest reader.new) }
 {
     let shared = read_mark(reader, 0x65);
     let describes_idx = read_marked_index(reader, 0x4c)?;

@@ -36,7 +36,8 @@ fn read_flags(reader: &mut BinaryReader<'_>, most: u8, malformed: Malformed) -> 
     ensures refusal { IfErr result (RefusedFrom reader.old) }
     ensures ok { IfOk result (λ x. flags_at most (rest reader.old) ≡ Some (x, rest reader.new)) }
     ensures err { OnErr result (flags_at most (rest reader.old) ≡ None) }
-    ensures told { IfErr result (λ r. r ≡ plain (Fault.Malformed (byte_fault malformed (rest reader.old))) (place_of_next reader.old)) }
+    ensures told { IfErr result (λ r. r ≡ plain
+        (Fault.Malformed (byte_fault malformed (rest reader.old))) (place_of_next reader.old)) }
 {
     let offset = reader.original_position();
     let flags = reader.read_u8()?;
@@ -66,7 +67,8 @@ fn read_page_size_if(reader: &mut BinaryReader<'_>, there: bool) -> Result<Optio
     ensures same { SameInput reader.old reader.new }
     ensures onward { position_in reader.old ≤ position_in reader.new }
     ensures refusal { IfErr result (RefusedFrom reader.old) }
-    ensures ok { IfOk result (λ x. page_size_if there (rest reader.old) ≡ Some (x, rest reader.new)) }
+    ensures ok { IfOk result (λ x. page_size_if there (rest reader.old)
+        ≡ Some (x, rest reader.new)) }
     ensures err { OnErr result (page_size_if there (rest reader.old) ≡ None) }
 {
     if there {
@@ -82,7 +84,8 @@ fn read_limits(reader: &mut BinaryReader<'_>, most: u8) -> Result<Limits, Refusa
     ensures same { SameInput reader.old reader.new }
     ensures onward { position_in reader.old ≤ position_in reader.new }
     ensures refusal { IfErr result (RefusedFrom reader.old) }
-    ensures ok { IfOk result (λ x. limits_at most (rest reader.old) ≡ Some (limits_of x, rest reader.new)) }
+    ensures ok { IfOk result (λ x. limits_at most (rest reader.old)
+        ≡ Some (limits_of x, rest reader.new)) }
     ensures err { OnErr result (limits_at most (rest reader.old) ≡ None) }
 {
     let flags = read_flags(reader, most, Malformed::LimitsFlags)?;
@@ -106,7 +109,8 @@ pub fn read_table_type(reader: &mut BinaryReader<'_>) -> Result<TableType, Refus
     ensures same { SameInput reader.old reader.new }
     ensures onward { position_in reader.old ≤ position_in reader.new }
     ensures refusal { IfErr result (RefusedFrom reader.old) }
-    ensures ok { IfOk result (λ x. table_at written (rest reader.old) ≡ Some (table_of x, rest reader.new)) }
+    ensures ok { IfOk result (λ x. table_at written (rest reader.old)
+        ≡ Some (table_of x, rest reader.new)) }
     ensures err { OnErr result (table_at written (rest reader.old) ≡ None) }
 {
     let element_type = read_ref_type(reader)?;
@@ -131,7 +135,8 @@ pub fn read_table_head(reader: &mut BinaryReader<'_>) -> Result<TableHead, Refus
     ensures same { SameInput reader.old reader.new }
     ensures onward { position_in reader.old ≤ position_in reader.new }
     ensures refusal { IfErr result (RefusedFrom reader.old) }
-    ensures ok { IfOk result (λ h. table_head_at (rest reader.old) ≡ Some (head_of h, rest reader.new)) }
+    ensures ok { IfOk result (λ h. table_head_at (rest reader.old)
+        ≡ Some (head_of h, rest reader.new)) }
     ensures err { OnErr result (table_head_at (rest reader.old) ≡ None) }
 {
     let start = *reader;
@@ -156,7 +161,8 @@ pub fn read_memory_type(reader: &mut BinaryReader<'_>) -> Result<MemoryType, Ref
     ensures same { SameInput reader.old reader.new }
     ensures onward { position_in reader.old ≤ position_in reader.new }
     ensures refusal { IfErr result (RefusedFrom reader.old) }
-    ensures ok { IfOk result (λ x. memory_at (rest reader.old) ≡ Some (memory_of x, rest reader.new)) }
+    ensures ok { IfOk result (λ x. memory_at (rest reader.old)
+        ≡ Some (memory_of x, rest reader.new)) }
     ensures err { OnErr result (memory_at (rest reader.old) ≡ None) }
 {
     let limits = read_limits(reader, 15)?;
@@ -180,7 +186,8 @@ pub fn read_global_type(reader: &mut BinaryReader<'_>) -> Result<GlobalType, Ref
     ensures same { SameInput reader.old reader.new }
     ensures onward { position_in reader.old ≤ position_in reader.new }
     ensures refusal { IfErr result (RefusedFrom reader.old) }
-    ensures ok { IfOk result (λ x. global_at written (rest reader.old) ≡ Some (global_of x, rest reader.new)) }
+    ensures ok { IfOk result (λ x. global_at written (rest reader.old)
+        ≡ Some (global_of x, rest reader.new)) }
     ensures err { OnErr result (global_at written (rest reader.old) ≡ None) }
 {
     let content_type = read_val_type(reader)?;
@@ -202,7 +209,8 @@ pub fn read_tag_type(reader: &mut BinaryReader<'_>) -> Result<TagType, Refusal>
     ensures same { SameInput reader.old reader.new }
     ensures onward { position_in reader.old ≤ position_in reader.new }
     ensures refusal { IfErr result (RefusedFrom reader.old) }
-    ensures ok { IfOk result (λ x. tag_at (rest reader.old) ≡ Some (x.func_type_idx, rest reader.new)) }
+    ensures ok { IfOk result (λ x. tag_at (rest reader.old)
+        ≡ Some (x.func_type_idx, rest reader.new)) }
     ensures err { OnErr result (tag_at (rest reader.old) ≡ None) }
 {
     read_flags(reader, 0, Malformed::TagAttribute)?;
@@ -224,7 +232,8 @@ pub fn read_type_ref(reader: &mut BinaryReader<'_>) -> Result<TypeRef, Refusal>
     ensures same { SameInput reader.old reader.new }
     ensures onward { position_in reader.old ≤ position_in reader.new }
     ensures refusal { IfErr result (RefusedFrom reader.old) }
-    ensures ok { IfOk result (λ x. extern_at written (rest reader.old) ≡ Some (extern_of x, rest reader.new)) }
+    ensures ok { IfOk result (λ x. extern_at written (rest reader.old)
+        ≡ Some (extern_of x, rest reader.new)) }
     ensures err { OnErr result (extern_at written (rest reader.old) ≡ None) }
 {
     let offset = reader.original_position();
@@ -250,9 +259,12 @@ pub fn read_external_kind(reader: &mut BinaryReader<'_>) -> Result<ExternalKind,
     ensures same { SameInput reader.old reader.new }
     ensures onward { position_in reader.old ≤ position_in reader.new }
     ensures refusal { IfErr result (RefusedFrom reader.old) }
-    ensures ok { IfOk result (λ x. flags_at 4 (rest reader.old) ≡ Some (kind_of x, rest reader.new)) }
+    ensures ok { IfOk result (λ x. flags_at 4 (rest reader.old)
+        ≡ Some (kind_of x, rest reader.new)) }
     ensures err { OnErr result (flags_at 4 (rest reader.old) ≡ None) }
-    ensures told { IfErr result (λ r. r ≡ plain (Fault.Malformed (byte_fault Malformed.ExportKind (rest reader.old))) (place_of_next reader.old)) }
+    ensures told { IfErr result (λ r. r ≡ plain
+        (Fault.Malformed (byte_fault Malformed.ExportKind (rest reader.old)))
+        (place_of_next reader.old)) }
 {
     let offset = reader.original_position();
     match reader.read_u8()? {

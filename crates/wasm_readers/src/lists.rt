@@ -24,7 +24,8 @@ pub fn read_list<'a, T: FromReader<'a, A>, A: Allocator + Copy>(
     ensures same { SameInput reader.old reader.new }
     ensures onward { position_in reader.old ≤ position_in reader.new }
     ensures failure { IfErr result (FailedFrom reader.old) }
-    ensures reads { Reads (λ v. map T.value v.items) result (list_at T.encoded (rest reader.old)) (rest reader.new) }
+    ensures reads { Reads (λ v. map T.value v.items) result
+        (list_at T.encoded (rest reader.old)) (rest reader.new) }
 {
     let count = reader.read_var_u32()?;
     read_many(alloc, count, reader)
@@ -39,7 +40,8 @@ fn read_many<'a, T: FromReader<'a, A>, A: Allocator + Copy>(
     ensures same { SameInput reader.old reader.new }
     ensures onward { position_in reader.old ≤ position_in reader.new }
     ensures failure { IfErr result (FailedFrom reader.old) }
-    ensures reads { Reads (λ v. map T.value v.items) result (many_at T.encoded count (rest reader.old)) (rest reader.new) }
+    ensures reads { Reads (λ v. map T.value v.items) result
+        (many_at T.encoded count (rest reader.old)) (rest reader.new) }
 {
     let mut items = Vec::new(alloc);
     let mut left = count;

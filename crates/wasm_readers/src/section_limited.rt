@@ -64,7 +64,8 @@ impl<'a, T, A: Allocator + Copy> SectionLimited<'a, T, A> {
     pub fn new(alloc: A, reader: BinaryReader<'a>) -> Result<SectionLimited<'a, T, A>, Refusal>
         ensures ok { IfOk result (λ s. u32_at (rest reader.entry) ≡ Some (count_of s, bytes_of s)) }
         ensures start { IfOk result (λ s. section_start s ≡ original reader.entry) }
-        ensures end { IfOk result (λ s. section_end s ≡ original reader.entry + length (input reader.entry)) }
+        ensures end { IfOk result (λ s. section_end s
+            ≡ original reader.entry + length (input reader.entry)) }
         ensures first { IfOk result (λ s. first_item_at s + length (bytes_of s) ≡ section_end s) }
         ensures refusal { IfErr result (RefusedFrom reader.entry) }
         ensures err { OnErr result (u32_at (rest reader.entry) ≡ None) }
@@ -170,7 +171,8 @@ impl<'a, T: FromReader<'a, A>, A: Allocator + Copy> SectionItems<'a, T, A> {
     /// iterator ends there.
     pub fn read_next(&mut self) -> Result<Option<(u64, T)>, Error>
         ensures going { items_done self.new ≡ items_done self.old }
-        ensures reads { NextItem T.encoded T.value (items_left self.old) (items_rest self.old) result (items_left self.new) (items_rest self.new) }
+        ensures reads { NextItem T.encoded T.value (items_left self.old) (items_rest self.old)
+            result (items_left self.new) (items_rest self.new) }
         ensures position { IfOk result (λ o. IfSome o (λ x. x.0 ≡ next_item_at self.old)) }
         ensures same { SameSection self.old self.new }
         ensures over { IfOk result (λ o. o ≡ None → self.new ≡ self.old) }

@@ -45,7 +45,11 @@ fn abstract_heap_type(byte: u8) -> Option<AbstractHeapType>
 
 /// The nullable reference type to an abstract heap type.
 fn abstract_reference(shared: bool, ty: AbstractHeapType) -> RefType
-    ensures { ref_of result ≡ record { nullable = true; heap = abstract_heap shared (abstract_heap_of ty) } }
+    ensures { ref_of result ≡ record {
+      nullable = true;
+      heap = abstract_heap shared
+          (abstract_heap_of ty);
+    } }
 {
     match RefType::new(true, HeapType::Abstract { shared, ty }) {
         Some(ty) => ty,
@@ -64,7 +68,8 @@ pub fn read_abstract_heap_type(reader: &mut BinaryReader<'_>) -> Result<Abstract
     ensures same { SameInput reader.old reader.new }
     ensures onward { position_in reader.old ≤ position_in reader.new }
     ensures refusal { IfErr result (RefusedFrom reader.old) }
-    ensures ok { IfOk result (λ a. abstract_heap_at (rest reader.old) ≡ Some (abstract_heap_of a, rest reader.new)) }
+    ensures ok { IfOk result (λ a. abstract_heap_at (rest reader.old)
+        ≡ Some (abstract_heap_of a, rest reader.new)) }
     ensures further { OnOk result (position_in reader.old < position_in reader.new) }
     ensures err { OnErr result (abstract_heap_at (rest reader.old) ≡ None) }
 {
@@ -87,7 +92,8 @@ pub fn read_heap_type(reader: &mut BinaryReader<'_>) -> Result<HeapType, Refusal
     ensures same { SameInput reader.old reader.new }
     ensures onward { position_in reader.old ≤ position_in reader.new }
     ensures refusal { IfErr result (RefusedFrom reader.old) }
-    ensures ok { IfOk result (λ h. heap_at written (rest reader.old) ≡ Some (heap_of h, rest reader.new)) }
+    ensures ok { IfOk result (λ h. heap_at written (rest reader.old)
+        ≡ Some (heap_of h, rest reader.new)) }
     ensures further { OnOk result (position_in reader.old < position_in reader.new) }
     ensures fits { IfOk result HeapFits }
     ensures err { OnErr result (heap_at written (rest reader.old) ≡ None) }
@@ -119,7 +125,8 @@ pub fn read_ref_type(reader: &mut BinaryReader<'_>) -> Result<RefType, Refusal>
     ensures same { SameInput reader.old reader.new }
     ensures onward { position_in reader.old ≤ position_in reader.new }
     ensures refusal { IfErr result (RefusedFrom reader.old) }
-    ensures ok { IfOk result (λ x. ref_at written (rest reader.old) ≡ Some (ref_of x, rest reader.new)) }
+    ensures ok { IfOk result (λ x. ref_at written (rest reader.old)
+        ≡ Some (ref_of x, rest reader.new)) }
     ensures further { OnOk result (position_in reader.old < position_in reader.new) }
     ensures err { OnErr result (ref_at written (rest reader.old) ≡ None) }
 {
@@ -140,7 +147,8 @@ fn read_reference(reader: &mut BinaryReader<'_>, nullable: bool) -> Result<RefTy
     ensures same { SameInput reader.old reader.new }
     ensures onward { position_in reader.old ≤ position_in reader.new }
     ensures refusal { IfErr result (RefusedFrom reader.old) }
-    ensures ok { IfOk result (λ x. heap_at written (rest reader.old) ≡ Some ((ref_of x).heap, rest reader.new)) }
+    ensures ok { IfOk result (λ x. heap_at written (rest reader.old)
+        ≡ Some ((ref_of x).heap, rest reader.new)) }
     ensures null { IfOk result (λ x. (ref_of x).nullable ≡ nullable) }
     ensures err { OnErr result (heap_at written (rest reader.old) ≡ None) }
 {
@@ -161,7 +169,8 @@ pub fn read_val_type(reader: &mut BinaryReader<'_>) -> Result<ValType, Refusal>
     ensures same { SameInput reader.old reader.new }
     ensures onward { position_in reader.old ≤ position_in reader.new }
     ensures refusal { IfErr result (RefusedFrom reader.old) }
-    ensures ok { IfOk result (λ x. val_at written (rest reader.old) ≡ Some (val_of x, rest reader.new)) }
+    ensures ok { IfOk result (λ x. val_at written (rest reader.old)
+        ≡ Some (val_of x, rest reader.new)) }
     ensures further { OnOk result (position_in reader.old < position_in reader.new) }
     ensures err { OnErr result (val_at written (rest reader.old) ≡ None) }
 {
@@ -189,7 +198,8 @@ pub fn read_storage_type(reader: &mut BinaryReader<'_>) -> Result<StorageType, R
     ensures same { SameInput reader.old reader.new }
     ensures onward { position_in reader.old ≤ position_in reader.new }
     ensures refusal { IfErr result (RefusedFrom reader.old) }
-    ensures ok { IfOk result (λ x. storage_at written (rest reader.old) ≡ Some (storage_of x, rest reader.new)) }
+    ensures ok { IfOk result (λ x. storage_at written (rest reader.old)
+        ≡ Some (storage_of x, rest reader.new)) }
     ensures further { OnOk result (position_in reader.old < position_in reader.new) }
     ensures err { OnErr result (storage_at written (rest reader.old) ≡ None) }
 {
@@ -214,7 +224,8 @@ pub fn read_field_type(reader: &mut BinaryReader<'_>) -> Result<FieldType, Refus
     ensures same { SameInput reader.old reader.new }
     ensures onward { position_in reader.old ≤ position_in reader.new }
     ensures refusal { IfErr result (RefusedFrom reader.old) }
-    ensures ok { IfOk result (λ x. field_at written (rest reader.old) ≡ Some (field_of x, rest reader.new)) }
+    ensures ok { IfOk result (λ x. field_at written (rest reader.old)
+        ≡ Some (field_of x, rest reader.new)) }
     ensures further { OnOk result (position_in reader.old < position_in reader.new) }
     ensures err { OnErr result (field_at written (rest reader.old) ≡ None) }
 {
@@ -240,7 +251,9 @@ pub fn read_flag(reader: &mut BinaryReader<'_>) -> Result<bool, Refusal>
     ensures ok { IfOk result (λ f. flag_at (rest reader.old) ≡ Some (f, rest reader.new)) }
     ensures further { OnOk result (position_in reader.old < position_in reader.new) }
     ensures err { OnErr result (flag_at (rest reader.old) ≡ None) }
-    ensures told { IfErr result (λ r. r ≡ plain (Fault.Malformed (byte_fault Malformed.Flag (rest reader.old))) (place_of_next reader.old)) }
+    ensures told { IfErr result (λ r. r ≡ plain
+        (Fault.Malformed (byte_fault Malformed.Flag (rest reader.old)))
+        (place_of_next reader.old)) }
 {
     let offset = reader.original_position();
     match reader.read_u8()? {

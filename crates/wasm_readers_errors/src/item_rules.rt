@@ -1,5 +1,5 @@
-/// Rules of imports, tables, memories, tags, globals, start functions and data counts whose texts name
-/// no number (Core Specification 3.0, Validation, Types and Modules).
+/// Rules of imports, tables, memories, tags, globals, start functions and data counts whose texts
+/// name no number (Core Specification 3.0, Validation, Types and Modules).
 #[derive(Clone, Copy, PartialEq, Eq, Debug)]
 pub enum ItemRule {
     /// An exactly typed function import needs `CUSTOM_DESCRIPTORS`.

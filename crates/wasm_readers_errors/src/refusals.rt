@@ -12,8 +12,8 @@ use bitflags::Flags;
 ///
 /// # Errors
 ///
-/// Refuses, at `offset`, a byte offset from the start of the input, where the rule doesn't hold: with
-/// this fault, which no proposal lifts.
+/// Refuses, at `offset`, a byte offset from the start of the input, where the rule doesn't hold:
+/// with this fault, which no proposal lifts.
 pub fn hold(holds: bool, fault: Fault, offset: u64) -> Result<(), Refusal>
     ensures allowed { is_ok result ≡ holds }
     ensures told { refused result ≡ unless holds (plain fault offset) }
@@ -30,8 +30,8 @@ pub fn hold(holds: bool, fault: Fault, offset: u64) -> Result<(), Refusal>
 ///
 /// # Errors
 ///
-/// Refuses, at `offset`, a byte offset from the start of the input, where the proposal is needed and
-/// off: with this fault, which the proposal would lift.
+/// Refuses, at `offset`, a byte offset from the start of the input, where the proposal is needed
+/// and off: with this fault, which the proposal would lift.
 pub fn require_if(
     needed: bool,
     features: WasmFeatures,

@@ -60,8 +60,8 @@ pub struct TagType {
     pub func_type_idx: u32,
 }
 
-/// What an import asks for (Core Specification 3.0, Structure, Types, External Types). Functions and
-/// tags name their type by its type index.
+/// What an import asks for (Core Specification 3.0, Structure, Types, External Types). Functions
+/// and tags name their type by its type index.
 #[derive(Clone, Copy, PartialEq, Eq, Hash, Debug)]
 pub enum TypeRef {
     /// A function of this type or of a subtype.

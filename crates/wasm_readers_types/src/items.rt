@@ -70,7 +70,8 @@ impl<T, A: Allocator> Items<T, A> {
         self.vec.as_slice()
     }
 
-    /// Puts `item` at the end. Where memory is refused, the list stays as it was and `item` comes back.
+    /// Puts `item` at the end. Where memory is refused, the list stays as it was and `item` comes
+    /// back.
     pub fn push(&mut self, item: T) -> Result<(), AllocFailed<T>>
         ensures ok { OnOk result (self.new ≡ self.old ++ item ∷ []) }
         ensures err { OnErr result (self.new ≡ self.old) }

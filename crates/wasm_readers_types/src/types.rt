@@ -21,7 +21,8 @@ pub struct FuncType<A: Allocator = Global> {
     results: Items<ValType, A>,
 }
 
-/// An array type (Core Specification 3.0, Structure, Types, Aggregate Types): what each place holds.
+/// An array type (Core Specification 3.0, Structure, Types, Aggregate Types): what each place
+/// holds.
 #[derive(Clone, Copy, PartialEq, Eq, Hash, Debug)]
 pub struct ArrayType(pub FieldType);
 
@@ -66,8 +67,8 @@ pub struct CompositeType<A: Allocator = Global> {
     pub describes_idx: Option<PackedIndex>,
 }
 
-/// A sub type (Core Specification 3.0, Structure, Types, Recursive Types): a composite type with what
-/// it extends.
+/// A sub type (Core Specification 3.0, Structure, Types, Recursive Types): a composite type with
+/// what it extends.
 #[derive(Clone, Drop)]
 #[derive_where(PartialEq, Eq, Hash, Debug)]
 pub struct SubType<A: Allocator = Global> {

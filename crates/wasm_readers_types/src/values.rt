@@ -207,7 +207,8 @@ impl RefType {
 
     /// The reference type to this heap type: none where the index in it can't be packed.
     pub fn new(nullable: bool, heap_type: HeapType) -> Option<RefType>
-        ensures value { IfSome result (λ r. ref_of r ≡ record { nullable = nullable; heap = heap_of heap_type }) }
+        ensures value { IfSome result (λ r. ref_of r
+            ≡ record { nullable = nullable; heap = heap_of heap_type }) }
         ensures fits { IsSome result ↔ HeapFits heap_type }
     {
         let heap = match heap_type {

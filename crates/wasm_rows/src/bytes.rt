@@ -1,8 +1,8 @@
 use crate::row::Trouble;
 use std::alloc::{AllocError, Global};
 
-/// The bytes that this text stands for: hexadecimal digits, `H` for the header of a module, `(BYTES)*N`
-/// for these bytes N times, and `-` for none.
+/// The bytes that this text stands for: hexadecimal digits, `H` for the header of a module,
+/// `(BYTES)*N` for these bytes N times, and `-` for none.
 pub fn parse_bytes(alloc: Global, text: &str) -> Result<Vec<u8>, Trouble> {
     let mut bytes = Vec::new(alloc);
     if text == "-" {
@@ -20,8 +20,8 @@ pub fn parse_bytes(alloc: Global, text: &str) -> Result<Vec<u8>, Trouble> {
     Ok(bytes)
 }
 
-/// Adds `BYTES)*N MORE` to the bytes: N times those before the parenthesis, and once those behind the
-/// number.
+/// Adds `BYTES)*N MORE` to the bytes: N times those before the parenthesis, and once those behind
+/// the number.
 fn push_repeated(alloc: Global, bytes: &mut Vec<u8>, piece: &str) -> Result<(), Trouble> {
     let Some((inner, rest)) = piece.split_once(")*") else {
         return Err(Trouble::Malformed("a parenthesis without a number of times"));

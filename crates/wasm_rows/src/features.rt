@@ -1,8 +1,8 @@
 use crate::row::Trouble;
 use wasm_validator::{Flags, WasmFeatures};
 
-/// The features that this text names: `default`, `all` or `none`, and then names behind `+` and `-`,
-/// which are put in and taken out in turn.
+/// The features that this text names: `default`, `all` or `none`, and then names behind `+` and
+/// `-`, which are put in and taken out in turn.
 pub fn parse_features(text: &str) -> Result<WasmFeatures, Trouble> {
     let mut features: Option<WasmFeatures> = None;
     for part in text.split('+') {
@@ -14,8 +14,8 @@ pub fn parse_features(text: &str) -> Result<WasmFeatures, Trouble> {
     }
 }
 
-/// With the first name of this part put in, or as the start, and the further names, each behind `-`,
-/// taken out.
+/// With the first name of this part put in, or as the start, and the further names, each behind
+/// `-`, taken out.
 fn with_part(before: Option<WasmFeatures>, part: &str) -> Result<WasmFeatures, Trouble> {
     let Some((first, others)) = part.split_once('-') else {
         return with_name(before, part);

@@ -1,5 +1,5 @@
-//! `wasm-rows FILE..` runs rows, each a module with the answer that is wanted of it, and tells the wrong
-//! ones.
+//! `wasm-rows FILE..` runs rows, each a module with the answer that is wanted of it, and tells the
+//! wrong ones.
 #![tactic(auto)]
 
 mod bytes;

@@ -60,8 +60,8 @@ const NO_ROW: &str = "no row | ";
 /// What stands before an answer that must not be given.
 const NOT: &str = "not ";
 
-/// The first answer of the row that this line is, where one isn't right. Of a line that must not be a row:
-/// why it is none, where that isn't the wanted reason.
+/// The first answer of the row that this line is, where one isn't right. Of a line that must not be
+/// a row: why it is none, where that isn't the wanted reason.
 pub fn judge<'a>(alloc: Global, line: &'a str) -> Result<Option<Difference<'a>>, Trouble> {
     match line.strip_prefix(NO_ROW) {
         Some(rest) => judge_no_row(alloc, rest),
@@ -118,8 +118,8 @@ fn first_difference<'a>(alloc: Global, row: Row<'a>) -> Result<Option<Difference
     }
 }
 
-/// Gives a module to the validator as often as it is to be, up to the first time that its answer isn't
-/// right.
+/// Gives a module to the validator as often as it is to be, up to the first time that its answer
+/// isn't right.
 fn difference_among<'a>(
     alloc: Global,
     validator: &mut Validator,

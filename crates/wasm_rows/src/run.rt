@@ -8,8 +8,8 @@ use std::io::{self, Write};
 pub const STATUS_RIGHT: u8 = 0;
 /// The exit status where a row is wrong.
 pub const STATUS_WRONG: u8 = 1;
-/// The exit status where the program could not do its work: a file that can't be read, a row that can't
-/// be read, no memory, a stream that can't be written.
+/// The exit status where the program could not do its work: a file that can't be read, a row that
+/// can't be read, no memory, a stream that can't be written.
 pub const STATUS_TROUBLE: u8 = 2;
 
 /// A file by its name, with its text where it could be read.
@@ -94,8 +94,8 @@ pub fn print_error<E: Write>(err: &mut E, message: &str) -> u8
     STATUS_TROUBLE
 }
 
-/// Runs the rows of these files, prints those that are wrong and last how many there were, and answers
-/// the exit status.
+/// Runs the rows of these files, prints those that are wrong and last how many there were, and
+/// answers the exit status.
 pub fn run<W: Write, E: Write>(alloc: Global, files: &[Input], out: &mut W, err: &mut E) -> u8
     ensures { result ≤ 2 }
 {

@@ -77,7 +77,8 @@ pub fn type_space_grows()
     ensures declare { TypesDeclareWhatIsWritten }
 {}
 
-/// In a list of groups over ids the types of earlier ids stay, and where no type has two ids equal types are those of equal groups.
+/// In a list of groups over ids the types of earlier ids stay, and where no type has two ids equal
+/// types are those of equal groups.
 #[tactic(auto, using(crate::proofs::TypeLawSet::list_laws))]
 pub fn ids_stand_for_types()
     ensures appended { AppendedListedGroup }
@@ -86,7 +87,8 @@ pub fn ids_stand_for_types()
     ensures written { ListedGroupIsWrittenGroup }
 {}
 
-/// Matching is an order, and where each type is valid it holds between a type and each of its ancestors.
+/// Matching is an order, and where each type is valid it holds between a type and each of its
+/// ancestors.
 #[tactic(auto, using(crate::proofs::TypeLawSet::matching_laws))]
 pub fn matching_is_an_order<R>()
     ensures reflexive { MatchingIsReflexive R }
@@ -102,7 +104,8 @@ pub fn depths_are_small<R>()
     ensures depths { DepthsAreSmall R }
 {}
 
-/// The types of a valid type section mention only types of it, all of them valid: what is shown of accepted types holds of them.
+/// The types of a valid type section mention only types of it, all of them valid: what is shown of
+/// accepted types holds of them.
 pub fn valid_type_sections_are_accepted()
     ensures accepted { ValidTypeSectionIsAccepted }
 {}

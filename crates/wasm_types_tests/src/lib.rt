@@ -1,5 +1,5 @@
-//! Tests of types, of the list of types and of the checks of items, by their public calls: what a row of
-//! `wasm_rows` can't show.
+//! Tests of types, of the list of types and of the checks of items, by their public calls: what a
+//! row of `wasm_rows` can't show.
 #![tactic(auto)]
 
 #[cfg(test)]

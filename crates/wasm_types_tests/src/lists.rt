@@ -110,8 +110,8 @@ fn a_kept_list_is_closed(rt: HostRuntime) -> Result<(), Fail> {
     Ok(())
 }
 
-/// Keeps the depth of a type that extends nothing and of which none is kept, and answers whether it is
-/// then found.
+/// Keeps the depth of a type that extends nothing and of which none is kept, and answers whether it
+/// is then found.
 fn keep(list: &mut TypeList, id: CoreTypeId) -> Result<bool, AllocError>
     requires { IsTrue list.old.is_open }
 {

@@ -64,7 +64,8 @@ fn read_argument<R: Env + Files + AllocGlobal>(rt: &R) -> Result<Input, AllocErr
     Ok(Input { name, bytes })
 }
 
-/// What the file at this path holds, and nothing where it can't be read. Only memory can be refused.
+/// What the file at this path holds, and nothing where it can't be read. Only memory can be
+/// refused.
 fn read_file<R: Files + AllocGlobal>(rt: &R, path: &str) -> Result<Option<Vec<u8>>, AllocError> {
     match fs::read(rt, path) {
         Ok(bytes) => Ok(Some(bytes)),

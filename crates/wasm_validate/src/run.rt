@@ -9,8 +9,8 @@ use wasm_validator::{CoreExports, CoreImports, Error, Types, ValidatorId, valida
 pub const STATUS_OK: u8 = 0;
 /// The exit status where a file is refused.
 pub const STATUS_REFUSED: u8 = 1;
-/// The exit status where the program could not do its work: a wrong call, a file that can't be read,
-/// no memory, a stream that can't be written.
+/// The exit status where the program could not do its work: a wrong call, a file that can't be
+/// read, no memory, a stream that can't be written.
 pub const STATUS_TROUBLE: u8 = 2;
 
 /// A file by its name, with its bytes where it could be read.
@@ -20,8 +20,8 @@ pub struct Input<A: Allocator = Global> {
     pub bytes: Option<Vec<u8, A>>,
 }
 
-/// Validates one file, prints one line on it, and answers the exit status. That is `STATUS_OK` only where
-/// every file is a valid module, and `STATUS_REFUSED` only where the one file is refused.
+/// Validates one file, prints one line on it, and answers the exit status. That is `STATUS_OK` only
+/// where every file is a valid module, and `STATUS_REFUSED` only where the one file is refused.
 pub fn run<A: Allocator + Copy, W: Write, E: Write>(
     alloc: A,
     files: &[Input<A>],
@@ -32,8 +32,10 @@ pub fn run<A: Allocator + Copy, W: Write, E: Write>(
     ensures accepted { result ≡ STATUS_OK → AreAllAccepted files.now }
     ensures refused { result ≡ STATUS_REFUSED → AreAllRefused files.now }
     ensures quiet { (result ≡ STATUS_TROUBLE → ⊥) → err.new ≡ err.old }
-    ensures one_file { (length files.now ≡ 1 → ⊥) → (result ≡ STATUS_TROUBLE) × (out.new ≡ out.old) }
-    ensures unread { (file : _) → files.now ≡ file ∷ [] → file.bytes ≡ None → (result ≡ STATUS_TROUBLE) × (out.new ≡ out.old) }
+    ensures one_file { (length files.now ≡ 1 → ⊥)
+        → (result ≡ STATUS_TROUBLE) × (out.new ≡ out.old) }
+    ensures unread { (file : _) → files.now ≡ file ∷ [] → file.bytes ≡ None
+        → (result ≡ STATUS_TROUBLE) × (out.new ≡ out.old) }
 {
     match files {
         [file] => run_one(alloc, file, out, err),

@@ -43,7 +43,8 @@ fn keep_depth<A: Allocator + Copy>(
     requires there { id.index < length (types_in types.old) }
     requires fits { FitsByte types.old id.index }
     ensures kept { OnOk result (KeepsDepth types.new id.index) }
-    ensures others { (other : ℕ) → (other ≡ id.index → ⊥) → depth_of types.new.depths other ≡ depth_of types.old.depths other }
+    ensures others { (other : ℕ) → (other ≡ id.index → ⊥)
+        → depth_of types.new.depths other ≡ depth_of types.old.depths other }
     ensures earlier { StillKept types.old types.new }
     ensures same_groups { types.new.groups ≡ types.old.groups }
     ensures same_open { types.new.is_open ≡ types.old.is_open }

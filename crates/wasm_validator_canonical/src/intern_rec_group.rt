@@ -57,11 +57,14 @@ fn canonical_types<A: Allocator + Copy>(
     requires small { All (λ (id : CoreTypeId). id.index < MAX_IDS) ids.now }
     requires few { length ids.now < 2 ^ 31 }
     requires fits { length group.types ≤ MAX_IDS }
-    ensures value { IfOk result (λ ss. map sub_of ss.items ≡ canonical_group (numbers ids.now) (rec_of group).types) }
+    ensures value { IfOk result (λ ss. map sub_of ss.items
+        ≡ canonical_group (numbers ids.now) (rec_of group).types) }
     ensures closes { Says result (closes (features_of features) (length ids.now) (rec_of group)) }
     ensures place { IfErr result (IsAt offset) }
-    ensures written { allows_written (features_of features) (rec_of group) ≡ false → IsRefusal result (rec_without_gc offset) }
-    ensures extends { allows_written (features_of features) (rec_of group) ≡ true → extend_at_most_one (rec_of group) ≡ false → IsRefusal result (extends_many offset) }
+    ensures written { allows_written (features_of features) (rec_of group) ≡ false
+        → IsRefusal result (rec_without_gc offset) }
+    ensures extends { allows_written (features_of features) (rec_of group) ≡ true
+        → extend_at_most_one (rec_of group) ≡ false → IsRefusal result (extends_many offset) }
 {
     if !may_be_written(features, &group) {
         let fault = Fault::Group(GroupRule::RecGroups);
@@ -104,19 +107,27 @@ pub fn canonicalize_and_intern_rec_group<A: Allocator + Copy>(
 ) -> Result<RecGroupElements, Error>
     requires open { IsTrue types.old.is_open }
     requires mode { types.old.is_canonical ≡ canonical (features_of features) }
-    requires known { All (λ (id : CoreTypeId). id.index < length (types_of_list types.old)) ids.now }
+    requires known { All (λ (id : CoreTypeId). id.index
+        < length (types_of_list types.old)) ids.now }
     requires few { length ids.now < 2 ^ 31 }
     requires form { has_form (rec_of group) ≡ true }
     requires valid { AreValid (features_of features) (types_of_list types.old) }
-    ensures added { AddsWritten (features_of features) result types.old (numbers ids.now) (rec_of group) types.new }
+    ensures added { AddsWritten (features_of features) result types.old (numbers ids.now)
+        (rec_of group) types.new }
     ensures valid { OnOk result (AreValid (features_of features) (types_of_list types.new)) }
-    ensures own_ids { canonical (features_of features) ≡ false → IfOk result (λ elements. ids_left elements ≡ next_ids types.old (length group.types)) }
-    ensures grows { canonical (features_of features) ≡ false → OnOk result (length (types_in types.new) ≡ length (types_in types.old) + length group.types) }
+    ensures own_ids { canonical (features_of features) ≡ false
+        → IfOk result (λ elements. ids_left elements ≡ next_ids types.old (length group.types)) }
+    ensures grows { canonical (features_of features) ≡ false
+        → OnOk result (length (types_in types.new)
+        ≡ length (types_in types.old) + length group.types) }
     ensures depths { IfOk result (λ elements. All (KeepsDepth types.new) (ids_left elements)) }
     ensures earlier_depths { OnOk result (StillKept types.old types.new) }
     ensures place { IfErr result (IsAt offset) }
-    ensures limit { MAX_IDS < length (types_in types.old) + length group.types → IsRefusal result (too_many_types offset) }
-    ensures written { HasIdsFor types.old (length group.types) → allows_written (features_of features) (rec_of group) ≡ false → IsRefusal result (rec_without_gc offset) }
+    ensures limit { MAX_IDS < length (types_in types.old) + length group.types
+        → IsRefusal result (too_many_types offset) }
+    ensures written { HasIdsFor types.old (length group.types)
+        → allows_written (features_of features) (rec_of group) ≡ false
+        → IsRefusal result (rec_without_gc offset) }
     ensures same_open { types.new.is_open ≡ types.old.is_open }
     ensures same_mode { types.new.is_canonical ≡ types.old.is_canonical }
 {
@@ -145,7 +156,8 @@ fn check_if_new<A: Allocator + Copy>(
     offset: u64,
 ) -> Result<(), Refusal>
     requires { group.index < length types.now.groups }
-    ensures new { is_new ≡ true → Decides (is_ok result) (IsValidGroupAt (features_of features) types.now.groups group.index) }
+    ensures new { is_new ≡ true → Decides (is_ok result)
+        (IsValidGroupAt (features_of features) types.now.groups group.index) }
     ensures known { is_new ≡ false → is_ok result ≡ true }
     ensures place { IfErr result (λ r. r.offset ≡ offset) }
 {

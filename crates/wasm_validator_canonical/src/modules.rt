@@ -124,10 +124,15 @@ pub fn intern_rec_group_of<A: Allocator + Copy, M: InternRecGroup<A>>(
     requires few { length (M.ids target.old) + length group.types < 2 ^ 31 }
     requires form { has_form (rec_of group) ≡ true }
     requires valid { AreValid (features_of features) (types_of_list types.old) }
-    ensures added { AddsWrittenGroup (features_of features) result types.old (M.ids target.old) (rec_of group) types.new (M.ids target.new) }
+    ensures added { AddsWrittenGroup (features_of features) result types.old (M.ids target.old)
+        (rec_of group) types.new (M.ids target.new) }
     ensures valid { OnOk result (AreValid (features_of features) (types_of_list types.new)) }
-    ensures own_ids { canonical (features_of features) ≡ false → OnOk result (M.ids target.new ≡ M.ids target.old ++ next_ids types.old (length group.types)) }
-    ensures grows { canonical (features_of features) ≡ false → OnOk result (length (types_in types.new) ≡ length (types_in types.old) + length group.types) }
+    ensures own_ids { canonical (features_of features) ≡ false
+        → OnOk result (M.ids target.new ≡ M.ids target.old
+        ++ next_ids types.old (length group.types)) }
+    ensures grows { canonical (features_of features) ≡ false
+        → OnOk result (length (types_in types.new)
+        ≡ length (types_in types.old) + length group.types) }
     ensures others { M.others target.new ≡ M.others target.old }
     ensures place { IfErr result (IsAt offset) }
     ensures same_open { types.new.is_open ≡ types.old.is_open }

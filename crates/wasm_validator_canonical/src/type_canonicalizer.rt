@@ -120,7 +120,8 @@ impl<'a> TypeCanonicalizer<'a> {
     fn reference(&self, ty: RefType) -> Result<RefType, Refusal>
         requires { IsSmall self.now }
         ensures value { IfOk result (λ r. ref_of r ≡ map_ref (canonical_by self.now) (ref_of ty)) }
-        ensures known { is_ok result ≡ list_all (is_known_by self.now) (refs_heap (ref_of ty).heap) }
+        ensures known { is_ok result ≡ list_all (is_known_by self.now)
+            (refs_heap (ref_of ty).heap) }
         ensures place { IfErr result (λ r. r.offset ≡ self.now.offset) }
     {
         let heap = match ty.heap_type() {
@@ -150,7 +151,8 @@ impl<'a> TypeCanonicalizer<'a> {
     /// A field with its index as the list has it.
     fn field(&self, ty: FieldType) -> Result<FieldType, Refusal>
         requires { IsSmall self.now }
-        ensures value { IfOk result (λ x. field_of x ≡ map_field (canonical_by self.now) (field_of ty)) }
+        ensures value { IfOk result (λ x. field_of x
+            ≡ map_field (canonical_by self.now) (field_of ty)) }
         ensures known { is_ok result ≡ knows_field self.now (field_of ty) }
         ensures place { IfErr result (λ r. r.offset ≡ self.now.offset) }
     {
@@ -172,7 +174,8 @@ impl<'a> TypeCanonicalizer<'a> {
         types: Vec<ValType, A>,
     ) -> Result<Vec<ValType, A>, Error>
         requires { IsSmall self.now }
-        ensures value { IfOk result (λ vs. map val_of vs.items ≡ map (map_val (canonical_by self.now)) (map val_of types.items)) }
+        ensures value { IfOk result (λ vs. map val_of vs.items
+            ≡ map (map_val (canonical_by self.now)) (map val_of types.items)) }
         ensures known { Says result (list_all (knows_val self.now) (map val_of types.items)) }
         ensures place { IfErr result (IsAt self.now.offset) }
     {
@@ -196,7 +199,8 @@ impl<'a> TypeCanonicalizer<'a> {
         types: &[FieldType],
     ) -> Result<Vec<FieldType, A>, Error>
         requires { IsSmall self.now }
-        ensures value { IfOk result (λ xs. map field_of xs.items ≡ map (map_field (canonical_by self.now)) (map field_of types.now)) }
+        ensures value { IfOk result (λ xs. map field_of xs.items
+            ≡ map (map_field (canonical_by self.now)) (map field_of types.now)) }
         ensures known { Says result (list_all (knows_field self.now) (map field_of types.now)) }
         ensures place { IfErr result (IsAt self.now.offset) }
     {
@@ -214,7 +218,8 @@ impl<'a> TypeCanonicalizer<'a> {
     #[tactic(auto, using(crate::proofs::Canonical::known_laws))]
     fn function<A: Allocator + Copy>(&self, alloc: A, ty: FuncType<A>) -> Result<FuncType<A>, Error>
         requires { IsSmall self.now }
-        ensures value { IfOk result (λ f. func_of f ≡ map_comp (canonical_by self.now) (func_of ty)) }
+        ensures value { IfOk result (λ f. func_of f
+            ≡ map_comp (canonical_by self.now) (func_of ty)) }
         ensures known { Says result (list_all (is_known_by self.now) (refs_comp (func_of ty))) }
         ensures place { IfErr result (IsAt self.now.offset) }
     {
@@ -236,7 +241,8 @@ impl<'a> TypeCanonicalizer<'a> {
         ty: CompositeInnerType<A>,
     ) -> Result<CompositeInnerType<A>, Error>
         requires small { IsSmall self.now }
-        ensures value { IfOk result (λ c. comp_of c ≡ map_comp (canonical_by self.now) (comp_of ty)) }
+        ensures value { IfOk result (λ c. comp_of c
+            ≡ map_comp (canonical_by self.now) (comp_of ty)) }
         ensures known { Says result (list_all (is_known_by self.now) (refs_comp (comp_of ty))) }
         ensures place { IfErr result (IsAt self.now.offset) }
     {

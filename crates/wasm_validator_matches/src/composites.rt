@@ -16,8 +16,8 @@ use std::alloc::Allocator;
 use wasm_readers_types::{CompositeInnerType, FieldType, ValType};
 use wasm_validator_type_list::{RecGroupId, TypeList};
 
-/// Whether there are as many value types in both lists, and each of the first matches the one at its
-/// place in the second, each in its group.
+/// Whether there are as many value types in both lists, and each of the first matches the one at
+/// its place in the second, each in its group.
 pub(crate) fn all_vals_match<A: Allocator + Copy>(
     types: &TypeList<A>,
     a: WithRecGroup<&[ValType]>,
@@ -25,7 +25,8 @@ pub(crate) fn all_vals_match<A: Allocator + Copy>(
 ) -> bool
     requires sub { ListStands types.now.groups a.rec_group.index a.inner.now }
     requires sup { ListStands types.now.groups b.rec_group.index b.inner.now }
-    ensures { Decides result (AllZip (ValsMatch types.now.groups a.entry.rec_group.index b.entry.rec_group.index) a.entry.inner.now b.entry.inner.now) }
+    ensures { Decides result (AllZip (ValsMatch types.now.groups a.entry.rec_group.index
+        b.entry.rec_group.index) a.entry.inner.now b.entry.inner.now) }
 {
     let subs = a.inner;
     let sups = b.inner;
@@ -54,7 +55,8 @@ pub(crate) fn all_fields_match<A: Allocator + Copy>(
 ) -> bool
     requires sub { All (λ f. AreIn types.now.groups a_group.index (refs_field (field_of f))) a.now }
     requires sup { All (λ f. AreIn types.now.groups b_group.index (refs_field (field_of f))) b.now }
-    ensures { Decides result (FieldListsMatch types.now.groups a_group.index b_group.index a.now b.now) }
+    ensures { Decides result (FieldListsMatch types.now.groups a_group.index
+        b_group.index a.now b.now) }
 {
     if a.len() < b.len() {
         return false;
@@ -81,10 +83,13 @@ pub fn func_signature_matches<A: Allocator + Copy>(
     b_results: WithRecGroup<&[ValType]>,
 ) -> bool
     requires sub_params { ListStands types.now.groups a_params.rec_group.index a_params.inner.now }
-    requires sub_results { ListStands types.now.groups a_results.rec_group.index a_results.inner.now }
+    requires sub_results { ListStands types.now.groups
+        a_results.rec_group.index a_results.inner.now }
     requires sup_params { ListStands types.now.groups b_params.rec_group.index b_params.inner.now }
-    requires sup_results { ListStands types.now.groups b_results.rec_group.index b_results.inner.now }
-    ensures { Decides result (SignaturesAgree types.now.groups a_params.entry a_results.entry b_params.entry b_results.entry) }
+    requires sup_results { ListStands types.now.groups
+        b_results.rec_group.index b_results.inner.now }
+    ensures { Decides result (SignaturesAgree types.now.groups a_params.entry a_results.entry
+        b_params.entry b_results.entry) }
 {
     all_vals_match(types, b_params, a_params) && all_vals_match(types, a_results, b_results)
 }

@@ -32,7 +32,8 @@ pub(crate) fn id_at<A: Allocator + Copy>(
 /// The heap type with the id that its reference leads to.
 fn heap_at<A: Allocator + Copy>(types: &TypeList<A>, group: RecGroupId, heap: HeapType) -> HeapType
     requires { AreIn types.now.groups group.index (refs_heap (heap_of heap)) }
-    ensures same { heap_by_ids result ≡ map_heap (leads_in types.now.groups group.index) (heap_of heap) }
+    ensures same { heap_by_ids result ≡ map_heap
+        (leads_in types.now.groups group.index) (heap_of heap) }
     ensures there { IsHeapOver (length (types_in types.now)) result }
 {
     match heap {

@@ -57,7 +57,8 @@ impl<T> DerefMut for WithRecGroup<T> {
     ghost deref_mut_gives = { λ x part. part ≡ x.inner };
 
     fn deref_mut(&mut self) -> &mut T
-        ensures* writes_back { sem 𝓛 (Lends (the_row T.row) T.row self.entry result (λ part. record { inner = part; rec_group = self.old.rec_group })) }
+        ensures* writes_back { sem 𝓛 (Lends (the_row T.row) T.row self.entry result
+            (λ part. record { inner = part; rec_group = self.old.rec_group })) }
         ensures value { result.now ≡ self.old.inner }
     {
         &mut self.inner

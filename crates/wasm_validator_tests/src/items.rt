@@ -120,7 +120,8 @@ fn takes_two(list: &TypeList, module: &Module, index: u32) -> bool
     }
 }
 
-/// How many functions, tables, memories, globals, imported globals and tags there are, and their size.
+/// How many functions, tables, memories, globals, imported globals and tags there are, and their
+/// size.
 fn counts(module: &Module) -> [u32; 7] {
     let spaces = module.spaces();
     [

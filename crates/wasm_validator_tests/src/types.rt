@@ -58,8 +58,8 @@ fn links_to_another_type_are_counted(rt: HostRuntime) -> Result<(), Fail> {
     Ok(())
 }
 
-/// The reference type that is not null to what this type describes, exactly or not, if the list has the
-/// type.
+/// The reference type that is not null to what this type describes, exactly or not, if the list has
+/// the type.
 fn reference(list: &TypeList, id: u32, is_exact: bool) -> Option<RefType>
     ensures { IfSome result (λ r. IsRefOver (length (types_in list.now)) r) }
 {
@@ -82,8 +82,8 @@ fn plain(ty: AbstractHeapType, shared: bool) -> Option<RefType>
     RefType::new(false, HeapType::Abstract { shared, ty })
 }
 
-/// Whether the reference to the first type is below that to the second, each exactly or not, if the list
-/// has both.
+/// Whether the reference to the first type is below that to the second, each exactly or not, if the
+/// list has both.
 fn is_below(list: &TypeList, a: (u32, bool), b: (u32, bool)) -> Option<bool> {
     let a = reference(list, a.0, a.1)?;
     let b = reference(list, b.0, b.1)?;
@@ -102,8 +102,8 @@ fn references_are_ordered_as_declared(rt: HostRuntime) -> Result<(), Fail> {
     Ok(())
 }
 
-/// Whether the reference to the type, or null, is below that to the abstract heap type, or null, if the list
-/// has the type.
+/// Whether the reference to the type, or null, is below that to the abstract heap type, or null, if
+/// the list has the type.
 fn is_below_plain(list: &TypeList, id: u32, ty: AbstractHeapType, shared: bool) -> Option<bool> {
     let a = reference(list, id, false)?;
     let b = plain(ty, shared)?;
@@ -133,8 +133,8 @@ fn types_are_below_abstract_ones(rt: HostRuntime) -> Result<(), Fail> {
     Ok(())
 }
 
-/// Of the first type: whether the reference is below the one or null, and that below it; whether it is
-/// shared; and whether its top is that of all but functions and what comes from outside.
+/// Of the first type: whether the reference is below the one or null, and that below it; whether it
+/// is shared; and whether its top is that of all but functions and what comes from outside.
 fn answers_on_first(list: &TypeList) -> Option<[bool; 4]> {
     let zero = reference(list, 0, false)?;
     let nullable = zero.nullable();

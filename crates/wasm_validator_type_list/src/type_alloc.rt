@@ -42,7 +42,8 @@ impl<A: Allocator> DerefMut for TypeAlloc<A> {
     ghost deref_mut_gives = { λ types list. list ≡ types.list };
 
     fn deref_mut(&mut self) -> &mut TypeList<A>
-        ensures* writes_back { sem 𝓛 (Lends (the_row A.row A.Allocator) (list_row A.row A.Allocator) self.entry result (λ list. record { list = list })) }
+        ensures* writes_back { sem 𝓛 (Lends (the_row A.row A.Allocator) (list_row A.row A.Allocator)
+            self.entry result (λ list. record { list = list })) }
         ensures value { result.now ≡ self.old.list }
     {
         &mut self.list

@@ -123,7 +123,8 @@ impl<A: Allocator + Copy> TypeList<A> {
 
     /// The type with this id, if there is one.
     pub fn get(&self, id: CoreTypeId) -> Option<&SubType<A>>
-        ensures found { IfSome result (λ ty. ty.now ≡ slice_index_or (types_in self.now) id.index ty.now) }
+        ensures found { IfSome result (λ ty. ty.now
+            ≡ slice_index_or (types_in self.now) id.index ty.now) }
         ensures when { IsSome result ↔ (id.index < length (types_in self.now)) }
     {
         self.groups.get(id.index())
@@ -185,7 +186,8 @@ impl<A: Allocator + Copy> TypeList<A> {
     ) -> Result<CoreTypeId, Refusal>
         requires { group.index < length self.now.groups }
         ensures id { IfOk result (λ id. id.index ≡ first_of self.now.groups group.index + index) }
-        ensures inside { IsOk result ↔ (first_of self.now.groups group.index + index < first_of self.now.groups (group.index + 1)) }
+        ensures inside { IsOk result ↔ (first_of self.now.groups group.index + index
+            < first_of self.now.groups (group.index + 1)) }
         ensures err { IfErr result (λ e. e ≡ not_in_group index offset) }
     {
         local_id(self.groups.members(group.index()), index, offset)
@@ -206,8 +208,10 @@ impl<A: Allocator + Copy> TypeList<A> {
     ) -> Result<CoreTypeId, Refusal>
         requires group { group.index < length self.now.groups }
         requires not_module { module_of index ≡ None }
-        ensures id { IfOk result (λ id. id.index ≡ leads_to (first_of self.now.groups group.index) index) }
-        ensures leads { IsOk result ↔ Leads (first_of self.now.groups group.index) (first_of self.now.groups (group.index + 1)) index }
+        ensures id { IfOk result (λ id. id.index
+            ≡ leads_to (first_of self.now.groups group.index) index) }
+        ensures leads { IsOk result ↔ Leads (first_of self.now.groups group.index)
+            (first_of self.now.groups (group.index + 1)) index }
         ensures err { IfErr result (λ e. e ≡ not_in_group (number_of index) offset) }
     {
         match index {
@@ -230,8 +234,10 @@ impl<A: Allocator + Copy> TypeList<A> {
     ) -> Result<CoreTypeId, Refusal>
         requires group { group.index < length self.now.groups }
         requires not_module { module_of index.unpacked ≡ None }
-        ensures id { IfOk result (λ id. id.index ≡ leads_to (first_of self.now.groups group.index) index.unpacked) }
-        ensures leads { IsOk result ↔ Leads (first_of self.now.groups group.index) (first_of self.now.groups (group.index + 1)) index.unpacked }
+        ensures id { IfOk result (λ id. id.index
+            ≡ leads_to (first_of self.now.groups group.index) index.unpacked) }
+        ensures leads { IsOk result ↔ Leads (first_of self.now.groups group.index)
+            (first_of self.now.groups (group.index + 1)) index.unpacked }
         ensures err { IfErr result (λ e. e ≡ not_in_group (number_of index.unpacked) offset) }
     {
         self.at_canonicalized_unpacked_index(group, index.unpack(), offset)

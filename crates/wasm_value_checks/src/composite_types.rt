@@ -21,9 +21,11 @@ use wasm_readers_types::{
 
 /// Accepts where the features allow all of these.
 fn check_value_types(features: WasmFeatures, types: &[ValType], offset: u64) -> Result<(), Refusal>
-    ensures allowed { is_ok result ≡ list_all (allows_val (features_of features)) (map val_of types.now) }
+    ensures allowed { is_ok result ≡ list_all (allows_val (features_of features))
+        (map val_of types.now) }
     ensures refusal { IfErr result (IsMissing features offset) }
-    ensures told { refused result ≡ first_told (told_of_val features offset) (map val_of types.now) }
+    ensures told { refused result ≡ first_told (told_of_val features offset)
+        (map val_of types.now) }
 {
     for ty in types {
         check_value_type(features, *ty, offset)?;
@@ -45,9 +47,11 @@ fn check_storage_type(features: WasmFeatures, ty: StorageType, offset: u64) -> R
 
 /// Accepts where the features allow what each of these fields holds.
 fn check_fields(features: WasmFeatures, fields: &[FieldType], offset: u64) -> Result<(), Refusal>
-    ensures allowed { is_ok result ≡ list_all (allows_storage (features_of features)) (map field_storage (map field_of fields.now)) }
+    ensures allowed { is_ok result ≡ list_all (allows_storage (features_of features))
+        (map field_storage (map field_of fields.now)) }
     ensures refusal { IfErr result (IsMissing features offset) }
-    ensures told { refused result ≡ first_told (told_of_field features offset) (map field_of fields.now) }
+    ensures told { refused result ≡ first_told (told_of_field features offset)
+        (map field_of fields.now) }
 {
     for field in fields {
         check_storage_type(features, field.element_type, offset)?;

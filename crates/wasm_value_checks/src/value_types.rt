@@ -21,9 +21,11 @@ fn check_abstract_needs(
     ty: AbstractHeapType,
     offset: u64,
 ) -> Result<(), Refusal>
-    ensures allowed { is_ok result ≡ abstract_needs (features_of features) nullable (abstract_heap_of ty) }
+    ensures allowed { is_ok result ≡ abstract_needs (features_of features) nullable
+        (abstract_heap_of ty) }
     ensures refusal { IfErr result (IsMissing features offset) }
-    ensures told { refused result ≡ told_of_abstract features offset nullable (abstract_heap_of ty) }
+    ensures told { refused result ≡ told_of_abstract features offset nullable
+        (abstract_heap_of ty) }
 {
     let (feature, rule) = match ty {
         AbstractHeapType::Func | AbstractHeapType::Extern => {
@@ -64,9 +66,11 @@ fn check_abstract_heap_type(
     ty: AbstractHeapType,
     offset: u64,
 ) -> Result<(), Refusal>
-    ensures allowed { is_ok result ≡ allows_heap {R = UnpackedIndex} (features_of features) nullable (abstract_heap shared (abstract_heap_of ty)) }
+    ensures allowed { is_ok result ≡ allows_heap {R = UnpackedIndex} (features_of features) nullable
+        (abstract_heap shared (abstract_heap_of ty)) }
     ensures refusal { IfErr result (IsMissing features offset) }
-    ensures told { refused result ≡ told_of_heap features offset {R = UnpackedIndex} nullable (abstract_heap shared (abstract_heap_of ty)) }
+    ensures told { refused result ≡ told_of_heap features offset {R = UnpackedIndex} nullable
+        (abstract_heap shared (abstract_heap_of ty)) }
 {
     if shared {
         let fault = Fault::ValueType(ValueTypeRule::SharedReferences);

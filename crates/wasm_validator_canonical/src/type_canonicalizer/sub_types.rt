@@ -14,8 +14,8 @@ use wasm_readers_errors::{DescriptorRule, Error, Fault, GroupRule, Refusal};
 use wasm_readers_types::{CompositeType, Items, PackedIndex, SubType, UnpackedIndex};
 
 impl<'a> TypeCanonicalizer<'a> {
-    /// The index of a type before the one at the index `before`, as the list has it. Any other type index
-    /// is refused for this fault.
+    /// The index of a type before the one at the index `before`, as the list has it. Any other type
+    /// index is refused for this fault.
     fn earlier(&self, index: PackedIndex, before: u32, fault: Fault) -> Result<PackedIndex, Refusal>
         requires small { IsSmall self.now }
         requires inside { before ≤ self.now.end }
@@ -35,8 +35,8 @@ impl<'a> TypeCanonicalizer<'a> {
         }
     }
 
-    /// The supertypes of the type at the index `before`, as the list has them. It takes memory only where
-    /// there is one.
+    /// The supertypes of the type at the index `before`, as the list has them. It takes memory only
+    /// where there is one.
     fn supertypes<A: Allocator + Copy>(
         &self,
         alloc: A,
@@ -45,7 +45,8 @@ impl<'a> TypeCanonicalizer<'a> {
     ) -> Result<Items<PackedIndex, A>, Error>
         requires small { IsSmall self.now }
         requires inside { before ≤ self.now.end }
-        ensures value { IfOk result (λ ps. map index_of ps ≡ map (canonical_by self.now) (map index_of indices.now)) }
+        ensures value { IfOk result (λ ps. map index_of ps
+            ≡ map (canonical_by self.now) (map index_of indices.now)) }
         ensures known { Says result (list_all (is_earlier before) (map index_of indices.now)) }
         ensures place { IfErr result (IsAt self.now.offset) }
     {
@@ -68,8 +69,10 @@ impl<'a> TypeCanonicalizer<'a> {
     ) -> Result<Option<PackedIndex>, Refusal>
         requires small { IsSmall self.now }
         requires inside { before ≤ self.now.end }
-        ensures value { IfOk result (λ o. option_map index_of o ≡ option_map (canonical_by self.now) (option_map index_of index)) }
-        ensures known { is_ok result ≡ list_all (is_earlier before) (refs_option (option_map index_of index)) }
+        ensures value { IfOk result (λ o. option_map index_of o
+            ≡ option_map (canonical_by self.now) (option_map index_of index)) }
+        ensures known { is_ok result ≡ list_all (is_earlier before)
+            (refs_option (option_map index_of index)) }
         ensures place { IfErr result (λ r. r.offset ≡ self.now.offset) }
     {
         match index {
@@ -84,8 +87,10 @@ impl<'a> TypeCanonicalizer<'a> {
     /// The type of a type's descriptors, as the list has it.
     fn descriptor(&self, index: Option<PackedIndex>) -> Result<Option<PackedIndex>, Refusal>
         requires { IsSmall self.now }
-        ensures value { IfOk result (λ o. option_map index_of o ≡ option_map (canonical_by self.now) (option_map index_of index)) }
-        ensures known { is_ok result ≡ list_all (is_known_by self.now) (refs_option (option_map index_of index)) }
+        ensures value { IfOk result (λ o. option_map index_of o
+            ≡ option_map (canonical_by self.now) (option_map index_of index)) }
+        ensures known { is_ok result ≡ list_all (is_known_by self.now)
+            (refs_option (option_map index_of index)) }
         ensures place { IfErr result (λ r. r.offset ≡ self.now.offset) }
     {
         match index {
@@ -103,10 +108,13 @@ impl<'a> TypeCanonicalizer<'a> {
     ) -> Result<CompositeType<A>, Error>
         requires small { IsSmall self.now }
         requires inside { index ≤ self.now.end }
-        ensures inner { IfOk result (λ c. comp_of c.inner ≡ map_comp (canonical_by self.now) (comp_of ty.inner)) }
+        ensures inner { IfOk result (λ c. comp_of c.inner
+            ≡ map_comp (canonical_by self.now) (comp_of ty.inner)) }
         ensures shared { IfOk result (λ c. c.shared ≡ ty.shared) }
-        ensures descriptor { IfOk result (λ c. IsCanonicalOf self.now ty.descriptor_idx c.descriptor_idx) }
-        ensures describes { IfOk result (λ c. IsCanonicalOf self.now ty.describes_idx c.describes_idx) }
+        ensures descriptor { IfOk result (λ c. IsCanonicalOf self.now
+            ty.descriptor_idx c.descriptor_idx) }
+        ensures describes { IfOk result (λ c. IsCanonicalOf self.now
+            ty.describes_idx c.describes_idx) }
         ensures known { Says result (knows_composite self.now index ty) }
         ensures place { IfErr result (IsAt self.now.offset) }
     {
@@ -157,15 +165,16 @@ impl<'a> TypeCanonicalizer<'a> {
         }
     }
 
-    /// The sub types of the group, with their indices as the list has them. What a type extends and what it
-    /// describes come before it; any other reference is to a type before the group, or with gc to one in
-    /// it.
+    /// The sub types of the group, with their indices as the list has them. What a type extends and
+    /// what it describes come before it; any other reference is to a type before the group, or with
+    /// gc to one in it.
     ///
     /// Core Specification 3.0, Validation, Types (Recursive Types).
     ///
     /// # Errors
     ///
-    /// Refused, at the offset of the group, where an index is out of these bounds; and where memory is.
+    /// Refused, at the offset of the group, where an index is out of these bounds; and where memory
+    /// is.
     pub fn sub_types<A: Allocator + Copy>(
         &self,
         alloc: A,
@@ -173,8 +182,10 @@ impl<'a> TypeCanonicalizer<'a> {
     ) -> Result<Vec<SubType<A>, A>, Error>
         requires small { IsSmall self.now }
         requires whole { self.now.end ≡ length self.now.ids.now + length types.items }
-        ensures value { IfOk result (λ ss. map sub_of ss.items ≡ map (map_sub (canonical_by self.now)) (map sub_of types.items)) }
-        ensures known { Says result (are_bound_by self.now (length self.now.ids.now) (map sub_of types.items)) }
+        ensures value { IfOk result (λ ss. map sub_of ss.items
+            ≡ map (map_sub (canonical_by self.now)) (map sub_of types.items)) }
+        ensures known { Says result (are_bound_by self.now (length self.now.ids.now)
+            (map sub_of types.items)) }
         ensures place { IfErr result (IsAt self.now.offset) }
     {
         let mut canonical = Vec::new(alloc);

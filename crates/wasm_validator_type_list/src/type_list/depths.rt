@@ -23,7 +23,8 @@ impl<A: Allocator + Copy> TypeList<A> {
         requires there { id.index < length (types_in self.old) }
         requires once { depth_of self.old.depths id.index ≡ None }
         requires right { IsDepth (declares self.old.groups) id.index depth }
-        ensures ok { OnOk result (self.new ≡ with_depths self.old (with_depth self.old.depths id.index depth)) }
+        ensures ok { OnOk result (self.new ≡ with_depths self.old
+            (with_depth self.old.depths id.index depth)) }
         ensures err { OnErr result (self.new ≡ self.old) }
     {
         self.depths.reserve(1)?;

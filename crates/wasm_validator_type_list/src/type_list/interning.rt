@@ -19,14 +19,14 @@ use wasm_readers_errors::{Error, Fault, Refusal, Rule};
 use wasm_readers_types::{CoreTypeId, FuncType, MAX_IDS, RecGroup, SubType};
 
 impl<A: Allocator + Copy> TypeList<A> {
-    /// Adds the group, or finds it: says whether it is new, and its id. `is_canonical` is the list's
-    /// own mode; only where it is set are groups found. `offset` is where the group stands in the
-    /// input.
+    /// Adds the group, or finds it: says whether it is new, and its id. `is_canonical` is the
+    /// list's own mode; only where it is set are groups found. `offset` is where the group stands
+    /// in the input.
     ///
     /// # Errors
     ///
-    /// Refused where the types of the list and those of the group are more than [`MAX_IDS`], even if
-    /// the group would be found; and where memory is. The list then stays as it was.
+    /// Refused where the types of the list and those of the group are more than [`MAX_IDS`], even
+    /// if the group would be found; and where memory is. The list then stays as it was.
     pub fn intern_canonical_rec_group(
         &mut self,
         is_canonical: bool,
@@ -38,11 +38,13 @@ impl<A: Allocator + Copy> TypeList<A> {
         requires members { is_canonical ≡ false → 0 < length group.types }
         requires listable { IsListable (length (types_in self.old)) group.types }
         ensures interned { IfOk result (λ r. Interns self.old self.new group.types r.0 r.1.index) }
-        ensures types { IfOk result (λ r. InternsTypes self.old self.new group.types r.0 r.1.index) }
+        ensures types { IfOk result (λ r. InternsTypes self.old self.new
+            group.types r.0 r.1.index) }
         ensures same_mode { self.new.is_canonical ≡ self.old.is_canonical }
         ensures same_open { self.new.is_open ≡ self.old.is_open }
         ensures err { OnErr result (self.new ≡ self.old) }
-        ensures limit { RefusesTooMany result (length (types_in self.old) + length group.types) offset }
+        ensures limit { RefusesTooMany result (length (types_in self.old) +
+            length group.types) offset }
     {
         if group.types().len() > MAX_IDS as usize - self.groups.item_count() {
             let refusal = Refusal::new(Fault::Rule(Rule::TooManyTypes), offset);
@@ -95,8 +97,10 @@ impl<A: Allocator + Copy> TypeList<A> {
         offset: u64,
     ) -> Result<CoreTypeId, Error>
         requires open { IsTrue self.old.is_open }
-        requires known { All (IsKnown (length (types_in self.old)) 1) (refs_comp (func_of signature)) }
-        ensures interned { IfOk result (λ id. InternsSeen self.old self.new (final_func (func_of signature) false) id.index) }
+        requires known { All (IsKnown (length (types_in self.old)) 1)
+            (refs_comp (func_of signature)) }
+        ensures interned { IfOk result (λ id. InternsSeen self.old self.new
+            (final_func (func_of signature) false) id.index) }
         ensures same_mode { self.new.is_canonical ≡ self.old.is_canonical }
         ensures same_open { self.new.is_open ≡ self.old.is_open }
         ensures err { OnErr result (self.new ≡ self.old) }
@@ -117,9 +121,11 @@ fn put_known<A: Allocator + Copy>(
     requires room { length (all_in groups.old) + length group.types < 2 ^ 32 }
     requires group_room { length groups.old < 2 ^ 32 }
     ensures groups { OnOk result (groups.new ≡ groups.old ++ group.types ∷ []) }
-    ensures known { OnOk result (FindsOneMore (hash.get group_equal known.old) group number (hash.get group_equal known.new)) }
+    ensures known { OnOk result (FindsOneMore (hash.get group_equal known.old) group number
+        (hash.get group_equal known.new)) }
     ensures same_groups { OnErr result (groups.new ≡ groups.old) }
-    ensures same_known { OnErr result ((q : RecGroup A) → hash.get group_equal known.new q ≡ hash.get group_equal known.old q) }
+    ensures same_known { OnErr result ((q : RecGroup A)
+        → hash.get group_equal known.new q ≡ hash.get group_equal known.old q) }
 {
     let members = copy_of(alloc, group.types())?;
     known.reserve(1)?;

@@ -48,7 +48,8 @@ impl<A: Allocator + Copy> TypeList<A> {
     fn refs_match(&self, a: WithRecGroup<RefType>, b: WithRecGroup<RefType>) -> bool
         requires sub { AreIn self.now.groups a.rec_group.index (refs_heap (ref_of a.inner).heap) }
         requires sup { AreIn self.now.groups b.rec_group.index (refs_heap (ref_of b.inner).heap) }
-        ensures { Decides result (RefsMatch self.now.groups a.rec_group.index b.rec_group.index a.inner b.inner) }
+        ensures { Decides result (RefsMatch self.now.groups a.rec_group.index
+            b.rec_group.index a.inner b.inner) }
     {
         if a.inner.is_nullable() && !b.inner.is_nullable() {
             return false;
@@ -63,7 +64,8 @@ impl<A: Allocator + Copy> TypeList<A> {
     fn vals_match(&self, a: WithRecGroup<ValType>, b: WithRecGroup<ValType>) -> bool
         requires sub { AreIn self.now.groups a.rec_group.index (refs_val (val_of a.inner)) }
         requires sup { AreIn self.now.groups b.rec_group.index (refs_val (val_of b.inner)) }
-        ensures { Decides result (ValsMatch self.now.groups a.rec_group.index b.rec_group.index a.inner b.inner) }
+        ensures { Decides result (ValsMatch self.now.groups a.rec_group.index
+            b.rec_group.index a.inner b.inner) }
     {
         match (a.inner, b.inner) {
             (ValType::Ref(sub), ValType::Ref(sup)) => self.refs_match(
@@ -84,7 +86,8 @@ impl<A: Allocator + Copy> TypeList<A> {
     fn storages_match(&self, a: WithRecGroup<StorageType>, b: WithRecGroup<StorageType>) -> bool
         requires sub { AreIn self.now.groups a.rec_group.index (refs_storage (storage_of a.inner)) }
         requires sup { AreIn self.now.groups b.rec_group.index (refs_storage (storage_of b.inner)) }
-        ensures { Decides result (StoragesMatch self.now.groups a.rec_group.index b.rec_group.index a.inner b.inner) }
+        ensures { Decides result (StoragesMatch self.now.groups a.rec_group.index
+            b.rec_group.index a.inner b.inner) }
     {
         match (a.inner, b.inner) {
             (StorageType::Val(sub), StorageType::Val(sup)) => self.vals_match(
@@ -101,7 +104,8 @@ impl<A: Allocator + Copy> TypeList<A> {
     fn fields_match(&self, a: WithRecGroup<FieldType>, b: WithRecGroup<FieldType>) -> bool
         requires sub { AreIn self.now.groups a.rec_group.index (refs_field (field_of a.inner)) }
         requires sup { AreIn self.now.groups b.rec_group.index (refs_field (field_of b.inner)) }
-        ensures { Decides result (FieldsMatch self.now.groups a.rec_group.index b.rec_group.index a.inner b.inner) }
+        ensures { Decides result (FieldsMatch self.now.groups a.rec_group.index
+            b.rec_group.index a.inner b.inner) }
     {
         if a.inner.mutable != b.inner.mutable {
             return false;
@@ -112,8 +116,8 @@ impl<A: Allocator + Copy> TypeList<A> {
     }
 }
 
-/// Whether there are as many value types in both lists, and each of the first matches the one at its
-/// place in the second, each in its group.
+/// Whether there are as many value types in both lists, and each of the first matches the one at
+/// its place in the second, each in its group.
 fn all_vals_match<A: Allocator + Copy>(
     types: &TypeList<A>,
     a_group: RecGroupId,
@@ -123,7 +127,8 @@ fn all_vals_match<A: Allocator + Copy>(
 ) -> bool
     requires sub { All (λ v. AreIn types.now.groups a_group.index (refs_val (val_of v))) a.now }
     requires sup { All (λ v. AreIn types.now.groups b_group.index (refs_val (val_of v))) b.now }
-    ensures { Decides result (AllZip (ValsMatch types.now.groups a_group.index b_group.index) a.now b.now) }
+    ensures { Decides result (AllZip (ValsMatch types.now.groups a_group.index
+        b_group.index) a.now b.now) }
 {
     if a.len() != b.len() {
         return false;
@@ -150,7 +155,8 @@ fn all_fields_match<A: Allocator + Copy>(
 ) -> bool
     requires sub { All (λ f. AreIn types.now.groups a_group.index (refs_field (field_of f))) a.now }
     requires sup { All (λ f. AreIn types.now.groups b_group.index (refs_field (field_of f))) b.now }
-    ensures { Decides result (FieldListsMatch types.now.groups a_group.index b_group.index a.now b.now) }
+    ensures { Decides result (FieldListsMatch types.now.groups a_group.index
+        b_group.index a.now b.now) }
 {
     if a.len() < b.len() {
         return false;
@@ -203,8 +209,8 @@ fn inners_match<A: Allocator + Copy>(
     }
 }
 
-/// Whether the composite type of the first sub type with its shared flag matches that of the second,
-/// each in its group.
+/// Whether the composite type of the first sub type with its shared flag matches that of the
+/// second, each in its group.
 fn subs_match<A: Allocator + Copy>(
     types: &TypeList<A>,
     a_group: RecGroupId,
@@ -212,8 +218,10 @@ fn subs_match<A: Allocator + Copy>(
     b_group: RecGroupId,
     b: &SubType<A>,
 ) -> bool
-    requires sub { AreIn types.now.groups a_group.index (refs_comp (comp_of a.now.composite_type.inner)) }
-    requires sup { AreIn types.now.groups b_group.index (refs_comp (comp_of b.now.composite_type.inner)) }
+    requires sub { AreIn types.now.groups a_group.index
+        (refs_comp (comp_of a.now.composite_type.inner)) }
+    requires sup { AreIn types.now.groups b_group.index
+        (refs_comp (comp_of b.now.composite_type.inner)) }
     ensures { Decides result (SubsMatch types.now.groups a_group.index b_group.index a.now b.now) }
 {
     let sub = &a.composite_type;
@@ -222,9 +230,9 @@ fn subs_match<A: Allocator + Copy>(
 }
 
 impl<A: Allocator + Copy> TypeList<A> {
-    /// Whether the composite type of the first type with its shared flag matches that of the second,
-    /// whether or not the first extends the second (Core Specification 3.0, Validation, Matching,
-    /// Composite Types).
+    /// Whether the composite type of the first type with its shared flag matches that of the
+    /// second, whether or not the first extends the second (Core Specification 3.0, Validation,
+    /// Matching, Composite Types).
     pub fn matches(&self, a: CoreTypeId, b: CoreTypeId) -> bool
         requires sub { a.index < length (types_in self.now) }
         requires sup { b.index < length (types_in self.now) }

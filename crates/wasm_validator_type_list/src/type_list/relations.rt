@@ -28,15 +28,16 @@ impl<A: Allocator + Copy> TypeList<A> {
         self.id_is_subtype_counted(a, b, &mut count)
     }
 
-    /// The same, and adds one to the count for each supertype link that is read: no more than lead from
-    /// the first type to the second, or where this isn't an ancestor than the first has proper
+    /// The same, and adds one to the count for each supertype link that is read: no more than lead
+    /// from the first type to the second, or where this isn't an ancestor than the first has proper
     /// ancestors; and one at least where the first has more of these than the second.
     pub fn id_is_subtype_counted(&self, a: CoreTypeId, b: CoreTypeId, count: &mut LinkCount) -> bool
         requires sub { a.index < length (types_in self.now) }
         requires sup { b.index < length (types_in self.now) }
         requires room { count.old.links < 2 ^ 63 }
         ensures decides { Decides result (IsAncestor (declares self.now.groups) a.index b.index) }
-        ensures counts { Counts (declares self.now.groups) a.index b.index count.old.links count.new.links }
+        ensures counts { Counts (declares self.now.groups) a.index b.index
+            count.old.links count.new.links }
     {
         // What is always true of the list is known from here on.
         let _groups = &self.groups;
@@ -58,7 +59,8 @@ impl<A: Allocator + Copy> TypeList<A> {
     pub fn reftype_is_subtype(&self, a: RefType, b: RefType) -> bool
         requires sub { IsRefOver (length (types_in self.now)) a }
         requires sup { IsRefOver (length (types_in self.now)) b }
-        ensures { Decides result (MatchesRef (declares self.now.groups) (ref_by_ids a) (ref_by_ids b)) }
+        ensures { Decides result (MatchesRef (declares self.now.groups)
+            (ref_by_ids a) (ref_by_ids b)) }
     {
         if a.is_nullable() && !b.is_nullable() {
             return false;
@@ -71,7 +73,8 @@ impl<A: Allocator + Copy> TypeList<A> {
     pub fn valtype_is_subtype(&self, a: ValType, b: ValType) -> bool
         requires sub { IsValOver (length (types_in self.now)) a }
         requires sup { IsValOver (length (types_in self.now)) b }
-        ensures { Decides result (MatchesVal (declares self.now.groups) (val_by_ids a) (val_by_ids b)) }
+        ensures { Decides result (MatchesVal (declares self.now.groups)
+            (val_by_ids a) (val_by_ids b)) }
     {
         match (a, b) {
             (ValType::Ref(a), ValType::Ref(b)) => self.reftype_is_subtype(a, b),
@@ -106,7 +109,8 @@ impl<A: Allocator + Copy> TypeList<A> {
     /// The greatest heap type of the hierarchy that the heap type stands in, with its shared flag.
     pub fn top_type(&self, heap: &HeapType) -> HeapType
         requires { IsHeapOver (length (types_in self.now)) heap.now }
-        ensures { top_of_heap (declares self.now.groups) (heap_by_ids heap.now) ≡ Some (heap_by_ids result) }
+        ensures { top_of_heap (declares self.now.groups) (heap_by_ids heap.now)
+            ≡ Some (heap_by_ids result) }
     {
         match *heap {
             HeapType::Abstract { shared, ty } => HeapType::Abstract {
@@ -141,7 +145,8 @@ impl<A: Allocator + Copy> TypeList<A> {
     /// The greatest heap type of the hierarchy that the type stands in, with its shared flag.
     fn top_of_type(&self, id: CoreTypeId) -> HeapType
         requires { id.index < length (types_in self.now) }
-        ensures { top_of_heap (declares self.now.groups) (concrete id.index) ≡ Some (heap_by_ids result) }
+        ensures { top_of_heap (declares self.now.groups) (concrete id.index)
+            ≡ Some (heap_by_ids result) }
     {
         let composite = &self[id].composite_type;
         HeapType::Abstract {
@@ -154,7 +159,8 @@ impl<A: Allocator + Copy> TypeList<A> {
     pub(super) fn heap_is_subtype(&self, a: HeapType, b: HeapType) -> bool
         requires sub { IsHeapOver (length (types_in self.now)) a }
         requires sup { IsHeapOver (length (types_in self.now)) b }
-        ensures { Decides result (MatchesHeap (declares self.now.groups) (heap_by_ids a) (heap_by_ids b)) }
+        ensures { Decides result (MatchesHeap (declares self.now.groups)
+            (heap_by_ids a) (heap_by_ids b)) }
     {
         match a {
             HeapType::Abstract { shared, ty } => self.abstract_matches(shared, ty, b),
@@ -166,7 +172,8 @@ impl<A: Allocator + Copy> TypeList<A> {
     /// Whether the abstract heap type matches the heap type.
     fn abstract_matches(&self, shared: bool, ty: AbstractHeapType, b: HeapType) -> bool
         requires { IsHeapOver (length (types_in self.now)) b }
-        ensures { Decides result (MatchesHeap (declares self.now.groups) (abstract_heap shared (abstract_heap_of ty)) (heap_by_ids b)) }
+        ensures { Decides result (MatchesHeap (declares self.now.groups)
+            (abstract_heap shared (abstract_heap_of ty)) (heap_by_ids b)) }
     {
         match b {
             HeapType::Abstract {
@@ -183,7 +190,8 @@ impl<A: Allocator + Copy> TypeList<A> {
     fn concrete_matches(&self, id: CoreTypeId, b: HeapType) -> bool
         requires sub { id.index < length (types_in self.now) }
         requires sup { IsHeapOver (length (types_in self.now)) b }
-        ensures { Decides result (MatchesHeap (declares self.now.groups) (concrete id.index) (heap_by_ids b)) }
+        ensures { Decides result (MatchesHeap (declares self.now.groups)
+            (concrete id.index) (heap_by_ids b)) }
     {
         match b {
             HeapType::Abstract { shared, ty } => self.matches_kind(id, shared, ty),
@@ -196,7 +204,8 @@ impl<A: Allocator + Copy> TypeList<A> {
     fn exact_matches(&self, id: CoreTypeId, b: HeapType) -> bool
         requires sub { id.index < length (types_in self.now) }
         requires sup { IsHeapOver (length (types_in self.now)) b }
-        ensures { Decides result (MatchesHeap (declares self.now.groups) (exact id.index) (heap_by_ids b)) }
+        ensures { Decides result (MatchesHeap (declares self.now.groups)
+            (exact id.index) (heap_by_ids b)) }
     {
         match b {
             HeapType::Abstract { shared, ty } => self.matches_kind(id, shared, ty),
@@ -208,7 +217,8 @@ impl<A: Allocator + Copy> TypeList<A> {
     /// Whether the type has this shared flag, and its kind matches the abstract heap type.
     fn matches_kind(&self, id: CoreTypeId, shared: bool, ty: AbstractHeapType) -> bool
         requires { id.index < length (types_in self.now) }
-        ensures { Decides result (MatchesKind (declares self.now.groups) id.index shared (abstract_heap_of ty)) }
+        ensures { Decides result (MatchesKind (declares self.now.groups) id.index shared
+            (abstract_heap_of ty)) }
     {
         let composite = &self[id].composite_type;
         composite.shared == shared && abstract_is_subtype(kind(&composite.inner), ty)
@@ -217,7 +227,8 @@ impl<A: Allocator + Copy> TypeList<A> {
     /// Whether the type has this shared flag, and the abstract heap type is that below its kind.
     fn is_above_bottom(&self, id: CoreTypeId, shared: bool, ty: AbstractHeapType) -> bool
         requires { id.index < length (types_in self.now) }
-        ensures { Decides result (IsAboveBottom (declares self.now.groups) id.index shared (abstract_heap_of ty)) }
+        ensures { Decides result (IsAboveBottom (declares self.now.groups) id.index shared
+            (abstract_heap_of ty)) }
     {
         let composite = &self[id].composite_type;
         composite.shared == shared && is_bottom(&composite.inner, ty)
