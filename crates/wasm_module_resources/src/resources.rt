@@ -137,7 +137,8 @@ pub trait WasmModuleResources {
     fn top_type(&self, heap_type: &HeapType) -> HeapType
         requires { IsSome (top_of_heap (world (context self.now)).declared
             (heap_of heap_type.now)) }
-        ensures { top_of_heap (world (context self.now)).declared (heap_of heap_type.now) ≡ Some (heap_of result) };
+        ensures { top_of_heap (world (context self.now)).declared (heap_of heap_type.now)
+            ≡ Some (heap_of result) };
 
     /// How many element segments there are.
     fn element_count(&self) -> u32
@@ -156,5 +157,6 @@ pub trait WasmModuleResources {
     fn has_function_exact_type(&self, function_index: u32) -> bool
         ensures exact { result ≡ passes (λ b. b)
             (slice_get (context self.now).exact function_index) }
-        ensures told { IsSome (slice_get (context self.now).functions function_index) → IsSome (slice_get (context self.now).exact function_index) };
+        ensures told { IsSome (slice_get (context self.now).functions function_index)
+            → IsSome (slice_get (context self.now).exact function_index) };
 }

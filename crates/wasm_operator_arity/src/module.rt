@@ -35,12 +35,15 @@ pub trait ModuleArity {
     /// The function type of a continuation type that has an id: none where it has another index, or
     /// where the id's type isn't a function type.
     fn func_type_of_cont_type(&self, cont_type: &ContType) -> Option<&FuncType<Self::A>>
-        ensures { option_map (λ f. func_of f.now) result ≡ option_and_then (λ d. func_alone d.comp) (type_of_id (asked self.now) (index_of cont_type.now.0)) };
+        ensures { option_map (λ f. func_of f.now) result
+            ≡ option_and_then (λ d. func_alone d.comp)
+            (type_of_id (asked self.now) (index_of cont_type.now.0)) };
 
     /// The type that a reference type names by its id: none where it is abstract or has another
     /// index.
     fn sub_type_of_ref_type(&self, ref_type: &RefType) -> Option<&SubType<Self::A>>
-        ensures { option_map (λ t. sub_of t.now) result ≡ option_and_then (type_of_id (asked self.now)) (index_in (ref_of ref_type.now).heap) };
+        ensures { option_map (λ t. sub_of t.now) result
+            ≡ option_and_then (type_of_id (asked self.now)) (index_in (ref_of ref_type.now).heap) };
 
     /// How many frames the body has open.
     fn control_stack_height(&self) -> u32
@@ -49,5 +52,6 @@ pub trait ModuleArity {
     /// The block type and the kind of the frame of this label, counted from the innermost, if there
     /// is one.
     fn label_block(&self, depth: u32) -> Option<(BlockType, FrameKind)>
-        ensures { option_map (λ x. (block_of x.0, kind_of x.1)) result ≡ slice_get (asked self.now).frames depth };
+        ensures { option_map (λ x. (block_of x.0, kind_of x.1)) result
+            ≡ slice_get (asked self.now).frames depth };
 }

@@ -80,7 +80,8 @@ impl<'a, T: Immediate<'a>> Iterator for ListedItems<'a, T> {
 
     ghost can_next = { λ _. Unit {0} };
 
-    ghost next_gives = { λ s r t. GivesFront (items_left T.encoded s) (option_map T.value r) (items_left T.encoded t) };
+    ghost next_gives = { λ s r t. GivesFront (items_left T.encoded s) (option_map T.value r)
+        (items_left T.encoded t) };
 
     ghost remaining = { λ s. at_most (most_left s) };
 

@@ -206,7 +206,10 @@ impl<'a, T: FromReader<'a, A>, A: Allocator + Copy> Iterator for SectionItems<'a
 
     ghost can_next = { λ _. Unit {0} };
 
-    ghost next_gives = { λ s r t. ItemGives T.encoded T.value (items_done s) (items_left s) (items_rest s) r (items_done t) (items_left t) (items_rest t) × StandsAt (next_item_at s) r × SameSection s t × IfSome r (λ item. IfErr item (ItemsFailedFrom s)) × TakesNothing s r t };
+    ghost next_gives = { λ s r t. ItemGives T.encoded T.value (items_done s) (items_left s)
+        (items_rest s) r (items_done t) (items_left t) (items_rest t) × StandsAt (next_item_at s) r
+        × SameSection s t × IfSome r (λ item. IfErr item (ItemsFailedFrom s))
+        × TakesNothing s r t };
 
     ghost remaining = { λ s. at_most (if items_done s then 0 else items_left s + 1) };
 

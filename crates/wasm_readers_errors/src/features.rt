@@ -61,7 +61,14 @@ impl Flags for WasmFeatures {
 
     ghost exact = { ⊤ };
 
-    ghost table = { (codes "MUTABLE_GLOBAL", 1) ∷ (codes "REFERENCE_TYPES", 2) ∷ (codes "MULTI_VALUE", 4) ∷ (codes "BULK_MEMORY", 8) ∷ (codes "SIMD", 16) ∷ (codes "THREADS", 32) ∷ (codes "SHARED_EVERYTHING_THREADS", 64) ∷ (codes "FLOATS", 128) ∷ (codes "MULTI_MEMORY", 256) ∷ (codes "EXCEPTIONS", 512) ∷ (codes "MEMORY64", 1024) ∷ (codes "EXTENDED_CONST", 2048) ∷ (codes "FUNCTION_REFERENCES", 4096) ∷ (codes "GC", 8192) ∷ (codes "GC_TYPES", 16384) ∷ (codes "CUSTOM_PAGE_SIZES", 32768) ∷ (codes "CUSTOM_DESCRIPTORS", 65536) ∷ (codes "STACK_SWITCHING", 131072) ∷ (codes "COMPONENT_MODEL", 262144) ∷ [] };
+    ghost table = { (codes "MUTABLE_GLOBAL", 1) ∷ (codes "REFERENCE_TYPES", 2)
+        ∷ (codes "MULTI_VALUE", 4) ∷ (codes "BULK_MEMORY", 8) ∷ (codes "SIMD", 16)
+        ∷ (codes "THREADS", 32) ∷ (codes "SHARED_EVERYTHING_THREADS", 64) ∷ (codes "FLOATS", 128)
+        ∷ (codes "MULTI_MEMORY", 256) ∷ (codes "EXCEPTIONS", 512) ∷ (codes "MEMORY64", 1024)
+        ∷ (codes "EXTENDED_CONST", 2048) ∷ (codes "FUNCTION_REFERENCES", 4096) ∷ (codes "GC", 8192)
+        ∷ (codes "GC_TYPES", 16384) ∷ (codes "CUSTOM_PAGE_SIZES", 32768)
+        ∷ (codes "CUSTOM_DESCRIPTORS", 65536) ∷ (codes "STACK_SWITCHING", 131072)
+        ∷ (codes "COMPONENT_MODEL", 262144) ∷ [] };
 
     ghost set_of = { λ p. p.0 };
 

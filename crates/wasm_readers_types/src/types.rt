@@ -330,21 +330,24 @@ impl<A: Allocator + Clone> Faithful for CompositeType<A> {
     ghost use Rattle.wasm_readers_types.specs.Exactness.{option-faithful};
     ghost use Rattle.wasm_readers_types.specs.TypesFaithful.{composite-faithful};
 
-    ghost faithful = { composite-faithful ⟦<Option<PackedIndex> as Clone>⟧.is_clone (option-faithful _ (λ a b e. e) (λ b e. e) (λ a e. e)) };
+    ghost faithful = { composite-faithful ⟦<Option<PackedIndex> as Clone>⟧.is_clone
+        (option-faithful _ (λ a b e. e) (λ b e. e) (λ a e. e)) };
 }
 
 impl<A: Allocator + Clone> Faithful for SubType<A> {
     ghost use Rattle.wasm_readers_types.specs.Exactness.{option-faithful};
     ghost use Rattle.wasm_readers_types.specs.TypesFaithful.{sub-faithful};
 
-    ghost faithful = { sub-faithful ⟦<Option<PackedIndex> as Clone>⟧.is_clone (option-faithful _ (λ a b e. e) (λ b e. e) (λ a e. e)) };
+    ghost faithful = { sub-faithful ⟦<Option<PackedIndex> as Clone>⟧.is_clone
+        (option-faithful _ (λ a b e. e) (λ b e. e) (λ a e. e)) };
 }
 
 impl<A: Allocator + Clone> Faithful for RecGroup<A> {
     ghost use Rattle.wasm_readers_types.specs.Exactness.{option-faithful};
     ghost use Rattle.wasm_readers_types.specs.TypesFaithful.{group-faithful};
 
-    ghost faithful = { group-faithful ⟦<Option<PackedIndex> as Clone>⟧.is_clone (option-faithful _ (λ a b e. e) (λ b e. e) (λ a e. e)) };
+    ghost faithful = { group-faithful ⟦<Option<PackedIndex> as Clone>⟧.is_clone
+        (option-faithful _ (λ a b e. e) (λ b e. e) (λ a e. e)) };
 }
 
 /// Whether two sub types are the same, and so say the same: what `==` says.

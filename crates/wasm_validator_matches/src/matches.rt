@@ -127,7 +127,8 @@ impl<A: Allocator + Copy> Matches<A> for WithRecGroup<ArrayType> {
 impl<'a, A: Allocator + Copy> Matches<A> for WithRecGroup<&'a ContType> {
     ghost stands = { λ gs a. ContStands gs a.rec_group.index a.inner.now };
 
-    ghost agree = { λ gs a b. ContsAgree gs a.rec_group.index b.rec_group.index a.inner.now b.inner.now };
+    ghost agree = { λ gs a b. ContsAgree gs a.rec_group.index b.rec_group.index
+        a.inner.now b.inner.now };
 
     fn matches(
         types: &TypeList<A>,
@@ -144,7 +145,8 @@ impl<'a, A: Allocator + Copy> Matches<A> for WithRecGroup<&'a ContType> {
 impl<'a, A: Allocator + Copy> Matches<A> for WithRecGroup<&'a FuncType<A>> {
     ghost stands = { λ gs a. CompStands gs a.rec_group.index (func_of a.inner.now) };
 
-    ghost agree = { λ gs a b. CompsAgree gs a.rec_group.index b.rec_group.index (func_of a.inner.now) (func_of b.inner.now) };
+    ghost agree = { λ gs a b. CompsAgree gs a.rec_group.index b.rec_group.index
+        (func_of a.inner.now) (func_of b.inner.now) };
 
     fn matches(
         types: &TypeList<A>,
@@ -164,7 +166,8 @@ impl<'a, A: Allocator + Copy> Matches<A> for WithRecGroup<&'a FuncType<A>> {
 impl<'a, A: Allocator + Copy> Matches<A> for WithRecGroup<&'a StructType<A>> {
     ghost stands = { λ gs a. CompStands gs a.rec_group.index (struct_of a.inner.now) };
 
-    ghost agree = { λ gs a b. CompsAgree gs a.rec_group.index b.rec_group.index (struct_of a.inner.now) (struct_of b.inner.now) };
+    ghost agree = { λ gs a b. CompsAgree gs a.rec_group.index b.rec_group.index
+        (struct_of a.inner.now) (struct_of b.inner.now) };
 
     fn matches(
         types: &TypeList<A>,
@@ -184,7 +187,8 @@ impl<'a, A: Allocator + Copy> Matches<A> for WithRecGroup<&'a StructType<A>> {
 impl<'a, A: Allocator + Copy> Matches<A> for WithRecGroup<&'a CompositeType<A>> {
     ghost stands = { λ gs a. CompStands gs a.rec_group.index (comp_of a.inner.now.inner) };
 
-    ghost agree = { λ gs a b. CompositesAgree gs a.rec_group.index b.rec_group.index a.inner.now b.inner.now };
+    ghost agree = { λ gs a b. CompositesAgree gs a.rec_group.index b.rec_group.index
+        a.inner.now b.inner.now };
 
     fn matches(
         types: &TypeList<A>,
@@ -199,9 +203,11 @@ impl<'a, A: Allocator + Copy> Matches<A> for WithRecGroup<&'a CompositeType<A>> 
 }
 
 impl<'a, A: Allocator + Copy> Matches<A> for WithRecGroup<&'a SubType<A>> {
-    ghost stands = { λ gs a. CompStands gs a.rec_group.index (comp_of a.inner.now.composite_type.inner) };
+    ghost stands = { λ gs a. CompStands gs a.rec_group.index
+        (comp_of a.inner.now.composite_type.inner) };
 
-    ghost agree = { λ gs a b. SubsAgree gs a.rec_group.index b.rec_group.index a.inner.now b.inner.now };
+    ghost agree = { λ gs a b. SubsAgree gs a.rec_group.index b.rec_group.index
+        a.inner.now b.inner.now };
 
     fn matches(
         types: &TypeList<A>,
