@@ -92,12 +92,8 @@ pub fn any_convert_extern<A: Allocator, T: WasmModuleResources>(
     ensures took { Performs result (T.context resources.now) (conversion_shape AnyConvertExtern) stacks.old stacks.new }
     ensures same { Kept stacks.old stacks.new }
 {
-    convert(
-        stacks,
-        resources,
-        AbstractHeapType::Extern,
-        AbstractHeapType::Any,
-    )
+    let from = AbstractHeapType::Extern;
+    convert(stacks, resources, from, AbstractHeapType::Any)
 }
 
 /// `extern.convert_any` (Core Specification 3.0, Validation, Instructions, Reference Instructions).
@@ -112,12 +108,8 @@ pub fn extern_convert_any<A: Allocator, T: WasmModuleResources>(
     ensures took { Performs result (T.context resources.now) (conversion_shape ExternConvertAny) stacks.old stacks.new }
     ensures same { Kept stacks.old stacks.new }
 {
-    convert(
-        stacks,
-        resources,
-        AbstractHeapType::Any,
-        AbstractHeapType::Extern,
-    )
+    let to = AbstractHeapType::Extern;
+    convert(stacks, resources, AbstractHeapType::Any, to)
 }
 
 /// Makes a reference of an integer, where the features allow its type.
