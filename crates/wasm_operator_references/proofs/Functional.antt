@@ -8,10 +8,7 @@ use Rattle.wasm_rules.specs.FeatureFlags.{features_of}
 use Rattle.wasm_readers_types.specs.declared.indices.UnpackedIndex.{UnpackedIndex}
 use Rattle.wasm_operator_steps.specs.Actions.{function_reference, function_is_referenced}
 use Rattle.wasm_operator_steps.specs.Attempts.{◌>>=◌, passes, among}
-use Rattle.wasm_operator_steps.specs.Meanings.{one, ref_to, exact_if, resolve_ref, resolve_heap}
-use Rattle.wasm_operator_steps.specs.Bodies.{Surroundings}
-use Rattle.wasm_module_resources.specs.Answers.{world}
-use Rattle.wasm_operator_stacks.specs.Seen.{around}
+use Rattle.wasm_operator_steps.specs.Meanings.{one, ref_to, resolve_ref}
 use Rattle.wasm_operator_stacks.specs.declared.stacks.Stacks.{Stacks}
 use Rattle.wasm_operator_checks.specs.Steps.{typed, held}
 

@@ -1,6 +1,5 @@
 -- References that are looked at, and what asks whether they are null.
 use Rattle.std.proofs.Common.{◌≡◌, [], ◌∷◌, refl}
-use Rattle.std.specs.Option.{option_map}
 use Rattle.std.specs.Prelude.{Some, None}
 use Rattle.wasm_spec.specs.Syntax.{i32}
 use Rattle.wasm_rules.specs.Contexts.{Context}

@@ -90,10 +90,7 @@ pub fn br_on_non_null<A: Allocator, T: WasmModuleResources>(
     let last = match last_type(types) {
         Some(last) => last,
         None => {
-            return Err(OperatorError::Refused(OperatorFault::at(
-                OperatorRule::LabelTypes,
-                depth,
-            )));
+            return Err(OperatorError::Refused(OperatorFault::at(OperatorRule::LabelTypes, depth)));
         }
     };
     if !matches(resources, non_null(reference), last) {

@@ -55,7 +55,13 @@ fn is_below<T: WasmModuleResources>(
         }
         Referenced::Bottom => true,
         Referenced::Open(open) => {
-            match RefType::new(false, HeapType::Abstract { shared: false, ty: open }) {
+            match RefType::new(
+                false,
+                HeapType::Abstract {
+                    shared: false,
+                    ty: open,
+                },
+            ) {
                 Some(ty) => matches_abstract(resources, ty, false, heap),
                 None => unreachable!(),
             }

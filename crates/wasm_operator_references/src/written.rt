@@ -33,8 +33,7 @@ pub fn allows_heap<A: Allocator>(stacks: &Stacks<A>, nullable: bool, heap: HeapT
         }
         HeapType::Concrete(_) => {
             has(stacks, WasmFeatures::REFERENCE_TYPES)
-                && (has(stacks, WasmFeatures::GC)
-                    || has(stacks, WasmFeatures::FUNCTION_REFERENCES))
+                && (has(stacks, WasmFeatures::GC) || has(stacks, WasmFeatures::FUNCTION_REFERENCES))
         }
         HeapType::Exact(_) => {
             has(stacks, WasmFeatures::REFERENCE_TYPES)
