@@ -1,10 +1,9 @@
 //! References to functions.
 
 ghost use Rattle.std.specs.Prelude.{◌≡◌, ◌&&◌, if◌then◌else◌, IsSome, slice_get};
-ghost use Rattle.wasm_spec.specs.Syntax.{Heap, concrete, exact, map_heap};
+ghost use Rattle.wasm_spec.specs.Syntax.{concrete, exact, map_heap};
 ghost use Rattle.wasm_rules.specs.FeatureFlags.{features_of};
 ghost use Rattle.wasm_readers_types.specs.SeenValues.{heap_of};
-ghost use Rattle.wasm_readers_types.specs.declared.indices.UnpackedIndex.{UnpackedIndex};
 ghost use Rattle.wasm_operators.specs.References.{ref_func};
 ghost use Rattle.wasm_operator_steps.specs.Attempts.{passes};
 ghost use Rattle.wasm_operator_steps.specs.Shapes.{reference_shape};

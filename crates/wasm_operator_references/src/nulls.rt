@@ -2,7 +2,6 @@
 
 ghost use Rattle.wasm_spec.specs.Syntax.{map_heap};
 ghost use Rattle.wasm_readers_types.specs.SeenValues.{heap_of};
-ghost use Rattle.wasm_readers_types.specs.declared.indices.UnpackedIndex.{UnpackedIndex};
 ghost use Rattle.wasm_operators.specs.References.{ref_null, ref_is_null, ref_as_non_null};
 ghost use Rattle.wasm_operator_steps.specs.Shapes.{reference_shape};
 ghost use Rattle.wasm_module_resources.specs.Answers.{IsWrittenHeap, written_index};
