@@ -1,14 +1,14 @@
 -- Conversions of references, and unboxed integers.
-use Rattle.std.proofs.Common.{◌≡◌, Bool, true, false, [], ◌∷◌, refl, sym, ◌∙◌}
-use Rattle.std.specs.Prelude.{Some, None, Option}
+use Rattle.std.proofs.Common.{◌≡◌, Bool, false, [], ◌∷◌, refl}
+use Rattle.std.specs.Prelude.{Some, None}
 use Rattle.wasm_spec.specs.Matching.{is_shared_heap}
 use Rattle.wasm_spec.specs.Syntax.{AbstractHeap, i31_heap, abstract_heap, Ref, Val, reference, i32}
 use Rattle.wasm_rules.specs.Contexts.{Context}
 use Rattle.wasm_readers_types.specs.declared.indices.UnpackedIndex.{UnpackedIndex}
 use Rattle.wasm_operator_steps.specs.Actions.{these, take_below, give, convert}
-use Rattle.wasm_operator_steps.specs.Attempts.{◌>>=◌, guard}
+use Rattle.wasm_operator_steps.specs.Attempts.{guard}
 use Rattle.wasm_operator_steps.specs.Bodies.{Surroundings}
-use Rattle.wasm_operator_steps.specs.Machine.{Operand, State, known, pop_reference, push_operand}
+use Rattle.wasm_operator_steps.specs.Machine.{Operand, State, known, push_operand}
 use Rattle.wasm_operator_steps.specs.Meanings.{converted, is_below_either}
 use Rattle.wasm_operator_steps.specs.Shapes.{small_integer}
 use Rattle.wasm_module_resources.specs.Answers.{world}

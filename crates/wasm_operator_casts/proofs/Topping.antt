@@ -4,7 +4,7 @@ use Rattle.std.specs.Option.{option_map}
 use Rattle.std.specs.Prelude.{Some, None, Option, slice_get}
 use Rattle.wasm_spec.specs.Matching.{kind_of, top_of, top_of_heap}
 use Rattle.wasm_spec.specs.MatchingTests.{same_abstract}
-use Rattle.wasm_spec.specs.Syntax.{AbstractHeap, cont_heap, Heap, abstract_heap, concrete, exact, Ref, Sub, Val, reference}
+use Rattle.wasm_spec.specs.Syntax.{AbstractHeap, cont_heap, abstract_heap, concrete, exact, Ref, Sub, Val, reference}
 use Rattle.wasm_rules.specs.Contexts.{Context}
 use Rattle.wasm_readers_types.specs.declared.indices.UnpackedIndex.{UnpackedIndex}
 use Rattle.wasm_operator_steps.specs.Actions.{top, can_be_tested}

@@ -15,7 +15,6 @@ use Rattle.wasm_operator_stacks.specs.declared.stacks.Stacks.{Stacks}
 use Rattle.wasm_operator_checks.specs.Steps.{Took, acted, held}
 use Rattle.wasm_operator_checks.specs.SeenTypes.{exchanged}
 use Rattle.wasm_operator_checks.specs.declared.faults.OperatorFault.{OperatorFault}
-use Rattle.wasm_operator_checks.specs.declared.faults.OperatorError.{OperatorError}
 use Rattle.wasm_operator_checks.specs.declared.faults.OperatorError.TheVariants.{Refused}
 
 -- Where a label takes these types, the last of which a type matches that is sent: the others taken with one on top, and given with
