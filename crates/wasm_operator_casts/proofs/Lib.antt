@@ -1,0 +1,4 @@
+pub mod Topping
+pub mod Converting
+pub mod Sending
+pub mod Casting

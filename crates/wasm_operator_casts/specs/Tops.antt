@@ -1,0 +1,18 @@
+-- The greatest type of the hierarchy of a written heap type.
+use Rattle.std.specs.Prelude.{ℕ, Bool, Option}
+use Rattle.wasm_spec.specs.Syntax.{Heap, abstract_heap}
+use Rattle.wasm_spec.specs.Matching.{top_of_heap}
+use Rattle.wasm_rules.specs.Contexts.{Context}
+use Rattle.wasm_readers_types.specs.SeenValues.{abstract_heap_of}
+use Rattle.wasm_readers_types.specs.declared.indices.UnpackedIndex.{UnpackedIndex}
+use Rattle.wasm_readers_types.specs.declared.values.AbstractHeapType.{AbstractHeapType}
+use Rattle.wasm_operator_steps.specs.Attempts.{◌>>=◌}
+use Rattle.wasm_operator_steps.specs.Meanings.{resolve_heap}
+use Rattle.wasm_module_resources.specs.Answers.{world}
+
+abbrev pub top_seen : Bool × AbstractHeapType → Heap UnpackedIndex
+top_seen p = abstract_heap p.0 (abstract_heap_of p.1)
+
+-- where the module has the type that is named, and knows what it declares
+unfoldable pub top_in : Context UnpackedIndex → Heap ℕ → Option (Heap UnpackedIndex)
+top_in C h = resolve_heap C.types h >>= top_of_heap (world C).declared

@@ -1,0 +1,101 @@
+//! Tests and casts.
+
+ghost use Rattle.wasm_spec.specs.Syntax.{map_heap};
+ghost use Rattle.wasm_readers_types.specs.SeenValues.{heap_of};
+ghost use Rattle.wasm_operators.specs.References.{ref_cast, ref_test, reference_to};
+ghost use Rattle.wasm_operator_steps.specs.Shapes.{cast_shape};
+ghost use Rattle.wasm_module_resources.specs.Answers.{IsWrittenHeap, written_index};
+ghost use Rattle.wasm_operator_stacks.specs.Seen.{Kept};
+ghost use Rattle.wasm_operator_checks.specs.Steps.{Performs};
+
+use crate::tops::{abstract_to, can_be_tested, top_of};
+use std::alloc::Allocator;
+use wasm_module_resources::WasmModuleResources;
+use wasm_numeric_operators::NumberType;
+use wasm_operator_checks::{OperatorError, OperatorFault, OperatorRule, Takes, Types, has, plain};
+use wasm_operator_references::{allows_heap, resolve};
+use wasm_operator_stacks::Stacks;
+use wasm_readers_errors::WasmFeatures;
+use wasm_readers_types::HeapType;
+use wasm_type_words::TypeWord;
+
+/// `ref.test` (Core Specification 3.0, Validation, Instructions, Reference Instructions), to a type
+/// with null or without.
+///
+/// # Errors
+///
+/// Refuses an unknown type, one that the features don't allow, one of continuations, and an operand
+/// of another hierarchy.
+#[tactic(auto, using(wasm_operator_checks::proofs::Acting::acts, crate::proofs::Topping::tests))]
+pub fn ref_test<A: Allocator, T: WasmModuleResources>(
+    stacks: &mut Stacks<A>,
+    resources: &T,
+    nullable: bool,
+    heap: HeapType,
+) -> Result<(), OperatorError>
+    requires { IsWrittenHeap (heap_of heap) }
+    ensures took { Performs result (T.context resources.now) (cast_shape (ref_test (reference_to nullable (map_heap written_index (heap_of heap))))) stacks.old stacks.new }
+    ensures same { Kept stacks.old stacks.new }
+{
+    if !has(stacks, WasmFeatures::GC) {
+        return Err(OperatorError::Refused(OperatorFault::new(OperatorRule::Gc)));
+    }
+    if !allows_heap(stacks, nullable, heap) {
+        return Err(OperatorError::Refused(OperatorFault::new(OperatorRule::ValueType)));
+    }
+    let (shared, top) = match top_of(resources, heap) {
+        Some(top) => top,
+        None => return Err(OperatorError::Refused(OperatorFault::new(OperatorRule::UnknownType))),
+    };
+    if !can_be_tested(top) {
+        return Err(OperatorError::Refused(OperatorFault::new(OperatorRule::ContinuationTypes)));
+    }
+    plain(
+        stacks,
+        resources,
+        Takes::One(TypeWord::reference(abstract_to(true, shared, top))),
+        Types::One(TypeWord::number(NumberType::I32)),
+    )
+}
+
+/// `ref.cast` (Core Specification 3.0, Validation, Instructions, Reference Instructions), to a type
+/// with null or without.
+///
+/// # Errors
+///
+/// Refuses an unknown type, one that the features don't allow, one of continuations, and an operand
+/// of another hierarchy.
+#[tactic(auto, using(wasm_operator_checks::proofs::Acting::acts, crate::proofs::Topping::tests, wasm_operator_references::proofs::Writing::written))]
+pub fn ref_cast<A: Allocator, T: WasmModuleResources>(
+    stacks: &mut Stacks<A>,
+    resources: &T,
+    nullable: bool,
+    heap: HeapType,
+) -> Result<(), OperatorError>
+    requires { IsWrittenHeap (heap_of heap) }
+    ensures took { Performs result (T.context resources.now) (cast_shape (ref_cast (reference_to nullable (map_heap written_index (heap_of heap))))) stacks.old stacks.new }
+    ensures same { Kept stacks.old stacks.new }
+{
+    if !has(stacks, WasmFeatures::GC) {
+        return Err(OperatorError::Refused(OperatorFault::new(OperatorRule::Gc)));
+    }
+    if !allows_heap(stacks, nullable, heap) {
+        return Err(OperatorError::Refused(OperatorFault::new(OperatorRule::ValueType)));
+    }
+    let (shared, top) = match top_of(resources, heap) {
+        Some(top) => top,
+        None => return Err(OperatorError::Refused(OperatorFault::new(OperatorRule::UnknownType))),
+    };
+    if !can_be_tested(top) {
+        return Err(OperatorError::Refused(OperatorFault::new(OperatorRule::ContinuationTypes)));
+    }
+    match resolve(resources, nullable, heap) {
+        Some(ty) => plain(
+            stacks,
+            resources,
+            Takes::One(TypeWord::reference(abstract_to(true, shared, top))),
+            Types::One(TypeWord::reference(ty)),
+        ),
+        None => Err(OperatorError::Refused(OperatorFault::new(OperatorRule::UnknownType))),
+    }
+}

@@ -1,0 +1,14 @@
+//! Casts of references, branches on casts, and conversions.
+#![tactic(auto)]
+
+mod branches;
+mod casts;
+mod conversions;
+mod sends;
+mod steps;
+mod tops;
+
+pub use branches::{br_on_cast, br_on_cast_fail};
+pub use casts::{ref_cast, ref_test};
+pub use conversions::{any_convert_extern, extern_convert_any, i31_get, ref_i31, ref_i31_shared};
+pub use steps::{step_cast, step_conversion};

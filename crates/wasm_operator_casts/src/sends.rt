@@ -1,0 +1,91 @@
+//! What branches on casts send to their label.
+
+ghost use Rattle.std.specs.Prelude.{◌++◌, ◌∷◌, []};
+ghost use Rattle.wasm_spec.specs.Syntax.{reference};
+ghost use Rattle.wasm_readers_types.specs.SeenValues.{ref_of};
+ghost use Rattle.wasm_type_words.specs.Seen.{val_in};
+ghost use Rattle.wasm_operator_steps.specs.Actions.{label};
+ghost use Rattle.wasm_module_resources.specs.Answers.{world};
+ghost use Rattle.wasm_operator_stacks.specs.Seen.{Kept};
+ghost use Rattle.wasm_operator_checks.specs.Steps.{Turns, typed};
+ghost use Rattle.wasm_operator_checks.specs.SeenTypes.{exchanged, types_seen};
+ghost use Rattle.wasm_operator_casts.specs.Sent.{sending};
+
+use std::alloc::Allocator;
+use wasm_module_resources::WasmModuleResources;
+use wasm_operator_checks::{
+    OperatorError, OperatorFault, OperatorRule, Types, check_type, check_types,
+};
+use wasm_operator_control::label_types;
+use wasm_operator_references::{exchange_with, front_types, last_type};
+use wasm_operator_stacks::{Stacks, Word};
+use wasm_readers_types::{RefType, ValType};
+use wasm_type_words::TypeWord;
+
+/// Takes operands of some types with one of another type on top, and gives the same types with one of
+/// a third type on top. Where that can't be, all stays.
+#[tactic(auto, using(wasm_operator_checks::proofs::Acting::acts, wasm_operator_checks::proofs::Taking::with_one))]
+fn exchange_top<'a, A: Allocator, T: WasmModuleResources>(
+    stacks: &mut Stacks<A>,
+    resources: &T,
+    types: Types<'a>,
+    takes: TypeWord,
+    gives: TypeWord,
+) -> Result<(), OperatorError>
+    ensures took { Turns result (exchanged (world (T.context resources.now)) (types_seen types.entry ++ val_in takes ∷ []) (types_seen types.entry ++ val_in gives ∷ [])) stacks.old stacks.new }
+    ensures same { Kept stacks.old stacks.new }
+{
+    let first = match check_type(stacks, resources, 0, takes) {
+        Ok(first) => first,
+        Err(fault) => return Err(OperatorError::Refused(fault)),
+    };
+    let taken = match check_types(stacks, resources, first, types) {
+        Ok(taken) => taken,
+        Err(fault) => return Err(OperatorError::Refused(fault)),
+    };
+    match exchange_with(stacks, taken, types, Word::known(gives)) {
+        Ok(()) => Ok(()),
+        Err(_) => Err(OperatorError::OutOfMemory),
+    }
+}
+
+/// Branches to a label whose last type matches what is sent: takes the label's other types with one of
+/// a type on top, and gives them with one of another type on top. Where that can't be, all stays.
+#[tactic(auto, using(wasm_operator_checks::proofs::Acting::acts, crate::proofs::Sending::sends))]
+pub(crate) fn send<A: Allocator, T: WasmModuleResources>(
+    stacks: &mut Stacks<A>,
+    resources: &T,
+    depth: u32,
+    sent: RefType,
+    takes: RefType,
+    gives: RefType,
+) -> Result<(), OperatorError>
+    ensures took { Turns result (sending (world (T.context resources.now)) (typed stacks.old (T.context resources.now) (label depth)) (reference (ref_of sent)) (reference (ref_of takes)) (reference (ref_of gives))) stacks.old stacks.new }
+    ensures same { Kept stacks.old stacks.new }
+{
+    let types = match label_types(stacks, resources, depth) {
+        Some(types) => types,
+        None => {
+            return Err(OperatorError::Refused(OperatorFault::at(
+                OperatorRule::UnknownLabel,
+                depth,
+            )));
+        }
+    };
+    let last = match last_type(types) {
+        Some(last) => last,
+        None => {
+            return Err(OperatorError::Refused(OperatorFault::at(OperatorRule::LabelTypes, depth)));
+        }
+    };
+    if !resources.is_subtype(ValType::Ref(sent), last.ty()) {
+        return Err(OperatorError::Refused(OperatorFault::at(OperatorRule::LabelTypes, depth)));
+    }
+    exchange_top(
+        stacks,
+        resources,
+        front_types(types),
+        TypeWord::reference(takes),
+        TypeWord::reference(gives),
+    )
+}

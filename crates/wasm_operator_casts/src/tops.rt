@@ -1,0 +1,119 @@
+//! The greatest types of hierarchies.
+
+ghost use Rattle.std.specs.Prelude.{◌≡◌, true, not};
+ghost use Rattle.std.specs.Option.{option_map};
+ghost use Rattle.wasm_spec.specs.Matching.{kind_of, top_of};
+ghost use Rattle.wasm_spec.specs.MatchingTests.{same_abstract};
+ghost use Rattle.wasm_spec.specs.Syntax.{abstract_heap, concrete, cont_heap, exact, map_heap};
+ghost use Rattle.wasm_readers_types.specs.SeenTypes.{comp_of};
+ghost use Rattle.wasm_readers_types.specs.SeenValues.{abstract_heap_of, heap_of, ref_of};
+ghost use Rattle.wasm_module_resources.specs.Answers.{IsWrittenHeap, written_index};
+ghost use Rattle.wasm_operator_casts.specs.Tops.{top_in, top_seen};
+
+use std::alloc::Allocator;
+use wasm_module_resources::WasmModuleResources;
+use wasm_readers_types::{AbstractHeapType, CompositeInnerType, HeapType, RefType, UnpackedIndex};
+
+/// The greatest type of the hierarchy of an abstract heap type.
+fn top_of_abstract(ty: AbstractHeapType) -> AbstractHeapType
+    ensures { abstract_heap_of result ≡ top_of (abstract_heap_of ty) }
+{
+    match ty {
+        AbstractHeapType::Any
+        | AbstractHeapType::Eq
+        | AbstractHeapType::I31
+        | AbstractHeapType::Struct
+        | AbstractHeapType::Array
+        | AbstractHeapType::None => AbstractHeapType::Any,
+        AbstractHeapType::Func | AbstractHeapType::NoFunc => AbstractHeapType::Func,
+        AbstractHeapType::Extern | AbstractHeapType::NoExtern => AbstractHeapType::Extern,
+        AbstractHeapType::Exn | AbstractHeapType::NoExn => AbstractHeapType::Exn,
+        AbstractHeapType::Cont | AbstractHeapType::NoCont => AbstractHeapType::Cont,
+    }
+}
+
+/// The greatest type of the hierarchy of a composite type.
+fn top_of_inner<A: Allocator>(inner: &CompositeInnerType<A>) -> AbstractHeapType
+    ensures { abstract_heap_of result ≡ top_of (kind_of (comp_of inner.now)) }
+{
+    match inner {
+        CompositeInnerType::Func(_) => AbstractHeapType::Func,
+        CompositeInnerType::Array(_) => AbstractHeapType::Any,
+        CompositeInnerType::Struct(_) => AbstractHeapType::Any,
+        CompositeInnerType::Cont(_) => AbstractHeapType::Cont,
+    }
+}
+
+/// The greatest type of the hierarchy of a type index, exactly or not, and whether it is shared, if
+/// the module has that type.
+#[tactic(auto, using(crate::proofs::Topping::tops))]
+fn top_of_index<T: WasmModuleResources>(
+    resources: &T,
+    type_index: u32,
+) -> Option<(bool, AbstractHeapType)>
+    ensures inexact { option_map top_seen result ≡ top_in (T.context resources.now) (concrete type_index) }
+    ensures exact { option_map top_seen result ≡ top_in (T.context resources.now) (exact type_index) }
+{
+    match resources.sub_type_at(type_index) {
+        Some(sub) => {
+            let top = top_of_inner(&sub.composite_type.inner);
+            Some((sub.composite_type.shared, top))
+        }
+        None => None,
+    }
+}
+
+/// The greatest type of the hierarchy of a written heap type, and whether it is shared, if the module
+/// has the type that it names.
+#[tactic(auto, using(crate::proofs::Topping::tops))]
+pub(crate) fn top_of<T: WasmModuleResources>(
+    resources: &T,
+    heap: HeapType,
+) -> Option<(bool, AbstractHeapType)>
+    requires { IsWrittenHeap (heap_of heap) }
+    ensures { option_map top_seen result ≡ top_in (T.context resources.now) (map_heap written_index (heap_of heap)) }
+{
+    match heap {
+        HeapType::Abstract { shared, ty } => Some((shared, top_of_abstract(ty))),
+        HeapType::Concrete(index) => match index {
+            UnpackedIndex::Module(type_index) => top_of_index(resources, type_index),
+            UnpackedIndex::RecGroup(_) => None,
+            UnpackedIndex::Id(_) => None,
+        },
+        HeapType::Exact(index) => match index {
+            UnpackedIndex::Module(type_index) => top_of_index(resources, type_index),
+            UnpackedIndex::RecGroup(_) => None,
+            UnpackedIndex::Id(_) => None,
+        },
+    }
+}
+
+/// References to an abstract heap type, with null or without.
+pub(crate) fn abstract_to(nullable: bool, shared: bool, ty: AbstractHeapType) -> RefType
+    ensures { ref_of result ≡ record { nullable = nullable; heap = abstract_heap shared (abstract_heap_of ty) } }
+{
+    RefType::new(nullable, HeapType::Abstract { shared, ty }).unwrap()
+}
+
+/// Whether references of the hierarchy of this greatest type can be tested: those to continuations
+/// can't.
+pub(crate) fn can_be_tested(top: AbstractHeapType) -> bool
+    ensures { result ≡ not (same_abstract (abstract_heap_of top) cont_heap) }
+{
+    match top {
+        AbstractHeapType::Cont => false,
+        AbstractHeapType::Any
+        | AbstractHeapType::Eq
+        | AbstractHeapType::I31
+        | AbstractHeapType::Struct
+        | AbstractHeapType::Array
+        | AbstractHeapType::None
+        | AbstractHeapType::Func
+        | AbstractHeapType::NoFunc
+        | AbstractHeapType::Extern
+        | AbstractHeapType::NoExtern
+        | AbstractHeapType::Exn
+        | AbstractHeapType::NoExn
+        | AbstractHeapType::NoCont => true,
+    }
+}

@@ -1,0 +1,2 @@
+pub mod SeenReferences
+pub mod Written

@@ -1,0 +1,95 @@
+//! References to functions.
+
+ghost use Rattle.std.specs.Prelude.{◌≡◌, ◌&&◌, if◌then◌else◌, IsSome, slice_get};
+ghost use Rattle.wasm_spec.specs.Syntax.{concrete, exact, map_heap};
+ghost use Rattle.wasm_rules.specs.FeatureFlags.{features_of};
+ghost use Rattle.wasm_readers_types.specs.SeenValues.{heap_of};
+ghost use Rattle.wasm_operators.specs.References.{ref_func};
+ghost use Rattle.wasm_operator_steps.specs.Attempts.{passes};
+ghost use Rattle.wasm_operator_steps.specs.Shapes.{reference_shape};
+ghost use Rattle.wasm_module_resources.specs.Answers.{IsWrittenHeap, written_index};
+ghost use Rattle.wasm_operator_stacks.specs.Seen.{Kept};
+ghost use Rattle.wasm_operator_checks.specs.Steps.{Performs};
+
+use crate::written::resolve;
+use std::alloc::Allocator;
+use wasm_module_resources::WasmModuleResources;
+use wasm_operator_checks::{OperatorError, OperatorFault, OperatorRule, Takes, Types, has, plain};
+use wasm_operator_stacks::Stacks;
+use wasm_readers_errors::WasmFeatures;
+use wasm_readers_types::{HeapType, UnpackedIndex};
+use wasm_type_words::TypeWord;
+
+/// Whether a reference to a function is exactly to its type: where the function is, and descriptors can
+/// tell.
+fn has_exact_type<A: Allocator, T: WasmModuleResources>(
+    stacks: &Stacks<A>,
+    resources: &T,
+    function_index: u32,
+) -> bool
+    ensures value { result ≡ (passes (λ b. b) (slice_get (T.context resources.now).exact function_index) && (features_of stacks.now.features).custom_descriptors) }
+    ensures told { IsSome (slice_get (T.context resources.now).functions function_index) → IsSome (slice_get (T.context resources.now).exact function_index) }
+{
+    resources.has_function_exact_type(function_index)
+        && has(stacks, WasmFeatures::CUSTOM_DESCRIPTORS)
+}
+
+/// What this type index describes, exactly or not.
+fn described(is_exact: bool, type_index: u32) -> HeapType
+    ensures value { map_heap written_index (heap_of result) ≡ (if is_exact then exact type_index else concrete type_index) }
+    ensures written { IsWrittenHeap (heap_of result) }
+{
+    if is_exact {
+        HeapType::Exact(UnpackedIndex::Module(type_index))
+    } else {
+        HeapType::Concrete(UnpackedIndex::Module(type_index))
+    }
+}
+
+/// `ref.func` (Core Specification 3.0, Validation, Instructions, Reference Instructions). With custom
+/// descriptors the type is exact where the function's is.
+///
+/// # Errors
+///
+/// Refuses an unknown function, and one that isn't referenced outside of the bodies.
+#[tactic(auto, using(wasm_operator_checks::proofs::Acting::acts))]
+pub fn ref_func<A: Allocator, T: WasmModuleResources>(
+    stacks: &mut Stacks<A>,
+    resources: &T,
+    function_index: u32,
+) -> Result<(), OperatorError>
+    ensures took { Performs result (T.context resources.now) (reference_shape (ref_func function_index)) stacks.old stacks.new }
+    ensures same { Kept stacks.old stacks.new }
+{
+    if !has(stacks, WasmFeatures::REFERENCE_TYPES) {
+        return Err(OperatorError::Refused(OperatorFault::new(OperatorRule::ReferenceTypes)));
+    }
+    let type_index = match resources.type_index_of_function(function_index) {
+        Some(type_index) => type_index,
+        None => {
+            return Err(OperatorError::Refused(OperatorFault::at(
+                OperatorRule::UnknownFunction,
+                function_index,
+            )));
+        }
+    };
+    if !resources.is_function_referenced(function_index) {
+        return Err(OperatorError::Refused(OperatorFault::at(
+            OperatorRule::UndeclaredFunction,
+            function_index,
+        )));
+    }
+    let is_exact = has_exact_type(stacks, resources, function_index);
+    match resolve(resources, false, described(is_exact, type_index)) {
+        Some(ty) => plain(
+            stacks,
+            resources,
+            Takes::None,
+            Types::One(TypeWord::reference(ty)),
+        ),
+        None => Err(OperatorError::Refused(OperatorFault::at(
+            OperatorRule::UnknownType,
+            type_index,
+        ))),
+    }
+}

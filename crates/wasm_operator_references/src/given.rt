@@ -1,0 +1,82 @@
+//! Types of a label, and operands that are given with one more on top.
+
+ghost use Rattle.std.specs.Prelude.{◌≡◌, ◌≤◌, length, OnOk, OnErr};
+ghost use Rattle.std.specs.Option.{option_map};
+ghost use Rattle.wasm_type_words.specs.Seen.{val_in};
+ghost use Rattle.wasm_operator_steps.specs.Attempts.{last_of, front_of};
+ghost use Rattle.wasm_operator_steps.specs.Machine.{push_operand, push_vals};
+ghost use Rattle.wasm_operator_stacks.specs.SeenOperands.{operand_of};
+ghost use Rattle.wasm_operator_stacks.specs.Seen.{state_of, below, Kept};
+ghost use Rattle.wasm_operator_checks.specs.SeenTypes.{types_seen};
+
+use std::alloc::{AllocError, Allocator};
+use wasm_operator_checks::{Types, exchange_types};
+use wasm_operator_stacks::{Stacks, Word};
+use wasm_type_words::TypeWord;
+
+/// The last of some types, if there is one.
+#[tactic(auto, using(crate::proofs::Giving::lists))]
+pub fn last_type<'a>(types: Types<'a>) -> Option<TypeWord>
+    ensures { option_map val_in result ≡ last_of (types_seen types.entry) }
+{
+    match types {
+        Types::None => None,
+        Types::One(ty) => Some(ty),
+        Types::Many(types) => {
+            let count = types.len();
+            if count == 0 {
+                None
+            } else {
+                Some(TypeWord::new(types[count - 1]))
+            }
+        }
+    }
+}
+
+/// Some types without the last one.
+#[tactic(auto, using(crate::proofs::Giving::lists))]
+pub fn front_types<'a>(types: Types<'a>) -> Types<'a>
+    ensures { types_seen result ≡ front_of (types_seen types.entry) }
+{
+    match types {
+        Types::None => Types::None,
+        Types::One(_) => Types::None,
+        Types::Many(types) => {
+            let count = types.len();
+            if count == 0 {
+                Types::None
+            } else {
+                Types::Many(&types[..count - 1])
+            }
+        }
+    }
+}
+
+/// Gives operands of these types, with one more on top, in the place of so many. Where memory is
+/// refused, all stays.
+#[tactic(auto, using(crate::proofs::Giving::gives))]
+pub fn exchange_with<'a, A: Allocator>(
+    stacks: &mut Stacks<A>,
+    taken: usize,
+    types: Types<'a>,
+    top: Word,
+) -> Result<(), AllocError>
+    requires { taken ≤ length (state_of stacks.old).operands }
+    ensures ok { OnOk result (state_of stacks.new ≡ push_operand (operand_of top) (push_vals (types_seen types.entry) (below taken (state_of stacks.old)))) }
+    ensures err { OnErr result (state_of stacks.new ≡ state_of stacks.old) }
+    ensures same { Kept stacks.old stacks.new }
+{
+    let before = stacks.operands.len();
+    exchange_types(stacks, 0, types)?;
+    match stacks.push(top) {
+        Ok(()) => {
+            let given = stacks.operands.len() - before;
+            stacks.operands.sink(given, taken);
+            Ok(())
+        }
+        Err(_) => {
+            stacks.operands.truncate(before);
+            Err(AllocError)
+        }
+    }
+}

@@ -1,0 +1,20 @@
+//! Operators on references: null, functions, comparison, and branches on null.
+#![tactic(auto)]
+
+mod branches;
+mod comparing;
+mod functions;
+mod given;
+mod nulls;
+mod referenced;
+mod steps;
+mod written;
+
+pub use branches::{br_on_non_null, br_on_null};
+pub use comparing::{look_below, matches_abstract, ref_eq};
+pub use functions::ref_func;
+pub use given::{exchange_with, front_types, last_type};
+pub use nulls::{ref_as_non_null, ref_is_null, ref_null};
+pub use referenced::{Referenced, look_reference, non_null};
+pub use steps::step_reference;
+pub use written::{allows_heap, resolve};

@@ -1,0 +1,61 @@
+//! Heap types as they are written: by features, and by what the module has.
+
+ghost use Rattle.std.specs.Prelude.{◌≡◌, ◌&&◌, ◌||◌};
+ghost use Rattle.std.specs.Option.{option_map};
+ghost use Rattle.wasm_spec.specs.Syntax.{map_heap};
+ghost use Rattle.wasm_spec.specs.ValueTypes.{allows_val};
+ghost use Rattle.wasm_rules.specs.FeatureFlags.{features_of};
+ghost use Rattle.wasm_readers_types.specs.SeenValues.{heap_of, ref_of};
+ghost use Rattle.wasm_operators.specs.References.{reference_to};
+ghost use Rattle.wasm_operator_steps.specs.Meanings.{resolve_ref};
+ghost use Rattle.wasm_operator_steps.specs.Shapes.{reference_to as val_to};
+ghost use Rattle.wasm_module_resources.specs.Answers.{IsWrittenHeap, written_index};
+
+use std::alloc::Allocator;
+use wasm_module_resources::WasmModuleResources;
+use wasm_operator_checks::has;
+use wasm_operator_stacks::Stacks;
+use wasm_readers_errors::WasmFeatures;
+use wasm_readers_types::{HeapType, RefType};
+use wasm_value_checks::check_ref_type;
+
+/// Whether the features allow references to this heap type, with null or without.
+#[tactic(auto, using(crate::proofs::Writing::allowed))]
+pub fn allows_heap<A: Allocator>(stacks: &Stacks<A>, nullable: bool, heap: HeapType) -> bool
+    ensures { result ≡ allows_val (features_of stacks.now.features) (val_to nullable (map_heap written_index (heap_of heap))) }
+{
+    match heap {
+        HeapType::Abstract { shared, ty } => {
+            match RefType::new(nullable, HeapType::Abstract { shared, ty }) {
+                Some(ty) => check_ref_type(stacks.features, ty, 0).is_ok(),
+                None => unreachable!(),
+            }
+        }
+        HeapType::Concrete(_) => {
+            has(stacks, WasmFeatures::REFERENCE_TYPES)
+                && (has(stacks, WasmFeatures::GC) || has(stacks, WasmFeatures::FUNCTION_REFERENCES))
+        }
+        HeapType::Exact(_) => {
+            has(stacks, WasmFeatures::REFERENCE_TYPES)
+                && has(stacks, WasmFeatures::CUSTOM_DESCRIPTORS)
+        }
+    }
+}
+
+/// The reference type to a written heap type, with an identity in the place of the type index, if the
+/// module has that type.
+#[tactic(auto, using(crate::proofs::Writing::resolves))]
+pub fn resolve<T: WasmModuleResources>(
+    resources: &T,
+    nullable: bool,
+    heap: HeapType,
+) -> Option<RefType>
+    requires { IsWrittenHeap (heap_of heap) }
+    ensures { option_map ref_of result ≡ resolve_ref (T.context resources.now).types (reference_to nullable (map_heap written_index (heap_of heap))) }
+{
+    let mut named = heap;
+    match resources.check_heap_type(&mut named, 0) {
+        Ok(()) => Some(RefType::new(nullable, named).unwrap()),
+        Err(_) => None,
+    }
+}
