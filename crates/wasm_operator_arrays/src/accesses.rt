@@ -53,7 +53,8 @@ fn get<A: Allocator, T: WasmModuleResources>(
     )
 }
 
-/// `array.get`.
+/// `array.get`: takes an array and an index, and gives an element, which isn't packed (Core
+/// Specification 3.0, Validation, Aggregate Instructions).
 pub fn array_get<A: Allocator, T: WasmModuleResources>(
     stacks: &mut Stacks<A>,
     resources: &T,
@@ -65,7 +66,8 @@ pub fn array_get<A: Allocator, T: WasmModuleResources>(
     get(stacks, resources, false, array_type_index)
 }
 
-/// `array.get_s`.
+/// `array.get_s`: takes an array and an index, and gives a packed element, with a sign (Core
+/// Specification 3.0, Validation, Aggregate Instructions).
 pub fn array_get_s<A: Allocator, T: WasmModuleResources>(
     stacks: &mut Stacks<A>,
     resources: &T,
@@ -77,7 +79,8 @@ pub fn array_get_s<A: Allocator, T: WasmModuleResources>(
     get(stacks, resources, true, array_type_index)
 }
 
-/// `array.get_u`.
+/// `array.get_u`: takes an array and an index, and gives a packed element, without a sign (Core
+/// Specification 3.0, Validation, Aggregate Instructions).
 pub fn array_get_u<A: Allocator, T: WasmModuleResources>(
     stacks: &mut Stacks<A>,
     resources: &T,
@@ -89,7 +92,8 @@ pub fn array_get_u<A: Allocator, T: WasmModuleResources>(
     get(stacks, resources, true, array_type_index)
 }
 
-/// `array.set`.
+/// `array.set`: takes an array that can be written, an index, and an element on top (Core
+/// Specification 3.0, Validation, Aggregate Instructions).
 #[tactic(auto, using(wasm_operator_checks::proofs::Acting::acts, crate::proofs::Elements::elements))]
 pub fn array_set<A: Allocator, T: WasmModuleResources>(
     stacks: &mut Stacks<A>,

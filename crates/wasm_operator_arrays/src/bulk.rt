@@ -17,7 +17,8 @@ use wasm_operator_checks::{OperatorError, OperatorFault, OperatorRule};
 use wasm_operator_stacks::Stacks;
 use wasm_type_words::TypeWord;
 
-/// `array.fill`.
+/// `array.fill`: takes an array that can be written, an index, an element, and a number of elements
+/// on top (Core Specification 3.0, Validation, Aggregate Instructions).
 #[tactic(auto, using(wasm_operator_checks::proofs::Acting::acts, crate::proofs::Elements::elements))]
 pub fn array_fill<A: Allocator, T: WasmModuleResources>(
     stacks: &mut Stacks<A>,
@@ -43,7 +44,9 @@ pub fn array_fill<A: Allocator, T: WasmModuleResources>(
     )
 }
 
-/// `array.copy`.
+/// `array.copy`: takes an array that can be written with an index, an array that is read with an
+/// index, and a number of elements on top (Core Specification 3.0, Validation, Aggregate
+/// Instructions).
 #[tactic(auto, using(wasm_operator_checks::proofs::Acting::acts, crate::proofs::Elements::elements))]
 pub fn array_copy<A: Allocator, T: WasmModuleResources>(
     stacks: &mut Stacks<A>,
@@ -80,7 +83,9 @@ pub fn array_copy<A: Allocator, T: WasmModuleResources>(
     )
 }
 
-/// `array.init_data`.
+/// `array.init_data`: takes an array of numbers or vectors that can be written, an index, an index
+/// in a data segment, and a number of elements on top (Core Specification 3.0, Validation,
+/// Aggregate Instructions).
 #[tactic(auto, using(wasm_operator_checks::proofs::Acting::acts, crate::proofs::Elements::elements))]
 pub fn array_init_data<A: Allocator, T: WasmModuleResources>(
     stacks: &mut Stacks<A>,
@@ -115,7 +120,9 @@ pub fn array_init_data<A: Allocator, T: WasmModuleResources>(
     }
 }
 
-/// `array.init_elem`.
+/// `array.init_elem`: takes an array of references that can be written, an index, an index in an
+/// element segment, and a number of elements on top (Core Specification 3.0, Validation, Aggregate
+/// Instructions).
 #[tactic(auto, using(wasm_operator_checks::proofs::Acting::acts, crate::proofs::Elements::elements))]
 pub fn array_init_elem<A: Allocator, T: WasmModuleResources>(
     stacks: &mut Stacks<A>,

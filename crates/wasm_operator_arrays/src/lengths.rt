@@ -18,12 +18,22 @@ use wasm_operator_checks::{OperatorError, OperatorFault, OperatorRule, has, look
 use wasm_operator_stacks::{Operand, Stacks, Word};
 use wasm_readers_errors::WasmFeatures;
 use wasm_readers_types::{AbstractHeapType, HeapType, RefType, ValType};
+use wasm_type_words::TypeWord;
 
 /// A reference, or null, to an abstract heap type.
 fn reference_to(shared: bool, heap: AbstractHeapType) -> RefType
     ensures { ref_of result ≡ record { nullable = true; heap = abstract_heap shared (abstract_heap_of heap) } }
 {
     RefType::new(true, HeapType::Abstract { shared, ty: heap }).unwrap()
+}
+
+/// The refusal of an operand that isn't a reference below this abstract heap type.
+fn not_below(heap: AbstractHeapType) -> OperatorFault {
+    OperatorFault {
+        rule: OperatorRule::ReferenceBelow,
+        number: 0,
+        expected: TypeWord::reference(reference_to(false, heap)),
+    }
 }
 
 /// Whether an operand is a reference below this abstract heap type, shared or not.
@@ -48,7 +58,8 @@ fn is_below<T: WasmModuleResources>(resources: &T, operand: Operand, heap: Abstr
     }
 }
 
-/// `array.len`.
+/// `array.len`: takes an array of any type, and gives its length (Core Specification 3.0,
+/// Validation, Aggregate Instructions).
 #[tactic(auto, using(wasm_operator_checks::proofs::Acting::acts, crate::proofs::Measuring::measures))]
 pub fn array_len<A: Allocator, T: WasmModuleResources>(
     stacks: &mut Stacks<A>,
@@ -62,12 +73,10 @@ pub fn array_len<A: Allocator, T: WasmModuleResources>(
     }
     let (operand, taken) = match look(stacks, 0) {
         Some(found) => found,
-        None => return Err(OperatorError::Refused(OperatorFault::new(
-            OperatorRule::ReferenceBelow,
-        ))),
+        None => return Err(OperatorError::Refused(not_below(AbstractHeapType::Array))),
     };
     if !is_below(resources, operand.seen(), AbstractHeapType::Array) {
-        return Err(OperatorError::Refused(OperatorFault::new(OperatorRule::ReferenceBelow)));
+        return Err(OperatorError::Refused(not_below(AbstractHeapType::Array)));
     }
     match stacks.exchange(taken, Word::number(NumberType::I32)) {
         Ok(()) => Ok(()),

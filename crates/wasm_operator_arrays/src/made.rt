@@ -17,7 +17,8 @@ use wasm_operator_checks::{OperatorError, OperatorFault, OperatorRule, Takes, Ty
 use wasm_operator_stacks::Stacks;
 use wasm_type_words::TypeWord;
 
-/// `array.new`.
+/// `array.new`: takes an element, and a length on top, and gives a new array (Core Specification
+/// 3.0, Validation, Aggregate Instructions).
 #[tactic(auto, using(wasm_operator_checks::proofs::Acting::acts, crate::proofs::Elements::elements))]
 pub fn array_new<A: Allocator, T: WasmModuleResources>(
     stacks: &mut Stacks<A>,
@@ -41,7 +42,8 @@ pub fn array_new<A: Allocator, T: WasmModuleResources>(
     )
 }
 
-/// `array.new_default`.
+/// `array.new_default`: takes a length, and gives a new array of a type whose elements have a
+/// default (Core Specification 3.0, Validation, Aggregate Instructions).
 #[tactic(auto, using(wasm_operator_checks::proofs::Acting::acts, crate::proofs::Elements::elements))]
 pub fn array_new_default<A: Allocator, T: WasmModuleResources>(
     stacks: &mut Stacks<A>,
@@ -70,7 +72,8 @@ pub fn array_new_default<A: Allocator, T: WasmModuleResources>(
     )
 }
 
-/// `array.new_fixed`.
+/// `array.new_fixed`: takes as many elements as it says, and gives a new array of them (Core
+/// Specification 3.0, Validation, Aggregate Instructions).
 #[tactic(auto, using(wasm_operator_checks::proofs::Acting::acts, crate::proofs::Elements::elements))]
 pub fn array_new_fixed<A: Allocator, T: WasmModuleResources>(
     stacks: &mut Stacks<A>,
@@ -90,7 +93,8 @@ pub fn array_new_fixed<A: Allocator, T: WasmModuleResources>(
     exchange_repeated(stacks, resources, array_size, element, given)
 }
 
-/// `array.new_data`.
+/// `array.new_data`: takes an index in a data segment, and a length on top, and gives a new array
+/// of numbers or vectors (Core Specification 3.0, Validation, Aggregate Instructions).
 #[tactic(auto, using(wasm_operator_checks::proofs::Acting::acts, crate::proofs::Elements::elements))]
 pub fn array_new_data<A: Allocator, T: WasmModuleResources>(
     stacks: &mut Stacks<A>,
@@ -124,7 +128,8 @@ pub fn array_new_data<A: Allocator, T: WasmModuleResources>(
     }
 }
 
-/// `array.new_elem`.
+/// `array.new_elem`: takes an index in an element segment, and a length on top, and gives a new
+/// array of references (Core Specification 3.0, Validation, Aggregate Instructions).
 #[tactic(auto, using(wasm_operator_checks::proofs::Acting::acts, crate::proofs::Elements::elements))]
 pub fn array_new_elem<A: Allocator, T: WasmModuleResources>(
     stacks: &mut Stacks<A>,
