@@ -1,0 +1,15 @@
+use Rattle.std.proofs.Common.{[], ◌∷◌, ◌∙◌, ap}
+use Rattle.wasm_type_words.specs.Seen.{val_in}
+use Rattle.wasm_operator_steps.specs.Machine.{push_operand}
+use Rattle.wasm_operator_steps.specs.Meanings.{copies}
+use Rattle.wasm_module_resources.specs.Answers.{world}
+use Rattle.wasm_operator_stacks.specs.Seen.{state_of, below}
+use Rattle.wasm_operator_checks.specs.Steps.{Took}
+use Rattle.wasm_operator_checks.proofs.Taking.{are_exchanged}
+use Rattle.wasm_operator_arrays.proofs.taken.exchange_repeated.Goals as goal
+
+pub returns-in-Ok-exchange-clause-took : goal.returns-in-Ok-exchange-clause-took
+unfolding Took
+returns-in-Ok-exchange-clause-took g c =
+    are_exchanged (world (g.T.WasmModuleResources.context c.args.resources.now)) (copies c.args.count (val_in c.args.ty ∷ [])) (val_in c.args.given ∷ []) (state_of c.args.stacks.now) (below c.in-Ok.taken (state_of c.args.stacks.now)) (state_of c.exchange.new.self)
+    c.in-Ok.ensures.0 (c.in-Ok-exchange.ensures.ok ∙ ap (λ o. push_operand o (below c.in-Ok.taken (state_of c.args.stacks.now))) c.known.ensures)
