@@ -72,11 +72,15 @@ module _ {A : Type 0} (v : Stacks A) (C : Context UnpackedIndex) where
   unfolding block_known
   function_off n e = rw e refl
 
-  -- the block of a function type, where blocks of many types are allowed and by what is found of it
-  abbrev by_type : Bool → Option (Sub UnpackedIndex) → ℕ → Option (Block UnpackedIndex × List (Val UnpackedIndex))
-  by_type b o n = if b && (implies v.is_shared (passes (λ d. d.shared) o) && true) then option_map (λ g. (func_block n, g.takes)) (option_map (λ d. d.comp) o >>= signature_of) else None
+  -- the block of a function type, and what it takes
+  abbrev taking : ℕ → Signature UnpackedIndex → Block UnpackedIndex × List (Val UnpackedIndex)
+  taking n g = (func_block n, g.takes)
 
-  unguarded : (b c : Bool) (o : Option (Signature UnpackedIndex)) (n : ℕ) → (o >>= guard c) ≡ None → (if b && (c && true) then option_map (λ g. (func_block {R = UnpackedIndex} n, g.takes)) o else None) ≡ None
+  -- that block, where blocks of many types are allowed and by what is found of it
+  abbrev by_type : Bool → Option (Sub UnpackedIndex) → ℕ → Option (Block UnpackedIndex × List (Val UnpackedIndex))
+  by_type b o n = if b && (implies v.is_shared (passes (λ d. d.shared) o) && true) then option_map (taking n) (option_map (λ d. d.comp) o >>= signature_of) else None
+
+  unguarded : (b c : Bool) (o : Option (Signature UnpackedIndex)) (n : ℕ) → (o >>= guard c) ≡ None → (if b && (c && true) then option_map (taking n) o else None) ≡ None
   unguarded false c o n e = refl
   unguarded true false o n e = refl
   unguarded true true None n e = refl
@@ -87,9 +91,9 @@ module _ {A : Type 0} (v : Stacks A) (C : Context UnpackedIndex) where
   unreached b (Some d) n e = unguarded b (implies v.is_shared d.shared) (signature_of d.comp) n e
 
   guarded : (c : Bool) (o : Option (Signature UnpackedIndex)) (n : ℕ) (g : Signature UnpackedIndex) → (o >>= guard c) ≡ Some g
-      → (if true && (c && true) then option_map (λ h. (func_block {R = UnpackedIndex} n, h.takes)) o else None) ≡ Some (func_block n, g.takes)
+      → (if true && (c && true) then option_map (taking n) o else None) ≡ Some (func_block n, g.takes)
   guarded c None n g e = cc
-  guarded true (Some x) n g e = ap (option_map (λ (h : Signature UnpackedIndex). (func_block {R = UnpackedIndex} n, h.takes))) e
+  guarded true (Some x) n g e = ap (option_map (taking n)) e
   guarded false (Some x) n g e = cc
 
   reached : (o : Option (Sub UnpackedIndex)) (n : ℕ) (g : Signature UnpackedIndex) → (o >>= λ d. signature_of d.comp >>= guard (implies v.is_shared d.shared)) ≡ Some g → by_type true o n ≡ Some (func_block n, g.takes)
