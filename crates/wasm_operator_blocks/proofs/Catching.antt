@@ -1,7 +1,6 @@
 -- Catch clauses.
 use Rattle.std.proofs.Common.{◌≡◌, ℕ, ◌<◌, Bool, true, false, ◌&&◌, List, [], ◌∷◌, ◌++◌, length, refl, sym, ◌∙◌, ap, arith}
-use Rattle.std.specs.Option.{option_map}
-use Rattle.std.specs.Prelude.{Option, Some, None}
+use Rattle.std.specs.Prelude.{Some, None}
 use Rattle.wasm_spec.specs.Syntax.{Val}
 use Rattle.wasm_rules.specs.Contexts.{Context}
 use Rattle.wasm_readers_types.specs.declared.indices.UnpackedIndex.{UnpackedIndex}
@@ -9,7 +8,7 @@ use Rattle.wasm_operators.specs.SeenLists.{GivesFront}
 use Rattle.wasm_operators.specs.declared.control.Catch.{Catch}
 use Rattle.wasm_operators.specs.declared.control.Catch.TheVariants as catch
 use Rattle.wasm_operator_steps.specs.Actions.{Types, of_tag, params, label, joined, is_exception, each_matches}
-use Rattle.wasm_operator_steps.specs.Attempts.{◌>>=◌, passes}
+use Rattle.wasm_operator_steps.specs.Attempts.{passes}
 use Rattle.wasm_operator_steps.specs.Matching.{matches_vals}
 use Rattle.wasm_operator_steps.specs.Meanings.{types_at, holds}
 use Rattle.wasm_operator_steps.specs.Shapes.{nothing, exception, catch_checks}
@@ -82,8 +81,9 @@ two_apart false b c = refl
 module _ {A : Type 0} (v : Stacks A) (C : Context UnpackedIndex) where
   apart : (c : Catch) (cs : List Catch) → all_held v C (catch_checks (c ∷ cs)) ≡ (all_held v C (catch_checks (c ∷ [])) && all_held v C (catch_checks cs))
   unfolding all_held
-  apart (catch.One x n) cs = two_apart _ _ _
-  apart (catch.OneRef x n) cs = two_apart _ _ _
+  apart (catch.One x n) cs = two_apart (holds (world C) (around v C) (state_of v) (is_exception x)) (holds (world C) (around v C) (state_of v) (each_matches (params (of_tag x)) (label n))) (hold_all (world C) (around v C) (state_of v) (catch_checks cs))
+  apart (catch.OneRef x n) cs =
+      two_apart (holds (world C) (around v C) (state_of v) (is_exception x)) (holds (world C) (around v C) (state_of v) (each_matches (joined (params (of_tag x)) exception) (label n))) (hold_all (world C) (around v C) (state_of v) (catch_checks cs))
   apart (catch.All n) cs = ap (λ b. b && hold_all (world C) (around v C) (state_of v) (catch_checks cs)) (sym (and_true _))
   apart (catch.AllRef n) cs = ap (λ b. b && hold_all (world C) (around v C) (state_of v) (catch_checks cs)) (sym (and_true _))
 

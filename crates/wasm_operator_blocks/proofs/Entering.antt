@@ -7,15 +7,15 @@ use Rattle.wasm_spec.specs.Syntax.{Val, i32}
 use Rattle.wasm_rules.specs.Contexts.{Context}
 use Rattle.wasm_readers_types.specs.declared.indices.UnpackedIndex.{UnpackedIndex}
 use Rattle.wasm_operators.specs.Control.{Block, empty_block, value_block, func_block}
-use Rattle.wasm_operator_steps.specs.Actions.{Types, Check, has, exceptions, Action, need, take, enter}
+use Rattle.wasm_operator_steps.specs.Actions.{Types, Check, has, exceptions, Action, take, enter}
 use Rattle.wasm_operator_steps.specs.Attempts.{◌>>=◌, guard}
 use Rattle.wasm_operator_steps.specs.Bodies.{Surroundings}
 use Rattle.wasm_operator_steps.specs.Machine.{Kind, State, pop_val, pop_vals, push_frame}
-use Rattle.wasm_operator_steps.specs.Meanings.{Signature, resolve_block, block_signature, types_at, holds, act, run}
+use Rattle.wasm_operator_steps.specs.Meanings.{Signature, resolve_block, block_signature, types_at, holds, run}
 use Rattle.wasm_operator_steps.specs.Shapes.{block_checks, nothing, one}
 use Rattle.wasm_operator_steps.specs.Steps.{checked}
 use Rattle.wasm_module_resources.specs.Answers.{world}
-use Rattle.wasm_operator_stacks.specs.Seen.{state_of, around, below}
+use Rattle.wasm_operator_stacks.specs.Seen.{state_of, around}
 use Rattle.wasm_operator_stacks.specs.declared.stacks.Stacks.{Stacks}
 use Rattle.wasm_operator_checks.specs.Steps.{Took, acted, held}
 use Rattle.wasm_operator_checks.specs.declared.faults.OperatorError.{OperatorError}
@@ -74,7 +74,10 @@ module _ {A : Type 0} (v : Stacks A) (C : Context UnpackedIndex) where
     checks : h ≡ true
     named : Named o c vs
 
-  named_by : (c d : Block UnpackedIndex) (vs : List (Val UnpackedIndex)) (o : Option (Signature UnpackedIndex)) → signature_in C d ≡ o → option_map (λ g. (d, g.takes)) o ≡ Some (c, vs) → Named (Some d) c vs
+  abbrev with_takes : Block UnpackedIndex → Signature UnpackedIndex → Block UnpackedIndex × List (Val UnpackedIndex)
+  with_takes d g = (d, g.takes)
+
+  named_by : (c d : Block UnpackedIndex) (vs : List (Val UnpackedIndex)) (o : Option (Signature UnpackedIndex)) → signature_in C d ≡ o → option_map (with_takes d) o ≡ Some (c, vs) → Named (Some d) c vs
   named_by c d vs None f e = cc
   named_by c d vs (Some g) f e =
       let q : (d, g.takes) ≡ (c, vs) = some_same (d, g.takes) (c, vs) e in
@@ -130,7 +133,7 @@ module _ {A : Type 0} (v : Stacks A) (C : Context UnpackedIndex) where
       all_checked (world C) (around v C) (block_checks b) (take (one i32) ∷ enter k b ∷ []) (state_of v) q.checks ∙ ap (λ o. o >>= run (world C) (around v C) (enter k b ∷ [])) p
 
   -- a block type that isn't known
-  unsigned_by : (c : Block UnpackedIndex) (o : Option (Signature UnpackedIndex)) → option_map (λ g. (c, g.takes)) o ≡ None → o ≡ None
+  unsigned_by : (c : Block UnpackedIndex) (o : Option (Signature UnpackedIndex)) → option_map (with_takes c) o ≡ None → o ≡ None
   unsigned_by c None e = refl
   unsigned_by c (Some g) e = cc
 

@@ -1,23 +1,20 @@
 -- Block types that are resolved.
-use Rattle.std.proofs.Common.{◌≡◌, ℕ, Bool, true, false, ◌&&◌, List, [], ◌∷◌, refl, sym, ◌∙◌, ap}
+use Rattle.std.proofs.Common.{◌≡◌, ℕ, Bool, true, false, ◌&&◌, List, [], refl, ◌∙◌, ap}
 use Rattle.std.specs.Option.{option_map}
 use Rattle.std.specs.Prelude.{Option, Some, None, if◌then◌else◌}
 use Rattle.wasm_spec.specs.Features.{Features}
-use Rattle.wasm_spec.specs.Syntax.{Sub, Heap, abstract_heap, concrete, exact, Ref, Val, i32, i64, f32, f64, v128, reference, map_heap, map_ref, map_val}
+use Rattle.wasm_spec.specs.Syntax.{Sub, Heap, abstract_heap, concrete, exact, Val, i32, i64, f32, f64, v128, reference, map_heap, map_val}
 use Rattle.wasm_spec.specs.ValueTypes.{implies, allows_heap, allows_val}
 use Rattle.wasm_rules.specs.Contexts.{Context}
 use Rattle.wasm_rules.specs.FeatureFlags.{features_of}
 use Rattle.wasm_readers_types.specs.declared.indices.UnpackedIndex.{UnpackedIndex}
 use Rattle.wasm_operators.specs.Control.{Block, empty_block, value_block, func_block}
 use Rattle.wasm_operator_steps.specs.Attempts.{◌>>=◌, guard, passes}
-use Rattle.wasm_operator_steps.specs.Meanings.{Signature, signature_of, resolve_val, resolve_block}
-use Rattle.wasm_module_resources.specs.Answers.{world, sub_in, written_index, val_in, val_resolved}
-use Rattle.wasm_operator_steps.specs.Shapes.{block_checks}
-use Rattle.wasm_operator_stacks.specs.Seen.{state_of, around}
+use Rattle.wasm_operator_steps.specs.Meanings.{Signature, signature_of, resolve_block}
+use Rattle.wasm_module_resources.specs.Answers.{sub_in, written_index, val_in, val_resolved}
 use Rattle.wasm_operator_stacks.specs.declared.stacks.Stacks.{Stacks}
-use Rattle.wasm_operator_control.specs.Blocks.{signature_in}
 use Rattle.wasm_operator_calls.specs.Callees.{type_in}
-use Rattle.wasm_operator_blocks.specs.Known.{hold_all, taken_by, block_known}
+use Rattle.wasm_operator_blocks.specs.Known.{taken_by, block_known}
 
 -- the features allow a type whatever it is named by
 module _ (F : Features) where

@@ -1,21 +1,19 @@
 -- What catch clauses send to labels.
-use Rattle.std.proofs.Common.{◌≡◌, ◌≢◌, ℕ, ◌-◌, ◌<◌, Bool, true, false, ◌&&◌, ◌==◌, List, [], ◌∷◌, ◌++◌, length, take, map, get_or, refl, sym, ◌∙◌, ap, arith}
-use Rattle.std.specs.Option.{option_map}
-use Rattle.std.specs.Prelude.{Option, Some, None, zero, suc}
+use Rattle.std.proofs.Common.{◌≡◌, ◌≢◌, ℕ, ◌-◌, Bool, true, false, ◌&&◌, ◌==◌, List, [], ◌∷◌, ◌++◌, length, take, map, get_or, refl, sym, ◌∙◌, ap, arith}
+use Rattle.std.specs.Prelude.{Some, None, zero, suc}
 use Rattle.std.proofs.lemmas.Bool.Decides.{nat_tests}
 use Rattle.wasm_spec.specs.MatchingTests.{World, matches_val}
-use Rattle.wasm_spec.specs.Syntax.{Val, reference}
+use Rattle.wasm_spec.specs.Syntax.{Val}
 use Rattle.wasm_rules.specs.Contexts.{Context}
 use Rattle.wasm_readers_types.specs.SeenValues.{val_of}
 use Rattle.wasm_readers_types.specs.declared.indices.UnpackedIndex.{UnpackedIndex}
 use Rattle.wasm_readers_types.specs.declared.values.ValType.{ValType}
 use Rattle.wasm_operator_steps.specs.Actions.{label}
-use Rattle.wasm_operator_steps.specs.Attempts.{passes}
 use Rattle.wasm_operator_steps.specs.Matching.{matches_vals}
 use Rattle.wasm_module_resources.specs.Answers.{world}
 use Rattle.wasm_operator_stacks.specs.declared.stacks.Stacks.{Stacks}
 use Rattle.wasm_operator_checks.specs.Steps.{typed}
-use Rattle.wasm_operator_blocks.specs.Sent.{sends}
+use Rattle.wasm_operator_blocks.specs.Sent.{exception_val, sends}
 
 and_false : (b : Bool) → (b && false) ≡ false
 and_false true = refl
@@ -88,6 +86,9 @@ module _ {A : Type 0} (v : Stacks A) (C : Context UnpackedIndex) where
   pub sent_to : (vs ws : List (Val UnpackedIndex)) (n : ℕ) (b : Bool) → typed v C (label n) ≡ Some ws → b ≡ matches_vals (world C) vs ws → b ≡ sends v C vs n
   unfolding sends typed
   sent_to vs ws n b e f = rw e f
+
+  pub sent_with : (vs ws : List (Val UnpackedIndex)) (x : Val UnpackedIndex) (n : ℕ) (b c : Bool) → typed v C (label n) ≡ Some ws → x ≡ exception_val → c ≡ matches_vals (world C) (vs ++ x ∷ []) ws → c ≡ b → b ≡ sends v C (vs ++ exception_val ∷ []) n
+  sent_with vs ws x n b c e f g h = sent_to (vs ++ exception_val ∷ []) ws n b e (sym h ∙ g ∙ ap (λ y. matches_vals (world C) (vs ++ y ∷ []) ws) f)
 
 pub ruleset sendings = (sent_nowhere, sent_to)
 

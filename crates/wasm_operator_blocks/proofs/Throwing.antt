@@ -1,5 +1,5 @@
 -- What exceptions hold.
-use Rattle.std.proofs.Common.{◌≡◌, ℕ, Bool, true, false, ◌==◌, List, [], ◌∷◌, length, refl, sym, ◌∙◌, ap}
+use Rattle.std.proofs.Common.{◌≡◌, ℕ, Bool, true, false, ◌==◌, List, [], ◌∷◌, length, refl, ◌∙◌, ap}
 use Rattle.std.specs.Option.{option_map}
 use Rattle.std.specs.Prelude.{Option, Some, None, slice_get}
 use Rattle.wasm_spec.specs.Syntax.{Val, Sub, abstract_heap, exn_heap, reference}
@@ -10,7 +10,7 @@ use Rattle.wasm_operator_steps.specs.Attempts.{◌>>=◌, guard, passes}
 use Rattle.wasm_operator_steps.specs.Meanings.{Signature, signature_of, signature_at}
 use Rattle.wasm_operator_steps.specs.Shapes.{one, reference_to}
 use Rattle.wasm_module_resources.specs.Answers.{world, sub_in, tag_in}
-use Rattle.wasm_operator_stacks.specs.Seen.{state_of, around}
+use Rattle.wasm_operator_stacks.specs.Seen.{around}
 use Rattle.wasm_operator_stacks.specs.declared.stacks.Stacks.{Stacks}
 use Rattle.wasm_operator_checks.specs.Steps.{typed, held}
 use Rattle.wasm_operator_blocks.specs.Sent.{thrown_in}

@@ -24,7 +24,7 @@ use Rattle.wasm_operator_stacks.specs.declared.stacks.Frame.{Frame}
 use Rattle.wasm_operator_stacks.specs.declared.stacks.Stacks.{Stacks}
 use Rattle.wasm_operator_checks.specs.Steps.{acted}
 use Rattle.wasm_operator_control.specs.Blocks.{signature_in}
-use Rattle.wasm_operator_blocks.specs.Again.{again_in, again}
+use Rattle.wasm_operator_blocks.specs.Again.{again}
 
 -- the frame that begins again
 pub begun : (b : Bool) (ops : List (machine.Operand UnpackedIndex)) (x y : Frame) (xs : List Frame) (inits inits' : List ℕ) → b ≡ true → inits' ≡ drop (length inits - x.init_height) inits

@@ -1,5 +1,5 @@
 -- A frame that begins again as `else`.
-use Rattle.std.specs.Prelude.{ℕ, false, ◌-◌, List, [], ◌∷◌, length, drop}
+use Rattle.std.specs.Prelude.{false, ◌-◌, List, [], ◌∷◌, length, drop}
 use Rattle.wasm_readers_types.specs.declared.indices.UnpackedIndex.{UnpackedIndex}
 use Rattle.wasm_operator_steps.specs.Machine.{else_kind, Frame, State}
 

@@ -1,5 +1,5 @@
 -- What exceptions hold, and what catch clauses send to labels.
-use Rattle.std.specs.Prelude.{ℕ, Bool, ◌==◌, List, [], ◌∷◌, length, Option}
+use Rattle.std.specs.Prelude.{ℕ, Bool, ◌==◌, List, length, Option}
 use Rattle.wasm_spec.specs.Syntax.{Val, reference, abstract_heap, exn_heap}
 use Rattle.std.specs.Prelude.{false}
 use Rattle.wasm_rules.specs.Contexts.{Context}

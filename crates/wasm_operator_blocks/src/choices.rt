@@ -49,13 +49,25 @@ fn choose(first: Word, second: Word) -> Option<Word>
     match (first.seen(), second.seen()) {
         (Operand::Bottom, Operand::Bottom) => Some(first),
         (Operand::Bottom, Operand::Known(ty)) => {
-            if is_same_number(ty, ty) { Some(second) } else { None }
+            if is_same_number(ty, ty) {
+                Some(second)
+            } else {
+                None
+            }
         }
         (Operand::Known(ty), Operand::Bottom) => {
-            if is_same_number(ty, ty) { Some(first) } else { None }
+            if is_same_number(ty, ty) {
+                Some(first)
+            } else {
+                None
+            }
         }
         (Operand::Known(ty), Operand::Known(other)) => {
-            if is_same_number(ty, other) { Some(first) } else { None }
+            if is_same_number(ty, other) {
+                Some(first)
+            } else {
+                None
+            }
         }
         _ => None,
     }
