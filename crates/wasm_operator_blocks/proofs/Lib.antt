@@ -1,0 +1,9 @@
+pub mod Resolved
+pub mod Entering
+pub mod Turned
+pub mod Choosing
+pub mod Throwing
+pub mod Tabled
+pub mod Sending
+pub mod Catching
+pub mod Writing

@@ -1,0 +1,6 @@
+use Rattle.wasm_operator_blocks.proofs.Entering.{enters_conditioned}
+use Rattle.wasm_operator_blocks.proofs.blocks.open_if.Goals as goal
+
+pub returns-in-Ok-check_type-clause-took : goal.returns-in-Ok-check_type-clause-took
+returns-in-Ok-check_type-clause-took g c =
+    enters_conditioned _ _ _ _ _ _ _ _ _ _ _ c.in-Ok.ensures c.number-condition.ensures c.in-Ok-check_type.ensures.0 c.open_frame.ensures.took

@@ -1,0 +1,43 @@
+-- Block types that are known: what their checks say, and what they stand for.
+use Rattle.std.specs.Prelude.{ℕ, Bool, true, ◌&&◌, ◌≡◌, List, [], ◌∷◌, Option, Some, None, Result, Ok, Err, if◌then◌else◌}
+use Rattle.std.specs.Option.{option_map}
+use Rattle.wasm_spec.specs.Syntax.{Val}
+use Rattle.wasm_spec.specs.MatchingTests.{World}
+use Rattle.wasm_rules.specs.Contexts.{Context}
+use Rattle.wasm_readers_types.specs.declared.indices.UnpackedIndex.{UnpackedIndex}
+use Rattle.wasm_operators.specs.Control.{Block}
+use Rattle.wasm_operator_steps.specs.Attempts.{◌>>=◌}
+use Rattle.wasm_operator_steps.specs.Actions.{Check}
+use Rattle.wasm_operator_steps.specs.Bodies.{Surroundings}
+use Rattle.wasm_operator_steps.specs.Machine.{State}
+use Rattle.wasm_operator_steps.specs.Meanings.{resolve_block, holds}
+use Rattle.wasm_operator_steps.specs.Shapes.{block_checks}
+use Rattle.wasm_module_resources.specs.Answers.{world}
+use Rattle.wasm_operator_stacks.specs.Seen.{state_of, around}
+use Rattle.wasm_operator_stacks.specs.SeenBlocks.{block_in}
+use Rattle.wasm_operator_stacks.specs.declared.stacks.Stacks.{Stacks}
+use Rattle.wasm_operator_checks.specs.SeenTypes.{types_seen}
+use Rattle.wasm_operator_checks.specs.declared.faults.OperatorFault.{OperatorFault}
+use Rattle.wasm_operator_control.specs.Blocks.{signature_in}
+use Rattle.wasm_operator_blocks.specs.declared.openings.Opening.{Opening}
+
+abbrev pub hold_all : World UnpackedIndex → Surroundings UnpackedIndex → State UnpackedIndex → List Check → Bool
+hold_all W B s [] = true
+hold_all W B s (c ∷ cs) = holds W B s c && hold_all W B s cs
+
+-- the block type by identities, and what it takes
+abbrev pub taken_by : Context UnpackedIndex → Block UnpackedIndex → Option (Block UnpackedIndex × List (Val UnpackedIndex))
+taken_by C c = option_map (λ g. (c, g.takes)) (signature_in C c)
+
+module _ {A : Type 0} (v : Stacks A) (C : Context UnpackedIndex) where
+  -- whether each of these checks holds
+  unfoldable pub all_held : List Check → Bool
+  all_held cs = hold_all (world C) (around v C) (state_of v) cs
+
+  -- what a written block type stands for, where its checks hold
+  unfoldable pub block_known : Block ℕ → Option (Block UnpackedIndex × List (Val UnpackedIndex))
+  block_known b = if hold_all (world C) (around v C) (state_of v) (block_checks b) then (resolve_block C.types b >>= taken_by C) else None
+
+abbrev pub Opens : Result Opening OperatorFault → Option (Block UnpackedIndex × List (Val UnpackedIndex)) → Type 0
+Opens (Ok o) k = k ≡ Some (block_in o.word, types_seen o.takes)
+Opens (Err f) k = k ≡ None

@@ -1,0 +1,5 @@
+pub mod Written
+pub mod Known
+pub mod Sent
+pub mod Again
+pub mod Fitting

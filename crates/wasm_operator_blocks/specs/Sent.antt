@@ -1,0 +1,25 @@
+-- What exceptions hold, and what catch clauses send to labels.
+use Rattle.std.specs.Prelude.{ℕ, Bool, ◌==◌, List, length, Option}
+use Rattle.wasm_spec.specs.Syntax.{Val, reference, abstract_heap, exn_heap}
+use Rattle.std.specs.Prelude.{false}
+use Rattle.wasm_rules.specs.Contexts.{Context}
+use Rattle.wasm_readers_types.specs.declared.indices.UnpackedIndex.{UnpackedIndex}
+use Rattle.wasm_operator_steps.specs.Actions.{label}
+use Rattle.wasm_operator_steps.specs.Attempts.{◌>>=◌, guard, passes}
+use Rattle.wasm_operator_steps.specs.Matching.{matches_vals}
+use Rattle.wasm_operator_steps.specs.Meanings.{types_at}
+use Rattle.wasm_module_resources.specs.Answers.{world, tag_in}
+use Rattle.wasm_operator_stacks.specs.Seen.{state_of, around}
+use Rattle.wasm_operator_stacks.specs.declared.stacks.Stacks.{Stacks}
+
+-- what an exception of a tag holds, where it is a tag of exceptions
+abbrev pub thrown_in : Context UnpackedIndex → ℕ → Option (List (Val UnpackedIndex))
+thrown_in C n = tag_in C n >>= λ g. guard (length g.gives == 0) g.takes
+
+-- a reference to an exception
+abbrev pub exception_val : Val UnpackedIndex
+exception_val = reference (record { nullable = false; heap = abstract_heap false exn_heap })
+
+-- whether each of these types matches that of a label
+unfoldable pub sends : {A : Type 0} → Stacks A → Context UnpackedIndex → List (Val UnpackedIndex) → ℕ → Bool
+sends v C vs n = passes (matches_vals (world C) vs) (types_at (world C) (around v C) (state_of v) (label n))

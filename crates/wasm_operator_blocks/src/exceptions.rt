@@ -1,0 +1,89 @@
+//! `throw` and `throw_ref`.
+
+ghost use Rattle.std.specs.Prelude.{◌≡◌, Some, None, IfOk, OnErr, map};
+ghost use Rattle.wasm_operators.specs.Control.{throw, throw_ref};
+ghost use Rattle.wasm_readers_types.specs.SeenValues.{val_of};
+ghost use Rattle.wasm_operator_steps.specs.Shapes.{control_shape};
+ghost use Rattle.wasm_operator_stacks.specs.Seen.{Kept};
+ghost use Rattle.wasm_operator_checks.specs.Steps.{Performs};
+ghost use Rattle.wasm_operator_blocks.specs.Sent.{thrown_in};
+
+use std::alloc::Allocator;
+use wasm_module_resources::WasmModuleResources;
+use wasm_operator_checks::{OperatorError, OperatorFault, OperatorRule, Types, halt, has};
+use wasm_operator_stacks::Stacks;
+use wasm_readers_errors::WasmFeatures;
+use wasm_readers_types::{RefType, ValType};
+use wasm_type_words::TypeWord;
+
+/// What an exception of this tag holds.
+#[tactic(auto, using(crate::proofs::Throwing::tags))]
+pub(crate) fn thrown_types<'a, T: WasmModuleResources>(
+    resources: &'a T,
+    tag: u32,
+) -> Result<&'a [ValType], OperatorFault>
+    ensures ok { IfOk result (λ ts. thrown_in (T.context resources.now) tag ≡ Some (map val_of ts.now)) }
+    ensures err { OnErr result (thrown_in (T.context resources.now) tag ≡ None) }
+{
+    match resources.tag_at(tag) {
+        Some(signature) => {
+            if signature.results().is_empty() {
+                Ok(signature.params())
+            } else {
+                Err(OperatorFault::at(OperatorRule::TagResults, tag))
+            }
+        }
+        None => Err(OperatorFault::at(OperatorRule::UnknownTag, tag)),
+    }
+}
+
+/// `throw` (Core Specification 3.0, Validation, Instructions, Control Instructions): it takes what
+/// an exception of the tag holds, and what follows isn't reached.
+///
+/// # Errors
+///
+/// Refuses it without the proposal of exceptions (`Exceptions`), a tag that isn't there
+/// (`UnknownTag`) or has results (`TagResults`), and operands that aren't what the tag takes
+/// (`Operand`). Where it is refused, all stays.
+#[tactic(auto, using(wasm_operator_checks::proofs::Acting::acts, crate::proofs::Throwing::throws))]
+pub fn throw<A: Allocator, T: WasmModuleResources>(
+    stacks: &mut Stacks<A>,
+    resources: &T,
+    tag: u32,
+) -> Result<(), OperatorError>
+    ensures took { Performs result (T.context resources.now) (control_shape (throw tag)) stacks.old stacks.new }
+    ensures same { Kept stacks.old stacks.new }
+{
+    if !has(stacks, WasmFeatures::EXCEPTIONS) {
+        return Err(OperatorError::Refused(OperatorFault::new(OperatorRule::Exceptions)));
+    }
+    match thrown_types(resources, tag) {
+        Ok(types) => halt(stacks, resources, Types::Many(types)),
+        Err(fault) => Err(OperatorError::Refused(fault)),
+    }
+}
+
+/// `throw_ref` (Core Specification 3.0, Validation, Instructions, Control Instructions): it takes a
+/// reference to an exception, and what follows isn't reached.
+///
+/// # Errors
+///
+/// Refuses it without the proposal of exceptions (`Exceptions`), and an operand that is no such
+/// reference (`Operand`). Where it is refused, all stays.
+#[tactic(auto, using(wasm_operator_checks::proofs::Acting::acts, crate::proofs::Throwing::throws))]
+pub fn throw_ref<A: Allocator, T: WasmModuleResources>(
+    stacks: &mut Stacks<A>,
+    resources: &T,
+) -> Result<(), OperatorError>
+    ensures took { Performs result (T.context resources.now) (control_shape throw_ref) stacks.old stacks.new }
+    ensures same { Kept stacks.old stacks.new }
+{
+    if !has(stacks, WasmFeatures::EXCEPTIONS) {
+        return Err(OperatorError::Refused(OperatorFault::new(OperatorRule::Exceptions)));
+    }
+    halt(
+        stacks,
+        resources,
+        Types::One(TypeWord::reference(RefType::EXNREF)),
+    )
+}

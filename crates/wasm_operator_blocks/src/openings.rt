@@ -1,0 +1,88 @@
+//! Block types by identities.
+
+ghost use Rattle.std.specs.Prelude.{◌≡◌};
+ghost use Rattle.wasm_operators.specs.Control.{value_block, func_block};
+ghost use Rattle.wasm_operators.specs.SeenControl.{block_of};
+ghost use Rattle.wasm_readers_types.specs.SeenValues.{val_of};
+ghost use Rattle.wasm_spec.specs.Syntax.{map_val};
+ghost use Rattle.wasm_module_resources.specs.Answers.{written_index, IsWrittenVal};
+ghost use Rattle.wasm_operator_blocks.specs.Written.{block_written, IsWrittenBlock};
+ghost use Rattle.wasm_operator_blocks.specs.Known.{Opens, block_known};
+
+use std::alloc::Allocator;
+use wasm_module_resources::WasmModuleResources;
+use wasm_operator_calls::type_reached;
+use wasm_operator_checks::{OperatorFault, OperatorRule, Types, has};
+use wasm_operator_stacks::{BlockWord, Stacks};
+use wasm_operators::BlockType;
+use wasm_readers_errors::WasmFeatures;
+use wasm_readers_types::ValType;
+use wasm_type_words::TypeWord;
+
+/// A block type by identities, and what the block takes.
+#[derive(Clone, Copy)]
+pub(crate) struct Opening<'a> {
+    pub(crate) word: BlockWord,
+    pub(crate) takes: Types<'a>,
+}
+
+/// A block with one result of a written type.
+#[tactic(auto, using(crate::proofs::Resolved::resolving))]
+fn resolve_value<'a, A: Allocator, T: WasmModuleResources>(
+    stacks: &Stacks<A>,
+    resources: &'a T,
+    ty: ValType,
+) -> Result<Opening<'a>, OperatorFault>
+    requires { IsWrittenVal (val_of ty) }
+    ensures { Opens result (block_known stacks.now (T.context resources.now) (value_block (map_val written_index (val_of ty)))) }
+{
+    let mut named = ty;
+    match resources.check_value_type(&mut named, &stacks.features, 0) {
+        Ok(()) => Ok(Opening {
+            word: BlockWord::value(TypeWord::new(named)),
+            takes: Types::None,
+        }),
+        Err(_) => Err(OperatorFault::new(OperatorRule::ValueType)),
+    }
+}
+
+/// A block of the function type of this type index.
+#[tactic(auto, using(crate::proofs::Resolved::resolving))]
+fn resolve_function<'a, A: Allocator, T: WasmModuleResources>(
+    stacks: &Stacks<A>,
+    resources: &'a T,
+    type_index: u32,
+) -> Result<Opening<'a>, OperatorFault>
+    ensures { Opens result (block_known stacks.now (T.context resources.now) (func_block type_index)) }
+{
+    if !has(stacks, WasmFeatures::MULTI_VALUE) {
+        return Err(OperatorFault::new(OperatorRule::MultiValue));
+    }
+    match type_reached(stacks, resources, type_index) {
+        Ok(signature) => Ok(Opening {
+            word: BlockWord::func(type_index),
+            takes: Types::Many(signature.params()),
+        }),
+        Err(fault) => Err(fault),
+    }
+}
+
+/// A written block type by identities, where the features and the module allow it.
+#[tactic(auto, using(crate::proofs::Resolved::resolving))]
+pub(crate) fn resolve<'a, A: Allocator, T: WasmModuleResources>(
+    stacks: &Stacks<A>,
+    resources: &'a T,
+    ty: BlockType,
+) -> Result<Opening<'a>, OperatorFault>
+    requires { IsWrittenBlock (block_of ty) }
+    ensures { Opens result (block_known stacks.now (T.context resources.now) (block_written ty)) }
+{
+    match ty {
+        BlockType::Empty => Ok(Opening {
+            word: BlockWord::empty(),
+            takes: Types::None,
+        }),
+        BlockType::Value(ty) => resolve_value(stacks, resources, ty),
+        BlockType::FuncType(type_index) => resolve_function(stacks, resources, type_index),
+    }
+}

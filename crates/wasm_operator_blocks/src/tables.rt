@@ -1,0 +1,162 @@
+//! `br_table`.
+
+ghost use Rattle.std.specs.Prelude.{◌≡◌, ◌≤◌, true, Some, is_ok, length};
+ghost use Rattle.wasm_spec.specs.Values.{u32_at};
+ghost use Rattle.wasm_operators.specs.Control.{br_table};
+ghost use Rattle.wasm_operators.specs.SeenLists.{listed};
+ghost use Rattle.wasm_operator_steps.specs.Shapes.{control_shape};
+ghost use Rattle.wasm_operator_stacks.specs.Seen.{state_of, Kept};
+ghost use Rattle.wasm_operator_checks.specs.Steps.{Performs};
+ghost use Rattle.wasm_operator_checks.specs.SeenTypes.{types_seen};
+ghost use Rattle.wasm_operator_blocks.specs.Fitting.{fits, all_fit, LastPasses};
+
+use std::alloc::Allocator;
+use wasm_module_resources::WasmModuleResources;
+use wasm_numeric_operators::NumberType;
+use wasm_operator_checks::{
+    OperatorError, OperatorFault, OperatorRule, Types, check_type, check_types,
+};
+use wasm_operator_control::label_types;
+use wasm_operator_stacks::Stacks;
+use wasm_operators::{BrTable, Listed};
+use wasm_type_words::TypeWord;
+
+/// How many types these are.
+#[tactic(auto, using(crate::proofs::Tabled::counts))]
+fn count<'a>(types: Types<'a>) -> usize
+    ensures { result ≡ length (types_seen types.entry) }
+{
+    match types {
+        Types::None => 0,
+        Types::One(_) => 1,
+        Types::Many(types) => types.len(),
+    }
+}
+
+/// Whether a target takes so many operands, and finds its types below those that are taken already.
+#[tactic(auto, using(crate::proofs::Tabled::targets))]
+fn check_target<A: Allocator, T: WasmModuleResources>(
+    stacks: &Stacks<A>,
+    resources: &T,
+    first: usize,
+    wanted: usize,
+    label: u32,
+) -> Result<(), OperatorFault>
+    requires { first ≤ length (state_of stacks.now).operands }
+    ensures { is_ok result ≡ fits stacks.now (T.context resources.now) first wanted label }
+{
+    let types = match label_types(stacks, resources, label) {
+        Some(types) => types,
+        None => return Err(OperatorFault::at(OperatorRule::UnknownLabel, label)),
+    };
+    if count(types) != wanted {
+        return Err(OperatorFault::at(OperatorRule::LabelTypes, label));
+    }
+    match check_types(stacks, resources, first, types) {
+        Ok(_) => Ok(()),
+        Err(fault) => Err(fault),
+    }
+}
+
+/// Whether it is the label that was checked last.
+#[inline(always)]
+fn is_last(last: Option<u32>, label: u32) -> bool
+    ensures { result ≡ true → last ≡ Some label }
+{
+    match last {
+        Some(checked) => checked == label,
+        None => false,
+    }
+}
+
+/// The same, where the label that was checked last isn't checked again.
+#[tactic(auto, using(crate::proofs::Tabled::targets))]
+fn check_once<A: Allocator, T: WasmModuleResources>(
+    stacks: &Stacks<A>,
+    resources: &T,
+    first: usize,
+    wanted: usize,
+    last: Option<u32>,
+    label: u32,
+) -> Result<(), OperatorFault>
+    requires first { first ≤ length (state_of stacks.now).operands }
+    requires known { LastPasses (fits stacks.now (T.context resources.now) first wanted) last }
+    ensures { is_ok result ≡ fits stacks.now (T.context resources.now) first wanted label }
+{
+    if is_last(last, label) {
+        Ok(())
+    } else {
+        check_target(stacks, resources, first, wanted, label)
+    }
+}
+
+/// Whether each target takes so many operands, and finds its types.
+#[tactic(auto, using(crate::proofs::Tabled::lists))]
+fn check_targets<'a, A: Allocator, T: WasmModuleResources>(
+    stacks: &Stacks<A>,
+    resources: &T,
+    first: usize,
+    wanted: usize,
+    targets: Listed<'a, u32>,
+) -> Result<(), OperatorFault>
+    requires { first ≤ length (state_of stacks.now).operands }
+    ensures { is_ok result ≡ all_fit stacks.now (T.context resources.now) first wanted (listed u32_at targets.entry) }
+{
+    let mut left = targets.items();
+    let mut last = None;
+    'checking: while let Some(label) = left.next() {
+        match check_once(stacks, resources, first, wanted, last, label) {
+            Ok(()) => {}
+            Err(fault) => return Err(fault),
+        }
+        last = Some(label);
+    }
+    Ok(())
+}
+
+/// `br_table` (Core Specification 3.0, Validation, Instructions, Control Instructions): it takes an
+/// index and what its labels take, and what follows isn't reached. Each label finds its own types.
+///
+/// # Errors
+///
+/// Refuses an index that isn't of `i32` and operands that aren't what a label takes (`Operand`), a
+/// label that isn't there (`UnknownLabel`), and one that takes more or fewer operands than the
+/// default (`LabelTypes`). Where it is refused, all stays.
+#[tactic(auto, using(wasm_operator_checks::proofs::Acting::acts, crate::proofs::Tabled::tables))]
+pub fn branch_by_table<'a, A: Allocator, T: WasmModuleResources>(
+    stacks: &mut Stacks<A>,
+    resources: &T,
+    table: BrTable<'a>,
+) -> Result<(), OperatorError>
+    ensures took { Performs result (T.context resources.now) (control_shape (br_table (listed u32_at table.entry.targets) table.entry.default)) stacks.old stacks.new }
+    ensures same { Kept stacks.old stacks.new }
+{
+    if !stacks.is_open {
+        return Err(OperatorError::Refused(OperatorFault::new(OperatorRule::Ended)));
+    }
+    let index = TypeWord::number(NumberType::I32);
+    let first = match check_type(stacks, resources, 0, index) {
+        Ok(first) => first,
+        Err(fault) => return Err(OperatorError::Refused(fault)),
+    };
+    let default = table.default;
+    let types = match label_types(stacks, resources, default) {
+        Some(types) => types,
+        None => {
+            let fault = OperatorFault::at(OperatorRule::UnknownLabel, default);
+            return Err(OperatorError::Refused(fault));
+        }
+    };
+    match check_targets(stacks, resources, first, count(types), table.targets) {
+        Ok(()) => {}
+        Err(fault) => return Err(OperatorError::Refused(fault)),
+    }
+    match check_types(stacks, resources, first, types) {
+        Ok(taken) => {
+            stacks.take(taken);
+            stacks.stop();
+            Ok(())
+        }
+        Err(fault) => Err(OperatorError::Refused(fault)),
+    }
+}
