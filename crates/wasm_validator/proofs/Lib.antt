@@ -29,3 +29,5 @@ pub mod Resets
 pub mod TableKept
 pub mod SectionLaws
 pub mod ImportsAdded
+pub mod ExportsAdded
+pub mod TypesAdded
