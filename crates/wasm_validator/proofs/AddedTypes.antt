@@ -41,7 +41,7 @@ module _ (features : WasmFeatures) where
       omega (arith, here, later)
 
   -- one group, where the limit is kept
-  one_group : (p : TypesSoFar × Spaces) (g : Rec ℕ) (r : TypesSoFar × List ℕ) → with_written F p.0 p.1.types (map_rec written g) ≡ Some r → length r.1 ≤ MAX_TYPES
+  pub one_group : (p : TypesSoFar × Spaces) (g : Rec ℕ) (r : TypesSoFar × List ℕ) → with_written F p.0 p.1.types (map_rec written g) ≡ Some r → length r.1 ≤ MAX_TYPES
       → add_group features p (map_rec written g) ≡ Some (with_ids p.1 r)
   one_group p g r e few =
       let many = written_length F p.0 p.1.types (map_rec written g) r e in
@@ -64,13 +64,13 @@ module _ (features : WasmFeatures) where
     pub few : length end.1 ≤ MAX_TYPES
     pub is : with_ids p.1 end ≡ q
 
-  record OneEnds (p q : TypesSoFar × Spaces) (g : Rec ℕ) : Type 0 where
-    end : TypesSoFar × List ℕ
-    ran : with_written F p.0 p.1.types (map_rec written g) ≡ Some end
-    few : length end.1 ≤ MAX_TYPES
-    is : with_ids p.1 end ≡ q
+  pub record OneEnds (p q : TypesSoFar × Spaces) (g : Rec ℕ) : Type 0 where
+    pub end : TypesSoFar × List ℕ
+    pub ran : with_written F p.0 p.1.types (map_rec written g) ≡ Some end
+    pub few : length end.1 ≤ MAX_TYPES
+    pub is : with_ids p.1 end ≡ q
 
-  one_ends : (p q : TypesSoFar × Spaces) (g : Rec ℕ) → add_group features p (map_rec written g) ≡ Some q → OneEnds p q g
+  pub one_ends : (p q : TypesSoFar × Spaces) (g : Rec ℕ) → add_group features p (map_rec written g) ≡ Some q → OneEnds p q g
   one_ends p q g e =
       let n = length p.1.types + length (map (map_sub written) g.types) in
       let a = guarded (leb n MAX_TYPES) (option_map (with_ids p.1) (with_written F p.0 p.1.types (map_rec written g))) q e in

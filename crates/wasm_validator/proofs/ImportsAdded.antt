@@ -1,5 +1,5 @@
 -- A section of imports adds them one by one, where each is valid and fits behind those before it.
-use Rattle.std.proofs.Common.{◌≡◌, refl, sym, ap, subst, ◌∙◌, ℕ, ◌+◌, ◌≤◌, cond, leb, List, [], ◌∷◌, ◌++◌, map, length, Option, Some, None, arith, length-append}
+use Rattle.std.proofs.Common.{◌≡◌, refl, sym, ap, ◌∙◌, ℕ, ◌+◌, cond, leb, List, [], ◌∷◌, map, length, Option, Some, None, arith, length-append}
 use Rattle.std.specs.Option.{option_and_then}
 use Rattle.std.proofs.lemmas.Bool.{leb-true, le-leb}
 use Rattle.std.proofs.lemmas.List.{length-map}
@@ -23,8 +23,7 @@ use Rattle.wasm_validator_core_laws.specs.Shown.{listed_table, listed_global}
 use Rattle.wasm_validator_core_laws.proofs.AddedImports.{one_import_is_added}
 use Rattle.wasm_validator_core_laws.proofs.AddedItems.{each_changed}
 use Rattle.wasm_validator.specs.Machine.{read_section}
-use Rattle.wasm_validator.specs.Standing.{Standing, in_module}
-use Rattle.wasm_validator.specs.SectionLaws.{AddsEach, HasAddedEach, ImportsAdd}
+use Rattle.wasm_validator.specs.SectionLaws.{AddsEach, ImportsAdd}
 use Rattle.wasm_validator.proofs.SectionLists.{limited, section_entries}
 use Rattle.wasm_validator.proofs.SectionLaws.{moved_from, moved_to, at_module}
 use Rattle.wasm_spec.proofs.LawSet.{import_renames}

@@ -7,6 +7,7 @@ pub mod Growing
 pub mod ValidTypes
 pub mod SectionMoves
 pub mod Runs
+pub mod GoingOn
 pub mod Reading
 pub mod AddedTypes
 pub mod ModuleRun
@@ -29,3 +30,5 @@ pub mod Resets
 pub mod TableKept
 pub mod SectionLaws
 pub mod ImportsAdded
+pub mod ExportsAdded
+pub mod TypesAdded

@@ -1,14 +1,15 @@
 -- A module that is refused so that the validator may be reset leaves a list that begins with the one before.
-use Rattle.std.proofs.Common.{◌≡◌, refl, sym, ap, subst, ◌∙◌, inl, inr, ◌⊎◌, Bool, true, false, ◌||◌, cond, ◌==◌, List, [], ◌++◌, Some, None, append_assoc, append-nil}
+use Rattle.std.proofs.Common.{◌≡◌, refl, sym, ap, subst, ◌∙◌, inl, inr, ◌⊎◌, Bool, true, false, ◌||◌, cond, ◌==◌, List, [], ◌++◌, Option, Some, None, append_assoc, append-nil}
 use Rattle.wasm_parser.specs.Framing as parts
 use Rattle.wasm_parser.specs.Framing.{Piece, Version, Custom, Counted, Start, DataCount, CodeStart, CodeEntry, Unknown}
 use Rattle.wasm_parser.specs.Machine.{State, next_of}
+use Rattle.wasm_readers_errors.specs.declared.error.Refusal.{Refusal}
 use Rattle.wasm_validator_types.specs.Spaces.{Spaces}
 use Rattle.wasm_validator_core.specs.Answers.{TypesSoFar}
 use Rattle.wasm_validator_module_state.specs.Bodies.{expected_bodies}
 use Rattle.wasm_validator.specs.Standing.{Stage, unparsed, in_module, in_code, ended, failed, Standing, HoldsAt, can_reset_at, may_reset, reset_at, after_reset, refused_at, read_refused_at, body_refused_at, ended_at}
 use Rattle.wasm_validator.specs.States.{is_barred, left_by}
-use Rattle.wasm_validator.specs.Payloads.{after_all, HasRefused}
+use Rattle.wasm_validator.specs.Payloads.{after_all, HasRefused, IsToldOfFormat}
 use Rattle.wasm_validator.specs.Sequences.{KeepsTypes, RefusedKeepTypes}
 use Rattle.wasm_validator.proofs.Growing.{all_only, all_back}
 
@@ -90,12 +91,12 @@ list_kept old new reached before pieces w run (in_code types spaces) is may kept
 list_kept old new reached before pieces w run (ended types) is may kept = from_list old new reached before types pieces w run (ended types) is refl refl (kept (IsFrontOf types) ([], append-nil types))
 list_kept old new reached before pieces w run failed is may kept = absurd cc
 
-left_so : (old new reached : Standing) (before : TypesSoFar) (pieces : List Piece) (behind : State) → old.stage ≡ unparsed before → after_all old pieces ≡ Some reached → may_reset new ≡ true
-    → ((next_of behind ≡ None) × (new ≡ reached)) ⊎ HasRefused behind reached new → KeepsTypes old new
-left_so old new reached before pieces behind w run may (inl h) = list_kept old new reached before pieces w run reached.stage h.1 (ap (λ (s : Standing). can_reset_at s.stage) (sym h.1) ∙ may) (λ V k. k)
-left_so old new reached before pieces behind w run may (inr h) =
+left_so : (told : Option Refusal) (old new reached : Standing) (before : TypesSoFar) (pieces : List Piece) (behind : State) → old.stage ≡ unparsed before → after_all old pieces ≡ Some reached → may_reset new ≡ true
+    → ((next_of behind ≡ None) × IsToldOfFormat told × (new ≡ reached)) ⊎ HasRefused behind reached new → KeepsTypes old new
+left_so told old new reached before pieces behind w run may (inl h) = list_kept old new reached before pieces w run reached.stage h.2 (ap (λ (s : Standing). can_reset_at s.stage) (sym h.2) ∙ may) (λ V k. k)
+left_so told old new reached before pieces behind w run may (inr h) =
     list_kept old new reached before pieces w run (left_by reached h.next) h.left (ap (λ (s : Standing). can_reset_at s.stage) (sym h.left) ∙ may)
     (λ V k. left_kept V reached h.next (ap (λ (s : Standing). can_reset_at s.stage) (sym h.left) ∙ may) k)
 
 pub refused_keep_types : RefusedKeepTypes
-refused_keep_types bytes old new before w l may = left_so old new l.reached before (l.taken).pieces l.behind w (l.taken).run may l.left
+refused_keep_types told bytes old new before w l may = left_so told old new l.reached before (l.taken).pieces l.behind w (l.taken).run may l.left

@@ -1,10 +1,10 @@
 -- A validator that goes over the payloads of whole bytes.
 use Rattle.std.proofs.Common.{◌≡◌, refl, sym, ap, subst, ◌∙◌, inl, inr, ℕ, List, [], ◌∷◌, ◌++◌, Option, Some, None, append_assoc}
-use Rattle.std.specs.Option.{option_map, option_and_then}
-use Rattle.wasm_readers_errors.specs.declared.error.Refusal.{Refusal}
+use Rattle.std.specs.Option.{option_and_then}
 use Rattle.wasm_parser.specs.Framing as parts
 use Rattle.wasm_parser.specs.Framing.{Piece, IsFramed, Version, Custom, Counted, Start, DataCount, CodeStart, CodeEntry, Unknown}
 use Rattle.wasm_parser.specs.Machine.{State, start, next_of, Run, Given}
+use Rattle.wasm_readers_errors.specs.declared.error.Refusal.{Refusal}
 use Rattle.wasm_parser.proofs.Law.{run_framed, framed_run}
 use Rattle.wasm_parser.proofs.Onward.{front, grows, ends, stuck}
 use Rattle.wasm_validator_types.specs.declared.shown.Types.{Types}
@@ -18,7 +18,7 @@ use Rattle.wasm_rules.proofs.Tests.{then_some}
 use Rattle.wasm_validator_core.specs.Answers.{IsNowhere}
 use Rattle.wasm_validator.specs.Standing.{Standing, HoldsValid, Leaves}
 use Rattle.wasm_validator.specs.States.{after_piece, IsBeforeEnd, left_by}
-use Rattle.wasm_validator.specs.Payloads.{ShowsModule, Show, latest_of, after_all, Accepts, Rejects, HasTaken, IsLeft, Validates}
+use Rattle.wasm_validator.specs.Payloads.{ShowsModule, Show, latest_of, after_all, Accepts, Rejects, HasTaken, IsToldOfFormat, IsLeft, TellsFormat, Validates}
 use Rattle.wasm_validator.proofs.ValidTypes.{all_back}
 
 -- pieces after pieces
@@ -153,9 +153,9 @@ module _ {A : Type 0} where
   has_taken bytes old now s latest g = record { pieces = g.pieces; given = g.given; run = g.taken }
 
   -- where a payload that was refused leaves the validator
-  left_refused : (bytes : List ℕ) (old now new : Standing) (s s' : State) (latest : Option (Types A)) (p : Piece) → Progress bytes old now s latest → next_of s ≡ Some (Some (p, s'))
-      → IsNowhere HoldsValid (after_piece now p) → new ≡ record now { stage = left_by now p } → IsLeft bytes old new
-  left_refused bytes old now new s s' latest p g e nowhere left = record {
+  left_refused : (told : Option Refusal) (bytes : List ℕ) (old now new : Standing) (s s' : State) (latest : Option (Types A)) (p : Piece) → Progress bytes old now s latest → next_of s ≡ Some (Some (p, s'))
+      → IsNowhere HoldsValid (after_piece now p) → new ≡ record now { stage = left_by now p } → IsLeft told bytes old new
+  left_refused told bytes old now new s s' latest p g e nowhere left = record {
     behind = s;
     reached = now;
     taken = has_taken bytes old now s latest g;
@@ -165,8 +165,8 @@ module _ {A : Type 0} where
   -- what the refusal of a payload says of the whole
   pub refused_whole : (T : Type 0) (bytes : List ℕ) (old now new : Standing) (s s' : State) (latest : Option (Types A)) (p : Piece) (e : Error A) → Progress bytes old now s latest → next_of s ≡ Some (Some (p, s'))
       → Leaves (refusal T e) (after_piece now p) (left_by now p) now new → (IsNowhere HoldsValid (after_piece now p) → Rejects bytes old) → Validates (refusal (Types A) e) bytes old new
-  refused_whole T bytes old now new s s' latest p (Refused r) g n l rejected = (rejected l.0, left_refused bytes old now new s s' latest p g n l.0 l.1)
-  refused_whole T bytes old now new s s' latest p (DuplicateExport name offset) g n l rejected = (rejected l.0, left_refused bytes old now new s s' latest p g n l.0 l.1)
+  refused_whole T bytes old now new s s' latest p (Refused r) g n l rejected = (rejected l.0, left_refused (Some r) bytes old now new s s' latest p g n l.0 l.1)
+  refused_whole T bytes old now new s s' latest p (DuplicateExport name offset) g n l rejected = (rejected l.0, left_refused None bytes old now new s s' latest p g n l.0 l.1)
   refused_whole T bytes old now new s s' latest p OutOfMemory g n l rejected = record {
     behind = s;
     reached = now;
@@ -179,17 +179,15 @@ module _ {A : Type 0} where
   }
 
   -- where the parser refuses, the validator stands where it was
-  pub refused_bytes : (bytes : List ℕ) (old now : Standing) (s : State) (latest : Option (Types A)) → Progress bytes old now s latest → next_of s ≡ None → Rejects bytes old × IsLeft bytes old now
-  refused_bytes bytes old now s latest g e = (
+  pub refused_bytes : (told : Option Refusal) → IsToldOfFormat told → (bytes : List ℕ) (old now : Standing) (s : State) (latest : Option (Types A)) → Progress bytes old now s latest → next_of s ≡ None → Rejects bytes old × IsLeft told bytes old now
+  refused_bytes told h bytes old now s latest g e = (
     rejected_bytes bytes old now s latest g e,
-    record { behind = s; reached = now; taken = has_taken bytes old now s latest g; left = inl (e, refl) },
+    record { behind = s; reached = now; taken = has_taken bytes old now s latest g; left = inl (e, h, refl) },
   )
 
   -- the parser's refusal, as it is handed on
-  pub refused_format : (bytes : List ℕ) (old now : Standing) (s : State) (latest : Option (Types A)) (o : Option Refusal) (e : Error A) → option_map (λ r. Refused r) o ≡ Some e
+  pub refused_format : (bytes : List ℕ) (old now : Standing) (s : State) (latest : Option (Types A)) (e : Error A) → TellsFormat e
       → Progress bytes old now s latest → next_of s ≡ None → Validates (refusal (Types A) e) bytes old now
-  refused_format bytes old now s latest None e is g none = absurd (cc)
-  refused_format bytes old now s latest (Some r) e is g none =
-      let told : Error A = Refused r in
-      let same : told ≡ e = cc in
-      subst (λ w. Validates (refusal (Types A) w) bytes old now) same (refused_bytes bytes old now s latest g none)
+  refused_format bytes old now s latest (Refused r) h g none = refused_bytes (Some r) h bytes old now s latest g none
+  refused_format bytes old now s latest (DuplicateExport name offset) h g none = absurd h
+  refused_format bytes old now s latest OutOfMemory h g none = absurd h

@@ -1,12 +1,12 @@
 -- What is told of a section that is refused, one step at a time.
-use Rattle.std.proofs.Common.{◌≡◌, refl, sym, ap, subst, ◌∙◌, inl, inr, ℕ, zero, suc, ◌+◌, ◌-◌, ◌≤◌, ◌⊎◌, Bool, true, false, List, [], length, leb, eqb, Option, Some, None, arith}
-use Rattle.std.specs.Prelude.{IsTrue, IfErr}
+use Rattle.std.proofs.Common.{◌≡◌, refl, sym, ap, subst, inl, inr, ℕ, zero, suc, ◌+◌, ◌-◌, ◌≤◌, ◌⊎◌, true, false, List, length, leb, eqb, Option, Some, None, arith}
+use Rattle.std.specs.Prelude.{IfErr}
 use Rattle.std.specs.Result.{IsErrAnd}
 use Rattle.std.proofs.lemmas.List.{length-drop}
 use Rattle.std.specs.Option.{option_map}
 use Rattle.std.specs.declared.result.Result.{Result}
 use Rattle.std.specs.declared.result.Result.TheVariants as results
-use Rattle.wasm_binary_reader.specs.Reader.{IsMalformed, FailedFrom, input, original, position_in}
+use Rattle.wasm_binary_reader.specs.Reader.{FailedFrom, input, original, position_in}
 use Rattle.wasm_binary_reader.specs.declared.binary_reader.BinaryReader.{BinaryReader}
 use Rattle.wasm_readers_errors.specs.declared.error.Counted.{Counted}
 use Rattle.wasm_readers_errors.specs.Refusals.{plain}
@@ -24,7 +24,7 @@ use Rattle.wasm_validator_core.specs.Answers.{Adds, AddsWhere, IsNowhere}
 use Rattle.wasm_validator_core.specs.Errors.{IsAt, lifted}
 use Rattle.wasm_validator_core.specs.Told.{Tells, TellsExport}
 use Rattle.wasm_validator_core.proofs.AddedGroups.{refusal}
-use Rattle.wasm_validator.specs.SectionsTold.{IsNone, OfContent, StandsBetween, TellsFormat, TellsAt, TellsNamedAt, Either, Read, Added, TellsEach, TellsCount}
+use Rattle.wasm_validator.specs.SectionsTold.{IsNone, OfContent, TellsFormat, TellsAt, TellsNamedAt, Either, Read, Added, TellsEach, TellsCount}
 use Rattle.wasm_validator.proofs.ItemSteps.{no_item, item_is}
 
 -- nothing is read

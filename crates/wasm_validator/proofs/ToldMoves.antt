@@ -15,7 +15,7 @@ use Rattle.wasm_readers.specs.SectionsSeen.{count_of, section_start, section_end
 use Rattle.wasm_readers.specs.declared.section_limited.SectionLimited.{SectionLimited}
 use Rattle.wasm_validator_types.specs.Spaces.{Spaces}
 use Rattle.wasm_validator_core.specs.declared.error.Error.{Error}
-use Rattle.wasm_validator_core.specs.declared.error.Error.TheVariants.{Refused, DuplicateExport, OutOfMemory}
+use Rattle.wasm_validator_core.specs.declared.error.Error.TheVariants.{Refused}
 use Rattle.wasm_validator_core.specs.Answers.{TypesSoFar}
 use Rattle.wasm_validator.specs.declared.validator.State.{State}
 use Rattle.wasm_validator.specs.declared.validator.State.TheVariants.{Unparsed, Module, Code, End, Failed}

@@ -272,6 +272,6 @@ module _ {A : Type 0} where
 
   pub decides_alone : (bytes : List ℕ) (id : ℕ) (features : WasmFeatures) (new : Standing) (r : Result (shown.Types A) (Error A)) → DecidesModule r bytes (fresh id features) new → DecidesAlone r bytes id features
   decides_alone bytes id features new (results.Ok t) v = λ e. (new, v e)
-  decides_alone bytes id features new (results.Err (Refused e)) v = room_alone features id bytes v.0
-  decides_alone bytes id features new (results.Err (DuplicateExport name offset)) v = room_alone features id bytes v.0
+  decides_alone bytes id features new (results.Err (Refused e)) v = (room_alone features id bytes v.0, (new, v.1))
+  decides_alone bytes id features new (results.Err (DuplicateExport name offset)) v = (room_alone features id bytes v.0, (new, v.1))
   decides_alone bytes id features new (results.Err OutOfMemory) v = tt

@@ -6,6 +6,8 @@ use Rattle.std.specs.declared.result.Result.TheVariants as results
 use Rattle.wasm_parser.specs.Framing as parts
 use Rattle.wasm_parser.specs.Framing.{Piece, IsFramed}
 use Rattle.wasm_parser.specs.Machine.{State, start, next_of, Given}
+use Rattle.wasm_parser.specs.Places.{IsFormat}
+use Rattle.wasm_readers_errors.specs.declared.error.Refusal.{Refusal}
 use Rattle.wasm_spec.specs.Features.{canonical}
 use Rattle.wasm_rules.specs.FeatureFlags.{features_of}
 use Rattle.wasm_validator_type_list.specs.Interned.{AreOnce}
@@ -82,13 +84,18 @@ pub record HasRefused (behind : State) (reached new : Standing) : Type 0 where
   pub nowhere : IsNowhere HoldsValid (after_piece reached next)
   pub left : new ≡ record reached { stage = left_by reached next }
 
--- After the first payloads either the bytes are no module's, and the validator stands where these have brought it, or the
--- next payload was refused.
-pub record IsLeft (bytes : List ℕ) (old new : Standing) : Type 0 where
+-- this is told, for the format
+abbrev pub IsToldOfFormat : Option Refusal → Type 0
+IsToldOfFormat None = ⊥
+IsToldOfFormat (Some r) = IsFormat r
+
+-- After the first payloads either the parser refuses what follows, which is what is told, and the validator stands where
+-- these have brought it; or the next payload was refused.
+pub record IsLeft (told : Option Refusal) (bytes : List ℕ) (old new : Standing) : Type 0 where
   pub behind : State
   pub reached : Standing
   pub taken : HasTaken bytes old reached behind
-  pub left : ((next_of behind ≡ None) × (new ≡ reached)) ⊎ HasRefused behind reached new
+  pub left : ((next_of behind ≡ None) × IsToldOfFormat told × (new ≡ reached)) ⊎ HasRefused behind reached new
 
 -- After the first payloads memory was refused to the next one. That is so only where a refusal fails the validator.
 pub record IsOutOfMemory (bytes : List ℕ) (old new : Standing) : Type 0 where
@@ -101,9 +108,15 @@ pub record IsOutOfMemory (bytes : List ℕ) (old new : Standing) : Type 0 where
   pub fails : left_by reached next ≡ failed
   pub left : new ≡ record reached { stage = failed }
 
+-- the parser's refusal, as an error
+abbrev pub TellsFormat : {A : Type 0} → Error A → Type 0
+TellsFormat (Refused r) = IsFormat r
+TellsFormat (DuplicateExport name offset) = ⊥
+TellsFormat OutOfMemory = ⊥
+
 -- what the answer on whole bytes says
 abbrev pub Validates : {A : Type 0} → Result (Types A) (Error A) → List ℕ → Standing → Standing → Type 0
 Validates (results.Ok t) bytes old new = Accepts bytes old new t
-Validates (results.Err (Refused r)) bytes old new = Rejects bytes old × IsLeft bytes old new
-Validates (results.Err (DuplicateExport name offset)) bytes old new = Rejects bytes old × IsLeft bytes old new
+Validates (results.Err (Refused r)) bytes old new = Rejects bytes old × IsLeft (Some r) bytes old new
+Validates (results.Err (DuplicateExport name offset)) bytes old new = Rejects bytes old × IsLeft None bytes old new
 Validates (results.Err OutOfMemory) bytes old new = IsOutOfMemory bytes old new

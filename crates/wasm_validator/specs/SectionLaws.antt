@@ -3,24 +3,31 @@
 -- list has these items behind. Core Specification 3.0, Validation, Modules.
 use Rattle.std.specs.Prelude.{ℕ, ◌≡◌, ◌↔◌, ◌≤◌, ◌+◌, ◌++◌, List, [], ◌∷◌, map, length, Option, Some, IsTrue}
 use Rattle.std.specs.List.{All}
+use Rattle.wasm_spec.specs.Syntax.{Rec}
 use Rattle.wasm_spec.specs.Values.{u32_at, items_at}
-use Rattle.wasm_spec.specs.BinaryModules.{import_at}
-use Rattle.wasm_spec.specs.BinaryTypes.{memory_at, tag_at}
+use Rattle.wasm_spec.specs.BinaryModules.{import_at, export_at}
+use Rattle.wasm_spec.specs.BinaryTypes.{rec_at, memory_at, tag_at}
 use Rattle.wasm_spec.specs.BinarySections.{table_entry_at}
-use Rattle.wasm_spec.specs.Features.{canonical}
-use Rattle.wasm_spec.specs.Trees.{DefType}
+use Rattle.wasm_spec.specs.Closing.{closed, positions}
+use Rattle.wasm_spec.specs.Features.{Features, canonical}
+use Rattle.wasm_spec.specs.GroupRules.{IsValidType}
+use Rattle.wasm_spec.specs.Trees.{RecTree, DefType, declared}
 use Rattle.wasm_rules.specs.FeatureFlags.{features_of}
 use Rattle.wasm_rules.specs.Parts.{index}
-use Rattle.wasm_rules.specs.IndexSpaces.{IsFunctionType, table_type}
+use Rattle.wasm_rules.specs.IndexSpaces.{IndexSpaces, IsFunctionType, table_type}
 use Rattle.wasm_rules.specs.ItemRules.{IsValidTableEntry, IsValidMemory, IsValidTag}
+use Rattle.wasm_rules.specs.LinkRules.{IsValidExport}
 use Rattle.wasm_rules.specs.Limits.{most_tables, most_memories}
+use Rattle.wasm_readers_types.specs.declared.indices.TheConstants.{MAX_IDS}
+use Rattle.wasm_validator_canonical.specs.Groups.{placed, held}
 use Rattle.wasm_item_checks.specs.Laws.{Stand}
 use Rattle.wasm_validator_types.specs.Spaces.{Spaces}
 use Rattle.wasm_validator_core.specs.Answers.{TypesSoFar}
+use Rattle.wasm_validator_core_laws.specs.Exports.{HasSpaces, FitExports, with_exports}
 use Rattle.wasm_validator_core_laws.specs.Imports.{KeepsLimits, FitsImport, with_entry}
 use Rattle.wasm_validator_core_laws.specs.Lists.{has_no_init}
 use Rattle.wasm_validator_core_laws.specs.Shown.{listed_table}
-use Rattle.wasm_validator.specs.Standing.{Standing, in_module}
+use Rattle.wasm_validator.specs.Standing.{Standing, in_module, HoldsValid}
 use Rattle.wasm_validator.specs.States.{after_section}
 use Rattle.wasm_validator.specs.Verdict.{Expressions}
 
@@ -88,3 +95,54 @@ ImportsAdd =
     (old new : Standing) (us : TypesSoFar) (m : Spaces) (types : List DefType) (count : ℕ) (bytes : List ℕ) → IsReading old us m types → KeepsLimits (features_of old.features) m
     → (after_section old 2 count bytes ≡ Some new)
     ↔ HasAddedEach (import_at index) (FitsImport (features_of old.features) types) (with_entry m.types types) (length m.imports) 1000000 old new us m count bytes
+
+-- exports, behind lists that are the index spaces of a module
+abbrev pub ExportsAdd : Type 0
+ExportsAdd =
+    (old new : Standing) (us : TypesSoFar) (m : Spaces) (C : IndexSpaces) (count : ℕ) (bytes : List ℕ) → IsReading old us m C.types → HasSpaces C m
+    → (after_section old 7 count bytes ≡ Some new)
+    ↔ ((added : HasAdded export_at (IsValidExport (features_of old.features) C) (length m.exports) 1000000 (with_exports (features_of old.features) C m) old new us count bytes)
+    × FitExports C m added.items)
+
+-- What is held of a module's types: the types of all modules, the ids among them of this module's types, and these types.
+pub record TypesHeld : Type 0 where
+  pub all : TypesSoFar
+  pub ids : List ℕ
+  pub types : List DefType
+
+-- A recursion group is valid behind the types of the module, which with it keep to the limit, and there are ids for it.
+pub record FitsGroup (F : Features) (h : TypesHeld) (g : Rec ℕ) : Type 0 where
+  pub tree : RecTree
+  pub closes : closed F h.types g ≡ Some tree
+  pub valid : All (IsValidType F declared) (positions tree 0 g.types)
+  pub few : length h.types + length g.types ≤ 1000000
+  pub room : length h.all + length g.types ≤ MAX_IDS
+
+-- the types with those of the group behind, and all types and the ids with them
+abbrev pub held_with : Features → TypesHeld → Rec ℕ → RecTree → TypesSoFar × List ℕ
+held_with F h g t = held (canonical F) h.all h.ids (positions (placed (canonical F) (length h.all) t) 0 g.types)
+
+abbrev pub with_group : Features → TypesHeld → Rec ℕ → RecTree → TypesHeld
+with_group F h g t = record { all = (held_with F h g t).0; ids = (held_with F h g t).1; types = h.types ++ positions t 0 g.types }
+
+-- Each group fits behind those before it, and they make of the first types the last.
+abbrev pub AddsGroups : Features → TypesHeld → List (Rec ℕ) → TypesHeld → Type 0
+AddsGroups F h [] k = h ≡ k
+AddsGroups F h (g ∷ gs) k = (fits : FitsGroup F h g) × AddsGroups F (with_group F h g fits.tree) gs k
+
+-- The bytes are so many groups of which each fits behind those before it, with the types that are there they are few
+-- enough, and the module has the types that they make, which stand under its ids.
+pub record HasAddedGroups (old new : Standing) (us : TypesSoFar) (m : Spaces) (types : List DefType) (count : ℕ) (bytes : List ℕ) : Type 0 where
+  pub groups : List (Rec ℕ)
+  pub read : items_at (rec_at index) count bytes ≡ Some groups
+  pub few : length m.types + length groups ≤ 1000000
+  pub held : TypesHeld
+  pub added : AddsGroups (features_of old.features) (record { all = us; ids = m.types; types = types }) groups held
+  pub after : new ≡ record old { stage = in_module held.all (record m { types = held.ids }) }
+  pub stand : Stand (canonical (features_of old.features)) held.all held.ids held.types
+
+-- types, which the machine adds and the validator keeps where they are valid
+abbrev pub TypesAdd : Type 0
+TypesAdd =
+    (old new : Standing) (us : TypesSoFar) (m : Spaces) (types : List DefType) (count : ℕ) (bytes : List ℕ) → IsReading old us m types → HoldsValid old
+    → ((after_section old 1 count bytes ≡ Some new) × HoldsValid new) ↔ HasAddedGroups old new us m types count bytes

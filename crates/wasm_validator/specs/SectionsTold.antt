@@ -35,10 +35,10 @@ use Rattle.wasm_validator_core.specs.declared.error.Error.{Error}
 use Rattle.wasm_validator_core.specs.declared.error.Error.TheVariants.{Refused, DuplicateExport, OutOfMemory}
 use Rattle.wasm_validator_core.specs.declared.limits.TheConstants.{MAX_TYPES, MAX_IMPORTS, MAX_FUNCTIONS, MAX_TAGS, MAX_EXPORTS}
 use Rattle.wasm_validator_core.specs.Answers.{TypesSoFar, IsNowhere, HasValidTypes}
-use Rattle.wasm_validator_core.specs.Errors.{IsAt, offset_of}
+use Rattle.wasm_validator_core.specs.Errors.{IsAt}
 use Rattle.wasm_validator_core.specs.Items.{add_import, add_function, add_memory, add_tag, add_export, exported_entity}
 use Rattle.wasm_validator_core.specs.Machine.{add_group}
-use Rattle.wasm_validator_core.specs.Told.{Tells, TellsExport, told_of_import, told_of_added_function, told_of_added_table, told_of_added_memory, told_of_added_tag, told_of_entity, told_of_start, told_of_data_count}
+use Rattle.wasm_validator_core.specs.Told.{told_of_import, told_of_added_function, told_of_added_table, told_of_added_memory, told_of_added_tag, told_of_entity, told_of_start, told_of_data_count}
 use Rattle.wasm_validator_module_state.specs.Bodies.{expected_bodies}
 use Rattle.wasm_validator.specs.Machine.{add_table_head}
 use Rattle.wasm_validator.specs.Standing.{Stage, unparsed, in_module, in_code, ended, failed}

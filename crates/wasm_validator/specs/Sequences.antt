@@ -5,6 +5,7 @@ use Rattle.std.specs.List.{zip}
 use Rattle.wasm_spec.specs.Features.{canonical}
 use Rattle.wasm_spec.specs.Trees.{DefType}
 use Rattle.wasm_rules.specs.FeatureFlags.{features_of}
+use Rattle.wasm_readers_errors.specs.declared.error.Refusal.{Refusal}
 use Rattle.wasm_validator_types.specs.Shown.{shown_of}
 use Rattle.wasm_validator_types.specs.declared.shown.Types as shown
 use Rattle.wasm_validator_core.specs.Answers.{TypesSoFar}
@@ -22,7 +23,7 @@ pub record KeepsTypes (old new : Standing) : Type 0 where
 
 -- A module that is refused so that the validator may be reset does so.
 abbrev pub RefusedKeepTypes : Type 0
-RefusedKeepTypes = (bytes : List ℕ) (old new : Standing) (before : TypesSoFar) → old.stage ≡ unparsed before → IsLeft bytes old new → may_reset new ≡ true → KeepsTypes old new
+RefusedKeepTypes = (told : Option Refusal) (bytes : List ℕ) (old new : Standing) (before : TypesSoFar) → old.stage ≡ unparsed before → IsLeft told bytes old new → may_reset new ≡ true → KeepsTypes old new
 
 module _ {A : Type 0} where
   -- what a validator makes of a module: it is accepted with these types, or it is refused so that the validator may be reset

@@ -1,5 +1,5 @@
 -- What the answer on whole bytes says of the module that they are. Core Specification 3.0, Validation, Modules.
-use Rattle.std.specs.Prelude.{ℕ, ◌≡◌, ◌≤◌, ◌+◌, ◌++◌, false, List, length, Option, ⊤}
+use Rattle.std.specs.Prelude.{ℕ, ◌≡◌, ◌≤◌, ◌+◌, ◌++◌, false, List, length, Option, Some, None, ⊤}
 use Rattle.std.specs.declared.result.Result.{Result}
 use Rattle.std.specs.declared.result.Result.TheVariants as results
 use Rattle.wasm_readers_types.specs.declared.indices.TheConstants.{MAX_IDS}
@@ -57,8 +57,8 @@ RefusesModule bytes old =
 -- what the answer on whole bytes says: of acceptance with no premise, of a refusal unless memory was refused
 abbrev pub DecidesModule : {A : Type 0} → Result (shown.Types A) (Error A) → List ℕ → Standing → Standing → Type 0
 DecidesModule (results.Ok t) bytes old new = (expression_at : Expressions) → AcceptsModule expression_at bytes old new t
-DecidesModule (results.Err (Refused r)) bytes old new = RefusesModule bytes old × IsLeft bytes old new
-DecidesModule (results.Err (DuplicateExport name offset)) bytes old new = RefusesModule bytes old × IsLeft bytes old new
+DecidesModule (results.Err (Refused r)) bytes old new = RefusesModule bytes old × IsLeft (Some r) bytes old new
+DecidesModule (results.Err (DuplicateExport name offset)) bytes old new = RefusesModule bytes old × IsLeft None bytes old new
 DecidesModule (results.Err OutOfMemory) bytes old new = IsOutOfMemory bytes old new
 
 -- the bytes are a valid module
@@ -72,6 +72,6 @@ AreNoServedModule features bytes = (expression_at : Expressions) → IsServedMod
 -- The same of a validator that is made for these bytes: no module has as many types as its list may hold.
 abbrev pub DecidesAlone : {A : Type 0} → Result (shown.Types A) (Error A) → List ℕ → ℕ → WasmFeatures → Type 0
 DecidesAlone (results.Ok t) bytes id features = (expression_at : Expressions) → (new : Standing) × AcceptsModule expression_at bytes (fresh id features) new t
-DecidesAlone (results.Err (Refused r)) bytes id features = AreNoServedModule features bytes
-DecidesAlone (results.Err (DuplicateExport name offset)) bytes id features = AreNoServedModule features bytes
+DecidesAlone (results.Err (Refused r)) bytes id features = AreNoServedModule features bytes × ((new : Standing) × IsLeft (Some r) bytes (fresh id features) new)
+DecidesAlone (results.Err (DuplicateExport name offset)) bytes id features = AreNoServedModule features bytes × ((new : Standing) × IsLeft None bytes (fresh id features) new)
 DecidesAlone (results.Err OutOfMemory) bytes id features = ⊤

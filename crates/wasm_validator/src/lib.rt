@@ -2,7 +2,7 @@
 #![tactic(auto)]
 
 ghost use Rattle.wasm_validator.specs.Sequences.{OneIdForOneType, OwnIdForEachType, RefusedKeepTypes};
-ghost use Rattle.wasm_validator.specs.SectionLaws.{ImportsAdd, FunctionsAdd, TablesAdd, MemoriesAdd, TagsAdd};
+ghost use Rattle.wasm_validator.specs.SectionLaws.{TypesAdd, ImportsAdd, FunctionsAdd, TablesAdd, MemoriesAdd, TagsAdd, ExportsAdd};
 ghost use Rattle.wasm_validator.specs.Table.{AcceptedByTable, RefusedByTable};
 
 mod module_sections;
@@ -65,11 +65,15 @@ pub fn refused_modules_keep_types()
 
 /// Behind any lists that a module has so far a section is accepted exactly where its bytes are items that
 /// keep their rules on these lists and the limit, and then the list has these items behind (Core
-/// Specification 3.0, Validation, Modules).
+/// Specification 3.0, Validation, Modules). Of types each recursion group is valid on the types before
+/// it; of exports each names something that is there, no name comes twice, and the effective size stays
+/// below its limit.
 pub fn sections_add_their_items()
+    ensures types { TypesAdd }
     ensures imports { ImportsAdd }
     ensures functions { FunctionsAdd }
     ensures tables { TablesAdd }
     ensures memories { MemoriesAdd }
     ensures tags { TagsAdd }
+    ensures exports { ExportsAdd }
 {}

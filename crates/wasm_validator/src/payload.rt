@@ -8,7 +8,7 @@ ghost use Rattle.wasm_validator.specs.SectionsTold.{StandsBetween};
 ghost use Rattle.wasm_validator_types.specs.Shown.{shown_of, HoldsIds};
 ghost use Rattle.wasm_validator.specs.Standing.{Leaves};
 ghost use Rattle.wasm_validator.specs.States.{after_piece, left_by, IsBeforeEnd};
-ghost use Rattle.wasm_validator.specs.Payloads.{ShowsModule, HoldsIdsAtEnd, latest_of, Validates};
+ghost use Rattle.wasm_validator.specs.Payloads.{ShowsModule, HoldsIdsAtEnd, latest_of, TellsFormat, Validates};
 ghost use Rattle.wasm_validator.specs.Verdict.{DecidesModule, DecidesAlone};
 
 use crate::validator::Validator;
@@ -144,6 +144,7 @@ fn next_of_input<'a, A: Allocator + Copy>(
     ensures ok { IfOk result (λ p. next_of (state payloads.old) ≡ Some (option_map (λ q. (seen q, state payloads.new)) p)) }
     ensures err { OnErr result (next_of (state payloads.old) ≡ None) }
     ensures handed { IfErr result (λ e. option_map Error.Refused (refused_with payloads.new) ≡ Some e) }
+    ensures format { refused_with payloads.old ≡ None → IfErr result TellsFormat }
     ensures place { ReadsInput payloads.old → IfErr result (StandsBetween 0 (input_end payloads.old)) }
     ensures within { ReadsInput payloads.old → IfOk result (λ p. IfSome p (λ q. ends_at q ≤ input_end payloads.old)) }
     ensures order { IfOk result (λ p. IfSome p (λ q. starts_at q ≤ ends_at q)) }

@@ -738,8 +738,9 @@ impl<A: Allocator + Copy> Validator<A> {
     ///
     /// # Errors
     ///
-    /// Refused, at the offset, where no module is being read; a validator that has seen no module
-    /// stands then as behind an end. In a module it is refused memory alone, and has then failed.
+    /// Refused, at the offset, where no module is being read: before a header, behind an end, and
+    /// behind a refusal. Before a header this leaves the validator as behind an end, and elsewhere as
+    /// it was. While a module is being read only memory can be refused, and that fails the validator.
     pub fn end(&mut self, offset: u64) -> Result<Types<A>, Error<A>>
         ensures moves { Leaves result (after_end self.old) (ended_at self.old.stage) self.old self.new }
         ensures place { IfErr result (λ e. IsContent e → offset_of e ≡ offset) }

@@ -29,7 +29,7 @@ use Rattle.wasm_validator_core.specs.Items.{function_size, entity_size, grown, w
 use Rattle.wasm_validator_core_laws.specs.Shown.{entity_in, listed_table, listed_global, spaces_of}
 use Rattle.wasm_validator_core_laws.specs.Lists.{only_types, only_imports, add_imports}
 use Rattle.wasm_validator_core_laws.specs.Laws.{AreValidImports, ImportsAreAdded}
-use Rattle.wasm_validator_core_laws.specs.Imports.{KeepsLimits, RoomIn, FitsImport, with_kind, with_entry, OneImportIsAdded}
+use Rattle.wasm_validator_core_laws.specs.Imports.{RoomIn, FitsImport, with_kind, with_entry, OneImportIsAdded}
 use Rattle.wasm_validator_core_laws.proofs.Steps.{if_map, passed, law_of_verdict}
 use Rattle.wasm_validator_core_laws.proofs.Fronts.{All-front, All-last}
 use Rattle.wasm_validator_core_laws.proofs.Sizes.{valid_typed, entity_size_is}

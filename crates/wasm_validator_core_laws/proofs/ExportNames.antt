@@ -1,20 +1,15 @@
 -- Names of exports that differ from one another.
 use Rattle.std.proofs.Common.{◌≡◌, refl, ap, ◌∙◌, ℕ, Bool, false, List, [], ◌∷◌, ◌++◌, map, nat_eq, append_assoc}
-use Rattle.std.specs.List.{list_any, AllByRecursion, IsDistinct}
+use Rattle.std.specs.List.{list_any, AllByRecursion}
 use Rattle.std.specs.Cmp.Lexicographic.{pointwise, nat_list_eq_equiv}
 use Rattle.std.proofs.lemmas.Map.Made.{IsDistinct-from_count}
 use Rattle.std.proofs.lemmas.Map.Keys.{IsDistinct-head, IsDistinct-tail}
 use Rattle.wasm_validator_types.specs.Entities.{Entity}
 use Rattle.wasm_validator_types.specs.Spaces.{is_exported}
+use Rattle.wasm_validator_core_laws.specs.Exports.{row_name, AreApart}
 
 abbrev pub same_name : List ℕ → List ℕ → Bool
 same_name = pointwise nat_eq
-
-abbrev pub AreApart : List (List ℕ) → Type 0
-AreApart names = IsDistinct same_name names
-
-abbrev pub row_name : List ℕ × Entity → List ℕ
-row_name row = row.0
 
 abbrev pub row_names : List (List ℕ × Entity) → List (List ℕ)
 row_names rows = map row_name rows

@@ -9,9 +9,8 @@ use Rattle.wasm_spec.specs.BinaryModules.{Export}
 use Rattle.wasm_spec.specs.Features.{Features}
 use Rattle.wasm_spec.specs.Trees.{DefType}
 use Rattle.wasm_spec.specs.ValueTypes.{implies}
-use Rattle.wasm_rules.specs.Parts.{Parts}
 use Rattle.wasm_rules.specs.Contexts.{is_exact}
-use Rattle.wasm_rules.specs.IndexSpaces.{IndexSpaces, index_spaces, signature_at, IsFunctionType}
+use Rattle.wasm_rules.specs.IndexSpaces.{IndexSpaces, signature_at, IsFunctionType}
 use Rattle.wasm_rules.specs.LinkRules.{exported, signature_size, extern_size, IsMovableExtern}
 use Rattle.wasm_rules.proofs.Tests.{chosen, map_some}
 use Rattle.wasm_item_checks.specs.Items.{is_movable}
@@ -19,16 +18,37 @@ use Rattle.wasm_item_checks.specs.Laws.{Stand}
 use Rattle.wasm_validator_types.specs.Entities.{Entity}
 use Rattle.wasm_validator_types.specs.Spaces.{Spaces}
 use Rattle.wasm_validator_core.specs.Items.{entity_size, function_entity, exported_function, exported_table, exported_memory, exported_global, exported_tag, exported_entity}
-use Rattle.wasm_validator_core_laws.specs.Shown.{listed_table, listed_global, entity_in, exact_functions, as_exported, exported_as, spaces_of}
+use Rattle.wasm_validator_core_laws.specs.Exports.{HasSpaces}
+use Rattle.wasm_validator_core_laws.specs.Shown.{listed_table, listed_global, entity_in, as_exported, exported_as, export_row, export_rows}
 use Rattle.wasm_validator_core_laws.proofs.Sizes.{IsTyped, function_size_is, entity_size_is}
 
--- behind the imported functions each is exactly of its type
-pub exact_behind : (xs : List Bool) (ys : List ℕ) (k : ℕ) → get_or xs k true ≡ get_or (xs ++ map is_exact ys) k true
+-- behind the imported functions each is exactly of its type, so that exports are the same
+exact_behind : (xs : List Bool) (ys : List ℕ) (k : ℕ) → get_or xs k true ≡ get_or (xs ++ map is_exact ys) k true
 exact_behind [] [] k = refl
 exact_behind [] (y ∷ ys) zero = refl
 exact_behind [] (y ∷ ys) (suc k) = exact_behind [] ys k
 exact_behind (x ∷ xs) ys zero = refl
 exact_behind (x ∷ xs) ys (suc k) = exact_behind xs ys k
+
+module _ (F : Features) (xs : List Bool) (ys : List ℕ) where
+  abbrev all : List Bool
+  all = xs ++ map is_exact ys
+
+  as_behind : (k : ℕ) (item : Extern ℕ) → as_exported F xs k item ≡ as_exported F all k item
+  as_behind k (func_extern x) = ap (λ b. cond (F.custom_descriptors && b) (func_exact_extern x) (func_extern x)) (exact_behind xs ys k)
+  as_behind k (func_exact_extern x) = refl
+  as_behind k (table_extern t) = refl
+  as_behind k (memory_extern m) = refl
+  as_behind k (global_extern g) = refl
+  as_behind k (tag_extern x) = refl
+
+  item_behind : (k : ℕ) (o : Option (Extern ℕ)) → exported_as F xs k o ≡ exported_as F all k o
+  item_behind k None = refl
+  item_behind k (Some item) = ap Some (as_behind k item)
+
+  pub rows_behind : (ids : List ℕ) (C : IndexSpaces) (es : List Export) → export_rows F ids C xs es ≡ export_rows F ids C all es
+  rows_behind ids C [] = refl
+  rows_behind ids C (e ∷ es) = λ i. export_row ids e.name (item_behind e.index (exported C e) i) ++ rows_behind ids C es i
 
 -- a function of what a test chooses
 branch : {X Y : Type 0} (f : X → Y) (b : Bool) (x y : X) (u v : Y) → u ≡ f x → v ≡ f y → cond b u v ≡ f (cond b x y)
@@ -40,32 +60,33 @@ form_of : (ids : List ℕ) (b : Bool) (x : ℕ) → cond b (func_exact_extern (s
 form_of ids true x = refl
 form_of ids false x = refl
 
-module _ (F : Features) (types : List DefType) (ids : List ℕ) (p : Parts) where
-  abbrev C : IndexSpaces
-  C = index_spaces types p
+module _ (F : Features) (C : IndexSpaces) (s : Spaces) (same : HasSpaces C s) where
+  abbrev type_ids : List ℕ
+  type_ids = s.types
 
-  -- the state of the module, with these exports and this effective size
+  abbrev exactly : List Bool
+  exactly = s.imported_functions
+
+  -- the lists, with these exports and this effective size
   abbrev pub state : List (List ℕ × Entity) → ℕ → Spaces
-  state rows size = record (spaces_of F types ids p) { exports = rows; size = size }
+  state rows size = record s { exports = rows; size = size }
 
-  -- what the state has for an item that is exported
+  -- what the lists have for an item that is exported
   abbrev pub entity_for : ℕ → Extern ℕ → Entity
-  entity_for k item = entity_in ids (as_exported F (exact_functions p) k item)
+  entity_for k item = entity_in type_ids (as_exported F exactly k item)
 
   abbrev pub entity_if : ℕ → Option (Extern ℕ) → Option Entity
-  entity_if k o = option_map (entity_in ids) (exported_as F (exact_functions p) k o)
+  entity_if k o = option_map (entity_in type_ids) (exported_as F exactly k o)
 
   module _ (rows : List (List ℕ × Entity)) (size : ℕ) where
-    function_is : (k x : ℕ) → function_entity F (state rows size) k x ≡ entity_for k (func_extern x)
-    function_is k x =
-        ap (λ b. cond (F.custom_descriptors && b) (func_exact_extern (slice_index ids x)) (func_extern (slice_index ids x))) (exact_behind (spaces_of F types ids p).imported_functions p.functions k)
-        ∙ form_of ids (F.custom_descriptors && get_or (exact_functions p) k true) x
+    abbrev here : Spaces
+    here = state rows size
 
-    function_found : (k : ℕ) (o : Option ℕ) → option_map (function_entity F (state rows size) k) o ≡ entity_if k (option_map func_extern o)
+    function_found : (k : ℕ) (o : Option ℕ) → option_map (function_entity F here k) o ≡ entity_if k (option_map func_extern o)
     function_found k None = refl
-    function_found k (Some x) = ap Some (function_is k x)
+    function_found k (Some x) = ap Some (form_of type_ids (F.custom_descriptors && get_or exactly k true) x)
 
-    table_found : (k : ℕ) (o : Option (Table ℕ)) → option_map table_extern (option_map (listed_table ids) o) ≡ entity_if k (option_map table_extern o)
+    table_found : (k : ℕ) (o : Option (Table ℕ)) → option_map table_extern (option_map (listed_table type_ids) o) ≡ entity_if k (option_map table_extern o)
     table_found k None = refl
     table_found k (Some t) = refl
 
@@ -73,30 +94,48 @@ module _ (F : Features) (types : List DefType) (ids : List ℕ) (p : Parts) wher
     memory_found k None = refl
     memory_found k (Some m) = refl
 
-    global_found : (k : ℕ) (o : Option (Global ℕ)) → option_map global_extern (option_map (listed_global ids) o) ≡ entity_if k (option_map global_extern o)
+    global_found : (k : ℕ) (o : Option (Global ℕ)) → option_map global_extern (option_map (listed_global type_ids) o) ≡ entity_if k (option_map global_extern o)
     global_found k None = refl
     global_found k (Some g) = refl
 
-    tag_found : (k : ℕ) (o : Option ℕ) → option_map (λ x. tag_extern (slice_index ids x)) o ≡ entity_if k (option_map tag_extern o)
+    tag_found : (k : ℕ) (o : Option ℕ) → option_map (λ x. tag_extern (slice_index type_ids x)) o ≡ entity_if k (option_map tag_extern o)
     tag_found k None = refl
     tag_found k (Some x) = refl
 
-    -- the state has an entity where the index spaces have an item
-    pub entity_is : (e : Export) → exported_entity F (state rows size) e ≡ entity_if e.index (exported C e)
+    function_is : (k : ℕ) → exported_function F here k ≡ entity_if k (option_map func_extern (slice_get C.functions k))
+    function_is k = ap (λ xs. option_map (function_entity F here k) (slice_get xs k)) same.functions ∙ function_found k (slice_get C.functions k)
+
+    table_is : (k : ℕ) → exported_table here k ≡ entity_if k (option_map table_extern (slice_get C.tables k))
+    table_is k =
+        ap (λ ts. option_map table_extern (slice_get ts k)) same.tables
+        ∙ ap (option_map table_extern) (slice_get-map (listed_table type_ids) C.tables k) ∙ table_found k (slice_get C.tables k)
+
+    memory_is : (k : ℕ) → exported_memory here k ≡ entity_if k (option_map memory_extern (slice_get C.memories k))
+    memory_is k = ap (λ ms. option_map memory_extern (slice_get ms k)) same.memories ∙ memory_found k (slice_get C.memories k)
+
+    global_is : (k : ℕ) → exported_global here k ≡ entity_if k (option_map global_extern (slice_get C.globals k))
+    global_is k =
+        ap (λ gs. option_map global_extern (slice_get gs k)) same.globals
+        ∙ ap (option_map global_extern) (slice_get-map (listed_global type_ids) C.globals k) ∙ global_found k (slice_get C.globals k)
+
+    tag_is : (k : ℕ) → exported_tag here k ≡ entity_if k (option_map tag_extern (slice_get C.tags k))
+    tag_is k = ap (λ xs. option_map (λ x. tag_extern (slice_index type_ids x)) (slice_get xs k)) same.tags ∙ tag_found k (slice_get C.tags k)
+
+    -- the lists have an entity where the index spaces have an item
+    pub entity_is : (e : Export) → exported_entity F here e ≡ entity_if e.index (exported C e)
     entity_is e =
         let k = e.index in
-        let s = state rows size in
         let f = entity_if k in
         let functions = option_map func_extern (slice_get C.functions k) in
         let tables = option_map table_extern (slice_get C.tables k) in
         let memories = option_map memory_extern (slice_get C.memories k) in
         let globals = option_map global_extern (slice_get C.globals k) in
         let tags = option_map tag_extern (slice_get C.tags k) in
-        branch f (e.kind == 0) functions _ (exported_function F s k) _ (function_found k (slice_get C.functions k))
-        (branch f (e.kind == 1) tables _ (exported_table s k) _ (ap (option_map table_extern) (slice_get-map (listed_table ids) C.tables k) ∙ table_found k (slice_get C.tables k))
-        (branch f (e.kind == 2) memories _ (exported_memory s k) _ (memory_found k (slice_get C.memories k))
-        (branch f (e.kind == 3) globals _ (exported_global s k) _ (ap (option_map global_extern) (slice_get-map (listed_global ids) C.globals k) ∙ global_found k (slice_get C.globals k))
-        (branch f (e.kind == 4) tags None (exported_tag s k) None (tag_found k (slice_get C.tags k)) refl))))
+        branch f (e.kind == 0) functions _ (exported_function F here k) _ (function_is k)
+        (branch f (e.kind == 1) tables _ (exported_table here k) _ (table_is k)
+        (branch f (e.kind == 2) memories _ (exported_memory here k) _ (memory_is k)
+        (branch f (e.kind == 3) globals _ (exported_global here k) _ (global_is k)
+        (branch f (e.kind == 4) tags None (exported_tag here k) None (tag_is k) refl))))
 
 -- whether an item may be exported
 where_true : (a b : Bool) → Decides (implies a b) (IsTrue a → IsTrue b)

@@ -1,5 +1,5 @@
 -- Whether an imported item fits behind others: the machine's test, and the limits.
-use Rattle.std.proofs.Common.{ℕ, ◌+◌, ◌≤◌, Bool, leb, length, arith}
+use Rattle.std.proofs.Common.{ℕ, ◌+◌, ◌≤◌, Bool, leb, arith}
 use Rattle.std.specs.Bool.{Decides}
 use Rattle.std.proofs.lemmas.Bool.{leb-true, le-leb}
 use Rattle.wasm_spec.specs.Syntax.{Extern, func_extern, func_exact_extern, table_extern, memory_extern, global_extern, tag_extern}

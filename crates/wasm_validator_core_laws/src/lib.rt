@@ -1,6 +1,7 @@
 //! The lists of a module, added item by item, keep the rules of whole lists.
 #![tactic(auto)]
 
+ghost use Rattle.wasm_validator_core_laws.specs.Exports.{ExportsAreAddedBehind};
 ghost use Rattle.wasm_validator_core_laws.specs.Imports.{OneImportIsAdded};
 ghost use Rattle.wasm_validator_core_laws.specs.Laws.{ImportsAreAdded, FunctionsAreAdded, TablesAreAdded, MemoriesAreAdded, TagsAreAdded, ExportsAreAdded, ValidListsAreAdded, StartsAreDecided};
 
@@ -22,9 +23,10 @@ pub fn definitions_are_added()
 {}
 
 /// The same of exports, behind all that they may name (Core Specification 3.0, Validation, Modules,
-/// Exports).
+/// Exports); and behind any lists, where they are valid, no name comes twice and the size stays below its limit.
 pub fn exports_are_added()
-    ensures { ExportsAreAdded }
+    ensures all { ExportsAreAdded }
+    ensures behind { ExportsAreAddedBehind }
 {}
 
 /// All lists of a module's parts, one after another, are added exactly where they are valid, and the

@@ -1,5 +1,8 @@
-use Rattle.wasm_validator_core_laws.proofs.AddedExports.{exports_are_added}
+use Rattle.wasm_validator_core_laws.proofs.AddedExports.{exports_are_added, exports_are_added_behind}
 use Rattle.wasm_validator_core_laws.proofs.exports_are_added.Goals as goal
 
-pub returns : goal.returns
-returns c = exports_are_added
+pub returns-clause-all : goal.returns-clause-all
+returns-clause-all c = exports_are_added
+
+pub returns-clause-behind : goal.returns-clause-behind
+returns-clause-behind c = exports_are_added_behind

@@ -1,9 +1,9 @@
-use Rattle.std.proofs.Common.{◌≡◌, refl, sym, subst, ◌∙◌, ℕ, ◌+◌, ◌≤◌, Bool, true, false, leb, length, arith}
+use Rattle.std.proofs.Common.{◌≡◌, refl, sym, ◌∙◌, ℕ, ◌+◌, ◌≤◌, true, false, leb, length, arith}
 use Rattle.wasm_binary_reader.specs.Reader.{input, position_in}
 use Rattle.wasm_spec.specs.BinaryModules.{Export, export_at}
 use Rattle.wasm_rules.specs.FeatureFlags.{features_of}
 use Rattle.wasm_validator_core.specs.declared.limits.TheConstants.{MAX_EXPORTS}
-use Rattle.wasm_readers.specs.SectionsSeen.{count_of, bytes_of, section_start, section_end, items_left, items_rest, items_end, next_item_at}
+use Rattle.wasm_readers.specs.SectionsSeen.{count_of, bytes_of, section_start, section_end, items_left, items_rest}
 use Rattle.wasm_readers.specs.Items.{export_of}
 use Rattle.wasm_validator_core.specs.Items.{add_export, exported_entity}
 use Rattle.wasm_validator_core.specs.Told.{told_of_entity}
@@ -13,11 +13,10 @@ use Rattle.wasm_validator_types.specs.Spaces.{Spaces}
 use Rattle.wasm_validator_core.specs.declared.error.Error.{Error}
 use Rattle.wasm_validator_core.specs.declared.error.Error.TheVariants.{Refused}
 use Rattle.wasm_validator_core.specs.Errors.{lifted}
-use Rattle.wasm_validator_core.specs.Ready.{AreHeld}
 use Rattle.wasm_validator.specs.Machine.{read_each, export_items}
 use Rattle.wasm_validator.specs.SectionsTold.{TellsEach, TellsCount, IsNone, OfContent, TellsOfExport, TellsNamedAt}
-use Rattle.wasm_validator.proofs.ItemSteps.{fewer_left, read_each-step, read_each-refused, adds_refused, adds_as, if_none}
-use Rattle.wasm_validator.proofs.SectionsTold.{told_onward, unread_told, refused_told, over_told, err_as, items_here, same_end, item_told, export_told, of_content}
+use Rattle.wasm_validator.proofs.ItemSteps.{read_each-step, read_each-refused, adds_refused, adds_as, if_none}
+use Rattle.wasm_validator.proofs.SectionsTold.{told_onward, unread_told, refused_told, over_told, err_as, items_here, same_end, export_told, of_content}
 use Rattle.wasm_validator.proofs.module_sections.add_exports.Goals as goal
 
 pub returns-in_err-check_max-clause-told : goal.returns-in_err-check_max-clause-told

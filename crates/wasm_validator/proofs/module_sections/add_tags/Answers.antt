@@ -1,9 +1,9 @@
-use Rattle.std.proofs.Common.{◌≡◌, sym, subst, ◌∙◌, ℕ, ◌+◌, ◌≤◌, Bool, true, false, leb, length, arith}
+use Rattle.std.proofs.Common.{◌≡◌, sym, subst, ◌∙◌, ℕ, ◌+◌, ◌≤◌, true, false, leb, length, arith}
 use Rattle.wasm_binary_reader.specs.Reader.{input, position_in}
 use Rattle.wasm_spec.specs.BinaryTypes.{tag_at}
 use Rattle.wasm_rules.specs.FeatureFlags.{features_of}
 use Rattle.wasm_validator_core.specs.declared.limits.TheConstants.{MAX_TAGS}
-use Rattle.wasm_readers.specs.SectionsSeen.{count_of, bytes_of, section_start, section_end, items_left, items_rest, items_end, next_item_at}
+use Rattle.wasm_readers.specs.SectionsSeen.{count_of, bytes_of, section_start, section_end, items_left, items_rest}
 use Rattle.wasm_readers_types.specs.declared.externs.TagType.{TagType}
 use Rattle.wasm_validator_core.specs.Items.{add_tag}
 use Rattle.wasm_validator_core.specs.Told.{told_of_added_tag}
@@ -15,8 +15,8 @@ use Rattle.wasm_validator_core.specs.declared.error.Error.TheVariants.{Refused}
 use Rattle.wasm_validator_core.specs.Errors.{lifted}
 use Rattle.wasm_validator_core.specs.Ready.{AreHeld}
 use Rattle.wasm_validator.specs.SectionsTold.{TellsEach, TellsCount, IsNone, OfContent, tells_tag}
-use Rattle.wasm_validator.proofs.ItemSteps.{fewer_left, read_each-step}
-use Rattle.wasm_validator.proofs.SectionsTold.{told_onward, unread_told, refused_told, over_told, err_as, items_here, same_end, item_told, export_told, of_content}
+use Rattle.wasm_validator.proofs.ItemSteps.{read_each-step}
+use Rattle.wasm_validator.proofs.SectionsTold.{told_onward, unread_told, refused_told, over_told, err_as, items_here, same_end, item_told}
 use Rattle.wasm_validator.proofs.module_sections.add_tags.Goals as goal
 
 pub returns-in_err-check_max-clause-told : goal.returns-in_err-check_max-clause-told

@@ -1,4 +1,4 @@
-use Rattle.std.proofs.Common.{◌≡◌, sym, subst, ◌∙◌, ◌+◌, ◌≤◌, ℕ, true, false, length, leb, arith}
+use Rattle.std.proofs.Common.{◌≡◌, subst, ◌∙◌, ◌+◌, ◌≤◌, true, false, length, leb, arith}
 use Rattle.wasm_binary_reader.specs.Reader.{input, position_in}
 use Rattle.wasm_readers_errors.specs.declared.error.Counted.TheVariants as counted
 use Rattle.wasm_spec.specs.BinaryTypes.{rec_at}

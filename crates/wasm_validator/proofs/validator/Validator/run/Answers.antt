@@ -1,9 +1,9 @@
 use Rattle.std.proofs.Common.{sym, subst, ◌∙◌, Option}
-use Rattle.wasm_parser.specs.Places.{refused_with}
 use Rattle.wasm_parser.specs.Seen.{seen, state}
 use Rattle.wasm_parser.proofs.Falls.{falls}
 use Rattle.wasm_validator_types.specs.declared.shown.Types.{Types}
 use Rattle.wasm_validator.specs.declared.payload.ValidPayload.{ValidPayload}
+use Rattle.wasm_validator.proofs.GoingOn.{goes_on, refused_nothing}
 use Rattle.wasm_validator.proofs.Runs.{Progress, progress-step, accepted, has_ended, refused_format, rejected_payload, refused_whole}
 use Rattle.wasm_validator.proofs.validator.Validator.run.Goals as goal
 
@@ -19,8 +19,12 @@ payloads-preserved g c =
     let went : Progress c.args.bytes.now c.args.self.now c.payload.new.self (state c.next_of_input.new.payloads) c.latest-ended.result =
     subst P (sym c.latest-ended.ensures)
     (progress-step c.args.bytes.now c.args.self.now c.payloads.self c.payload.new.self (state c.payloads.payloads) (state c.next_of_input.new.payloads) (seen c.in-Ok-Some.payload) c.payloads.ended c.in-Ok.valid
-    c.payloads.invariant.0 given c.in-Ok.ensures.moves c.in-Ok.ensures.shown) in
-    (went, c.next_of_input.ensures.reads c.payloads.invariant.1, c.next_of_input.ensures.whole ∙ c.payloads.invariant.2)
+    c.payloads.invariant.0 given c.in-Ok.ensures.moves c.in-Ok.ensures.shown) in (
+      went,
+      c.next_of_input.ensures.reads c.payloads.invariant.1,
+      c.next_of_input.ensures.whole ∙ c.payloads.invariant.2,
+      goes_on (state c.payloads.payloads) (seen c.in-Ok-Some.payload) (state c.next_of_input.new.payloads) given,
+    )
 
 pub returns-in-Err-payload-clause-validates : goal.returns-in-Err-payload-clause-validates
 returns-in-Err-payload-clause-validates g c =
@@ -30,7 +34,9 @@ returns-in-Err-payload-clause-validates g c =
     (rejected_payload c.args.bytes.now c.args.self.now c.payloads.self (state c.payloads.payloads) (state c.next_of_input.new.payloads) (seen c.in-Ok-Some.payload) c.payloads.ended c.payloads.invariant.0 given)
 
 pub returns-in-Err-clause-validates : goal.returns-in-Err-clause-validates
-returns-in-Err-clause-validates g c = refused_format c.args.bytes.now c.args.self.now c.payloads.self (state c.payloads.payloads) c.payloads.ended (refused_with c.next_of_input.new.payloads) c.in-Err.refused c.in-Err.ensures.handed c.payloads.invariant.0 c.in-Err.ensures.err
+returns-in-Err-clause-validates g c =
+    refused_format c.args.bytes.now c.args.self.now c.payloads.self (state c.payloads.payloads) c.payloads.ended c.in-Err.refused
+    (c.in-Err.ensures.format (refused_nothing c.payloads.payloads c.payloads.invariant.3)) c.payloads.invariant.0 c.in-Err.ensures.err
 
 pub unreachable-requires : goal.unreachable-requires
 unreachable-requires g c =

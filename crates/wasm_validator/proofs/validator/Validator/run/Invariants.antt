@@ -2,11 +2,12 @@ use Rattle.std.proofs.Common.{◌≡◌, length}
 use Rattle.wasm_parser.specs.Places.{ReadsInput, input_end}
 use Rattle.wasm_parser.specs.Seen.{state}
 use Rattle.wasm_parser.specs.Machine.{most_left}
+use Rattle.wasm_validator.proofs.GoingOn.{IsOn}
 use Rattle.wasm_validator.proofs.Runs.{Progress}
 use Rattle.wasm_validator.proofs.validator.Validator.run.Given as goal
 
 abbrev pub invariant-payloads : goal.invariant-payloads
-invariant-payloads g l = Progress l.bytes l.fn.self l.self (state l.payloads) l.ended × ReadsInput l.payloads × (input_end l.payloads ≡ length l.bytes)
+invariant-payloads g l = Progress l.bytes l.fn.self l.self (state l.payloads) l.ended × ReadsInput l.payloads × (input_end l.payloads ≡ length l.bytes) × IsOn (state l.payloads).stage
 
 abbrev pub decreases-payloads : goal.decreases-payloads
 decreases-payloads g l = most_left (state l.payloads)

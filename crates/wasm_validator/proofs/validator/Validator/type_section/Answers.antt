@@ -6,7 +6,7 @@ use Rattle.wasm_validator.specs.Standing.{Standing, Moves}
 use Rattle.wasm_validator.specs.States.{stage_of, after_section}
 use Rattle.wasm_validator.proofs.Sections.{open-ids, open-valid}
 use Rattle.wasm_validator.proofs.SectionMoves.{section_moves}
-use Rattle.wasm_readers.specs.SectionsSeen.{section_start, section_end}
+use Rattle.wasm_readers.specs.SectionsSeen.{section_start}
 use Rattle.wasm_readers_errors.specs.declared.features.WasmFeatures.{WasmFeatures}
 use Rattle.wasm_validator_types.specs.Spaces.{Spaces}
 use Rattle.wasm_validator_core.specs.declared.error.Error.{Error}
