@@ -65,8 +65,8 @@ module _ {A : Type 0} where
   state_kept (Ok x) m = Module m
   state_kept (Err e) m = Failed
 
-  abbrev pub standing : Inside A → Standing
-  standing a = record { id = a.id; features = a.features; stage = stage_of (types_of_list a.types) a.state }
+  abbrev pub standing_of : Inside A → Standing
+  standing_of a = record { id = a.id; features = a.features; stage = stage_of (types_of_list a.types) a.state }
 
 -- the header is a module's
 abbrev pub is_module : Encoding → Bool

@@ -65,9 +65,9 @@ impl<A: Allocator> Model for Validator<A> {
 
     ghost coded = { coded_standing };
 
-    ghost use Rattle.wasm_validator.specs.States.{standing};
+    ghost use Rattle.wasm_validator.specs.States.{standing_of};
 
-    ghost view = { standing };
+    ghost view = { standing_of };
 
     ghost use Rattle.wasm_validator.specs.Ready.{IsSound};
 
