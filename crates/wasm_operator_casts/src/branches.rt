@@ -46,8 +46,8 @@ fn resolve_type<T: WasmModuleResources>(resources: &T, ty: RefType) -> Option<Re
     }
 }
 
-/// Whether a reference type, which is written so, may be cast to another. With descriptors a cast goes
-/// between types of one hierarchy, and else to a type that matches.
+/// Whether a reference type, which is written so, may be cast to another. With descriptors a cast
+/// goes between types of one hierarchy, and else to a type that matches.
 #[tactic(auto, using(crate::proofs::Casting::castings))]
 fn casts<A: Allocator, T: WasmModuleResources>(
     stacks: &Stacks<A>,
@@ -149,8 +149,8 @@ pub fn br_on_cast<A: Allocator, T: WasmModuleResources>(
 /// # Errors
 ///
 /// Refuses unknown types, types that the features don't allow, and a type that can't be cast to the
-/// other; an unknown label, one whose last type isn't that of a failed cast, and operands that aren't
-/// a reference above the label's other types.
+/// other; an unknown label, one whose last type isn't that of a failed cast, and operands that
+/// aren't a reference above the label's other types.
 #[tactic(auto, using(wasm_operator_checks::proofs::Acting::acts, crate::proofs::Sending::kept_on))]
 pub fn br_on_cast_fail<A: Allocator, T: WasmModuleResources>(
     stacks: &mut Stacks<A>,

@@ -22,8 +22,8 @@ use wasm_operator_stacks::{Stacks, Word};
 use wasm_readers_types::{RefType, ValType};
 use wasm_type_words::TypeWord;
 
-/// Takes operands of some types with one of another type on top, and gives the same types with one of
-/// a third type on top. Where that can't be, all stays.
+/// Takes operands of some types with one of another type on top, and gives the same types with one
+/// of a third type on top. Where that can't be, all stays.
 #[tactic(auto, using(wasm_operator_checks::proofs::Acting::acts, wasm_operator_checks::proofs::Taking::with_one))]
 fn exchange_top<'a, A: Allocator, T: WasmModuleResources>(
     stacks: &mut Stacks<A>,
@@ -49,8 +49,8 @@ fn exchange_top<'a, A: Allocator, T: WasmModuleResources>(
     }
 }
 
-/// Branches to a label whose last type matches what is sent: takes the label's other types with one of
-/// a type on top, and gives them with one of another type on top. Where that can't be, all stays.
+/// Branches to a label whose last type matches what is sent: takes the label's other types with one
+/// of a type on top, and gives them with one of another type on top. Where that can't be, all stays.
 #[tactic(auto, using(wasm_operator_checks::proofs::Acting::acts, crate::proofs::Sending::sends))]
 pub(crate) fn send<A: Allocator, T: WasmModuleResources>(
     stacks: &mut Stacks<A>,

@@ -63,8 +63,8 @@ fn top_of_index<T: WasmModuleResources>(
     }
 }
 
-/// The greatest type of the hierarchy of a written heap type, and whether it is shared, if the module
-/// has the type that it names.
+/// The greatest type of the hierarchy of a written heap type, and whether it is shared, if the
+/// module has the type that it names.
 #[tactic(auto, using(crate::proofs::Topping::tops))]
 pub(crate) fn top_of<T: WasmModuleResources>(
     resources: &T,

@@ -23,7 +23,8 @@ use wasm_operator_stacks::{Stacks, Word};
 use wasm_readers_errors::WasmFeatures;
 use wasm_readers_types::{AbstractHeapType, HeapType, RefType, ValType};
 
-/// Whether what a reference type points to matches an abstract heap type.
+/// Whether what a reference type points to matches an abstract heap type (Core Specification 3.0,
+/// Validation, Matching, Heap Types).
 #[tactic(auto, using(crate::proofs::Comparable::heaps))]
 pub fn matches_abstract<T: WasmModuleResources>(
     resources: &T,
@@ -70,7 +71,12 @@ fn is_below<T: WasmModuleResources>(
 }
 
 /// The reference below so many operands that are taken already, where it is below an abstract heap
-/// type, shared or not, and how many are taken with it.
+/// type, shared or not, and how many are taken with it (Core Specification 3.0, Appendix, Validation
+/// Algorithm).
+///
+/// # Errors
+///
+/// Refuses where there is no operand, one that is no reference, and one of another type.
 #[tactic(auto, using(crate::proofs::Comparable::looks))]
 pub fn look_below<A: Allocator, T: WasmModuleResources>(
     stacks: &Stacks<A>,

@@ -20,8 +20,8 @@ use wasm_readers_errors::WasmFeatures;
 use wasm_readers_types::{HeapType, UnpackedIndex};
 use wasm_type_words::TypeWord;
 
-/// Whether a reference to a function is exactly to its type: where the function is, and descriptors can
-/// tell.
+/// Whether a reference to a function is exactly to its type: where the function is, and descriptors
+/// can tell.
 fn has_exact_type<A: Allocator, T: WasmModuleResources>(
     stacks: &Stacks<A>,
     resources: &T,
@@ -46,8 +46,8 @@ fn described(is_exact: bool, type_index: u32) -> HeapType
     }
 }
 
-/// `ref.func` (Core Specification 3.0, Validation, Instructions, Reference Instructions). With custom
-/// descriptors the type is exact where the function's is.
+/// `ref.func` (Core Specification 3.0, Validation, Instructions, Reference Instructions). With
+/// custom descriptors the type is exact where the function's is.
 ///
 /// # Errors
 ///

@@ -52,8 +52,11 @@ pub fn front_types<'a>(types: Types<'a>) -> Types<'a>
     }
 }
 
-/// Gives operands of these types, with one more on top, in the place of so many. Where memory is
-/// refused, all stays.
+/// Gives operands of these types, with one more on top, in the place of so many.
+///
+/// # Errors
+///
+/// Where memory is refused. All stays then.
 #[tactic(auto, using(crate::proofs::Giving::gives))]
 pub fn exchange_with<'a, A: Allocator>(
     stacks: &mut Stacks<A>,

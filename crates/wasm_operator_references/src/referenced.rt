@@ -13,8 +13,8 @@ use wasm_operator_stacks::{Operand, Stacks, Word};
 use wasm_readers_types::{AbstractHeapType, RefType, ValType};
 use wasm_type_words::TypeWord;
 
-/// A reference among operands: of a known type, and in code that isn't reached of any reference type,
-/// or of an abstract heap type whose shared flag is open, not null.
+/// A reference among operands: of a known type, and in code that isn't reached of any reference
+/// type, or of an abstract heap type whose shared flag is open, not null.
 #[derive(Clone, Copy)]
 pub enum Referenced {
     Known(RefType),
@@ -36,7 +36,12 @@ fn as_reference(operand: Operand) -> Option<Referenced>
     }
 }
 
-/// The reference below so many operands that are taken already, and how many are taken with it.
+/// The reference below so many operands that are taken already, and how many are taken with it (Core
+/// Specification 3.0, Appendix, Validation Algorithm).
+///
+/// # Errors
+///
+/// Refuses where there is no operand, and one that is no reference.
 #[tactic(auto, using(crate::proofs::Referring::looks))]
 pub fn look_reference<A: Allocator>(
     stacks: &Stacks<A>,

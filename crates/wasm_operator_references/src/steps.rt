@@ -23,7 +23,8 @@ use wasm_operators::ReferenceOperator;
 ///
 /// # Errors
 ///
-/// Refuses what the operator's rule refuses, and then all stays. Where memory is refused all stays too.
+/// Refuses what the operator's rule refuses, and then all stays. Where memory is refused all stays
+/// too.
 pub fn step_reference<A: Allocator, T: WasmModuleResources>(
     stacks: &mut Stacks<A>,
     resources: &T,

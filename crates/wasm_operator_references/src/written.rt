@@ -42,8 +42,8 @@ pub fn allows_heap<A: Allocator>(stacks: &Stacks<A>, nullable: bool, heap: HeapT
     }
 }
 
-/// The reference type to a written heap type, with an identity in the place of the type index, if the
-/// module has that type.
+/// The reference type to a written heap type, with an identity in the place of the type index, if
+/// the module has that type.
 #[tactic(auto, using(crate::proofs::Writing::resolves))]
 pub fn resolve<T: WasmModuleResources>(
     resources: &T,
