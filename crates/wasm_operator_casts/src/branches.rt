@@ -115,8 +115,7 @@ fn cast_types<A: Allocator, T: WasmModuleResources>(
 /// A reference type as it is after a cast to another failed: without null, where the other has it.
 fn difference(from: RefType, to: RefType) -> RefType
     ensures { ref_of result ≡ record {
-      nullable = if (ref_of to).nullable then false else
-          (ref_of from).nullable;
+      nullable = if (ref_of to).nullable then false else (ref_of from).nullable;
       heap = (ref_of from).heap;
     } }
 {
