@@ -28,7 +28,8 @@ use wasm_value_checks::check_ref_type;
 /// Whether the features allow a reference type as it is written.
 #[tactic(auto, using(crate::proofs::Casting::allowances))]
 fn is_allowed<A: Allocator>(stacks: &Stacks<A>, ty: RefType) -> bool
-    ensures { result ≡ allows_val (features_of stacks.now.features) (reference (map_ref written_index (ref_of ty))) }
+    ensures { result ≡ allows_val (features_of stacks.now.features)
+        (reference (map_ref written_index (ref_of ty))) }
 {
     check_ref_type(stacks.features, ty, 0).is_ok()
 }
@@ -37,7 +38,8 @@ fn is_allowed<A: Allocator>(stacks: &Stacks<A>, ty: RefType) -> bool
 /// type.
 fn resolve_type<T: WasmModuleResources>(resources: &T, ty: RefType) -> Option<RefType>
     requires { IsWrittenHeap (ref_of ty).heap }
-    ensures { option_map ref_of result ≡ resolve_ref (T.context resources.now).types (map_ref written_index (ref_of ty)) }
+    ensures { option_map ref_of result ≡ resolve_ref (T.context resources.now).types
+        (map_ref written_index (ref_of ty)) }
 {
     let mut named = ty;
     match resources.check_ref_type(&mut named, 0) {
@@ -57,8 +59,10 @@ fn casts<A: Allocator, T: WasmModuleResources>(
     to: RefType,
 ) -> bool
     requires written { IsWrittenHeap (ref_of written).heap }
-    requires named { Some (ref_of from) ≡ resolve_ref (T.context resources.now).types (map_ref written_index (ref_of written)) }
-    ensures { result ≡ casts (world (T.context resources.now)) (around stacks.now (T.context resources.now)) (ref_of from) (ref_of to) }
+    requires named { Some (ref_of from) ≡ resolve_ref (T.context resources.now).types
+        (map_ref written_index (ref_of written)) }
+    ensures { result ≡ casts (world (T.context resources.now))
+        (around stacks.now (T.context resources.now)) (ref_of from) (ref_of to) }
 {
     if has(stacks, WasmFeatures::CUSTOM_DESCRIPTORS) {
         match top_of(resources, written.heap_type()) {
@@ -80,7 +84,8 @@ fn cast_types<A: Allocator, T: WasmModuleResources>(
 ) -> Result<(RefType, RefType), OperatorFault>
     requires from { IsWrittenHeap (ref_of from).heap }
     requires to { IsWrittenHeap (ref_of to).heap }
-    ensures { Castable result stacks.now (T.context resources.now) (map_ref written_index (ref_of from)) (map_ref written_index (ref_of to)) }
+    ensures { Castable result stacks.now (T.context resources.now)
+        (map_ref written_index (ref_of from)) (map_ref written_index (ref_of to)) }
 {
     if !has(stacks, WasmFeatures::GC) {
         return Err(OperatorFault::new(OperatorRule::Gc));
@@ -109,7 +114,10 @@ fn cast_types<A: Allocator, T: WasmModuleResources>(
 
 /// A reference type as it is after a cast to another failed: without null, where the other has it.
 fn difference(from: RefType, to: RefType) -> RefType
-    ensures { ref_of result ≡ record { nullable = if (ref_of to).nullable then false else (ref_of from).nullable; heap = (ref_of from).heap } }
+    ensures { ref_of result ≡ record {
+      nullable = if (ref_of to).nullable then false else (ref_of from).nullable;
+      heap = (ref_of from).heap;
+    } }
 {
     if to.is_nullable() {
         from.as_non_null()
@@ -135,7 +143,9 @@ pub fn br_on_cast<A: Allocator, T: WasmModuleResources>(
 ) -> Result<(), OperatorError>
     requires from { IsWrittenHeap (ref_of from).heap }
     requires to { IsWrittenHeap (ref_of to).heap }
-    ensures took { Performs result (T.context resources.now) (cast_shape (br_on_cast depth (map_ref written_index (ref_of from)) (map_ref written_index (ref_of to)))) stacks.old stacks.new }
+    ensures took { Performs result (T.context resources.now)
+        (cast_shape (br_on_cast depth (map_ref written_index (ref_of from))
+        (map_ref written_index (ref_of to)))) stacks.old stacks.new }
     ensures same { Kept stacks.old stacks.new }
 {
     match cast_types(stacks, resources, from, to) {
@@ -161,7 +171,9 @@ pub fn br_on_cast_fail<A: Allocator, T: WasmModuleResources>(
 ) -> Result<(), OperatorError>
     requires from { IsWrittenHeap (ref_of from).heap }
     requires to { IsWrittenHeap (ref_of to).heap }
-    ensures took { Performs result (T.context resources.now) (cast_shape (br_on_cast_fail depth (map_ref written_index (ref_of from)) (map_ref written_index (ref_of to)))) stacks.old stacks.new }
+    ensures took { Performs result (T.context resources.now)
+        (cast_shape (br_on_cast_fail depth (map_ref written_index (ref_of from))
+        (map_ref written_index (ref_of to)))) stacks.old stacks.new }
     ensures same { Kept stacks.old stacks.new }
 {
     match cast_types(stacks, resources, from, to) {

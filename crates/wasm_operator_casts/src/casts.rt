@@ -34,7 +34,9 @@ pub fn ref_test<A: Allocator, T: WasmModuleResources>(
     heap: HeapType,
 ) -> Result<(), OperatorError>
     requires { IsWrittenHeap (heap_of heap) }
-    ensures took { Performs result (T.context resources.now) (cast_shape (ref_test (reference_to nullable (map_heap written_index (heap_of heap))))) stacks.old stacks.new }
+    ensures took { Performs result (T.context resources.now)
+        (cast_shape (ref_test (reference_to nullable (map_heap written_index (heap_of heap)))))
+        stacks.old stacks.new }
     ensures same { Kept stacks.old stacks.new }
 {
     if !has(stacks, WasmFeatures::GC) {
@@ -73,7 +75,9 @@ pub fn ref_cast<A: Allocator, T: WasmModuleResources>(
     heap: HeapType,
 ) -> Result<(), OperatorError>
     requires { IsWrittenHeap (heap_of heap) }
-    ensures took { Performs result (T.context resources.now) (cast_shape (ref_cast (reference_to nullable (map_heap written_index (heap_of heap))))) stacks.old stacks.new }
+    ensures took { Performs result (T.context resources.now)
+        (cast_shape (ref_cast (reference_to nullable (map_heap written_index (heap_of heap)))))
+        stacks.old stacks.new }
     ensures same { Kept stacks.old stacks.new }
 {
     if !has(stacks, WasmFeatures::GC) {

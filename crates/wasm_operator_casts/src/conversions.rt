@@ -33,7 +33,8 @@ fn converted<T: WasmModuleResources>(
     heap: AbstractHeapType,
     reference: Referenced,
 ) -> Word
-    ensures { (B : Surroundings UnpackedIndex) → operand_of result ≡ converted (world (T.context resources.now)) B (abstract_heap_of heap) (reference_seen reference) }
+    ensures { (B : Surroundings UnpackedIndex) → operand_of result ≡ converted
+        (world (T.context resources.now)) B (abstract_heap_of heap) (reference_seen reference) }
 {
     match reference {
         Referenced::Known(ty) => {
@@ -53,7 +54,10 @@ fn convert<A: Allocator, T: WasmModuleResources>(
     from: AbstractHeapType,
     to: AbstractHeapType,
 ) -> Result<(), OperatorError>
-    ensures took { Performs result (T.context resources.now) (converting (has_check gc ∷ allows (reference_to true (abstract_heap false (abstract_heap_of to))) ∷ []) (abstract_heap_of from) (abstract_heap_of to)) stacks.old stacks.new }
+    ensures took { Performs result (T.context resources.now)
+        (converting
+        (has_check gc ∷ allows (reference_to true (abstract_heap false (abstract_heap_of to))) ∷ [])
+        (abstract_heap_of from) (abstract_heap_of to)) stacks.old stacks.new }
     ensures same { Kept stacks.old stacks.new }
 {
     if !has(stacks, WasmFeatures::GC) {
@@ -89,7 +93,8 @@ pub fn any_convert_extern<A: Allocator, T: WasmModuleResources>(
     stacks: &mut Stacks<A>,
     resources: &T,
 ) -> Result<(), OperatorError>
-    ensures took { Performs result (T.context resources.now) (conversion_shape AnyConvertExtern) stacks.old stacks.new }
+    ensures took { Performs result (T.context resources.now) (conversion_shape AnyConvertExtern)
+        stacks.old stacks.new }
     ensures same { Kept stacks.old stacks.new }
 {
     let from = AbstractHeapType::Extern;
@@ -105,7 +110,8 @@ pub fn extern_convert_any<A: Allocator, T: WasmModuleResources>(
     stacks: &mut Stacks<A>,
     resources: &T,
 ) -> Result<(), OperatorError>
-    ensures took { Performs result (T.context resources.now) (conversion_shape ExternConvertAny) stacks.old stacks.new }
+    ensures took { Performs result (T.context resources.now) (conversion_shape ExternConvertAny)
+        stacks.old stacks.new }
     ensures same { Kept stacks.old stacks.new }
 {
     let to = AbstractHeapType::Extern;
@@ -119,7 +125,9 @@ fn box_integer<A: Allocator, T: WasmModuleResources>(
     resources: &T,
     shared: bool,
 ) -> Result<(), OperatorError>
-    ensures took { Performs result (T.context resources.now) (plain (allows (small_integer shared) ∷ []) (one i32) (one (small_integer shared))) stacks.old stacks.new }
+    ensures took { Performs result (T.context resources.now)
+        (plain (allows (small_integer shared) ∷ []) (one i32) (one (small_integer shared)))
+        stacks.old stacks.new }
     ensures same { Kept stacks.old stacks.new }
 {
     let heap = HeapType::Abstract {
@@ -147,7 +155,8 @@ pub fn ref_i31<A: Allocator, T: WasmModuleResources>(
     stacks: &mut Stacks<A>,
     resources: &T,
 ) -> Result<(), OperatorError>
-    ensures took { Performs result (T.context resources.now) (conversion_shape RefI31) stacks.old stacks.new }
+    ensures took { Performs result (T.context resources.now) (conversion_shape RefI31)
+        stacks.old stacks.new }
     ensures same { Kept stacks.old stacks.new }
 {
     if !has(stacks, WasmFeatures::GC) {
@@ -166,7 +175,8 @@ pub fn ref_i31_shared<A: Allocator, T: WasmModuleResources>(
     stacks: &mut Stacks<A>,
     resources: &T,
 ) -> Result<(), OperatorError>
-    ensures took { Performs result (T.context resources.now) (conversion_shape RefI31Shared) stacks.old stacks.new }
+    ensures took { Performs result (T.context resources.now) (conversion_shape RefI31Shared)
+        stacks.old stacks.new }
     ensures same { Kept stacks.old stacks.new }
 {
     if !has(stacks, WasmFeatures::SHARED_EVERYTHING_THREADS) {
@@ -186,7 +196,8 @@ pub fn i31_get<A: Allocator, T: WasmModuleResources>(
     stacks: &mut Stacks<A>,
     resources: &T,
 ) -> Result<(), OperatorError>
-    ensures took { Performs result (T.context resources.now) (conversion_shape I31GetS) stacks.old stacks.new }
+    ensures took { Performs result (T.context resources.now) (conversion_shape I31GetS)
+        stacks.old stacks.new }
     ensures same { Kept stacks.old stacks.new }
 {
     if !has(stacks, WasmFeatures::GC) {

@@ -32,7 +32,9 @@ fn exchange_top<'a, A: Allocator, T: WasmModuleResources>(
     takes: TypeWord,
     gives: TypeWord,
 ) -> Result<(), OperatorError>
-    ensures took { Turns result (exchanged (world (T.context resources.now)) (types_seen types.entry ++ val_in takes ∷ []) (types_seen types.entry ++ val_in gives ∷ [])) stacks.old stacks.new }
+    ensures took { Turns result (exchanged (world (T.context resources.now))
+        (types_seen types.entry ++ val_in takes ∷ []) (types_seen types.entry ++ val_in gives ∷ []))
+        stacks.old stacks.new }
     ensures same { Kept stacks.old stacks.new }
 {
     let first = match check_type(stacks, resources, 0, takes) {
@@ -60,7 +62,9 @@ pub(crate) fn send<A: Allocator, T: WasmModuleResources>(
     takes: RefType,
     gives: RefType,
 ) -> Result<(), OperatorError>
-    ensures took { Turns result (sending (world (T.context resources.now)) (typed stacks.old (T.context resources.now) (label depth)) (reference (ref_of sent)) (reference (ref_of takes)) (reference (ref_of gives))) stacks.old stacks.new }
+    ensures took { Turns result (sending (world (T.context resources.now))
+        (typed stacks.old (T.context resources.now) (label depth)) (reference (ref_of sent))
+        (reference (ref_of takes)) (reference (ref_of gives))) stacks.old stacks.new }
     ensures same { Kept stacks.old stacks.new }
 {
     let types = match label_types(stacks, resources, depth) {

@@ -32,7 +32,8 @@ pub fn step_cast<A: Allocator, T: WasmModuleResources>(
     op: CastOperator,
 ) -> Result<(), OperatorError>
     requires { IsWrittenCast (cast_of op) }
-    ensures took { Performs result (T.context resources.now) (cast_shape (map_cast written_index (cast_of op))) stacks.old stacks.new }
+    ensures took { Performs result (T.context resources.now)
+        (cast_shape (map_cast written_index (cast_of op))) stacks.old stacks.new }
     ensures same { Kept stacks.old stacks.new }
 {
     match op {
@@ -77,7 +78,8 @@ pub fn step_conversion<A: Allocator, T: WasmModuleResources>(
     resources: &T,
     op: ConversionOperator,
 ) -> Result<(), OperatorError>
-    ensures took { Performs result (T.context resources.now) (conversion_shape op) stacks.old stacks.new }
+    ensures took { Performs result (T.context resources.now) (conversion_shape op)
+        stacks.old stacks.new }
     ensures same { Kept stacks.old stacks.new }
 {
     match op {

@@ -51,8 +51,10 @@ fn top_of_index<T: WasmModuleResources>(
     resources: &T,
     type_index: u32,
 ) -> Option<(bool, AbstractHeapType)>
-    ensures inexact { option_map top_seen result ≡ top_in (T.context resources.now) (concrete type_index) }
-    ensures exact { option_map top_seen result ≡ top_in (T.context resources.now) (exact type_index) }
+    ensures inexact { option_map top_seen result ≡ top_in (T.context resources.now)
+        (concrete type_index) }
+    ensures exact { option_map top_seen result ≡ top_in (T.context resources.now)
+        (exact type_index) }
 {
     match resources.sub_type_at(type_index) {
         Some(sub) => {
@@ -71,7 +73,8 @@ pub(crate) fn top_of<T: WasmModuleResources>(
     heap: HeapType,
 ) -> Option<(bool, AbstractHeapType)>
     requires { IsWrittenHeap (heap_of heap) }
-    ensures { option_map top_seen result ≡ top_in (T.context resources.now) (map_heap written_index (heap_of heap)) }
+    ensures { option_map top_seen result ≡ top_in (T.context resources.now)
+        (map_heap written_index (heap_of heap)) }
 {
     match heap {
         HeapType::Abstract { shared, ty } => Some((shared, top_of_abstract(ty))),
@@ -90,7 +93,10 @@ pub(crate) fn top_of<T: WasmModuleResources>(
 
 /// References to an abstract heap type, with null or without.
 pub(crate) fn abstract_to(nullable: bool, shared: bool, ty: AbstractHeapType) -> RefType
-    ensures { ref_of result ≡ record { nullable = nullable; heap = abstract_heap shared (abstract_heap_of ty) } }
+    ensures { ref_of result ≡ record {
+      nullable = nullable;
+      heap = abstract_heap shared (abstract_heap_of ty);
+    } }
 {
     RefType::new(nullable, HeapType::Abstract { shared, ty }).unwrap()
 }

@@ -27,7 +27,8 @@ pub fn br_on_null<A: Allocator, T: WasmModuleResources>(
     resources: &T,
     depth: u32,
 ) -> Result<(), OperatorError>
-    ensures took { Performs result (T.context resources.now) (reference_shape (br_on_null depth)) stacks.old stacks.new }
+    ensures took { Performs result (T.context resources.now) (reference_shape (br_on_null depth))
+        stacks.old stacks.new }
     ensures same { Kept stacks.old stacks.new }
 {
     if !has(stacks, WasmFeatures::FUNCTION_REFERENCES) {
@@ -68,7 +69,8 @@ pub fn br_on_non_null<A: Allocator, T: WasmModuleResources>(
     resources: &T,
     depth: u32,
 ) -> Result<(), OperatorError>
-    ensures took { Performs result (T.context resources.now) (reference_shape (br_on_non_null depth)) stacks.old stacks.new }
+    ensures took { Performs result (T.context resources.now)
+        (reference_shape (br_on_non_null depth)) stacks.old stacks.new }
     ensures same { Kept stacks.old stacks.new }
 {
     if !has(stacks, WasmFeatures::FUNCTION_REFERENCES) {

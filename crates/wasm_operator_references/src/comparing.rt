@@ -32,7 +32,8 @@ pub fn matches_abstract<T: WasmModuleResources>(
     shared: bool,
     heap: AbstractHeapType,
 ) -> bool
-    ensures { result ≡ matches_heap (world (T.context resources.now)) (ref_of ty).heap (abstract_heap shared (abstract_heap_of heap)) }
+    ensures { result ≡ matches_heap (world (T.context resources.now)) (ref_of ty).heap
+        (abstract_heap shared (abstract_heap_of heap)) }
 {
     match RefType::new(false, HeapType::Abstract { shared, ty: heap }) {
         Some(bound) => resources.is_subtype(ValType::Ref(ty.as_non_null()), ValType::Ref(bound)),
@@ -47,7 +48,8 @@ fn is_below<T: WasmModuleResources>(
     reference: Referenced,
     heap: AbstractHeapType,
 ) -> bool
-    ensures { (B : Surroundings UnpackedIndex) → result ≡ is_below_either (world (T.context resources.now)) B (abstract_heap_of heap) (reference_seen reference) }
+    ensures { (B : Surroundings UnpackedIndex) → result ≡ is_below_either
+        (world (T.context resources.now)) B (abstract_heap_of heap) (reference_seen reference) }
 {
     match reference {
         Referenced::Known(ty) => {
@@ -85,7 +87,9 @@ pub fn look_below<A: Allocator, T: WasmModuleResources>(
     heap: AbstractHeapType,
 ) -> Result<(Referenced, usize), OperatorFault>
     requires { taken ≤ length (state_of stacks.now).operands }
-    ensures { LookedAt result (pop_below (world (T.context resources.now)) (around stacks.now (T.context resources.now)) (abstract_heap_of heap) (below taken (state_of stacks.now))) (state_of stacks.now) }
+    ensures { LookedAt result (pop_below (world (T.context resources.now))
+        (around stacks.now (T.context resources.now)) (abstract_heap_of heap)
+        (below taken (state_of stacks.now))) (state_of stacks.now) }
 {
     match look_reference(stacks, taken) {
         Ok((reference, taken)) => {
@@ -101,7 +105,8 @@ pub fn look_below<A: Allocator, T: WasmModuleResources>(
 
 /// Whether it isn't that one reference is shared and the other not.
 fn agree<T: WasmModuleResources>(resources: &T, first: Referenced, second: Referenced) -> bool
-    ensures { (B : Surroundings UnpackedIndex) → result ≡ agree (world (T.context resources.now)) B (reference_seen first) (reference_seen second) }
+    ensures { (B : Surroundings UnpackedIndex) → result ≡ agree (world (T.context resources.now)) B
+        (reference_seen first) (reference_seen second) }
 {
     match first {
         Referenced::Known(first) => match second {
@@ -131,7 +136,8 @@ pub fn ref_eq<A: Allocator, T: WasmModuleResources>(
     stacks: &mut Stacks<A>,
     resources: &T,
 ) -> Result<(), OperatorError>
-    ensures took { Performs result (T.context resources.now) (reference_shape ref_eq) stacks.old stacks.new }
+    ensures took { Performs result (T.context resources.now) (reference_shape ref_eq)
+        stacks.old stacks.new }
     ensures same { Kept stacks.old stacks.new }
 {
     if !has(stacks, WasmFeatures::GC) {

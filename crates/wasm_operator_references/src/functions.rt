@@ -27,8 +27,11 @@ fn has_exact_type<A: Allocator, T: WasmModuleResources>(
     resources: &T,
     function_index: u32,
 ) -> bool
-    ensures value { result ≡ (passes (λ b. b) (slice_get (T.context resources.now).exact function_index) && (features_of stacks.now.features).custom_descriptors) }
-    ensures told { IsSome (slice_get (T.context resources.now).functions function_index) → IsSome (slice_get (T.context resources.now).exact function_index) }
+    ensures value { result ≡ (passes (λ b. b)
+        (slice_get (T.context resources.now).exact function_index)
+        && (features_of stacks.now.features).custom_descriptors) }
+    ensures told { IsSome (slice_get (T.context resources.now).functions function_index)
+        → IsSome (slice_get (T.context resources.now).exact function_index) }
 {
     resources.has_function_exact_type(function_index)
         && has(stacks, WasmFeatures::CUSTOM_DESCRIPTORS)
@@ -36,7 +39,8 @@ fn has_exact_type<A: Allocator, T: WasmModuleResources>(
 
 /// What this type index describes, exactly or not.
 fn described(is_exact: bool, type_index: u32) -> HeapType
-    ensures value { map_heap written_index (heap_of result) ≡ (if is_exact then exact type_index else concrete type_index) }
+    ensures value { map_heap written_index (heap_of result)
+        ≡ (if is_exact then exact type_index else concrete type_index) }
     ensures written { IsWrittenHeap (heap_of result) }
 {
     if is_exact {
@@ -58,7 +62,8 @@ pub fn ref_func<A: Allocator, T: WasmModuleResources>(
     resources: &T,
     function_index: u32,
 ) -> Result<(), OperatorError>
-    ensures took { Performs result (T.context resources.now) (reference_shape (ref_func function_index)) stacks.old stacks.new }
+    ensures took { Performs result (T.context resources.now)
+        (reference_shape (ref_func function_index)) stacks.old stacks.new }
     ensures same { Kept stacks.old stacks.new }
 {
     if !has(stacks, WasmFeatures::REFERENCE_TYPES) {

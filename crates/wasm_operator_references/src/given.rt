@@ -65,7 +65,8 @@ pub fn exchange_with<'a, A: Allocator>(
     top: Word,
 ) -> Result<(), AllocError>
     requires { taken ≤ length (state_of stacks.old).operands }
-    ensures ok { OnOk result (state_of stacks.new ≡ push_operand (operand_of top) (push_vals (types_seen types.entry) (below taken (state_of stacks.old)))) }
+    ensures ok { OnOk result (state_of stacks.new ≡ push_operand (operand_of top)
+        (push_vals (types_seen types.entry) (below taken (state_of stacks.old)))) }
     ensures err { OnErr result (state_of stacks.new ≡ state_of stacks.old) }
     ensures same { Kept stacks.old stacks.new }
 {

@@ -31,7 +31,8 @@ pub fn ref_null<A: Allocator, T: WasmModuleResources>(
     heap: HeapType,
 ) -> Result<(), OperatorError>
     requires { IsWrittenHeap (heap_of heap) }
-    ensures took { Performs result (T.context resources.now) (reference_shape (ref_null (map_heap written_index (heap_of heap)))) stacks.old stacks.new }
+    ensures took { Performs result (T.context resources.now)
+        (reference_shape (ref_null (map_heap written_index (heap_of heap)))) stacks.old stacks.new }
     ensures same { Kept stacks.old stacks.new }
 {
     if !has(stacks, WasmFeatures::REFERENCE_TYPES) {
@@ -61,7 +62,8 @@ pub fn ref_is_null<A: Allocator, T: WasmModuleResources>(
     stacks: &mut Stacks<A>,
     _resources: &T,
 ) -> Result<(), OperatorError>
-    ensures took { Performs result (T.context _resources.now) (reference_shape ref_is_null) stacks.old stacks.new }
+    ensures took { Performs result (T.context _resources.now) (reference_shape ref_is_null)
+        stacks.old stacks.new }
     ensures same { Kept stacks.old stacks.new }
 {
     if !has(stacks, WasmFeatures::REFERENCE_TYPES) {
@@ -86,7 +88,8 @@ pub fn ref_as_non_null<A: Allocator, T: WasmModuleResources>(
     stacks: &mut Stacks<A>,
     _resources: &T,
 ) -> Result<(), OperatorError>
-    ensures took { Performs result (T.context _resources.now) (reference_shape ref_as_non_null) stacks.old stacks.new }
+    ensures took { Performs result (T.context _resources.now) (reference_shape ref_as_non_null)
+        stacks.old stacks.new }
     ensures same { Kept stacks.old stacks.new }
 {
     if !has(stacks, WasmFeatures::FUNCTION_REFERENCES) {

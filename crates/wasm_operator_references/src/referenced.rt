@@ -48,7 +48,8 @@ pub fn look_reference<A: Allocator>(
     taken: usize,
 ) -> Result<(Referenced, usize), OperatorFault>
     requires { taken ≤ length (state_of stacks.now).operands }
-    ensures { LookedAt result (pop_reference (below taken (state_of stacks.now))) (state_of stacks.now) }
+    ensures { LookedAt result (pop_reference (below taken (state_of stacks.now)))
+        (state_of stacks.now) }
 {
     match look(stacks, taken) {
         Some((operand, taken)) => match as_reference(operand.seen()) {

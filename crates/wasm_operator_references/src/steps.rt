@@ -31,7 +31,8 @@ pub fn step_reference<A: Allocator, T: WasmModuleResources>(
     op: ReferenceOperator,
 ) -> Result<(), OperatorError>
     requires { IsWrittenReference (reference_of op) }
-    ensures took { Performs result (T.context resources.now) (reference_shape (map_reference written_index (reference_of op))) stacks.old stacks.new }
+    ensures took { Performs result (T.context resources.now)
+        (reference_shape (map_reference written_index (reference_of op))) stacks.old stacks.new }
     ensures same { Kept stacks.old stacks.new }
 {
     match op {

@@ -22,7 +22,8 @@ use wasm_value_checks::check_ref_type;
 /// Whether the features allow references to this heap type, with null or without.
 #[tactic(auto, using(crate::proofs::Writing::allowed))]
 pub fn allows_heap<A: Allocator>(stacks: &Stacks<A>, nullable: bool, heap: HeapType) -> bool
-    ensures { result ≡ allows_val (features_of stacks.now.features) (val_to nullable (map_heap written_index (heap_of heap))) }
+    ensures { result ≡ allows_val (features_of stacks.now.features)
+        (val_to nullable (map_heap written_index (heap_of heap))) }
 {
     match heap {
         HeapType::Abstract { shared, ty } => {
@@ -51,7 +52,8 @@ pub fn resolve<T: WasmModuleResources>(
     heap: HeapType,
 ) -> Option<RefType>
     requires { IsWrittenHeap (heap_of heap) }
-    ensures { option_map ref_of result ≡ resolve_ref (T.context resources.now).types (reference_to nullable (map_heap written_index (heap_of heap))) }
+    ensures { option_map ref_of result ≡ resolve_ref (T.context resources.now).types
+        (reference_to nullable (map_heap written_index (heap_of heap))) }
 {
     let mut named = heap;
     match resources.check_heap_type(&mut named, 0) {
