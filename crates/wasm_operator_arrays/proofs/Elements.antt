@@ -27,7 +27,8 @@ and_true true = refl
 and_true false = refl
 
 -- the references of a segment, as lists of one type
-one_matches : (W : World UnpackedIndex) (o : Option (Ref UnpackedIndex)) (v : Val UnpackedIndex) → passes (λ vs. matches_vals W vs (v ∷ [])) (one (option_map reference o)) ≡ passes (λ r. matches_val W (reference r) v) o
+one_matches : (W : World UnpackedIndex) (o : Option (Ref UnpackedIndex)) (v : Val UnpackedIndex)
+    → passes (λ vs. matches_vals W vs (v ∷ [])) (one (option_map reference o)) ≡ passes (λ r. matches_val W (reference r) v) o
 one_matches W None v = refl
 one_matches W (Some r) v = and_true (matches_val W (reference r) v)
 
@@ -37,7 +38,8 @@ none_passes (Some x) = refl
 
 module _ {A : Type 0} (v : Stacks A) (C : Context UnpackedIndex) where
   -- the type of an array's elements, alone and so many times
-  pub element_typed : (n : ℕ) (x : Field UnpackedIndex) (y : Val UnpackedIndex) → element_in C n ≡ Some x → y ≡ unpack_field x → typed v C (element n) ≡ Some (y ∷ [])
+  pub element_typed : (n : ℕ) (x : Field UnpackedIndex) (y : Val UnpackedIndex) → element_in C n ≡ Some x → y ≡ unpack_field x
+      → typed v C (element n) ≡ Some (y ∷ [])
   unfolding typed
   element_typed n x y e f = rw (e, f) refl
 
@@ -45,7 +47,8 @@ module _ {A : Type 0} (v : Stacks A) (C : Context UnpackedIndex) where
   unfolding typed
   element_untyped n e = rw e refl
 
-  pub repeated_typed : (n k : ℕ) (x : Field UnpackedIndex) (y : Val UnpackedIndex) → element_in C n ≡ Some x → y ≡ unpack_field x → typed v C (repeated k (element n)) ≡ Some (copies k (y ∷ []))
+  pub repeated_typed : (n k : ℕ) (x : Field UnpackedIndex) (y : Val UnpackedIndex) → element_in C n ≡ Some x → y ≡ unpack_field x
+      → typed v C (repeated k (element n)) ≡ Some (copies k (y ∷ []))
   unfolding typed
   repeated_typed n k x y e f = rw (e, f) refl
 
@@ -54,10 +57,12 @@ module _ {A : Type 0} (v : Stacks A) (C : Context UnpackedIndex) where
   repeated_untyped n k e = rw e refl
 
   -- written types: a reference to an array, and a number, in front of others
-  pub array_before : (n : ℕ) (ws : List (Val ℕ)) (a : UnpackedIndex) (x : Val UnpackedIndex) (xs : List (Val UnpackedIndex)) → Some a ≡ slice_get C.types n → x ≡ ref_to true (concrete a) → typed v C (these ws) ≡ Some xs → typed v C (these (nullable_to n ∷ ws)) ≡ Some (x ∷ xs)
+  pub array_before : (n : ℕ) (ws : List (Val ℕ)) (a : UnpackedIndex) (x : Val UnpackedIndex) (xs : List (Val UnpackedIndex))
+      → Some a ≡ slice_get C.types n → x ≡ ref_to true (concrete a) → typed v C (these ws) ≡ Some xs → typed v C (these (nullable_to n ∷ ws)) ≡ Some (x ∷ xs)
   array_before n ws a x xs e f h = more_typed v C (nullable_to n) ws x xs (nullable_resolved C.types n a x e f) h
 
-  pub i32_before : (ws : List (Val ℕ)) (x : Val UnpackedIndex) (xs : List (Val UnpackedIndex)) → x ≡ i32 → typed v C (these ws) ≡ Some xs → typed v C (these (i32 ∷ ws)) ≡ Some (x ∷ xs)
+  pub i32_before : (ws : List (Val ℕ)) (x : Val UnpackedIndex) (xs : List (Val UnpackedIndex)) → x ≡ i32 → typed v C (these ws) ≡ Some xs
+      → typed v C (these (i32 ∷ ws)) ≡ Some (x ∷ xs)
   i32_before ws x xs f h = more_typed v C i32 ws x xs (i32_resolved C.types x f) h
 
   -- checks
@@ -69,7 +74,8 @@ module _ {A : Type 0} (v : Stacks A) (C : Context UnpackedIndex) where
   unfolding held
   mutable_missing n e = rw e refl
 
-  pub default_held : (n : ℕ) (x : Field UnpackedIndex) (b : Bool) → element_in C n ≡ Some x → has_default (unpack_field x) ≡ b → held v C (element_has_default n) ≡ b
+  pub default_held : (n : ℕ) (x : Field UnpackedIndex) (b : Bool) → element_in C n ≡ Some x → has_default (unpack_field x) ≡ b
+      → held v C (element_has_default n) ≡ b
   unfolding held
   default_held n x b e f = rw e f
 
@@ -77,7 +83,8 @@ module _ {A : Type 0} (v : Stacks A) (C : Context UnpackedIndex) where
   unfolding held
   default_missing n e = rw e refl
 
-  pub number_held : (n : ℕ) (x : Field UnpackedIndex) (b : Bool) → element_in C n ≡ Some x → same_number (unpack_field x) (unpack_field x) ≡ b → held v C (element_is_number n) ≡ b
+  pub number_held : (n : ℕ) (x : Field UnpackedIndex) (b : Bool) → element_in C n ≡ Some x → same_number (unpack_field x) (unpack_field x) ≡ b
+      → held v C (element_is_number n) ≡ b
   unfolding held
   number_held n x b e f = rw e f
 
@@ -85,7 +92,8 @@ module _ {A : Type 0} (v : Stacks A) (C : Context UnpackedIndex) where
   unfolding held
   number_missing n e = rw e refl
 
-  pub packed_held : (p : Bool) (n : ℕ) (x : Field UnpackedIndex) (b : Bool) → element_in C n ≡ Some x → same_flag p (is_packed x.storage) ≡ b → held v C (element_is_packed p n) ≡ b
+  pub packed_held : (p : Bool) (n : ℕ) (x : Field UnpackedIndex) (b : Bool) → element_in C n ≡ Some x → same_flag p (is_packed x.storage) ≡ b
+      → held v C (element_is_packed p n) ≡ b
   unfolding held
   packed_held p n x b e f = rw e f
 
@@ -93,7 +101,8 @@ module _ {A : Type 0} (v : Stacks A) (C : Context UnpackedIndex) where
   unfolding held
   packed_missing p n e = rw e refl
 
-  pub storable_held : (m n : ℕ) (x y : Field UnpackedIndex) (b : Bool) → element_in C m ≡ Some x → element_in C n ≡ Some y → matches_storage (world C) x.storage y.storage ≡ b → held v C (element_is_storable m n) ≡ b
+  pub storable_held : (m n : ℕ) (x y : Field UnpackedIndex) (b : Bool) → element_in C m ≡ Some x → element_in C n ≡ Some y
+      → matches_storage (world C) x.storage y.storage ≡ b → held v C (element_is_storable m n) ≡ b
   unfolding held
   storable_held m n x y b e f h = rw (e, f) h
 
@@ -101,7 +110,8 @@ module _ {A : Type 0} (v : Stacks A) (C : Context UnpackedIndex) where
   unfolding held
   storable_missing m n e = rw e refl
 
-  pub segment_held : (n k : ℕ) (x : Field UnpackedIndex) (b : Bool) → element_in C n ≡ Some x → segment_matches C k (unpack_field x) ≡ b → held v C (each_matches (segment k) (element n)) ≡ b
+  pub segment_held : (n k : ℕ) (x : Field UnpackedIndex) (b : Bool) → element_in C n ≡ Some x → segment_matches C k (unpack_field x) ≡ b
+      → held v C (each_matches (segment k) (element n)) ≡ b
   unfolding held
   segment_held n k x b e f = rw e (one_matches (world C) (slice_get C.elements k) (unpack_field x) ∙ f)
 
@@ -117,7 +127,8 @@ module _ {A : Type 0} (v : Stacks A) (C : Context UnpackedIndex) where
 
   -- the second of two types is barred
   pub second_barred : (f : OperatorFault) (m n : ℕ) (rest : List Action) (old : State UnpackedIndex) (Missing : Type 0)
-      → (Missing → Took (Err (Refused f)) (acted v C rest) old old) → Barred v C gc n Missing → Took (Err (Refused f)) (acted v C (need (has gc) ∷ need (reaches_type m) ∷ need (reaches_type n) ∷ rest)) old old
+      → (Missing → Took (Err (Refused f)) (acted v C rest) old old) → Barred v C gc n Missing
+      → Took (Err (Refused f)) (acted v C (need (has gc) ∷ need (reaches_type m) ∷ need (reaches_type n) ∷ rest)) old old
   second_barred f m n rest old Missing k (is_off h) = refused_here v C f (has gc) (need (reaches_type m) ∷ need (reaches_type n) ∷ rest) old h
   second_barred f m n rest old Missing k (is_unreached h) =
       refused_later v C f (has gc) (need (reaches_type m) ∷ need (reaches_type n) ∷ rest) old old

@@ -23,11 +23,14 @@ implies_true true = refl
 implies_true false = refl
 
 -- a reference matches one that may be null where their heap types match
-pub heaps_match : (W : World UnpackedIndex) (k : AbstractHeap) (s : Bool) (r q : Ref UnpackedIndex) (b : Bool) → s ≡ is_shared_heap W.declared r.heap → q ≡ record { nullable = true; heap = abstract_heap s k } → b ≡ matches_val W (reference r) (reference q)
+pub heaps_match : (W : World UnpackedIndex) (k : AbstractHeap) (s : Bool) (r q : Ref UnpackedIndex) (b : Bool) → s ≡ is_shared_heap W.declared r.heap
+    → q ≡ record { nullable = true; heap = abstract_heap s k } → b ≡ matches_val W (reference r) (reference q)
     → b ≡ is_reference_below W k (known (reference r))
 heaps_match W k s r q b e f h = rw (f, e, implies_true r.nullable) at h
 
-pub open_match : (W : World UnpackedIndex) (j k : AbstractHeap) (p q : Ref UnpackedIndex) (b : Bool) → p ≡ record { nullable = true; heap = abstract_heap false j } → q ≡ record { nullable = true; heap = abstract_heap false k } → b ≡ matches_val W (reference p) (reference q)
+pub open_match : (W : World UnpackedIndex) (j k : AbstractHeap) (p q : Ref UnpackedIndex) (b : Bool)
+    → p ≡ record { nullable = true; heap = abstract_heap false j } → q ≡ record { nullable = true; heap = abstract_heap false k }
+    → b ≡ matches_val W (reference p) (reference q)
     → b ≡ is_reference_below W k (open_reference j)
 open_match W j k p q b e f h = rw (e, f) at h
 
@@ -51,18 +54,21 @@ measured W B k (known v128) t = refl
 measured W B k (known (reference r)) t = refl
 
 module _ {A : Type 0} (v : Stacks A) (C : Context UnpackedIndex) where
-  taken_below : (k : AbstractHeap) (o : Operand UnpackedIndex) (t : State UnpackedIndex) → pop_any (state_of v) ≡ Some (o, t) → act (world C) (around v C) (take_below k) (state_of v) ≡ guard (is_reference_below (world C) k o) t
+  taken_below : (k : AbstractHeap) (o : Operand UnpackedIndex) (t : State UnpackedIndex) → pop_any (state_of v) ≡ Some (o, t)
+      → act (world C) (around v C) (take_below k) (state_of v) ≡ guard (is_reference_below (world C) k o) t
   taken_below k o t e = rw e (measured (world C) (around v C) k o t)
 
   pub nothing_measured : (k : AbstractHeap) (rest : List Action) → pop_any (state_of v) ≡ None → acted v C (take_below k ∷ rest) ≡ None
   unfolding acted
   nothing_measured k rest e = rw e refl
 
-  pub not_measured : (k : AbstractHeap) (rest : List Action) (o : Operand UnpackedIndex) (t : State UnpackedIndex) → pop_any (state_of v) ≡ Some (o, t) → is_reference_below (world C) k o ≡ false → acted v C (take_below k ∷ rest) ≡ None
+  pub not_measured : (k : AbstractHeap) (rest : List Action) (o : Operand UnpackedIndex) (t : State UnpackedIndex)
+      → pop_any (state_of v) ≡ Some (o, t) → is_reference_below (world C) k o ≡ false → acted v C (take_below k ∷ rest) ≡ None
   unfolding acted
   not_measured k rest o t e f = ap (λ q. q >>= run (world C) (around v C) rest) (taken_below k o t e) ∙ rw f refl
 
-  pub is_measured : (k : AbstractHeap) (o : Operand UnpackedIndex) (t new : State UnpackedIndex) → pop_any (state_of v) ≡ Some (o, t) → is_reference_below (world C) k o ≡ true → new ≡ push_operand (known i32) t
+  pub is_measured : (k : AbstractHeap) (o : Operand UnpackedIndex) (t new : State UnpackedIndex) → pop_any (state_of v) ≡ Some (o, t)
+      → is_reference_below (world C) k o ≡ true → new ≡ push_operand (known i32) t
       → acted v C (take_below k ∷ give (these (i32 ∷ [])) ∷ []) ≡ Some new
   unfolding acted
   is_measured k o t new e f g = ap (λ q. q >>= run (world C) (around v C) (give (these (i32 ∷ [])) ∷ [])) (taken_below k o t e) ∙ rw (f, g) refl

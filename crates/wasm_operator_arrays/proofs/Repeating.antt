@@ -34,7 +34,9 @@ module _ (W : World UnpackedIndex) (v : Val UnpackedIndex) where
   next_popped i s t u e f = ap (λ n. some_popped n s) (add-one i) ∙ one_more i s t (Some u) e f
 
   pub next_missing : (n i : ℕ) (s t : State UnpackedIndex) → i < n → some_popped i s ≡ Some t → pop_val W v t ≡ None → some_popped n s ≡ None
-  next_missing n i s t h e f = let q : n ≡ (n - suc i) + suc i = omega arith in ap (λ k. some_popped k s) q ∙ from_some (suc i) (n - suc i) s (one_more i s t None e f)
+  next_missing n i s t h e f =
+      let q : n ≡ (n - suc i) + suc i = omega arith in
+      ap (λ k. some_popped k s) q ∙ from_some (suc i) (n - suc i) s (one_more i s t None e f)
 
   pub all_popped : (n i : ℕ) (s t u : State UnpackedIndex) → i < n → some_popped i s ≡ Some t → pop_val W v t ≡ Some u → u ≡ t → some_popped n s ≡ Some t
   all_popped n i s t u h e f g = let q : n ≡ (n - i) + i = omega arith in ap (λ k. some_popped k s) q ∙ on_the_spot i (n - i) s t e (f ∙ ap Some g)

@@ -22,7 +22,8 @@ no_number W r f64 e = refl
 no_number W r v128 e = refl
 no_number W r (reference q) e = cc
 
-no_numbers : (W : World UnpackedIndex) (o : Option (Ref UnpackedIndex)) (v : Val UnpackedIndex) → true ≡ same_number v v → passes (λ r. matches_val W (reference r) v) o ≡ false
+no_numbers : (W : World UnpackedIndex) (o : Option (Ref UnpackedIndex)) (v : Val UnpackedIndex) → true ≡ same_number v v
+    → passes (λ r. matches_val W (reference r) v) o ≡ false
 no_numbers W None v e = refl
 no_numbers W (Some r) v e = no_number W r v e
 
@@ -33,7 +34,8 @@ module _ (C : Context UnpackedIndex) where
   pub not_there : (n : ℕ) (v : Val UnpackedIndex) → option_map ref_of None ≡ slice_get C.elements n → segment_matches C n v ≡ false
   not_there n v e = rw (← e) refl
 
-  pub compared : (n : ℕ) (r : RefType) (v : Val UnpackedIndex) (b : Bool) → option_map ref_of (Some r) ≡ slice_get C.elements n → matches_val (world C) (reference (ref_of r)) v ≡ b → segment_matches C n v ≡ b
+  pub compared : (n : ℕ) (r : RefType) (v : Val UnpackedIndex) (b : Bool) → option_map ref_of (Some r) ≡ slice_get C.elements n
+      → matches_val (world C) (reference (ref_of r)) v ≡ b → segment_matches C n v ≡ b
   compared n r v b e f = rw (← e) f
 
 pub ruleset segments = (of_numbers, not_there, compared)

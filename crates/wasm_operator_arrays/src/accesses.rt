@@ -32,7 +32,8 @@ fn get<A: Allocator, T: WasmModuleResources>(
     packed: bool,
     array_type_index: u32,
 ) -> Result<(), OperatorError>
-    ensures took { Performs result (T.context resources.now) (item packed array_type_index) stacks.old stacks.new }
+    ensures took { Performs result (T.context resources.now)
+        (item packed array_type_index) stacks.old stacks.new }
     ensures same { Kept stacks.old stacks.new }
 {
     let array = match reach_elements(stacks, resources, array_type_index) {
@@ -60,7 +61,8 @@ pub fn array_get<A: Allocator, T: WasmModuleResources>(
     resources: &T,
     array_type_index: u32,
 ) -> Result<(), OperatorError>
-    ensures took { Performs result (T.context resources.now) (array_shape (ArrayGet array_type_index)) stacks.old stacks.new }
+    ensures took { Performs result (T.context resources.now)
+        (array_shape (ArrayGet array_type_index)) stacks.old stacks.new }
     ensures same { Kept stacks.old stacks.new }
 {
     get(stacks, resources, false, array_type_index)
@@ -73,7 +75,8 @@ pub fn array_get_s<A: Allocator, T: WasmModuleResources>(
     resources: &T,
     array_type_index: u32,
 ) -> Result<(), OperatorError>
-    ensures took { Performs result (T.context resources.now) (array_shape (ArrayGetS array_type_index)) stacks.old stacks.new }
+    ensures took { Performs result (T.context resources.now)
+        (array_shape (ArrayGetS array_type_index)) stacks.old stacks.new }
     ensures same { Kept stacks.old stacks.new }
 {
     get(stacks, resources, true, array_type_index)
@@ -86,7 +89,8 @@ pub fn array_get_u<A: Allocator, T: WasmModuleResources>(
     resources: &T,
     array_type_index: u32,
 ) -> Result<(), OperatorError>
-    ensures took { Performs result (T.context resources.now) (array_shape (ArrayGetU array_type_index)) stacks.old stacks.new }
+    ensures took { Performs result (T.context resources.now)
+        (array_shape (ArrayGetU array_type_index)) stacks.old stacks.new }
     ensures same { Kept stacks.old stacks.new }
 {
     get(stacks, resources, true, array_type_index)
@@ -100,7 +104,8 @@ pub fn array_set<A: Allocator, T: WasmModuleResources>(
     resources: &T,
     array_type_index: u32,
 ) -> Result<(), OperatorError>
-    ensures took { Performs result (T.context resources.now) (array_shape (ArraySet array_type_index)) stacks.old stacks.new }
+    ensures took { Performs result (T.context resources.now)
+        (array_shape (ArraySet array_type_index)) stacks.old stacks.new }
     ensures same { Kept stacks.old stacks.new }
 {
     let array = match reach_mutable(stacks, resources, array_type_index) {

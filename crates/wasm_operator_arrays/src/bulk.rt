@@ -25,7 +25,8 @@ pub fn array_fill<A: Allocator, T: WasmModuleResources>(
     resources: &T,
     array_type_index: u32,
 ) -> Result<(), OperatorError>
-    ensures took { Performs result (T.context resources.now) (array_shape (ArrayFill array_type_index)) stacks.old stacks.new }
+    ensures took { Performs result (T.context resources.now)
+        (array_shape (ArrayFill array_type_index)) stacks.old stacks.new }
     ensures same { Kept stacks.old stacks.new }
 {
     let filled = match reach_mutable(stacks, resources, array_type_index) {
@@ -54,7 +55,8 @@ pub fn array_copy<A: Allocator, T: WasmModuleResources>(
     array_type_index_dst: u32,
     array_type_index_src: u32,
 ) -> Result<(), OperatorError>
-    ensures took { Performs result (T.context resources.now) (array_shape (ArrayCopy array_type_index_dst array_type_index_src)) stacks.old stacks.new }
+    ensures took { Performs result (T.context resources.now)
+        (array_shape (ArrayCopy array_type_index_dst array_type_index_src)) stacks.old stacks.new }
     ensures same { Kept stacks.old stacks.new }
 {
     let to = match reach_mutable(stacks, resources, array_type_index_dst) {
@@ -93,7 +95,8 @@ pub fn array_init_data<A: Allocator, T: WasmModuleResources>(
     array_type_index: u32,
     array_data_index: u32,
 ) -> Result<(), OperatorError>
-    ensures took { Performs result (T.context resources.now) (array_shape (ArrayInitData array_type_index array_data_index)) stacks.old stacks.new }
+    ensures took { Performs result (T.context resources.now)
+        (array_shape (ArrayInitData array_type_index array_data_index)) stacks.old stacks.new }
     ensures same { Kept stacks.old stacks.new }
 {
     let written = match reach_mutable(stacks, resources, array_type_index) {
@@ -130,7 +133,8 @@ pub fn array_init_elem<A: Allocator, T: WasmModuleResources>(
     array_type_index: u32,
     array_elem_index: u32,
 ) -> Result<(), OperatorError>
-    ensures took { Performs result (T.context resources.now) (array_shape (ArrayInitElem array_type_index array_elem_index)) stacks.old stacks.new }
+    ensures took { Performs result (T.context resources.now)
+        (array_shape (ArrayInitElem array_type_index array_elem_index)) stacks.old stacks.new }
     ensures same { Kept stacks.old stacks.new }
 {
     let stored = match reach_mutable(stacks, resources, array_type_index) {

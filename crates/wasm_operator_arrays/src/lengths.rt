@@ -22,7 +22,8 @@ use wasm_type_words::TypeWord;
 
 /// A reference, or null, to an abstract heap type.
 fn reference_to(shared: bool, heap: AbstractHeapType) -> RefType
-    ensures { ref_of result ≡ record { nullable = true; heap = abstract_heap shared (abstract_heap_of heap) } }
+    ensures { ref_of result ≡ record
+        { nullable = true; heap = abstract_heap shared (abstract_heap_of heap) } }
 {
     RefType::new(true, HeapType::Abstract { shared, ty: heap }).unwrap()
 }
@@ -39,7 +40,8 @@ fn not_below(heap: AbstractHeapType) -> OperatorFault {
 /// Whether an operand is a reference below this abstract heap type, shared or not.
 #[tactic(auto, using(crate::proofs::Measuring::kinds))]
 fn is_below<T: WasmModuleResources>(resources: &T, operand: Operand, heap: AbstractHeapType) -> bool
-    ensures { result ≡ is_reference_below (world (T.context resources.now)) (abstract_heap_of heap) (operand_seen operand) }
+    ensures { result ≡ is_reference_below (world (T.context resources.now)) (abstract_heap_of heap)
+        (operand_seen operand) }
 {
     match operand {
         Operand::Known(ValType::Ref(known)) => {
@@ -65,7 +67,8 @@ pub fn array_len<A: Allocator, T: WasmModuleResources>(
     stacks: &mut Stacks<A>,
     resources: &T,
 ) -> Result<(), OperatorError>
-    ensures took { Performs result (T.context resources.now) (array_shape ArrayLen) stacks.old stacks.new }
+    ensures took { Performs result (T.context resources.now)
+        (array_shape ArrayLen) stacks.old stacks.new }
     ensures same { Kept stacks.old stacks.new }
 {
     if !has(stacks, WasmFeatures::GC) {

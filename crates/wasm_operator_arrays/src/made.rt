@@ -25,7 +25,8 @@ pub fn array_new<A: Allocator, T: WasmModuleResources>(
     resources: &T,
     array_type_index: u32,
 ) -> Result<(), OperatorError>
-    ensures took { Performs result (T.context resources.now) (array_shape (ArrayNew array_type_index)) stacks.old stacks.new }
+    ensures took { Performs result (T.context resources.now)
+        (array_shape (ArrayNew array_type_index)) stacks.old stacks.new }
     ensures same { Kept stacks.old stacks.new }
 {
     let array = match reach_elements(stacks, resources, array_type_index) {
@@ -50,7 +51,8 @@ pub fn array_new_default<A: Allocator, T: WasmModuleResources>(
     resources: &T,
     array_type_index: u32,
 ) -> Result<(), OperatorError>
-    ensures took { Performs result (T.context resources.now) (array_shape (ArrayNewDefault array_type_index)) stacks.old stacks.new }
+    ensures took { Performs result (T.context resources.now)
+        (array_shape (ArrayNewDefault array_type_index)) stacks.old stacks.new }
     ensures same { Kept stacks.old stacks.new }
 {
     let array = match reach_elements(stacks, resources, array_type_index) {
@@ -81,7 +83,8 @@ pub fn array_new_fixed<A: Allocator, T: WasmModuleResources>(
     array_type_index: u32,
     array_size: u32,
 ) -> Result<(), OperatorError>
-    ensures took { Performs result (T.context resources.now) (array_shape (ArrayNewFixed array_type_index array_size)) stacks.old stacks.new }
+    ensures took { Performs result (T.context resources.now)
+        (array_shape (ArrayNewFixed array_type_index array_size)) stacks.old stacks.new }
     ensures same { Kept stacks.old stacks.new }
 {
     let array = match reach_elements(stacks, resources, array_type_index) {
@@ -102,7 +105,8 @@ pub fn array_new_data<A: Allocator, T: WasmModuleResources>(
     array_type_index: u32,
     array_data_index: u32,
 ) -> Result<(), OperatorError>
-    ensures took { Performs result (T.context resources.now) (array_shape (ArrayNewData array_type_index array_data_index)) stacks.old stacks.new }
+    ensures took { Performs result (T.context resources.now)
+        (array_shape (ArrayNewData array_type_index array_data_index)) stacks.old stacks.new }
     ensures same { Kept stacks.old stacks.new }
 {
     let array = match reach_elements(stacks, resources, array_type_index) {
@@ -137,7 +141,8 @@ pub fn array_new_elem<A: Allocator, T: WasmModuleResources>(
     array_type_index: u32,
     array_elem_index: u32,
 ) -> Result<(), OperatorError>
-    ensures took { Performs result (T.context resources.now) (array_shape (ArrayNewElem array_type_index array_elem_index)) stacks.old stacks.new }
+    ensures took { Performs result (T.context resources.now)
+        (array_shape (ArrayNewElem array_type_index array_elem_index)) stacks.old stacks.new }
     ensures same { Kept stacks.old stacks.new }
 {
     let array = match reach_elements(stacks, resources, array_type_index) {

@@ -28,11 +28,15 @@ pub fn reach_elements<A: Allocator, T: WasmModuleResources>(
     resources: &T,
     type_index: u32,
 ) -> Result<Elements, OperatorFault>
-    ensures identity { IfOk result (λ e. Some (index_of e.identity) ≡ slice_get (T.context resources.now).types type_index) }
-    ensures element { IfOk result (λ e. element_in (T.context resources.now) type_index ≡ Some (field_of e.ty)) }
+    ensures identity { IfOk result
+        (λ e. Some (index_of e.identity) ≡ slice_get (T.context resources.now).types type_index) }
+    ensures element { IfOk result
+        (λ e. element_in (T.context resources.now) type_index ≡ Some (field_of e.ty)) }
     ensures on { OnOk result (held stacks.now (T.context resources.now) (has gc) ≡ true) }
-    ensures reached { OnOk result (held stacks.now (T.context resources.now) (reaches_type type_index) ≡ true) }
-    ensures barred { OnErr result (Barred stacks.now (T.context resources.now) gc type_index (element_in (T.context resources.now) type_index ≡ None)) }
+    ensures reached { OnOk result
+        (held stacks.now (T.context resources.now) (reaches_type type_index) ≡ true) }
+    ensures barred { OnErr result (Barred stacks.now (T.context resources.now) gc type_index
+        (element_in (T.context resources.now) type_index ≡ None)) }
 {
     if !has(stacks, WasmFeatures::GC) {
         return Err(OperatorFault::new(OperatorRule::Gc));
@@ -61,12 +65,17 @@ pub fn reach_mutable<A: Allocator, T: WasmModuleResources>(
     resources: &T,
     type_index: u32,
 ) -> Result<Elements, OperatorFault>
-    ensures identity { IfOk result (λ e. Some (index_of e.identity) ≡ slice_get (T.context resources.now).types type_index) }
-    ensures element { IfOk result (λ e. element_in (T.context resources.now) type_index ≡ Some (field_of e.ty)) }
+    ensures identity { IfOk result
+        (λ e. Some (index_of e.identity) ≡ slice_get (T.context resources.now).types type_index) }
+    ensures element { IfOk result
+        (λ e. element_in (T.context resources.now) type_index ≡ Some (field_of e.ty)) }
     ensures on { OnOk result (held stacks.now (T.context resources.now) (has gc) ≡ true) }
-    ensures reached { OnOk result (held stacks.now (T.context resources.now) (reaches_type type_index) ≡ true) }
-    ensures mutable { OnOk result (held stacks.now (T.context resources.now) (element_is_mutable type_index) ≡ true) }
-    ensures barred { OnErr result (Barred stacks.now (T.context resources.now) gc type_index (held stacks.now (T.context resources.now) (element_is_mutable type_index) ≡ false)) }
+    ensures reached { OnOk result
+        (held stacks.now (T.context resources.now) (reaches_type type_index) ≡ true) }
+    ensures mutable { OnOk result
+        (held stacks.now (T.context resources.now) (element_is_mutable type_index) ≡ true) }
+    ensures barred { OnErr result (Barred stacks.now (T.context resources.now) gc type_index
+        (held stacks.now (T.context resources.now) (element_is_mutable type_index) ≡ false)) }
 {
     match reach_elements(stacks, resources, type_index) {
         Ok(array) => {

@@ -28,7 +28,8 @@ pub fn is_storable<T: WasmModuleResources>(
     from: StorageType,
     to: StorageType,
 ) -> bool
-    ensures { result ≡ matches_storage (world (T.context resources.now)) (storage_of from) (storage_of to) }
+    ensures { result ≡ matches_storage (world (T.context resources.now)) (storage_of from)
+        (storage_of to) }
 {
     match (from, to) {
         (StorageType::I8, StorageType::I8) => true,
@@ -44,8 +45,10 @@ pub fn check_data<T: WasmModuleResources>(
     resources: &T,
     data_index: u32,
 ) -> Result<(), OperatorFault>
-    ensures ok { OnOk result (passes (nat_lt data_index) (T.context resources.now).data_count ≡ true) }
-    ensures err { OnErr result (passes (nat_lt data_index) (T.context resources.now).data_count ≡ false) }
+    ensures ok { OnOk result
+        (passes (nat_lt data_index) (T.context resources.now).data_count ≡ true) }
+    ensures err { OnErr result
+        (passes (nat_lt data_index) (T.context resources.now).data_count ≡ false) }
 {
     match resources.data_count() {
         Some(count) => {
@@ -66,8 +69,10 @@ pub fn check_elements<T: WasmModuleResources>(
     elem_index: u32,
     ty: ValType,
 ) -> Result<(), OperatorFault>
-    ensures ok { OnOk result (segment_matches (T.context resources.now) elem_index (val_of ty) ≡ true) }
-    ensures err { OnErr result (segment_matches (T.context resources.now) elem_index (val_of ty) ≡ false) }
+    ensures ok { OnOk result
+        (segment_matches (T.context resources.now) elem_index (val_of ty) ≡ true) }
+    ensures err { OnErr result
+        (segment_matches (T.context resources.now) elem_index (val_of ty) ≡ false) }
 {
     if is_number(ty) {
         return Err(OperatorFault::at(OperatorRule::ElementTypes, elem_index));

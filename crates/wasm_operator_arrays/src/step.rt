@@ -27,7 +27,8 @@ pub fn step_array<A: Allocator, T: WasmModuleResources>(
     resources: &T,
     op: ArrayOperator,
 ) -> Result<(), OperatorError>
-    ensures took { Performs result (T.context resources.now) (array_shape op) stacks.old stacks.new }
+    ensures took { Performs result (T.context resources.now)
+        (array_shape op) stacks.old stacks.new }
     ensures same { Kept stacks.old stacks.new }
 {
     match op {

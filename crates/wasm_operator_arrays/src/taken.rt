@@ -25,7 +25,9 @@ pub fn take_four<A: Allocator, T: WasmModuleResources>(
     third: TypeWord,
     fourth: TypeWord,
 ) -> Result<(), OperatorError>
-    ensures took { Turns result (exchanged (world (T.context resources.now)) (val_in first ∷ val_in second ∷ val_in third ∷ val_in fourth ∷ []) []) stacks.old stacks.new }
+    ensures took { Turns result (exchanged (world (T.context resources.now))
+        (val_in first ∷ val_in second ∷ val_in third ∷ val_in fourth ∷ []) [])
+        stacks.old stacks.new }
     ensures same { Kept stacks.old stacks.new }
 {
     let upper = match check_takes(stacks, resources, Takes::Three(second, third, fourth)) {
@@ -51,7 +53,9 @@ pub fn take_five<A: Allocator, T: WasmModuleResources>(
     fourth: TypeWord,
     fifth: TypeWord,
 ) -> Result<(), OperatorError>
-    ensures took { Turns result (exchanged (world (T.context resources.now)) (val_in first ∷ val_in second ∷ val_in third ∷ val_in fourth ∷ val_in fifth ∷ []) []) stacks.old stacks.new }
+    ensures took { Turns result (exchanged (world (T.context resources.now))
+        (val_in first ∷ val_in second ∷ val_in third ∷ val_in fourth ∷ val_in fifth ∷ []) [])
+        stacks.old stacks.new }
     ensures same { Kept stacks.old stacks.new }
 {
     let upper = match check_takes(stacks, resources, Takes::Three(third, fourth, fifth)) {
@@ -79,7 +83,8 @@ fn check_repeated<A: Allocator, T: WasmModuleResources>(
     count: u32,
     ty: TypeWord,
 ) -> Result<usize, OperatorFault>
-    ensures { Checked result (pop_vals (world (T.context resources.now)) (copies count (val_in ty ∷ [])) (state_of stacks.now)) (state_of stacks.now) }
+    ensures { Checked result (pop_vals (world (T.context resources.now))
+        (copies count (val_in ty ∷ [])) (state_of stacks.now)) (state_of stacks.now) }
 {
     let mut taken = 0;
     'repeating: for i in 0..count {
@@ -101,7 +106,8 @@ pub fn exchange_repeated<A: Allocator, T: WasmModuleResources>(
     ty: TypeWord,
     given: TypeWord,
 ) -> Result<(), OperatorError>
-    ensures took { Turns result (exchanged (world (T.context resources.now)) (copies count (val_in ty ∷ [])) (val_in given ∷ [])) stacks.old stacks.new }
+    ensures took { Turns result (exchanged (world (T.context resources.now))
+        (copies count (val_in ty ∷ [])) (val_in given ∷ [])) stacks.old stacks.new }
     ensures same { Kept stacks.old stacks.new }
 {
     let taken = match check_repeated(stacks, resources, count, ty) {

@@ -14,4 +14,6 @@ returns-clause-took g c =
     needed _ _ _ _ _ _ _ c.in-Ok.ensures.on
     (needed _ _ _ _ _ _ _ c.in-Ok.ensures.reached
     (needed _ _ _ _ _ _ _ c.in-Ok.ensures.mutable
-    (plainly _ _ _ _ _ _ _ _ _ c.plain.ensures.took (both_typed _ _ _ _ _ _ (array_before _ _ _ _ _ _ _ c.in-Ok.ensures.identity c.nullable.ensures (i32_typed _ _ _ c.number.ensures)) (element_typed _ _ _ _ _ c.in-Ok.ensures.element (c.new.ensures ∙ c.unpack.ensures))) (nothing_typed _ _))))
+    (plainly _ _ _ _ _ _ _ _ _ c.plain.ensures.took
+    (both_typed _ _ _ _ _ _ (array_before _ _ _ _ _ _ _ c.in-Ok.ensures.identity c.nullable.ensures (i32_typed _ _ _ c.number.ensures))
+    (element_typed _ _ _ _ _ c.in-Ok.ensures.element (c.new.ensures ∙ c.unpack.ensures))) (nothing_typed _ _))))

@@ -14,9 +14,14 @@ pub returns-clause-took : goal.returns-clause-took
 returns-clause-took g c =
     needed _ _ _ _ _ _ _ c.in-Ok.ensures.on
     (needed _ _ _ _ _ _ _ c.in-Ok.ensures.reached
-    (needed _ _ _ _ _ _ _ (packed_held _ _ _ _ _ _ c.in-Ok.ensures.element (sym (c.same_flag.ensures ∙ ap (same_flag c.args.packed) c.is_packed.ensures) ∙ c.if-not-same_flag.false))
-    (plainly _ _ _ _ _ _ _ _ _ c.plain.ensures.took (array_before _ _ _ _ _ _ _ c.in-Ok.ensures.identity c.nullable.ensures (i32_typed _ _ _ c.number.ensures)) (element_typed _ _ _ _ _ c.in-Ok.ensures.element (c.new.ensures ∙ c.unpack.ensures)))))
+    (needed _ _ _ _ _ _ _ (packed_held _ _ _ _ _ _ c.in-Ok.ensures.element
+    (sym (c.same_flag.ensures ∙ ap (same_flag c.args.packed) c.is_packed.ensures) ∙ c.if-not-same_flag.false))
+    (plainly _ _ _ _ _ _ _ _ _ c.plain.ensures.took
+    (array_before _ _ _ _ _ _ _ c.in-Ok.ensures.identity c.nullable.ensures (i32_typed _ _ _ c.number.ensures))
+    (element_typed _ _ _ _ _ c.in-Ok.ensures.element (c.new.ensures ∙ c.unpack.ensures)))))
 
 pub returns-then-not-same_flag-clause-took : goal.returns-then-not-same_flag-clause-took
 returns-then-not-same_flag-clause-took g c =
-    refused_later _ _ _ _ _ _ _ (refused_later _ _ _ _ _ _ _ (refused_here _ _ _ _ _ _ (packed_held _ _ _ _ _ _ c.in-Ok.ensures.element (sym (c.same_flag.ensures ∙ ap (same_flag c.args.packed) c.is_packed.ensures) ∙ c.if-not-same_flag.true))))
+    refused_later _ _ _ _ _ _ _ (refused_later _ _ _ _ _ _ _
+    (refused_here _ _ _ _ _ _ (packed_held _ _ _ _ _ _ c.in-Ok.ensures.element
+    (sym (c.same_flag.ensures ∙ ap (same_flag c.args.packed) c.is_packed.ensures) ∙ c.if-not-same_flag.true))))

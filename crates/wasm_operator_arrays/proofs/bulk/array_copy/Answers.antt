@@ -11,7 +11,8 @@ returns-in-Err-clause-took g c =
 
 pub returns-in-Err-reach_elements-clause-took : goal.returns-in-Err-reach_elements-clause-took
 returns-in-Err-reach_elements-clause-took g c =
-    second_barred _ _ _ _ _ _ _ _ (λ e. refused_later _ _ _ _ _ _ _ (refused_here _ _ _ _ _ _ (storable_missing _ _ _ _ e))) c.in-Err-reach_elements.ensures.barred
+    second_barred _ _ _ _ _ _ _ _ (λ e. refused_later _ _ _ _ _ _ _ (refused_here _ _ _ _ _ _ (storable_missing _ _ _ _ e)))
+    c.in-Err-reach_elements.ensures.barred
 
 pub returns-clause-took : goal.returns-clause-took
 returns-clause-took g c =
@@ -19,10 +20,16 @@ returns-clause-took g c =
     (needed _ _ _ _ _ _ _ c.in-Ok.ensures.reached
     (needed _ _ _ _ _ _ _ c.in-Ok-reach_elements.ensures.reached
     (needed _ _ _ _ _ _ _ c.in-Ok.ensures.mutable
-    (needed _ _ _ _ _ _ _ (storable_held _ _ _ _ _ _ _ c.in-Ok-reach_elements.ensures.element c.in-Ok.ensures.element (sym c.is_storable.ensures ∙ c.if-not-is_storable.false))
-    (plainly _ _ _ _ _ _ _ _ _ c.take_five.ensures.took (array_before _ _ _ _ _ _ _ c.in-Ok.ensures.identity c.nullable.ensures (i32_before _ _ _ _ _ c.number-number.ensures
-    (array_before _ _ _ _ _ _ _ c.in-Ok-reach_elements.ensures.identity c.nullable-2.ensures (two_i32s_typed _ _ _ _ c.number-number.ensures c.number-number.ensures)))) (nothing_typed _ _))))))
+    (needed _ _ _ _ _ _ _ (storable_held _ _ _ _ _ _ _ c.in-Ok-reach_elements.ensures.element c.in-Ok.ensures.element
+    (sym c.is_storable.ensures ∙ c.if-not-is_storable.false))
+    (plainly _ _ _ _ _ _ _ _ _ c.take_five.ensures.took
+    (array_before _ _ _ _ _ _ _ c.in-Ok.ensures.identity c.nullable.ensures (i32_before _ _ _ _ _ c.number-number.ensures
+    (array_before _ _ _ _ _ _ _ c.in-Ok-reach_elements.ensures.identity c.nullable-2.ensures
+    (two_i32s_typed _ _ _ _ c.number-number.ensures c.number-number.ensures)))) (nothing_typed _ _))))))
 
 pub returns-then-not-is_storable-clause-took : goal.returns-then-not-is_storable-clause-took
 returns-then-not-is_storable-clause-took g c =
-    refused_later _ _ _ _ _ _ _ (refused_later _ _ _ _ _ _ _ (refused_later _ _ _ _ _ _ _ (refused_later _ _ _ _ _ _ _ (refused_here _ _ _ _ _ _ (storable_held _ _ _ _ _ _ _ c.in-Ok-reach_elements.ensures.element c.in-Ok.ensures.element (sym c.is_storable.ensures ∙ c.if-not-is_storable.true))))))
+    refused_later _ _ _ _ _ _ _ (refused_later _ _ _ _ _ _ _
+    (refused_later _ _ _ _ _ _ _ (refused_later _ _ _ _ _ _ _
+    (refused_here _ _ _ _ _ _ (storable_held _ _ _ _ _ _ _ c.in-Ok-reach_elements.ensures.element c.in-Ok.ensures.element
+    (sym c.is_storable.ensures ∙ c.if-not-is_storable.true))))))

@@ -14,4 +14,7 @@ returns-clause-took g c =
     needed _ _ _ _ _ _ _ c.in-Ok.ensures.on
     (needed _ _ _ _ _ _ _ c.in-Ok.ensures.reached
     (needed _ _ _ _ _ _ _ c.in-Ok.ensures.mutable
-    (plainly _ _ _ _ _ _ _ _ _ c.take_four.ensures.took (both_typed _ _ _ _ _ _ (array_before _ _ _ _ _ _ _ c.in-Ok.ensures.identity c.nullable.ensures (i32_typed _ _ _ c.number-number.ensures)) (joined_typed _ _ _ _ _ _ (element_typed _ _ _ _ _ c.in-Ok.ensures.element (c.new-element.ensures ∙ c.unpack.ensures)) (i32_typed _ _ _ c.number-number.ensures))) (nothing_typed _ _))))
+    (plainly _ _ _ _ _ _ _ _ _ c.take_four.ensures.took
+    (both_typed _ _ _ _ _ _ (array_before _ _ _ _ _ _ _ c.in-Ok.ensures.identity c.nullable.ensures (i32_typed _ _ _ c.number-number.ensures))
+    (joined_typed _ _ _ _ _ _ (element_typed _ _ _ _ _ c.in-Ok.ensures.element (c.new-element.ensures ∙ c.unpack.ensures))
+    (i32_typed _ _ _ c.number-number.ensures))) (nothing_typed _ _))))

@@ -15,9 +15,17 @@ returns-in-Ok-check_elements-clause-took g c =
     needed _ _ _ _ _ _ _ c.in-Ok.ensures.on
     (needed _ _ _ _ _ _ _ c.in-Ok.ensures.reached
     (needed _ _ _ _ _ _ _ c.in-Ok.ensures.mutable
-    (needed _ _ _ _ _ _ _ (segment_held _ _ _ _ _ _ c.in-Ok.ensures.element (sym (ap (segment_matches (g.T.WasmModuleResources.context c.args.resources.now) c.args.array_elem_index) c.unpack.ensures) ∙ c.in-Ok-check_elements.ensures.ok))
-    (plainly _ _ _ _ _ _ _ _ _ c.take_four.ensures.took (array_before _ _ _ _ _ _ _ c.in-Ok.ensures.identity c.nullable.ensures (i32_before _ _ _ _ _ c.number-number.ensures (two_i32s_typed _ _ _ _ c.number-number.ensures c.number-number.ensures))) (nothing_typed _ _)))))
+    (needed _ _ _ _ _ _ _ (segment_held _ _ _ _ _ _ c.in-Ok.ensures.element
+    (sym (ap (segment_matches (g.T.WasmModuleResources.context c.args.resources.now) c.args.array_elem_index) c.unpack.ensures) ∙
+    c.in-Ok-check_elements.ensures.ok))
+    (plainly _ _ _ _ _ _ _ _ _ c.take_four.ensures.took
+    (array_before _ _ _ _ _ _ _ c.in-Ok.ensures.identity c.nullable.ensures
+    (i32_before _ _ _ _ _ c.number-number.ensures (two_i32s_typed _ _ _ _ c.number-number.ensures c.number-number.ensures))) (nothing_typed _ _)))))
 
 pub returns-in-Err-check_elements-clause-took : goal.returns-in-Err-check_elements-clause-took
 returns-in-Err-check_elements-clause-took g c =
-    refused_later _ _ _ _ _ _ _ (refused_later _ _ _ _ _ _ _ (refused_later _ _ _ _ _ _ _ (refused_here _ _ _ _ _ _ (segment_held _ _ _ _ _ _ c.in-Ok.ensures.element (sym (ap (segment_matches (g.T.WasmModuleResources.context c.args.resources.now) c.args.array_elem_index) c.unpack.ensures) ∙ c.in-Err-check_elements.ensures.err)))))
+    refused_later _ _ _ _ _ _ _ (refused_later _ _ _ _ _ _ _
+    (refused_later _ _ _ _ _ _ _ (refused_here _ _ _ _ _ _
+    (segment_held _ _ _ _ _ _ c.in-Ok.ensures.element
+    (sym (ap (segment_matches (g.T.WasmModuleResources.context c.args.resources.now) c.args.array_elem_index) c.unpack.ensures) ∙
+    c.in-Err-check_elements.ensures.err)))))

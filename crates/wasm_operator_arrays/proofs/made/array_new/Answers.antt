@@ -13,4 +13,6 @@ pub returns-clause-took : goal.returns-clause-took
 returns-clause-took g c =
     needed _ _ _ _ _ _ _ c.in-Ok.ensures.on
     (needed _ _ _ _ _ _ _ c.in-Ok.ensures.reached
-    (plainly _ _ _ _ _ _ _ _ _ c.plain.ensures.took (joined_typed _ _ _ _ _ _ (element_typed _ _ _ _ _ c.in-Ok.ensures.element (c.new-element.ensures ∙ c.unpack.ensures)) (i32_typed _ _ _ c.number.ensures)) (new_typed _ _ _ _ _ c.in-Ok.ensures.identity c.new_reference-given.ensures)))
+    (plainly _ _ _ _ _ _ _ _ _ c.plain.ensures.took
+    (joined_typed _ _ _ _ _ _ (element_typed _ _ _ _ _ c.in-Ok.ensures.element (c.new-element.ensures ∙ c.unpack.ensures))
+    (i32_typed _ _ _ c.number.ensures)) (new_typed _ _ _ _ _ c.in-Ok.ensures.identity c.new_reference-given.ensures)))

@@ -16,14 +16,19 @@ pub returns-in-Ok-check_data-clause-took : goal.returns-in-Ok-check_data-clause-
 returns-in-Ok-check_data-clause-took g c =
     needed _ _ _ _ _ _ _ c.in-Ok.ensures.on
     (needed _ _ _ _ _ _ _ c.in-Ok.ensures.reached
-    (needed _ _ _ _ _ _ _ (number_held _ _ _ _ _ c.in-Ok.ensures.element (sym (c.is_number.ensures ∙ ap (λ (w : Val UnpackedIndex). same_number w w) c.unpack.ensures) ∙ c.if-not-is_number.false))
+    (needed _ _ _ _ _ _ _ (number_held _ _ _ _ _ c.in-Ok.ensures.element
+    (sym (c.is_number.ensures ∙ ap (λ (w : Val UnpackedIndex). same_number w w) c.unpack.ensures) ∙ c.if-not-is_number.false))
     (needed _ _ _ _ _ _ _ (data_held _ _ _ _ c.in-Ok-check_data.ensures.ok)
-    (plainly _ _ _ _ _ _ _ _ _ c.plain.ensures.took (two_i32s_typed _ _ _ _ c.number-number.ensures c.number-number.ensures) (new_typed _ _ _ _ _ c.in-Ok.ensures.identity c.new_reference-given.ensures)))))
+    (plainly _ _ _ _ _ _ _ _ _ c.plain.ensures.took (two_i32s_typed _ _ _ _ c.number-number.ensures c.number-number.ensures)
+    (new_typed _ _ _ _ _ c.in-Ok.ensures.identity c.new_reference-given.ensures)))))
 
 pub returns-then-not-is_number-clause-took : goal.returns-then-not-is_number-clause-took
 returns-then-not-is_number-clause-took g c =
-    refused_later _ _ _ _ _ _ _ (refused_later _ _ _ _ _ _ _ (refused_here _ _ _ _ _ _ (number_held _ _ _ _ _ c.in-Ok.ensures.element (sym (c.is_number.ensures ∙ ap (λ (w : Val UnpackedIndex). same_number w w) c.unpack.ensures) ∙ c.if-not-is_number.true))))
+    refused_later _ _ _ _ _ _ _ (refused_later _ _ _ _ _ _ _
+    (refused_here _ _ _ _ _ _ (number_held _ _ _ _ _ c.in-Ok.ensures.element
+    (sym (c.is_number.ensures ∙ ap (λ (w : Val UnpackedIndex). same_number w w) c.unpack.ensures) ∙ c.if-not-is_number.true))))
 
 pub returns-in-Err-check_data-clause-took : goal.returns-in-Err-check_data-clause-took
 returns-in-Err-check_data-clause-took g c =
-    refused_later _ _ _ _ _ _ _ (refused_later _ _ _ _ _ _ _ (refused_later _ _ _ _ _ _ _ (refused_here _ _ _ _ _ _ (data_held _ _ _ _ c.in-Err-check_data.ensures.err))))
+    refused_later _ _ _ _ _ _ _ (refused_later _ _ _ _ _ _ _
+    (refused_later _ _ _ _ _ _ _ (refused_here _ _ _ _ _ _ (data_held _ _ _ _ c.in-Err-check_data.ensures.err))))

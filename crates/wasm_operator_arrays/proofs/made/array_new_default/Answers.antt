@@ -14,9 +14,13 @@ pub returns-clause-took : goal.returns-clause-took
 returns-clause-took g c =
     needed _ _ _ _ _ _ _ c.in-Ok.ensures.on
     (needed _ _ _ _ _ _ _ c.in-Ok.ensures.reached
-    (needed _ _ _ _ _ _ _ (default_held _ _ _ _ _ c.in-Ok.ensures.element (sym (c.has_default.ensures ∙ ap has_default c.unpack.ensures) ∙ c.if-not-has_default.false))
-    (plainly _ _ _ _ _ _ _ _ _ c.plain.ensures.took (i32_typed _ _ _ c.number.ensures) (new_typed _ _ _ _ _ c.in-Ok.ensures.identity c.new_reference-given.ensures))))
+    (needed _ _ _ _ _ _ _ (default_held _ _ _ _ _ c.in-Ok.ensures.element
+    (sym (c.has_default.ensures ∙ ap has_default c.unpack.ensures) ∙ c.if-not-has_default.false))
+    (plainly _ _ _ _ _ _ _ _ _ c.plain.ensures.took (i32_typed _ _ _ c.number.ensures)
+    (new_typed _ _ _ _ _ c.in-Ok.ensures.identity c.new_reference-given.ensures))))
 
 pub returns-then-not-has_default-clause-took : goal.returns-then-not-has_default-clause-took
 returns-then-not-has_default-clause-took g c =
-    refused_later _ _ _ _ _ _ _ (refused_later _ _ _ _ _ _ _ (refused_here _ _ _ _ _ _ (default_held _ _ _ _ _ c.in-Ok.ensures.element (sym (c.has_default.ensures ∙ ap has_default c.unpack.ensures) ∙ c.if-not-has_default.true))))
+    refused_later _ _ _ _ _ _ _ (refused_later _ _ _ _ _ _ _
+    (refused_here _ _ _ _ _ _ (default_held _ _ _ _ _ c.in-Ok.ensures.element
+    (sym (c.has_default.ensures ∙ ap has_default c.unpack.ensures) ∙ c.if-not-has_default.true))))

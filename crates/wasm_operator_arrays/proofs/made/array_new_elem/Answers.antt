@@ -14,9 +14,15 @@ pub returns-in-Ok-check_elements-clause-took : goal.returns-in-Ok-check_elements
 returns-in-Ok-check_elements-clause-took g c =
     needed _ _ _ _ _ _ _ c.in-Ok.ensures.on
     (needed _ _ _ _ _ _ _ c.in-Ok.ensures.reached
-    (needed _ _ _ _ _ _ _ (segment_held _ _ _ _ _ _ c.in-Ok.ensures.element (sym (ap (segment_matches (g.T.WasmModuleResources.context c.args.resources.now) c.args.array_elem_index) c.unpack.ensures) ∙ c.in-Ok-check_elements.ensures.ok))
-    (plainly _ _ _ _ _ _ _ _ _ c.plain.ensures.took (two_i32s_typed _ _ _ _ c.number-number.ensures c.number-number.ensures) (new_typed _ _ _ _ _ c.in-Ok.ensures.identity c.new_reference-given.ensures))))
+    (needed _ _ _ _ _ _ _ (segment_held _ _ _ _ _ _ c.in-Ok.ensures.element
+    (sym (ap (segment_matches (g.T.WasmModuleResources.context c.args.resources.now) c.args.array_elem_index) c.unpack.ensures) ∙
+    c.in-Ok-check_elements.ensures.ok))
+    (plainly _ _ _ _ _ _ _ _ _ c.plain.ensures.took (two_i32s_typed _ _ _ _ c.number-number.ensures c.number-number.ensures)
+    (new_typed _ _ _ _ _ c.in-Ok.ensures.identity c.new_reference-given.ensures))))
 
 pub returns-in-Err-check_elements-clause-took : goal.returns-in-Err-check_elements-clause-took
 returns-in-Err-check_elements-clause-took g c =
-    refused_later _ _ _ _ _ _ _ (refused_later _ _ _ _ _ _ _ (refused_here _ _ _ _ _ _ (segment_held _ _ _ _ _ _ c.in-Ok.ensures.element (sym (ap (segment_matches (g.T.WasmModuleResources.context c.args.resources.now) c.args.array_elem_index) c.unpack.ensures) ∙ c.in-Err-check_elements.ensures.err))))
+    refused_later _ _ _ _ _ _ _ (refused_later _ _ _ _ _ _ _
+    (refused_here _ _ _ _ _ _ (segment_held _ _ _ _ _ _ c.in-Ok.ensures.element
+    (sym (ap (segment_matches (g.T.WasmModuleResources.context c.args.resources.now) c.args.array_elem_index) c.unpack.ensures) ∙
+    c.in-Err-check_elements.ensures.err))))

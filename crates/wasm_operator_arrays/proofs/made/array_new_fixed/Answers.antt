@@ -12,4 +12,6 @@ pub returns-clause-took : goal.returns-clause-took
 returns-clause-took g c =
     needed _ _ _ _ _ _ _ c.in-Ok.ensures.on
     (needed _ _ _ _ _ _ _ c.in-Ok.ensures.reached
-    (plainly _ _ _ _ _ _ _ _ _ c.exchange_repeated.ensures.took (repeated_typed _ _ _ _ _ _ c.in-Ok.ensures.element (c.new-element.ensures ∙ c.unpack.ensures)) (new_typed _ _ _ _ _ c.in-Ok.ensures.identity c.new_reference-given.ensures)))
+    (plainly _ _ _ _ _ _ _ _ _ c.exchange_repeated.ensures.took
+    (repeated_typed _ _ _ _ _ _ c.in-Ok.ensures.element (c.new-element.ensures ∙ c.unpack.ensures))
+    (new_typed _ _ _ _ _ c.in-Ok.ensures.identity c.new_reference-given.ensures)))

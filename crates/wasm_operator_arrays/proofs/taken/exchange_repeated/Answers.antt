@@ -11,5 +11,6 @@ use Rattle.wasm_operator_arrays.proofs.taken.exchange_repeated.Goals as goal
 pub returns-in-Ok-exchange-clause-took : goal.returns-in-Ok-exchange-clause-took
 unfolding Took
 returns-in-Ok-exchange-clause-took g c =
-    are_exchanged (world (g.T.WasmModuleResources.context c.args.resources.now)) (copies c.args.count (val_in c.args.ty ∷ [])) (val_in c.args.given ∷ []) (state_of c.args.stacks.now) (below c.in-Ok.taken (state_of c.args.stacks.now)) (state_of c.exchange.new.self)
+    are_exchanged (world (g.T.WasmModuleResources.context c.args.resources.now)) (copies c.args.count (val_in c.args.ty ∷ []))
+    (val_in c.args.given ∷ []) (state_of c.args.stacks.now) (below c.in-Ok.taken (state_of c.args.stacks.now)) (state_of c.exchange.new.self)
     c.in-Ok.ensures.0 (c.in-Ok-exchange.ensures.ok ∙ ap (λ o. push_operand o (below c.in-Ok.taken (state_of c.args.stacks.now))) c.known.ensures)
