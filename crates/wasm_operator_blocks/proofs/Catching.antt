@@ -1,5 +1,5 @@
 -- Catch clauses.
-use Rattle.std.proofs.Common.{◌≡◌, ℕ, ◌<◌, Bool, true, false, ◌&&◌, List, [], ◌∷◌, ◌++◌, length, refl, sym, ◌∙◌, ap, arith}
+use Rattle.std.proofs.Common.{◌≡◌, ℕ, Bool, true, false, ◌&&◌, List, [], ◌∷◌, ◌++◌, refl, sym, ◌∙◌, ap}
 use Rattle.std.specs.Prelude.{Some, None}
 use Rattle.wasm_spec.specs.Syntax.{Val}
 use Rattle.wasm_rules.specs.Contexts.{Context}
@@ -19,6 +19,7 @@ use Rattle.wasm_operator_checks.specs.Steps.{typed, held}
 use Rattle.wasm_operator_blocks.specs.Known.{hold_all, all_held}
 use Rattle.wasm_operator_blocks.specs.Sent.{thrown_in, exception_val, sends}
 use Rattle.wasm_operator_blocks.proofs.Throwing.{thrown_held, thrown_typed, not_thrown}
+use Rattle.wasm_operator_blocks.proofs.Given.{front_given, none_left, fewer}
 
 and_true : (b : Bool) → (b && true) ≡ b
 and_true true = refl
@@ -60,18 +61,6 @@ module _ {A : Type 0} (v : Stacks A) (C : Context UnpackedIndex) where
   all_ref_caught n b f = f ∙ sym (matches_sent exception (exception_val ∷ []) n refl)
 
 pub ruleset clauses = (one_caught, one_uncaught, ref_caught, ref_uncaught, all_caught, all_ref_caught)
-
--- a list of clauses that is given clause by clause
-front_given : (xs after : List Catch) (x : Catch) → GivesFront xs (Some x) after → xs ≡ x ∷ after
-front_given [] after x h = cc
-front_given (y ∷ xs) after x h = let e : y ≡ x = cc in let f : xs ≡ after = cc in rw (e, f) refl
-
-none_left : (xs after : List Catch) → GivesFront xs None after → xs ≡ []
-none_left [] after h = refl
-none_left (x ∷ xs) after h = cc
-
-pub fewer : (xs after : List Catch) (x : Catch) → GivesFront xs (Some x) after → length after < length xs
-fewer xs after x h = let e = front_given xs after x h in rw e (omega arith)
 
 two_apart : (a b c : Bool) → (a && (b && c)) ≡ ((a && (b && true)) && c)
 two_apart true true c = refl

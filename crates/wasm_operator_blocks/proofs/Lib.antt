@@ -1,3 +1,4 @@
+pub mod Given
 pub mod Resolved
 pub mod Entering
 pub mod Turned

@@ -1,5 +1,5 @@
 -- Branches by a table.
-use Rattle.std.proofs.Common.{◌≡◌, ◌≢◌, ℕ, ◌<◌, Bool, true, false, ◌&&◌, ◌==◌, List, [], ◌∷◌, length, refl, sym, ◌∙◌, ap, arith}
+use Rattle.std.proofs.Common.{◌≡◌, ◌≢◌, ℕ, Bool, true, false, ◌&&◌, ◌==◌, List, [], ◌∷◌, length, refl, sym, ◌∙◌, ap, arith}
 use Rattle.std.specs.Prelude.{Option, Some, None}
 use Rattle.std.proofs.lemmas.Bool.Decides.{nat_tests}
 use Rattle.std.proofs.lemmas.List.{length-map}
@@ -17,6 +17,7 @@ use Rattle.wasm_operator_stacks.specs.Seen.{state_of, around, below}
 use Rattle.wasm_operator_stacks.specs.declared.stacks.Stacks.{Stacks}
 use Rattle.wasm_operator_checks.specs.Steps.{acted, typed}
 use Rattle.wasm_operator_blocks.specs.Fitting.{fits, all_fit, LastPasses}
+use Rattle.wasm_operator_blocks.proofs.Given.{front_given, none_left, fewer}
 
 pub ruleset counts = (length-map)
 
@@ -25,18 +26,6 @@ same a b e = grind (arith, nat_tests)
 
 differ : (a b : ℕ) → a ≢ b → (a == b) ≡ false
 differ a b e = grind (arith, nat_tests)
-
--- a list that is given label by label
-front_given : (xs after : List ℕ) (n : ℕ) → GivesFront xs (Some n) after → xs ≡ n ∷ after
-front_given [] after n h = cc
-front_given (x ∷ xs) after n h = let e : x ≡ n = cc in let f : xs ≡ after = cc in rw (e, f) refl
-
-none_left : (xs after : List ℕ) → GivesFront xs None after → xs ≡ []
-none_left [] after h = refl
-none_left (x ∷ xs) after h = cc
-
-pub fewer : (xs after : List ℕ) (n : ℕ) → GivesFront xs (Some n) after → length after < length xs
-fewer xs after n h = let e = front_given xs after n h in rw e (omega arith)
 
 module _ {A : Type 0} (v : Stacks A) (C : Context UnpackedIndex) (first wanted : ℕ) where
   -- one target

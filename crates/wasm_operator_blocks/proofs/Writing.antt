@@ -17,6 +17,7 @@ use Rattle.wasm_module_resources.specs.Answers.{written_index, IsWrittenHeap, Is
 use Rattle.wasm_operator_stacks.specs.declared.stacks.Stacks.{Stacks}
 use Rattle.wasm_operator_checks.specs.Steps.{Took, acted}
 use Rattle.wasm_operator_checks.specs.declared.faults.OperatorError.{OperatorError}
+use Rattle.wasm_operator_blocks.proofs.Given.{front_given, none_left}
 
 some_same : {X : Type 0} (x y : X) → Some x ≡ Some y → x ≡ y
 some_same x y e = cc
@@ -47,15 +48,6 @@ items_written zero bytes x xs e = let e : [] ≡ x ∷ xs = e in absurd (cc)
 items_written (suc n) bytes x xs e =
     let h : val_at written bytes ≡ renamed (val_at (λ (k : ℕ). k) bytes) = (val-renames written (λ (k : ℕ). k) bytes).is in
     first_written (val_at (λ (k : ℕ). k) bytes) (λ more. first_items (val_at written) n more) x xs (rw h at e)
-
--- a list that is given type by type
-front_given : (xs after : List (Val UnpackedIndex)) (x : Val UnpackedIndex) → GivesFront xs (Some x) after → xs ≡ x ∷ after
-front_given [] after x h = cc
-front_given (y ∷ xs) after x h = let e : y ≡ x = cc in let f : xs ≡ after = cc in rw (e, f) refl
-
-none_left : (xs after : List (Val UnpackedIndex)) → GivesFront xs None after → xs ≡ []
-none_left [] after h = refl
-none_left (x ∷ xs) after h = cc
 
 pub given_written : (n : ℕ) (bytes : List ℕ) (x : Val UnpackedIndex) (after : List (Val UnpackedIndex)) → GivesFront (first_items (val_at written) n bytes) (Some x) after → IsWrittenVal x
 given_written n bytes x after h = items_written n bytes x after (front_given (first_items (val_at written) n bytes) after x h)
