@@ -74,8 +74,8 @@ pub fn take_five<A: Allocator, T: WasmModuleResources>(
     Ok(())
 }
 
-/// Whether so many operands of one type are on top, and how many are taken with them. It looks at no
-/// more than are there: where code isn't reached and none is left, any number can be taken.
+/// Whether so many operands of one type are on top, and how many are taken with them. It looks at
+/// no more than are there: where code isn't reached and none is left, any number can be taken.
 #[tactic(auto, using(crate::proofs::Repeating::repeats))]
 fn check_repeated<A: Allocator, T: WasmModuleResources>(
     stacks: &Stacks<A>,

@@ -57,7 +57,8 @@ pub fn turn_to_else<A: Allocator, T: WasmModuleResources>(
     stacks: &mut Stacks<A>,
     resources: &T,
 ) -> Result<(), OperatorError>
-    ensures took { Performs result (T.context resources.now) (control_shape else_) stacks.old stacks.new }
+    ensures took { Performs result (T.context resources.now) (control_shape else_)
+        stacks.old stacks.new }
     ensures same { Kept stacks.old stacks.new }
 {
     if !stacks.is_open {

@@ -28,7 +28,9 @@ fn open_plain<A: Allocator, T: WasmModuleResources>(
     ty: BlockType,
 ) -> Result<(), OperatorError>
     requires { IsWrittenBlock (block_of ty) }
-    ensures took { Performs result (T.context resources.now) (opening (block_checks (block_written ty)) nothing (kind_of kind) (block_written ty)) stacks.old stacks.new }
+    ensures took { Performs result (T.context resources.now)
+        (opening (block_checks (block_written ty)) nothing (kind_of kind) (block_written ty))
+        stacks.old stacks.new }
     ensures same { Kept stacks.old stacks.new }
 {
     match resolve(stacks, resources, ty) {
@@ -51,7 +53,8 @@ pub fn open_block<A: Allocator, T: WasmModuleResources>(
     ty: BlockType,
 ) -> Result<(), OperatorError>
     requires { IsWrittenBlock (block_of ty) }
-    ensures took { Performs result (T.context resources.now) (control_shape (block (block_written ty))) stacks.old stacks.new }
+    ensures took { Performs result (T.context resources.now)
+        (control_shape (block (block_written ty))) stacks.old stacks.new }
     ensures same { Kept stacks.old stacks.new }
 {
     open_plain(stacks, resources, FrameKind::Block, ty)
@@ -69,7 +72,8 @@ pub fn open_loop<A: Allocator, T: WasmModuleResources>(
     ty: BlockType,
 ) -> Result<(), OperatorError>
     requires { IsWrittenBlock (block_of ty) }
-    ensures took { Performs result (T.context resources.now) (control_shape (loop (block_written ty))) stacks.old stacks.new }
+    ensures took { Performs result (T.context resources.now)
+        (control_shape (loop (block_written ty))) stacks.old stacks.new }
     ensures same { Kept stacks.old stacks.new }
 {
     open_plain(stacks, resources, FrameKind::Loop, ty)
@@ -80,8 +84,8 @@ pub fn open_loop<A: Allocator, T: WasmModuleResources>(
 ///
 /// # Errors
 ///
-/// Refuses what [`open_block`] refuses, and a condition that isn't of `i32` (`Operand`). Where it is
-/// refused, all stays.
+/// Refuses what [`open_block`] refuses, and a condition that isn't of `i32` (`Operand`). Where it
+/// is refused, all stays.
 #[tactic(auto, using(wasm_operator_checks::proofs::Acting::acts, crate::proofs::Entering::enters))]
 pub fn open_if<A: Allocator, T: WasmModuleResources>(
     stacks: &mut Stacks<A>,
@@ -89,7 +93,8 @@ pub fn open_if<A: Allocator, T: WasmModuleResources>(
     ty: BlockType,
 ) -> Result<(), OperatorError>
     requires { IsWrittenBlock (block_of ty) }
-    ensures took { Performs result (T.context resources.now) (control_shape (if_ (block_written ty))) stacks.old stacks.new }
+    ensures took { Performs result (T.context resources.now)
+        (control_shape (if_ (block_written ty))) stacks.old stacks.new }
     ensures same { Kept stacks.old stacks.new }
 {
     let opening = match resolve(stacks, resources, ty) {

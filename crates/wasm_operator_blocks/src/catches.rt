@@ -29,7 +29,8 @@ fn match_list_with<T: WasmModuleResources>(
     last: ValType,
     types: &[ValType],
 ) -> bool
-    ensures { result ≡ matches_vals (world (T.context resources.now)) (map val_of sent.now ++ val_of last ∷ []) (map val_of types.now) }
+    ensures { result ≡ matches_vals (world (T.context resources.now))
+        (map val_of sent.now ++ val_of last ∷ []) (map val_of types.now) }
 {
     let count = types.len();
     if count == 0 {
@@ -42,7 +43,8 @@ fn match_list_with<T: WasmModuleResources>(
     resources.is_subtype(last, types[count - 1])
 }
 
-/// Whether these types, and one more behind them, match those, place by place, and are equally many.
+/// Whether these types, and one more behind them, match those, place by place, and are equally
+/// many.
 #[tactic(auto, using(crate::proofs::Sending::matchings))]
 fn match_sent_with<'a, T: WasmModuleResources>(
     resources: &T,
@@ -50,7 +52,8 @@ fn match_sent_with<'a, T: WasmModuleResources>(
     last: ValType,
     types: Types<'a>,
 ) -> bool
-    ensures { result ≡ matches_vals (world (T.context resources.now)) (map val_of sent.now ++ val_of last ∷ []) (types_seen types.entry) }
+    ensures { result ≡ matches_vals (world (T.context resources.now))
+        (map val_of sent.now ++ val_of last ∷ []) (types_seen types.entry) }
 {
     match types {
         Types::None => false,
@@ -82,7 +85,8 @@ fn check_sent<A: Allocator, T: WasmModuleResources>(
     sent: &[ValType],
     label: u32,
 ) -> Result<(), OperatorFault>
-    ensures { is_ok result ≡ sends stacks.now (T.context resources.now) (map val_of sent.now) label }
+    ensures { is_ok result ≡ sends stacks.now (T.context resources.now)
+        (map val_of sent.now) label }
 {
     match label_types(stacks, resources, label) {
         Some(types) => {
@@ -104,7 +108,8 @@ fn check_sent_with_reference<A: Allocator, T: WasmModuleResources>(
     sent: &[ValType],
     label: u32,
 ) -> Result<(), OperatorFault>
-    ensures { is_ok result ≡ sends stacks.now (T.context resources.now) (map val_of sent.now ++ exception_val ∷ []) label }
+    ensures { is_ok result ≡ sends stacks.now (T.context resources.now)
+        (map val_of sent.now ++ exception_val ∷ []) label }
 {
     match label_types(stacks, resources, label) {
         Some(types) => {
@@ -125,7 +130,8 @@ fn check_catch<A: Allocator, T: WasmModuleResources>(
     resources: &T,
     clause: Catch,
 ) -> Result<(), OperatorFault>
-    ensures { is_ok result ≡ all_held stacks.now (T.context resources.now) (catch_checks (clause ∷ [])) }
+    ensures { is_ok result ≡ all_held stacks.now (T.context resources.now)
+        (catch_checks (clause ∷ [])) }
 {
     match clause {
         Catch::One { tag, label } => match thrown_types(resources, tag) {
@@ -148,7 +154,8 @@ pub(crate) fn check_catches<'a, A: Allocator, T: WasmModuleResources>(
     resources: &T,
     clauses: Listed<'a, Catch>,
 ) -> Result<(), OperatorFault>
-    ensures { is_ok result ≡ all_held stacks.now (T.context resources.now) (catch_checks (listed catch_at clauses.entry)) }
+    ensures { is_ok result ≡ all_held stacks.now (T.context resources.now)
+        (catch_checks (listed catch_at clauses.entry)) }
 {
     let mut left = clauses.items();
     'checking: while let Some(clause) = left.next() {

@@ -85,7 +85,8 @@ pub fn select<A: Allocator, T: WasmModuleResources>(
     stacks: &mut Stacks<A>,
     resources: &T,
 ) -> Result<(), OperatorError>
-    ensures took { Performs result (T.context resources.now) (parametric_shape select) stacks.old stacks.new }
+    ensures took { Performs result (T.context resources.now) (parametric_shape select)
+        stacks.old stacks.new }
     ensures same { Kept stacks.old stacks.new }
 {
     let condition = TypeWord::number(NumberType::I32);
@@ -125,7 +126,9 @@ pub fn select_of<A: Allocator, T: WasmModuleResources>(
     ty: ValType,
 ) -> Result<(), OperatorError>
     requires { IsWrittenVal (val_of ty) }
-    ensures took { Performs result (T.context resources.now) (parametric_shape (select_of (map_val written_index (val_of ty) ∷ []))) stacks.old stacks.new }
+    ensures took { Performs result (T.context resources.now)
+        (parametric_shape (select_of (map_val written_index (val_of ty) ∷ [])))
+        stacks.old stacks.new }
     ensures same { Kept stacks.old stacks.new }
 {
     if !has(stacks, WasmFeatures::REFERENCE_TYPES) {
@@ -160,7 +163,10 @@ pub fn select_typed<'a, A: Allocator, T: WasmModuleResources>(
     resources: &T,
     types: Listed<'a, ValType>,
 ) -> Result<(), OperatorError>
-    ensures took { Performs result (T.context resources.now) (parametric_shape (select_of (map (map_val written_index) (listed (val_at written) types.entry)))) stacks.old stacks.new }
+    ensures took { Performs result (T.context resources.now)
+        (parametric_shape (select_of
+        (map (map_val written_index) (listed (val_at written) types.entry))))
+        stacks.old stacks.new }
     ensures same { Kept stacks.old stacks.new }
 {
     let mut items = types.items();

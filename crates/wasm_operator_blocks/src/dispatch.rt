@@ -34,7 +34,8 @@ pub fn step_control<'a, A: Allocator, T: WasmModuleResources>(
     op: ControlOperator<'a>,
 ) -> Result<(), OperatorError>
     requires { IsWrittenControl (control_of op) }
-    ensures took { Performs result (T.context resources.now) (control_shape (control_written op.entry)) stacks.old stacks.new }
+    ensures took { Performs result (T.context resources.now)
+        (control_shape (control_written op.entry)) stacks.old stacks.new }
     ensures same { Kept stacks.old stacks.new }
 {
     match op {
@@ -66,7 +67,8 @@ pub fn step_parametric<'a, A: Allocator, T: WasmModuleResources>(
     resources: &T,
     op: ParametricOperator<'a>,
 ) -> Result<(), OperatorError>
-    ensures took { Performs result (T.context resources.now) (parametric_shape (parametric_written op.entry)) stacks.old stacks.new }
+    ensures took { Performs result (T.context resources.now)
+        (parametric_shape (parametric_written op.entry)) stacks.old stacks.new }
     ensures same { Kept stacks.old stacks.new }
 {
     match op {
@@ -87,7 +89,8 @@ pub fn step_variable<A: Allocator, T: WasmModuleResources>(
     resources: &T,
     op: VariableOperator,
 ) -> Result<(), OperatorError>
-    ensures took { Performs result (T.context resources.now) (variable_shape op) stacks.old stacks.new }
+    ensures took { Performs result (T.context resources.now) (variable_shape op)
+        stacks.old stacks.new }
     ensures same { Kept stacks.old stacks.new }
 {
     match op {

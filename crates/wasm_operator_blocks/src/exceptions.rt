@@ -22,7 +22,8 @@ pub(crate) fn thrown_types<'a, T: WasmModuleResources>(
     resources: &'a T,
     tag: u32,
 ) -> Result<&'a [ValType], OperatorFault>
-    ensures ok { IfOk result (λ ts. thrown_in (T.context resources.now) tag ≡ Some (map val_of ts.now)) }
+    ensures ok { IfOk result (λ ts. thrown_in (T.context resources.now) tag
+        ≡ Some (map val_of ts.now)) }
     ensures err { OnErr result (thrown_in (T.context resources.now) tag ≡ None) }
 {
     match resources.tag_at(tag) {
@@ -51,7 +52,8 @@ pub fn throw<A: Allocator, T: WasmModuleResources>(
     resources: &T,
     tag: u32,
 ) -> Result<(), OperatorError>
-    ensures took { Performs result (T.context resources.now) (control_shape (throw tag)) stacks.old stacks.new }
+    ensures took { Performs result (T.context resources.now) (control_shape (throw tag))
+        stacks.old stacks.new }
     ensures same { Kept stacks.old stacks.new }
 {
     if !has(stacks, WasmFeatures::EXCEPTIONS) {
@@ -75,7 +77,8 @@ pub fn throw_ref<A: Allocator, T: WasmModuleResources>(
     stacks: &mut Stacks<A>,
     resources: &T,
 ) -> Result<(), OperatorError>
-    ensures took { Performs result (T.context resources.now) (control_shape throw_ref) stacks.old stacks.new }
+    ensures took { Performs result (T.context resources.now) (control_shape throw_ref)
+        stacks.old stacks.new }
     ensures same { Kept stacks.old stacks.new }
 {
     if !has(stacks, WasmFeatures::EXCEPTIONS) {

@@ -34,7 +34,8 @@ fn resolve_value<'a, A: Allocator, T: WasmModuleResources>(
     ty: ValType,
 ) -> Result<Opening<'a>, OperatorFault>
     requires { IsWrittenVal (val_of ty) }
-    ensures { Opens result (block_known stacks.now (T.context resources.now) (value_block (map_val written_index (val_of ty)))) }
+    ensures { Opens result (block_known stacks.now (T.context resources.now)
+        (value_block (map_val written_index (val_of ty)))) }
 {
     let mut named = ty;
     match resources.check_value_type(&mut named, &stacks.features, 0) {
@@ -53,7 +54,8 @@ fn resolve_function<'a, A: Allocator, T: WasmModuleResources>(
     resources: &'a T,
     type_index: u32,
 ) -> Result<Opening<'a>, OperatorFault>
-    ensures { Opens result (block_known stacks.now (T.context resources.now) (func_block type_index)) }
+    ensures { Opens result (block_known stacks.now (T.context resources.now)
+        (func_block type_index)) }
 {
     if !has(stacks, WasmFeatures::MULTI_VALUE) {
         return Err(OperatorFault::new(OperatorRule::MultiValue));

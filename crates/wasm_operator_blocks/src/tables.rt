@@ -100,7 +100,8 @@ fn check_targets<'a, A: Allocator, T: WasmModuleResources>(
     targets: Listed<'a, u32>,
 ) -> Result<(), OperatorFault>
     requires { first ≤ length (state_of stacks.now).operands }
-    ensures { is_ok result ≡ all_fit stacks.now (T.context resources.now) first wanted (listed u32_at targets.entry) }
+    ensures { is_ok result ≡ all_fit stacks.now (T.context resources.now) first wanted
+        (listed u32_at targets.entry) }
 {
     let mut left = targets.items();
     let mut last = None;
@@ -128,7 +129,9 @@ pub fn branch_by_table<'a, A: Allocator, T: WasmModuleResources>(
     resources: &T,
     table: BrTable<'a>,
 ) -> Result<(), OperatorError>
-    ensures took { Performs result (T.context resources.now) (control_shape (br_table (listed u32_at table.entry.targets) table.entry.default)) stacks.old stacks.new }
+    ensures took { Performs result (T.context resources.now)
+        (control_shape (br_table (listed u32_at table.entry.targets) table.entry.default))
+        stacks.old stacks.new }
     ensures same { Kept stacks.old stacks.new }
 {
     if !stacks.is_open {

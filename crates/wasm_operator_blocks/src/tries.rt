@@ -25,8 +25,8 @@ use wasm_readers_errors::WasmFeatures;
 /// # Errors
 ///
 /// Refuses it without the proposal of exceptions (`Exceptions`), a block type that the features or
-/// the module don't have (`ValueType`, `MultiValue`, `UnknownType`, `NotAFunction`, `Shared`), a tag
-/// that isn't there (`UnknownTag`) or has results (`TagResults`), a label that isn't there
+/// the module don't have (`ValueType`, `MultiValue`, `UnknownType`, `NotAFunction`, `Shared`), a
+/// tag that isn't there (`UnknownTag`) or has results (`TagResults`), a label that isn't there
 /// (`UnknownLabel`) or takes other types (`CatchTypes`), and operands that aren't what the block
 /// takes (`Operand`). Where it is refused, all stays.
 #[tactic(auto, using(wasm_operator_checks::proofs::Acting::acts, crate::proofs::Entering::tries))]
@@ -36,7 +36,9 @@ pub fn open_try_table<'a, A: Allocator, T: WasmModuleResources>(
     table: TryTable<'a>,
 ) -> Result<(), OperatorError>
     requires { IsWrittenBlock (block_of table.ty) }
-    ensures took { Performs result (T.context resources.now) (control_shape (try_table (block_written table.entry.ty) (listed catch_at table.entry.catches))) stacks.old stacks.new }
+    ensures took { Performs result (T.context resources.now)
+        (control_shape (try_table (block_written table.entry.ty)
+        (listed catch_at table.entry.catches))) stacks.old stacks.new }
     ensures same { Kept stacks.old stacks.new }
 {
     if !has(stacks, WasmFeatures::EXCEPTIONS) {

@@ -52,7 +52,8 @@ fn exchange_top<'a, A: Allocator, T: WasmModuleResources>(
 }
 
 /// Branches to a label whose last type matches what is sent: takes the label's other types with one
-/// of a type on top, and gives them with one of another type on top. Where that can't be, all stays.
+/// of a type on top, and gives them with one of another type on top. Where that can't be, all
+/// stays.
 #[tactic(auto, using(wasm_operator_checks::proofs::Acting::acts, crate::proofs::Sending::sends))]
 pub(crate) fn send<A: Allocator, T: WasmModuleResources>(
     stacks: &mut Stacks<A>,

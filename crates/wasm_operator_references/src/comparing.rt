@@ -73,8 +73,8 @@ fn is_below<T: WasmModuleResources>(
 }
 
 /// The reference below so many operands that are taken already, where it is below an abstract heap
-/// type, shared or not, and how many are taken with it (Core Specification 3.0, Appendix, Validation
-/// Algorithm).
+/// type, shared or not, and how many are taken with it (Core Specification 3.0, Appendix,
+/// Validation Algorithm).
 ///
 /// # Errors
 ///

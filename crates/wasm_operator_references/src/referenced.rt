@@ -36,8 +36,8 @@ fn as_reference(operand: Operand) -> Option<Referenced>
     }
 }
 
-/// The reference below so many operands that are taken already, and how many are taken with it (Core
-/// Specification 3.0, Appendix, Validation Algorithm).
+/// The reference below so many operands that are taken already, and how many are taken with it
+/// (Core Specification 3.0, Appendix, Validation Algorithm).
 ///
 /// # Errors
 ///

@@ -35,8 +35,8 @@ pub use wasm_validator_types::{
     TypeData, TypeIdentifier, TypeInfo, TypeList, Types, TypesRef, ValidatorId,
 };
 
-/// A payload that is accepted leads a validator where the state table says, and one that is refused, for
-/// its content or for want of memory, leaves it where the table says.
+/// A payload that is accepted leads a validator where the state table says, and one that is
+/// refused, for its content or for want of memory, leaves it where the table says.
 #[tactic(auto, using(crate::proofs::TableKept::table_laws))]
 pub fn state_table()
     ensures accepted { AcceptedByTable }
@@ -44,9 +44,9 @@ pub fn state_table()
 {}
 
 /// Where equal types are one, two types of any modules that one validator has accepted, one after
-/// another with `reset` between two of them, have the same id exactly where they are equal: the same
-/// place of equal recursive types (Core Specification 3.0, Validation, Types, Recursive Types). Others may
-/// stand between them that were refused so that the validator could be reset.
+/// another with `reset` between two of them, have the same id exactly where they are equal: the
+/// same place of equal recursive types (Core Specification 3.0, Validation, Types, Recursive
+/// Types). Others may stand between them that were refused so that the validator could be reset.
 pub fn one_id_for_one_type<A>()
     ensures { OneIdForOneType A }
 {}
@@ -56,18 +56,18 @@ pub fn own_id_for_each_type<A>()
     ensures { OwnIdForEachType A }
 {}
 
-/// A module that is refused so that the validator may be reset leaves a list that begins with the types
-/// before it: so the modules of `one_id_for_one_type` may be any that `validate_all` was handed, as long
-/// as `reset` is allowed.
+/// A module that is refused so that the validator may be reset leaves a list that begins with the
+/// types before it: so the modules of `one_id_for_one_type` may be any that `validate_all` was
+/// handed, as long as `reset` is allowed.
 pub fn refused_modules_keep_types()
     ensures { RefusedKeepTypes }
 {}
 
-/// Behind any lists that a module has so far a section is accepted exactly where its bytes are items that
-/// keep their rules on these lists and the limit, and then the list has these items behind (Core
-/// Specification 3.0, Validation, Modules). Of types each recursion group is valid on the types before
-/// it; of exports each names something that is there, no name comes twice, and the effective size stays
-/// below its limit.
+/// Behind any lists that a module has so far a section is accepted exactly where its bytes are
+/// items that keep their rules on these lists and the limit, and then the list has these items
+/// behind (Core Specification 3.0, Validation, Modules). Of types each recursion group is valid on
+/// the types before it; of exports each names something that is there, no name comes twice, and the
+/// effective size stays below its limit.
 pub fn sections_add_their_items()
     ensures types { TypesAdd }
     ensures imports { ImportsAdd }

@@ -35,12 +35,16 @@ pub fn add_types<'a, A: Allocator + Copy>(
     requires open { IsOpenFor features list.old }
     requires ids { AreIdsOf list.old opened.old.types }
     requires valid { AreValid (features_of features) (types_of_list list.old) }
-    ensures added { AddsWhere (HasValidTypes features) result (type_items features (count_of section.now) (bytes_of section.now) (types_of_list list.old, opened.old)) (types_of_list list.new, opened.new) }
+    ensures added { AddsWhere (HasValidTypes features) result
+        (type_items features (count_of section.now) (bytes_of section.now)
+        (types_of_list list.old, opened.old)) (types_of_list list.new, opened.new) }
     ensures valid { OnOk result (AreValid (features_of features) (types_of_list list.new)) }
     ensures open { IsOpenFor features list.new }
     ensures ids { OnOk result (AreIdsOf list.new opened.new.types) }
-    ensures place { IfErr result (StandsBetween (section_start section.now) (section_end section.now)) }
-    ensures told { IfErr result (OfContent (TellsTypes features section.now (types_of_list list.old) opened.old)) }
+    ensures place { IfErr result (StandsBetween (section_start section.now)
+        (section_end section.now)) }
+    ensures told { IfErr result (OfContent (TellsTypes features section.now
+        (types_of_list list.old) opened.old)) }
 {
     check_max(
         opened.spaces().type_count() as usize,
@@ -67,10 +71,13 @@ pub fn add_imports<'a, A: Allocator + Copy>(
     section: &SectionLimited<'a, Import<'a>, A>,
 ) -> Result<(), Error<A>>
     requires { AreHeld list.now opened.old.types }
-    ensures added { Adds result (import_items (features_of features) (types_of_list list.now) (count_of section.now) (bytes_of section.now) opened.old) opened.new }
+    ensures added { Adds result (import_items (features_of features) (types_of_list list.now)
+        (count_of section.now) (bytes_of section.now) opened.old) opened.new }
     ensures types { opened.new.types ≡ opened.old.types }
-    ensures place { IfErr result (StandsBetween (section_start section.now) (section_end section.now)) }
-    ensures told { IfErr result (OfContent (TellsImports features section.now (types_of_list list.now) opened.old)) }
+    ensures place { IfErr result (StandsBetween (section_start section.now)
+        (section_end section.now)) }
+    ensures told { IfErr result (OfContent (TellsImports features section.now
+        (types_of_list list.now) opened.old)) }
 {
     check_max(
         opened.spaces().import_count(),
@@ -93,10 +100,13 @@ pub fn add_functions<A: Allocator + Copy>(
     section: &SectionLimited<'_, u32, A>,
 ) -> Result<(), Error<A>>
     requires { AreHeld list.now opened.old.types }
-    ensures added { Adds result (function_items (types_of_list list.now) (count_of section.now) (bytes_of section.now) opened.old) opened.new }
+    ensures added { Adds result (function_items (types_of_list list.now) (count_of section.now)
+        (bytes_of section.now) opened.old) opened.new }
     ensures types { opened.new.types ≡ opened.old.types }
-    ensures place { IfErr result (StandsBetween (section_start section.now) (section_end section.now)) }
-    ensures told { IfErr result (OfContent (TellsFunctions section.now (types_of_list list.now) opened.old)) }
+    ensures place { IfErr result (StandsBetween (section_start section.now)
+        (section_end section.now)) }
+    ensures told { IfErr result (OfContent (TellsFunctions section.now
+        (types_of_list list.now) opened.old)) }
 {
     check_max(
         opened.spaces().function_count() as usize,
@@ -112,7 +122,8 @@ pub fn add_functions<A: Allocator + Copy>(
     Ok(())
 }
 
-/// Adds the tables of a table section, which have no initializers: those with one are not served yet.
+/// Adds the tables of a table section, which have no initializers: those with one are not served
+/// yet.
 pub fn add_tables<'a, A: Allocator + Copy>(
     features: WasmFeatures,
     list: &TypeList<A>,
@@ -120,10 +131,13 @@ pub fn add_tables<'a, A: Allocator + Copy>(
     section: &SectionLimited<'a, Table<'a>, A>,
 ) -> Result<(), Error<A>>
     requires { AreHeld list.now opened.old.«module».types }
-    ensures added { Adds result (table_items (features_of features) (types_of_list list.now) (count_of section.now) (bytes_of section.now) opened.old.«module») opened.new.«module» }
+    ensures added { Adds result (table_items (features_of features) (types_of_list list.now)
+        (count_of section.now) (bytes_of section.now) opened.old.«module») opened.new.«module» }
     ensures types { opened.new.«module».types ≡ opened.old.«module».types }
-    ensures place { IfErr result (StandsBetween (section_start section.now) (section_end section.now)) }
-    ensures told { IfErr result (OfContent (TellsTables features section.now (types_of_list list.now) opened.old.«module»)) }
+    ensures place { IfErr result (StandsBetween (section_start section.now)
+        (section_end section.now)) }
+    ensures told { IfErr result (OfContent (TellsTables features section.now
+        (types_of_list list.now) opened.old.«module»)) }
 {
     check_max(
         opened.module.spaces().table_count() as usize,
@@ -150,10 +164,12 @@ fn add_table_head<A: Allocator + Copy>(
     offset: u64,
 ) -> Result<(), Error<A>>
     requires { AreHeld list.now opened.old.«module».types }
-    ensures added { Adds result (add_table_head (features_of features) (types_of_list list.now) opened.old.«module» (head_of head)) opened.new.«module» }
+    ensures added { Adds result (add_table_head (features_of features) (types_of_list list.now)
+        opened.old.«module» (head_of head)) opened.new.«module» }
     ensures types { opened.new.«module».types ≡ opened.old.«module».types }
     ensures place { IfErr result (IsAt offset) }
-    ensures told { Tells result (told_of_head features (types_of_list list.now) offset opened.old.«module» (head_of head)) }
+    ensures told { Tells result (told_of_head features (types_of_list list.now) offset
+        opened.old.«module» (head_of head)) }
 {
     if head.has_init {
         let fault = Fault::NotServed(Unserved::TableInitializer);
@@ -168,9 +184,11 @@ pub fn add_memories<A: Allocator + Copy>(
     opened: &mut Module<A>,
     section: &SectionLimited<'_, MemoryType, A>,
 ) -> Result<(), Error<A>>
-    ensures added { Adds result (memory_items (features_of features) (count_of section.now) (bytes_of section.now) opened.old) opened.new }
+    ensures added { Adds result (memory_items (features_of features) (count_of section.now)
+        (bytes_of section.now) opened.old) opened.new }
     ensures types { opened.new.types ≡ opened.old.types }
-    ensures place { IfErr result (StandsBetween (section_start section.now) (section_end section.now)) }
+    ensures place { IfErr result (StandsBetween (section_start section.now)
+        (section_end section.now)) }
     ensures told { IfErr result (OfContent (TellsMemories section.now features opened.old)) }
 {
     check_max(
@@ -196,10 +214,13 @@ pub fn add_tags<A: Allocator + Copy>(
 ) -> Result<(), Error<A>>
     requires held { AreHeld list.now opened.old.types }
     requires exceptions { IsTrue (features_of features).exceptions }
-    ensures added { Adds result (tag_items (features_of features) (types_of_list list.now) (count_of section.now) (bytes_of section.now) opened.old) opened.new }
+    ensures added { Adds result (tag_items (features_of features) (types_of_list list.now)
+        (count_of section.now) (bytes_of section.now) opened.old) opened.new }
     ensures types { opened.new.types ≡ opened.old.types }
-    ensures place { IfErr result (StandsBetween (section_start section.now) (section_end section.now)) }
-    ensures told { IfErr result (OfContent (TellsTags features section.now (types_of_list list.now) opened.old)) }
+    ensures place { IfErr result (StandsBetween (section_start section.now)
+        (section_end section.now)) }
+    ensures told { IfErr result (OfContent (TellsTags features section.now
+        (types_of_list list.now) opened.old)) }
 {
     check_max(
         opened.spaces().tag_count() as usize,
@@ -223,10 +244,13 @@ pub fn add_exports<'a, A: Allocator + Copy>(
     opened: &mut Module<A>,
     section: &SectionLimited<'a, Export<'a>, A>,
 ) -> Result<(), Error<A>>
-    ensures added { Adds result (export_items (features_of features) (types_of_list list.now) (count_of section.now) (bytes_of section.now) opened.old) opened.new }
+    ensures added { Adds result (export_items (features_of features) (types_of_list list.now)
+        (count_of section.now) (bytes_of section.now) opened.old) opened.new }
     ensures types { opened.new.types ≡ opened.old.types }
-    ensures place { IfErr result (StandsBetween (section_start section.now) (section_end section.now)) }
-    ensures told { IfErr result (OfContent (TellsExports features section.now (types_of_list list.now) opened.old)) }
+    ensures place { IfErr result (StandsBetween (section_start section.now)
+        (section_end section.now)) }
+    ensures told { IfErr result (OfContent (TellsExports features section.now
+        (types_of_list list.now) opened.old)) }
 {
     check_max(
         opened.spaces().export_count(),
@@ -247,7 +271,8 @@ pub fn check_empty<T, A: Allocator + Copy>(
     section: &SectionLimited<'_, T, A>,
     what: Unserved,
 ) -> Result<(), Refusal>
-    ensures accepted { is_ok result ≡ (count_of section.now == 0 && length (bytes_of section.now) == 0) }
+    ensures accepted { is_ok result ≡ (count_of section.now == 0
+        && length (bytes_of section.now) == 0) }
     ensures refusal { IfErr result (λ r. r ≡ refusal_of_items section.now what) }
 {
     if section.is_empty() {

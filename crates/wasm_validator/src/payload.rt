@@ -35,10 +35,12 @@ impl<A: Allocator + Copy> Validator<A> {
     /// Refused as by the method of its section, at an offset from the payload's first byte to the
     /// one behind it, and where memory is.
     pub fn payload<'a>(&mut self, payload: &Payload<'a, A>) -> Result<ValidPayload<A>, Error<A>>
-        ensures moves { Leaves result (after_piece self.old (seen payload.now)) (left_by self.old (seen payload.now)) self.old self.new }
+        ensures moves { Leaves result (after_piece self.old (seen payload.now))
+            (left_by self.old (seen payload.now)) self.old self.new }
         ensures shown { IfOk result (ShowsModule self.old (seen payload.now)) }
         ensures held { IfOk result HoldsIdsAtEnd }
-        ensures place { starts_at payload.now ≤ ends_at payload.now → IfErr result (StandsBetween (starts_at payload.now) (ends_at payload.now)) }
+        ensures place { starts_at payload.now ≤ ends_at payload.now
+            → IfErr result (StandsBetween (starts_at payload.now) (ends_at payload.now)) }
     {
         match payload {
             Payload::End(offset) => match self.end(*offset) {
@@ -55,8 +57,10 @@ impl<A: Allocator + Copy> Validator<A> {
     /// Checks a payload that is not the end.
     fn section<'a>(&mut self, payload: &Payload<'a, A>) -> Result<(), Error<A>>
         requires { IsBeforeEnd (seen payload.now) }
-        ensures moves { Leaves result (after_piece self.old (seen payload.now)) (left_by self.old (seen payload.now)) self.old self.new }
-        ensures place { starts_at payload.now ≤ ends_at payload.now → IfErr result (StandsBetween (starts_at payload.now) (ends_at payload.now)) }
+        ensures moves { Leaves result (after_piece self.old (seen payload.now))
+            (left_by self.old (seen payload.now)) self.old self.new }
+        ensures place { starts_at payload.now ≤ ends_at payload.now
+            → IfErr result (StandsBetween (starts_at payload.now) (ends_at payload.now)) }
     {
         match payload {
             Payload::Version {
@@ -141,12 +145,16 @@ impl<A: Allocator + Copy> Validator<A> {
 fn next_of_input<'a, A: Allocator + Copy>(
     payloads: &mut ParseAll<'a, A>,
 ) -> Result<Option<Payload<'a, A>>, Error<A>>
-    ensures ok { IfOk result (λ p. next_of (state payloads.old) ≡ Some (option_map (λ q. (seen q, state payloads.new)) p)) }
+    ensures ok { IfOk result (λ p. next_of (state payloads.old)
+        ≡ Some (option_map (λ q. (seen q, state payloads.new)) p)) }
     ensures err { OnErr result (next_of (state payloads.old) ≡ None) }
-    ensures handed { IfErr result (λ e. option_map Error.Refused (refused_with payloads.new) ≡ Some e) }
+    ensures handed { IfErr result (λ e. option_map Error.Refused
+        (refused_with payloads.new) ≡ Some e) }
     ensures format { refused_with payloads.old ≡ None → IfErr result TellsFormat }
-    ensures place { ReadsInput payloads.old → IfErr result (StandsBetween 0 (input_end payloads.old)) }
-    ensures within { ReadsInput payloads.old → IfOk result (λ p. IfSome p (λ q. ends_at q ≤ input_end payloads.old)) }
+    ensures place { ReadsInput payloads.old → IfErr result
+        (StandsBetween 0 (input_end payloads.old)) }
+    ensures within { ReadsInput payloads.old → IfOk result
+        (λ p. IfSome p (λ q. ends_at q ≤ input_end payloads.old)) }
     ensures order { IfOk result (λ p. IfSome p (λ q. starts_at q ≤ ends_at q)) }
     ensures reads { ReadsInput payloads.old → ReadsInput payloads.new }
     ensures whole { input_end payloads.new ≡ input_end payloads.old }

@@ -104,7 +104,8 @@ fn opened<A: Allocator>(state: &mut State<A>, offset: u64) -> Result<ModuleState
     ensures left { OnOk result (state.new ≡ State.Failed) }
     ensures none { OnErr result (open_of state.old ≡ None) }
     ensures place { IfErr result (λ r. r.offset ≡ offset) }
-    ensures refusal { IfErr result (λ r. r ≡ record { fault = Fault.OutOfOrder (order_at state.old); offset = offset; missing = None }) }
+    ensures refusal { IfErr result (λ r. r ≡ record
+        { fault = Fault.OutOfOrder (order_at state.old); offset = offset; missing = None }) }
     ensures unchanged { OnErr result (state.new ≡ state.old) }
 {
     match mem::replace(state, State::Failed) {
@@ -175,7 +176,8 @@ fn finished<A: Allocator + Copy>(
     state: ModuleState<A>,
 ) -> Result<Types<A>, AllocError>
     ensures same { types.new ≡ types.old }
-    ensures shown { IfOk result (λ t. shown_of t ≡ record { id = id; list = committed types.old; spaces = state.«module» }) }
+    ensures shown { IfOk result (λ t. shown_of t
+        ≡ record { id = id; list = committed types.old; spaces = state.«module» }) }
     ensures once { types.old.is_canonical ≡ true → AreOnce types.old.groups }
 {
     // Asked for what it promises: where equal types are one, no type has two ids.
@@ -253,7 +255,8 @@ impl<A: Allocator + Copy> Validator<A> {
     /// The types of the module that is being read: at level 0, and while one is.
     pub fn types(&self, level: usize) -> Option<TypesRef<'_, A>>
         ensures some { IsSome result ↔ (level ≡ 0) × IsSome (shown_at self.now.stage) }
-        ensures shown { IfSome result (λ t. shown_at self.now.stage ≡ Some (types_of_list (shown_by t).list, (shown_by t).spaces)) }
+        ensures shown { IfSome result (λ t. shown_at self.now.stage
+            ≡ Some (types_of_list (shown_by t).list, (shown_by t).spaces)) }
         ensures id { IfSome result (λ t. (shown_by t).id ≡ self.now.id) }
         ensures held { IfSome result (λ t. HoldsIds (shown_by t)) }
     {
@@ -284,10 +287,13 @@ impl<A: Allocator + Copy> Validator<A> {
         encoding: Encoding,
         range: &Range<u64>,
     ) -> Result<(), Error<A>>
-        ensures moves { Leaves result (after_version self.old number (is_module encoding)) self.old.stage self.old self.new }
+        ensures moves { Leaves result (after_version self.old number (is_module encoding))
+            self.old.stage self.old self.new }
         ensures content { IfErr result IsContent }
         ensures place { IfErr result (λ e. offset_of e ≡ range.now.start) }
-        ensures told { IfErr result (λ e. e ≡ Error.Refused (header_told self.old.features number (is_module encoding) range.now.start self.old.stage)) }
+        ensures told { IfErr result (λ e. e ≡ Error.Refused
+            (header_told self.old.features number (is_module encoding)
+            range.now.start self.old.stage)) }
     {
         if !matches!(self.state, State::Unparsed) {
             return Err(Error::Refused(Refusal::new(
@@ -335,9 +341,13 @@ impl<A: Allocator + Copy> Validator<A> {
         &mut self,
         section: &SectionLimited<'_, RecGroup<A>, A>,
     ) -> Result<(), Error<A>>
-        ensures moves { Moves result (after_section self.old 1 (count_of section.now) (bytes_of section.now)) self.old self.new }
-        ensures place { IfErr result (StandsBetween (section_start section.now) (section_end section.now)) }
-        ensures told { IfErr result (OfContent (TellsWithin (TellsTypes self.old.features section.now) (section_start section.now) self.old.stage)) }
+        ensures moves { Moves result (after_section self.old 1 (count_of section.now)
+            (bytes_of section.now)) self.old self.new }
+        ensures place { IfErr result (StandsBetween (section_start section.now)
+            (section_end section.now)) }
+        ensures told { IfErr result (OfContent (TellsWithin
+            (TellsTypes self.old.features section.now)
+            (section_start section.now) self.old.stage)) }
     {
         match opened(&mut self.state, section.range().start) {
             Ok(mut state) => {
@@ -366,9 +376,13 @@ impl<A: Allocator + Copy> Validator<A> {
         &mut self,
         section: &SectionLimited<'a, Import<'a>, A>,
     ) -> Result<(), Error<A>>
-        ensures moves { Moves result (after_section self.old 2 (count_of section.now) (bytes_of section.now)) self.old self.new }
-        ensures place { IfErr result (StandsBetween (section_start section.now) (section_end section.now)) }
-        ensures told { IfErr result (OfContent (TellsWithin (TellsImports self.old.features section.now) (section_start section.now) self.old.stage)) }
+        ensures moves { Moves result (after_section self.old 2 (count_of section.now)
+            (bytes_of section.now)) self.old self.new }
+        ensures place { IfErr result (StandsBetween (section_start section.now)
+            (section_end section.now)) }
+        ensures told { IfErr result (OfContent (TellsWithin
+            (TellsImports self.old.features section.now)
+            (section_start section.now) self.old.stage)) }
     {
         match opened(&mut self.state, section.range().start) {
             Ok(mut state) => {
@@ -391,9 +405,13 @@ impl<A: Allocator + Copy> Validator<A> {
         &mut self,
         section: &SectionLimited<'a, Export<'a>, A>,
     ) -> Result<(), Error<A>>
-        ensures moves { Moves result (after_section self.old 7 (count_of section.now) (bytes_of section.now)) self.old self.new }
-        ensures place { IfErr result (StandsBetween (section_start section.now) (section_end section.now)) }
-        ensures told { IfErr result (OfContent (TellsWithin (TellsExports self.old.features section.now) (section_start section.now) self.old.stage)) }
+        ensures moves { Moves result (after_section self.old 7 (count_of section.now)
+            (bytes_of section.now)) self.old self.new }
+        ensures place { IfErr result (StandsBetween (section_start section.now)
+            (section_end section.now)) }
+        ensures told { IfErr result (OfContent (TellsWithin
+            (TellsExports self.old.features section.now)
+            (section_start section.now) self.old.stage)) }
     {
         match opened(&mut self.state, section.range().start) {
             Ok(mut state) => {
@@ -413,9 +431,12 @@ impl<A: Allocator + Copy> Validator<A> {
     /// What a check that needs nothing of the module says of a section: where it refuses while a
     /// module is being read, the validator has failed.
     fn answered(&mut self, offset: u64, answer: Result<(), Refusal>) -> Result<(), Error<A>>
-        ensures moves { Moves result (at_stage self.old (within (λ p. if is_ok answer then Some p else None) self.old.stage)) self.old self.new }
+        ensures moves { Moves result (at_stage self.old
+            (within (λ p. if is_ok answer then Some p else None) self.old.stage)) self.old
+            self.new }
         ensures content { IfErr result IsContent }
-        ensures order { IfErr result (TellsWithin (λ us m e. IsErrAnd answer (λ r. e ≡ Error.Refused r)) offset self.old.stage) }
+        ensures order { IfErr result (TellsWithin
+            (λ us m e. IsErrAnd answer (λ r. e ≡ Error.Refused r)) offset self.old.stage) }
     {
         if !matches!(self.state, State::Module(_)) {
             let order = out_of_order(&self.state);
@@ -440,9 +461,12 @@ impl<A: Allocator + Copy> Validator<A> {
     /// have too many functions; at the first one that can't be read or is no function type's; and
     /// where memory is. The validator has then failed.
     pub fn function_section(&mut self, section: &SectionLimited<'_, u32, A>) -> Result<(), Error<A>>
-        ensures moves { Moves result (after_section self.old 3 (count_of section.now) (bytes_of section.now)) self.old self.new }
-        ensures place { IfErr result (StandsBetween (section_start section.now) (section_end section.now)) }
-        ensures told { IfErr result (OfContent (TellsWithin (TellsFunctions section.now) (section_start section.now) self.old.stage)) }
+        ensures moves { Moves result (after_section self.old 3 (count_of section.now)
+            (bytes_of section.now)) self.old self.new }
+        ensures place { IfErr result (StandsBetween (section_start section.now)
+            (section_end section.now)) }
+        ensures told { IfErr result (OfContent (TellsWithin (TellsFunctions section.now)
+            (section_start section.now) self.old.stage)) }
     {
         match opened(&mut self.state, section.range().start) {
             Ok(mut state) => {
@@ -466,9 +490,13 @@ impl<A: Allocator + Copy> Validator<A> {
         &mut self,
         section: &SectionLimited<'a, Table<'a>, A>,
     ) -> Result<(), Error<A>>
-        ensures moves { Moves result (after_section self.old 4 (count_of section.now) (bytes_of section.now)) self.old self.new }
-        ensures place { IfErr result (StandsBetween (section_start section.now) (section_end section.now)) }
-        ensures told { IfErr result (OfContent (TellsWithin (TellsTables self.old.features section.now) (section_start section.now) self.old.stage)) }
+        ensures moves { Moves result (after_section self.old 4 (count_of section.now)
+            (bytes_of section.now)) self.old self.new }
+        ensures place { IfErr result (StandsBetween (section_start section.now)
+            (section_end section.now)) }
+        ensures told { IfErr result (OfContent (TellsWithin
+            (TellsTables self.old.features section.now)
+            (section_start section.now) self.old.stage)) }
     {
         match opened(&mut self.state, section.range().start) {
             Ok(mut state) => {
@@ -491,9 +519,13 @@ impl<A: Allocator + Copy> Validator<A> {
         &mut self,
         section: &SectionLimited<'_, MemoryType, A>,
     ) -> Result<(), Error<A>>
-        ensures moves { Moves result (after_section self.old 5 (count_of section.now) (bytes_of section.now)) self.old self.new }
-        ensures place { IfErr result (StandsBetween (section_start section.now) (section_end section.now)) }
-        ensures told { IfErr result (OfContent (TellsWithin (λ us. TellsMemories section.now self.old.features) (section_start section.now) self.old.stage)) }
+        ensures moves { Moves result (after_section self.old 5 (count_of section.now)
+            (bytes_of section.now)) self.old self.new }
+        ensures place { IfErr result (StandsBetween (section_start section.now)
+            (section_end section.now)) }
+        ensures told { IfErr result (OfContent (TellsWithin
+            (λ us. TellsMemories section.now self.old.features)
+            (section_start section.now) self.old.stage)) }
     {
         match opened(&mut self.state, section.range().start) {
             Ok(mut state) => {
@@ -515,9 +547,13 @@ impl<A: Allocator + Copy> Validator<A> {
     /// have too many tags; at the first tag that can't be read or keeps no rule; and where memory
     /// is. The validator has then failed.
     pub fn tag_section(&mut self, section: &SectionLimited<'_, TagType, A>) -> Result<(), Error<A>>
-        ensures moves { Leaves result (after_section self.old 13 (count_of section.now) (bytes_of section.now)) (section_refused_at self.old.features 13 self.old.stage) self.old self.new }
-        ensures place { IfErr result (StandsBetween (section_start section.now) (section_end section.now)) }
-        ensures told { IfErr result (OfContent (TellsTagSection self.old.features section.now self.old.stage)) }
+        ensures moves { Leaves result (after_section self.old 13 (count_of section.now)
+            (bytes_of section.now)) (section_refused_at self.old.features 13
+            self.old.stage) self.old self.new }
+        ensures place { IfErr result (StandsBetween (section_start section.now)
+            (section_end section.now)) }
+        ensures told { IfErr result (OfContent (TellsTagSection self.old.features
+            section.now self.old.stage)) }
     {
         let offset = section.range().start;
         if !self.features.contains(WasmFeatures::EXCEPTIONS) {
@@ -552,10 +588,13 @@ impl<A: Allocator + Copy> Validator<A> {
         &mut self,
         section: &SectionLimited<'a, GlobalItem<'a>, A>,
     ) -> Result<(), Error<A>>
-        ensures moves { Moves result (after_section self.old 6 (count_of section.now) (bytes_of section.now)) self.old self.new }
-        ensures place { IfErr result (StandsBetween (section_start section.now) (section_end section.now)) }
+        ensures moves { Moves result (after_section self.old 6 (count_of section.now)
+            (bytes_of section.now)) self.old self.new }
+        ensures place { IfErr result (StandsBetween (section_start section.now)
+            (section_end section.now)) }
         ensures content { IfErr result IsContent }
-        ensures told { IfErr result (TellsWithin (TellsUnserved section.now Unserved.GlobalSection) (section_start section.now) self.old.stage) }
+        ensures told { IfErr result (TellsWithin (TellsUnserved section.now Unserved.GlobalSection)
+            (section_start section.now) self.old.stage) }
     {
         self.answered(
             section.range().start,
@@ -576,7 +615,8 @@ impl<A: Allocator + Copy> Validator<A> {
         ensures moves { Moves result (after_start self.old function) self.old self.new }
         ensures place { IfErr result (λ e. offset_of e ≡ range.now.start) }
         ensures content { IfErr result IsContent }
-        ensures told { IfErr result (TellsWithin (TellsStart range.now.start function) range.now.start self.old.stage) }
+        ensures told { IfErr result (TellsWithin (TellsStart range.now.start function)
+            range.now.start self.old.stage) }
     {
         match opened(&mut self.state, range.start) {
             Ok(state) => {
@@ -600,10 +640,13 @@ impl<A: Allocator + Copy> Validator<A> {
         &mut self,
         section: &SectionLimited<'a, Element<'a>, A>,
     ) -> Result<(), Error<A>>
-        ensures moves { Moves result (after_section self.old 9 (count_of section.now) (bytes_of section.now)) self.old self.new }
-        ensures place { IfErr result (StandsBetween (section_start section.now) (section_end section.now)) }
+        ensures moves { Moves result (after_section self.old 9 (count_of section.now)
+            (bytes_of section.now)) self.old self.new }
+        ensures place { IfErr result (StandsBetween (section_start section.now)
+            (section_end section.now)) }
         ensures content { IfErr result IsContent }
-        ensures told { IfErr result (TellsWithin (TellsUnserved section.now Unserved.ElementSection) (section_start section.now) self.old.stage) }
+        ensures told { IfErr result (TellsWithin (TellsUnserved section.now Unserved.ElementSection)
+            (section_start section.now) self.old.stage) }
     {
         self.answered(
             section.range().start,
@@ -624,7 +667,9 @@ impl<A: Allocator + Copy> Validator<A> {
         ensures moves { Moves result (after_data_count self.old count) self.old self.new }
         ensures place { IfErr result (λ e. offset_of e ≡ range.now.start) }
         ensures content { IfErr result IsContent }
-        ensures told { IfErr result (TellsWithin (TellsDataCount self.old.features range.now.start count) range.now.start self.old.stage) }
+        ensures told { IfErr result (TellsWithin
+            (TellsDataCount self.old.features range.now.start count)
+            range.now.start self.old.stage) }
     {
         match opened(&mut self.state, range.start) {
             Ok(state) => {
@@ -669,7 +714,9 @@ impl<A: Allocator + Copy> Validator<A> {
         ensures moves { Leaves result None (body_refused_at self.old.stage) self.old self.new }
         ensures content { IfErr result IsContent }
         ensures refused { IsErr result }
-        ensures told { IfErr result (λ e. e ≡ Error.Refused (plain (body_told self.old.stage) (original (body_reader body.now) + position_in (body_reader body.now)))) }
+        ensures told { IfErr result (λ e. e ≡ Error.Refused
+            (plain (body_told self.old.stage)
+            (original (body_reader body.now) + position_in (body_reader body.now)))) }
     {
         let fault = match &self.state {
             State::Module(_) => Fault::OutOfOrder(OutOfOrder::CodeEntryBeforeCodeStart),
@@ -700,10 +747,13 @@ impl<A: Allocator + Copy> Validator<A> {
         &mut self,
         section: &SectionLimited<'a, Data<'a>, A>,
     ) -> Result<(), Error<A>>
-        ensures moves { Leaves result (after_section self.old 11 (count_of section.now) (bytes_of section.now)) (read_refused_at self.old.stage) self.old self.new }
-        ensures place { IfErr result (StandsBetween (section_start section.now) (section_end section.now)) }
+        ensures moves { Leaves result (after_section self.old 11 (count_of section.now)
+            (bytes_of section.now)) (read_refused_at self.old.stage) self.old self.new }
+        ensures place { IfErr result (StandsBetween (section_start section.now)
+            (section_end section.now)) }
         ensures content { IfErr result IsContent }
-        ensures told { IfErr result (TellsReading (TellsUnserved section.now Unserved.DataSection) (section_start section.now) self.old.stage) }
+        ensures told { IfErr result (TellsReading (TellsUnserved section.now Unserved.DataSection)
+            (section_start section.now) self.old.stage) }
     {
         if !matches!(self.state, State::Module(_) | State::Code(_)) {
             let fault = Fault::OutOfOrder(out_of_order(&self.state));
@@ -727,7 +777,12 @@ impl<A: Allocator + Copy> Validator<A> {
     /// Refused always, at its start, which changes nothing.
     pub fn unknown_section(&mut self, id: u8, range: &Range<u64>) -> Result<(), Error<A>>
         ensures moves { Leaves result None self.old.stage self.old self.new }
-        ensures refusal { IfErr result (λ e. e ≡ Error.Refused (record { fault = Fault.UnknownSection id; offset = range.now.start; missing = None })) }
+        ensures refusal { IfErr result (λ e. e ≡ Error.Refused
+            (record {
+              fault = Fault.UnknownSection id;
+              offset = range.now.start;
+              missing = None;
+            })) }
         ensures refused { IsErr result }
     {
         Err(Error::Refused(Refusal::new(Fault::UnknownSection(id), range.start)))
@@ -739,15 +794,18 @@ impl<A: Allocator + Copy> Validator<A> {
     /// # Errors
     ///
     /// Refused, at the offset, where no module is being read: before a header, behind an end, and
-    /// behind a refusal. Before a header this leaves the validator as behind an end, and elsewhere as
-    /// it was. While a module is being read only memory can be refused, and that fails the validator.
+    /// behind a refusal. Before a header this leaves the validator as behind an end, and elsewhere
+    /// as it was. While a module is being read only memory can be refused, and that fails the
+    /// validator.
     pub fn end(&mut self, offset: u64) -> Result<Types<A>, Error<A>>
-        ensures moves { Leaves result (after_end self.old) (ended_at self.old.stage) self.old self.new }
+        ensures moves { Leaves result (after_end self.old)
+            (ended_at self.old.stage) self.old self.new }
         ensures place { IfErr result (λ e. IsContent e → offset_of e ≡ offset) }
         ensures shown { IfOk result (Show self.old) }
         ensures held { IfOk result (λ t. HoldsIds (shown_of t)) }
         ensures content { shown_at self.old.stage ≡ None → IfErr result IsContent }
-        ensures told { IfErr result (OfContent (λ e. e ≡ Error.Refused (plain (Fault.OutOfOrder (end_order_told self.old.stage)) offset))) }
+        ensures told { IfErr result (OfContent (λ e. e
+            ≡ Error.Refused (plain (Fault.OutOfOrder (end_order_told self.old.stage)) offset))) }
     {
         match closing(&mut self.state) {
             Ok(state) => match finished(self.id, self.alloc, &mut self.types, state) {

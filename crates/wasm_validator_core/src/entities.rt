@@ -112,11 +112,14 @@ pub(crate) fn listed_type_ref<A: Allocator + Copy>(
 ) -> Result<TypeRef, Refusal>
     requires known { AreKnown list.now ids.now }
     requires small { AreSmall ids.now }
-    ensures allowed { is_ok result ≡ is_valid_extern (features_of features) (module_types list.now ids.now) (extern_of ty) }
-    ensures listed { IfOk result (λ r. extern_of r ≡ map_extern (canonical_index (numbers ids.now)) (extern_of ty)) }
+    ensures allowed { is_ok result ≡ is_valid_extern (features_of features)
+        (module_types list.now ids.now) (extern_of ty) }
+    ensures listed { IfOk result (λ r. extern_of r
+        ≡ map_extern (canonical_index (numbers ids.now)) (extern_of ty)) }
     ensures typed { IfOk result (λ r. IsTyped (length ids.now) (extern_of r)) }
     ensures refusal { IfErr result (IsRefusalAt features offset) }
-    ensures told { refused result ≡ told_of_extern features offset (module_types list.now ids.now) (extern_of ty) }
+    ensures told { refused result ≡ told_of_extern features offset
+        (module_types list.now ids.now) (extern_of ty) }
 {
     check_type_ref(features, list, ids, ty, offset)?;
     match ty {

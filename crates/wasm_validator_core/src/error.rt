@@ -22,7 +22,8 @@ impl<A: Allocator> Error<A> {
     /// A refusal that no proposal lifts.
     pub fn new(fault: Fault, offset: u64) -> Error<A>
         ensures content { IsContent result }
-        ensures refusal { result ≡ Error.Refused (record { fault = fault; offset = offset; missing = None }) }
+        ensures refusal { result ≡ Error.Refused (record
+            { fault = fault; offset = offset; missing = None }) }
     {
         Error::Refused(Refusal::new(fault, offset))
     }

@@ -28,7 +28,8 @@ pub(crate) fn function_entity<A: Allocator + Copy>(
     spaces: &IndexSpaces<A>,
     index: u32,
 ) -> Option<EntityType>
-    ensures value { option_map entity_of result ≡ exported_function (features_of features) spaces.now index }
+    ensures value { option_map entity_of result
+        ≡ exported_function (features_of features) spaces.now index }
     ensures typed { IfSome result (λ e. IsAmong spaces.now.types (entity_of e)) }
 {
     if index >= spaces.function_count() {
@@ -97,11 +98,14 @@ pub(crate) fn exported<A: Allocator + Copy>(
     export: &Export,
     offset: u64,
 ) -> Result<EntityType, Refusal>
-    ensures ok { IfOk result (λ e. exported_entity (features_of features) spaces.now (export_of export.now) ≡ Some (entity_of e)) }
+    ensures ok { IfOk result (λ e. exported_entity (features_of features) spaces.now
+        (export_of export.now) ≡ Some (entity_of e)) }
     ensures typed { IfOk result (λ e. IsAmong spaces.now.types (entity_of e)) }
-    ensures err { OnErr result (exported_entity (features_of features) spaces.now (export_of export.now) ≡ None) }
+    ensures err { OnErr result (exported_entity (features_of features) spaces.now
+        (export_of export.now) ≡ None) }
     ensures place { IfErr result (IsPlainRefusalAt offset) }
-    ensures told { refused result ≡ told_of_entity_there offset export.now.kind export.now.index (exported_entity (features_of features) spaces.now (export_of export.now)) }
+    ensures told { refused result ≡ told_of_entity_there offset export.now.kind export.now.index
+        (exported_entity (features_of features) spaces.now (export_of export.now)) }
 {
     let index = export.index;
     let (kind, entity) = match export.kind {
@@ -117,8 +121,8 @@ pub(crate) fn exported<A: Allocator + Copy>(
     }
 }
 
-/// Puts an entity under the name of an export. Its type, if it is a function or a tag, is one of the
-/// module's.
+/// Puts an entity under the name of an export. Its type, if it is a function or a tag, is one of
+/// the module's.
 fn name_export<A: Allocator + Copy>(
     alloc: A,
     list: &TypeList<A>,
@@ -128,10 +132,12 @@ fn name_export<A: Allocator + Copy>(
     offset: u64,
 ) -> Result<(), Error<A>>
     requires { IsAmong spaces.old.types (entity_of entity) }
-    ensures added { Adds result (with_export (types_of_list list.now) name.now (entity_of entity) spaces.old) spaces.new }
+    ensures added { Adds result (with_export (types_of_list list.now) name.now (entity_of entity)
+        spaces.old) spaces.new }
     ensures types { spaces.new.types ≡ spaces.old.types }
     ensures place { IfErr result (IsAt offset) }
-    ensures told { TellsExport spaces.old name.now offset result (told_of_size offset (types_of_list list.now) spaces.old.size (entity_of entity)) }
+    ensures told { TellsExport spaces.old name.now offset result
+        (told_of_size offset (types_of_list list.now) spaces.old.size (entity_of entity)) }
 {
     let Some(size) = size_with(list, spaces.effective_size(), entity) else {
         return Err(Error::new(Fault::Rule(Rule::EffectiveSize), offset));
@@ -154,10 +160,14 @@ pub(crate) fn add_one_export<A: Allocator + Copy>(
     export: &Export,
     offset: u64,
 ) -> Result<(), Error<A>>
-    ensures added { Adds result (add_export (features_of features) (types_of_list list.now) spaces.old (export_of export.now)) spaces.new }
+    ensures added { Adds result (add_export (features_of features) (types_of_list list.now)
+        spaces.old (export_of export.now)) spaces.new }
     ensures types { spaces.new.types ≡ spaces.old.types }
     ensures place { IfErr result (IsAt offset) }
-    ensures told { TellsExport spaces.old export.now.name.now offset result (told_of_entity features offset (types_of_list list.now) spaces.old export.now.kind export.now.index (exported_entity (features_of features) spaces.old (export_of export.now))) }
+    ensures told { TellsExport spaces.old export.now.name.now offset result
+        (told_of_entity features offset (types_of_list list.now) spaces.old export.now.kind
+        export.now.index (exported_entity (features_of features) spaces.old
+        (export_of export.now))) }
 {
     let entity = exported(features, spaces, export, offset)?;
     if let EntityType::Global(global) = entity {

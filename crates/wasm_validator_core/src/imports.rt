@@ -29,7 +29,8 @@ fn place_imported<A: Allocator + Copy>(
     offset: u64,
 ) -> Result<(), Error<A>>
     requires { IsTyped (length spaces.old.types) (extern_of ty) }
-    ensures added { Adds result (with_imported (features_of features) spaces.old (extern_of ty)) spaces.new }
+    ensures added { Adds result (with_imported (features_of features) spaces.old
+        (extern_of ty)) spaces.new }
     ensures types { spaces.new.types ≡ spaces.old.types }
     ensures size { spaces.new.size ≡ spaces.old.size }
     ensures place { IfErr result (IsAt offset) }
@@ -53,8 +54,8 @@ fn place_imported<A: Allocator + Copy>(
     }
 }
 
-/// Puts an entity under the names of an import. Its type, if it is a function or a tag, is one of the
-/// module's.
+/// Puts an entity under the names of an import. Its type, if it is a function or a tag, is one of
+/// the module's.
 fn name_import<A: Allocator + Copy>(
     list: &TypeList<A>,
     spaces: &mut IndexSpaces<A>,
@@ -63,10 +64,12 @@ fn name_import<A: Allocator + Copy>(
     offset: u64,
 ) -> Result<(), Error<A>>
     requires { IsAmong spaces.old.types (entity_of entity) }
-    ensures added { Adds result (with_named (types_of_list list.now) (import_of import.now) (entity_of entity) spaces.old) spaces.new }
+    ensures added { Adds result (with_named (types_of_list list.now) (import_of import.now)
+        (entity_of entity) spaces.old) spaces.new }
     ensures types { spaces.new.types ≡ spaces.old.types }
     ensures place { IfErr result (IsAt offset) }
-    ensures told { Tells result (told_of_size offset (types_of_list list.now) spaces.old.size (entity_of entity)) }
+    ensures told { Tells result (told_of_size offset (types_of_list list.now)
+        spaces.old.size (entity_of entity)) }
 {
     let Some(size) = size_with(list, spaces.effective_size(), entity) else {
         return Err(Error::new(Fault::Rule(Rule::EffectiveSize), offset));
@@ -85,10 +88,12 @@ pub(crate) fn add_one_import<A: Allocator + Copy>(
     offset: u64,
 ) -> Result<(), Error<A>>
     requires { AreHeld list.now spaces.old.types }
-    ensures added { Adds result (add_import (features_of features) (types_of_list list.now) spaces.old (import_of import.now)) spaces.new }
+    ensures added { Adds result (add_import (features_of features) (types_of_list list.now)
+        spaces.old (import_of import.now)) spaces.new }
     ensures types { spaces.new.types ≡ spaces.old.types }
     ensures place { IfErr result (IsAt offset) }
-    ensures told { Tells result (told_of_import features offset (types_of_list list.now) spaces.old (import_of import.now)) }
+    ensures told { Tells result (told_of_import features offset (types_of_list list.now) spaces.old
+        (import_of import.now)) }
 {
     let ty = listed_type_ref(features, list, known_ids(list, spaces), import.ty, offset)?;
     if let TypeRef::Global(global) = import.ty {

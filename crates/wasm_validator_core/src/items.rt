@@ -30,7 +30,8 @@ pub(crate) fn place_function<A: Allocator + Copy>(
     ensures types { spaces.new.types ≡ spaces.old.types }
     ensures size { spaces.new.size ≡ spaces.old.size }
     ensures place { IfErr result (IsAt offset) }
-    ensures told { Tells result (told_of_limit offset Counted.Functions (length spaces.old.functions) MAX_FUNCTIONS) }
+    ensures told { Tells result (told_of_limit offset Counted.Functions
+        (length spaces.old.functions) MAX_FUNCTIONS) }
 {
     let count = spaces.function_count() as usize;
     check_max(count, 1, MAX_FUNCTIONS, Counted::Functions, offset)?;
@@ -45,7 +46,8 @@ pub(crate) fn place_table<A: Allocator + Copy>(
     ty: TableType,
     offset: u64,
 ) -> Result<(), Error<A>>
-    ensures added { Adds result (with_table (features_of features) spaces.old (table_of ty)) spaces.new }
+    ensures added { Adds result (with_table (features_of features) spaces.old
+        (table_of ty)) spaces.new }
     ensures types { spaces.new.types ≡ spaces.old.types }
     ensures size { spaces.new.size ≡ spaces.old.size }
     ensures place { IfErr result (IsAt offset) }
@@ -64,7 +66,8 @@ pub(crate) fn place_memory<A: Allocator + Copy>(
     ty: MemoryType,
     offset: u64,
 ) -> Result<(), Error<A>>
-    ensures added { Adds result (with_memory (features_of features) spaces.old (memory_of ty)) spaces.new }
+    ensures added { Adds result (with_memory (features_of features) spaces.old
+        (memory_of ty)) spaces.new }
     ensures types { spaces.new.types ≡ spaces.old.types }
     ensures size { spaces.new.size ≡ spaces.old.size }
     ensures place { IfErr result (IsAt offset) }
@@ -86,7 +89,8 @@ pub(crate) fn place_imported_global<A: Allocator + Copy>(
     ensures types { spaces.new.types ≡ spaces.old.types }
     ensures size { spaces.new.size ≡ spaces.old.size }
     ensures place { IfErr result (IsAt offset) }
-    ensures told { Tells result (told_of_limit offset Counted.Globals (length spaces.old.globals) MAX_GLOBALS) }
+    ensures told { Tells result (told_of_limit offset Counted.Globals
+        (length spaces.old.globals) MAX_GLOBALS) }
 {
     let count = spaces.global_count() as usize;
     check_max(count, 1, MAX_GLOBALS, Counted::Globals, offset)?;
@@ -105,7 +109,8 @@ pub(crate) fn place_tag<A: Allocator + Copy>(
     ensures types { spaces.new.types ≡ spaces.old.types }
     ensures size { spaces.new.size ≡ spaces.old.size }
     ensures place { IfErr result (IsAt offset) }
-    ensures told { Tells result (told_of_limit offset Counted.Tags (length spaces.old.tags) MAX_TAGS) }
+    ensures told { Tells result (told_of_limit offset Counted.Tags
+        (length spaces.old.tags) MAX_TAGS) }
 {
     let count = spaces.tag_count() as usize;
     check_max(count, 1, MAX_TAGS, Counted::Tags, offset)?;
@@ -121,10 +126,12 @@ pub(crate) fn add_defined_function<A: Allocator + Copy>(
     offset: u64,
 ) -> Result<(), Error<A>>
     requires { AreHeld list.now spaces.old.types }
-    ensures added { Adds result (add_function (types_of_list list.now) spaces.old type_index) spaces.new }
+    ensures added { Adds result (add_function (types_of_list list.now) spaces.old
+        type_index) spaces.new }
     ensures types { spaces.new.types ≡ spaces.old.types }
     ensures place { IfErr result (IsAt offset) }
-    ensures told { Tells result (told_of_added_function offset (types_of_list list.now) spaces.old type_index) }
+    ensures told { Tells result (told_of_added_function offset (types_of_list list.now)
+        spaces.old type_index) }
 {
     func_type_at(list, known_ids(list, spaces), type_index, offset)?;
     place_function(spaces, type_index, offset)
@@ -139,10 +146,12 @@ pub(crate) fn add_defined_table<A: Allocator + Copy>(
     offset: u64,
 ) -> Result<(), Error<A>>
     requires { AreHeld list.now spaces.old.types }
-    ensures added { Adds result (add_table (features_of features) (types_of_list list.now) spaces.old (table_of ty)) spaces.new }
+    ensures added { Adds result (add_table (features_of features) (types_of_list list.now)
+        spaces.old (table_of ty)) spaces.new }
     ensures types { spaces.new.types ≡ spaces.old.types }
     ensures place { IfErr result (IsAt offset) }
-    ensures told { Tells result (told_of_added_table features offset (types_of_list list.now) spaces.old (table_of ty)) }
+    ensures told { Tells result (told_of_added_table features offset (types_of_list list.now)
+        spaces.old (table_of ty)) }
 {
     let ids = known_ids(list, spaces);
     check_defined_table(features, list, ids, ty, false, offset)?;
@@ -157,7 +166,8 @@ pub(crate) fn add_defined_memory<A: Allocator + Copy>(
     ty: MemoryType,
     offset: u64,
 ) -> Result<(), Error<A>>
-    ensures added { Adds result (add_memory (features_of features) spaces.old (memory_of ty)) spaces.new }
+    ensures added { Adds result (add_memory (features_of features) spaces.old
+        (memory_of ty)) spaces.new }
     ensures types { spaces.new.types ≡ spaces.old.types }
     ensures place { IfErr result (IsAt offset) }
     ensures told { Tells result (told_of_added_memory features offset spaces.old (memory_of ty)) }
@@ -175,10 +185,12 @@ pub(crate) fn add_defined_tag<A: Allocator + Copy>(
     offset: u64,
 ) -> Result<(), Error<A>>
     requires { AreHeld list.now spaces.old.types }
-    ensures added { Adds result (add_tag (features_of features) (types_of_list list.now) spaces.old ty.func_type_idx) spaces.new }
+    ensures added { Adds result (add_tag (features_of features) (types_of_list list.now) spaces.old
+        ty.func_type_idx) spaces.new }
     ensures types { spaces.new.types ≡ spaces.old.types }
     ensures place { IfErr result (IsAt offset) }
-    ensures told { Tells result (told_of_added_tag features offset (types_of_list list.now) spaces.old ty.func_type_idx) }
+    ensures told { Tells result (told_of_added_tag features offset (types_of_list list.now)
+        spaces.old ty.func_type_idx) }
 {
     check_tag_type(features, list, known_ids(list, spaces), ty, offset)?;
     place_tag(spaces, ty.func_type_idx, offset)

@@ -70,7 +70,8 @@ pub fn check_max(
     offset: u64,
 ) -> Result<(), Refusal>
     ensures fits { is_ok result ≡ nat_le (there + more) limit }
-    ensures refusal { IfErr result (λ r. r ≡ record { fault = Fault.Limit what limit; offset = offset; missing = None }) }
+    ensures refusal { IfErr result (λ r. r ≡ record
+        { fault = Fault.Limit what limit; offset = offset; missing = None }) }
 {
     let most = limit as usize;
     if there <= most && more <= most - there {

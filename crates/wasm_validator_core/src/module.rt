@@ -105,7 +105,9 @@ impl<A: Allocator + Copy> Module<A> {
         requires ids { AreIdsOf list.old self.old.types }
         requires form { has_form (rec_of group) ≡ true }
         requires valid { AreValid (features_of features) (types_of_list list.old) }
-        ensures added { AddsWhere (HasValidTypes features) result (add_group features (types_of_list list.old, self.old) (rec_of group)) (types_of_list list.new, self.new) }
+        ensures added { AddsWhere (HasValidTypes features) result
+            (add_group features (types_of_list list.old, self.old) (rec_of group))
+            (types_of_list list.new, self.new) }
         ensures valid { OnOk result (AreValid (features_of features) (types_of_list list.new)) }
         ensures open { IsOpenFor features list.new }
         ensures ids { OnOk result (AreIdsOf list.new self.new.types) }
@@ -140,10 +142,12 @@ impl<A: Allocator + Copy> Module<A> {
         offset: u64,
     ) -> Result<(), Error<A>>
         requires { AreHeld list.now self.old.types }
-        ensures added { Adds result (add_import (features_of features) (types_of_list list.now) self.old (import_of import.now)) self.new }
+        ensures added { Adds result (add_import (features_of features) (types_of_list list.now)
+            self.old (import_of import.now)) self.new }
         ensures types { self.new.types ≡ self.old.types }
         ensures place { IfErr result (IsAt offset) }
-        ensures told { Tells result (told_of_import features offset (types_of_list list.now) self.old (import_of import.now)) }
+        ensures told { Tells result (told_of_import features offset (types_of_list list.now)
+            self.old (import_of import.now)) }
     {
         add_one_import(features, list, &mut self.spaces, import, offset)
     }
@@ -164,10 +168,12 @@ impl<A: Allocator + Copy> Module<A> {
         offset: u64,
     ) -> Result<(), Error<A>>
         requires { AreHeld list.now self.old.types }
-        ensures added { Adds result (add_function (types_of_list list.now) self.old type_index) self.new }
+        ensures added { Adds result (add_function (types_of_list list.now)
+            self.old type_index) self.new }
         ensures types { self.new.types ≡ self.old.types }
         ensures place { IfErr result (IsAt offset) }
-        ensures told { Tells result (told_of_added_function offset (types_of_list list.now) self.old type_index) }
+        ensures told { Tells result (told_of_added_function offset
+            (types_of_list list.now) self.old type_index) }
     {
         add_defined_function(list, &mut self.spaces, type_index, offset)
     }
@@ -189,10 +195,12 @@ impl<A: Allocator + Copy> Module<A> {
         offset: u64,
     ) -> Result<(), Error<A>>
         requires { AreHeld list.now self.old.types }
-        ensures added { Adds result (add_table (features_of features) (types_of_list list.now) self.old (table_of ty)) self.new }
+        ensures added { Adds result (add_table (features_of features) (types_of_list list.now)
+            self.old (table_of ty)) self.new }
         ensures types { self.new.types ≡ self.old.types }
         ensures place { IfErr result (IsAt offset) }
-        ensures told { Tells result (told_of_added_table features offset (types_of_list list.now) self.old (table_of ty)) }
+        ensures told { Tells result (told_of_added_table features offset (types_of_list list.now)
+            self.old (table_of ty)) }
     {
         add_defined_table(features, list, &mut self.spaces, ty, offset)
     }
@@ -210,7 +218,8 @@ impl<A: Allocator + Copy> Module<A> {
         ty: MemoryType,
         offset: u64,
     ) -> Result<(), Error<A>>
-        ensures added { Adds result (add_memory (features_of features) self.old (memory_of ty)) self.new }
+        ensures added { Adds result (add_memory (features_of features) self.old
+            (memory_of ty)) self.new }
         ensures types { self.new.types ≡ self.old.types }
         ensures place { IfErr result (IsAt offset) }
         ensures told { Tells result (told_of_added_memory features offset self.old (memory_of ty)) }
@@ -235,10 +244,12 @@ impl<A: Allocator + Copy> Module<A> {
         offset: u64,
     ) -> Result<(), Error<A>>
         requires { AreHeld list.now self.old.types }
-        ensures added { Adds result (add_tag (features_of features) (types_of_list list.now) self.old ty.func_type_idx) self.new }
+        ensures added { Adds result (add_tag (features_of features) (types_of_list list.now)
+            self.old ty.func_type_idx) self.new }
         ensures types { self.new.types ≡ self.old.types }
         ensures place { IfErr result (IsAt offset) }
-        ensures told { Tells result (told_of_added_tag features offset (types_of_list list.now) self.old ty.func_type_idx) }
+        ensures told { Tells result (told_of_added_tag features offset (types_of_list list.now)
+            self.old ty.func_type_idx) }
     {
         add_defined_tag(features, list, &mut self.spaces, ty, offset)
     }
@@ -258,10 +269,14 @@ impl<A: Allocator + Copy> Module<A> {
         export: &Export,
         offset: u64,
     ) -> Result<(), Error<A>>
-        ensures added { Adds result (add_export (features_of features) (types_of_list list.now) self.old (export_of export.now)) self.new }
+        ensures added { Adds result (add_export (features_of features) (types_of_list list.now)
+            self.old (export_of export.now)) self.new }
         ensures types { self.new.types ≡ self.old.types }
         ensures place { IfErr result (IsAt offset) }
-        ensures told { TellsExport self.old export.now.name.now offset result (told_of_entity features offset (types_of_list list.now) self.old export.now.kind export.now.index (exported_entity (features_of features) self.old (export_of export.now))) }
+        ensures told { TellsExport self.old export.now.name.now offset result
+            (told_of_entity features offset (types_of_list list.now) self.old export.now.kind
+            export.now.index (exported_entity (features_of features) self.old
+            (export_of export.now))) }
     {
         add_one_export(features, alloc, list, &mut self.spaces, export, offset)
     }
@@ -280,12 +295,16 @@ impl<A: Allocator + Copy> Module<A> {
         offset: u64,
     ) -> Result<&'a FuncType<A>, Refusal>
         requires { AreHeld list.now self.now.types }
-        ensures there { is_ok result ≡ is_some (arity_of_function (types_of_list list.now) self.now func_idx) }
-        ensures arity { IfOk result (λ f. arity_of_function (types_of_list list.now) self.now func_idx ≡ Some (length f.now.params, length f.now.results)) }
+        ensures there { is_ok result ≡ is_some (arity_of_function
+            (types_of_list list.now) self.now func_idx) }
+        ensures arity { IfOk result (λ f. arity_of_function (types_of_list list.now) self.now
+            func_idx ≡ Some (length f.now.params, length f.now.results)) }
         ensures value { IfOk result (λ f. IsTypeOfFunction list.now self.now func_idx f.now) }
         ensures refusal { IfErr result (IsPlainRefusalAt offset) }
-        ensures told { refused result ≡ told_of_function_type offset (types_of_list list.now) self.now func_idx }
-        ensures unknown { slice_get self.now.functions func_idx ≡ None → IfErr result (IsUnknownFunction func_idx offset) }
+        ensures told { refused result ≡ told_of_function_type offset
+            (types_of_list list.now) self.now func_idx }
+        ensures unknown { slice_get self.now.functions func_idx ≡ None
+            → IfErr result (IsUnknownFunction func_idx offset) }
     {
         function_type(list, &self.spaces, func_idx, offset)
     }
@@ -303,7 +322,8 @@ impl<A: Allocator + Copy> Module<A> {
         requires { AreHeld list.now self.now.types }
         ensures allowed { is_ok result ≡ is_startable (types_of_list list.now) self.now func_idx }
         ensures refusal { IfErr result (IsPlainRefusalAt offset) }
-        ensures told { refused result ≡ told_of_start offset (types_of_list list.now) self.now func_idx }
+        ensures told { refused result ≡ told_of_start offset
+            (types_of_list list.now) self.now func_idx }
     {
         check_start_function(list, &self.spaces, func_idx, offset)
     }
@@ -324,10 +344,13 @@ impl<A: Allocator + Copy> Module<A> {
         offset: u64,
     ) -> Result<EntityType, Refusal>
         requires { AreHeld list.now self.now.types }
-        ensures allowed { is_ok result ≡ is_valid_extern (features_of features) (types_of_module (types_of_list list.now) self.now) (extern_of ty) }
-        ensures value { IfOk result (λ e. entity_of e ≡ entity self.now (listed self.now (extern_of ty))) }
+        ensures allowed { is_ok result ≡ is_valid_extern (features_of features)
+            (types_of_module (types_of_list list.now) self.now) (extern_of ty) }
+        ensures value { IfOk result (λ e. entity_of e
+            ≡ entity self.now (listed self.now (extern_of ty))) }
         ensures refusal { IfErr result (IsRefusalAt features offset) }
-        ensures told { refused result ≡ told_of_extern features offset (types_of_module (types_of_list list.now) self.now) (extern_of ty) }
+        ensures told { refused result ≡ told_of_extern features offset
+            (types_of_module (types_of_list list.now) self.now) (extern_of ty) }
     {
         let ty = listed_type_ref(features, list, known_ids(list, &self.spaces), ty, offset)?;
         Ok(entity_type(&self.spaces, ty))
@@ -344,17 +367,21 @@ impl<A: Allocator + Copy> Module<A> {
         export: &Export,
         offset: u64,
     ) -> Result<EntityType, Refusal>
-        ensures ok { IfOk result (λ e. exported_entity (features_of features) self.now (export_of export.now) ≡ Some (entity_of e)) }
-        ensures err { OnErr result (exported_entity (features_of features) self.now (export_of export.now) ≡ None) }
+        ensures ok { IfOk result (λ e. exported_entity (features_of features) self.now
+            (export_of export.now) ≡ Some (entity_of e)) }
+        ensures err { OnErr result (exported_entity (features_of features) self.now
+            (export_of export.now) ≡ None) }
         ensures place { IfErr result (IsPlainRefusalAt offset) }
-        ensures told { refused result ≡ told_of_entity_there offset export.now.kind export.now.index (exported_entity (features_of features) self.now (export_of export.now)) }
+        ensures told { refused result ≡ told_of_entity_there offset export.now.kind export.now.index
+            (exported_entity (features_of features) self.now (export_of export.now)) }
     {
         exported(features, &self.spaces, export, offset)
     }
 
     /// The type of the function with this index as an export has it, if there is such a function.
     pub fn exported_function_type(&self, features: WasmFeatures, index: u32) -> Option<EntityType>
-        ensures { option_map entity_of result ≡ exported_function (features_of features) self.now index }
+        ensures { option_map entity_of result
+            ≡ exported_function (features_of features) self.now index }
     {
         function_entity(features, &self.spaces, index)
     }

@@ -25,12 +25,16 @@ pub(crate) fn function_type<'a, A: Allocator + Copy>(
     offset: u64,
 ) -> Result<&'a FuncType<A>, Refusal>
     requires { AreHeld list.now spaces.now.types }
-    ensures there { is_ok result ≡ is_some (arity_of_function (types_of_list list.now) spaces.now func_idx) }
-    ensures arity { IfOk result (λ f. arity_of_function (types_of_list list.now) spaces.now func_idx ≡ Some (length f.now.params, length f.now.results)) }
+    ensures there { is_ok result ≡ is_some (arity_of_function
+        (types_of_list list.now) spaces.now func_idx) }
+    ensures arity { IfOk result (λ f. arity_of_function (types_of_list list.now) spaces.now func_idx
+        ≡ Some (length f.now.params, length f.now.results)) }
     ensures value { IfOk result (λ f. IsTypeOfFunction list.now spaces.now func_idx f.now) }
     ensures refusal { IfErr result (IsPlainRefusalAt offset) }
-    ensures told { refused result ≡ told_of_function_type offset (types_of_list list.now) spaces.now func_idx }
-    ensures unknown { slice_get spaces.now.functions func_idx ≡ None → IfErr result (IsUnknownFunction func_idx offset) }
+    ensures told { refused result ≡ told_of_function_type offset
+        (types_of_list list.now) spaces.now func_idx }
+    ensures unknown { slice_get spaces.now.functions func_idx ≡ None
+        → IfErr result (IsUnknownFunction func_idx offset) }
 {
     if func_idx >= spaces.function_count() {
         return Err(Refusal::new(Fault::UnknownFunction(func_idx), offset));
@@ -49,7 +53,8 @@ pub(crate) fn check_start_function<A: Allocator + Copy>(
     requires { AreHeld list.now spaces.now.types }
     ensures allowed { is_ok result ≡ is_startable (types_of_list list.now) spaces.now func_idx }
     ensures refusal { IfErr result (IsPlainRefusalAt offset) }
-    ensures told { refused result ≡ told_of_start offset (types_of_list list.now) spaces.now func_idx }
+    ensures told { refused result ≡ told_of_start offset
+        (types_of_list list.now) spaces.now func_idx }
 {
     let signature = function_type(list, spaces, func_idx, offset)?;
     if signature.params().is_empty() && signature.results().is_empty() {

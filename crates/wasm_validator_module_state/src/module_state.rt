@@ -51,10 +51,12 @@ impl<A: Allocator + Copy> ModuleState<A> {
         offset: u64,
     ) -> Result<(), Error<A>>
         requires { AreHeld list.now self.old.module.types }
-        ensures added { Adds result (add_table (features_of features) (types_of_list list.now) self.old.module (table_of ty)) self.new.module }
+        ensures added { Adds result (add_table (features_of features) (types_of_list list.now)
+            self.old.module (table_of ty)) self.new.module }
         ensures types { self.new.module.types ≡ self.old.module.types }
         ensures place { IfErr result (IsAt offset) }
-        ensures told { Tells result (told_of_added_table features offset (types_of_list list.now) self.old.module (table_of ty)) }
+        ensures told { Tells result (told_of_added_table features offset (types_of_list list.now)
+            self.old.module (table_of ty)) }
     {
         self.module.add_table(features, list, ty, offset)
     }

@@ -40,7 +40,8 @@ impl<'a, A: Allocator> Iterator for CoreImports<'a, A> {
     ghost use Rattle.wasm_validator_types.specs.Entities.{entity_of};
     ghost use Rattle.wasm_validator_types.specs.Left.{imports_left};
 
-    ghost next_gives = { YieldsFirstBy (λ item. (item.0.now, item.1.now, entity_of item.2)) imports_left };
+    ghost next_gives = { YieldsFirstBy (λ item. (item.0.now, item.1.now, entity_of item.2))
+        imports_left };
 
     ghost remaining = { item_count imports_left };
 

@@ -130,7 +130,8 @@ impl<A: Allocator + Copy> IndexSpaces<A> {
     /// Fails where memory is refused, and nothing changes then.
     pub fn push_type(&mut self, id: CoreTypeId) -> Result<(), AllocError>
         requires room { length self.old.types + 1 < 2 ^ 32 }
-        ensures ok { OnOk result (self.new ≡ record self.old { types = self.old.types ++ id.index ∷ [] }) }
+        ensures ok { OnOk result (self.new ≡ record self.old
+            { types = self.old.types ++ id.index ∷ [] }) }
         ensures err { OnErr result (self.new ≡ self.old) }
     {
         self.types.push(id)?;
@@ -158,7 +159,8 @@ impl<A: Allocator + Copy> IndexSpaces<A> {
     /// [`IndexSpaces::function_count`].
     pub fn function_type_id(&self, index: u32) -> CoreTypeId
         requires { index < length self.now.functions }
-        ensures value { result.index ≡ slice_index self.now.types (slice_index self.now.functions index) }
+        ensures value { result.index ≡ slice_index self.now.types
+            (slice_index self.now.functions index) }
         ensures below { (ids : ℕ) → All (λ id. id < ids) self.now.types → result.index < ids }
     {
         self.type_at(self.function_type_index(index))
@@ -173,7 +175,8 @@ impl<A: Allocator + Copy> IndexSpaces<A> {
     pub fn push_function(&mut self, type_index: u32) -> Result<(), AllocError>
         requires room { length self.old.functions + 1 < 2 ^ 32 }
         requires within { type_index < length self.old.types }
-        ensures ok { OnOk result (self.new ≡ record self.old { functions = self.old.functions ++ type_index ∷ [] }) }
+        ensures ok { OnOk result (self.new ≡ record self.old
+            { functions = self.old.functions ++ type_index ∷ [] }) }
         ensures err { OnErr result (self.new ≡ self.old) }
     {
         self.functions.push(type_index)?;
@@ -187,7 +190,8 @@ impl<A: Allocator + Copy> IndexSpaces<A> {
     ///
     /// Fails where memory is refused, and nothing changes then.
     pub fn note_imported_function(&mut self, is_exact: bool) -> Result<(), AllocError>
-        ensures ok { OnOk result (self.new ≡ record self.old { imported_functions = self.old.imported_functions ++ is_exact ∷ [] }) }
+        ensures ok { OnOk result (self.new ≡ record self.old
+            { imported_functions = self.old.imported_functions ++ is_exact ∷ [] }) }
         ensures err { OnErr result (self.new ≡ self.old) }
     {
         self.imported_functions.push(is_exact)?;
@@ -234,7 +238,8 @@ impl<A: Allocator + Copy> IndexSpaces<A> {
     /// Fails where memory is refused, and nothing changes then.
     pub fn push_table(&mut self, ty: TableType) -> Result<(), AllocError>
         requires room { length self.old.tables + 1 < 2 ^ 32 }
-        ensures ok { OnOk result (self.new ≡ record self.old { tables = self.old.tables ++ table_of ty ∷ [] }) }
+        ensures ok { OnOk result (self.new ≡ record self.old
+            { tables = self.old.tables ++ table_of ty ∷ [] }) }
         ensures err { OnErr result (self.new ≡ self.old) }
     {
         self.tables.push(ty)?;
@@ -264,7 +269,8 @@ impl<A: Allocator + Copy> IndexSpaces<A> {
     /// Fails where memory is refused, and nothing changes then.
     pub fn push_memory(&mut self, ty: MemoryType) -> Result<(), AllocError>
         requires room { length self.old.memories + 1 < 2 ^ 32 }
-        ensures ok { OnOk result (self.new ≡ record self.old { memories = self.old.memories ++ memory_of ty ∷ [] }) }
+        ensures ok { OnOk result (self.new ≡ record self.old
+            { memories = self.old.memories ++ memory_of ty ∷ [] }) }
         ensures err { OnErr result (self.new ≡ self.old) }
     {
         self.memories.push(ty)?;
@@ -294,7 +300,8 @@ impl<A: Allocator + Copy> IndexSpaces<A> {
     /// Fails where memory is refused, and nothing changes then.
     pub fn push_global(&mut self, ty: GlobalType) -> Result<(), AllocError>
         requires room { length self.old.globals + 1 < 2 ^ 32 }
-        ensures ok { OnOk result (self.new ≡ record self.old { globals = self.old.globals ++ global_of ty ∷ [] }) }
+        ensures ok { OnOk result (self.new ≡ record self.old
+            { globals = self.old.globals ++ global_of ty ∷ [] }) }
         ensures err { OnErr result (self.new ≡ self.old) }
     {
         self.globals.push(ty)?;
@@ -343,7 +350,8 @@ impl<A: Allocator + Copy> IndexSpaces<A> {
     /// The id of the type of the tag with this index, which is below [`IndexSpaces::tag_count`].
     pub fn tag_type_id(&self, index: u32) -> CoreTypeId
         requires { index < length self.now.tags }
-        ensures value { result.index ≡ slice_index self.now.types (slice_index self.now.tags index) }
+        ensures value { result.index ≡ slice_index self.now.types
+            (slice_index self.now.tags index) }
         ensures below { (ids : ℕ) → All (λ id. id < ids) self.now.types → result.index < ids }
     {
         self.type_at(self.tag_type_index(index))
@@ -358,7 +366,8 @@ impl<A: Allocator + Copy> IndexSpaces<A> {
     pub fn push_tag(&mut self, type_index: u32) -> Result<(), AllocError>
         requires room { length self.old.tags + 1 < 2 ^ 32 }
         requires within { type_index < length self.old.types }
-        ensures ok { OnOk result (self.new ≡ record self.old { tags = self.old.tags ++ type_index ∷ [] }) }
+        ensures ok { OnOk result (self.new ≡ record self.old
+            { tags = self.old.tags ++ type_index ∷ [] }) }
         ensures err { OnErr result (self.new ≡ self.old) }
     {
         self.tags.push(type_index)?;
@@ -425,7 +434,8 @@ impl<A: Allocator + Copy> IndexSpaces<A> {
     pub fn add_export(&mut self, name: &str, entity: EntityType) -> Result<(), AllocError>
         requires new { is_exported self.old.exports name.now ≡ false }
         requires typed { IsAmong self.old.types (entity_of entity) }
-        ensures ok { OnOk result (self.new ≡ record self.old { exports = self.old.exports ++ (name.now, entity_of entity) ∷ [] }) }
+        ensures ok { OnOk result (self.new ≡ record self.old
+            { exports = self.old.exports ++ (name.now, entity_of entity) ∷ [] }) }
         ensures err { OnErr result (self.new ≡ self.old) }
     {
         let key = String::from_str(self.alloc, name)?;
@@ -433,8 +443,8 @@ impl<A: Allocator + Copy> IndexSpaces<A> {
         Ok(())
     }
 
-    /// Puts an import after the others of its pair of names, or as a new pair at the end. The type of
-    /// a function or tag must be one of the module's.
+    /// Puts an import after the others of its pair of names, or as a new pair at the end. The type
+    /// of a function or tag must be one of the module's.
     ///
     /// # Errors
     ///
@@ -446,7 +456,8 @@ impl<A: Allocator + Copy> IndexSpaces<A> {
         entity: EntityType,
     ) -> Result<(), AllocError>
         requires { IsAmong self.old.types (entity_of entity) }
-        ensures ok { OnOk result (self.new ≡ record self.old { imports = with_import self.old.imports source.now name.now (entity_of entity) }) }
+        ensures ok { OnOk result (self.new ≡ record self.old
+            { imports = with_import self.old.imports source.now name.now (entity_of entity) }) }
         ensures err { OnErr result (self.new ≡ self.old) }
     {
         let source = String::from_str(self.alloc, source)?;

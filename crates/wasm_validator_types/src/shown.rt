@@ -56,7 +56,8 @@ impl<A: Allocator + Copy> Index<CoreTypeId> for Types<A> {
 
     ghost can_index = { λ types id. id.index < length (types_in (shown_of types).list) };
 
-    ghost index_gives = { λ types id ty. ty ≡ slice_index_or (types_in (shown_of types).list) id.index ty };
+    ghost index_gives = { λ types id ty. ty ≡ slice_index_or
+        (types_in (shown_of types).list) id.index ty };
 
     fn index(&self, id: CoreTypeId) -> &SubType<A> {
         &self.types[id]
@@ -72,7 +73,8 @@ impl<A: Allocator + Copy> Index<RecGroupId> for Types<A> {
 
     ghost can_index = { λ types group. group.index < length (shown_of types).list.groups };
 
-    ghost index_gives = { λ types group ids. ids ≡ group_span (shown_of types).list.groups group.index };
+    ghost index_gives = { λ types group ids. ids ≡ group_span
+        (shown_of types).list.groups group.index };
 
     fn index(&self, group: RecGroupId) -> &Range<CoreTypeId> {
         &self.types[group]
@@ -109,7 +111,8 @@ impl<'a, A: Allocator + Copy> TypesRef<'a, A> {
 
     /// The type with this id, if there is one.
     pub fn get(&self, id: CoreTypeId) -> Option<&'a SubType<A>>
-        ensures found { IfSome result (λ ty. ty.now ≡ slice_index_or (types_in (shown_by self.now).list) id.index ty.now) }
+        ensures found { IfSome result (λ ty. ty.now
+            ≡ slice_index_or (types_in (shown_by self.now).list) id.index ty.now) }
         ensures when { IsSome result ↔ (id.index < length (types_in (shown_by self.now).list)) }
     {
         self.list.get(id)
@@ -117,7 +120,8 @@ impl<'a, A: Allocator + Copy> TypesRef<'a, A> {
 
     /// The ids of the types of the recursion group with this id, if there is one.
     pub fn get_rec_group(&self, group: RecGroupId) -> Option<&'a Range<CoreTypeId>>
-        ensures found { IfSome result (λ ids. ids.now ≡ group_span (shown_by self.now).list.groups group.index) }
+        ensures found { IfSome result (λ ids. ids.now
+            ≡ group_span (shown_by self.now).list.groups group.index) }
         ensures when { IsSome result ↔ (group.index < length (shown_by self.now).list.groups) }
     {
         self.list.get_rec_group(group)
@@ -167,7 +171,8 @@ impl<'a, A: Allocator + Copy> TypesRef<'a, A> {
     pub fn core_type_at_in_module(&self, index: u32) -> CoreTypeId
         requires { index < length (shown_by self.now).spaces.types }
         ensures value { result.index ≡ slice_index (shown_by self.now).spaces.types index }
-        ensures held { HoldsIds (shown_by self.now) → result.index < length (types_in (shown_by self.now).list) }
+        ensures held { HoldsIds (shown_by self.now)
+            → result.index < length (types_in (shown_by self.now).list) }
     {
         self.spaces.type_at(index)
     }
@@ -183,8 +188,10 @@ impl<'a, A: Allocator + Copy> TypesRef<'a, A> {
     /// it, where it has those of all types of the module.
     pub fn core_function_at(&self, index: u32) -> CoreTypeId
         requires { index < length (shown_by self.now).spaces.functions }
-        ensures value { let spaces = (shown_by self.now).spaces in result.index ≡ slice_index spaces.types (slice_index spaces.functions index) }
-        ensures held { HoldsIds (shown_by self.now) → result.index < length (types_in (shown_by self.now).list) }
+        ensures value { let spaces = (shown_by self.now).spaces in result.index
+            ≡ slice_index spaces.types (slice_index spaces.functions index) }
+        ensures held { HoldsIds (shown_by self.now)
+            → result.index < length (types_in (shown_by self.now).list) }
     {
         self.spaces.function_type_id(index)
     }
@@ -245,8 +252,10 @@ impl<'a, A: Allocator + Copy> TypesRef<'a, A> {
     /// where it has those of all types of the module.
     pub fn tag_at(&self, index: u32) -> CoreTypeId
         requires { index < length (shown_by self.now).spaces.tags }
-        ensures value { let spaces = (shown_by self.now).spaces in result.index ≡ slice_index spaces.types (slice_index spaces.tags index) }
-        ensures held { HoldsIds (shown_by self.now) → result.index < length (types_in (shown_by self.now).list) }
+        ensures value { let spaces = (shown_by self.now).spaces in result.index
+            ≡ slice_index spaces.types (slice_index spaces.tags index) }
+        ensures held { HoldsIds (shown_by self.now)
+            → result.index < length (types_in (shown_by self.now).list) }
     {
         self.spaces.tag_type_id(index)
     }
@@ -258,22 +267,26 @@ impl<'a, A: Allocator + Copy> TypesRef<'a, A> {
         0
     }
 
-    /// The imports of the module. There are always some, be they none. The list has the type of each
-    /// function and tag among them, where it has those of all types of the module.
+    /// The imports of the module. There are always some, be they none. The list has the type of
+    /// each function and tag among them, where it has those of all types of the module.
     pub fn core_imports(&self) -> Option<CoreImports<'a, A>>
         ensures some { IsSome result }
-        ensures all { IfSome result (λ imports. imports_left imports ≡ all_imports (shown_by self.now).spaces.imports) }
-        ensures held { HoldsIds (shown_by self.now) → IfSome result (HoldsImports (shown_by self.now)) }
+        ensures all { IfSome result (λ imports. imports_left imports
+            ≡ all_imports (shown_by self.now).spaces.imports) }
+        ensures held { HoldsIds (shown_by self.now)
+            → IfSome result (HoldsImports (shown_by self.now)) }
     {
         Some(self.spaces.imports())
     }
 
-    /// The exports of the module. The list has the type of each function and tag among them, where it
-    /// has those of all types of the module.
+    /// The exports of the module. The list has the type of each function and tag among them, where
+    /// it has those of all types of the module.
     pub fn core_exports(&self) -> Option<CoreExports<'a, A>>
         ensures some { IsSome result }
-        ensures all { IfSome result (λ exports. exports_left exports ≡ (shown_by self.now).spaces.exports) }
-        ensures held { HoldsIds (shown_by self.now) → IfSome result (HoldsExports (shown_by self.now)) }
+        ensures all { IfSome result (λ exports. exports_left exports
+            ≡ (shown_by self.now).spaces.exports) }
+        ensures held { HoldsIds (shown_by self.now)
+            → IfSome result (HoldsExports (shown_by self.now)) }
     {
         Some(self.spaces.exports())
     }
@@ -288,7 +301,8 @@ impl<'a, A: Allocator + Copy> Index<CoreTypeId> for TypesRef<'a, A> {
 
     ghost can_index = { λ types id. id.index < length (types_in (shown_by types).list) };
 
-    ghost index_gives = { λ types id ty. ty ≡ slice_index_or (types_in (shown_by types).list) id.index ty };
+    ghost index_gives = { λ types id ty. ty ≡ slice_index_or
+        (types_in (shown_by types).list) id.index ty };
 
     fn index(&self, id: CoreTypeId) -> &SubType<A> {
         &self.list[id]
@@ -304,7 +318,8 @@ impl<'a, A: Allocator + Copy> Index<RecGroupId> for TypesRef<'a, A> {
 
     ghost can_index = { λ types group. group.index < length (shown_by types).list.groups };
 
-    ghost index_gives = { λ types group ids. ids ≡ group_span (shown_by types).list.groups group.index };
+    ghost index_gives = { λ types group ids. ids ≡ group_span
+        (shown_by types).list.groups group.index };
 
     fn index(&self, group: RecGroupId) -> &Range<CoreTypeId> {
         &self.list[group]
