@@ -18,8 +18,8 @@ Decided {A} e bytes id = DecidesAlone {A = A} (results.Err e) bytes id STANDARD
 
 -- a refusal that isn't want of memory
 no_module : {A : Type 0} (e : Error A) (bytes : List ℕ) (id : ℕ) → (IsMemory e → ⊥) → Decided e bytes id → AreRefused bytes
-no_module (Refused r) bytes id content d = d
-no_module (DuplicateExport name offset) bytes id content d = d
+no_module (Refused r) bytes id content d = d.0
+no_module (DuplicateExport name offset) bytes id content d = d.0
 no_module OutOfMemory bytes id content d = absurd (content tt)
 
 pub returns-in-Ok-clause-accepted : goal.returns-in-Ok-clause-accepted
