@@ -1,0 +1,35 @@
+-- The start of a body and of a constant expression.
+use Rattle.std.proofs.Common.{◌≡◌, ℕ, Bool, List, [], ◌++◌, map, refl, sym, ◌∙◌, ap}
+use Rattle.std.specs.Option.{option_map}
+use Rattle.std.specs.Prelude.{Option, Some}
+use Rattle.wasm_spec.specs.Syntax.{Val, Sub}
+use Rattle.wasm_rules.specs.Contexts.{Context}
+use Rattle.wasm_readers_types.specs.declared.indices.UnpackedIndex.{UnpackedIndex}
+use Rattle.wasm_operators.specs.Control.{Block}
+use Rattle.wasm_operator_steps.specs.Attempts.{◌>>=◌}
+use Rattle.wasm_operator_steps.specs.Bodies.{Local}
+use Rattle.wasm_operator_steps.specs.Machine.{State, block_kind, push_frame}
+use Rattle.wasm_operator_steps.specs.Meanings.{Signature, signature_of}
+use Rattle.wasm_operator_steps.specs.Steps.{start}
+use Rattle.wasm_module_resources.specs.Answers.{sub_in}
+use Rattle.wasm_operator_control.specs.Blocks.{function_in}
+use Rattle.wasm_operator_validator.specs.Typed.{parameter}
+
+abbrev nothing : State UnpackedIndex
+nothing = record { operands = []; frames = []; inits = [] }
+
+-- a frame over nothing
+pub begun : (s t : State UnpackedIndex) (is : List ℕ) (b c : Block UnpackedIndex) → s ≡ nothing → is ≡ s.inits → t ≡ push_frame block_kind c [] (record s { inits = is }) → c ≡ b → t ≡ start b
+begun s t is b c e f g h =
+    g ∙ ap (λ x. push_frame block_kind x [] (record s { inits = is })) h ∙ ap (λ js. push_frame block_kind b [] (record s { inits = js })) f ∙ ap (λ u. push_frame block_kind b [] u) e
+
+-- the parameters of a function type, and whether it is shared
+module _ (C : Context UnpackedIndex) (n : ℕ) (d : Sub UnpackedIndex) where
+  pub parameters_found : (g : Signature UnpackedIndex) (xs ys zs : List (Local UnpackedIndex)) → Some d ≡ sub_in C n → signature_of d.comp ≡ Some g → xs ≡ [] → ys ≡ xs ++ map parameter g.takes → zs ≡ ys → Some zs ≡ option_map (λ h. map parameter h.takes) (function_in C n)
+  parameters_found g xs ys zs e f h i j =
+      ap Some (j ∙ i ∙ ap (λ us. us ++ map parameter g.takes) h) ∙ sym (ap (λ o. option_map (λ (k : Signature UnpackedIndex). map parameter k.takes) (option_map (λ (x : Sub UnpackedIndex). x.comp) o >>= signature_of)) (sym e) ∙ ap (option_map (λ (k : Signature UnpackedIndex). map parameter k.takes)) f)
+
+  pub shared_found : (b c : Bool) → Some d ≡ sub_in C n → b ≡ d.shared → c ≡ b → Some c ≡ option_map (λ x. x.shared) (sub_in C n)
+  shared_found b c e f h = ap Some (h ∙ f) ∙ ap (option_map (λ (x : Sub UnpackedIndex). x.shared)) e
+
+pub ruleset begins = (begun, parameters_found, shared_found)

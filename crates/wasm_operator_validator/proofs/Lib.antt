@@ -1,0 +1,4 @@
+pub mod Stepping
+pub mod Defining
+pub mod Beginning
+pub mod Declaring

@@ -1,0 +1,39 @@
+-- One step by any operator is the step of its family, where the code still stands in a frame.
+use Rattle.std.proofs.Common.{◌≡◌, ℕ, Bool, true, false, List, [], ◌∷◌, refl, sym, subst}
+use Rattle.std.specs.Prelude.{Some, None, Option, Result, Ok, Err, map}
+use Rattle.wasm_rules.specs.Contexts.{Context}
+use Rattle.wasm_readers_types.specs.declared.indices.UnpackedIndex.{UnpackedIndex}
+use Rattle.wasm_operators.specs.Instructions.{Instruction}
+use Rattle.wasm_operators.specs.Maps.{map_instruction}
+use Rattle.wasm_operator_steps.specs.Attempts.{◌>>=◌, guard}
+use Rattle.wasm_operator_steps.specs.Machine.{State}
+use Rattle.wasm_operator_steps.specs.Meanings.{run}
+use Rattle.wasm_operator_steps.specs.Shapes.{shape_of}
+use Rattle.wasm_operator_steps.specs.Steps.{step_in, actions_of, is_open}
+use Rattle.wasm_module_resources.specs.Answers.{world, written_index}
+use Rattle.wasm_operator_stacks.specs.Seen.{state_of, around}
+use Rattle.wasm_operator_stacks.specs.declared.stacks.Stacks.{Stacks}
+use Rattle.wasm_operator_checks.specs.Steps.{Took, acted, Performs}
+use Rattle.wasm_operator_checks.specs.declared.faults.OperatorError.{OperatorError}
+use Rattle.wasm_operator_checks.specs.declared.faults.OperatorError.TheVariants.{Refused, OutOfMemory}
+use Rattle.wasm_operator_validator.specs.Stepped.{Steps}
+use Rattle.wasm_operator_checks.proofs.Acting.{took_refused}
+
+open_state : {A : Type 0} (v : Stacks A) → v.is_open ≡ true → is_open (state_of v) ≡ true
+open_state v e = rw e refl
+
+closed_state : {A : Type 0} (v : Stacks A) → v.is_open ≡ false → is_open (state_of v) ≡ false
+closed_state v e = rw e refl
+
+-- a step of the family
+pub of_family : {A : Type 0} (r : Result (Unit {0}) OperatorError) (C : Context UnpackedIndex) (op : Instruction UnpackedIndex) (v w : Stacks A)
+    → v.is_open ≡ true → Performs r C (shape_of (map_instruction written_index op)) v w → Steps r C op v w
+unfolding acted
+of_family r C op v w e p = subst (λ o. Took r o (state_of v) (state_of w)) (sym (rw (open_state v e) refl)) p
+
+-- behind the last end
+pub at_end : {A : Type 0} (r : Result (Unit {0}) OperatorError) (C : Context UnpackedIndex) (op : Instruction UnpackedIndex) (v : Stacks A)
+    → v.is_open ≡ false → step_in (world C) (around v C) (map_instruction written_index op) (state_of v) ≡ None
+at_end r C op v e = rw (closed_state v e) refl
+
+pub ruleset steps = (of_family, at_end, took_refused)

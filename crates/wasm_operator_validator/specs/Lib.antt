@@ -1,0 +1,3 @@
+pub mod Stepped
+pub mod Typed
+pub mod Shown

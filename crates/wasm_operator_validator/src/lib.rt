@@ -1,0 +1,11 @@
+//! The typing of operators, one by one, over any look-ups: function bodies and constant expressions
+//! (Core Specification 3.0, Validation, Instructions, and Appendix, Validation Algorithm).
+#![tactic(auto)]
+
+mod queries;
+mod steps;
+mod validator;
+
+pub use queries::Frame;
+pub use steps::step;
+pub use validator::{OperatorValidator, OperatorValidatorAllocations};

@@ -1,0 +1,59 @@
+//! One step by any operator.
+
+ghost use Rattle.wasm_operators.specs.SeenOperators.{operator_of};
+ghost use Rattle.wasm_operator_stacks.specs.Seen.{Kept};
+ghost use Rattle.wasm_operator_validator.specs.Stepped.{Steps, IsWrittenInstruction};
+
+use std::alloc::Allocator;
+use wasm_module_resources::WasmModuleResources;
+use wasm_numeric_operators::{numeric_signature, saturating_signature};
+use wasm_operator_arrays::step_array;
+use wasm_operator_blocks::{step_control, step_parametric, step_variable};
+use wasm_operator_calls::step_call;
+use wasm_operator_casts::{step_cast, step_conversion};
+use wasm_operator_checks::{OperatorError, OperatorFault, OperatorRule};
+use wasm_operator_numbers::{access_memory, bulk_memory, compute, constant};
+use wasm_operator_references::step_reference;
+use wasm_operator_stacks::Stacks;
+use wasm_operator_structs::step_struct;
+use wasm_operator_tables::step_table;
+use wasm_operators::Operator;
+
+/// Takes one step by an operator, where its types name type indices of the module. Where that can't
+/// be, all stays.
+///
+/// # Errors
+///
+/// Refuses an operator that isn't valid on these stacks, and one behind the last `end`.
+#[tactic(auto, using(crate::proofs::Stepping::steps))]
+pub fn step<'a, A: Allocator, T: WasmModuleResources>(
+    stacks: &mut Stacks<A>,
+    resources: &T,
+    op: &Operator<'a>,
+) -> Result<(), OperatorError>
+    requires { IsWrittenInstruction (operator_of op.now) }
+    ensures took { Steps result (T.context resources.now) (operator_of op.now)
+        stacks.old stacks.new }
+    ensures same { Kept stacks.old stacks.new }
+{
+    if !stacks.is_open {
+        return Err(OperatorError::Refused(OperatorFault::new(OperatorRule::Ended)));
+    }
+    match *op {
+        Operator::Control(op) => step_control(stacks, resources, op),
+        Operator::Call(op) => step_call(stacks, resources, op),
+        Operator::Parametric(op) => step_parametric(stacks, resources, op),
+        Operator::Variable(op) => step_variable(stacks, resources, op),
+        Operator::Table(op) => step_table(stacks, resources, op),
+        Operator::Memory(op, arg) => access_memory(stacks, resources, op, arg),
+        Operator::BulkMemory(op) => bulk_memory(stacks, resources, op),
+        Operator::Constant(op) => constant(stacks, resources, op),
+        Operator::Numeric(op) => compute(stacks, resources, numeric_signature(op)),
+        Operator::Saturating(op) => compute(stacks, resources, saturating_signature(op)),
+        Operator::Reference(op) => step_reference(stacks, resources, op),
+        Operator::Cast(op) => step_cast(stacks, resources, op),
+        Operator::Conversion(op) => step_conversion(stacks, resources, op),
+        Operator::Struct(op) => step_struct(stacks, resources, op),
+        Operator::Array(op) => step_array(stacks, resources, op),
+    }
+}

@@ -1,0 +1,264 @@
+//! The validator of operators.
+
+ghost use Rattle.std.specs.Prelude.{◌≡◌, ◌≤◌, ◌+◌, ◌++◌, [], true, false, not, ◌||◌, length, map, is_ok, IfOk, OnOk, IsSome};
+ghost use Rattle.wasm_rules.specs.FeatureFlags.{features_of};
+ghost use Rattle.wasm_readers_types.specs.SeenValues.{val_of};
+ghost use Rattle.wasm_operators.specs.SeenOperators.{operator_of};
+ghost use Rattle.wasm_operator_steps.specs.Meanings.{has_default};
+ghost use Rattle.wasm_operator_steps.specs.Steps.{is_finished};
+ghost use Rattle.wasm_module_resources.specs.Answers.{val_in, IsWrittenVal};
+ghost use Rattle.wasm_operator_stacks.specs.Seen.{Kept};
+ghost use Rattle.wasm_operator_control.specs.Blocks.{function_in};
+ghost use Rattle.wasm_operator_validator.specs.Stepped.{Steps, IsWrittenInstruction};
+ghost use Rattle.wasm_operator_validator.specs.Typed.{typed_state, parameter, BeginsBody, BeginsConstant, Defines, IsRefused};
+
+use crate::steps::step;
+use std::alloc::{AllocError, Allocator, Global};
+use wasm_module_resources::WasmModuleResources;
+use wasm_operator_checks::{OperatorError, OperatorFault, OperatorRule};
+use wasm_operator_stacks::{BlockWord, LocalWord, Locals, MAX_LOCALS, Stacks};
+use wasm_operators::{FrameKind, Operator};
+use wasm_readers_errors::WasmFeatures;
+use wasm_readers_types::{CompositeInnerType, ValType};
+use wasm_type_words::TypeWord;
+
+/// The typing of one function body or one constant expression, operator by operator (Core
+/// Specification 3.0, Appendix, Validation Algorithm). It keeps operands, frames and locals; what
+/// it looks up of the module is handed to each call.
+#[derive(Drop)]
+pub struct OperatorValidator<A: Allocator = Global> {
+    pub(crate) stacks: Stacks<A>,
+    failed: bool,
+}
+
+/// The memory of a validator of operators, to be handed on from one body to the next.
+#[derive(Drop)]
+pub struct OperatorValidatorAllocations<A: Allocator = Global> {
+    stacks: Stacks<A>,
+}
+
+/// The refusal by a rule.
+#[inline(never)]
+fn refused(rule: OperatorRule) -> OperatorError
+    ensures { IsRefused result }
+{
+    OperatorError::Refused(OperatorFault::new(rule))
+}
+
+impl<A: Allocator + Copy> OperatorValidatorAllocations<A> {
+    /// No memory yet.
+    pub fn new(alloc: A) -> OperatorValidatorAllocations<A> {
+        OperatorValidatorAllocations {
+            stacks: Stacks::new(alloc, WasmFeatures::STANDARD, false),
+        }
+    }
+}
+
+/// Whether a local of this type begins with a value.
+fn has_default_value(ty: ValType) -> bool
+    ensures { result ≡ has_default (val_of ty) }
+{
+    match ty {
+        ValType::Ref(ty) => ty.is_nullable(),
+        ValType::I32 | ValType::I64 | ValType::F32 | ValType::F64 | ValType::V128 => true,
+    }
+}
+
+/// Adds the parameters of a function, which are set from the start.
+#[tactic(auto, using(crate::proofs::Defining::parameters_defined))]
+fn define_parameters<A: Allocator>(
+    locals: &mut Locals<A>,
+    params: &[ValType],
+) -> Result<(), AllocError>
+    requires { length locals.old.content + length params.now ≤ 50000 }
+    ensures ok { OnOk result (locals.new.content ≡ locals.old.content
+        ++ map parameter (map val_of params.now)) }
+    ensures inits { locals.new.inits ≡ locals.old.inits }
+{
+    'defining: for i in 0..params.len() {
+        locals.define(1, LocalWord::new(TypeWord::new(params[i]), true))?;
+    }
+    Ok(())
+}
+
+impl<A: Allocator> OperatorValidator<A> {
+    /// The start of the body of a function of this type, in memory that was used before.
+    ///
+    /// # Errors
+    ///
+    /// Refuses more than 50,000 parameters, and answers want of memory.
+    #[tactic(auto, using(crate::proofs::Beginning::begins))]
+    pub fn new_func<T: WasmModuleResources>(
+        type_index: u32,
+        features: WasmFeatures,
+        resources: &T,
+        allocations: OperatorValidatorAllocations<A>,
+    ) -> Result<OperatorValidator<A>, OperatorError>
+        requires { IsSome (function_in (T.context resources.now) type_index) }
+        ensures begins { IfOk result (λ v. BeginsBody v (T.context resources.now) type_index) }
+        ensures features { IfOk result (λ v. v.stacks.features ≡ features) }
+    {
+        let mut stacks = allocations.stacks;
+        let sub = match resources.sub_type_at(type_index) {
+            Some(sub) => sub,
+            None => return Err(refused(OperatorRule::UnknownType)),
+        };
+        let params = match &sub.composite_type.inner {
+            CompositeInnerType::Func(signature) => signature.params(),
+            _ => return Err(refused(OperatorRule::NotAFunction)),
+        };
+        stacks.clear(features, sub.composite_type.shared);
+        if params.len() > MAX_LOCALS as usize {
+            return Err(refused(OperatorRule::TooManyLocals));
+        }
+        define_parameters(&mut stacks.locals, params)?;
+        stacks.open(FrameKind::Block, BlockWord::func(type_index))?;
+        Ok(OperatorValidator {
+            stacks,
+            failed: false,
+        })
+    }
+
+    /// The start of a constant expression of this type, whose types are identities, in memory that
+    /// was used before.
+    ///
+    /// # Errors
+    ///
+    /// Answers want of memory.
+    #[tactic(auto, using(crate::proofs::Beginning::begins))]
+    pub fn new_const_expr(
+        features: WasmFeatures,
+        ty: ValType,
+        allocations: OperatorValidatorAllocations<A>,
+    ) -> Result<OperatorValidator<A>, AllocError>
+        ensures begins { IfOk result (λ v. BeginsConstant v (val_of ty)) }
+        ensures features { IfOk result (λ v. v.stacks.features ≡ features) }
+    {
+        let mut stacks = allocations.stacks;
+        stacks.clear(features, false);
+        stacks.open(FrameKind::Block, BlockWord::value(TypeWord::new(ty)))?;
+        Ok(OperatorValidator {
+            stacks,
+            failed: false,
+        })
+    }
+
+    /// Declares so many locals of one type, which is written with type indices of the module. At
+    /// most 50,000 locals are allowed, parameters included.
+    ///
+    /// # Errors
+    ///
+    /// Refuses a type that the features don't allow or that the module doesn't have, and too many
+    /// locals; answers want of memory; and refuses all once something was refused.
+    #[tactic(auto, using(crate::proofs::Declaring::declares))]
+    pub fn define_locals<T: WasmModuleResources>(
+        &mut self,
+        resources: &T,
+        count: u32,
+        ty: ValType,
+    ) -> Result<(), OperatorError>
+        requires { IsWrittenVal (val_of ty) }
+        ensures defined { Defines result (val_in (T.context resources.now)
+            (features_of self.old.stacks.features) (val_of ty)) count self.old self.new }
+        ensures state { typed_state self.new ≡ typed_state self.old }
+        ensures failed { self.new.failed ≡ (self.old.failed || not (is_ok result)) }
+    {
+        if self.failed {
+            return Err(refused(OperatorRule::Failed));
+        }
+        self.failed = true;
+        let mut resolved = ty;
+        if resources
+            .check_value_type(&mut resolved, &self.stacks.features, 0)
+            .is_err()
+        {
+            return Err(refused(OperatorRule::ValueType));
+        }
+        if !self.stacks.locals.has_room(count) {
+            return Err(refused(OperatorRule::TooManyLocals));
+        }
+        let local = LocalWord::new(TypeWord::new(resolved), has_default_value(resolved));
+        self.stacks.locals.define(count, local)?;
+        self.failed = false;
+        Ok(())
+    }
+
+    /// Takes one step by an operator, where its types name type indices of the module. Where that
+    /// can't be, all stays.
+    ///
+    /// # Errors
+    ///
+    /// Refuses an operator that isn't valid here, and any once something was refused by another
+    /// call; answers want of memory.
+    pub fn try_op<'a, T: WasmModuleResources>(
+        &mut self,
+        resources: &T,
+        op: &Operator<'a>,
+    ) -> Result<(), OperatorError>
+        requires { IsWrittenInstruction (operator_of op.now) }
+        ensures took { self.old.failed ≡ false → Steps result (T.context resources.now)
+            (operator_of op.now) self.old.stacks self.new.stacks }
+        ensures ended { self.old.failed ≡ true → (is_ok result ≡ false)
+            × (typed_state self.new ≡ typed_state self.old) }
+        ensures same { Kept self.old.stacks self.new.stacks }
+        ensures failed { self.new.failed ≡ self.old.failed }
+    {
+        if self.failed {
+            return Err(refused(OperatorRule::Failed));
+        }
+        step(&mut self.stacks, resources, op)
+    }
+
+    /// Takes one step by an operator, where its types name type indices of the module. Once one is
+    /// refused the validator has failed.
+    ///
+    /// # Errors
+    ///
+    /// Refuses an operator that isn't valid here, and any once something was refused; answers want
+    /// of memory.
+    pub fn op<'a, T: WasmModuleResources>(
+        &mut self,
+        resources: &T,
+        op: &Operator<'a>,
+    ) -> Result<(), OperatorError>
+        requires { IsWrittenInstruction (operator_of op.now) }
+        ensures took { self.old.failed ≡ false → Steps result (T.context resources.now)
+            (operator_of op.now) self.old.stacks self.new.stacks }
+        ensures ended { self.old.failed ≡ true → (is_ok result ≡ false)
+            × (typed_state self.new ≡ typed_state self.old) }
+        ensures same { Kept self.old.stacks self.new.stacks }
+        ensures failed { self.new.failed ≡ (self.old.failed || not (is_ok result)) }
+    {
+        if self.failed {
+            return Err(refused(OperatorRule::Failed));
+        }
+        match step(&mut self.stacks, resources, op) {
+            Ok(()) => Ok(()),
+            Err(error) => {
+                self.failed = true;
+                Err(error)
+            }
+        }
+    }
+
+    /// Whether every frame has ended.
+    pub fn is_finished(&self) -> bool
+        ensures { result ≡ is_finished (typed_state self.now) }
+    {
+        !self.stacks.is_open
+    }
+
+    /// Whether something was refused.
+    pub fn has_failed(&self) -> bool
+        ensures { result ≡ self.now.failed }
+    {
+        self.failed
+    }
+
+    /// The memory, for the next body.
+    pub fn into_allocations(self) -> OperatorValidatorAllocations<A> {
+        OperatorValidatorAllocations {
+            stacks: self.stacks,
+        }
+    }
+}
