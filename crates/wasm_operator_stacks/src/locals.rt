@@ -51,8 +51,11 @@ impl<A: Allocator> Model for Locals<A> {
 
     ghost Value = { Held };
 
-    ghost view = { λ l. record { content = map local_of l.front.items
-        ++ l.behind; inits = l.marks } };
+    ghost view = { λ l. record {
+      content = map local_of l.front.items
+          ++ l.behind;
+      inits = l.marks;
+    } };
 
     ghost invariant = { λ l. length l.front.items + length l.behind ≤ 50000 };
 }

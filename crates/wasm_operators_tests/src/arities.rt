@@ -93,8 +93,11 @@ impl FrameStack for Sample {
     ghost use Rattle.wasm_operator_steps.specs.Machine.{block_kind};
     ghost use Rattle.wasm_operator_arity.specs.Asked.{kind_of};
 
-    ghost kinds = { λ s. elim s.block [ None ↦ block_kind
-        ∷ [] | Some x ↦ kind_of x.1 ∷ block_kind ∷ [] ] };
+    ghost kinds = { λ s. elim s.block [
+      | None ↦ block_kind
+          ∷ []
+      | Some x ↦ kind_of x.1 ∷ block_kind ∷ []
+    ] };
 
     fn current_frame(&self) -> Option<FrameKind> {
         match self.block {
