@@ -5,84 +5,8 @@ ghost use Rattle.wasm_operator_checks.specs.declared.faults.OperatorError.TheVar
 
 use std::alloc::AllocError;
 use wasm_numeric_operators::NumberType;
+use wasm_readers_errors::OperatorRule;
 use wasm_type_words::TypeWord;
-
-/// The rules of operators.
-#[derive(Clone, Copy, PartialEq, Eq, Debug)]
-pub enum OperatorRule {
-    /// An operand of this type is expected.
-    Operand,
-    /// An operand of any type is expected.
-    AnyOperand,
-    /// A reference is expected.
-    Reference,
-    /// A reference below this abstract heap type is expected.
-    ReferenceBelow,
-    /// References that may be compared are expected.
-    Comparable,
-    /// `select` without a type chooses one of two numbers or vectors of one type.
-    Selected,
-    /// Operands are left at the end of a frame.
-    OperandsLeft,
-    /// The last frame has ended.
-    Ended,
-    /// `else` stands in no `if`.
-    ElseWithoutIf,
-    /// An `if` without `else` doesn't give what it takes.
-    MissingElse,
-    UnknownLocal,
-    UnsetLocal,
-    UnknownGlobal,
-    ImmutableGlobal,
-    UnknownLabel,
-    LabelTypes,
-    UnknownFunction,
-    UndeclaredFunction,
-    UnknownType,
-    NotAFunction,
-    NotAStruct,
-    NotAnArray,
-    UnknownField,
-    ImmutableField,
-    ImmutableArray,
-    FieldPacked,
-    FieldNotPacked,
-    ArrayPacked,
-    ArrayNotPacked,
-    NoDefault,
-    NotNumeric,
-    ElementTypes,
-    UnknownTable,
-    TableTypes,
-    UnknownMemory,
-    Alignment,
-    Offset,
-    UnknownTag,
-    TagResults,
-    CatchTypes,
-    UnknownElements,
-    UnknownData,
-    MissingDataCount,
-    CastTypes,
-    ReturnTypes,
-    Shared,
-    ContinuationTypes,
-    NotConstant,
-    TooManyLocals,
-    Failed,
-    Floats,
-    Simd,
-    ValueType,
-    MultiValue,
-    ReferenceTypes,
-    BulkMemory,
-    Exceptions,
-    FunctionReferences,
-    Gc,
-    SharedEverything,
-    CustomDescriptors,
-    ExtendedConst,
-}
 
 /// A rule that is broken, with a number that belongs to it and the type that is expected.
 #[derive(Clone, Copy)]

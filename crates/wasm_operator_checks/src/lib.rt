@@ -9,10 +9,11 @@ mod reach;
 mod steps;
 mod types;
 
-pub use faults::{OperatorError, OperatorFault, OperatorRule};
+pub use faults::{OperatorError, OperatorFault};
 pub use lists::match_all;
 pub use looks::{check_many, check_type, look};
 pub use matching::matches;
 pub use reach::{address, has, lesser, reaches};
 pub use steps::{halt, plain, plain_with};
 pub use types::{Takes, Types, check_takes, check_types, exchange_types};
+pub use wasm_readers_errors::OperatorRule;

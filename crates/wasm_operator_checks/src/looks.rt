@@ -8,11 +8,12 @@ ghost use Rattle.wasm_module_resources.specs.Answers.{world};
 ghost use Rattle.wasm_operator_stacks.specs.Seen.{state_of, below};
 ghost use Rattle.wasm_operator_checks.specs.Steps.{Looked, Checked};
 
-use crate::faults::{OperatorFault, OperatorRule};
+use crate::faults::OperatorFault;
 use crate::matching::matches;
 use std::alloc::Allocator;
 use wasm_module_resources::WasmModuleResources;
 use wasm_operator_stacks::{Stacks, Word};
+use wasm_readers_errors::OperatorRule;
 use wasm_readers_types::ValType;
 use wasm_type_words::TypeWord;
 

@@ -7,12 +7,13 @@ ghost use Rattle.wasm_operator_stacks.specs.Seen.{Kept};
 ghost use Rattle.wasm_operator_checks.specs.Steps.{Turns};
 ghost use Rattle.wasm_operator_checks.specs.SeenTypes.{types_seen, takes_seen, exchanged, halted};
 
-use crate::faults::{OperatorError, OperatorFault, OperatorRule};
+use crate::faults::{OperatorError, OperatorFault};
 use crate::looks::check_type;
 use crate::types::{Takes, Types, check_takes, check_types, exchange_types};
 use std::alloc::Allocator;
 use wasm_module_resources::WasmModuleResources;
 use wasm_operator_stacks::Stacks;
+use wasm_readers_errors::OperatorRule;
 use wasm_type_words::TypeWord;
 
 /// Takes operands of some types, and gives others. Where that can't be, all stays.

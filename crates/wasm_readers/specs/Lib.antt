@@ -1,3 +1,4 @@
+pub mod Refusals
 pub mod Sections
 pub mod SectionsSeen
 pub mod Written

@@ -1,11 +1,18 @@
 -- What contracts see of a section and of its items that are left.
-use Rattle.std.specs.Prelude.{◌≡◌, ◌≤◌, ◌+◌, ℕ, List, Bool, length, Option, Some, None, ⊤}
+use Rattle.std.specs.Prelude.{◌≡◌, ◌≤◌, ◌+◌, ℕ, zero, suc, List, Bool, length, Option, Some, None, ⊤}
 use Rattle.std.specs.declared.result.Result.{Result}
 use Rattle.std.specs.declared.result.Result.TheVariants.{Ok, Err}
 use Rattle.wasm_readers.specs.declared.section_limited.SectionLimited.{SectionLimited}
 use Rattle.wasm_readers.specs.declared.section_limited.SectionItems.{SectionItems}
 use Rattle.wasm_binary_reader.specs.Reader.{input, position_in, original, rest, SameInput, FailedFrom}
+use Rattle.wasm_binary_reader.specs.declared.binary_reader.BinaryReader.{BinaryReader}
 use Rattle.wasm_readers_errors.specs.declared.error.Error.{Error}
+use Rattle.wasm_readers_errors.specs.declared.error.Error.TheVariants.{Refused}
+use Rattle.wasm_readers_errors.specs.declared.error.Fault.TheVariants.{Malformed}
+use Rattle.wasm_readers_errors.specs.declared.error.Malformed.TheVariants.{SectionSize}
+use Rattle.wasm_readers_errors.specs.declared.error.Refusal.{Refusal}
+use Rattle.wasm_readers_errors.specs.Refusals.{plain}
+use Rattle.wasm_readers.specs.Refusals.{Telling, Tells}
 
 -- the number of items that a section says it has
 abbrev pub count_of : {T A : Type 0} → SectionLimited T A → ℕ
@@ -54,6 +61,15 @@ SameSection old new = SameInput old.reader new.reader × (next_item_at old ≤ n
 -- a refusal for the format, at an offset from the next item to the section's end, unless memory was refused
 abbrev pub ItemsFailedFrom : {T A : Type 0} → SectionItems T A → Error → Type 0
 ItemsFailedFrom s error = FailedFrom s.reader error
+
+-- Behind the last item the refusal is of the section's size, at the first byte that is left; before it, it is what the
+-- reader of an item tells.
+abbrev pub tells_of : Telling → ℕ → BinaryReader → Error → Type 0
+tells_of refuses zero r error = error ≡ Refused (plain (Malformed SectionSize) (original r + position_in r))
+tells_of refuses (suc n) r error = Tells refuses r error
+
+abbrev pub ItemTells : {T A : Type 0} → Telling → SectionItems T A → Error → Type 0
+ItemTells refuses s error = tells_of refuses s.left s.reader error
 
 -- Where no item is given, as many are left as before; and at the end the reader stays where it stands.
 abbrev pub TakesNothing : {T A I : Type 0} → SectionItems T A → Option (Result (ℕ × I) Error) → SectionItems T A → Type 0

@@ -89,6 +89,8 @@ impl<'a, A: Allocator> FromReader<'a, A> for PackedIndex {
 
     ghost value = { index_of };
 
+    ghost refuses = { RefusedFrom };
+
     fn from_reader(_alloc: A, reader: &mut BinaryReader<'a>) -> Result<PackedIndex, Error> {
         Ok(read_type_index(reader)?)
     }
@@ -188,6 +190,8 @@ impl<'a, A: Allocator + Copy> FromReader<'a, A> for SubType<A> {
 
     ghost value = { sub_of };
 
+    ghost refuses = { RefusedFrom };
+
     #[tactic(auto, unfolding(wasm_spec::specs::BinaryTypes::sub_at))]
     fn from_reader(alloc: A, reader: &mut BinaryReader<'a>) -> Result<SubType<A>, Error> {
         let start = *reader;
@@ -217,6 +221,8 @@ impl<'a, A: Allocator + Copy> FromReader<'a, A> for RecGroup<A> {
     ghost encoded = { rec_at written };
 
     ghost value = { rec_of };
+
+    ghost refuses = { RefusedFrom };
 
     #[tactic(auto, unfolding(wasm_spec::specs::BinaryTypes::rec_at))]
     fn from_reader(alloc: A, reader: &mut BinaryReader<'a>) -> Result<RecGroup<A>, Error> {

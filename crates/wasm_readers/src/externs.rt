@@ -286,6 +286,8 @@ impl<'a, A: Allocator> FromReader<'a, A> for TableHead {
 
     ghost value = { head_of };
 
+    ghost refuses = { RefusedFrom };
+
     fn from_reader(_alloc: A, reader: &mut BinaryReader<'a>) -> Result<TableHead, Error> {
         Ok(read_table_head(reader)?)
     }
@@ -300,6 +302,8 @@ impl<'a, A: Allocator> FromReader<'a, A> for MemoryType {
 
     ghost value = { memory_of };
 
+    ghost refuses = { RefusedFrom };
+
     fn from_reader(_alloc: A, reader: &mut BinaryReader<'a>) -> Result<MemoryType, Error> {
         Ok(read_memory_type(reader)?)
     }
@@ -313,6 +317,8 @@ impl<'a, A: Allocator> FromReader<'a, A> for TagType {
     ghost encoded = { tag_at };
 
     ghost value = { λ x. x.func_type_idx };
+
+    ghost refuses = { RefusedFrom };
 
     fn from_reader(_alloc: A, reader: &mut BinaryReader<'a>) -> Result<TagType, Error> {
         Ok(read_tag_type(reader)?)
@@ -329,6 +335,8 @@ impl<'a, A: Allocator> FromReader<'a, A> for Import<'a> {
     ghost encoded = { import_at written };
 
     ghost value = { import_of };
+
+    ghost refuses = { RefusedFrom };
 
     #[tactic(auto, unfolding(wasm_spec::specs::BinaryModules::import_at))]
     fn from_reader(_alloc: A, reader: &mut BinaryReader<'a>) -> Result<Import<'a>, Error> {
@@ -348,6 +356,8 @@ impl<'a, A: Allocator> FromReader<'a, A> for Export<'a> {
     ghost encoded = { export_at };
 
     ghost value = { export_of };
+
+    ghost refuses = { RefusedFrom };
 
     #[tactic(auto, unfolding(wasm_spec::specs::BinaryModules::export_at))]
     fn from_reader(_alloc: A, reader: &mut BinaryReader<'a>) -> Result<Export<'a>, Error> {

@@ -4,6 +4,7 @@ ghost use Rattle.wasm_spec.specs.Values.{u32_at, items_at};
 ghost use Rattle.wasm_binary_reader.specs.Reader.{input, SameInput, position_in, original, rest, RefusedFrom, FailedFrom};
 ghost use Rattle.wasm_readers_errors.specs.Errors.{Reads};
 ghost use Rattle.wasm_readers.specs.Sections.{next_item, NextItem};
+ghost use Rattle.wasm_readers.specs.Refusals.{Telling, Tells, NumberRefused};
 
 use crate::items::{Table, TableHead};
 use std::alloc::{Allocator, Global};
@@ -23,10 +24,14 @@ pub trait FromReader<'a, A: Allocator>: Sized + Drop {
     /// What an item stands for, without where it lies.
     ghost value: { Self → Value };
 
+    /// What may be told of content that is refused, from where the reader stands.
+    ghost refuses: { Telling };
+
     fn from_reader(alloc: A, reader: &mut BinaryReader<'a>) -> Result<Self, Error>
         ensures same { SameInput reader.old reader.new }
         ensures onward { position_in reader.old ≤ position_in reader.new }
         ensures failure { IfErr result (FailedFrom reader.old) }
+        ensures told { IfErr result (Tells refuses reader.old) }
         ensures reads { Reads value result (encoded (rest reader.old)) (rest reader.new) };
 }
 
@@ -36,6 +41,8 @@ impl<'a, A: Allocator> FromReader<'a, A> for u32 {
     ghost encoded = { u32_at };
 
     ghost value = { λ n. n };
+
+    ghost refuses = { NumberRefused 32 };
 
     fn from_reader(_alloc: A, reader: &mut BinaryReader<'a>) -> Result<u32, Error> {
         Ok(reader.read_var_u32()?)
@@ -159,7 +166,7 @@ pub struct SectionItems<'a, T, A: Allocator = Global> {
 
 impl<'a, T: FromReader<'a, A>, A: Allocator + Copy> SectionItems<'a, T, A> {
     ghost use Rattle.std.specs.Prelude.{IfSome};
-    ghost use Rattle.wasm_readers.specs.SectionsSeen.{items_left, items_rest, items_done, next_item_at, SameSection, ItemsFailedFrom};
+    ghost use Rattle.wasm_readers.specs.SectionsSeen.{items_left, items_rest, items_done, next_item_at, SameSection, ItemsFailedFrom, ItemTells};
 
     /// The next item with its byte offset from the start of the input, or `None` where the section
     /// ends.
@@ -177,6 +184,7 @@ impl<'a, T: FromReader<'a, A>, A: Allocator + Copy> SectionItems<'a, T, A> {
         ensures same { SameSection self.old self.new }
         ensures over { IfOk result (λ o. o ≡ None → self.new ≡ self.old) }
         ensures failure { IfErr result (ItemsFailedFrom self.old) }
+        ensures told { IfErr result (ItemTells T.refuses self.old) }
         ensures err { OnErr result (items_left self.new ≡ items_left self.old) }
     {
         let offset = self.reader.original_position();
@@ -202,14 +210,14 @@ impl<'a, T: FromReader<'a, A>, A: Allocator + Copy> Iterator for SectionItems<'a
     ghost use Rattle.std.specs.Prelude.{IfSome, if◌then◌else◌};
     ghost use Rattle.std.specs.Iterator.{at_most};
     ghost use Rattle.wasm_readers.specs.Sections.{ItemGives, StandsAt};
-    ghost use Rattle.wasm_readers.specs.SectionsSeen.{items_left, items_rest, items_done, next_item_at, SameSection, ItemsFailedFrom, TakesNothing};
+    ghost use Rattle.wasm_readers.specs.SectionsSeen.{items_left, items_rest, items_done, next_item_at, SameSection, ItemsFailedFrom, ItemTells, TakesNothing};
 
     ghost can_next = { λ _. Unit {0} };
 
     ghost next_gives = { λ s r t. ItemGives T.encoded T.value (items_done s) (items_left s)
         (items_rest s) r (items_done t) (items_left t) (items_rest t) × StandsAt (next_item_at s) r
         × SameSection s t × IfSome r (λ item. IfErr item (ItemsFailedFrom s))
-        × TakesNothing s r t };
+        × TakesNothing s r t × IfSome r (λ item. IfErr item (ItemTells T.refuses s)) };
 
     ghost remaining = { λ s. at_most (if items_done s then 0 else items_left s + 1) };
 

@@ -273,6 +273,8 @@ impl<'a, A: Allocator> FromReader<'a, A> for ValType {
 
     ghost value = { val_of };
 
+    ghost refuses = { RefusedFrom };
+
     fn from_reader(_alloc: A, reader: &mut BinaryReader<'a>) -> Result<ValType, Error> {
         Ok(read_val_type(reader)?)
     }
@@ -287,6 +289,8 @@ impl<'a, A: Allocator> FromReader<'a, A> for FieldType {
     ghost encoded = { field_at written };
 
     ghost value = { field_of };
+
+    ghost refuses = { RefusedFrom };
 
     fn from_reader(_alloc: A, reader: &mut BinaryReader<'a>) -> Result<FieldType, Error> {
         Ok(read_field_type(reader)?)

@@ -2,9 +2,11 @@ ghost use Rattle.std.specs.Prelude.{◌≡◌};
 
 use crate::features::WasmFeatures;
 use crate::item_rules::ItemRule;
+use crate::operator_rules::{GatedConstant, OperatorRule};
 use crate::type_rules::{DescriptorRule, GroupRule, ValueTypeRule};
 use std::alloc::{AllocError, AllocFailed};
 use std::fmt;
+use wasm_readers_types::ValType;
 
 /// Where bytes don't follow the binary format.
 #[derive(Clone, Copy, PartialEq, Eq, Debug)]
@@ -282,7 +284,7 @@ pub enum Fault {
     Descriptor(DescriptorRule),
     /// A reference type without the proposal that it needs.
     ValueType(ValueTypeRule),
-    /// A rule of imports, tables, memories, tags, globals, start functions or data counts.
+    /// A rule of imports, tables, memories, tags, globals, start functions, data counts or segments.
     Item(ItemRule),
     /// A type index that is not in the type index space.
     UnknownType(u32),
@@ -304,6 +306,12 @@ pub enum Fault {
     UnknownExport(ItemKind, u32),
     /// More of something than may be.
     Limit(Counted, u32),
+    /// A rule of operators, with the index that belongs to it, where one does.
+    Operator(OperatorRule, u32),
+    /// An operand of the first type is expected, and there is one of the second, or none.
+    OperandType(ValType, Option<ValType>),
+    /// An operator of constant expressions without the proposal that it needs.
+    GatedConstant(GatedConstant),
     /// A section id that no section has.
     UnknownSection(u8),
     /// A version of the format that is not known.
@@ -344,6 +352,9 @@ impl fmt::Display for Fault {
             Fault::UnknownFunction(index) => write_unknown_function(f, *index),
             Fault::UnknownExport(kind, index) => write_unknown_export(f, kind.text(), *index),
             Fault::Limit(what, limit) => write_limit(f, what.text(), *limit),
+            Fault::Operator(rule, number) => rule.write(f, *number),
+            Fault::OperandType(expected, found) => write_operand_type(f, *expected, *found),
+            Fault::GatedConstant(operator) => write_gated_constant(f, operator.name()),
             Fault::UnknownSection(id) => write!(f, "malformed section id: {id}"),
             Fault::UnknownBinaryVersion(number) => write!(f, "unknown binary version: {number:#x}"),
             Fault::ComponentHeader(number) => write_component_header(f, *number),
@@ -389,6 +400,24 @@ fn write_component_header<W: fmt::Write>(f: &mut fmt::Formatter<W>, number: u16)
     write!(
         f,
         "unknown binary version and encoding combination: {number:#x} and 0x1, note: encoded as a component but the WebAssembly component model feature is not enabled - enable the feature to allow component validation"
+    )
+}
+
+fn write_operand_type<W: fmt::Write>(
+    f: &mut fmt::Formatter<W>,
+    expected: ValType,
+    found: Option<ValType>,
+) -> fmt::Result {
+    match found {
+        Some(found) => write!(f, "type mismatch: expected {expected}, found {found}"),
+        None => write!(f, "type mismatch: expected {expected} but nothing on stack"),
+    }
+}
+
+fn write_gated_constant<W: fmt::Write>(f: &mut fmt::Formatter<W>, name: &str) -> fmt::Result {
+    write!(
+        f,
+        "constant expression required: non-constant operator: {name}"
     )
 }
 

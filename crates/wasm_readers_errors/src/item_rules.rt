@@ -1,5 +1,5 @@
-/// Rules of imports, tables, memories, tags, globals, start functions and data counts whose texts
-/// name no number (Core Specification 3.0, Validation, Types and Modules).
+/// Rules of imports, tables, memories, tags, globals, start functions, data counts and segments whose
+/// texts name no number (Core Specification 3.0, Validation, Types and Modules).
 #[derive(Clone, Copy, PartialEq, Eq, Debug)]
 pub enum ItemRule {
     /// An exactly typed function import needs `CUSTOM_DESCRIPTORS`.
@@ -42,6 +42,14 @@ pub enum ItemRule {
     DataCounts,
     /// A module has at most 100,000 data segments.
     DataCountLimit,
+    /// An element segment that isn't active needs `BULK_MEMORY`.
+    PassiveElements,
+    /// An element segment has at most 10,000,000 items.
+    ElementCount,
+    /// The type of an active element segment is below its table's.
+    ElementTypes,
+    /// A data segment that isn't active needs `BULK_MEMORY`.
+    PassiveData,
 }
 
 impl ItemRule {
@@ -72,6 +80,10 @@ impl ItemRule {
             ItemRule::StartType => "invalid start function type",
             ItemRule::DataCounts => "data count section requires the bulk-memory proposal",
             ItemRule::DataCountLimit => "data count section specifies too many data segments",
+            ItemRule::PassiveElements => "bulk memory must be enabled",
+            ItemRule::ElementCount => "number of elements is out of bounds",
+            ItemRule::ElementTypes => "type mismatch: invalid element type",
+            ItemRule::PassiveData => "passive data segments require the bulk-memory proposal",
         }
     }
 }

@@ -4,11 +4,13 @@
 pub mod error;
 pub mod features;
 pub mod item_rules;
+pub mod operator_rules;
 pub mod refusals;
 pub mod type_rules;
 
 pub use error::{Counted, Error, Fault, ItemKind, Malformed, OutOfOrder, Refusal, Rule, Unserved};
 pub use features::WasmFeatures;
 pub use item_rules::ItemRule;
+pub use operator_rules::{GatedConstant, OperatorRule};
 pub use refusals::{hold, require, require_if};
 pub use type_rules::{DescriptorRule, GroupRule, ValueTypeRule};

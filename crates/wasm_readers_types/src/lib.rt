@@ -5,6 +5,7 @@ mod exact;
 mod externs;
 mod indices;
 mod items;
+mod text;
 mod types;
 mod values;
 
