@@ -11,7 +11,7 @@ use Rattle.wasm_operators.specs.Control.{Block, empty_block, value_block, func_b
 use Rattle.wasm_operator_steps.specs.Attempts.{◌>>=◌, last_of, front_of}
 use Rattle.wasm_operator_steps.specs.Bodies.{Surroundings}
 use Rattle.wasm_operator_steps.specs.Machine.{Kind, block_kind, loop_kind, if_kind, else_kind, try_table_kind, Frame, State}
-use Rattle.wasm_operator_steps.specs.Actions.{Signed, of_type, of_function, of_tag, Types, these, params, results, label, returned, local, global, function_reference, new_reference, fields, element, field, table_address, memory_address, table_element, segment, lesser_table_address, lesser_memory_address, top, descriptor_of, repeated, front, last, joined}
+use Rattle.wasm_operator_steps.specs.Actions.{Signed, of_type, of_function, of_tag, OperandTypes, these, params, results, label, returned, local, global, function_reference, new_reference, fields, element, field, table_address, memory_address, table_element, segment, lesser_table_address, lesser_memory_address, top, descriptor_of, repeated, front, last, joined}
 use Rattle.wasm_operator_steps.specs.Meanings.{Signature, signature_of, fields_of, copies, one, unpack_field, resolve_val, resolve_vals, label_by, ref_to, exact_if, function_heap, element_at, field_at, address, table_is_64, memory_is_64, both, top_heap, descriptor_at, sub_at, type_signature, block_signature, signature_at, types_at}
 use Rattle.wasm_operator_arity.specs.Arities.{takes_of, gives_of, func_counts, field_count, one_of, label_count, type_counts, signature_counts, block_counts, how_many}
 use Rattle.wasm_operator_arity.specs.Lengths.{lengths_of, asked_of, CountsAreLengths}
@@ -129,7 +129,7 @@ module _ (W : World UnpackedIndex) (B : Surroundings UnpackedIndex) (s : State U
   return-counted None = refl
   return-counted (Some x) = ap gives_of (block-counted x.block) ∙ gives-counted (block_signature W B x.block)
 
-  counted : (t : Types) (vs : List (Val UnpackedIndex)) → types_at W B s t ≡ Some vs → how_many (asked_of W B s) t ≡ Some (length vs)
+  counted : (t : OperandTypes) (vs : List (Val UnpackedIndex)) → types_at W B s t ≡ Some vs → how_many (asked_of W B s) t ≡ Some (length vs)
   counted (these us) vs e = ap Some (resolved-length B.context.types us vs e)
   counted (params g) vs e = from-map (how_many (asked_of W B s) (params g)) (types_at W B s (params g)) vs (ap takes_of (signature-counted g) ∙ takes-counted (signature_at W B g)) e
   counted (results g) vs e = from-map (how_many (asked_of W B s) (results g)) (types_at W B s (results g)) vs (ap gives_of (signature-counted g) ∙ gives-counted (signature_at W B g)) e

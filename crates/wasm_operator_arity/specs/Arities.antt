@@ -11,7 +11,7 @@ use Rattle.wasm_operators.specs.SeenOperators.{operator_of}
 use Rattle.wasm_operators.specs.declared.operators.Operator.{Operator}
 use Rattle.wasm_operator_steps.specs.Attempts.{last_of}
 use Rattle.wasm_operator_steps.specs.Machine.{Kind, loop_kind}
-use Rattle.wasm_operator_steps.specs.Actions.{Signed, of_type, of_function, of_tag, Types, these, params, results, label, returned, fields, repeated, front, last, joined}
+use Rattle.wasm_operator_steps.specs.Actions.{Signed, of_type, of_function, of_tag, OperandTypes, these, params, results, label, returned, fields, repeated, front, last, joined}
 use Rattle.wasm_operator_steps.specs.Shapes.{Shape, plain, ending, opening, closing, turning, dropping, choosing, never, testing_null, asserting_non_null, branching_on_null, branching_on_non_null, branching_by_table, setting, giving_back, measuring, comparing, converting, shape_of}
 use Rattle.wasm_operator_arity.specs.Asked.{Asked}
 
@@ -67,7 +67,7 @@ module _ (M : Asked) where
 
   -- How many types a list has that is named so. What is named by one local, global, function, table, memory, segment, field or
   -- element is one type.
-  abbrev pub how_many : Types → Option ℕ
+  abbrev pub how_many : OperandTypes → Option ℕ
   how_many (these vs) = Some (length vs)
   how_many (params g) = takes_of (signature_counts g)
   how_many (results g) = gives_of (signature_counts g)

@@ -7,7 +7,7 @@ use Rattle.wasm_readers_types.specs.declared.indices.UnpackedIndex.{UnpackedInde
 use Rattle.wasm_readers_types.specs.declared.indices.UnpackedIndex.TheVariants.{Id}
 use Rattle.wasm_operator_steps.specs.Bodies.{Surroundings}
 use Rattle.wasm_operator_steps.specs.Machine.{Frame, State}
-use Rattle.wasm_operator_steps.specs.Actions.{of_tag, Types}
+use Rattle.wasm_operator_steps.specs.Actions.{of_tag, OperandTypes}
 use Rattle.wasm_operator_steps.specs.Meanings.{Signature, sub_at, signature_at, types_at}
 use Rattle.wasm_operator_arity.specs.Arities.{how_many}
 use Rattle.wasm_operator_arity.specs.Asked.{Asked}
@@ -28,5 +28,5 @@ asked_of W B s = record {
 
 abbrev pub CountsAreLengths : Type 0
 CountsAreLengths =
-    (W : World UnpackedIndex) (B : Surroundings UnpackedIndex) (s : State UnpackedIndex) (t : Types) (vs : List (Val UnpackedIndex))
+    (W : World UnpackedIndex) (B : Surroundings UnpackedIndex) (s : State UnpackedIndex) (t : OperandTypes) (vs : List (Val UnpackedIndex))
     → types_at W B s t ≡ Some vs → how_many (asked_of W B s) t ≡ Some (length vs)

@@ -11,7 +11,7 @@ use std::alloc::Allocator;
 use wasm_module_resources::WasmModuleResources;
 use wasm_numeric_operators::NumberType;
 use wasm_operator_aggregates::{is_packed, nullable, same_flag, unpack};
-use wasm_operator_checks::{OperatorError, OperatorFault, OperatorRule, Takes, Types, plain};
+use wasm_operator_checks::{OperatorError, OperatorFault, OperatorRule, Takes, ValTypes, plain};
 use wasm_operator_stacks::Stacks;
 use wasm_type_words::TypeWord;
 
@@ -50,7 +50,7 @@ fn get<A: Allocator, T: WasmModuleResources>(
         stacks,
         resources,
         Takes::Two(nullable(array.identity), TypeWord::number(NumberType::I32)),
-        Types::One(TypeWord::new(unpack(array.ty.element_type))),
+        ValTypes::One(TypeWord::new(unpack(array.ty.element_type))),
     )
 }
 
@@ -120,6 +120,6 @@ pub fn array_set<A: Allocator, T: WasmModuleResources>(
             TypeWord::number(NumberType::I32),
             TypeWord::new(unpack(array.ty.element_type)),
         ),
-        Types::None,
+        ValTypes::None,
     )
 }

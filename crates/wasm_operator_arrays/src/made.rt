@@ -13,7 +13,7 @@ use std::alloc::Allocator;
 use wasm_module_resources::WasmModuleResources;
 use wasm_numeric_operators::NumberType;
 use wasm_operator_aggregates::{has_default, new_reference, unpack};
-use wasm_operator_checks::{OperatorError, OperatorFault, OperatorRule, Takes, Types, plain};
+use wasm_operator_checks::{OperatorError, OperatorFault, OperatorRule, Takes, ValTypes, plain};
 use wasm_operator_stacks::Stacks;
 use wasm_type_words::TypeWord;
 
@@ -39,7 +39,7 @@ pub fn array_new<A: Allocator, T: WasmModuleResources>(
         stacks,
         resources,
         Takes::Two(element, TypeWord::number(NumberType::I32)),
-        Types::One(given),
+        ValTypes::One(given),
     )
 }
 
@@ -70,7 +70,7 @@ pub fn array_new_default<A: Allocator, T: WasmModuleResources>(
         stacks,
         resources,
         Takes::One(TypeWord::number(NumberType::I32)),
-        Types::One(given),
+        ValTypes::One(given),
     )
 }
 
@@ -126,7 +126,7 @@ pub fn array_new_data<A: Allocator, T: WasmModuleResources>(
             stacks,
             resources,
             Takes::Two(number, number),
-            Types::One(given),
+            ValTypes::One(given),
         ),
         Err(fault) => Err(OperatorError::Refused(fault)),
     }
@@ -156,7 +156,7 @@ pub fn array_new_elem<A: Allocator, T: WasmModuleResources>(
             stacks,
             resources,
             Takes::Two(number, number),
-            Types::One(given),
+            ValTypes::One(given),
         ),
         Err(fault) => Err(OperatorError::Refused(fault)),
     }

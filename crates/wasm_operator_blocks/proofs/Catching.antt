@@ -7,7 +7,7 @@ use Rattle.wasm_readers_types.specs.declared.indices.UnpackedIndex.{UnpackedInde
 use Rattle.wasm_operators.specs.SeenLists.{GivesFront}
 use Rattle.wasm_operators.specs.declared.control.Catch.{Catch}
 use Rattle.wasm_operators.specs.declared.control.Catch.TheVariants as catch
-use Rattle.wasm_operator_steps.specs.Actions.{Types, of_tag, params, label, joined, is_exception, each_matches}
+use Rattle.wasm_operator_steps.specs.Actions.{OperandTypes, of_tag, params, label, joined, is_exception, each_matches}
 use Rattle.wasm_operator_steps.specs.Attempts.{passes}
 use Rattle.wasm_operator_steps.specs.Matching.{matches_vals}
 use Rattle.wasm_operator_steps.specs.Meanings.{types_at, holds}
@@ -26,11 +26,11 @@ and_true true = refl
 and_true false = refl
 
 module _ {A : Type 0} (v : Stacks A) (C : Context UnpackedIndex) where
-  matches_sent : (t : Types) (vs : List (Val UnpackedIndex)) (n : ℕ) → typed v C t ≡ Some vs → (held v C (each_matches t (label n)) && true) ≡ sends v C vs n
+  matches_sent : (t : OperandTypes) (vs : List (Val UnpackedIndex)) (n : ℕ) → typed v C t ≡ Some vs → (held v C (each_matches t (label n)) && true) ≡ sends v C vs n
   unfolding held typed sends
   matches_sent t vs n e = and_true _ ∙ ap (passes (λ us. passes (matches_vals (world C) us) (types_at (world C) (around v C) (state_of v) (label n)))) e
 
-  with_exception : (t : Types) (vs : List (Val UnpackedIndex)) → typed v C t ≡ Some vs → typed v C (joined t exception) ≡ Some (vs ++ exception_val ∷ [])
+  with_exception : (t : OperandTypes) (vs : List (Val UnpackedIndex)) → typed v C t ≡ Some vs → typed v C (joined t exception) ≡ Some (vs ++ exception_val ∷ [])
   unfolding typed
   with_exception t vs e = rw e refl
 

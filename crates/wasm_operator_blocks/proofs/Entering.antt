@@ -7,7 +7,7 @@ use Rattle.wasm_spec.specs.Syntax.{Val, i32}
 use Rattle.wasm_rules.specs.Contexts.{Context}
 use Rattle.wasm_readers_types.specs.declared.indices.UnpackedIndex.{UnpackedIndex}
 use Rattle.wasm_operators.specs.Control.{Block, empty_block, value_block, func_block}
-use Rattle.wasm_operator_steps.specs.Actions.{Types, Check, has, exceptions, Action, take, enter}
+use Rattle.wasm_operator_steps.specs.Actions.{OperandTypes, Check, has, exceptions, Action, take, enter}
 use Rattle.wasm_operator_steps.specs.Attempts.{◌>>=◌, guard}
 use Rattle.wasm_operator_steps.specs.Bodies.{Surroundings}
 use Rattle.wasm_operator_steps.specs.Machine.{Kind, State, pop_val, pop_vals, push_frame}
@@ -151,12 +151,12 @@ module _ {A : Type 0} (v : Stacks A) (C : Context UnpackedIndex) where
   abbrev behind_checks : Block ℕ → List Action → Option (State UnpackedIndex)
   behind_checks b rest = run (world C) (around v C) (checked (block_checks b) rest) (state_of v)
 
-  unknown_by : (h : Bool) (k : Kind) (b : Block ℕ) (t : Types) → hold_all (world C) (around v C) (state_of v) (block_checks b) ≡ h → (if h then (resolve_block C.types b >>= taken_by C) else None) ≡ None → behind_checks b (take t ∷ enter k b ∷ []) ≡ None
+  unknown_by : (h : Bool) (k : Kind) (b : Block ℕ) (t : OperandTypes) → hold_all (world C) (around v C) (state_of v) (block_checks b) ≡ h → (if h then (resolve_block C.types b >>= taken_by C) else None) ≡ None → behind_checks b (take t ∷ enter k b ∷ []) ≡ None
   unknown_by false k b t h e = not_checked (world C) (around v C) (block_checks b) (take t ∷ enter k b ∷ []) (state_of v) h
   unknown_by true k b t h e =
       all_checked (world C) (around v C) (block_checks b) (take t ∷ enter k b ∷ []) (state_of v) h ∙ not_entered k b (types_at (world C) (around v C) (state_of v) t >>= λ vs. pop_vals (world C) vs (state_of v)) e
 
-  pub unknown_entered : (k : Kind) (b : Block ℕ) (t : Types) → block_known v C b ≡ None → acted v C (checked (block_checks b) (take t ∷ enter k b ∷ [])) ≡ None
+  pub unknown_entered : (k : Kind) (b : Block ℕ) (t : OperandTypes) → block_known v C b ≡ None → acted v C (checked (block_checks b) (take t ∷ enter k b ∷ [])) ≡ None
   unfolding acted block_known
   unknown_entered k b t e = unknown_by (hold_all (world C) (around v C) (state_of v) (block_checks b)) k b t refl e
 

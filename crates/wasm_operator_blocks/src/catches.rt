@@ -15,7 +15,7 @@ use crate::exceptions::thrown_types;
 use std::alloc::Allocator;
 use wasm_module_resources::WasmModuleResources;
 use wasm_operator_calls::match_types;
-use wasm_operator_checks::{OperatorFault, OperatorRule, Types, match_all};
+use wasm_operator_checks::{OperatorFault, OperatorRule, ValTypes, match_all};
 use wasm_operator_control::label_types;
 use wasm_operator_stacks::Stacks;
 use wasm_operators::{Catch, Listed};
@@ -50,15 +50,15 @@ fn match_sent_with<'a, T: WasmModuleResources>(
     resources: &T,
     sent: &[ValType],
     last: ValType,
-    types: Types<'a>,
+    types: ValTypes<'a>,
 ) -> bool
     ensures { result ≡ matches_vals (world (T.context resources.now))
         (map val_of sent.now ++ val_of last ∷ []) (types_seen types.entry) }
 {
     match types {
-        Types::None => false,
-        Types::One(ty) => sent.is_empty() && resources.is_subtype(last, ty.ty()),
-        Types::Many(types) => match_list_with(resources, sent, last, types),
+        ValTypes::None => false,
+        ValTypes::One(ty) => sent.is_empty() && resources.is_subtype(last, ty.ty()),
+        ValTypes::Many(types) => match_list_with(resources, sent, last, types),
     }
 }
 

@@ -19,7 +19,7 @@ use std::alloc::Allocator;
 use wasm_module_resources::WasmModuleResources;
 use wasm_numeric_operators::NumberType;
 use wasm_operator_checks::{
-    OperatorError, OperatorFault, OperatorRule, Takes, Types, check_type, has, look, plain,
+    OperatorError, OperatorFault, OperatorRule, Takes, ValTypes, check_type, has, look, plain,
 };
 use wasm_operator_stacks::{Operand, Stacks, Word};
 use wasm_operators::Listed;
@@ -143,7 +143,7 @@ pub fn select_of<A: Allocator, T: WasmModuleResources>(
                 stacks,
                 resources,
                 Takes::Three(word, word, condition),
-                Types::One(word),
+                ValTypes::One(word),
             )
         }
         Err(_) => Err(OperatorError::Refused(OperatorFault::new(OperatorRule::ValueType))),

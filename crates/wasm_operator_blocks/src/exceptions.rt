@@ -10,7 +10,7 @@ ghost use Rattle.wasm_operator_blocks.specs.Sent.{thrown_in};
 
 use std::alloc::Allocator;
 use wasm_module_resources::WasmModuleResources;
-use wasm_operator_checks::{OperatorError, OperatorFault, OperatorRule, Types, halt, has};
+use wasm_operator_checks::{OperatorError, OperatorFault, OperatorRule, ValTypes, halt, has};
 use wasm_operator_stacks::Stacks;
 use wasm_readers_errors::WasmFeatures;
 use wasm_readers_types::{RefType, ValType};
@@ -60,7 +60,7 @@ pub fn throw<A: Allocator, T: WasmModuleResources>(
         return Err(OperatorError::Refused(OperatorFault::new(OperatorRule::Exceptions)));
     }
     match thrown_types(resources, tag) {
-        Ok(types) => halt(stacks, resources, Types::Many(types)),
+        Ok(types) => halt(stacks, resources, ValTypes::Many(types)),
         Err(fault) => Err(OperatorError::Refused(fault)),
     }
 }
@@ -87,6 +87,6 @@ pub fn throw_ref<A: Allocator, T: WasmModuleResources>(
     halt(
         stacks,
         resources,
-        Types::One(TypeWord::reference(RefType::EXNREF)),
+        ValTypes::One(TypeWord::reference(RefType::EXNREF)),
     )
 }

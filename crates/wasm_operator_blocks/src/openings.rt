@@ -12,7 +12,7 @@ ghost use Rattle.wasm_operator_blocks.specs.Known.{Opens, block_known};
 use std::alloc::Allocator;
 use wasm_module_resources::WasmModuleResources;
 use wasm_operator_calls::type_reached;
-use wasm_operator_checks::{OperatorFault, OperatorRule, Types, has};
+use wasm_operator_checks::{OperatorFault, OperatorRule, ValTypes, has};
 use wasm_operator_stacks::{BlockWord, Stacks};
 use wasm_operators::BlockType;
 use wasm_readers_errors::WasmFeatures;
@@ -23,7 +23,7 @@ use wasm_type_words::TypeWord;
 #[derive(Clone, Copy)]
 pub(crate) struct Opening<'a> {
     pub(crate) word: BlockWord,
-    pub(crate) takes: Types<'a>,
+    pub(crate) takes: ValTypes<'a>,
 }
 
 /// A block with one result of a written type.
@@ -41,7 +41,7 @@ fn resolve_value<'a, A: Allocator, T: WasmModuleResources>(
     match resources.check_value_type(&mut named, &stacks.features, 0) {
         Ok(()) => Ok(Opening {
             word: BlockWord::value(TypeWord::new(named)),
-            takes: Types::None,
+            takes: ValTypes::None,
         }),
         Err(_) => Err(OperatorFault::new(OperatorRule::ValueType)),
     }
@@ -63,7 +63,7 @@ fn resolve_function<'a, A: Allocator, T: WasmModuleResources>(
     match type_reached(stacks, resources, type_index) {
         Ok(signature) => Ok(Opening {
             word: BlockWord::func(type_index),
-            takes: Types::Many(signature.params()),
+            takes: ValTypes::Many(signature.params()),
         }),
         Err(fault) => Err(fault),
     }
@@ -82,7 +82,7 @@ pub(crate) fn resolve<'a, A: Allocator, T: WasmModuleResources>(
     match ty {
         BlockType::Empty => Ok(Opening {
             word: BlockWord::empty(),
-            takes: Types::None,
+            takes: ValTypes::None,
         }),
         BlockType::Value(ty) => resolve_value(stacks, resources, ty),
         BlockType::FuncType(type_index) => resolve_function(stacks, resources, type_index),

@@ -14,7 +14,7 @@ use std::alloc::Allocator;
 use wasm_module_resources::WasmModuleResources;
 use wasm_numeric_operators::NumberType;
 use wasm_operator_checks::{
-    OperatorError, OperatorFault, OperatorRule, Types, check_type, check_types,
+    OperatorError, OperatorFault, OperatorRule, ValTypes, check_type, check_types,
 };
 use wasm_operator_control::label_types;
 use wasm_operator_stacks::Stacks;
@@ -23,13 +23,13 @@ use wasm_type_words::TypeWord;
 
 /// How many types these are.
 #[tactic(auto, using(crate::proofs::Tabled::counts))]
-fn count<'a>(types: Types<'a>) -> usize
+fn count<'a>(types: ValTypes<'a>) -> usize
     ensures { result ≡ length (types_seen types.entry) }
 {
     match types {
-        Types::None => 0,
-        Types::One(_) => 1,
-        Types::Many(types) => types.len(),
+        ValTypes::None => 0,
+        ValTypes::One(_) => 1,
+        ValTypes::Many(types) => types.len(),
     }
 }
 

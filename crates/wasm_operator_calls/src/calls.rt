@@ -10,7 +10,7 @@ use crate::results::listed;
 use std::alloc::Allocator;
 use wasm_module_resources::WasmModuleResources;
 use wasm_operator_checks::{
-    OperatorError, OperatorFault, OperatorRule, Takes, Types, address, has, plain, plain_with,
+    OperatorError, OperatorFault, OperatorRule, Takes, ValTypes, address, has, plain, plain_with,
 };
 use wasm_operator_stacks::Stacks;
 use wasm_operator_tables::table_reached;
@@ -67,7 +67,7 @@ pub fn call_indirect<A: Allocator, T: WasmModuleResources>(
         Ok(signature) => plain_with(
             stacks,
             resources,
-            Types::Many(signature.params()),
+            ValTypes::Many(signature.params()),
             address(table.table64),
             listed(signature.results()),
         ),
@@ -103,7 +103,7 @@ pub fn call_ref<A: Allocator, T: WasmModuleResources>(
         Ok(signature) => plain_with(
             stacks,
             resources,
-            Types::Many(signature.params()),
+            ValTypes::Many(signature.params()),
             reference,
             listed(signature.results()),
         ),

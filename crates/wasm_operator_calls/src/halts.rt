@@ -10,7 +10,7 @@ ghost use Rattle.wasm_operator_checks.specs.SeenTypes.{types_seen, halted};
 use std::alloc::Allocator;
 use wasm_module_resources::WasmModuleResources;
 use wasm_operator_checks::{
-    OperatorError, OperatorFault, OperatorRule, Types, check_type, check_types,
+    OperatorError, OperatorFault, OperatorRule, ValTypes, check_type, check_types,
 };
 use wasm_operator_stacks::Stacks;
 use wasm_type_words::TypeWord;
@@ -21,7 +21,7 @@ use wasm_type_words::TypeWord;
 pub fn halt_with<'a, A: Allocator, T: WasmModuleResources>(
     stacks: &mut Stacks<A>,
     resources: &T,
-    takes: Types<'a>,
+    takes: ValTypes<'a>,
     top: TypeWord,
 ) -> Result<(), OperatorError>
     ensures took { Turns result (halted (world (T.context resources.now))

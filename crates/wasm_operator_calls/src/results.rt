@@ -11,7 +11,7 @@ ghost use Rattle.wasm_operator_checks.specs.SeenTypes.{types_seen};
 
 use std::alloc::Allocator;
 use wasm_module_resources::WasmModuleResources;
-use wasm_operator_checks::{Types, match_all};
+use wasm_operator_checks::{ValTypes, match_all};
 use wasm_operator_control::returned_types;
 use wasm_operator_stacks::Stacks;
 use wasm_readers_types::ValType;
@@ -20,13 +20,13 @@ use wasm_type_words::TypeWord;
 /// A list of types. One or none of them is taken out of its list, so that no loop goes over it.
 #[inline(always)]
 #[tactic(auto, using(crate::proofs::Returned::lists))]
-pub(crate) fn listed<'a>(types: &'a [ValType]) -> Types<'a>
+pub(crate) fn listed<'a>(types: &'a [ValType]) -> ValTypes<'a>
     ensures { types_seen result ≡ map val_of types.now }
 {
     match types.len() {
-        0 => Types::None,
-        1 => Types::One(TypeWord::new(types[0])),
-        _ => Types::Many(types),
+        0 => ValTypes::None,
+        1 => ValTypes::One(TypeWord::new(types[0])),
+        _ => ValTypes::Many(types),
     }
 }
 
@@ -35,25 +35,25 @@ pub(crate) fn listed<'a>(types: &'a [ValType]) -> Types<'a>
 pub fn match_types<'a, T: WasmModuleResources>(
     resources: &T,
     types: &[ValType],
-    others: Types<'a>,
+    others: ValTypes<'a>,
 ) -> bool
     ensures { result ≡ matches_vals (world (T.context resources.now)) (map val_of types.now)
         (types_seen others.entry) }
 {
     match others {
-        Types::None => {
+        ValTypes::None => {
             if types.len() != 0 {
                 return false;
             }
             true
         }
-        Types::One(other) => {
+        ValTypes::One(other) => {
             if types.len() != 1 {
                 return false;
             }
             resources.is_subtype(types[0], other.ty())
         }
-        Types::Many(others) => match_all(resources, types, others),
+        ValTypes::Many(others) => match_all(resources, types, others),
     }
 }
 

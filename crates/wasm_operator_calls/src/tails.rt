@@ -10,7 +10,9 @@ use crate::reach::{function_reached, null_or, type_reached};
 use crate::results::returns;
 use std::alloc::Allocator;
 use wasm_module_resources::WasmModuleResources;
-use wasm_operator_checks::{OperatorError, OperatorFault, OperatorRule, Types, address, halt, has};
+use wasm_operator_checks::{
+    OperatorError, OperatorFault, OperatorRule, ValTypes, address, halt, has,
+};
 use wasm_operator_stacks::Stacks;
 use wasm_operator_tables::table_reached;
 use wasm_readers_errors::WasmFeatures;
@@ -35,7 +37,7 @@ pub fn return_call<A: Allocator, T: WasmModuleResources>(
     if !returns(stacks, resources, signature.results()) {
         return Err(OperatorError::Refused(OperatorFault::new(OperatorRule::ReturnTypes)));
     }
-    halt(stacks, resources, Types::Many(signature.params()))
+    halt(stacks, resources, ValTypes::Many(signature.params()))
 }
 
 /// `return_call_indirect`: takes the parameters of a function type with a place in a table of
@@ -72,7 +74,7 @@ pub fn return_call_indirect<A: Allocator, T: WasmModuleResources>(
     halt_with(
         stacks,
         resources,
-        Types::Many(signature.params()),
+        ValTypes::Many(signature.params()),
         address(table.table64),
     )
 }
@@ -112,7 +114,7 @@ pub fn return_call_ref<A: Allocator, T: WasmModuleResources>(
     halt_with(
         stacks,
         resources,
-        Types::Many(signature.params()),
+        ValTypes::Many(signature.params()),
         reference,
     )
 }

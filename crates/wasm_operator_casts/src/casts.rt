@@ -12,7 +12,9 @@ use crate::tops::{abstract_to, can_be_tested, top_of};
 use std::alloc::Allocator;
 use wasm_module_resources::WasmModuleResources;
 use wasm_numeric_operators::NumberType;
-use wasm_operator_checks::{OperatorError, OperatorFault, OperatorRule, Takes, Types, has, plain};
+use wasm_operator_checks::{
+    OperatorError, OperatorFault, OperatorRule, Takes, ValTypes, has, plain,
+};
 use wasm_operator_references::{allows_heap, resolve};
 use wasm_operator_stacks::Stacks;
 use wasm_readers_errors::WasmFeatures;
@@ -56,7 +58,7 @@ pub fn ref_test<A: Allocator, T: WasmModuleResources>(
         stacks,
         resources,
         Takes::One(TypeWord::reference(abstract_to(true, shared, top))),
-        Types::One(TypeWord::number(NumberType::I32)),
+        ValTypes::One(TypeWord::number(NumberType::I32)),
     )
 }
 
@@ -98,7 +100,7 @@ pub fn ref_cast<A: Allocator, T: WasmModuleResources>(
             stacks,
             resources,
             Takes::One(TypeWord::reference(abstract_to(true, shared, top))),
-            Types::One(TypeWord::reference(ty)),
+            ValTypes::One(TypeWord::reference(ty)),
         ),
         None => Err(OperatorError::Refused(OperatorFault::new(OperatorRule::UnknownType))),
     }

@@ -19,7 +19,9 @@ use crate::tops::abstract_to;
 use std::alloc::Allocator;
 use wasm_module_resources::WasmModuleResources;
 use wasm_numeric_operators::NumberType;
-use wasm_operator_checks::{OperatorError, OperatorFault, OperatorRule, Takes, Types, has, plain};
+use wasm_operator_checks::{
+    OperatorError, OperatorFault, OperatorRule, Takes, ValTypes, has, plain,
+};
 use wasm_operator_references::{Referenced, allows_heap, look_below};
 use wasm_operator_stacks::{Stacks, Word};
 use wasm_readers_errors::WasmFeatures;
@@ -141,7 +143,7 @@ fn box_integer<A: Allocator, T: WasmModuleResources>(
         stacks,
         resources,
         Takes::One(TypeWord::number(NumberType::I32)),
-        Types::One(TypeWord::reference(abstract_to(false, shared, AbstractHeapType::I31))),
+        ValTypes::One(TypeWord::reference(abstract_to(false, shared, AbstractHeapType::I31))),
     )
 }
 

@@ -14,7 +14,7 @@ ghost use Rattle.wasm_operator_casts.specs.Sent.{sending};
 use std::alloc::Allocator;
 use wasm_module_resources::WasmModuleResources;
 use wasm_operator_checks::{
-    OperatorError, OperatorFault, OperatorRule, Types, check_type, check_types,
+    OperatorError, OperatorFault, OperatorRule, ValTypes, check_type, check_types,
 };
 use wasm_operator_control::label_types;
 use wasm_operator_references::{exchange_with, front_types, last_type};
@@ -28,7 +28,7 @@ use wasm_type_words::TypeWord;
 fn exchange_top<'a, A: Allocator, T: WasmModuleResources>(
     stacks: &mut Stacks<A>,
     resources: &T,
-    types: Types<'a>,
+    types: ValTypes<'a>,
     takes: TypeWord,
     gives: TypeWord,
 ) -> Result<(), OperatorError>

@@ -10,7 +10,7 @@ use Rattle.wasm_rules.specs.FeatureFlags.{features_of}
 use Rattle.wasm_readers_types.specs.declared.indices.UnpackedIndex.{UnpackedIndex}
 use Rattle.wasm_operator_steps.specs.Attempts.{◌>>=◌, guard}
 use Rattle.wasm_operator_steps.specs.Bodies.{Surroundings}
-use Rattle.wasm_operator_steps.specs.Actions.{Types, Needed, Check, has, allows, Action, need, take, give, stop}
+use Rattle.wasm_operator_steps.specs.Actions.{OperandTypes, Needed, Check, has, allows, Action, need, take, give, stop}
 use Rattle.wasm_operator_steps.specs.Meanings.{run, types_at, holds, is_on}
 use Rattle.wasm_operator_steps.specs.Machine.{State, become_unreachable, pop_vals, push_vals}
 use Rattle.wasm_operator_steps.proofs.TakenInTurn.{types_at-frames, pop_vals-frames}
@@ -39,17 +39,17 @@ pub took_memory : (o : Option (State UnpackedIndex)) (old new : State UnpackedIn
 unfolding Took
 took_memory o old new h = h
 
-given_after : (W : World UnpackedIndex) (B : Surroundings UnpackedIndex) (u : Types) (vs ws : List (Val UnpackedIndex)) (s : State UnpackedIndex) (o : Option (State UnpackedIndex))
+given_after : (W : World UnpackedIndex) (B : Surroundings UnpackedIndex) (u : OperandTypes) (vs ws : List (Val UnpackedIndex)) (s : State UnpackedIndex) (o : Option (State UnpackedIndex))
     → pop_vals W vs s ≡ o → types_at W B s u ≡ Some ws → (o >>= run W B (give u ∷ [])) ≡ (o >>= λ t. Some (push_vals ws t))
 given_after W B u vs ws s None p e = refl
 given_after W B u vs ws s (Some t) p e = rw (types_at-frames W B s t (pop_vals-frames W vs s t p).0 u, e) refl
 
-none_after : (W : World UnpackedIndex) (B : Surroundings UnpackedIndex) (u : Types) (vs : List (Val UnpackedIndex)) (s : State UnpackedIndex) (o : Option (State UnpackedIndex))
+none_after : (W : World UnpackedIndex) (B : Surroundings UnpackedIndex) (u : OperandTypes) (vs : List (Val UnpackedIndex)) (s : State UnpackedIndex) (o : Option (State UnpackedIndex))
     → pop_vals W vs s ≡ o → types_at W B s u ≡ None → (o >>= run W B (give u ∷ [])) ≡ None
 none_after W B u vs s None p e = refl
 none_after W B u vs s (Some t) p e = rw (types_at-frames W B s t (pop_vals-frames W vs s t p).0 u, e) refl
 
-none_given : (W : World UnpackedIndex) (B : Surroundings UnpackedIndex) (t u : Types) (s : State UnpackedIndex) (o : Option (List (Val UnpackedIndex))) → types_at W B s t ≡ o → types_at W B s u ≡ None → run W B (take t ∷ give u ∷ []) s ≡ None
+none_given : (W : World UnpackedIndex) (B : Surroundings UnpackedIndex) (t u : OperandTypes) (s : State UnpackedIndex) (o : Option (List (Val UnpackedIndex))) → types_at W B s t ≡ o → types_at W B s u ≡ None → run W B (take t ∷ give u ∷ []) s ≡ None
 none_given W B t u s None p e = rw p refl
 none_given W B t u s (Some vs) p e = rw p (none_after W B u vs s (pop_vals W vs s) refl e)
 
@@ -74,21 +74,21 @@ module _ {A : Type 0} (v : Stacks A) (C : Context UnpackedIndex) where
   unfolding acted Took
   refused_later f c rest old new t = (elim (holds (world C) (around v C) (state_of v) c) as (λ b. (guard b (state_of v) >>= run (world C) (around v C) rest) ≡ None) [ true ↦ t.0 | false ↦ refl ], t.1)
 
-  pub refused_takes : (f : OperatorFault) (t : Types) (rest : List Action) (old : State UnpackedIndex) → typed v C t ≡ None → Took (Err (Refused f)) (acted v C (take t ∷ rest)) old old
+  pub refused_takes : (f : OperatorFault) (t : OperandTypes) (rest : List Action) (old : State UnpackedIndex) → typed v C t ≡ None → Took (Err (Refused f)) (acted v C (take t ∷ rest)) old old
   unfolding acted typed
   refused_takes f t rest old e = took_refused f _ old old (rw e refl) refl
 
-  pub plainly : (r : Result (Unit {0}) OperatorError) (t u : Types) (vs ws : List (Val UnpackedIndex)) (old new : State UnpackedIndex) → Took r (exchanged (world C) vs ws (state_of v)) old new → typed v C t ≡ Some vs → typed v C u ≡ Some ws
+  pub plainly : (r : Result (Unit {0}) OperatorError) (t u : OperandTypes) (vs ws : List (Val UnpackedIndex)) (old new : State UnpackedIndex) → Took r (exchanged (world C) vs ws (state_of v)) old new → typed v C t ≡ Some vs → typed v C u ≡ Some ws
       → Took r (acted v C (take t ∷ give u ∷ [])) old new
   unfolding acted typed exchanged
   plainly r t u vs ws old new k e f = took_along r _ _ old new (rw e (given_after (world C) (around v C) u vs ws (state_of v) (pop_vals (world C) vs (state_of v)) refl f)) k
 
-  pub halting : (r : Result (Unit {0}) OperatorError) (t : Types) (vs : List (Val UnpackedIndex)) (old new : State UnpackedIndex) → Took r (halted (world C) vs (state_of v)) old new → typed v C t ≡ Some vs → Took r (acted v C (take t ∷ stop ∷ [])) old new
+  pub halting : (r : Result (Unit {0}) OperatorError) (t : OperandTypes) (vs : List (Val UnpackedIndex)) (old new : State UnpackedIndex) → Took r (halted (world C) vs (state_of v)) old new → typed v C t ≡ Some vs → Took r (acted v C (take t ∷ stop ∷ [])) old new
   unfolding acted typed halted
   halting r t vs old new k e = took_along r _ _ old new (rw e (once_more (pop_vals (world C) vs (state_of v)))) k
 
   -- types that aren't there
-  pub refused_gives : (f : OperatorFault) (t u : Types) (old : State UnpackedIndex) → typed v C u ≡ None → Took (Err (Refused f)) (acted v C (take t ∷ give u ∷ [])) old old
+  pub refused_gives : (f : OperatorFault) (t u : OperandTypes) (old : State UnpackedIndex) → typed v C u ≡ None → Took (Err (Refused f)) (acted v C (take t ∷ give u ∷ [])) old old
   unfolding acted typed
   refused_gives f t u old e = took_refused f _ old old (none_given (world C) (around v C) t u (state_of v) (types_at (world C) (around v C) (state_of v) t) refl e) refl
 

@@ -13,7 +13,7 @@ use Rattle.wasm_flat_operators.specs.Memories.{max_align_of}
 use Rattle.wasm_flat_operators.specs.declared.memories.MemoryOperator.{MemoryOperator}
 use Rattle.wasm_flat_operators.specs.declared.memories.MemArg.{MemArg}
 use Rattle.wasm_type_words.specs.Seen.{number_val}
-use Rattle.wasm_operator_steps.specs.Actions.{Types, Check, these, memory_address, lesser_memory_address, joined, is_aligned, data_is_there}
+use Rattle.wasm_operator_steps.specs.Actions.{OperandTypes, Check, these, memory_address, lesser_memory_address, joined, is_aligned, data_is_there}
 use Rattle.wasm_operator_steps.specs.Attempts.{◌>>=◌, passes}
 use Rattle.wasm_operator_steps.specs.Meanings.{types_at, holds, resolve_val, address}
 use Rattle.wasm_operator_steps.specs.Shapes.{number_type}
@@ -33,7 +33,7 @@ module _ {A : Type 0} (v : Stacks A) (C : Context UnpackedIndex) where
   written_typed w x e = rw e refl
 
   -- by what they compute to
-  pub types_typed : (t : Types) (o : Option (List (Val UnpackedIndex))) → types_at (world C) (around v C) (state_of v) t ≡ o → typed v C t ≡ o
+  pub types_typed : (t : OperandTypes) (o : Option (List (Val UnpackedIndex))) → types_at (world C) (around v C) (state_of v) t ≡ o → typed v C t ≡ o
   unfolding typed
   types_typed t o e = e
 
@@ -64,15 +64,15 @@ module _ {A : Type 0} (v : Stacks A) (C : Context UnpackedIndex) where
   two_i32s_typed x y e f = rw (e, f) refl
 
   -- lists one behind another
-  pub joined_typed : (t u : Types) (x : Val UnpackedIndex) (xs : List (Val UnpackedIndex)) → typed v C t ≡ Some (x ∷ []) → typed v C u ≡ Some xs → typed v C (joined t u) ≡ Some (x ∷ xs)
+  pub joined_typed : (t u : OperandTypes) (x : Val UnpackedIndex) (xs : List (Val UnpackedIndex)) → typed v C t ≡ Some (x ∷ []) → typed v C u ≡ Some xs → typed v C (joined t u) ≡ Some (x ∷ xs)
   unfolding typed
   joined_typed t u x xs e f = rw (e, f) refl
 
-  pub both_typed : (t u : Types) (xs ys : List (Val UnpackedIndex)) → typed v C t ≡ Some xs → typed v C u ≡ Some ys → typed v C (joined t u) ≡ Some (xs ++ ys)
+  pub both_typed : (t u : OperandTypes) (xs ys : List (Val UnpackedIndex)) → typed v C t ≡ Some xs → typed v C u ≡ Some ys → typed v C (joined t u) ≡ Some (xs ++ ys)
   unfolding typed
   both_typed t u xs ys e f = rw (e, f) refl
 
-  pub first_untyped : (t u : Types) → typed v C t ≡ None → typed v C (joined t u) ≡ None
+  pub first_untyped : (t u : OperandTypes) → typed v C t ≡ None → typed v C (joined t u) ≡ None
   unfolding typed
   first_untyped t u e = rw e refl
 
@@ -89,7 +89,7 @@ module _ {A : Type 0} (v : Stacks A) (C : Context UnpackedIndex) where
   unfolding typed
   lesser_memory_typed n k m p x e f g = rw (← e, ← f, g) refl
 
-  pub second_untyped : (t u : Types) → typed v C u ≡ None → typed v C (joined t u) ≡ None
+  pub second_untyped : (t u : OperandTypes) → typed v C u ≡ None → typed v C (joined t u) ≡ None
   unfolding typed
   second_untyped t u e = elim (types_at (world C) (around v C) (state_of v) t) as (λ o. (o >>= λ vs. types_at (world C) (around v C) (state_of v) u >>= λ ws. Some (vs ++ ws)) ≡ None) [ None ↦ refl | Some vs ↦ rw e refl ]
 

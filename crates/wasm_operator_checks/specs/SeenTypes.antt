@@ -7,12 +7,12 @@ use Rattle.wasm_readers_types.specs.declared.indices.UnpackedIndex.{UnpackedInde
 use Rattle.wasm_type_words.specs.Seen.{val_in}
 use Rattle.wasm_operator_steps.specs.Attempts.{◌>>=◌}
 use Rattle.wasm_operator_steps.specs.Machine.{State, become_unreachable, pop_vals, push_vals}
-use Rattle.wasm_operator_checks.specs.declared.types.Types.{Types}
-use Rattle.wasm_operator_checks.specs.declared.types.Types.TheVariants as types
+use Rattle.wasm_operator_checks.specs.declared.types.ValTypes.{ValTypes}
+use Rattle.wasm_operator_checks.specs.declared.types.ValTypes.TheVariants as types
 use Rattle.wasm_operator_checks.specs.declared.types.Takes.{Takes}
 use Rattle.wasm_operator_checks.specs.declared.types.Takes.TheVariants as takes
 
-abbrev pub types_seen : Types → List (Val UnpackedIndex)
+abbrev pub types_seen : ValTypes → List (Val UnpackedIndex)
 types_seen types.None = []
 types_seen (types.One t) = val_in t ∷ []
 types_seen (types.Many ts) = map val_of ts.now

@@ -3,7 +3,7 @@ use Rattle.std.specs.Prelude.{◌≡◌, ◌≤◌, ℕ, Bool, List, length, Opt
 use Rattle.wasm_spec.specs.Syntax.{Val}
 use Rattle.wasm_rules.specs.Contexts.{Context}
 use Rattle.wasm_readers_types.specs.declared.indices.UnpackedIndex.{UnpackedIndex}
-use Rattle.wasm_operator_steps.specs.Actions.{Action, Check, Types}
+use Rattle.wasm_operator_steps.specs.Actions.{Action, Check, OperandTypes}
 use Rattle.wasm_operator_steps.specs.Meanings.{run, holds, types_at}
 use Rattle.wasm_operator_steps.specs.Shapes.{Shape}
 use Rattle.wasm_operator_steps.specs.Steps.{actions_of}
@@ -40,7 +40,7 @@ module _ {A : Type 0} (v : Stacks A) (C : Context UnpackedIndex) where
   unfoldable pub acted : List Action → Option (State UnpackedIndex)
   acted actions = run (world C) (around v C) actions (state_of v)
 
-  unfoldable pub typed : Types → Option (List (Val UnpackedIndex))
+  unfoldable pub typed : OperandTypes → Option (List (Val UnpackedIndex))
   typed t = types_at (world C) (around v C) (state_of v) t
 
   unfoldable pub held : Check → Bool

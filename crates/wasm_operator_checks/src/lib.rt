@@ -15,5 +15,5 @@ pub use looks::{check_many, check_type, look};
 pub use matching::matches;
 pub use reach::{address, has, lesser, reaches};
 pub use steps::{halt, plain, plain_with};
-pub use types::{Takes, Types, check_takes, check_types, exchange_types};
+pub use types::{Takes, ValTypes, check_takes, check_types, exchange_types};
 pub use wasm_readers_errors::OperatorRule;

@@ -9,7 +9,7 @@ ghost use Rattle.wasm_operator_checks.specs.SeenTypes.{types_seen, takes_seen, e
 
 use crate::faults::{OperatorError, OperatorFault};
 use crate::looks::check_type;
-use crate::types::{Takes, Types, check_takes, check_types, exchange_types};
+use crate::types::{Takes, ValTypes, check_takes, check_types, exchange_types};
 use std::alloc::Allocator;
 use wasm_module_resources::WasmModuleResources;
 use wasm_operator_stacks::Stacks;
@@ -23,7 +23,7 @@ pub fn plain<'a, A: Allocator, T: WasmModuleResources>(
     stacks: &mut Stacks<A>,
     resources: &T,
     takes: Takes<'a>,
-    gives: Types<'a>,
+    gives: ValTypes<'a>,
 ) -> Result<(), OperatorError>
     ensures took { Turns result (exchanged (world (T.context resources.now))
         (takes_seen takes.entry) (types_seen gives.entry)) stacks.old stacks.new }
@@ -45,9 +45,9 @@ pub fn plain<'a, A: Allocator, T: WasmModuleResources>(
 pub fn plain_with<'a, A: Allocator, T: WasmModuleResources>(
     stacks: &mut Stacks<A>,
     resources: &T,
-    takes: Types<'a>,
+    takes: ValTypes<'a>,
     top: TypeWord,
-    gives: Types<'a>,
+    gives: ValTypes<'a>,
 ) -> Result<(), OperatorError>
     ensures took { Turns result (exchanged (world (T.context resources.now))
         (types_seen takes.entry ++ val_in top ∷ []) (types_seen gives.entry))
@@ -74,7 +74,7 @@ pub fn plain_with<'a, A: Allocator, T: WasmModuleResources>(
 pub fn halt<'a, A: Allocator, T: WasmModuleResources>(
     stacks: &mut Stacks<A>,
     resources: &T,
-    takes: Types<'a>,
+    takes: ValTypes<'a>,
 ) -> Result<(), OperatorError>
     ensures took { Turns result (halted (world (T.context resources.now)) (types_seen takes.entry))
         stacks.old stacks.new }

@@ -18,7 +18,7 @@ use wasm_type_words::TypeWord;
 
 /// None, one or many value types.
 #[derive(Clone, Copy)]
-pub enum Types<'a> {
+pub enum ValTypes<'a> {
     None,
     One(TypeWord),
     Many(&'a [ValType]),
@@ -63,16 +63,16 @@ pub fn check_types<'a, A: Allocator, T: WasmModuleResources>(
     stacks: &Stacks<A>,
     resources: &T,
     taken: usize,
-    types: Types<'a>,
+    types: ValTypes<'a>,
 ) -> Result<usize, OperatorFault>
     requires { taken ≤ length (state_of stacks.now).operands }
     ensures { Checked result (pop_vals (world (T.context resources.now)) (types_seen types.entry)
         (below taken (state_of stacks.now))) (state_of stacks.now) }
 {
     match types {
-        Types::None => Ok(taken),
-        Types::One(ty) => check_type(stacks, resources, taken, ty),
-        Types::Many(types) => check_many(stacks, resources, taken, types),
+        ValTypes::None => Ok(taken),
+        ValTypes::One(ty) => check_type(stacks, resources, taken, ty),
+        ValTypes::Many(types) => check_many(stacks, resources, taken, types),
     }
 }
 
@@ -104,7 +104,7 @@ pub fn check_takes<'a, A: Allocator, T: WasmModuleResources>(
 pub fn exchange_types<'a, A: Allocator>(
     stacks: &mut Stacks<A>,
     taken: usize,
-    types: Types<'a>,
+    types: ValTypes<'a>,
 ) -> Result<(), AllocError>
     requires { taken ≤ length (state_of stacks.old).operands }
     ensures ok { OnOk result (state_of stacks.new
@@ -115,11 +115,11 @@ pub fn exchange_types<'a, A: Allocator>(
     ensures same { Kept stacks.old stacks.new }
 {
     match types {
-        Types::None => {
+        ValTypes::None => {
             stacks.take(taken);
             Ok(())
         }
-        Types::One(ty) => stacks.exchange(taken, Word::known(ty)),
-        Types::Many(types) => stacks.exchange_many(taken, types),
+        ValTypes::One(ty) => stacks.exchange(taken, Word::known(ty)),
+        ValTypes::Many(types) => stacks.exchange_many(taken, types),
     }
 }

@@ -17,7 +17,7 @@ use Rattle.wasm_operator_stacks.specs.declared.stacks.Frame.{Frame}
 use Rattle.wasm_operator_stacks.specs.declared.stacks.Stacks.{Stacks}
 use Rattle.wasm_operator_checks.specs.Steps.{typed}
 use Rattle.wasm_operator_checks.specs.SeenTypes.{types_seen}
-use Rattle.wasm_operator_checks.specs.declared.types.Types as listed
+use Rattle.wasm_operator_checks.specs.declared.types.ValTypes as listed
 use Rattle.wasm_operator_control.specs.Blocks.{function_in, signature_in}
 
 -- what stands for a block type is the block type
@@ -75,7 +75,7 @@ module _ {A : Type 0} (v : Stacks A) (C : Context UnpackedIndex) where
   same_signature (value_block w) = refl
   same_signature (func_block n) = refl
 
-  pub label_found : (n : ℕ) (x : Frame) (o : Option listed.Types) → option_map frame_of (Some x) ≡ slice_get (state_of v).frames n → option_map types_seen o ≡ option_map (label_by (kind_of x.kind)) (signature_in C (block_in x.block)) → typed v C (label n) ≡ option_map types_seen o
+  pub label_found : (n : ℕ) (x : Frame) (o : Option listed.ValTypes) → option_map frame_of (Some x) ≡ slice_get (state_of v).frames n → option_map types_seen o ≡ option_map (label_by (kind_of x.kind)) (signature_in C (block_in x.block)) → typed v C (label n) ≡ option_map types_seen o
   unfolding typed
   label_found n x o e f = rw (← e, same_signature (block_in x.block), f) refl
 
@@ -83,7 +83,7 @@ module _ {A : Type 0} (v : Stacks A) (C : Context UnpackedIndex) where
   unfolding typed
   label_past n e = rw (← e) refl
 
-  pub returned_found : (x : Frame) (o : Option listed.Types) → option_map frame_of (Some x) ≡ last_of (state_of v).frames → option_map types_seen o ≡ option_map (λ g. g.gives) (signature_in C (block_in x.block)) → typed v C returned ≡ option_map types_seen o
+  pub returned_found : (x : Frame) (o : Option listed.ValTypes) → option_map frame_of (Some x) ≡ last_of (state_of v).frames → option_map types_seen o ≡ option_map (λ g. g.gives) (signature_in C (block_in x.block)) → typed v C returned ≡ option_map types_seen o
   unfolding typed
   returned_found x o e f = rw (← e, same_signature (block_in x.block), f) refl
 

@@ -12,7 +12,7 @@ use std::alloc::Allocator;
 use wasm_module_resources::WasmModuleResources;
 use wasm_numeric_operators::NumberType;
 use wasm_operator_checks::{
-    OperatorError, OperatorFault, OperatorRule, Takes, Types, halt, plain, plain_with,
+    OperatorError, OperatorFault, OperatorRule, Takes, ValTypes, halt, plain, plain_with,
 };
 use wasm_operator_stacks::Stacks;
 use wasm_type_words::TypeWord;
@@ -27,7 +27,7 @@ pub fn do_nothing<A: Allocator, T: WasmModuleResources>(
         stacks.old stacks.new }
     ensures same { Kept stacks.old stacks.new }
 {
-    plain(stacks, resources, Takes::None, Types::None)
+    plain(stacks, resources, Takes::None, ValTypes::None)
 }
 
 /// `unreachable`.
@@ -40,7 +40,7 @@ pub fn trap<A: Allocator, T: WasmModuleResources>(
         stacks.old stacks.new }
     ensures same { Kept stacks.old stacks.new }
 {
-    halt(stacks, resources, Types::None)
+    halt(stacks, resources, ValTypes::None)
 }
 
 /// `br`.

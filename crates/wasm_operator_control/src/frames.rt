@@ -10,7 +10,7 @@ ghost use Rattle.wasm_operator_control.specs.Entered.{entered};
 
 use std::alloc::Allocator;
 use wasm_module_resources::WasmModuleResources;
-use wasm_operator_checks::{OperatorError, Types, check_types, exchange_types};
+use wasm_operator_checks::{OperatorError, ValTypes, check_types, exchange_types};
 use wasm_operator_stacks::{BlockWord, Stacks};
 use wasm_operators::FrameKind;
 
@@ -23,7 +23,7 @@ pub fn open_frame<'a, A: Allocator, T: WasmModuleResources>(
     kind: FrameKind,
     block: BlockWord,
     first: usize,
-    takes: Types<'a>,
+    takes: ValTypes<'a>,
 ) -> Result<(), OperatorError>
     requires { first ≤ length (state_of stacks.old).operands }
     ensures took { Turns result (λ s. entered (world (T.context resources.now)) (kind_of kind)

@@ -9,7 +9,7 @@ ghost use Rattle.wasm_operator_checks.specs.Steps.{Performs};
 use std::alloc::Allocator;
 use wasm_module_resources::WasmModuleResources;
 use wasm_operator_checks::{
-    OperatorError, OperatorFault, OperatorRule, Takes, Types, plain, reaches,
+    OperatorError, OperatorFault, OperatorRule, Takes, ValTypes, plain, reaches,
 };
 use wasm_operator_stacks::Stacks;
 use wasm_readers_types::GlobalType;
@@ -35,7 +35,7 @@ pub fn global_get<A: Allocator, T: WasmModuleResources>(
                 stacks,
                 resources,
                 Takes::None,
-                Types::One(TypeWord::new(ty.content_type)),
+                ValTypes::One(TypeWord::new(ty.content_type)),
             )
         }
         None => Err(OperatorError::Refused(OperatorFault::at(OperatorRule::UnknownGlobal, index))),
@@ -68,7 +68,7 @@ pub fn global_set<A: Allocator, T: WasmModuleResources>(
                 stacks,
                 resources,
                 Takes::One(TypeWord::new(ty.content_type)),
-                Types::None,
+                ValTypes::None,
             )
         }
         None => Err(OperatorError::Refused(OperatorFault::at(OperatorRule::UnknownGlobal, index))),

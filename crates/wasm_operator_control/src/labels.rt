@@ -14,7 +14,7 @@ ghost use Rattle.wasm_operator_control.specs.Blocks.{function_in, signature_in};
 
 use std::alloc::Allocator;
 use wasm_module_resources::WasmModuleResources;
-use wasm_operator_checks::Types;
+use wasm_operator_checks::ValTypes;
 use wasm_operator_stacks::{Block, BlockWord, Frame, Stacks};
 use wasm_operators::FrameKind;
 use wasm_readers_types::{CompositeInnerType, FuncType};
@@ -42,15 +42,15 @@ pub fn function_type<'a, T: WasmModuleResources>(
 pub fn block_takes<'a, T: WasmModuleResources>(
     resources: &'a T,
     block: BlockWord,
-) -> Option<Types<'a>>
+) -> Option<ValTypes<'a>>
     ensures { option_map types_seen result
         ≡ option_map (λ g. g.takes) (signature_in (T.context resources.now) (block_in block)) }
 {
     match block.seen() {
-        Block::Empty => Some(Types::None),
-        Block::Value(_) => Some(Types::None),
+        Block::Empty => Some(ValTypes::None),
+        Block::Value(_) => Some(ValTypes::None),
         Block::Func(type_index) => match function_type(resources, type_index) {
-            Some(signature) => Some(Types::Many(signature.params())),
+            Some(signature) => Some(ValTypes::Many(signature.params())),
             None => None,
         },
     }
@@ -62,15 +62,15 @@ pub fn block_takes<'a, T: WasmModuleResources>(
 pub fn block_gives<'a, T: WasmModuleResources>(
     resources: &'a T,
     block: BlockWord,
-) -> Option<Types<'a>>
+) -> Option<ValTypes<'a>>
     ensures { option_map types_seen result
         ≡ option_map (λ g. g.gives) (signature_in (T.context resources.now) (block_in block)) }
 {
     match block.seen() {
-        Block::Empty => Some(Types::None),
-        Block::Value(ty) => Some(Types::One(ty)),
+        Block::Empty => Some(ValTypes::None),
+        Block::Value(ty) => Some(ValTypes::One(ty)),
         Block::Func(type_index) => match function_type(resources, type_index) {
-            Some(signature) => Some(Types::Many(signature.results())),
+            Some(signature) => Some(ValTypes::Many(signature.results())),
             None => None,
         },
     }
@@ -81,7 +81,7 @@ fn branch_types<'a, T: WasmModuleResources>(
     resources: &'a T,
     kind: FrameKind,
     block: BlockWord,
-) -> Option<Types<'a>>
+) -> Option<ValTypes<'a>>
     ensures { option_map types_seen result
         ≡ option_map (label_by (kind_of kind))
         (signature_in (T.context resources.now) (block_in block)) }
@@ -116,7 +116,7 @@ pub fn label_types<'a, A: Allocator, T: WasmModuleResources>(
     stacks: &Stacks<A>,
     resources: &'a T,
     depth: u32,
-) -> Option<Types<'a>>
+) -> Option<ValTypes<'a>>
     ensures { typed stacks.now (T.context resources.now) (label depth)
         ≡ option_map types_seen result }
 {
@@ -147,7 +147,7 @@ fn outermost<A: Allocator>(stacks: &Stacks<A>) -> Option<Frame>
 pub fn returned_types<'a, A: Allocator, T: WasmModuleResources>(
     stacks: &Stacks<A>,
     resources: &'a T,
-) -> Option<Types<'a>>
+) -> Option<ValTypes<'a>>
     ensures { typed stacks.now (T.context resources.now) returned ≡ option_map types_seen result }
 {
     match outermost(stacks) {

@@ -13,7 +13,7 @@ ghost use Rattle.wasm_operator_checks.specs.Steps.{Performs};
 use std::alloc::{AllocError, Allocator};
 use wasm_module_resources::WasmModuleResources;
 use wasm_operator_checks::{
-    OperatorError, OperatorFault, OperatorRule, Takes, Types, check_type, look, plain,
+    OperatorError, OperatorFault, OperatorRule, Takes, ValTypes, check_type, look, plain,
 };
 use wasm_operator_stacks::{LocalWord, Locals, Stacks, Word};
 
@@ -65,7 +65,7 @@ pub fn local_get<A: Allocator, T: WasmModuleResources>(
                     index,
                 )));
             }
-            plain(stacks, resources, Takes::None, Types::One(local.ty()))
+            plain(stacks, resources, Takes::None, ValTypes::One(local.ty()))
         }
         None => Err(OperatorError::Refused(OperatorFault::at(OperatorRule::UnknownLocal, index))),
     }

@@ -14,7 +14,7 @@ use wasm_flat_operators::max_align;
 use wasm_module_resources::WasmModuleResources;
 use wasm_numeric_operators::NumberType;
 use wasm_operator_checks::{
-    OperatorError, OperatorFault, OperatorRule, Takes, Types, address, plain,
+    OperatorError, OperatorFault, OperatorRule, Takes, ValTypes, address, plain,
 };
 use wasm_operator_stacks::Stacks;
 use wasm_operators::{MemArg, MemoryOperator};
@@ -92,7 +92,7 @@ fn load<A: Allocator, T: WasmModuleResources>(
                 stacks,
                 resources,
                 Takes::One(address(memory.memory64)),
-                Types::One(TypeWord::number(ty)),
+                ValTypes::One(TypeWord::number(ty)),
             )
         }
         None => {
@@ -126,7 +126,7 @@ fn store<A: Allocator, T: WasmModuleResources>(
                 stacks,
                 resources,
                 Takes::Two(address(memory.memory64), TypeWord::number(ty)),
-                Types::None,
+                ValTypes::None,
             )
         }
         None => {

@@ -15,7 +15,7 @@ use wasm_flat_operators::BulkMemoryOperator;
 use wasm_module_resources::WasmModuleResources;
 use wasm_numeric_operators::NumberType;
 use wasm_operator_checks::{
-    OperatorError, OperatorFault, OperatorRule, Takes, Types, address, has, lesser, plain,
+    OperatorError, OperatorFault, OperatorRule, Takes, ValTypes, address, has, lesser, plain,
 };
 use wasm_operator_stacks::Stacks;
 use wasm_readers_errors::WasmFeatures;
@@ -47,7 +47,7 @@ fn memory_size<A: Allocator, T: WasmModuleResources>(
             stacks,
             resources,
             Takes::None,
-            Types::One(address(memory.memory64)),
+            ValTypes::One(address(memory.memory64)),
         ),
         None => Err(OperatorError::Refused(OperatorFault::at(OperatorRule::UnknownMemory, mem))),
     }
@@ -67,7 +67,12 @@ fn memory_grow<A: Allocator, T: WasmModuleResources>(
     match resources.memory_at(mem) {
         Some(memory) => {
             let address = address(memory.memory64);
-            plain(stacks, resources, Takes::One(address), Types::One(address))
+            plain(
+                stacks,
+                resources,
+                Takes::One(address),
+                ValTypes::One(address),
+            )
         },
         None => Err(OperatorError::Refused(OperatorFault::at(OperatorRule::UnknownMemory, mem))),
     }
@@ -94,7 +99,7 @@ fn memory_fill<A: Allocator, T: WasmModuleResources>(
                 stacks,
                 resources,
                 Takes::Three(address, TypeWord::number(NumberType::I32), address),
-                Types::None,
+                ValTypes::None,
             )
         },
         None => Err(OperatorError::Refused(OperatorFault::at(OperatorRule::UnknownMemory, mem))),
@@ -129,7 +134,7 @@ fn memory_init<A: Allocator, T: WasmModuleResources>(
                 stacks,
                 resources,
                 Takes::Three(address(memory.memory64), number, number),
-                Types::None,
+                ValTypes::None,
             )
         },
         None => Err(OperatorError::Refused(OperatorFault::at(OperatorRule::UnknownMemory, mem))),
@@ -156,7 +161,7 @@ fn data_drop<A: Allocator, T: WasmModuleResources>(
             data_index,
         )));
     }
-    plain(stacks, resources, Takes::None, Types::None)
+    plain(stacks, resources, Takes::None, ValTypes::None)
 }
 
 /// `memory.copy`.
@@ -192,7 +197,7 @@ fn memory_copy<A: Allocator, T: WasmModuleResources>(
         stacks,
         resources,
         Takes::Three(address(to), address(from), lesser(to, from)),
-        Types::None,
+        ValTypes::None,
     )
 }
 

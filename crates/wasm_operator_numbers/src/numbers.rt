@@ -12,7 +12,9 @@ use crate::allowed::allows_number;
 use std::alloc::Allocator;
 use wasm_module_resources::WasmModuleResources;
 use wasm_numeric_operators::{NumberType, Signature};
-use wasm_operator_checks::{OperatorError, OperatorFault, OperatorRule, Takes, Types, has, plain};
+use wasm_operator_checks::{
+    OperatorError, OperatorFault, OperatorRule, Takes, ValTypes, has, plain,
+};
 use wasm_operator_stacks::Stacks;
 use wasm_operators::ConstantOperator;
 use wasm_readers_errors::WasmFeatures;
@@ -41,7 +43,7 @@ fn unary<A: Allocator, T: WasmModuleResources>(
         stacks,
         resources,
         Takes::One(TypeWord::number(from)),
-        Types::One(TypeWord::number(to)),
+        ValTypes::One(TypeWord::number(to)),
     )
 }
 
@@ -67,7 +69,7 @@ fn binary<A: Allocator, T: WasmModuleResources>(
         stacks,
         resources,
         Takes::Two(TypeWord::number(from), TypeWord::number(from)),
-        Types::One(TypeWord::number(to)),
+        ValTypes::One(TypeWord::number(to)),
     )
 }
 
@@ -106,7 +108,7 @@ fn number<A: Allocator, T: WasmModuleResources>(
         stacks,
         resources,
         Takes::None,
-        Types::One(TypeWord::number(ty)),
+        ValTypes::One(TypeWord::number(ty)),
     )
 }
 
@@ -127,7 +129,7 @@ fn vector<A: Allocator, T: WasmModuleResources>(
         stacks,
         resources,
         Takes::None,
-        Types::One(TypeWord::new(ValType::V128)),
+        ValTypes::One(TypeWord::new(ValType::V128)),
     )
 }
 

@@ -14,7 +14,9 @@ ghost use Rattle.wasm_operator_checks.specs.Steps.{Performs};
 use crate::written::resolve;
 use std::alloc::Allocator;
 use wasm_module_resources::WasmModuleResources;
-use wasm_operator_checks::{OperatorError, OperatorFault, OperatorRule, Takes, Types, has, plain};
+use wasm_operator_checks::{
+    OperatorError, OperatorFault, OperatorRule, Takes, ValTypes, has, plain,
+};
 use wasm_operator_stacks::Stacks;
 use wasm_readers_errors::WasmFeatures;
 use wasm_readers_types::{HeapType, UnpackedIndex};
@@ -90,7 +92,7 @@ pub fn ref_func<A: Allocator, T: WasmModuleResources>(
             stacks,
             resources,
             Takes::None,
-            Types::One(TypeWord::reference(ty)),
+            ValTypes::One(TypeWord::reference(ty)),
         ),
         None => Err(OperatorError::Refused(OperatorFault::at(
             OperatorRule::UnknownType,

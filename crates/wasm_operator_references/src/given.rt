@@ -10,19 +10,19 @@ ghost use Rattle.wasm_operator_stacks.specs.Seen.{state_of, below, Kept};
 ghost use Rattle.wasm_operator_checks.specs.SeenTypes.{types_seen};
 
 use std::alloc::{AllocError, Allocator};
-use wasm_operator_checks::{Types, exchange_types};
+use wasm_operator_checks::{ValTypes, exchange_types};
 use wasm_operator_stacks::{Stacks, Word};
 use wasm_type_words::TypeWord;
 
 /// The last of some types, if there is one.
 #[tactic(auto, using(crate::proofs::Giving::lists))]
-pub fn last_type<'a>(types: Types<'a>) -> Option<TypeWord>
+pub fn last_type<'a>(types: ValTypes<'a>) -> Option<TypeWord>
     ensures { option_map val_in result ≡ last_of (types_seen types.entry) }
 {
     match types {
-        Types::None => None,
-        Types::One(ty) => Some(ty),
-        Types::Many(types) => {
+        ValTypes::None => None,
+        ValTypes::One(ty) => Some(ty),
+        ValTypes::Many(types) => {
             let count = types.len();
             if count == 0 {
                 None
@@ -35,18 +35,18 @@ pub fn last_type<'a>(types: Types<'a>) -> Option<TypeWord>
 
 /// Some types without the last one.
 #[tactic(auto, using(crate::proofs::Giving::lists))]
-pub fn front_types<'a>(types: Types<'a>) -> Types<'a>
+pub fn front_types<'a>(types: ValTypes<'a>) -> ValTypes<'a>
     ensures { types_seen result ≡ front_of (types_seen types.entry) }
 {
     match types {
-        Types::None => Types::None,
-        Types::One(_) => Types::None,
-        Types::Many(types) => {
+        ValTypes::None => ValTypes::None,
+        ValTypes::One(_) => ValTypes::None,
+        ValTypes::Many(types) => {
             let count = types.len();
             if count == 0 {
-                Types::None
+                ValTypes::None
             } else {
-                Types::Many(&types[..count - 1])
+                ValTypes::Many(&types[..count - 1])
             }
         }
     }
@@ -61,7 +61,7 @@ pub fn front_types<'a>(types: Types<'a>) -> Types<'a>
 pub fn exchange_with<'a, A: Allocator>(
     stacks: &mut Stacks<A>,
     taken: usize,
-    types: Types<'a>,
+    types: ValTypes<'a>,
     top: Word,
 ) -> Result<(), AllocError>
     requires { taken ≤ length (state_of stacks.old).operands }

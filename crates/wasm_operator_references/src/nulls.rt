@@ -13,7 +13,9 @@ use crate::written::{allows_heap, resolve};
 use std::alloc::Allocator;
 use wasm_module_resources::WasmModuleResources;
 use wasm_numeric_operators::NumberType;
-use wasm_operator_checks::{OperatorError, OperatorFault, OperatorRule, Takes, Types, has, plain};
+use wasm_operator_checks::{
+    OperatorError, OperatorFault, OperatorRule, Takes, ValTypes, has, plain,
+};
 use wasm_operator_stacks::{Stacks, Word};
 use wasm_readers_errors::WasmFeatures;
 use wasm_readers_types::HeapType;
@@ -46,7 +48,7 @@ pub fn ref_null<A: Allocator, T: WasmModuleResources>(
             stacks,
             resources,
             Takes::None,
-            Types::One(TypeWord::reference(ty)),
+            ValTypes::One(TypeWord::reference(ty)),
         ),
         None => Err(OperatorError::Refused(OperatorFault::new(OperatorRule::UnknownType))),
     }

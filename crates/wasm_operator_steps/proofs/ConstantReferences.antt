@@ -19,7 +19,7 @@ use Rattle.wasm_operator_steps.specs.Attempts.{◌>>=◌, guard}
 use Rattle.wasm_operator_steps.specs.Worlds.{world_of}
 use Rattle.wasm_operator_steps.specs.Bodies.{Surroundings}
 use Rattle.wasm_operator_steps.specs.Machine.{Operand, bottom, bottom_reference, open_reference, known, State, push_operand, push_vals, popped, pop_any, as_reference, pop_reference, same_number, matches_operand, pop_val, pop_vals}
-use Rattle.wasm_operator_steps.specs.Actions.{Types, these, global, function_reference, new_reference, Check, Action, take, give, convert}
+use Rattle.wasm_operator_steps.specs.Actions.{OperandTypes, these, global, function_reference, new_reference, Check, Action, take, give, convert}
 use Rattle.wasm_operator_steps.specs.Shapes.{Shape, plain, converting, nothing, one, number_type, computing, shape_of}
 use Rattle.wasm_operator_steps.specs.Meanings.{ref_to, resolve_ref, resolve_val, resolve_vals, exact_if, function_heap, types_at, holds, is_below_either, converted, act, run}
 use Rattle.wasm_operator_steps.specs.Meanings as meanings
@@ -125,13 +125,13 @@ module _ {R : Type 0} (W : World R) (B : Surroundings R) where
       checked-runs cs as_ s t (subst (λ (w : State R). run W B (checked cs as_) w ≡ Some t) (sym g.1) f.2)
 
   -- types that are one, with a property
-  abbrev IsOne : (Val R → Type 0) → Types → Type 0
+  abbrev IsOne : (Val R → Type 0) → OperandTypes → Type 0
   IsOne P u = (m : State R) (ws : List (Val R)) → types_at W B m u ≡ Some ws → (w : Val R) × P w × (ws ≡ w ∷ [])
 
-  abbrev TakesOnly : (Operand R → Bool) → Types → Type 0
+  abbrev TakesOnly : (Operand R → Bool) → OperandTypes → Type 0
   TakesOnly test t = (m : State R) (vs : List (Val R)) → types_at W B m t ≡ Some vs → Passes W test vs
 
-  plain-gives : (test : Operand R → Bool) (P : Val R → Type 0) (cs : List Check) (t u : Types) → TakesOnly test t → IsOne P u → (s r : State R) → run W B (actions_of (plain cs t u)) s ≡ Some r → (g : GivesOne test s.operands r.operands) × (w : Val R) × P w × (g.given ≡ known w)
+  plain-gives : (test : Operand R → Bool) (P : Val R → Type 0) (cs : List Check) (t u : OperandTypes) → TakesOnly test t → IsOne P u → (s r : State R) → run W B (actions_of (plain cs t u)) s ≡ Some r → (g : GivesOne test s.operands r.operands) × (w : Val R) × P w × (g.given ≡ known w)
   plain-gives test P cs t u only is_one s r e =
       let a = bind-gives (act W B (take t) s) (run W B (give u ∷ [])) r (checked-runs cs (take t ∷ give u ∷ []) s r e) in
       let b = bind-gives (types_at W B s t) _ a.0 a.1 in
@@ -151,7 +151,7 @@ module _ {R : Type 0} (W : World R) (B : Surroundings R) where
       )
 
   -- what is taken
-  any : (t : Types) → TakesOnly (λ x. true) t
+  any : (t : OperandTypes) → TakesOnly (λ x. true) t
   any t m vs e = all_pass W vs
 
   takes_nothing : TakesOnly is_number nothing
@@ -210,12 +210,12 @@ module _ {R : Type 0} (W : World R) (B : Surroundings R) where
   is_reference-known : (w : Val R) → IsRef w → (x : Operand R) → x ≡ known w → is_reference x ≡ true
   is_reference-known w h x e = ap is_reference (e ∙ ap known h.1)
 
-  one_reference : (cs : List Check) (t u : Types) → IsOne IsRef u → Gives W B (plain cs t u)
+  one_reference : (cs : List Check) (t u : OperandTypes) → IsOne IsRef u → Gives W B (plain cs t u)
   one_reference cs t u h = record {
     at = λ s r e. let g = plain-gives (λ x. true) IsRef cs t u (any t) h s r e in record { one = g.0; is_one = is_reference-known g.1 g.2 g.0.given g.3 };
   }
 
-  no_reference : (cs : List Check) (t u : Types) → TakesOnly is_number t → IsOne IsAny u → Keeps W B (plain cs t u)
+  no_reference : (cs : List Check) (t u : OperandTypes) → TakesOnly is_number t → IsOne IsAny u → Keeps W B (plain cs t u)
   no_reference cs t u h i = record { at = λ s r e. (plain-gives is_number IsAny cs t u h i s r e).0 }
 
   computes : (g : Signature) → Keeps W B (computing g)

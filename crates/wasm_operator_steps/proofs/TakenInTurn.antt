@@ -7,7 +7,7 @@ use Rattle.wasm_operators.specs.Instructions.{Instruction}
 use Rattle.wasm_operator_steps.specs.Attempts.{◌>>=◌, guard, last_of, front_of}
 use Rattle.wasm_operator_steps.specs.Bodies.{Surroundings}
 use Rattle.wasm_operator_steps.specs.Machine.{Operand, bottom, known, Frame, State, push_operand, pushed_onto, push_vals, popped, pop_any, matches_operand, pop_val, pop_vals}
-use Rattle.wasm_operator_steps.specs.Actions.{Types, these, params, results, label, returned, local, global, function_reference, new_reference, descriptor_of, fields, element, field, table_address, memory_address, table_element, segment, lesser_table_address, lesser_memory_address, top, repeated, front, last, joined, Action, take, give}
+use Rattle.wasm_operator_steps.specs.Actions.{OperandTypes, these, params, results, label, returned, local, global, function_reference, new_reference, descriptor_of, fields, element, field, table_address, memory_address, table_element, segment, lesser_table_address, lesser_memory_address, top, repeated, front, last, joined, Action, take, give}
 use Rattle.wasm_operator_steps.specs.Shapes.{shape_of}
 use Rattle.wasm_operator_steps.specs.Meanings.{one, copies, label_by, frame_signature, types_at, act, run}
 use Rattle.wasm_operator_steps.specs.Steps.{actions_of, is_open, step_in, steps_in}
@@ -123,7 +123,7 @@ module _ {R : Type 0} (W : World R) where
 
 module _ {R : Type 0} (W : World R) (B : Surroundings R) where
   -- what names types looks at no operand
-  pub types_at-frames : (s r : State R) → r.frames ≡ s.frames → (t : Types) → types_at W B r t ≡ types_at W B s t
+  pub types_at-frames : (s r : State R) → r.frames ≡ s.frames → (t : OperandTypes) → types_at W B r t ≡ types_at W B s t
   types_at-frames s r e (these vs) = refl
   types_at-frames s r e (params g) = refl
   types_at-frames s r e (results g) = refl
@@ -162,10 +162,10 @@ module _ {R : Type 0} (W : World R) (B : Surroundings R) where
   taken-joined s (Some vs) None = refl
   taken-joined s (Some vs) (Some ws) = pop_vals-append W vs ws s
 
-  taken-frames : (t u : Types) (s r : State R) → act W B (take u) s ≡ Some r → types_at W B r t ≡ types_at W B s t
+  taken-frames : (t u : OperandTypes) (s r : State R) → act W B (take u) s ≡ Some r → types_at W B r t ≡ types_at W B s t
   taken-frames t u s r e = let f = bind-gives (types_at W B s u) _ r e in types_at-frames s r (pop_vals-frames W f.0 s r f.2).0 t
 
-  take-joined : (t u : Types) (s : State R) → act W B (take (joined t u)) s ≡ (act W B (take u) s >>= act W B (take t))
+  take-joined : (t u : OperandTypes) (s : State R) → act W B (take (joined t u)) s ≡ (act W B (take u) s >>= act W B (take t))
   take-joined t u s =
       taken-joined s (types_at W B s t) (types_at W B s u)
       ∙ bind-like (act W B (take u) s) (λ r. types_at W B s t >>= λ vs. pop_vals W vs r) (act W B (take t))
@@ -176,12 +176,12 @@ module _ {R : Type 0} (W : World R) (B : Surroundings R) where
   given-joined s (Some vs) None = refl
   given-joined s (Some vs) (Some ws) = ap Some (push_vals-append vs ws s)
 
-  given-frames : (t u : Types) (s r : State R) → act W B (give u) s ≡ Some r → types_at W B r t ≡ types_at W B s t
+  given-frames : (t u : OperandTypes) (s r : State R) → act W B (give u) s ≡ Some r → types_at W B r t ≡ types_at W B s t
   given-frames t u s r e =
       let f = bind-gives (types_at W B s u) _ r e in
       types_at-frames s r (ap (λ (q : State R). q.frames) (sym (the_same (push_vals f.0 s) r f.2))) t
 
-  give-joined : (t u : Types) (s : State R) → act W B (give (joined t u)) s ≡ (act W B (give t) s >>= act W B (give u))
+  give-joined : (t u : OperandTypes) (s : State R) → act W B (give (joined t u)) s ≡ (act W B (give t) s >>= act W B (give u))
   give-joined t u s =
       given-joined s (types_at W B s t) (types_at W B s u)
       ∙ bind-like (act W B (give t) s) (λ r. types_at W B s u >>= λ vs. Some (push_vals vs r)) (act W B (give u))
@@ -194,7 +194,7 @@ module _ {R : Type 0} (W : World R) (B : Surroundings R) where
   taken-last s None (Some v) e h = absurd (none v e)
   taken-last s (Some vs) (Some v) e h = pop_vals-last W vs v s e
 
-  take-last : (t : Types) (s : State R) → is_some (types_at W B s (last t)) ≡ true → act W B (take t) s ≡ (act W B (take (last t)) s >>= act W B (take (front t)))
+  take-last : (t : OperandTypes) (s : State R) → is_some (types_at W B s (last t)) ≡ true → act W B (take t) s ≡ (act W B (take (last t)) s >>= act W B (take (front t)))
   take-last t s h =
       taken-last s (types_at W B s t) (types_at W B s t >>= last_of) refl h
       ∙ bind-like (act W B (take (last t)) s) (λ r. types_at W B s (front t) >>= λ vs. pop_vals W vs r) (act W B (take (front t)))
@@ -206,7 +206,7 @@ module _ {R : Type 0} (W : World R) (B : Surroundings R) where
   given-last s None (Some v) e h = absurd (none v e)
   given-last s (Some vs) (Some v) e h = ap Some (push_vals-last vs v s e)
 
-  give-last : (t : Types) (s : State R) → is_some (types_at W B s (last t)) ≡ true → act W B (give t) s ≡ (act W B (give (front t)) s >>= act W B (give (last t)))
+  give-last : (t : OperandTypes) (s : State R) → is_some (types_at W B s (last t)) ≡ true → act W B (give t) s ≡ (act W B (give (front t)) s >>= act W B (give (last t)))
   give-last t s h =
       given-last s (types_at W B s t) (types_at W B s t >>= last_of) refl h
       ∙ bind-like (act W B (give (front t)) s) (λ r. types_at W B s (last t) >>= λ vs. Some (push_vals vs r)) (act W B (give (last t)))

@@ -16,19 +16,19 @@ pub data Signed : Type 0 where
 -- global; a reference to a function, and to a new value of a type; the unpacked types of all fields of a structure, of one of them, and
 -- of an array's elements; what addresses a table or a memory, and the lesser of two; a table's elements, and a segment's; the greatest
 -- type, with null, of a reference type's hierarchy; the descriptor, or null, of exactly a type; and lists made of others: so many times, without the last, the last alone, and one after another.
-pub data Types : Type 0 where
-  these : List (Val ℕ) → Types
-  params results : Signed → Types
-  label : ℕ → Types
-  returned : Types
-  local global function_reference new_reference descriptor_of fields element : ℕ → Types
-  field : ℕ → ℕ → Types
-  table_address memory_address table_element segment : ℕ → Types
-  lesser_table_address lesser_memory_address : ℕ → ℕ → Types
-  top : Ref ℕ → Types
-  repeated : ℕ → Types → Types
-  front last : Types → Types
-  joined : Types → Types → Types
+pub data OperandTypes : Type 0 where
+  these : List (Val ℕ) → OperandTypes
+  params results : Signed → OperandTypes
+  label : ℕ → OperandTypes
+  returned : OperandTypes
+  local global function_reference new_reference descriptor_of fields element : ℕ → OperandTypes
+  field : ℕ → ℕ → OperandTypes
+  table_address memory_address table_element segment : ℕ → OperandTypes
+  lesser_table_address lesser_memory_address : ℕ → ℕ → OperandTypes
+  top : Ref ℕ → OperandTypes
+  repeated : ℕ → OperandTypes → OperandTypes
+  front last : OperandTypes → OperandTypes
+  joined : OperandTypes → OperandTypes → OperandTypes
 
 -- the proposals that an instruction may need
 pub data Needed : Type 0 where
@@ -45,7 +45,7 @@ pub data Check : Type 0 where
   has : Needed → Check
   allows : Val ℕ → Check
   global_is_mutable local_is_set function_is_referenced is_exception : ℕ → Check
-  each_matches : Types → Types → Check
+  each_matches : OperandTypes → OperandTypes → Check
   may_be_cast : Ref ℕ → Ref ℕ → Check
   can_be_tested : Ref ℕ → Check
   is_aligned : MemoryOperator → MemArg → Check
@@ -67,7 +67,7 @@ pub data Check : Type 0 where
 pub data Action : Type 0 where
   need : Check → Action
   refuse : Action
-  take give : Types → Action
+  take give : OperandTypes → Action
   take_any take_reference take_comparable make_non_null choose stop turn_to_else leave : Action
   take_below : AbstractHeap → Action
   convert : AbstractHeap → AbstractHeap → Action

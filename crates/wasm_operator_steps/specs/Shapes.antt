@@ -35,30 +35,30 @@ use Rattle.wasm_flat_operators.specs.declared.structs.StructOperator.TheVariants
 use Rattle.wasm_flat_operators.specs.declared.arrays.ArrayOperator.{ArrayOperator}
 use Rattle.wasm_flat_operators.specs.declared.arrays.ArrayOperator.TheVariants.{ArrayNew, ArrayNewDefault, ArrayNewFixed, ArrayNewData, ArrayNewElem, ArrayGet, ArrayGetS, ArrayGetU, ArraySet, ArrayLen, ArrayFill, ArrayCopy, ArrayInitData, ArrayInitElem}
 use Rattle.wasm_operator_steps.specs.Machine.{Kind, block_kind, loop_kind, if_kind, try_table_kind}
-use Rattle.wasm_operator_steps.specs.Actions.{of_type, of_function, of_tag, Types, these, params, results, label, returned, local, global, function_reference, new_reference, fields, element, field, table_address, memory_address, table_element, segment, lesser_table_address, lesser_memory_address, top, descriptor_of, repeated, front, last, joined, Needed, multi_value, reference_types, bulk_memory, exceptions, function_references, gc, shared_everything_threads, custom_descriptors, Check, has, allows, global_is_mutable, local_is_set, function_is_referenced, is_exception, each_matches, may_be_cast, can_be_tested, is_aligned, fields_have_defaults, has_no_descriptor, field_is_mutable, field_is_packed, element_is_mutable, element_has_default, element_is_number, element_is_packed, element_is_storable, data_is_there, segment_is_there, reaches_global, reaches_table, reaches_type, reaches_function}
+use Rattle.wasm_operator_steps.specs.Actions.{of_type, of_function, of_tag, OperandTypes, these, params, results, label, returned, local, global, function_reference, new_reference, fields, element, field, table_address, memory_address, table_element, segment, lesser_table_address, lesser_memory_address, top, descriptor_of, repeated, front, last, joined, Needed, multi_value, reference_types, bulk_memory, exceptions, function_references, gc, shared_everything_threads, custom_descriptors, Check, has, allows, global_is_mutable, local_is_set, function_is_referenced, is_exception, each_matches, may_be_cast, can_be_tested, is_aligned, fields_have_defaults, has_no_descriptor, field_is_mutable, field_is_packed, element_is_mutable, element_has_default, element_is_number, element_is_packed, element_is_storable, data_is_there, segment_is_there, reaches_global, reaches_table, reaches_type, reaches_function}
 
 -- Shapes: takes some operands and gives others; takes some, and what follows isn't reached; takes some and enters a block; `end`; `else`;
 -- takes any operand; chooses one of two; tests a reference for null; asserts that it isn't null; branches where it is null; branches
 -- where it isn't; branches by a table; sets a local; sets it and gives it back; takes a reference below an abstract heap type, shared
 -- or not; takes two that may be compared; turns a reference of one hierarchy into one of another; is never valid.
 pub data Shape : Type 0 where
-  plain : List Check → Types → Types → Shape
-  ending : List Check → Types → Shape
-  opening : List Check → Types → Kind → Block ℕ → Shape
+  plain : List Check → OperandTypes → OperandTypes → Shape
+  ending : List Check → OperandTypes → Shape
+  opening : List Check → OperandTypes → Kind → Block ℕ → Shape
   closing turning dropping choosing never : Shape
   testing_null asserting_non_null : List Check → Shape
   branching_on_null branching_on_non_null : List Check → ℕ → Shape
   branching_by_table : List ℕ → ℕ → Shape
   setting giving_back : ℕ → Shape
-  measuring : List Check → AbstractHeap → Types → Shape
-  comparing : List Check → Types → Shape
+  measuring : List Check → AbstractHeap → OperandTypes → Shape
+  comparing : List Check → OperandTypes → Shape
   converting : List Check → AbstractHeap → AbstractHeap → Shape
 
 -- words on types
-abbrev pub nothing : Types
+abbrev pub nothing : OperandTypes
 nothing = these []
 
-abbrev pub one : Val ℕ → Types
+abbrev pub one : Val ℕ → OperandTypes
 one v = these (v ∷ [])
 
 abbrev pub reference_to : Bool → Heap ℕ → Val ℕ
@@ -73,7 +73,7 @@ abbrev pub difference : Ref ℕ → Ref ℕ → Val ℕ
 difference r q = reference_to (if q.nullable then false else r.nullable) r.heap
 
 -- the first types, then an index or number of 32 bits for each of a list
-abbrev pub with_i32s : Types → List (Val ℕ) → Types
+abbrev pub with_i32s : OperandTypes → List (Val ℕ) → OperandTypes
 with_i32s t vs = joined t (these vs)
 
 -- what a block type needs
@@ -83,7 +83,7 @@ block_checks (value_block v) = allows v ∷ []
 block_checks (func_block n) = has multi_value ∷ reaches_type n ∷ []
 
 -- catch clauses: what a tag has, and the exception where it is asked for, matches the label
-abbrev pub exception : Types
+abbrev pub exception : OperandTypes
 exception = one (reference_to false (abstract_heap false exn_heap))
 
 abbrev pub catch_checks : List Catch → List Check
@@ -111,7 +111,7 @@ control_shape (control.br_table ls l) = branching_by_table ls l
 control_shape control.return_ = ending [] returned
 
 -- the results of a call in place of the caller
-abbrev pub returns : Types → Check
+abbrev pub returns : OperandTypes → Check
 returns t = each_matches t returned
 
 -- a table of functions
@@ -236,7 +236,7 @@ cast_checks q = has gc ∷ allows (reference q) ∷ can_be_tested q ∷ []
 abbrev pub branch_checks : ℕ → Ref ℕ → Ref ℕ → Val ℕ → List Check
 branch_checks l r q sent = has gc ∷ allows (reference r) ∷ allows (reference q) ∷ may_be_cast r q ∷ each_matches (one sent) (last (label l)) ∷ []
 
-abbrev pub kept : ℕ → Val ℕ → Types
+abbrev pub kept : ℕ → Val ℕ → OperandTypes
 kept l v = joined (front (label l)) (one v)
 
 abbrev pub cast_shape : Cast ℕ → Shape

@@ -9,7 +9,7 @@ use Rattle.wasm_operator_steps.specs.Worlds.{world_of}
 use Rattle.wasm_operator_steps.specs.Matching.{matches_vals}
 use Rattle.wasm_operator_steps.specs.Bodies.{Surroundings}
 use Rattle.wasm_operator_steps.specs.Machine.{bottom, known, Frame, State, push_operand, push_vals, pop_any, matches_operand, pop_val, pop_vals}
-use Rattle.wasm_operator_steps.specs.Actions.{Types, front, last, joined, Action, take, give}
+use Rattle.wasm_operator_steps.specs.Actions.{OperandTypes, front, last, joined, Action, take, give}
 use Rattle.wasm_operator_steps.specs.Shapes.{shape_of}
 use Rattle.wasm_operator_steps.specs.Meanings.{types_at, act, run}
 use Rattle.wasm_operator_steps.specs.Steps.{actions_of, step_in, steps_in}
@@ -29,12 +29,12 @@ pub record KeepsFrames {R : Type 0} (W : World R) : Type 0 where
 
 -- The same of the actions, whatever names the types.
 pub record ActsInTurn {R : Type 0} (W : World R) (B : Surroundings R) : Type 0 where
-  pub taken : (t u : Types) (s : State R) → act W B (take (joined t u)) s ≡ (act W B (take u) s >>= act W B (take t))
-  pub given : (t u : Types) (s : State R) → act W B (give (joined t u)) s ≡ (act W B (give t) s >>= act W B (give u))
+  pub taken : (t u : OperandTypes) (s : State R) → act W B (take (joined t u)) s ≡ (act W B (take u) s >>= act W B (take t))
+  pub given : (t u : OperandTypes) (s : State R) → act W B (give (joined t u)) s ≡ (act W B (give t) s >>= act W B (give u))
   pub taken_last :
-      (t : Types) (s : State R) → is_some (types_at W B s (last t)) ≡ true → act W B (take t) s ≡ (act W B (take (last t)) s >>= act W B (take (front t)))
+      (t : OperandTypes) (s : State R) → is_some (types_at W B s (last t)) ≡ true → act W B (take t) s ≡ (act W B (take (last t)) s >>= act W B (take (front t)))
   pub given_last :
-      (t : Types) (s : State R) → is_some (types_at W B s (last t)) ≡ true → act W B (give t) s ≡ (act W B (give (front t)) s >>= act W B (give (last t)))
+      (t : OperandTypes) (s : State R) → is_some (types_at W B s (last t)) ≡ true → act W B (give t) s ≡ (act W B (give (front t)) s >>= act W B (give (last t)))
 
 abbrev pub ListsAreTakenInTurn : (R : Type 0) → Type 0
 ListsAreTakenInTurn R = (W : World R) → TakesInTurn W

@@ -10,7 +10,7 @@ use crate::reached::reach_member;
 use std::alloc::Allocator;
 use wasm_module_resources::WasmModuleResources;
 use wasm_operator_aggregates::{is_packed, nullable, same_flag, unpack};
-use wasm_operator_checks::{OperatorError, OperatorFault, OperatorRule, Takes, Types, plain};
+use wasm_operator_checks::{OperatorError, OperatorFault, OperatorRule, Takes, ValTypes, plain};
 use wasm_operator_stacks::Stacks;
 use wasm_type_words::TypeWord;
 
@@ -47,7 +47,7 @@ fn get<A: Allocator, T: WasmModuleResources>(
         stacks,
         resources,
         Takes::One(nullable(field.identity)),
-        Types::One(TypeWord::new(unpack(field.ty.element_type))),
+        ValTypes::One(TypeWord::new(unpack(field.ty.element_type))),
     )
 }
 
@@ -117,7 +117,7 @@ pub fn struct_set<A: Allocator, T: WasmModuleResources>(
                 nullable(field.identity),
                 TypeWord::new(unpack(field.ty.element_type)),
             ),
-            Types::None,
+            ValTypes::None,
         )
     } else {
         Err(OperatorError::Refused(OperatorFault::at(OperatorRule::ImmutableField, field_index)))

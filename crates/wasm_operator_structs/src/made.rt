@@ -12,7 +12,7 @@ use std::alloc::Allocator;
 use wasm_module_resources::WasmModuleResources;
 use wasm_operator_aggregates::{exact_or_null, new_reference};
 use wasm_operator_checks::{
-    OperatorError, OperatorFault, OperatorRule, Takes, Types, check_type, plain,
+    OperatorError, OperatorFault, OperatorRule, Takes, ValTypes, check_type, plain,
 };
 use wasm_operator_stacks::Stacks;
 
@@ -69,7 +69,7 @@ pub fn struct_new_default<A: Allocator, T: WasmModuleResources>(
         )));
     }
     let given = new_reference(stacks, ty.identity);
-    plain(stacks, resources, Takes::None, Types::One(given))
+    plain(stacks, resources, Takes::None, ValTypes::One(given))
 }
 
 /// `struct.new_desc`.
@@ -144,6 +144,6 @@ pub fn struct_new_default_desc<A: Allocator, T: WasmModuleResources>(
         stacks,
         resources,
         Takes::One(exact_or_null(descriptor)),
-        Types::One(given),
+        ValTypes::One(given),
     )
 }

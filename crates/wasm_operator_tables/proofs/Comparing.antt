@@ -5,7 +5,7 @@ use Rattle.wasm_spec.specs.Syntax.{Val}
 use Rattle.wasm_spec.specs.MatchingTests.{matches_val}
 use Rattle.wasm_rules.specs.Contexts.{Context}
 use Rattle.wasm_readers_types.specs.declared.indices.UnpackedIndex.{UnpackedIndex}
-use Rattle.wasm_operator_steps.specs.Actions.{Types, each_matches}
+use Rattle.wasm_operator_steps.specs.Actions.{OperandTypes, each_matches}
 use Rattle.wasm_operator_steps.specs.Attempts.{passes}
 use Rattle.wasm_operator_steps.specs.Matching.{matches_vals}
 use Rattle.wasm_module_resources.specs.Answers.{world}
@@ -22,16 +22,16 @@ none_pass (Some x) = refl
 
 module _ {A : Type 0} (v : Stacks A) (C : Context UnpackedIndex) where
   -- lists, by what they are
-  pub match_held : (t u : Types) (vs : List (Val UnpackedIndex)) (b : Bool) → typed v C t ≡ Some vs → passes (matches_vals (world C) vs) (typed v C u) ≡ b → held v C (each_matches t u) ≡ b
+  pub match_held : (t u : OperandTypes) (vs : List (Val UnpackedIndex)) (b : Bool) → typed v C t ≡ Some vs → passes (matches_vals (world C) vs) (typed v C u) ≡ b → held v C (each_matches t u) ≡ b
   unfolding typed held
   match_held t u vs b e f = rw e f
 
   -- one type each
-  pub one_held : (t u : Types) (x y : Val UnpackedIndex) (b : Bool) → typed v C t ≡ Some (x ∷ []) → typed v C u ≡ Some (y ∷ []) → matches_val (world C) x y ≡ b → held v C (each_matches t u) ≡ b
+  pub one_held : (t u : OperandTypes) (x y : Val UnpackedIndex) (b : Bool) → typed v C t ≡ Some (x ∷ []) → typed v C u ≡ Some (y ∷ []) → matches_val (world C) x y ≡ b → held v C (each_matches t u) ≡ b
   unfolding typed held
   one_held t u x y b e f h = rw (e, f) (and_true (matches_val (world C) x y) ∙ h)
 
   -- types that aren't there
-  pub first_unmatched : (t u : Types) → typed v C t ≡ None → held v C (each_matches t u) ≡ false
+  pub first_unmatched : (t u : OperandTypes) → typed v C t ≡ None → held v C (each_matches t u) ≡ false
   unfolding typed held
   first_unmatched t u e = rw e refl

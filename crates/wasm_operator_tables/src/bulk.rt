@@ -14,7 +14,7 @@ use std::alloc::Allocator;
 use wasm_module_resources::WasmModuleResources;
 use wasm_numeric_operators::NumberType;
 use wasm_operator_checks::{
-    OperatorError, OperatorFault, OperatorRule, Takes, Types, address, has, lesser, plain,
+    OperatorError, OperatorFault, OperatorRule, Takes, ValTypes, address, has, lesser, plain,
 };
 use wasm_operator_stacks::Stacks;
 use wasm_readers_errors::WasmFeatures;
@@ -59,7 +59,7 @@ pub fn table_copy<A: Allocator, T: WasmModuleResources>(
             address(from.table64),
             lesser(to.table64, from.table64),
         ),
-        Types::None,
+        ValTypes::None,
     )
 }
 
@@ -98,7 +98,7 @@ pub fn table_init<A: Allocator, T: WasmModuleResources>(
         stacks,
         resources,
         Takes::Three(address(to.table64), number, number),
-        Types::None,
+        ValTypes::None,
     )
 }
 
@@ -118,7 +118,7 @@ pub fn elem_drop<A: Allocator, T: WasmModuleResources>(
         return Err(OperatorError::Refused(OperatorFault::new(OperatorRule::BulkMemory)));
     }
     match resources.element_type_at(elem_index) {
-        Some(_) => plain(stacks, resources, Takes::None, Types::None),
+        Some(_) => plain(stacks, resources, Takes::None, ValTypes::None),
         None => Err(OperatorError::Refused(OperatorFault::at(
             OperatorRule::UnknownElements,
             elem_index,

@@ -9,7 +9,7 @@ use crate::reach::table_reached;
 use std::alloc::Allocator;
 use wasm_module_resources::WasmModuleResources;
 use wasm_operator_checks::{
-    OperatorError, OperatorFault, OperatorRule, Takes, Types, address, has, plain,
+    OperatorError, OperatorFault, OperatorRule, Takes, ValTypes, address, has, plain,
 };
 use wasm_operator_stacks::Stacks;
 use wasm_readers_errors::WasmFeatures;
@@ -35,7 +35,7 @@ pub fn table_get<A: Allocator, T: WasmModuleResources>(
             stacks,
             resources,
             Takes::One(address(ty.table64)),
-            Types::One(TypeWord::reference(ty.element_type)),
+            ValTypes::One(TypeWord::reference(ty.element_type)),
         ),
         Err(fault) => Err(OperatorError::Refused(fault)),
     }
@@ -61,7 +61,7 @@ pub fn table_set<A: Allocator, T: WasmModuleResources>(
             stacks,
             resources,
             Takes::Two(address(ty.table64), TypeWord::reference(ty.element_type)),
-            Types::None,
+            ValTypes::None,
         ),
         Err(fault) => Err(OperatorError::Refused(fault)),
     }
@@ -87,7 +87,7 @@ pub fn table_size<A: Allocator, T: WasmModuleResources>(
             stacks,
             resources,
             Takes::None,
-            Types::One(address(ty.table64)),
+            ValTypes::One(address(ty.table64)),
         ),
         Err(fault) => Err(OperatorError::Refused(fault)),
     }
@@ -115,7 +115,7 @@ pub fn table_grow<A: Allocator, T: WasmModuleResources>(
                 stacks,
                 resources,
                 Takes::Two(TypeWord::reference(ty.element_type), address),
-                Types::One(address),
+                ValTypes::One(address),
             )
         }
         Err(fault) => Err(OperatorError::Refused(fault)),
@@ -144,7 +144,7 @@ pub fn table_fill<A: Allocator, T: WasmModuleResources>(
                 stacks,
                 resources,
                 Takes::Three(address, TypeWord::reference(ty.element_type), address),
-                Types::None,
+                ValTypes::None,
             )
         }
         Err(fault) => Err(OperatorError::Refused(fault)),
