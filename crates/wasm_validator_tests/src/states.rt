@@ -127,13 +127,20 @@ fn tags_lack_exceptions(alloc: Global, validator: &mut Validator) -> Result<bool
 }
 
 #[test]
-fn tags_need_their_feature_around_a_header(rt: HostRuntime) -> Result<(), Fail> {
+fn tags_need_their_feature_before_a_header(rt: HostRuntime) -> Result<(), Fail> {
     let alloc = rt.alloc();
     let features = without(WasmFeatures::EXCEPTIONS);
     let mut validator = Validator::new_with_features(alloc, features, ValidatorId::from_number(0));
     assert!(rt; tags_lack_exceptions(alloc, &mut validator)?);
     assert!(rt; validator.can_reset());
     validator.version(1, Encoding::Module, &(0..8))?;
+    Ok(())
+}
+
+#[test]
+fn tags_need_their_feature_in_a_module(rt: HostRuntime) -> Result<(), Fail> {
+    let alloc = rt.alloc();
+    let mut validator = begun(alloc, without(WasmFeatures::EXCEPTIONS))?;
     assert!(rt; tags_lack_exceptions(alloc, &mut validator)?);
     assert!(rt; validator.has_failed());
     assert!(rt; tags_lack_exceptions(alloc, &mut validator)?);
@@ -141,17 +148,22 @@ fn tags_need_their_feature_around_a_header(rt: HostRuntime) -> Result<(), Fail> 
 }
 
 #[test]
-fn tags_need_their_feature_behind_code_and_end(rt: HostRuntime) -> Result<(), Fail> {
+fn tags_need_their_feature_behind_the_code(rt: HostRuntime) -> Result<(), Fail> {
     let alloc = rt.alloc();
-    let features = without(WasmFeatures::EXCEPTIONS);
-    let mut late = begun(alloc, features)?;
-    late.code_section_start(&(8..9))?;
-    assert!(rt; tags_lack_exceptions(alloc, &mut late)?);
-    assert!(rt; late.has_failed());
-    let mut over = begun(alloc, features)?;
-    give_end(&mut over)?;
-    assert!(rt; tags_lack_exceptions(alloc, &mut over)?);
-    assert!(rt; over.can_reset());
+    let mut validator = begun(alloc, without(WasmFeatures::EXCEPTIONS))?;
+    validator.code_section_start(&(8..9))?;
+    assert!(rt; tags_lack_exceptions(alloc, &mut validator)?);
+    assert!(rt; validator.has_failed());
+    Ok(())
+}
+
+#[test]
+fn tags_need_their_feature_behind_the_end(rt: HostRuntime) -> Result<(), Fail> {
+    let alloc = rt.alloc();
+    let mut validator = begun(alloc, without(WasmFeatures::EXCEPTIONS))?;
+    give_end(&mut validator)?;
+    assert!(rt; tags_lack_exceptions(alloc, &mut validator)?);
+    assert!(rt; validator.can_reset());
     Ok(())
 }
 
@@ -233,13 +245,18 @@ fn a_data_count_has_a_limit(rt: HostRuntime) -> Result<(), Fail> {
     Ok(())
 }
 
+/// Gives a section of memories, one of exports, and one of memories again.
+fn give_memories_twice(alloc: Global, validator: &mut Validator) -> Result<(), Fail> {
+    give_memories(alloc, validator, b"\x01\0\x01")?;
+    give_exports(alloc, validator, b"\x01\x01a\x02\0")?;
+    give_memories(alloc, validator, b"\x01\0\x01")
+}
+
 #[test]
 fn sections_in_another_order(rt: HostRuntime) -> Result<(), Fail> {
     let alloc = rt.alloc();
     let mut validator = begun(alloc, WasmFeatures::default())?;
-    give_memories(alloc, &mut validator, b"\x01\0\x01")?;
-    give_exports(alloc, &mut validator, b"\x01\x01a\x02\0")?;
-    give_memories(alloc, &mut validator, b"\x01\0\x01")?;
+    give_memories_twice(alloc, &mut validator)?;
     let types = validator.end(50)?;
     assert!(rt; types.as_ref().memory_count() == 2);
     Ok(())
