@@ -127,10 +127,10 @@ module _ {A S : Type 0} where
   item_told (DuplicateExport name offset) o new place told none tells at = absurd tells
   item_told OutOfMemory o new place told none tells at = tt
 
-  pub group_told : (P : S → Type 0) (e : Error A) (o : Option S) (new : S) (place : ℕ) → AddsWhere P (refusal e) o new → IsAt place e → OfContent (λ w. IsNowhere P o × IsAt place w) e
-  group_told P (Refused r) o new place nowhere at = (nowhere, at)
-  group_told P (DuplicateExport name offset) o new place nowhere at = (nowhere, at)
-  group_told P OutOfMemory o new place nowhere at = tt
+  pub group_told : (P : S → Type 0) (Q : Error A → Type 0) (e : Error A) (o : Option S) (new : S) (place : ℕ) → AddsWhere P (refusal e) o new → IsAt place e → Q e → OfContent (λ w. IsNowhere P o × (IsAt place w × Q w)) e
+  group_told P Q (Refused r) o new place nowhere at told = (nowhere, (at, told))
+  group_told P Q (DuplicateExport name offset) o new place nowhere at told = (nowhere, (at, told))
+  group_told P Q OutOfMemory o new place nowhere at told = tt
 
   pub export_told : (e : Error A) (o : Option S) (new : S) (s : Spaces) (name : List ℕ) (place : ℕ) (told : Option Refusal) → Adds (refusal e) o new → TellsExport s name place (refusal e) told → IsAt place e → OfContent (λ w. IsNone o × TellsNamedAt s name place told w) e
   export_told (Refused r) o new s name place told none tells at = (none, (tells, at))

@@ -30,15 +30,17 @@ use Rattle.wasm_readers.specs.SectionsSeen.{count_of, bytes_of, section_start, s
 use Rattle.wasm_readers.specs.Tables.{Head, table_head_at}
 use Rattle.wasm_readers.specs.Written.{written}
 use Rattle.wasm_readers.specs.declared.section_limited.SectionLimited.{SectionLimited}
+use Rattle.wasm_validator_type_list.specs.Listing.{Listing}
+use Rattle.wasm_validator_type_list.specs.DefTypes.{types_of_list}
 use Rattle.wasm_validator_types.specs.Spaces.{Spaces, is_exported}
 use Rattle.wasm_validator_core.specs.declared.error.Error.{Error}
 use Rattle.wasm_validator_core.specs.declared.error.Error.TheVariants.{Refused, DuplicateExport, OutOfMemory}
 use Rattle.wasm_validator_core.specs.declared.limits.TheConstants.{MAX_TYPES, MAX_IMPORTS, MAX_FUNCTIONS, MAX_TAGS, MAX_EXPORTS}
 use Rattle.wasm_validator_core.specs.Answers.{TypesSoFar, IsNowhere, HasValidTypes}
-use Rattle.wasm_validator_core.specs.Errors.{IsAt}
+use Rattle.wasm_validator_core.specs.Errors.{IsAt, IfContent}
 use Rattle.wasm_validator_core.specs.Items.{add_import, add_function, add_memory, add_tag, add_export, exported_entity}
 use Rattle.wasm_validator_core.specs.Machine.{add_group}
-use Rattle.wasm_validator_core.specs.Told.{told_of_import, told_of_added_function, told_of_added_table, told_of_added_memory, told_of_added_tag, told_of_entity, told_of_start, told_of_data_count}
+use Rattle.wasm_validator_core.specs.Told.{told_of_import, told_of_added_function, told_of_added_table, told_of_added_memory, told_of_added_tag, ToldOfAddedGroup, told_of_entity, told_of_start, told_of_data_count}
 use Rattle.wasm_validator_module_state.specs.Bodies.{expected_bodies}
 use Rattle.wasm_validator.specs.Machine.{add_table_head}
 use Rattle.wasm_validator.specs.Standing.{Stage, unparsed, in_module, in_code, ended, failed}
@@ -144,14 +146,19 @@ module _ {A : Type 0} where
   abbrev pub tells_memory : WasmFeatures → ℕ → Spaces → Memory → Error A → Type 0
   tells_memory features place s m e = TellsAt place (told_of_added_memory features place s m) e
 
-  -- of a group its place is told
-  abbrev pub tells_group : ℕ → TypesSoFar × Spaces → Rec UnpackedIndex → Error A → Type 0
-  tells_group place p g e = IsAt place e
+  -- a group that a list of these types refuses, or the module behind its own
+  pub record TellsOfGroup (features : WasmFeatures) (place : ℕ) (p : TypesSoFar × Spaces) (g : Rec UnpackedIndex) (e : Error A) : Type 0 where
+    pub list : Listing A
+    pub are_types : types_of_list list ≡ p.0
+    pub told : IfContent (ToldOfAddedGroup features place list p.1 g) e
+
+  abbrev pub tells_group : WasmFeatures → ℕ → TypesSoFar × Spaces → Rec UnpackedIndex → Error A → Type 0
+  tells_group features place p g e = IsAt place e × TellsOfGroup features place p g e
 
   -- the sections, by what they have
   module _ {T B : Type 0} (features : WasmFeatures) (section : SectionLimited T B) (us : TypesSoFar) (m : Spaces) (e : Error A) where
     abbrev pub TellsTypes : Type 0
-    TellsTypes = TellsSection section e (rec_at written) (add_group features) (IsNowhere (HasValidTypes features)) tells_group counted.Types (length m.types) MAX_TYPES (us, m)
+    TellsTypes = TellsSection section e (rec_at written) (add_group features) (IsNowhere (HasValidTypes features)) (tells_group features) counted.Types (length m.types) MAX_TYPES (us, m)
 
     abbrev pub TellsImports : Type 0
     TellsImports = TellsSection section e (import_at written) (add_import (features_of features) us) IsNone (tells_import features us) counted.Imports (length m.imports) MAX_IMPORTS m

@@ -19,3 +19,4 @@ pub mod Arities
 pub mod NewIds
 pub mod DepthsOfIds
 pub mod KeptDepths
+pub mod Told

@@ -5,5 +5,6 @@ pub mod Found
 pub mod Groups
 pub mod Answers
 pub mod Interned
+pub mod Told
 pub mod Sections
 pub mod Arities

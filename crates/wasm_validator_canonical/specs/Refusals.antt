@@ -2,9 +2,10 @@
 use Rattle.std.specs.Prelude.{ℕ, nat_lt, if◌then◌else◌}
 use Rattle.std.specs.declared.option.Option.TheVariants.{Some, None}
 use Rattle.wasm_readers_errors.specs.declared.error.Fault.{Fault}
-use Rattle.wasm_readers_errors.specs.declared.error.Fault.TheVariants.{Group, UnknownType, UnknownTypeWithoutGc}
+use Rattle.wasm_readers_errors.specs.declared.error.Fault.TheVariants.{Group, Descriptor, UnknownType, UnknownTypeWithoutGc}
 use Rattle.wasm_readers_errors.specs.declared.error.Refusal.{Refusal}
-use Rattle.wasm_readers_errors.specs.declared.type_rules.GroupRule.TheVariants.{RecGroups, MultipleSupertypes}
+use Rattle.wasm_readers_errors.specs.declared.type_rules.DescriptorRule.TheVariants.{ForwardDescribes}
+use Rattle.wasm_readers_errors.specs.declared.type_rules.GroupRule.TheVariants.{RecGroups, MultipleSupertypes, SupertypeAfterSubtype}
 use Rattle.wasm_readers_errors.specs.declared.features.TheConstants.WasmFeatures.{GC}
 use Rattle.wasm_readers_types.specs.declared.indices.UnpackedIndex.{UnpackedIndex}
 use Rattle.wasm_readers_types.specs.declared.indices.UnpackedIndex.TheVariants.{Module, RecGroup, Id}
@@ -22,9 +23,20 @@ rec_without_gc offset = record { fault = Group RecGroups; offset = offset; missi
 abbrev pub extends_many : ℕ → Refusal
 extends_many offset = plain (Group MultipleSupertypes) offset
 
+-- a type extends one that doesn't come before it, or describes one
+abbrev pub extends_later : ℕ → Refusal
+extends_later offset = plain (Group SupertypeAfterSubtype) offset
+
+abbrev pub describes_later : ℕ → Refusal
+describes_later offset = plain (Descriptor ForwardDescribes) offset
+
 -- there is no type with this index
 abbrev pub unknown_type : ℕ → ℕ → Refusal
 unknown_type index offset = plain (UnknownType index) offset
+
+-- the index is of a type of the group itself
+abbrev pub unknown_without_gc : ℕ → ℕ → Refusal
+unknown_without_gc index offset = plain (UnknownTypeWithoutGc index) offset
 
 -- The index is of no type before the group: without gc it may not be one of the group. Only indices of a module are known.
 abbrev pub unknown_by : TypeCanonicalizer → UnpackedIndex → Refusal

@@ -1,4 +1,4 @@
-ghost use Rattle.std.specs.Prelude.{◌≡◌, ◌+◌, ◌<◌, ◌≤◌, ◌^◌, true, false, not, ◌||◌, map, length, is_ok, IfOk, IfErr, OnOk, IsTrue};
+ghost use Rattle.std.specs.Prelude.{◌≡◌, ◌+◌, ◌<◌, ◌≤◌, ◌^◌, [], ◌∷◌, ◌++◌, true, false, not, ◌||◌, map, length, is_ok, IfOk, IfErr, OnOk, IsTrue};
 ghost use Rattle.std.specs.Bool.{Decides};
 ghost use Rattle.std.specs.List.{All, list_all};
 ghost use Rattle.wasm_spec.specs.Features.{canonical};
@@ -12,12 +12,14 @@ ghost use Rattle.wasm_validator_type_list.specs.Listing.{types_in};
 ghost use Rattle.wasm_validator_type_list.specs.Refused.{too_many_types};
 ghost use Rattle.wasm_validator_type_list.specs.DefTypes.{types_of_list};
 ghost use Rattle.wasm_group_checks.specs.Rules.{IsValidGroupAt};
+ghost use Rattle.wasm_group_checks.specs.Told.{ToldOfGroup};
 ghost use Rattle.wasm_validator_canonical.specs.Indices.{numbers, canonical_group, extend_at_most_one};
 ghost use Rattle.wasm_validator_canonical.specs.Groups.{has_form, allows_written, closes, AreValid};
 ghost use Rattle.wasm_validator_canonical.specs.Answers.{Says, IsRefusal, IsAt};
 ghost use Rattle.wasm_validator_canonical.specs.Refusals.{rec_without_gc, extends_many};
 ghost use Rattle.wasm_validator_canonical.specs.Depths.{KeepsDepth, StillKept};
 ghost use Rattle.wasm_validator_canonical.specs.Interned.{next_ids, HasIdsFor, AddsWritten, InternsValid};
+ghost use Rattle.wasm_validator_canonical.specs.Told.{IfContent, ToldOfWritten, ToldOfAdded};
 
 use crate::depths::keep_depths;
 use crate::type_canonicalizer::{TypeCanonicalizer, extend_at_most_one};
@@ -65,6 +67,8 @@ fn canonical_types<A: Allocator + Copy>(
         → IsRefusal result (rec_without_gc offset) }
     ensures extends { allows_written (features_of features) (rec_of group) ≡ true
         → extend_at_most_one (rec_of group) ≡ false → IsRefusal result (extends_many offset) }
+    ensures told { IfErr result (IfContent (ToldOfWritten features offset
+        (length ids.now) (rec_of group))) }
 {
     if !may_be_written(features, &group) {
         let fault = Fault::Group(GroupRule::RecGroups);
@@ -128,6 +132,8 @@ pub fn canonicalize_and_intern_rec_group<A: Allocator + Copy>(
     ensures written { HasIdsFor types.old (length group.types)
         → allows_written (features_of features) (rec_of group) ≡ false
         → IsRefusal result (rec_without_gc offset) }
+    ensures told { IfErr result (IfContent (ToldOfAdded features offset types.old
+        (numbers ids.now) (rec_of group))) }
     ensures same_open { types.new.is_open ≡ types.old.is_open }
     ensures same_mode { types.new.is_canonical ≡ types.old.is_canonical }
 {
@@ -159,6 +165,7 @@ fn check_if_new<A: Allocator + Copy>(
     ensures new { is_new ≡ true → Decides (is_ok result)
         (IsValidGroupAt (features_of features) types.now.groups group.index) }
     ensures known { is_new ≡ false → is_ok result ≡ true }
+    ensures told { IfErr result (ToldOfGroup features offset types.now.groups group.index) }
     ensures place { IfErr result (λ r. r.offset ≡ offset) }
 {
     if is_new {
@@ -182,6 +189,9 @@ fn intern<A: Allocator + Copy>(
     ensures interned { InternsValid (features_of features) result types.old types.new group.types }
     ensures listable { OnOk result (AreListable types.new.groups) }
     ensures place { IfErr result (IsAt offset) }
+    ensures told { HasIdsFor types.old (length group.types) → IfErr result (IfContent
+        (ToldOfGroup features offset (types.old.groups ++ group.types ∷ [])
+        (length types.old.groups))) }
     ensures same_open { types.new.is_open ≡ types.old.is_open }
     ensures same_mode { types.new.is_canonical ≡ types.old.is_canonical }
 {

@@ -11,6 +11,7 @@ ghost use Rattle.wasm_validator_canonical.specs.Groups.{has_form, AreValid};
 ghost use Rattle.wasm_validator_canonical.specs.Answers.{IsAt};
 ghost use Rattle.wasm_validator_canonical.specs.Interned.{next_ids, AddsWrittenGroup};
 ghost use Rattle.wasm_validator_canonical.specs.Refusals.{unknown_type};
+ghost use Rattle.wasm_validator_canonical.specs.Told.{IfContent, ToldOfAdded};
 ghost use Rattle.wasm_validator_canonical.specs.Indices.{numbers};
 
 use crate::intern_rec_group::canonicalize_and_intern_rec_group;
@@ -135,6 +136,8 @@ pub fn intern_rec_group_of<A: Allocator + Copy, M: InternRecGroup<A>>(
         ≡ length (types_in types.old) + length group.types) }
     ensures others { M.others target.new ≡ M.others target.old }
     ensures place { IfErr result (IsAt offset) }
+    ensures told { IfErr result (IfContent (ToldOfAdded features offset types.old
+        (M.ids target.old) (rec_of group))) }
     ensures same_open { types.new.is_open ≡ types.old.is_open }
     ensures same_mode { types.new.is_canonical ≡ types.old.is_canonical }
 {

@@ -8,6 +8,7 @@ ghost use Rattle.wasm_readers_types.specs.SeenValues.{index_of, ref_of, val_of, 
 ghost use Rattle.wasm_readers_types.specs.SeenTypes.{func_of, comp_of};
 ghost use Rattle.wasm_validator_canonical.specs.Answers.{Says, IsAt};
 ghost use Rattle.wasm_validator_canonical.specs.Indices.{has_no_index};
+ghost use Rattle.wasm_validator_canonical.specs.Told.{IfContent, ToldOfIndexBy};
 
 use std::alloc::Allocator;
 use wasm_readers_errors::{Error, Fault, Refusal};
@@ -87,6 +88,7 @@ impl<'a> TypeCanonicalizer<'a> {
         ensures fits { IfOk result Fits }
         ensures known { is_ok result ≡ is_known_by self.now index }
         ensures refusal { IfErr result (λ r. r ≡ unknown_by self.now index) }
+        ensures told { IfErr result (ToldOfIndexBy self.now) }
     {
         let UnpackedIndex::Module(number) = index else {
             return Err(Refusal::new(Fault::UnknownType(0), self.offset));
@@ -109,6 +111,7 @@ impl<'a> TypeCanonicalizer<'a> {
         ensures value { IfOk result (λ p. index_of p ≡ canonical_by self.now (index_of index)) }
         ensures known { is_ok result ≡ is_known_by self.now (index_of index) }
         ensures refusal { IfErr result (λ r. r ≡ unknown_by self.now (index_of index)) }
+        ensures told { IfErr result (ToldOfIndexBy self.now) }
     {
         match self.index(index.unpack())?.pack() {
             Some(packed) => Ok(packed),
@@ -123,6 +126,7 @@ impl<'a> TypeCanonicalizer<'a> {
         ensures known { is_ok result ≡ list_all (is_known_by self.now)
             (refs_heap (ref_of ty).heap) }
         ensures place { IfErr result (λ r. r.offset ≡ self.now.offset) }
+        ensures told { IfErr result (ToldOfIndexBy self.now) }
     {
         let heap = match ty.heap_type() {
             HeapType::Abstract { .. } => return Ok(ty),
@@ -141,6 +145,7 @@ impl<'a> TypeCanonicalizer<'a> {
         ensures value { IfOk result (λ v. val_of v ≡ map_val (canonical_by self.now) (val_of ty)) }
         ensures known { is_ok result ≡ knows_val self.now (val_of ty) }
         ensures place { IfErr result (λ r. r.offset ≡ self.now.offset) }
+        ensures told { IfErr result (ToldOfIndexBy self.now) }
     {
         match ty {
             ValType::Ref(reference) => Ok(ValType::Ref(self.reference(reference)?)),
@@ -155,6 +160,7 @@ impl<'a> TypeCanonicalizer<'a> {
             ≡ map_field (canonical_by self.now) (field_of ty)) }
         ensures known { is_ok result ≡ knows_field self.now (field_of ty) }
         ensures place { IfErr result (λ r. r.offset ≡ self.now.offset) }
+        ensures told { IfErr result (ToldOfIndexBy self.now) }
     {
         match ty.element_type {
             StorageType::Val(value) => Ok(FieldType {
@@ -178,6 +184,7 @@ impl<'a> TypeCanonicalizer<'a> {
             ≡ map (map_val (canonical_by self.now)) (map val_of types.items)) }
         ensures known { Says result (list_all (knows_val self.now) (map val_of types.items)) }
         ensures place { IfErr result (IsAt self.now.offset) }
+        ensures told { IfErr result (IfContent (ToldOfIndexBy self.now)) }
     {
         if !have_index(types.as_slice()) {
             return Ok(types);
@@ -203,6 +210,7 @@ impl<'a> TypeCanonicalizer<'a> {
             ≡ map (map_field (canonical_by self.now)) (map field_of types.now)) }
         ensures known { Says result (list_all (knows_field self.now) (map field_of types.now)) }
         ensures place { IfErr result (IsAt self.now.offset) }
+        ensures told { IfErr result (IfContent (ToldOfIndexBy self.now)) }
     {
         let mut canonical = Vec::new(alloc);
         for ty in types {
@@ -222,6 +230,7 @@ impl<'a> TypeCanonicalizer<'a> {
             ≡ map_comp (canonical_by self.now) (func_of ty)) }
         ensures known { Says result (list_all (is_known_by self.now) (refs_comp (func_of ty))) }
         ensures place { IfErr result (IsAt self.now.offset) }
+        ensures told { IfErr result (IfContent (ToldOfIndexBy self.now)) }
     {
         let (params, results) = ty.into_parts();
         match self.values(alloc, params) {
@@ -245,6 +254,7 @@ impl<'a> TypeCanonicalizer<'a> {
             ≡ map_comp (canonical_by self.now) (comp_of ty)) }
         ensures known { Says result (list_all (is_known_by self.now) (refs_comp (comp_of ty))) }
         ensures place { IfErr result (IsAt self.now.offset) }
+        ensures told { IfErr result (IfContent (ToldOfIndexBy self.now)) }
     {
         match ty {
             CompositeInnerType::Func(signature) => match self.function(alloc, signature) {

@@ -10,18 +10,20 @@ use Rattle.wasm_rules.specs.FeatureFlags.{features_of}
 use Rattle.wasm_rules.proofs.Tests.{guarded, map_some}
 use Rattle.wasm_readers_types.specs.declared.indices.UnpackedIndex.{UnpackedIndex}
 use Rattle.wasm_readers_errors.specs.declared.features.WasmFeatures.{WasmFeatures}
+use Rattle.wasm_readers_errors.specs.declared.error.Refusal.{Refusal}
 use Rattle.wasm_readers_errors.specs.declared.error.Error as below
 use Rattle.wasm_readers_errors.specs.declared.error.Error.TheVariants as read
 use Rattle.wasm_validator_type_list.specs.Listing.{Listing}
 use Rattle.wasm_validator_canonical.specs.Answers.{AddsNothing}
 use Rattle.wasm_validator_canonical.specs.Answers as canonical
+use Rattle.wasm_validator_canonical.specs.Told as told
 use Rattle.wasm_validator_canonical.specs.Groups.{AreValid, with_written}
 use Rattle.wasm_validator_canonical.proofs.Steps.{written_length, written_known}
 use Rattle.wasm_validator_type_list.specs.DefTypes.{types_of_list}
 use Rattle.wasm_validator_types.specs.Spaces.{Spaces}
 use Rattle.wasm_validator_core.specs.declared.limits.TheConstants.{MAX_TYPES}
 use Rattle.wasm_validator_core.specs.declared.error.Error.{Error}
-use Rattle.wasm_validator_core.specs.Errors.{IsAt, lifted}
+use Rattle.wasm_validator_core.specs.Errors.{IsAt, IfContent, lifted}
 use Rattle.wasm_validator_core.specs.Answers.{TypesSoFar, IsNowhere, AddsWhere, HasValidTypes}
 use Rattle.wasm_validator_core.specs.Machine.{with_ids, add_group}
 use Rattle.wasm_validator_core.specs.Ready.{AreIdsOf}
@@ -29,6 +31,11 @@ use Rattle.wasm_validator_core.specs.Ready.{AreIdsOf}
 -- a refusal, as the answer of a call that gives nothing
 abbrev pub refusal : {A : Type 0} → Error A → Result (Unit {0}) (Error A)
 refusal e = results.Err e
+
+-- what is told of the list's refusal, which is handed on
+pub lifted_tells : (A : Type 0) {P Q : Refusal → Type 0} (e : below.Error) → ((r : Refusal) → P r → Q r) → told.IfContent P e → IfContent Q (lifted {A = A} e)
+lifted_tells A (read.Refused r) f h = f r h
+lifted_tells A read.OutOfMemory f h = tt
 
 -- a refusal that is handed on stands where it stood
 pub lifted_at : (A : Type 0) (place : ℕ) (e : below.Error) → canonical.IsAt place e → IsAt place (lifted {A = A} e)

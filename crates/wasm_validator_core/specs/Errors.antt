@@ -4,6 +4,7 @@ use Rattle.wasm_validator_core.specs.declared.error.Error.{Error}
 use Rattle.wasm_validator_core.specs.declared.error.Error.TheVariants.{Refused, DuplicateExport, OutOfMemory}
 use Rattle.wasm_readers_errors.specs.declared.error.Error as below
 use Rattle.wasm_readers_errors.specs.declared.error.Error.TheVariants as read
+use Rattle.wasm_readers_errors.specs.declared.error.Refusal.{Refusal}
 use Rattle.wasm_readers_errors.specs.declared.features.WasmFeatures.{WasmFeatures}
 
 -- memory was refused
@@ -28,6 +29,12 @@ abbrev pub IsAt : {A : Type 0} → ℕ → Error A → Type 0
 IsAt place (Refused r) = r.offset ≡ place
 IsAt place (DuplicateExport name offset) = offset ≡ place
 IsAt place OutOfMemory = ⊤
+
+-- a refusal of the content is no export's and says this, and one for want of memory nothing
+abbrev pub IfContent : {A : Type 0} → (Refusal → Type 0) → Error A → Type 0
+IfContent P (Refused r) = P r
+IfContent P (DuplicateExport name offset) = ⊥
+IfContent P OutOfMemory = ⊤
 
 abbrev pub missing_of : {A : Type 0} → Error A → Option WasmFeatures
 missing_of (Refused r) = r.missing

@@ -1,18 +1,18 @@
 -- What a refusal of an item says that is added to a module: the first of its rules that is broken, in the order in which
 -- they are asked, with its fault, where the item stands, and the proposal that would lift it. Core Specification 3.0,
 -- Validation, Modules.
-use Rattle.std.specs.Prelude.{ℕ, ◌≡◌, ◌+◌, nat_le, true, false, List, length, slice_get, Option, Some, None, is_some, ⊤, IsTrue}
+use Rattle.std.specs.Prelude.{ℕ, ◌≡◌, ◌+◌, ◌<◌, ◌≤◌, nat_le, true, false, List, length, slice_get, Option, Some, None, is_some, ⊤, IsTrue}
 use Rattle.std.specs.Option.{option_or}
 use Rattle.std.specs.String.{string_bytes}
 use Rattle.std.specs.declared.result.Result.{Result}
 use Rattle.std.specs.declared.result.Result.TheVariants.{Ok, Err}
-use Rattle.wasm_spec.specs.Syntax.{Table, Memory, Extern, func_extern, func_exact_extern, table_extern, memory_extern, global_extern, tag_extern}
+use Rattle.wasm_spec.specs.Syntax.{Rec, Table, Memory, Extern, func_extern, func_exact_extern, table_extern, memory_extern, global_extern, tag_extern}
 use Rattle.wasm_spec.specs.BinaryModules.{Import}
 use Rattle.wasm_rules.specs.FeatureFlags.{features_of}
 use Rattle.wasm_rules.specs.Limits.{most_tables, most_memories}
 use Rattle.wasm_readers_errors.specs.Refusals.{plain, unless, lack_if}
 use Rattle.wasm_readers_errors.specs.declared.error.Counted.{Counted}
-use Rattle.wasm_readers_errors.specs.declared.error.Counted.TheVariants.{Functions, Tables, Memories, Globals, Tags}
+use Rattle.wasm_readers_errors.specs.declared.error.Counted.TheVariants.{Types, Functions, Tables, Memories, Globals, Tags}
 use Rattle.wasm_readers_errors.specs.declared.error.Fault.TheVariants as fault
 use Rattle.wasm_readers_errors.specs.declared.error.ItemKind.{ItemKind}
 use Rattle.wasm_readers_errors.specs.declared.error.ItemKind.TheVariants as kind
@@ -24,12 +24,14 @@ use Rattle.wasm_readers_errors.specs.declared.features.TheConstants.WasmFeatures
 use Rattle.wasm_readers_types.specs.declared.indices.UnpackedIndex.{UnpackedIndex}
 use Rattle.wasm_readers_types.specs.declared.externs.ExternalKind.{ExternalKind}
 use Rattle.wasm_readers_types.specs.declared.externs.ExternalKind.TheVariants as external
+use Rattle.wasm_validator_type_list.specs.Listing.{Listing}
+use Rattle.wasm_validator_canonical.specs.Told.{ToldOfAdded}
 use Rattle.wasm_item_checks.specs.Told.{told_of_function, told_of_defined_table, told_of_memory, told_of_tag, told_of_movable, told_of_extern}
 use Rattle.wasm_validator_types.specs.Entities.{Entity}
 use Rattle.wasm_validator_types.specs.Spaces.{Spaces, is_exported}
 use Rattle.wasm_validator_core.specs.declared.error.Error.{Error}
 use Rattle.wasm_validator_core.specs.declared.error.Error.TheVariants.{Refused, DuplicateExport, OutOfMemory}
-use Rattle.wasm_validator_core.specs.declared.limits.TheConstants.{MAX_FUNCTIONS, MAX_GLOBALS, MAX_TAGS, MAX_DATA_SEGMENTS}
+use Rattle.wasm_validator_core.specs.declared.limits.TheConstants.{MAX_TYPES, MAX_FUNCTIONS, MAX_GLOBALS, MAX_TAGS, MAX_DATA_SEGMENTS}
 use Rattle.wasm_validator_core.specs.Answers.{TypesSoFar}
 use Rattle.wasm_validator_core.specs.Items.{types_of_module, listed, entity, entity_size, grown, arity_of_function, takes_and_gives_nothing}
 
@@ -128,3 +130,8 @@ module _ (features : WasmFeatures) (offset : ℕ) where
   abbrev pub told_of_data_count : ℕ → Option Refusal
   told_of_data_count count =
       option_or (lack_if true features BULK_MEMORY (fault.Item DataCounts) offset) (unless (nat_le count MAX_DATA_SEGMENTS) (plain (fault.Item DataCountLimit) offset))
+
+-- a recursion group behind the module's types: the module would have too many, or the group can't come to the list
+pub data ToldOfAddedGroup {A : Type 0} (features : WasmFeatures) (offset : ℕ) (list : Listing A) (s : Spaces) (g : Rec UnpackedIndex) (r : Refusal) : Type 0 where
+  over_limit : MAX_TYPES < length s.types + length g.types → r ≡ plain (fault.Limit Types MAX_TYPES) offset → ToldOfAddedGroup features offset list s g r
+  within_limit : length s.types + length g.types ≤ MAX_TYPES → ToldOfAdded features offset list s.types g r → ToldOfAddedGroup features offset list s g r

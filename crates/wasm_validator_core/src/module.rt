@@ -14,13 +14,13 @@ ghost use Rattle.wasm_validator_types.specs.Entities.{entity_of};
 ghost use Rattle.wasm_validator_type_list.specs.DefTypes.{types_of_list};
 ghost use Rattle.wasm_validator_types.specs.Spaces.{no_spaces};
 ghost use Rattle.wasm_validator_canonical.specs.Groups.{has_form, AreValid};
-ghost use Rattle.wasm_validator_core.specs.Errors.{IsAt};
+ghost use Rattle.wasm_validator_core.specs.Errors.{IsAt, IfContent};
 ghost use Rattle.wasm_validator_core.specs.Answers.{Adds, AddsWhere, HasValidTypes};
 ghost use Rattle.wasm_validator_core.specs.Functions.{IsTypeOfFunction, IsUnknownFunction};
 ghost use Rattle.wasm_validator_core.specs.Ready.{IsOpenFor, AreIdsOf, AreHeld};
 ghost use Rattle.wasm_validator_core.specs.Machine.{add_group};
 ghost use Rattle.wasm_validator_core.specs.Items.{types_of_module, listed, entity, exported_function, exported_entity, arity_of_function, is_startable, add_import, add_function, add_table, add_memory, add_tag, add_export};
-ghost use Rattle.wasm_validator_core.specs.Told.{Tells, TellsExport, told_of_added_function, told_of_added_table, told_of_added_memory, told_of_added_tag, told_of_import, told_of_entity_there, told_of_entity, told_of_function_type, told_of_start};
+ghost use Rattle.wasm_validator_core.specs.Told.{Tells, TellsExport, told_of_added_function, told_of_added_table, told_of_added_memory, told_of_added_tag, ToldOfAddedGroup, told_of_import, told_of_entity_there, told_of_entity, told_of_function_type, told_of_start};
 ghost use Rattle.wasm_readers_errors.specs.Refusals.{refused};
 ghost use Rattle.wasm_item_checks.specs.Told.{told_of_extern};
 
@@ -112,6 +112,8 @@ impl<A: Allocator + Copy> Module<A> {
         ensures open { IsOpenFor features list.new }
         ensures ids { OnOk result (AreIdsOf list.new self.new.types) }
         ensures place { IfErr result (IsAt offset) }
+        ensures told { IfErr result (IfContent (ToldOfAddedGroup features offset
+            list.old self.old (rec_of group))) }
     {
         let more = group.types().len();
         let count = self.spaces.type_count() as usize;

@@ -7,6 +7,7 @@ ghost use Rattle.wasm_readers_types.specs.SeenTypes.{comp_of, sub_of};
 ghost use Rattle.wasm_validator_canonical.specs.Answers.{Says, IsAt};
 ghost use Rattle.wasm_validator_canonical.specs.Refusals.{late_by};
 ghost use Rattle.wasm_validator_canonical.specs.Indices.{IsSmall, IsCanonicalOf, knows_composite, canonical_by, is_known_by, is_earlier, extends_at_most_one, is_bound_by, are_bound_by};
+ghost use Rattle.wasm_validator_canonical.specs.Told.{IfContent, ToldOfIndexBy};
 
 use crate::type_canonicalizer::TypeCanonicalizer;
 use std::alloc::Allocator;
@@ -49,6 +50,7 @@ impl<'a> TypeCanonicalizer<'a> {
             ≡ map (canonical_by self.now) (map index_of indices.now)) }
         ensures known { Says result (list_all (is_earlier before) (map index_of indices.now)) }
         ensures place { IfErr result (IsAt self.now.offset) }
+        ensures told { IfErr result (IfContent (ToldOfIndexBy self.now)) }
     {
         let mut canonical = Vec::new(alloc);
         for index in indices {
@@ -74,6 +76,7 @@ impl<'a> TypeCanonicalizer<'a> {
         ensures known { is_ok result ≡ list_all (is_earlier before)
             (refs_option (option_map index_of index)) }
         ensures place { IfErr result (λ r. r.offset ≡ self.now.offset) }
+        ensures told { IfErr result (ToldOfIndexBy self.now) }
     {
         match index {
             Some(index) => {
@@ -92,6 +95,7 @@ impl<'a> TypeCanonicalizer<'a> {
         ensures known { is_ok result ≡ list_all (is_known_by self.now)
             (refs_option (option_map index_of index)) }
         ensures place { IfErr result (λ r. r.offset ≡ self.now.offset) }
+        ensures told { IfErr result (ToldOfIndexBy self.now) }
     {
         match index {
             Some(index) => Ok(Some(self.packed(index)?)),
@@ -117,6 +121,7 @@ impl<'a> TypeCanonicalizer<'a> {
             ty.describes_idx c.describes_idx) }
         ensures known { Says result (knows_composite self.now index ty) }
         ensures place { IfErr result (IsAt self.now.offset) }
+        ensures told { IfErr result (IfContent (ToldOfIndexBy self.now)) }
     {
         let describes_idx = match self.described(index, ty.describes_idx) {
             Ok(described) => described,
@@ -150,6 +155,7 @@ impl<'a> TypeCanonicalizer<'a> {
         ensures value { IfOk result (λ s. sub_of s ≡ map_sub (canonical_by self.now) (sub_of ty)) }
         ensures known { Says result (is_bound_by self.now index (sub_of ty)) }
         ensures place { IfErr result (IsAt self.now.offset) }
+        ensures told { IfErr result (IfContent (ToldOfIndexBy self.now)) }
     {
         let is_final = ty.is_final;
         match self.supertypes(alloc, index, ty.supertype_idxs.as_slice()) {
@@ -187,6 +193,7 @@ impl<'a> TypeCanonicalizer<'a> {
         ensures known { Says result (are_bound_by self.now (length self.now.ids.now)
             (map sub_of types.items)) }
         ensures place { IfErr result (IsAt self.now.offset) }
+        ensures told { IfErr result (IfContent (ToldOfIndexBy self.now)) }
     {
         let mut canonical = Vec::new(alloc);
         for ty in types {

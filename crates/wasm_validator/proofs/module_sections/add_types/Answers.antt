@@ -1,4 +1,4 @@
-use Rattle.std.proofs.Common.{◌≡◌, subst, ◌∙◌, ◌+◌, ◌≤◌, true, false, length, leb, arith}
+use Rattle.std.proofs.Common.{◌≡◌, refl, subst, ◌∙◌, ◌+◌, ◌≤◌, true, false, length, leb, arith}
 use Rattle.wasm_binary_reader.specs.Reader.{input, position_in}
 use Rattle.wasm_readers_errors.specs.declared.error.Counted.TheVariants as counted
 use Rattle.wasm_spec.specs.BinaryTypes.{rec_at}
@@ -13,7 +13,7 @@ use Rattle.wasm_validator.specs.Machine.{type_items, read_each}
 use Rattle.wasm_validator_core.specs.declared.error.Error.{Error}
 use Rattle.wasm_validator_core.specs.declared.error.Error.TheVariants.{Refused}
 use Rattle.wasm_validator_core.specs.Errors.{lifted}
-use Rattle.wasm_validator.specs.SectionsTold.{OfContent, TellsEach, TellsCount, tells_group}
+use Rattle.wasm_validator.specs.SectionsTold.{OfContent, TellsEach, TellsCount, TellsOfGroup, tells_group}
 use Rattle.wasm_validator.proofs.SectionsTold.{told_onward, unread_told, refused_told, over_told, err_as, items_here, same_end, group_told}
 use Rattle.wasm_validator.proofs.ItemSteps.{fewer_left, read_each-step, read_each-nowhere, adds_nowhere, if_nowhere}
 use Rattle.wasm_validator.proofs.ValidTypes.{group_back}
@@ -50,7 +50,7 @@ groups-preserved g c =
       c.in-Ok.ensures.valid,
       same_end c.groups.groups c.read_next.new.self same ∙ c.groups.invariant.4,
       omega (arith, start, same.1),
-      told_onward (rec_at written) (add_group c.args.features) (IsNowhere (HasValidTypes c.args.features)) tells_group (section_end c.args.section.now) (items_left c.groups.groups) (items_left c.read_next.new.self) (items_rest c.groups.groups) (items_rest c.read_next.new.self) (rec_of c.in-Some.group) (types_of_list c.groups.list, c.groups.opened)
+      told_onward (rec_at written) (add_group c.args.features) (IsNowhere (HasValidTypes c.args.features)) (tells_group c.args.features) (section_end c.args.section.now) (items_left c.groups.groups) (items_left c.read_next.new.self) (items_rest c.groups.groups) (items_rest c.read_next.new.self) (rec_of c.in-Some.group) (types_of_list c.groups.list, c.groups.opened)
           (types_of_list c.add_types.new.list, c.add_types.new.self) (count_of c.args.section.now) (bytes_of c.args.section.now) (types_of_list c.args.list.now, c.args.opened.now) reads c.in-Ok.ensures.added c.groups.invariant.6,
     )
 
@@ -62,8 +62,8 @@ add_types-requires-clause-form g c =
 pub returns-in_err-check_max-clause-told : goal.returns-in_err-check_max-clause-told
 returns-in_err-check_max-clause-told g c =
     let over : leb (length c.args.opened.now.types + count_of c.args.section.now) MAX_TYPES ≡ false = cc (c.in_err-check_max.ensures.fits, c.type_count.ensures, c.count.ensures, c.spaces.ensures) in
-    err_as c.from_residual.result (Refused c.in_err-check_max.field-0.0) (OfContent (λ (w : Error g.row.A.Denot). TellsCount counted.Types (length c.args.opened.now.types) MAX_TYPES (section_start c.args.section.now) (count_of c.args.section.now) w ((λ (w : Error g.row.A.Denot). TellsEach (rec_at written) (add_group c.args.features) (IsNowhere (HasValidTypes c.args.features)) tells_group (section_end c.args.section.now) w (count_of c.args.section.now) (bytes_of c.args.section.now) (types_of_list c.args.list.now, c.args.opened.now)) w))) c.from_residual.ensures.1
-    (over_told counted.Types (length c.args.opened.now.types) MAX_TYPES (section_start c.args.section.now) (count_of c.args.section.now) (λ (w : Error g.row.A.Denot). TellsEach (rec_at written) (add_group c.args.features) (IsNowhere (HasValidTypes c.args.features)) tells_group (section_end c.args.section.now) w (count_of c.args.section.now) (bytes_of c.args.section.now) (types_of_list c.args.list.now, c.args.opened.now)) c.in_err-check_max.field-0.0 over (cc (c.in_err-check_max.ensures.refusal, c.range.ensures.start)))
+    err_as c.from_residual.result (Refused c.in_err-check_max.field-0.0) (OfContent (λ (w : Error g.row.A.Denot). TellsCount counted.Types (length c.args.opened.now.types) MAX_TYPES (section_start c.args.section.now) (count_of c.args.section.now) w ((λ (w : Error g.row.A.Denot). TellsEach (rec_at written) (add_group c.args.features) (IsNowhere (HasValidTypes c.args.features)) (tells_group c.args.features) (section_end c.args.section.now) w (count_of c.args.section.now) (bytes_of c.args.section.now) (types_of_list c.args.list.now, c.args.opened.now)) w))) c.from_residual.ensures.1
+    (over_told counted.Types (length c.args.opened.now.types) MAX_TYPES (section_start c.args.section.now) (count_of c.args.section.now) (λ (w : Error g.row.A.Denot). TellsEach (rec_at written) (add_group c.args.features) (IsNowhere (HasValidTypes c.args.features)) (tells_group c.args.features) (section_end c.args.section.now) w (count_of c.args.section.now) (bytes_of c.args.section.now) (types_of_list c.args.list.now, c.args.opened.now)) c.in_err-check_max.field-0.0 over (cc (c.in_err-check_max.ensures.refusal, c.range.ensures.start)))
 
 pub returns-in_err-offset-clause-told : goal.returns-in_err-offset-clause-told
 returns-in_err-offset-clause-told g c =
@@ -71,8 +71,8 @@ returns-in_err-offset-clause-told g c =
     let within : position_in c.groups.groups.reader ≤ length (input c.groups.groups.reader) = omega arith in
     let here = items_here c.groups.groups within in
     let end = c.groups.invariant.4 in
-    err_as c.from_residual-in_err-offset.result (lifted c.in_err-offset.field-0.0) (OfContent (λ (w : Error g.row.A.Denot). TellsCount counted.Types (length c.args.opened.now.types) MAX_TYPES (section_start c.args.section.now) (count_of c.args.section.now) w ((λ (w : Error g.row.A.Denot). TellsEach (rec_at written) (add_group c.args.features) (IsNowhere (HasValidTypes c.args.features)) tells_group (section_end c.args.section.now) w (count_of c.args.section.now) (bytes_of c.args.section.now) (types_of_list c.args.list.now, c.args.opened.now)) w))) c.from_residual-in_err-offset.ensures.1
-    (unread_told (rec_at written) (add_group c.args.features) (IsNowhere (HasValidTypes c.args.features)) tells_group (section_end c.args.section.now) counted.Types (length c.args.opened.now.types) MAX_TYPES (section_start c.args.section.now) (count_of c.args.section.now) (bytes_of c.args.section.now) (types_of_list c.args.list.now, c.args.opened.now) few (items_left c.groups.groups) (items_left c.read_next.new.self) (items_rest c.groups.groups) (items_rest c.read_next.new.self) (types_of_list c.groups.list, c.groups.opened) (rec_of {A = g.row.A.Denot}) c.groups.groups.reader c.in_err-offset.field-0.0
+    err_as c.from_residual-in_err-offset.result (lifted c.in_err-offset.field-0.0) (OfContent (λ (w : Error g.row.A.Denot). TellsCount counted.Types (length c.args.opened.now.types) MAX_TYPES (section_start c.args.section.now) (count_of c.args.section.now) w ((λ (w : Error g.row.A.Denot). TellsEach (rec_at written) (add_group c.args.features) (IsNowhere (HasValidTypes c.args.features)) (tells_group c.args.features) (section_end c.args.section.now) w (count_of c.args.section.now) (bytes_of c.args.section.now) (types_of_list c.args.list.now, c.args.opened.now)) w))) c.from_residual-in_err-offset.ensures.1
+    (unread_told (rec_at written) (add_group c.args.features) (IsNowhere (HasValidTypes c.args.features)) (tells_group c.args.features) (section_end c.args.section.now) counted.Types (length c.args.opened.now.types) MAX_TYPES (section_start c.args.section.now) (count_of c.args.section.now) (bytes_of c.args.section.now) (types_of_list c.args.list.now, c.args.opened.now) few (items_left c.groups.groups) (items_left c.read_next.new.self) (items_rest c.groups.groups) (items_rest c.read_next.new.self) (types_of_list c.groups.list, c.groups.opened) (rec_of {A = g.row.A.Denot}) c.groups.groups.reader c.in_err-offset.field-0.0
     c.groups.invariant.6 c.in_err-offset.ensures.reads c.in_err-offset.ensures.failure (here ∙ end) end)
 
 pub returns-in-Err-clause-told : goal.returns-in-Err-clause-told
@@ -84,6 +84,7 @@ returns-in-Err-clause-told g c =
     let within : position_in c.groups.groups.reader ≤ length (input c.groups.groups.reader) = omega arith in
     let here = items_here c.groups.groups within in
     let end = c.groups.invariant.4 in
-    refused_told (rec_at written) (add_group c.args.features) (IsNowhere (HasValidTypes c.args.features)) tells_group (section_end c.args.section.now) counted.Types (length c.args.opened.now.types) MAX_TYPES (section_start c.args.section.now) (count_of c.args.section.now) (bytes_of c.args.section.now) (types_of_list c.args.list.now, c.args.opened.now) few (items_left c.groups.groups) (items_left c.read_next.new.self) (items_rest c.groups.groups) (items_rest c.read_next.new.self) value (types_of_list c.groups.list, c.groups.opened) c.in-Some.offset c.in-Err.error
+    refused_told (rec_at written) (add_group c.args.features) (IsNowhere (HasValidTypes c.args.features)) (tells_group c.args.features) (section_end c.args.section.now) counted.Types (length c.args.opened.now.types) MAX_TYPES (section_start c.args.section.now) (count_of c.args.section.now) (bytes_of c.args.section.now) (types_of_list c.args.list.now, c.args.opened.now) few (items_left c.groups.groups) (items_left c.read_next.new.self) (items_rest c.groups.groups) (items_rest c.read_next.new.self) value (types_of_list c.groups.list, c.groups.opened) c.in-Some.offset c.in-Err.error
     c.groups.invariant.6 reads (omega (arith, at, here, end))
-    (group_told (HasValidTypes c.args.features) c.in-Err.error (add_group c.args.features (types_of_list c.groups.list, c.groups.opened) value) (types_of_list c.add_types.new.list, c.add_types.new.self) c.in-Some.offset c.in-Err.ensures.added c.in-Err.ensures.place)
+    (group_told (HasValidTypes c.args.features) (TellsOfGroup c.args.features c.in-Some.offset (types_of_list c.groups.list, c.groups.opened) value) c.in-Err.error (add_group c.args.features (types_of_list c.groups.list, c.groups.opened) value) (types_of_list c.add_types.new.list, c.add_types.new.self) c.in-Some.offset c.in-Err.ensures.added c.in-Err.ensures.place
+    (record { list = c.groups.list; are_types = refl; told = c.in-Err.ensures.told }))

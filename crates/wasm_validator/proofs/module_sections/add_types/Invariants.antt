@@ -22,7 +22,7 @@ invariant-groups g l =
     × AreValid (features_of l.features) (types_of_list l.list)
     × (items_end l.groups ≡ section_end l.section)
     × (section_start l.section ≤ next_item_at l.groups)
-    × ToldOfAll (rec_at written) (add_group l.features) (IsNowhere (HasValidTypes l.features)) (tells_group {A = g.row.A.Denot}) (section_end l.section) (items_left l.groups) (items_rest l.groups) (types_of_list l.list, l.opened) (count_of l.section) (bytes_of l.section) (types_of_list l.fn.list, l.fn.opened)
+    × ToldOfAll (rec_at written) (add_group l.features) (IsNowhere (HasValidTypes l.features)) (tells_group {A = g.row.A.Denot} l.features) (section_end l.section) (items_left l.groups) (items_rest l.groups) (types_of_list l.list, l.opened) (count_of l.section) (bytes_of l.section) (types_of_list l.fn.list, l.fn.opened)
 
 abbrev pub decreases-groups : goal.decreases-groups
 decreases-groups g l = items_left l.groups

@@ -8,9 +8,10 @@ use Rattle.wasm_readers_types.specs.SeenTypes.{sub_of, rec_of}
 use Rattle.wasm_readers_types.specs.declared.indices.CoreTypeId.{CoreTypeId}
 use Rattle.wasm_readers_types.specs.declared.indices.TheConstants.{MAX_IDS}
 use Rattle.wasm_validator_canonical.specs.Answers.{Says, IsAt}
-use Rattle.wasm_validator_canonical.specs.Indices.{numbers, canonical_index, are_bound, extends_at_most_one}
+use Rattle.wasm_validator_canonical.specs.Indices.{numbers, canonical_index, are_bound, extends_at_most_one, extend_at_most_one}
 use Rattle.wasm_validator_canonical.proofs.Canonical.{and_false}
 use Rattle.wasm_validator_canonical.proofs.Bounds.{closes_is}
+use Rattle.wasm_validator_canonical.proofs.Told.{err_says, index_tells}
 use Rattle.wasm_validator_canonical.proofs.intern_rec_group.canonical_types.Goals as goal
 
 pub returns-then-not-extend_at_most_one-clause-closes : goal.returns-then-not-extend_at_most_one-clause-closes
@@ -60,3 +61,19 @@ returns-clause-closes g c =
 
 pub returns-clause-place : goal.returns-clause-place
 returns-clause-place g c = subst (λ n. IfErr c.sub_types.result (IsAt n)) c.new-canonicalizer.ensures.offset c.sub_types.ensures.place
+
+pub returns-clause-told : goal.returns-clause-told
+returns-clause-told g c =
+    let F = features_of c.args.features in
+    let w = rec_of c.args.group in
+    let n = length c.args.ids.now in
+    let k = c.new-canonicalizer.result in
+    let gc : k.has_gc ≡ F.gc = c.new-canonicalizer.ensures.gc ∙ c.contains-has_gc.ensures tt in
+    let many : length c.types-2.result.now ≡ length w.types = ap length c.types-2.ensures ∙ sym (length-map c.args.group.types sub_of) in
+    let last = c.new-canonicalizer.ensures.end in
+    let end : k.end ≡ n + length w.types = omega (arith, last, many) in
+    let one : true ≡ extend_at_most_one w = c.if-not-extend_at_most_one.ensures ∙ ap (λ l. list_all extends_at_most_one (map sub_of l)) c.types.ensures in
+    err_says c.sub_types.result
+    (λ r t.
+    index_tells c.args.features c.args.offset n w r k.has_gc (length k.ids.now) k.end k.offset gc (ap length c.new-canonicalizer.ensures.ids) end c.new-canonicalizer.ensures.offset (sym c.if-not-may_be_written.ensures) (sym one) t)
+    c.sub_types.ensures.told

@@ -13,6 +13,9 @@ use Rattle.wasm_validator_type_list.specs.DefTypes.{def_types}
 use Rattle.wasm_validator_type_list.proofs.DefTypes.{length-def_types}
 use Rattle.wasm_validator_canonical.specs.Groups.{closes, AreValid, with_written}
 use Rattle.wasm_validator_canonical.specs.Indices.{numbers}
+use Rattle.wasm_validator_canonical.specs.Interned.{HasIdsFor}
+use Rattle.wasm_validator_canonical.specs.Refusals.{rec_without_gc}
+use Rattle.wasm_validator_canonical.specs.Told.{ToldOfWritten, written}
 use Rattle.wasm_validator_canonical.proofs.NewIds.{numbers_below, below_limit}
 use Rattle.wasm_validator_canonical.proofs.Listable.{closing_listable, closing_members}
 use Rattle.wasm_validator_canonical.proofs.AddedGroups.{adds_canonical, same_standing, not_within, none_added, denies_adds}
@@ -20,6 +23,7 @@ use Rattle.wasm_validator_canonical.proofs.DepthsOfIds.{interned_there}
 use Rattle.wasm_validator_canonical.proofs.KeptDepths.{earlier_both, interned_fits, interned_earlier}
 use Rattle.wasm_validator_canonical.proofs.OwnIds.{own_grows, own_new}
 use Rattle.wasm_validator_canonical.proofs.NothingAdded.{none_open, none_full}
+use Rattle.wasm_validator_canonical.proofs.Told.{content_says, same_refusal, invalid_tells}
 use Rattle.wasm_validator_canonical.proofs.intern_rec_group.canonicalize_and_intern_rec_group.Goals as goal
 
 pub returns-then-types-len-clause-added : goal.returns-then-types-len-clause-added
@@ -129,3 +133,33 @@ pub returns-in-Ok-keep_depths-clause-earlier_depths : goal.returns-in-Ok-keep_de
 returns-in-Ok-keep_depths-clause-earlier_depths g c =
     earlier_both c.args.types.now c.intern.new.types c.keep_depths.new.types
     (interned_earlier c.args.types.now c.intern.new.types c.explicit.result.types (ids_left c.in-Ok-intern.elements) c.in-Ok-intern.ensures.interned.0) c.in-Ok-keep_depths.ensures.earlier
+
+pub returns-in-Err-intern-clause-told : goal.returns-in-Err-intern-clause-told
+returns-in-Err-intern-clause-told g c =
+    let F = features_of c.args.features in
+    let old = c.args.types.now in
+    let w = rec_of c.args.group in
+    let within = c.if-types-len.false in
+    let count = c.len.ensures.count in
+    let room = c.len.ensures.room in
+    let here = ap length c.types.ensures in
+    let total : length w.types ≡ length c.args.group.types = length-map c.args.group.types sub_of in
+    let fits : HasIdsFor old (length w.types) = omega (arith, within, count, room, here, total) in
+    let closing : closes F (length (numbers c.args.ids.now)) w ≡ true = ap (λ n. closes F n w) (length-map c.args.ids.now _) ∙ c.in-Ok.ensures.closes in
+    invalid_tells c.args.features c.args.offset old (numbers c.args.ids.now) w c.explicit.result.types c.in-Ok.canonical.items c.in-Err-intern.error fits closing c.explicit.ensures.types c.in-Ok.ensures.value c.in-Err-intern.ensures.told
+
+pub returns-in-Err-clause-told : goal.returns-in-Err-clause-told
+returns-in-Err-clause-told g c =
+    let old = c.args.types.now in
+    let w = rec_of c.args.group in
+    let within = c.if-types-len.false in
+    let count = c.len.ensures.count in
+    let room = c.len.ensures.room in
+    let here = ap length c.types.ensures in
+    let total : length w.types ≡ length c.args.group.types = length-map c.args.group.types sub_of in
+    let fits : HasIdsFor old (length w.types) = omega (arith, within, count, room, here, total) in
+    let as_many : length (numbers c.args.ids.now) ≡ length c.args.ids.now = length-map c.args.ids.now _ in
+    content_says c.in-Err.error (λ r t. written fits (subst (λ n. ToldOfWritten c.args.features c.args.offset n w r) (sym as_many) t)) c.in-Err.ensures.told
+
+pub returns-in-Err-clause-written : goal.returns-in-Err-clause-written
+returns-in-Err-clause-written g c = λ room not_allowed. same_refusal c.in-Err.error (rec_without_gc c.args.offset) (c.in-Err.ensures.written not_allowed)

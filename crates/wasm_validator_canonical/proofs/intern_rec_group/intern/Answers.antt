@@ -1,11 +1,13 @@
-use Rattle.std.proofs.Common.{◌≡◌, refl, ◌∙◌, true, length}
+use Rattle.std.proofs.Common.{◌≡◌, refl, ◌∙◌, ◌+◌, true, false, length}
 use Rattle.std.proofs.lemmas.Option.{slice_get_within}
 use Rattle.wasm_rules.specs.FeatureFlags.{features_of}
 use Rattle.wasm_grouped_list.specs.Elements.{numbers_from, ids_left}
 use Rattle.wasm_grouped_list.specs.Groups.{first_of}
 use Rattle.wasm_validator_type_list.specs.Interned.{AreOnce}
+use Rattle.wasm_validator_type_list.specs.Listing.{types_in}
 use Rattle.wasm_validator_canonical.proofs.Checked.{checked, refused, nothing_interned}
 use Rattle.wasm_validator_canonical.proofs.Interning.{there, interned_under}
+use Rattle.wasm_validator_canonical.proofs.Told.{new_tells, room_tells, full_place}
 use Rattle.wasm_validator_canonical.proofs.intern_rec_group.intern.Goals as goal
 
 pub check_if_new-requires : goal.check_if_new-requires
@@ -51,3 +53,17 @@ returns-in-Err-check_if_new-clause-interned g c =
 pub returns-in-Err-clause-interned : goal.returns-in-Err-clause-interned
 returns-in-Err-clause-interned g c =
     nothing_interned (features_of c.args.features) c.args.types.now c.intern_canonical_rec_group.new.self c.args.group.types c.args.offset c.in-Err.error c.in-Err.ensures.limit
+
+pub returns-in-Err-check_if_new-clause-told : goal.returns-in-Err-check_if_new-clause-told
+returns-in-Err-check_if_new-clause-told g c =
+    λ room.
+    new_tells c.args.features c.args.offset c.args.types.now c.intern_canonical_rec_group.new.self c.args.group.types c.in-Ok.is_new c.in-Ok.id.index false c.in-Err-check_if_new.refusal c.in-Ok.ensures.interned
+    c.in-Err-check_if_new.ensures.known refl c.in-Err-check_if_new.ensures.told
+
+pub returns-in-Err-clause-told : goal.returns-in-Err-clause-told
+returns-in-Err-clause-told g c =
+    λ room. room_tells _ c.in-Err.error (length (types_in c.args.types.now) + length c.args.group.types) c.args.offset c.in-Err.ensures.limit room
+
+pub returns-in-Err-clause-place : goal.returns-in-Err-clause-place
+returns-in-Err-clause-place g c =
+    full_place c.in-Err.error (length (types_in c.args.types.now) + length c.args.group.types) c.args.offset c.in-Err.ensures.limit
