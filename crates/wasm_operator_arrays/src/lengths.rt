@@ -34,6 +34,7 @@ fn not_below(heap: AbstractHeapType) -> OperatorFault {
         rule: OperatorRule::ReferenceBelow,
         number: 0,
         expected: TypeWord::reference(reference_to(false, heap)),
+        found: None,
     }
 }
 

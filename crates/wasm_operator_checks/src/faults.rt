@@ -2,21 +2,58 @@
 
 ghost use Rattle.std.specs.Prelude.{◌≡◌};
 ghost use Rattle.wasm_operator_checks.specs.declared.faults.OperatorError.TheVariants.{Refused, OutOfMemory};
+ghost use Rattle.wasm_operator_checks.specs.Told.{is_operand, lifting};
 
 use std::alloc::AllocError;
 use wasm_numeric_operators::NumberType;
-use wasm_readers_errors::OperatorRule;
+use wasm_operator_stacks::{Operand, Word};
+use wasm_readers_errors::{Error, Fault, OperatorRule, Refusal, WasmFeatures};
 use wasm_type_words::TypeWord;
 
-/// A rule that is broken, with a number that belongs to it and the type that is expected.
+/// A rule that is broken, with a number that belongs to it, the type that is expected, and the
+/// operand that is found in its place, if there is one.
 #[derive(Clone, Copy)]
 pub struct OperatorFault {
     pub rule: OperatorRule,
     pub number: u32,
     pub expected: TypeWord,
+    pub found: Option<Word>,
+}
+
+/// Whether the rule is that an operand of a given type is expected.
+fn is_operand(rule: OperatorRule) -> bool
+    ensures { result ≡ is_operand rule }
+{
+    match rule {
+        OperatorRule::Operand => true,
+        _ => false,
+    }
+}
+
+/// The proposal that would lift a refusal by this rule, where one would: what
+/// `OperatorRule::missing` answers, with a contract.
+fn lifting(rule: OperatorRule) -> Option<WasmFeatures>
+    ensures { result ≡ lifting rule }
+{
+    match rule {
+        OperatorRule::Floats => Some(WasmFeatures::FLOATS),
+        OperatorRule::Simd => Some(WasmFeatures::SIMD),
+        OperatorRule::MultiValue => Some(WasmFeatures::MULTI_VALUE),
+        OperatorRule::ReferenceTypes => Some(WasmFeatures::REFERENCE_TYPES),
+        OperatorRule::BulkMemory => Some(WasmFeatures::BULK_MEMORY),
+        OperatorRule::Exceptions => Some(WasmFeatures::EXCEPTIONS),
+        OperatorRule::FunctionReferences => Some(WasmFeatures::FUNCTION_REFERENCES),
+        OperatorRule::Gc => Some(WasmFeatures::GC),
+        OperatorRule::SharedEverything => Some(WasmFeatures::SHARED_EVERYTHING_THREADS),
+        OperatorRule::CustomDescriptors => Some(WasmFeatures::CUSTOM_DESCRIPTORS),
+        OperatorRule::LocalGlobal => Some(WasmFeatures::GC),
+        _ => None,
+    }
 }
 
 impl OperatorFault {
+    ghost use Rattle.wasm_operator_checks.specs.Told.{TellsOperand, Tells};
+
     /// A rule that has no number.
     #[inline(never)]
     pub fn new(rule: OperatorRule) -> OperatorFault {
@@ -24,6 +61,7 @@ impl OperatorFault {
             rule,
             number: 0,
             expected: TypeWord::number(NumberType::I32),
+            found: None,
         }
     }
 
@@ -34,16 +72,54 @@ impl OperatorFault {
             rule,
             number,
             expected: TypeWord::number(NumberType::I32),
+            found: None,
         }
     }
 
-    /// An operand of this type is expected.
+    /// An operand of this type is expected, and this one is found, or none.
     #[inline(never)]
-    pub fn operand(expected: TypeWord) -> OperatorFault {
+    pub fn operand(expected: TypeWord, found: Option<Word>) -> OperatorFault {
         OperatorFault {
             rule: OperatorRule::Operand,
             number: 0,
             expected,
+            found,
+        }
+    }
+
+    /// What is told where an operand of another type is expected: both types, but where the type of
+    /// the one that is found isn't known.
+    fn operand_fault(&self) -> Fault
+        ensures { TellsOperand self.now result }
+    {
+        let expected = self.expected.ty();
+        match self.found {
+            None => Fault::OperandType(expected, None),
+            Some(word) => match word.seen() {
+                Operand::Known(found) => Fault::OperandType(expected, Some(found)),
+                Operand::Bottom | Operand::BottomReference | Operand::Open(_) => Fault::Operator(
+                    OperatorRule::Operand,
+                    0,
+                ),
+            },
+        }
+    }
+
+    /// The refusal by the rule at this offset, a byte counted from the start of the input, with the
+    /// proposal that would lift it, where one would.
+    #[inline(never)]
+    pub fn refusal(&self, offset: u64) -> Refusal
+        ensures { Tells self.now offset result }
+    {
+        let fault = if is_operand(self.rule) {
+            self.operand_fault()
+        } else {
+            Fault::Operator(self.rule, self.number)
+        };
+        Refusal {
+            fault,
+            offset,
+            missing: lifting(self.rule),
         }
     }
 }
@@ -53,6 +129,21 @@ impl OperatorFault {
 pub enum OperatorError {
     Refused(OperatorFault),
     OutOfMemory,
+}
+
+impl OperatorError {
+    ghost use Rattle.wasm_operator_checks.specs.Told.{TellsError};
+
+    /// The error at this offset, a byte counted from the start of the input.
+    #[inline(never)]
+    pub fn at(self, offset: u64) -> Error
+        ensures { TellsError self offset result }
+    {
+        match self {
+            OperatorError::Refused(fault) => Error::Refused(fault.refusal(offset)),
+            OperatorError::OutOfMemory => Error::OutOfMemory,
+        }
+    }
 }
 
 impl From<OperatorFault> for OperatorError {

@@ -58,10 +58,10 @@ pub fn check_type<A: Allocator, T: WasmModuleResources>(
             if matches(resources, operand, ty) {
                 Ok(taken)
             } else {
-                Err(OperatorFault::operand(ty))
+                Err(OperatorFault::operand(ty, Some(operand)))
             }
         }
-        None => Err(OperatorFault::operand(ty)),
+        None => Err(OperatorFault::operand(ty, None)),
     }
 }
 

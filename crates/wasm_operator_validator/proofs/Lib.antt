@@ -2,3 +2,4 @@ pub mod Stepping
 pub mod Defining
 pub mod Beginning
 pub mod Declaring
+pub mod Visiting

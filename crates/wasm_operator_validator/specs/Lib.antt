@@ -1,3 +1,4 @@
 pub mod Stepped
 pub mod Typed
 pub mod Shown
+pub mod Visited

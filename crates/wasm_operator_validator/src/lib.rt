@@ -5,7 +5,9 @@
 mod queries;
 mod steps;
 mod validator;
+mod visitor;
 
 pub use queries::Frame;
 pub use steps::step;
 pub use validator::{OperatorValidator, OperatorValidatorAllocations};
+pub use visitor::OperatorVisitor;

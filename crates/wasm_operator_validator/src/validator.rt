@@ -1,6 +1,6 @@
 //! The validator of operators.
 
-ghost use Rattle.std.specs.Prelude.{◌≡◌, ◌≤◌, ◌+◌, ◌++◌, [], true, false, not, ◌||◌, length, map, is_ok, IfOk, OnOk, IsSome};
+ghost use Rattle.std.specs.Prelude.{◌≡◌, ◌≤◌, ◌+◌, ◌++◌, [], true, false, not, ◌||◌, length, map, is_ok, IfErr, IfOk, OnOk, IsSome};
 ghost use Rattle.wasm_rules.specs.FeatureFlags.{features_of};
 ghost use Rattle.wasm_readers_types.specs.SeenValues.{val_of};
 ghost use Rattle.wasm_operators.specs.SeenOperators.{operator_of};
@@ -10,6 +10,7 @@ ghost use Rattle.wasm_module_resources.specs.Answers.{val_in, IsWrittenVal};
 ghost use Rattle.wasm_operator_stacks.specs.Seen.{Kept};
 ghost use Rattle.wasm_operator_control.specs.Blocks.{function_in};
 ghost use Rattle.wasm_operator_validator.specs.Stepped.{Steps, IsWrittenInstruction};
+ghost use Rattle.wasm_operator_validator.specs.Visited.{IsToldAt, StepsAt};
 ghost use Rattle.wasm_operator_validator.specs.Typed.{typed_state, parameter, BeginsBody, BeginsConstant, Defines, IsRefused};
 
 use crate::steps::step;
@@ -18,7 +19,7 @@ use wasm_module_resources::WasmModuleResources;
 use wasm_operator_checks::{OperatorError, OperatorFault, OperatorRule};
 use wasm_operator_stacks::{BlockWord, LocalWord, Locals, MAX_LOCALS, Stacks};
 use wasm_operators::{FrameKind, Operator};
-use wasm_readers_errors::WasmFeatures;
+use wasm_readers_errors::{Error, WasmFeatures};
 use wasm_readers_types::{CompositeInnerType, ValType};
 use wasm_type_words::TypeWord;
 
@@ -238,6 +239,35 @@ impl<A: Allocator> OperatorValidator<A> {
                 self.failed = true;
                 Err(error)
             }
+        }
+    }
+
+    /// As [`OperatorValidator::op`] of the operator at this offset, a byte counted from the start
+    /// of the input.
+    ///
+    /// # Errors
+    ///
+    /// Refuses at the offset what `op` refuses, by the rule that is broken, and with the proposal
+    /// that would lift the refusal, where one would; answers want of memory.
+    #[tactic(auto, using(crate::proofs::Visiting::visits))]
+    pub fn op_at<'a, T: WasmModuleResources>(
+        &mut self,
+        resources: &T,
+        offset: u64,
+        op: &Operator<'a>,
+    ) -> Result<(), Error>
+        requires { IsWrittenInstruction (operator_of op.now) }
+        ensures took { self.old.failed ≡ false → StepsAt result offset (T.context resources.now)
+            (operator_of op.now) self.old.stacks self.new.stacks }
+        ensures told { IfErr result (IsToldAt offset) }
+        ensures ended { self.old.failed ≡ true → (is_ok result ≡ false)
+            × (typed_state self.new ≡ typed_state self.old) }
+        ensures same { Kept self.old.stacks self.new.stacks }
+        ensures failed { self.new.failed ≡ (self.old.failed || not (is_ok result)) }
+    {
+        match self.op(resources, op) {
+            Ok(()) => Ok(()),
+            Err(error) => Err(error.at(offset)),
         }
     }
 
