@@ -1,0 +1,4 @@
+pub mod Written
+pub mod Machine
+pub mod Finding
+pub mod Stepping

@@ -1,0 +1,13 @@
+//! Constant expressions from their bytes: which operators they may have, and their types (Core
+//! Specification 3.0, Validation, Instructions, Constant Expressions).
+//!
+//! Each `offset` counts bytes from the start of the input.
+#![tactic(auto)]
+
+mod expressions;
+mod laws;
+mod operators;
+
+pub use expressions::{check_constant_expression, check_constant_operator};
+pub use laws::constants_are_lists_of_instructions;
+pub use operators::{is_constant, reads_constants};
