@@ -9,6 +9,8 @@ ghost use Rattle.wasm_constant_checks.specs.Constants.{FindsConstants, Constants
 /// instructions that a constant expression may have, and which are typed; and each such list is
 /// found.
 pub fn constants_are_lists_of_instructions<R>()
-    ensures found { (W : World R) (B : Surroundings R) (imported : ℕ) → FindsConstants W B imported }
-    ensures all { (W : World R) (B : Surroundings R) (imported : ℕ) → ConstantsAreFound W B imported }
+    ensures found { (W : World R) (B : Surroundings R) (imported : ℕ)
+        → FindsConstants W B imported }
+    ensures all { (W : World R) (B : Surroundings R) (imported : ℕ)
+        → ConstantsAreFound W B imported }
 {}
