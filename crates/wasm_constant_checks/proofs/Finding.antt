@@ -36,7 +36,7 @@ module _ {R : Type 0} (W : World R) (B : Surroundings R) (imported : ℕ) where
         written = (next, e, x.written);
         allowed = All-cons (λ op. is_allowed B imported op ≡ true) i x.instructions p.0 x.allowed;
         typed = ap (λ o. o >>= steps_in W B x.instructions) p.1 ∙ x.typed;
-        closed = x.closed;
+        finished = x.finished;
       }
 
   abbrev state_or : State R → Option (State R × List ℕ) → State R
@@ -51,10 +51,10 @@ module _ {R : Type 0} (W : World R) (B : Surroundings R) (imported : ℕ) where
   here s bytes = Some (s, bytes)
 
   nothing_left : (s t : State R) (bytes more : List ℕ) → is_finished s ≡ true → here s bytes ≡ here t more → IsConstantExpression W B imported s bytes t more
-  nothing_left s t bytes more closed e =
+  nothing_left s t bytes more finished e =
       let same : s ≡ t = ap (state_or s) e in
       let rest : bytes ≡ more = ap (bytes_or bytes) e in
-      record { instructions = []; written = rest; allowed = All-nil (λ op. is_allowed B imported op ≡ true); typed = ap Some same; closed = subst (λ x. is_finished x ≡ true) same closed }
+      record { instructions = []; written = rest; allowed = All-nil (λ op. is_allowed B imported op ≡ true); typed = ap Some same; finished = subst (λ x. is_finished x ≡ true) same finished }
 
   abbrev Found : ℕ → Type 0
   Found most = (s t : State R) (bytes more : List ℕ) → typed_from W B imported most s bytes ≡ Some (t, more) → IsConstantExpression W B imported s bytes t more
@@ -129,4 +129,4 @@ module _ {R : Type 0} (W : World R) (B : Surroundings R) (imported : ℕ) where
 
   pub are_found : ConstantsAreFound W B imported
   unfolding constant_from
-  are_found s bytes t more x = all_by (length bytes) x.instructions s t bytes more (omega arith) x.written x.allowed x.typed x.closed
+  are_found s bytes t more x = all_by (length bytes) x.instructions s t bytes more (omega arith) x.written x.allowed x.typed x.finished

@@ -54,7 +54,7 @@ module _ {R : Type 0} (W : World R) (B : Surroundings R) (imported : ℕ) where
     pub written : Are instructions bytes more
     pub allowed : All (λ op. is_allowed B imported op ≡ true) instructions
     pub typed : steps_in W B instructions s ≡ Some t
-    pub closed : is_finished t ≡ true
+    pub finished : is_finished t ≡ true
 
   -- The code's way through the bytes finds just these.
   abbrev pub FindsConstants : Type 0

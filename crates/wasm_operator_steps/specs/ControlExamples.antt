@@ -14,7 +14,7 @@ use Rattle.wasm_operator_steps.specs.ConstantExpressions.{is_constant}
 use Rattle.wasm_operators.specs.declared.control.Catch.TheVariants as catch
 use Rattle.wasm_flat_operators.specs.declared.calls.CallOperator.TheVariants.{Call, CallIndirect, ReturnCall, ReturnCallIndirect, CallRef, ReturnCallRef}
 use Rattle.wasm_flat_operators.specs.declared.variables.VariableOperator.TheVariants.{LocalGet, LocalSet, LocalTee, GlobalGet, GlobalSet}
-use Rattle.wasm_operator_steps.specs.Samples.{ref, ref_null, plain_heap, body, runs, gives_i32, constant_of, an_i32, an_i64, an_f32, dropped, trap, closed, in_block, all_pass, none_pass}
+use Rattle.wasm_operator_steps.specs.Samples.{ref, ref_null, plain_heap, body, runs, gives_i32, constant_of, an_i32, an_i64, an_f32, dropped, trap, an_end, in_block, all_pass, none_pass}
 
 abbrev pub null : Instruction ℕ
 null = reference (references.ref_null (plain_heap func_heap))
@@ -25,16 +25,16 @@ Blocks =
     runs [] ∷
     gives_i32 (an_i32 ∷ []) ∷
     runs (control nop ∷ []) ∷
-    gives_i32 (in_block (value_block i32) ∷ an_i32 ∷ closed ∷ []) ∷
-    gives_i32 (an_i32 ∷ an_i64 ∷ in_block (func_block 2) ∷ dropped ∷ closed ∷ []) ∷
-    runs (control (loop empty_block) ∷ control (br 0) ∷ closed ∷ []) ∷
-    gives_i32 (an_i32 ∷ control (if_ (value_block i32)) ∷ an_i32 ∷ control else_ ∷ an_i32 ∷ closed ∷ []) ∷
-    runs (an_i32 ∷ control (if_ empty_block) ∷ closed ∷ []) ∷
+    gives_i32 (in_block (value_block i32) ∷ an_i32 ∷ an_end ∷ []) ∷
+    gives_i32 (an_i32 ∷ an_i64 ∷ in_block (func_block 2) ∷ dropped ∷ an_end ∷ []) ∷
+    runs (control (loop empty_block) ∷ control (br 0) ∷ an_end ∷ []) ∷
+    gives_i32 (an_i32 ∷ control (if_ (value_block i32)) ∷ an_i32 ∷ control else_ ∷ an_i32 ∷ an_end ∷ []) ∷
+    runs (an_i32 ∷ control (if_ empty_block) ∷ an_end ∷ []) ∷
     gives_i32 (trap ∷ []) ∷
     gives_i32 (trap ∷ numeric I64Eqz ∷ []) ∷
     gives_i32 (an_i32 ∷ control return_ ∷ []) ∷
     body (features false) 1 (an_i32 ∷ an_i32 ∷ numeric I32Add ∷ []) ∷
-    body (features false) 0 (an_i32 ∷ control (if_ empty_block) ∷ trap ∷ closed ∷ []) ∷
+    body (features false) 0 (an_i32 ∷ control (if_ empty_block) ∷ trap ∷ an_end ∷ []) ∷
     []) ≡ true
 
 abbrev pub NoBlocks : Type 0
@@ -43,15 +43,15 @@ NoBlocks =
     runs (an_i32 ∷ []) ∷
     gives_i32 [] ∷
     gives_i32 (an_i64 ∷ []) ∷
-    runs (closed ∷ []) ∷
-    runs (closed ∷ control nop ∷ []) ∷
+    runs (an_end ∷ []) ∷
+    runs (an_end ∷ control nop ∷ []) ∷
     runs (in_block empty_block ∷ []) ∷
-    gives_i32 (an_i32 ∷ in_block (value_block i32) ∷ closed ∷ []) ∷
-    gives_i32 (an_i64 ∷ an_i32 ∷ in_block (func_block 2) ∷ dropped ∷ closed ∷ []) ∷
-    body (features true) 1 (in_block (func_block 14) ∷ trap ∷ closed ∷ []) ∷
-    runs (in_block empty_block ∷ control else_ ∷ closed ∷ []) ∷
-    gives_i32 (an_i32 ∷ control (if_ (value_block i32)) ∷ an_i32 ∷ closed ∷ []) ∷
-    runs (an_i64 ∷ control (if_ empty_block) ∷ closed ∷ []) ∷
+    gives_i32 (an_i32 ∷ in_block (value_block i32) ∷ an_end ∷ []) ∷
+    gives_i32 (an_i64 ∷ an_i32 ∷ in_block (func_block 2) ∷ dropped ∷ an_end ∷ []) ∷
+    body (features true) 1 (in_block (func_block 14) ∷ trap ∷ an_end ∷ []) ∷
+    runs (in_block empty_block ∷ control else_ ∷ an_end ∷ []) ∷
+    gives_i32 (an_i32 ∷ control (if_ (value_block i32)) ∷ an_i32 ∷ an_end ∷ []) ∷
+    runs (an_i64 ∷ control (if_ empty_block) ∷ an_end ∷ []) ∷
     gives_i32 (trap ∷ numeric I64Eqz ∷ numeric I64Eqz ∷ []) ∷
     gives_i32 (control return_ ∷ []) ∷
     []) ≡ true
@@ -59,26 +59,26 @@ NoBlocks =
 abbrev pub Branches : Type 0
 Branches =
     all_pass (
-    gives_i32 (in_block (value_block i32) ∷ an_i32 ∷ control (br 0) ∷ closed ∷ []) ∷
+    gives_i32 (in_block (value_block i32) ∷ an_i32 ∷ control (br 0) ∷ an_end ∷ []) ∷
     gives_i32 (an_i32 ∷ control (br 0) ∷ []) ∷
     gives_i32 (an_i32 ∷ an_i32 ∷ control (br_if 0) ∷ []) ∷
-    runs (control (loop (value_block i32)) ∷ an_i32 ∷ control (br_if 0) ∷ an_i32 ∷ closed ∷ dropped ∷ []) ∷
-    gives_i32 (in_block (value_block i32) ∷ an_i32 ∷ an_i32 ∷ control (br_table (0 ∷ 1 ∷ []) 0) ∷ closed ∷ []) ∷
-    gives_i32 (in_block empty_block ∷ an_i32 ∷ an_i32 ∷ control (br_table [] 1) ∷ closed ∷ an_i32 ∷ []) ∷
-    runs (in_block (value_block i32) ∷ in_block (value_block i64) ∷ trap ∷ an_i32 ∷ control (br_table (1 ∷ []) 0) ∷ closed ∷ trap ∷ closed ∷ dropped ∷ []) ∷
+    runs (control (loop (value_block i32)) ∷ an_i32 ∷ control (br_if 0) ∷ an_i32 ∷ an_end ∷ dropped ∷ []) ∷
+    gives_i32 (in_block (value_block i32) ∷ an_i32 ∷ an_i32 ∷ control (br_table (0 ∷ 1 ∷ []) 0) ∷ an_end ∷ []) ∷
+    gives_i32 (in_block empty_block ∷ an_i32 ∷ an_i32 ∷ control (br_table [] 1) ∷ an_end ∷ an_i32 ∷ []) ∷
+    runs (in_block (value_block i32) ∷ in_block (value_block i64) ∷ trap ∷ an_i32 ∷ control (br_table (1 ∷ []) 0) ∷ an_end ∷ trap ∷ an_end ∷ dropped ∷ []) ∷
     []) ≡ true
 
 abbrev pub NoBranches : Type 0
 NoBranches =
     none_pass (
-    gives_i32 (in_block (value_block i32) ∷ an_i64 ∷ control (br 0) ∷ closed ∷ []) ∷
+    gives_i32 (in_block (value_block i32) ∷ an_i64 ∷ control (br 0) ∷ an_end ∷ []) ∷
     gives_i32 (an_i32 ∷ control (br 1) ∷ []) ∷
     gives_i32 (an_i32 ∷ control (br_if 0) ∷ []) ∷
-    runs (control (loop (value_block i32)) ∷ an_i64 ∷ control (br_if 0) ∷ an_i32 ∷ closed ∷ dropped ∷ []) ∷
-    gives_i32 (in_block (value_block i32) ∷ an_i32 ∷ an_i32 ∷ control (br_table (0 ∷ 2 ∷ []) 0) ∷ closed ∷ []) ∷
-    gives_i32 (in_block empty_block ∷ an_i32 ∷ control (br_table [] 1) ∷ closed ∷ an_i32 ∷ []) ∷
-    runs (in_block (value_block i32) ∷ in_block empty_block ∷ trap ∷ an_i32 ∷ control (br_table (1 ∷ []) 0) ∷ closed ∷ trap ∷ closed ∷ dropped ∷ []) ∷
-    gives_i32 (in_block (value_block i32) ∷ in_block (value_block i64) ∷ an_i64 ∷ an_i32 ∷ control (br_table (1 ∷ []) 0) ∷ closed ∷ trap ∷ closed ∷ []) ∷
+    runs (control (loop (value_block i32)) ∷ an_i64 ∷ control (br_if 0) ∷ an_i32 ∷ an_end ∷ dropped ∷ []) ∷
+    gives_i32 (in_block (value_block i32) ∷ an_i32 ∷ an_i32 ∷ control (br_table (0 ∷ 2 ∷ []) 0) ∷ an_end ∷ []) ∷
+    gives_i32 (in_block empty_block ∷ an_i32 ∷ control (br_table [] 1) ∷ an_end ∷ an_i32 ∷ []) ∷
+    runs (in_block (value_block i32) ∷ in_block empty_block ∷ trap ∷ an_i32 ∷ control (br_table (1 ∷ []) 0) ∷ an_end ∷ trap ∷ an_end ∷ dropped ∷ []) ∷
+    gives_i32 (in_block (value_block i32) ∷ in_block (value_block i64) ∷ an_i64 ∷ an_i32 ∷ control (br_table (1 ∷ []) 0) ∷ an_end ∷ trap ∷ an_end ∷ []) ∷
     []) ≡ true
 
 abbrev pub Calls : Type 0
@@ -110,10 +110,10 @@ Exceptions =
     all_pass (
     gives_i32 (an_i32 ∷ control (throw 1) ∷ []) ∷
     gives_i32 (reference (references.ref_null (plain_heap exn_heap)) ∷ control throw_ref ∷ []) ∷
-    gives_i32 (control (try_table empty_block (catch.One 1 0 ∷ [])) ∷ closed ∷ an_i32 ∷ []) ∷
-    runs (in_block (value_block (ref (plain_heap exn_heap))) ∷ control (try_table empty_block (catch.OneRef 0 0 ∷ [])) ∷ closed ∷ trap ∷ closed ∷ dropped ∷ []) ∷
-    runs (control (try_table empty_block (catch.All 0 ∷ [])) ∷ closed ∷ []) ∷
-    runs (in_block (value_block (ref_null (plain_heap exn_heap))) ∷ control (try_table empty_block (catch.AllRef 0 ∷ [])) ∷ closed ∷ trap ∷ closed ∷ dropped ∷ []) ∷
+    gives_i32 (control (try_table empty_block (catch.One 1 0 ∷ [])) ∷ an_end ∷ an_i32 ∷ []) ∷
+    runs (in_block (value_block (ref (plain_heap exn_heap))) ∷ control (try_table empty_block (catch.OneRef 0 0 ∷ [])) ∷ an_end ∷ trap ∷ an_end ∷ dropped ∷ []) ∷
+    runs (control (try_table empty_block (catch.All 0 ∷ [])) ∷ an_end ∷ []) ∷
+    runs (in_block (value_block (ref_null (plain_heap exn_heap))) ∷ control (try_table empty_block (catch.AllRef 0 ∷ [])) ∷ an_end ∷ trap ∷ an_end ∷ dropped ∷ []) ∷
     []) ≡ true
 
 abbrev pub NoExceptions : Type 0
@@ -122,11 +122,11 @@ NoExceptions =
     gives_i32 (an_i64 ∷ control (throw 1) ∷ []) ∷
     gives_i32 (control (throw 2) ∷ []) ∷
     gives_i32 (null ∷ control throw_ref ∷ []) ∷
-    gives_i32 (control (try_table empty_block (catch.One 0 0 ∷ [])) ∷ closed ∷ an_i32 ∷ []) ∷
-    gives_i32 (control (try_table empty_block (catch.One 2 0 ∷ [])) ∷ closed ∷ an_i32 ∷ []) ∷
-    runs (control (try_table empty_block (catch.OneRef 0 0 ∷ [])) ∷ closed ∷ []) ∷
-    gives_i32 (control (try_table empty_block (catch.All 0 ∷ [])) ∷ closed ∷ an_i32 ∷ []) ∷
-    runs (control (try_table empty_block (catch.AllRef 0 ∷ [])) ∷ closed ∷ []) ∷
+    gives_i32 (control (try_table empty_block (catch.One 0 0 ∷ [])) ∷ an_end ∷ an_i32 ∷ []) ∷
+    gives_i32 (control (try_table empty_block (catch.One 2 0 ∷ [])) ∷ an_end ∷ an_i32 ∷ []) ∷
+    runs (control (try_table empty_block (catch.OneRef 0 0 ∷ [])) ∷ an_end ∷ []) ∷
+    gives_i32 (control (try_table empty_block (catch.All 0 ∷ [])) ∷ an_end ∷ an_i32 ∷ []) ∷
+    runs (control (try_table empty_block (catch.AllRef 0 ∷ [])) ∷ an_end ∷ []) ∷
     []) ≡ true
 
 abbrev pub Parametrics : Type 0
@@ -158,7 +158,7 @@ Variables =
     gives_i32 (variable (LocalGet 1) ∷ []) ∷
     runs (variable (LocalGet 0) ∷ variable (LocalSet 2) ∷ variable (LocalGet 2) ∷ dropped ∷ []) ∷
     runs (variable (LocalGet 0) ∷ variable (LocalTee 2) ∷ variable (LocalSet 0) ∷ []) ∷
-    runs (in_block empty_block ∷ variable (LocalGet 0) ∷ variable (LocalSet 2) ∷ variable (LocalGet 2) ∷ dropped ∷ closed ∷ []) ∷
+    runs (in_block empty_block ∷ variable (LocalGet 0) ∷ variable (LocalSet 2) ∷ variable (LocalGet 2) ∷ dropped ∷ an_end ∷ []) ∷
     gives_i32 (variable (GlobalGet 0) ∷ []) ∷
     runs (an_i32 ∷ variable (GlobalSet 0) ∷ []) ∷
     []) ≡ true
@@ -169,7 +169,7 @@ NoVariables =
     gives_i32 (variable (LocalGet 3) ∷ []) ∷
     runs (variable (LocalGet 2) ∷ dropped ∷ []) ∷
     runs (an_i32 ∷ variable (LocalTee 2) ∷ variable (LocalSet 0) ∷ []) ∷
-    runs (in_block empty_block ∷ variable (LocalGet 0) ∷ variable (LocalSet 2) ∷ closed ∷ variable (LocalGet 2) ∷ dropped ∷ []) ∷
+    runs (in_block empty_block ∷ variable (LocalGet 0) ∷ variable (LocalSet 2) ∷ an_end ∷ variable (LocalGet 2) ∷ dropped ∷ []) ∷
     gives_i32 (variable (GlobalGet 2) ∷ []) ∷
     runs (an_i64 ∷ variable (GlobalSet 1) ∷ []) ∷
     []) ≡ true
@@ -178,10 +178,10 @@ NoVariables =
 abbrev pub ControlNeedsFeatures : Type 0
 ControlNeedsFeatures =
     none_pass (
-    body (features false) 0 (in_block (func_block 0) ∷ closed ∷ []) ∷
-    body (features false) 0 (in_block (value_block f32) ∷ trap ∷ closed ∷ dropped ∷ []) ∷
+    body (features false) 0 (in_block (func_block 0) ∷ an_end ∷ []) ∷
+    body (features false) 0 (in_block (value_block f32) ∷ trap ∷ an_end ∷ dropped ∷ []) ∷
     body (features false) 0 (trap ∷ call (CallRef 0) ∷ []) ∷
-    body (features false) 0 (control (try_table empty_block []) ∷ closed ∷ []) ∷
+    body (features false) 0 (control (try_table empty_block []) ∷ an_end ∷ []) ∷
     body (features false) 0 (trap ∷ control throw_ref ∷ []) ∷
     body (features false) 0 (control (throw 0) ∷ []) ∷
     body (features false) 0 (an_f32 ∷ dropped ∷ []) ∷
@@ -219,7 +219,7 @@ ConstantInstructions =
     is_constant (features false) null ∷
     is_constant (features false) (reference (references.ref_func 0)) ∷
     is_constant (features false) (variable (GlobalGet 0)) ∷
-    is_constant (features false) closed ∷
+    is_constant (features false) an_end ∷
     is_constant (features true) (numeric I32Add) ∷
     is_constant (features true) (structure (StructNewDefault 5)) ∷
     is_constant (features true) (array (ArrayNewFixed 7 1)) ∷

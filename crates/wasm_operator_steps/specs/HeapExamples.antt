@@ -17,7 +17,7 @@ use Rattle.wasm_flat_operators.specs.declared.constants.ConstantOperator.TheVari
 use Rattle.wasm_flat_operators.specs.declared.conversions.ConversionOperator.TheVariants.{AnyConvertExtern, ExternConvertAny, RefI31, I31GetS, I31GetU, RefI31Shared}
 use Rattle.wasm_flat_operators.specs.declared.structs.StructOperator.TheVariants.{StructNew, StructNewDefault, StructGet, StructGetS, StructGetU, StructSet, StructNewDesc, StructNewDefaultDesc}
 use Rattle.wasm_flat_operators.specs.declared.arrays.ArrayOperator.TheVariants.{ArrayNew, ArrayNewDefault, ArrayNewFixed, ArrayNewData, ArrayNewElem, ArrayGet, ArrayGetS, ArrayGetU, ArraySet, ArrayLen, ArrayFill, ArrayCopy, ArrayInitData, ArrayInitElem}
-use Rattle.wasm_operator_steps.specs.Samples.{ref, ref_null, ref_of, plain_heap, body, runs, gives_i32, an_i32, an_i64, dropped, trap, closed, in_block, all_pass, none_pass}
+use Rattle.wasm_operator_steps.specs.Samples.{ref, ref_null, ref_of, plain_heap, body, runs, gives_i32, an_i32, an_i64, dropped, trap, an_end, in_block, all_pass, none_pass}
 
 -- with every feature, descriptors too
 abbrev pub described : List (Instruction ℕ) → Bool
@@ -97,8 +97,8 @@ References =
     runs (null (concrete 5) ∷ reference ref_as_non_null ∷ variable (LocalSet 2) ∷ []) ∷
     runs (trap ∷ reference ref_as_non_null ∷ variable (LocalSet 2) ∷ []) ∷
     runs (reference (ref_func 0) ∷ dropped ∷ []) ∷
-    runs (in_block empty_block ∷ null (concrete 5) ∷ reference (br_on_null 0) ∷ variable (LocalSet 2) ∷ closed ∷ []) ∷
-    runs (in_block (value_block (ref (concrete 5))) ∷ null (concrete 5) ∷ reference (br_on_non_null 0) ∷ trap ∷ closed ∷ variable (LocalSet 2) ∷ []) ∷
+    runs (in_block empty_block ∷ null (concrete 5) ∷ reference (br_on_null 0) ∷ variable (LocalSet 2) ∷ an_end ∷ []) ∷
+    runs (in_block (value_block (ref (concrete 5))) ∷ null (concrete 5) ∷ reference (br_on_non_null 0) ∷ trap ∷ an_end ∷ variable (LocalSet 2) ∷ []) ∷
     []) ≡ true
 
 abbrev pub NoReferences : Type 0
@@ -112,15 +112,15 @@ NoReferences =
     runs (null (concrete 5) ∷ variable (LocalSet 2) ∷ []) ∷
     runs (trap ∷ reference ref_as_non_null ∷ variable (LocalSet 1) ∷ []) ∷
     runs (reference (ref_func 1) ∷ dropped ∷ []) ∷
-    runs (in_block (value_block i32) ∷ null (concrete 5) ∷ reference (br_on_null 0) ∷ variable (LocalSet 2) ∷ an_i32 ∷ closed ∷ dropped ∷ []) ∷
-    runs (in_block (value_block (ref (concrete 6))) ∷ null (concrete 5) ∷ reference (br_on_non_null 0) ∷ trap ∷ closed ∷ variable (LocalSet 2) ∷ []) ∷
-    runs (trap ∷ in_block (value_block i32) ∷ trap ∷ reference (br_on_non_null 0) ∷ trap ∷ closed ∷ dropped ∷ []) ∷
-    runs (in_block empty_block ∷ null (concrete 5) ∷ reference (br_on_non_null 0) ∷ closed ∷ []) ∷
+    runs (in_block (value_block i32) ∷ null (concrete 5) ∷ reference (br_on_null 0) ∷ variable (LocalSet 2) ∷ an_i32 ∷ an_end ∷ dropped ∷ []) ∷
+    runs (in_block (value_block (ref (concrete 6))) ∷ null (concrete 5) ∷ reference (br_on_non_null 0) ∷ trap ∷ an_end ∷ variable (LocalSet 2) ∷ []) ∷
+    runs (trap ∷ in_block (value_block i32) ∷ trap ∷ reference (br_on_non_null 0) ∷ trap ∷ an_end ∷ dropped ∷ []) ∷
+    runs (in_block empty_block ∷ null (concrete 5) ∷ reference (br_on_non_null 0) ∷ an_end ∷ []) ∷
     []) ≡ true
 
 -- a block whose label takes a reference of this type, not null, and a reference of type 5 that isn't null in it
 abbrev pub around : Heap ℕ → List (Instruction ℕ) → Bool
-around h ops = runs (in_block (value_block (ref h)) ∷ variable (LocalGet 0) ∷ (ops ++ (trap ∷ closed ∷ dropped ∷ [])))
+around h ops = runs (in_block (value_block (ref h)) ∷ variable (LocalGet 0) ∷ (ops ++ (trap ∷ an_end ∷ dropped ∷ [])))
 
 abbrev pub Casts : Type 0
 Casts =
@@ -129,7 +129,7 @@ Casts =
     runs (null (plain_heap any_heap) ∷ cast (ref_cast (ref_of false (concrete 5))) ∷ variable (LocalSet 2) ∷ []) ∷
     described (null (plain_heap exn_heap) ∷ cast (ref_test (ref_of false (plain_heap exn_heap))) ∷ dropped ∷ []) ∷
     described (null (plain_heap exn_heap) ∷ cast (ref_cast (ref_of true (plain_heap exn_heap))) ∷ dropped ∷ []) ∷
-    described (in_block (value_block (ref_null (plain_heap cont_heap))) ∷ null (plain_heap cont_heap) ∷ cast (br_on_cast 0 (ref_of true (plain_heap cont_heap)) (ref_of true (plain_heap nocont_heap))) ∷ closed ∷ dropped ∷ []) ∷
+    described (in_block (value_block (ref_null (plain_heap cont_heap))) ∷ null (plain_heap cont_heap) ∷ cast (br_on_cast 0 (ref_of true (plain_heap cont_heap)) (ref_of true (plain_heap nocont_heap))) ∷ an_end ∷ dropped ∷ []) ∷
     around (concrete 6) (cast (br_on_cast 0 (ref_of false (concrete 5)) (ref_of false (concrete 6))) ∷ variable (LocalSet 2) ∷ []) ∷
     around (concrete 5) (cast (br_on_cast_fail 0 (ref_of false (concrete 5)) (ref_of false (concrete 6))) ∷ dropped ∷ []) ∷
     around (concrete 5) (null (concrete 5) ∷ cast (br_on_cast_fail 0 (ref_of true (concrete 5)) (ref_of true (concrete 6))) ∷ dropped ∷ []) ∷
@@ -242,7 +242,7 @@ Descriptors =
     described (null (exact 12) ∷ structure (StructNewDesc 11) ∷ dropped ∷ []) ∷
     described (null (exact 12) ∷ structure (StructNewDefaultDesc 11) ∷ dropped ∷ []) ∷
     described (structure (StructNewDefault 5) ∷ cast (ref_cast (ref_of false (exact 5))) ∷ dropped ∷ []) ∷
-    described (in_block (value_block (ref (concrete 7))) ∷ variable (LocalGet 0) ∷ cast (br_on_cast 0 (ref_of false (concrete 5)) (ref_of false (concrete 7))) ∷ trap ∷ closed ∷ dropped ∷ []) ∷
+    described (in_block (value_block (ref (concrete 7))) ∷ variable (LocalGet 0) ∷ cast (br_on_cast 0 (ref_of false (concrete 5)) (ref_of false (concrete 7))) ∷ trap ∷ an_end ∷ dropped ∷ []) ∷
     []) ≡ true
 
 abbrev pub NoDescriptors : Type 0
@@ -253,7 +253,7 @@ NoDescriptors =
     described (structure (StructNew 11) ∷ dropped ∷ []) ∷
     described (structure (StructNewDefault 11) ∷ dropped ∷ []) ∷
     described (null (exact 12) ∷ structure (StructNewDefaultDesc 5) ∷ dropped ∷ []) ∷
-    described (in_block (value_block (ref (concrete 0))) ∷ variable (LocalGet 0) ∷ cast (br_on_cast 0 (ref_of false (concrete 5)) (ref_of false (concrete 0))) ∷ trap ∷ closed ∷ dropped ∷ []) ∷
+    described (in_block (value_block (ref (concrete 0))) ∷ variable (LocalGet 0) ∷ cast (br_on_cast 0 (ref_of false (concrete 5)) (ref_of false (concrete 0))) ∷ trap ∷ an_end ∷ dropped ∷ []) ∷
     []) ≡ true
 
 -- every feature
@@ -293,7 +293,7 @@ ReferencesNeedFeatures =
     needs (record every { reference_types = false }) (trap ∷ reference ref_is_null ∷ dropped ∷ []) ∷
     needs (record every { function_references = false }) (trap ∷ reference ref_as_non_null ∷ dropped ∷ []) ∷
     needs (record every { function_references = false }) (trap ∷ reference (br_on_null 0) ∷ dropped ∷ []) ∷
-    needs (record every { function_references = false }) (in_block (value_block (ref_null (plain_heap func_heap))) ∷ trap ∷ reference (br_on_non_null 0) ∷ trap ∷ closed ∷ dropped ∷ []) ∷
+    needs (record every { function_references = false }) (in_block (value_block (ref_null (plain_heap func_heap))) ∷ trap ∷ reference (br_on_non_null 0) ∷ trap ∷ an_end ∷ dropped ∷ []) ∷
     []) ≡ true
 
 -- of garbage collection, shared references and descriptors

@@ -120,8 +120,8 @@ dropped = instruction.parametric control.drop_
 abbrev pub trap : Instruction ℕ
 trap = instruction.control control.unreachable
 
-abbrev pub closed : Instruction ℕ
-closed = instruction.control control.end_
+abbrev pub an_end : Instruction ℕ
+an_end = instruction.control control.end_
 
 abbrev pub in_block : control.Block ℕ → Instruction ℕ
 in_block b = instruction.control (control.block b)

@@ -17,7 +17,7 @@ use Rattle.wasm_flat_operators.specs.declared.conversions.ConversionOperator.The
 use Rattle.wasm_flat_operators.specs.declared.structs.StructOperator.TheVariants.{StructNew, StructNewDefault, StructGet, StructGetS, StructGetU, StructSet, StructNewDesc, StructNewDefaultDesc}
 use Rattle.wasm_flat_operators.specs.declared.arrays.ArrayOperator.TheVariants.{ArrayNew, ArrayNewDefault, ArrayNewFixed, ArrayNewData, ArrayNewElem, ArrayGet, ArrayGetS, ArrayGetU, ArraySet, ArrayLen, ArrayFill, ArrayCopy, ArrayInitData, ArrayInitElem}
 use Rattle.wasm_operator_steps.specs.Steps.{is_typed_body}
-use Rattle.wasm_operator_steps.specs.Samples.{ref_null, ref_of, field_of, declares, table_of, global_of, context, locals, an_i32, dropped, trap, closed, in_block, all_pass}
+use Rattle.wasm_operator_steps.specs.Samples.{ref_null, ref_of, field_of, declares, table_of, global_of, context, locals, an_i32, dropped, trap, an_end, in_block, all_pass}
 
 abbrev pub shared_type : Comp ℕ → Sub ℕ
 shared_type c = record { is_final = true; supers = []; shared = true; comp = c; descriptor = None; describes = None }
@@ -51,7 +51,7 @@ some_shared = record context {
 
 -- a body that takes and gives nothing, of a shared function or of another
 abbrev pub inside : Bool → List (Instruction ℕ) → Bool
-inside b ops = is_typed_body nat_eq (record { features = features true; context = some_shared; locals = locals; shared = b }) (if b then 14 else 0) (ops ++ (closed ∷ []))
+inside b ops = is_typed_body nat_eq (record { features = features true; context = some_shared; locals = locals; shared = b }) (if b then 14 else 0) (ops ++ (an_end ∷ []))
 
 -- a shared function doesn't reach it, and another does
 abbrev pub stays_out : List (Instruction ℕ) → Bool
@@ -88,10 +88,10 @@ ReachesFunctions =
     reaches_on (λ y. call (ReturnCallRef y)) 14 0 [] ∷
     stays_out (trap ∷ call (CallIndirect 0 0) ∷ []) ∷
     stays_out (trap ∷ call (ReturnCallIndirect 0 0) ∷ []) ∷
-    reaches_on (λ y. in_block (func_block y)) 14 0 (closed ∷ []) ∷
-    reaches_on (λ y. control (loop (func_block y))) 14 0 (closed ∷ []) ∷
-    reaches_on (λ y. control (if_ (func_block y))) 14 0 (closed ∷ []) ∷
-    reaches_on (λ y. control (try_table (func_block y) [])) 14 0 (closed ∷ []) ∷
+    reaches_on (λ y. in_block (func_block y)) 14 0 (an_end ∷ []) ∷
+    reaches_on (λ y. control (loop (func_block y))) 14 0 (an_end ∷ []) ∷
+    reaches_on (λ y. control (if_ (func_block y))) 14 0 (an_end ∷ []) ∷
+    reaches_on (λ y. control (try_table (func_block y) [])) 14 0 (an_end ∷ []) ∷
     []) ≡ true
 
 abbrev pub ReachesStructures : Type 0
@@ -133,7 +133,7 @@ ReachesTheRest =
     inside true (reference (ref_func 0) ∷ dropped ∷ []) ∷
     inside true (reference (references.ref_null (concrete 5)) ∷ dropped ∷ []) ∷
     inside true (variable (LocalGet 0) ∷ dropped ∷ []) ∷
-    inside true (in_block (value_block (ref_null (concrete 5))) ∷ trap ∷ closed ∷ dropped ∷ []) ∷
+    inside true (in_block (value_block (ref_null (concrete 5))) ∷ trap ∷ an_end ∷ dropped ∷ []) ∷
     inside true (control (throw 0) ∷ []) ∷
     inside true (memory (MemorySize 0) ∷ dropped ∷ memory (DataDrop 0) ∷ []) ∷
     inside true (trap ∷ access I32Load (record { align = 2; offset = 0; memory = 0 }) ∷ dropped ∷ []) ∷

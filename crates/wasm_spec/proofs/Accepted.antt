@@ -102,5 +102,5 @@ nothing_mentions a s c d = absurd (omega (arith, c.1))
 pub valid_type_section_is_accepted : ValidTypeSectionIsAccepted
 valid_type_section_is_accepted F gs h = record {
   valid = h.valid;
-  closed = λ a s c d. All-from_recursion (Contains h.types) (refs_sub s) (groups_mention F gs [] h.types nothing_mentions h.gives a s c d);
+  mentioned = λ a s c d. All-from_recursion (Contains h.types) (refs_sub s) (groups_mention F gs [] h.types nothing_mentions h.gives a s c d);
 }

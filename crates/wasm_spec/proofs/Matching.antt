@@ -444,7 +444,7 @@ module _ {R : Type 0} (F : Features) (D : R → Option (Sub R)) (ts : List R) (h
   valid a i = All-contains (IsValidType F D) ts a h.valid i
 
   accepted_mentions : (a : R) (s : Sub R) → Contains ts a → D a ≡ Some s → Each (Contains ts) (refs_sub s)
-  accepted_mentions a s i e = recursion_from_All _ _ (h.closed a s i e)
+  accepted_mentions a s i e = recursion_from_All _ _ (h.mentioned a s i e)
 
   accepted_declares : (a : R) → Contains ts a → (s : Sub R) × (D a ≡ Some s)
   accepted_declares a i = let v = valid a i in (v.sub, v.declares)

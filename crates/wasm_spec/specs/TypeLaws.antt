@@ -159,7 +159,7 @@ pub record MatchingIsAntisymmetric (R : Type 0) : Type 0 where
 -- Types that are accepted: each of the list is valid, and mentions only types of the list.
 pub record AreAccepted {R : Type 0} (F : Features) (D : R → Option (Sub R)) (ts : List R) : Type 0 where
   pub valid : All (IsValidType F D) ts
-  pub closed : (a : R) (s : Sub R) → Contains ts a → D a ≡ Some s → All (Contains ts) (refs_sub s)
+  pub mentioned : (a : R) (s : Sub R) → Contains ts a → D a ≡ Some s → All (Contains ts) (refs_sub s)
 
 -- Supertypes of accepted types keep their kind and shared flag, and their chains end, so that matching is an order
 -- between accepted types. And an accepted type matches each of its ancestors.
