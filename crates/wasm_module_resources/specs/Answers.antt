@@ -12,9 +12,9 @@ use Rattle.wasm_readers_types.specs.declared.indices.CoreTypeId.{CoreTypeId}
 use Rattle.wasm_readers_types.specs.declared.indices.UnpackedIndex.{UnpackedIndex}
 use Rattle.wasm_readers_types.specs.declared.indices.UnpackedIndex.TheVariants.{Module, RecGroup, Id}
 use Rattle.wasm_readers_types.specs.declared.types.FuncType.{FuncType}
-use Rattle.wasm_operator_steps.specs.Attempts.{◌>>=◌}
-use Rattle.wasm_operator_steps.specs.Meanings.{Signature, signature_of, resolve_heap, resolve_ref, resolve_val}
-use Rattle.wasm_operator_steps.specs.Worlds.{world_of}
+use Rattle.wasm_rules.specs.Attempts.{◌>>=◌}
+use Rattle.wasm_rules.specs.Signatures.{Signature, signature_of, resolve_heap, resolve_ref, resolve_val}
+use Rattle.wasm_rules.specs.Worlds.{world_of}
 
 -- the same index
 abbrev pub same_index : UnpackedIndex → UnpackedIndex → Bool

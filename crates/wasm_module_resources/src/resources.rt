@@ -11,7 +11,7 @@ ghost use Rattle.wasm_readers_types.specs.SeenTypes.{sub_of};
 ghost use Rattle.wasm_readers_types.specs.SeenValues.{heap_of, ref_of, val_of, HeapFits};
 ghost use Rattle.wasm_readers_types.specs.declared.indices.UnpackedIndex.{UnpackedIndex};
 ghost use Rattle.wasm_readers_types.specs.declared.indices.UnpackedIndex.TheVariants.{Id};
-ghost use Rattle.wasm_operator_steps.specs.Attempts.{passes, among};
+ghost use Rattle.wasm_rules.specs.Attempts.{passes, among};
 ghost use Rattle.wasm_module_resources.specs.Answers.{world, sub_in, sub_of_id, function_type_in, tag_in, heap_in, ref_in, val_in, signature_seen, IsWrittenHeap, IsWrittenVal, Puts};
 
 use std::alloc::Allocator;

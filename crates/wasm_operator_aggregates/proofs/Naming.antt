@@ -8,7 +8,8 @@ use Rattle.wasm_rules.specs.FeatureFlags.{features_of}
 use Rattle.wasm_readers_types.specs.declared.indices.UnpackedIndex.{UnpackedIndex}
 use Rattle.wasm_operator_steps.specs.Actions.{Needed, has, reaches_type, these, new_reference, Action, need}
 use Rattle.wasm_operator_steps.specs.Machine.{State}
-use Rattle.wasm_operator_steps.specs.Meanings.{resolve_val, ref_to}
+use Rattle.wasm_rules.specs.Signatures.{resolve_val}
+use Rattle.wasm_operator_steps.specs.Meanings.{ref_to}
 use Rattle.wasm_operator_steps.specs.Shapes.{nullable_to}
 use Rattle.wasm_module_resources.specs.Answers.{sub_in}
 use Rattle.wasm_operator_stacks.specs.declared.stacks.Stacks.{Stacks}

@@ -6,7 +6,7 @@ use Rattle.wasm_spec.specs.MatchingTests.{World, same_flag, matches_val}
 use Rattle.wasm_spec.specs.Syntax.{Ref, Val, i32, concrete, reference, Field}
 use Rattle.wasm_rules.specs.Contexts.{Context}
 use Rattle.wasm_readers_types.specs.declared.indices.UnpackedIndex.{UnpackedIndex}
-use Rattle.wasm_operator_steps.specs.Attempts.{passes}
+use Rattle.wasm_rules.specs.Attempts.{passes}
 use Rattle.wasm_operator_steps.specs.Actions.{gc, has, Action, need, these, element, segment, repeated, each_matches, element_is_mutable, element_has_default, element_is_number, element_is_packed, element_is_storable, reaches_type}
 use Rattle.wasm_operator_steps.specs.Machine.{State, same_number}
 use Rattle.wasm_operator_steps.specs.Matching.{matches_vals, matches_storage}

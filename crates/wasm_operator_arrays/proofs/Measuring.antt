@@ -8,7 +8,7 @@ use Rattle.wasm_spec.specs.ValueTypes.{implies}
 use Rattle.wasm_rules.specs.Contexts.{Context}
 use Rattle.wasm_readers_types.specs.declared.indices.UnpackedIndex.{UnpackedIndex}
 use Rattle.wasm_operator_steps.specs.Actions.{Action, take_below, give, these}
-use Rattle.wasm_operator_steps.specs.Attempts.{◌>>=◌, guard}
+use Rattle.wasm_rules.specs.Attempts.{◌>>=◌, guard}
 use Rattle.wasm_operator_steps.specs.Bodies.{Surroundings}
 use Rattle.wasm_operator_steps.specs.Machine.{Operand, bottom, bottom_reference, open_reference, known, State, push_operand, pop_any, as_reference}
 use Rattle.wasm_operator_steps.specs.Meanings.{is_below_either, act, run}

@@ -8,7 +8,7 @@ use Rattle.wasm_rules.specs.Contexts.{Context}
 use Rattle.wasm_readers_types.specs.SeenValues.{ref_of}
 use Rattle.wasm_readers_types.specs.declared.indices.UnpackedIndex.{UnpackedIndex}
 use Rattle.wasm_readers_types.specs.declared.values.RefType.{RefType}
-use Rattle.wasm_operator_steps.specs.Attempts.{passes}
+use Rattle.wasm_rules.specs.Attempts.{passes}
 use Rattle.wasm_operator_steps.specs.Machine.{same_number}
 use Rattle.wasm_module_resources.specs.Answers.{world}
 use Rattle.wasm_operator_arrays.specs.Segments.{segment_matches}

@@ -4,7 +4,7 @@ use Rattle.wasm_spec.specs.MatchingTests.{matches_val}
 use Rattle.wasm_spec.specs.Syntax.{Val, reference}
 use Rattle.wasm_rules.specs.Contexts.{Context}
 use Rattle.wasm_readers_types.specs.declared.indices.UnpackedIndex.{UnpackedIndex}
-use Rattle.wasm_operator_steps.specs.Attempts.{passes}
+use Rattle.wasm_rules.specs.Attempts.{passes}
 use Rattle.wasm_module_resources.specs.Answers.{world}
 
 -- an element segment is there, and its references are of a type

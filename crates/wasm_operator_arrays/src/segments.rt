@@ -2,7 +2,7 @@
 
 ghost use Rattle.std.specs.Prelude.{◌≡◌, true, false, nat_lt, OnOk, OnErr};
 ghost use Rattle.wasm_readers_types.specs.SeenValues.{val_of, storage_of};
-ghost use Rattle.wasm_operator_steps.specs.Attempts.{passes};
+ghost use Rattle.wasm_rules.specs.Attempts.{passes};
 ghost use Rattle.wasm_operator_steps.specs.Machine.{same_number};
 ghost use Rattle.wasm_operator_steps.specs.Matching.{matches_storage};
 ghost use Rattle.wasm_module_resources.specs.Answers.{world};

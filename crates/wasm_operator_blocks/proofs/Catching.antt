@@ -8,7 +8,7 @@ use Rattle.wasm_operators.specs.SeenLists.{GivesFront}
 use Rattle.wasm_operators.specs.declared.control.Catch.{Catch}
 use Rattle.wasm_operators.specs.declared.control.Catch.TheVariants as catch
 use Rattle.wasm_operator_steps.specs.Actions.{OperandTypes, of_tag, params, label, joined, is_exception, each_matches}
-use Rattle.wasm_operator_steps.specs.Attempts.{passes}
+use Rattle.wasm_rules.specs.Attempts.{passes}
 use Rattle.wasm_operator_steps.specs.Matching.{matches_vals}
 use Rattle.wasm_operator_steps.specs.Meanings.{types_at, holds}
 use Rattle.wasm_operator_steps.specs.Shapes.{nothing, exception, catch_checks}

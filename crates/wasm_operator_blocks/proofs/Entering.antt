@@ -8,10 +8,11 @@ use Rattle.wasm_rules.specs.Contexts.{Context}
 use Rattle.wasm_readers_types.specs.declared.indices.UnpackedIndex.{UnpackedIndex}
 use Rattle.wasm_operators.specs.Control.{Block, empty_block, value_block, func_block}
 use Rattle.wasm_operator_steps.specs.Actions.{OperandTypes, Check, has, exceptions, Action, take, enter}
-use Rattle.wasm_operator_steps.specs.Attempts.{◌>>=◌, guard}
+use Rattle.wasm_rules.specs.Attempts.{◌>>=◌, guard}
 use Rattle.wasm_operator_steps.specs.Bodies.{Surroundings}
 use Rattle.wasm_operator_steps.specs.Machine.{Kind, State, pop_val, pop_vals, push_frame}
-use Rattle.wasm_operator_steps.specs.Meanings.{Signature, resolve_block, block_signature, types_at, holds, run}
+use Rattle.wasm_rules.specs.Signatures.{Signature}
+use Rattle.wasm_operator_steps.specs.Meanings.{resolve_block, block_signature, types_at, holds, run}
 use Rattle.wasm_operator_steps.specs.Shapes.{block_checks, nothing, one}
 use Rattle.wasm_operator_steps.specs.Steps.{checked}
 use Rattle.wasm_module_resources.specs.Answers.{world}

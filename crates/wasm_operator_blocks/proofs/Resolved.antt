@@ -9,8 +9,9 @@ use Rattle.wasm_rules.specs.Contexts.{Context}
 use Rattle.wasm_rules.specs.FeatureFlags.{features_of}
 use Rattle.wasm_readers_types.specs.declared.indices.UnpackedIndex.{UnpackedIndex}
 use Rattle.wasm_operators.specs.Control.{Block, empty_block, value_block, func_block}
-use Rattle.wasm_operator_steps.specs.Attempts.{◌>>=◌, guard, passes}
-use Rattle.wasm_operator_steps.specs.Meanings.{Signature, signature_of, resolve_block}
+use Rattle.wasm_rules.specs.Attempts.{◌>>=◌, guard, passes}
+use Rattle.wasm_rules.specs.Signatures.{Signature, signature_of}
+use Rattle.wasm_operator_steps.specs.Meanings.{resolve_block}
 use Rattle.wasm_module_resources.specs.Answers.{sub_in, written_index, val_in, val_resolved}
 use Rattle.wasm_operator_stacks.specs.declared.stacks.Stacks.{Stacks}
 use Rattle.wasm_operator_calls.specs.Callees.{type_in}

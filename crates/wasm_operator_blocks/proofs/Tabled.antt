@@ -8,7 +8,7 @@ use Rattle.wasm_rules.specs.Contexts.{Context}
 use Rattle.wasm_readers_types.specs.declared.indices.UnpackedIndex.{UnpackedIndex}
 use Rattle.wasm_operators.specs.SeenLists.{GivesFront}
 use Rattle.wasm_operator_steps.specs.Actions.{label, Action, take, branch_to_one_of}
-use Rattle.wasm_operator_steps.specs.Attempts.{◌>>=◌, guard}
+use Rattle.wasm_rules.specs.Attempts.{◌>>=◌, guard}
 use Rattle.wasm_operator_steps.specs.Machine.{State, become_unreachable, pop_val, pop_vals}
 use Rattle.wasm_operator_steps.specs.Meanings.{label_at, labels_fit, run}
 use Rattle.wasm_operator_steps.specs.Shapes.{one}

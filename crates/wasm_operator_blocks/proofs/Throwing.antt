@@ -6,8 +6,9 @@ use Rattle.wasm_spec.specs.Syntax.{Val, Sub, abstract_heap, exn_heap, reference}
 use Rattle.wasm_rules.specs.Contexts.{Context}
 use Rattle.wasm_readers_types.specs.declared.indices.UnpackedIndex.{UnpackedIndex}
 use Rattle.wasm_operator_steps.specs.Actions.{of_tag, params, is_exception}
-use Rattle.wasm_operator_steps.specs.Attempts.{◌>>=◌, guard, passes}
-use Rattle.wasm_operator_steps.specs.Meanings.{Signature, signature_of, signature_at}
+use Rattle.wasm_rules.specs.Attempts.{◌>>=◌, guard, passes}
+use Rattle.wasm_rules.specs.Signatures.{Signature, signature_of}
+use Rattle.wasm_operator_steps.specs.Meanings.{signature_at}
 use Rattle.wasm_operator_steps.specs.Shapes.{one, reference_to}
 use Rattle.wasm_module_resources.specs.Answers.{world, sub_in, tag_in}
 use Rattle.wasm_operator_stacks.specs.Seen.{around}

@@ -2,7 +2,7 @@
 use Rattle.std.specs.Prelude.{◌≡◌, ℕ, Bool, true, ◌&&◌, ◌==◌, List, length, Option, Some, is_some}
 use Rattle.wasm_rules.specs.Contexts.{Context}
 use Rattle.wasm_readers_types.specs.declared.indices.UnpackedIndex.{UnpackedIndex}
-use Rattle.wasm_operator_steps.specs.Attempts.{passes}
+use Rattle.wasm_rules.specs.Attempts.{passes}
 use Rattle.wasm_operator_steps.specs.Machine.{pop_vals}
 use Rattle.wasm_operator_steps.specs.Meanings.{label_at, labels_fit}
 use Rattle.wasm_module_resources.specs.Answers.{world}

@@ -5,7 +5,7 @@ use Rattle.std.specs.Prelude.{false}
 use Rattle.wasm_rules.specs.Contexts.{Context}
 use Rattle.wasm_readers_types.specs.declared.indices.UnpackedIndex.{UnpackedIndex}
 use Rattle.wasm_operator_steps.specs.Actions.{label}
-use Rattle.wasm_operator_steps.specs.Attempts.{◌>>=◌, guard, passes}
+use Rattle.wasm_rules.specs.Attempts.{◌>>=◌, guard, passes}
 use Rattle.wasm_operator_steps.specs.Matching.{matches_vals}
 use Rattle.wasm_operator_steps.specs.Meanings.{types_at}
 use Rattle.wasm_module_resources.specs.Answers.{world, tag_in}

@@ -12,9 +12,9 @@ use Rattle.wasm_readers_types.specs.declared.types.FuncType.{FuncType}
 use Rattle.wasm_readers_types.specs.declared.types.CompositeInnerType.{CompositeInnerType}
 use Rattle.wasm_readers_types.specs.declared.types.CompositeInnerType.TheVariants.{Func, Array, Struct, Cont}
 use Rattle.wasm_operator_steps.specs.Actions.{Action, need, these, params, results, of_type, of_function, table_element, reaches_type, reaches_function}
-use Rattle.wasm_operator_steps.specs.Attempts.{◌>>=◌, guard, passes}
+use Rattle.wasm_rules.specs.Attempts.{◌>>=◌, guard, passes}
 use Rattle.wasm_operator_steps.specs.Machine.{State}
-use Rattle.wasm_operator_steps.specs.Meanings.{Signature, signature_of, resolve_val}
+use Rattle.wasm_rules.specs.Signatures.{Signature, signature_of, resolve_val}
 use Rattle.wasm_operator_steps.specs.Shapes.{nullable_to, holds_functions}
 use Rattle.wasm_type_words.specs.Seen.{val_in}
 use Rattle.wasm_type_words.specs.declared.type_word.TypeWord.{TypeWord}

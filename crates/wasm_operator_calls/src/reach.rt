@@ -3,7 +3,7 @@
 ghost use Rattle.std.specs.Prelude.{◌≡◌, Some, None, IfOk, OnErr};
 ghost use Rattle.std.specs.Option.{option_map};
 ghost use Rattle.wasm_type_words.specs.Seen.{val_in};
-ghost use Rattle.wasm_operator_steps.specs.Meanings.{resolve_val};
+ghost use Rattle.wasm_rules.specs.Signatures.{resolve_val};
 ghost use Rattle.wasm_operator_steps.specs.Shapes.{nullable_to};
 ghost use Rattle.wasm_module_resources.specs.Answers.{signature_seen};
 ghost use Rattle.wasm_operator_calls.specs.Callees.{type_in, function_in};

@@ -3,7 +3,7 @@
 ghost use Rattle.std.specs.Prelude.{◌≡◌, map};
 ghost use Rattle.wasm_readers_types.specs.SeenValues.{val_of};
 ghost use Rattle.wasm_operator_steps.specs.Actions.{returned};
-ghost use Rattle.wasm_operator_steps.specs.Attempts.{passes};
+ghost use Rattle.wasm_rules.specs.Attempts.{passes};
 ghost use Rattle.wasm_operator_steps.specs.Matching.{matches_vals};
 ghost use Rattle.wasm_module_resources.specs.Answers.{world};
 ghost use Rattle.wasm_operator_checks.specs.Steps.{typed};

@@ -11,8 +11,9 @@ use Rattle.wasm_rules.specs.Contexts.{Context}
 use Rattle.wasm_rules.specs.FeatureFlags.{features_of}
 use Rattle.wasm_readers_types.specs.declared.indices.UnpackedIndex.{UnpackedIndex}
 use Rattle.wasm_operator_steps.specs.Actions.{may_be_cast}
-use Rattle.wasm_operator_steps.specs.Attempts.{◌>>=◌}
-use Rattle.wasm_operator_steps.specs.Meanings.{casts, resolve_heap, resolve_ref}
+use Rattle.wasm_rules.specs.Attempts.{◌>>=◌}
+use Rattle.wasm_rules.specs.Signatures.{resolve_heap, resolve_ref}
+use Rattle.wasm_operator_steps.specs.Meanings.{casts}
 use Rattle.wasm_module_resources.specs.Answers.{IsWrittenHeap, world, written_index}
 use Rattle.wasm_operator_stacks.specs.Seen.{around}
 use Rattle.wasm_operator_stacks.specs.declared.stacks.Stacks.{Stacks}

@@ -6,7 +6,7 @@ use Rattle.wasm_spec.specs.Syntax.{AbstractHeap, i31_heap, abstract_heap, Ref, V
 use Rattle.wasm_rules.specs.Contexts.{Context}
 use Rattle.wasm_readers_types.specs.declared.indices.UnpackedIndex.{UnpackedIndex}
 use Rattle.wasm_operator_steps.specs.Actions.{these, take_below, give, convert}
-use Rattle.wasm_operator_steps.specs.Attempts.{guard}
+use Rattle.wasm_rules.specs.Attempts.{guard}
 use Rattle.wasm_operator_steps.specs.Bodies.{Surroundings}
 use Rattle.wasm_operator_steps.specs.Machine.{Operand, State, known, push_operand}
 use Rattle.wasm_operator_steps.specs.Meanings.{converted, is_below_either}

@@ -6,7 +6,7 @@ use Rattle.wasm_spec.specs.Syntax.{Ref, Val, reference}
 use Rattle.wasm_rules.specs.Contexts.{Context}
 use Rattle.wasm_readers_types.specs.declared.indices.UnpackedIndex.{UnpackedIndex}
 use Rattle.wasm_operator_steps.specs.Actions.{has, gc, allows, may_be_cast, each_matches, these, front, last, label, joined, Action, need, take, give}
-use Rattle.wasm_operator_steps.specs.Attempts.{◌>>=◌, guard, last_of, front_of}
+use Rattle.wasm_rules.specs.Attempts.{◌>>=◌, guard, last_of, front_of}
 use Rattle.wasm_operator_steps.specs.Machine.{State}
 use Rattle.wasm_operator_steps.specs.Shapes.{difference}
 use Rattle.wasm_module_resources.specs.Answers.{world}

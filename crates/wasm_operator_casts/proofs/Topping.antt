@@ -8,7 +8,7 @@ use Rattle.wasm_spec.specs.Syntax.{AbstractHeap, cont_heap, abstract_heap, concr
 use Rattle.wasm_rules.specs.Contexts.{Context}
 use Rattle.wasm_readers_types.specs.declared.indices.UnpackedIndex.{UnpackedIndex}
 use Rattle.wasm_operator_steps.specs.Actions.{top, can_be_tested}
-use Rattle.wasm_operator_steps.specs.Attempts.{◌>>=◌}
+use Rattle.wasm_rules.specs.Attempts.{◌>>=◌}
 use Rattle.wasm_module_resources.specs.Answers.{world, sub_in}
 use Rattle.wasm_operator_stacks.specs.declared.stacks.Stacks.{Stacks}
 use Rattle.wasm_operator_checks.specs.Steps.{typed, held}

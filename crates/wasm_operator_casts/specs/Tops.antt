@@ -6,8 +6,8 @@ use Rattle.wasm_rules.specs.Contexts.{Context}
 use Rattle.wasm_readers_types.specs.SeenValues.{abstract_heap_of}
 use Rattle.wasm_readers_types.specs.declared.indices.UnpackedIndex.{UnpackedIndex}
 use Rattle.wasm_readers_types.specs.declared.values.AbstractHeapType.{AbstractHeapType}
-use Rattle.wasm_operator_steps.specs.Attempts.{◌>>=◌}
-use Rattle.wasm_operator_steps.specs.Meanings.{resolve_heap}
+use Rattle.wasm_rules.specs.Attempts.{◌>>=◌}
+use Rattle.wasm_rules.specs.Signatures.{resolve_heap}
 use Rattle.wasm_module_resources.specs.Answers.{world}
 
 abbrev pub top_seen : Bool × AbstractHeapType → Heap UnpackedIndex

@@ -8,7 +8,7 @@ use Rattle.wasm_spec.specs.MatchingTests.{World}
 use Rattle.wasm_rules.specs.Contexts.{Context}
 use Rattle.wasm_rules.specs.FeatureFlags.{features_of}
 use Rattle.wasm_readers_types.specs.declared.indices.UnpackedIndex.{UnpackedIndex}
-use Rattle.wasm_operator_steps.specs.Attempts.{◌>>=◌, guard}
+use Rattle.wasm_rules.specs.Attempts.{◌>>=◌, guard}
 use Rattle.wasm_operator_steps.specs.Bodies.{Surroundings}
 use Rattle.wasm_operator_steps.specs.Actions.{OperandTypes, Needed, Check, has, allows, Action, need, take, give, stop}
 use Rattle.wasm_operator_steps.specs.Meanings.{run, types_at, holds, is_on}

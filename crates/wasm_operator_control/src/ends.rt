@@ -2,7 +2,7 @@
 
 ghost use Rattle.std.specs.Prelude.{◌≡◌, Some};
 ghost use Rattle.wasm_operator_steps.specs.Matching.{matches_vals};
-ghost use Rattle.wasm_operator_steps.specs.Meanings.{Signature};
+ghost use Rattle.wasm_rules.specs.Signatures.{Signature};
 ghost use Rattle.wasm_operator_steps.specs.Shapes.{closing};
 ghost use Rattle.wasm_module_resources.specs.Answers.{world};
 ghost use Rattle.wasm_readers_types.specs.declared.indices.UnpackedIndex.{UnpackedIndex};

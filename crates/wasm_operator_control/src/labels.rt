@@ -3,7 +3,7 @@
 ghost use Rattle.std.specs.Prelude.{◌≡◌, slice_get};
 ghost use Rattle.std.specs.Option.{option_map};
 ghost use Rattle.wasm_operator_steps.specs.Actions.{label, returned};
-ghost use Rattle.wasm_operator_steps.specs.Attempts.{last_of};
+ghost use Rattle.wasm_rules.specs.Attempts.{last_of};
 ghost use Rattle.wasm_operator_steps.specs.Meanings.{label_by};
 ghost use Rattle.wasm_module_resources.specs.Answers.{signature_seen};
 ghost use Rattle.wasm_operator_stacks.specs.Seen.{state_of};

@@ -3,7 +3,7 @@
 ghost use Rattle.std.specs.Prelude.{◌≡◌, ◌||◌, OnOk, OnErr, IsSome, Some, slice_get};
 ghost use Rattle.std.specs.Option.{option_map};
 ghost use Rattle.wasm_flat_operators.specs.declared.variables.VariableOperator.TheVariants.{LocalGet, LocalSet, LocalTee};
-ghost use Rattle.wasm_operator_steps.specs.Attempts.{among};
+ghost use Rattle.wasm_rules.specs.Attempts.{among};
 ghost use Rattle.wasm_operator_steps.specs.Machine.{set_local};
 ghost use Rattle.wasm_operator_steps.specs.Shapes.{variable_shape, dropping};
 ghost use Rattle.wasm_operator_stacks.specs.Locals.{local_of};

@@ -4,7 +4,7 @@ ghost use Rattle.std.specs.Prelude.{◌≡◌, ◌&&◌, nat_lt};
 ghost use Rattle.wasm_flat_operators.specs.declared.memories.BulkMemoryOperator.TheVariants.{MemorySize, MemoryGrow, MemoryFill, MemoryCopy, MemoryInit, DataDrop};
 ghost use Rattle.wasm_readers_types.specs.declared.indices.UnpackedIndex.{UnpackedIndex};
 ghost use Rattle.wasm_type_words.specs.Seen.{val_in};
-ghost use Rattle.wasm_operator_steps.specs.Attempts.{passes};
+ghost use Rattle.wasm_rules.specs.Attempts.{passes};
 ghost use Rattle.wasm_operator_steps.specs.Meanings.{address as address_by};
 ghost use Rattle.wasm_operator_steps.specs.Shapes.{memory_shape};
 ghost use Rattle.wasm_operator_stacks.specs.Seen.{Kept};

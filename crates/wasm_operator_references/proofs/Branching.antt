@@ -7,7 +7,7 @@ use Rattle.wasm_spec.specs.MatchingTests.{World}
 use Rattle.wasm_rules.specs.Contexts.{Context}
 use Rattle.wasm_readers_types.specs.declared.indices.UnpackedIndex.{UnpackedIndex}
 use Rattle.wasm_operator_steps.specs.Actions.{label, last, front, Action, take, give, make_non_null, branch_on_null}
-use Rattle.wasm_operator_steps.specs.Attempts.{◌>>=◌, last_of, front_of}
+use Rattle.wasm_rules.specs.Attempts.{◌>>=◌, last_of, front_of}
 use Rattle.wasm_operator_steps.specs.Bodies.{Surroundings}
 use Rattle.wasm_operator_steps.specs.Machine.{Operand, Frame, State, as_reference, bottom, matches_operand, non_null, pop_any, pop_reference, pop_vals, popped, push_operand, push_vals}
 use Rattle.wasm_operator_steps.specs.Meanings.{label_at, run}

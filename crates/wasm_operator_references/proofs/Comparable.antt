@@ -7,7 +7,7 @@ use Rattle.wasm_spec.specs.MatchingTests.{World, matches_heap, matches_val}
 use Rattle.wasm_rules.specs.Contexts.{Context}
 use Rattle.wasm_readers_types.specs.declared.indices.UnpackedIndex.{UnpackedIndex}
 use Rattle.wasm_operator_steps.specs.Actions.{these, take_comparable, give}
-use Rattle.wasm_operator_steps.specs.Attempts.{◌>>=◌, guard}
+use Rattle.wasm_rules.specs.Attempts.{◌>>=◌, guard}
 use Rattle.wasm_operator_steps.specs.Bodies.{Surroundings}
 use Rattle.wasm_operator_steps.specs.Machine.{Operand, State, known, open_reference, pop_reference, push_operand}
 use Rattle.wasm_operator_steps.specs.Meanings.{is_below_either, agree}

@@ -7,8 +7,9 @@ use Rattle.wasm_rules.specs.Contexts.{Context}
 use Rattle.wasm_rules.specs.FeatureFlags.{features_of}
 use Rattle.wasm_readers_types.specs.declared.indices.UnpackedIndex.{UnpackedIndex}
 use Rattle.wasm_operator_steps.specs.Actions.{function_reference, function_is_referenced}
-use Rattle.wasm_operator_steps.specs.Attempts.{◌>>=◌, passes, among}
-use Rattle.wasm_operator_steps.specs.Meanings.{one, ref_to, resolve_ref}
+use Rattle.wasm_rules.specs.Attempts.{◌>>=◌, passes, among}
+use Rattle.wasm_rules.specs.Signatures.{resolve_ref}
+use Rattle.wasm_operator_steps.specs.Meanings.{one, ref_to}
 use Rattle.wasm_operator_stacks.specs.declared.stacks.Stacks.{Stacks}
 use Rattle.wasm_operator_checks.specs.Steps.{typed, held}
 

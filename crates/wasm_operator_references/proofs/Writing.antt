@@ -8,7 +8,7 @@ use Rattle.wasm_spec.specs.ValueTypes.{allows_ref, allows_val}
 use Rattle.wasm_rules.specs.Contexts.{Context}
 use Rattle.wasm_readers_types.specs.declared.indices.UnpackedIndex.{UnpackedIndex}
 use Rattle.wasm_operator_steps.specs.Actions.{these}
-use Rattle.wasm_operator_steps.specs.Meanings.{resolve_ref}
+use Rattle.wasm_rules.specs.Signatures.{resolve_ref}
 use Rattle.wasm_operator_steps.specs.Shapes.{reference_to}
 use Rattle.wasm_module_resources.specs.Answers.{heap_in}
 use Rattle.wasm_operator_stacks.specs.declared.stacks.Stacks.{Stacks}

@@ -5,7 +5,7 @@ ghost use Rattle.wasm_spec.specs.Syntax.{concrete, exact, map_heap};
 ghost use Rattle.wasm_rules.specs.FeatureFlags.{features_of};
 ghost use Rattle.wasm_readers_types.specs.SeenValues.{heap_of};
 ghost use Rattle.wasm_operators.specs.References.{ref_func};
-ghost use Rattle.wasm_operator_steps.specs.Attempts.{passes};
+ghost use Rattle.wasm_rules.specs.Attempts.{passes};
 ghost use Rattle.wasm_operator_steps.specs.Shapes.{reference_shape};
 ghost use Rattle.wasm_module_resources.specs.Answers.{IsWrittenHeap, written_index};
 ghost use Rattle.wasm_operator_stacks.specs.Seen.{Kept};

@@ -7,7 +7,7 @@ ghost use Rattle.wasm_spec.specs.ValueTypes.{allows_val};
 ghost use Rattle.wasm_rules.specs.FeatureFlags.{features_of};
 ghost use Rattle.wasm_readers_types.specs.SeenValues.{heap_of, ref_of};
 ghost use Rattle.wasm_operators.specs.References.{reference_to};
-ghost use Rattle.wasm_operator_steps.specs.Meanings.{resolve_ref};
+ghost use Rattle.wasm_rules.specs.Signatures.{resolve_ref};
 ghost use Rattle.wasm_operator_steps.specs.Shapes.{reference_to as val_to};
 ghost use Rattle.wasm_module_resources.specs.Answers.{IsWrittenHeap, written_index};
 

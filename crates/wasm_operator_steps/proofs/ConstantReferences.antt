@@ -15,13 +15,14 @@ use Rattle.wasm_flat_operators.specs.declared.variables.VariableOperator.TheVari
 use Rattle.wasm_flat_operators.specs.declared.conversions.ConversionOperator.TheVariants.{AnyConvertExtern, ExternConvertAny, RefI31, I31GetS, I31GetU, RefI31Shared}
 use Rattle.wasm_flat_operators.specs.declared.structs.StructOperator.TheVariants.{StructNew, StructNewDefault, StructGet, StructGetS, StructGetU, StructSet, StructNewDesc, StructNewDefaultDesc}
 use Rattle.wasm_flat_operators.specs.declared.arrays.ArrayOperator.TheVariants.{ArrayNew, ArrayNewDefault, ArrayNewFixed, ArrayNewData, ArrayNewElem, ArrayGet, ArrayGetS, ArrayGetU, ArraySet, ArrayLen, ArrayFill, ArrayCopy, ArrayInitData, ArrayInitElem}
-use Rattle.wasm_operator_steps.specs.Attempts.{◌>>=◌, guard}
-use Rattle.wasm_operator_steps.specs.Worlds.{world_of}
+use Rattle.wasm_rules.specs.Attempts.{◌>>=◌, guard}
+use Rattle.wasm_rules.specs.Worlds.{world_of}
 use Rattle.wasm_operator_steps.specs.Bodies.{Surroundings}
 use Rattle.wasm_operator_steps.specs.Machine.{Operand, bottom, bottom_reference, open_reference, known, State, push_operand, push_vals, popped, pop_any, as_reference, pop_reference, same_number, matches_operand, pop_val, pop_vals}
 use Rattle.wasm_operator_steps.specs.Actions.{OperandTypes, these, global, function_reference, new_reference, Check, Action, take, give, convert}
 use Rattle.wasm_operator_steps.specs.Shapes.{Shape, plain, converting, nothing, one, number_type, computing, shape_of}
-use Rattle.wasm_operator_steps.specs.Meanings.{ref_to, resolve_ref, resolve_val, resolve_vals, exact_if, function_heap, types_at, holds, is_below_either, converted, act, run}
+use Rattle.wasm_rules.specs.Signatures.{resolve_ref, resolve_val, resolve_vals}
+use Rattle.wasm_operator_steps.specs.Meanings.{ref_to, exact_if, function_heap, types_at, holds, is_below_either, converted, act, run}
 use Rattle.wasm_operator_steps.specs.Meanings as meanings
 use Rattle.wasm_operator_steps.specs.Steps.{checked, actions_of, is_open, step}
 use Rattle.wasm_operator_steps.specs.ConstantExpressions.{gives_reference, takes_no_reference, is_reference, is_number, IsLeft, none_taken, one_taken, GivesOne, GivesOneReference}

@@ -12,7 +12,7 @@ use Rattle.wasm_numeric_operators.specs.declared.numeric.NumericOperator.{Numeri
 use Rattle.wasm_operators.specs.Control.{Block}
 use Rattle.wasm_operators.specs.Maps.{map_block}
 use Rattle.wasm_operators.specs.Instructions.{Instruction, numeric}
-use Rattle.wasm_operator_steps.specs.Worlds.{declared_in, world_of}
+use Rattle.wasm_rules.specs.Worlds.{declared_in, world_of}
 use Rattle.wasm_operator_steps.specs.Bodies.{Surroundings, map_surroundings}
 use Rattle.wasm_operator_steps.specs.Machine.{State, map_state}
 use Rattle.wasm_operator_steps.specs.Identities.{refs_surroundings, refs_state, refs_block, IsOneToOneOn}

@@ -1,5 +1,3 @@
-pub mod Attempts
-pub mod Worlds
 pub mod Matching
 pub mod Bodies
 pub mod Machine

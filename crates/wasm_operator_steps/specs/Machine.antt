@@ -7,7 +7,7 @@ use Rattle.wasm_spec.specs.MatchingTests.{World}
 use Rattle.wasm_spec.specs.MatchingTests.{matches_heap, matches_val}
 use Rattle.wasm_operators.specs.Control.{Block}
 use Rattle.wasm_operators.specs.Maps.{map_block}
-use Rattle.wasm_operator_steps.specs.Attempts.{◌>>=◌, guard}
+use Rattle.wasm_rules.specs.Attempts.{◌>>=◌, guard}
 
 -- Operands. In code that isn't reached: one of any type; one of any reference type, not null; and a reference to an abstract heap
 -- type, not null, whose shared flag is open. Elsewhere those of a known type.

@@ -2,7 +2,7 @@
 -- Core Specification 3.0, Appendix, Validation Algorithm, and Validation, Instructions.
 use Rattle.std.specs.Prelude.{ℕ, zero, suc, Bool, true, false, not, ◌&&◌, ◌||◌, ◌==◌, ◌^◌, ◌-◌, nat_lt, nat_le, List, [], ◌∷◌, ◌++◌, map, length, drop, Option, Some, None, is_some, slice_get, if◌then◌else◌}
 use Rattle.std.specs.Option.{option_map}
-use Rattle.wasm_spec.specs.Syntax.{AbstractHeap, eq_heap, cont_heap, Heap, abstract_heap, concrete, exact, Ref, Val, i32, i64, f32, f64, v128, reference, Storage, i8, i16, unpacked, Field, Comp, func, array, struct, Sub, Memory}
+use Rattle.wasm_spec.specs.Syntax.{AbstractHeap, eq_heap, cont_heap, Heap, abstract_heap, concrete, exact, Ref, Val, i32, i64, f32, f64, v128, reference, Storage, i8, i16, unpacked, Field, Comp, array, struct, Sub, Memory}
 use Rattle.wasm_spec.specs.Features.{Features}
 use Rattle.wasm_spec.specs.ValueTypes.{implies, allows_val}
 use Rattle.wasm_spec.specs.Matching.{top_of_heap, is_shared_heap}
@@ -13,55 +13,24 @@ use Rattle.wasm_operators.specs.Control.{Block, empty_block, value_block, func_b
 use Rattle.wasm_flat_operators.specs.Memories.{max_align_of}
 use Rattle.wasm_flat_operators.specs.declared.memories.MemoryOperator.{MemoryOperator}
 use Rattle.wasm_flat_operators.specs.declared.memories.MemArg.{MemArg}
-use Rattle.wasm_operator_steps.specs.Attempts.{◌>>=◌, guard, passes, among, last_of, front_of, list_of}
+use Rattle.wasm_rules.specs.Attempts.{◌>>=◌, guard, passes, among, last_of, front_of, list_of}
+use Rattle.wasm_rules.specs.Signatures.{Signature, signature_of, resolve_heap, resolve_ref, resolve_val, resolve_vals}
 use Rattle.wasm_operator_steps.specs.Matching.{matches_vals, matches_storage}
 use Rattle.wasm_operator_steps.specs.Bodies.{Surroundings}
 use Rattle.wasm_operator_steps.specs.Machine.{Operand, bottom_reference, open_reference, known, Kind, loop_kind, if_kind, else_kind, is_if, Frame, State, push_operand, push_vals, pop_any, pop_reference, non_null, same_number, chosen, become_unreachable, push_frame, set_local, pop_vals}
 use Rattle.wasm_operator_steps.specs.Actions.{Signed, of_type, of_function, of_tag, OperandTypes, these, params, results, label, returned, local, global, function_reference, new_reference, fields, element, field, table_address, memory_address, table_element, segment, lesser_table_address, lesser_memory_address, top, descriptor_of, repeated, front, last, joined, Needed, multi_value, reference_types, bulk_memory, exceptions, function_references, gc, shared_everything_threads, custom_descriptors, Check, has, allows, global_is_mutable, local_is_set, function_is_referenced, is_exception, each_matches, may_be_cast, can_be_tested, is_aligned, fields_have_defaults, has_no_descriptor, field_is_mutable, field_is_packed, element_is_mutable, element_has_default, element_is_number, element_is_packed, element_is_storable, data_is_there, segment_is_there, reaches_global, reaches_table, reaches_type, reaches_function, Action, need, refuse, take, give, take_any, take_reference, take_comparable, make_non_null, choose, stop, turn_to_else, leave, take_below, convert, enter, set, branch_on_null, branch_to_one_of}
 
--- what goes in, and what comes out
-pub record Signature (R : Type 0) : Type 0 where
-  pub takes : List (Val R)
-  pub gives : List (Val R)
-
 module _ {R : Type 0} where
   abbrev pub ref_to : Bool → Heap R → Val R
   ref_to nullable h = reference (record { nullable = nullable; heap = h })
 
-  -- written types, where the module has the types that their indices name
-  abbrev pub resolve_heap : List R → Heap ℕ → Option (Heap R)
-  resolve_heap ts (abstract_heap s k) = Some (abstract_heap s k)
-  resolve_heap ts (concrete n) = option_map concrete (slice_get ts n)
-  resolve_heap ts (exact n) = option_map exact (slice_get ts n)
-
-  abbrev pub resolve_ref : List R → Ref ℕ → Option (Ref R)
-  resolve_ref ts r = option_map (λ h. record { nullable = r.nullable; heap = h }) (resolve_heap ts r.heap)
-
-  abbrev pub resolve_val : List R → Val ℕ → Option (Val R)
-  resolve_val ts i32 = Some i32
-  resolve_val ts i64 = Some i64
-  resolve_val ts f32 = Some f32
-  resolve_val ts f64 = Some f64
-  resolve_val ts v128 = Some v128
-  resolve_val ts (reference r) = option_map reference (resolve_ref ts r)
-
-  abbrev pub resolve_vals : List R → List (Val ℕ) → Option (List (Val R))
-  resolve_vals ts [] = Some []
-  resolve_vals ts (v ∷ vs) = do
-    w ← resolve_val ts v
-    ws ← resolve_vals ts vs
-    Some (w ∷ ws)
-
+  -- a written block type
   abbrev pub resolve_block : List R → Block ℕ → Option (Block R)
   resolve_block ts empty_block = Some empty_block
   resolve_block ts (value_block v) = option_map value_block (resolve_val ts v)
   resolve_block ts (func_block n) = Some (func_block n)
 
   -- composite types of one kind
-  abbrev pub signature_of : Comp R → Option (Signature R)
-  signature_of (func ps rs) = Some (record { takes = ps; gives = rs })
-  signature_of _ = None
-
   abbrev pub fields_of : Comp R → Option (List (Field R))
   fields_of (struct xs) = Some xs
   fields_of _ = None

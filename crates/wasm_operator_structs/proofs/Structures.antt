@@ -10,7 +10,7 @@ use Rattle.wasm_readers_types.specs.SeenValues.{field_of, index_of}
 use Rattle.wasm_readers_types.specs.declared.indices.PackedIndex.{PackedIndex}
 use Rattle.wasm_readers_types.specs.declared.values.FieldType.{FieldType}
 use Rattle.wasm_readers_types.specs.declared.indices.UnpackedIndex.{UnpackedIndex}
-use Rattle.wasm_operator_steps.specs.Attempts.{◌>>=◌, passes}
+use Rattle.wasm_rules.specs.Attempts.{◌>>=◌, passes}
 use Rattle.wasm_operator_steps.specs.Actions.{gc, fields, field, descriptor_of, fields_have_defaults, has_no_descriptor, field_is_mutable, field_is_packed}
 use Rattle.wasm_operator_steps.specs.Meanings.{ref_to, is_packed, unpack_field, all_have_defaults, one}
 use Rattle.wasm_module_resources.specs.Answers.{sub_in}

@@ -6,7 +6,7 @@ use Rattle.wasm_readers_types.specs.SeenValues.{field_of}
 use Rattle.wasm_readers_types.specs.declared.indices.UnpackedIndex.{UnpackedIndex}
 use Rattle.wasm_readers_types.specs.declared.values.FieldType.{FieldType}
 use Rattle.wasm_operator_steps.specs.Actions.{Needed, gc, custom_descriptors}
-use Rattle.wasm_operator_steps.specs.Attempts.{◌>>=◌}
+use Rattle.wasm_rules.specs.Attempts.{◌>>=◌}
 use Rattle.wasm_operator_steps.specs.Meanings.{unpack_field}
 use Rattle.wasm_operator_aggregates.specs.Declared.{fields_in}
 use Rattle.wasm_operator_structs.specs.declared.reached.Proposal.{Proposal}

@@ -6,7 +6,7 @@ use Rattle.wasm_spec.specs.MatchingTests.{matches_val}
 use Rattle.wasm_rules.specs.Contexts.{Context}
 use Rattle.wasm_readers_types.specs.declared.indices.UnpackedIndex.{UnpackedIndex}
 use Rattle.wasm_operator_steps.specs.Actions.{OperandTypes, each_matches}
-use Rattle.wasm_operator_steps.specs.Attempts.{passes}
+use Rattle.wasm_rules.specs.Attempts.{passes}
 use Rattle.wasm_operator_steps.specs.Matching.{matches_vals}
 use Rattle.wasm_module_resources.specs.Answers.{world}
 use Rattle.wasm_operator_stacks.specs.declared.stacks.Stacks.{Stacks}

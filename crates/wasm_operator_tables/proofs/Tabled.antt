@@ -11,7 +11,7 @@ use Rattle.wasm_readers_types.specs.declared.externs.TableType.{TableType}
 use Rattle.wasm_readers_types.specs.declared.values.RefType.{RefType}
 use Rattle.wasm_readers_types.specs.declared.indices.UnpackedIndex.{UnpackedIndex}
 use Rattle.wasm_operator_steps.specs.Actions.{Action, need, table_address, lesser_table_address, table_element, segment, segment_is_there, reaches_table}
-use Rattle.wasm_operator_steps.specs.Attempts.{◌>>=◌, guard, passes}
+use Rattle.wasm_rules.specs.Attempts.{◌>>=◌, guard, passes}
 use Rattle.wasm_operator_steps.specs.Machine.{State}
 use Rattle.wasm_operator_steps.specs.Meanings.{address}
 use Rattle.wasm_operator_stacks.specs.declared.stacks.Stacks.{Stacks}

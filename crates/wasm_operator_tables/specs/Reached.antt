@@ -4,7 +4,7 @@ use Rattle.wasm_spec.specs.Syntax.{Table}
 use Rattle.wasm_spec.specs.ValueTypes.{implies}
 use Rattle.wasm_rules.specs.Contexts.{Context}
 use Rattle.wasm_readers_types.specs.declared.indices.UnpackedIndex.{UnpackedIndex}
-use Rattle.wasm_operator_steps.specs.Attempts.{◌>>=◌, guard}
+use Rattle.wasm_rules.specs.Attempts.{◌>>=◌, guard}
 
 -- the table of an index, from a shared function or from another
 unfoldable pub table_in : Context UnpackedIndex → Bool → ℕ → Option (Table UnpackedIndex)

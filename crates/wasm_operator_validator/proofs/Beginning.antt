@@ -6,10 +6,10 @@ use Rattle.wasm_spec.specs.Syntax.{Val, Sub}
 use Rattle.wasm_rules.specs.Contexts.{Context}
 use Rattle.wasm_readers_types.specs.declared.indices.UnpackedIndex.{UnpackedIndex}
 use Rattle.wasm_operators.specs.Control.{Block}
-use Rattle.wasm_operator_steps.specs.Attempts.{◌>>=◌}
+use Rattle.wasm_rules.specs.Attempts.{◌>>=◌}
 use Rattle.wasm_operator_steps.specs.Bodies.{Local}
 use Rattle.wasm_operator_steps.specs.Machine.{State, block_kind, push_frame}
-use Rattle.wasm_operator_steps.specs.Meanings.{Signature, signature_of}
+use Rattle.wasm_rules.specs.Signatures.{Signature, signature_of}
 use Rattle.wasm_operator_steps.specs.Steps.{start}
 use Rattle.wasm_module_resources.specs.Answers.{sub_in}
 use Rattle.wasm_operator_control.specs.Blocks.{function_in}

@@ -5,7 +5,7 @@ use Rattle.wasm_rules.specs.Contexts.{Context}
 use Rattle.wasm_readers_types.specs.declared.indices.UnpackedIndex.{UnpackedIndex}
 use Rattle.wasm_operators.specs.Instructions.{Instruction}
 use Rattle.wasm_operators.specs.Maps.{map_instruction}
-use Rattle.wasm_operator_steps.specs.Attempts.{◌>>=◌, guard}
+use Rattle.wasm_rules.specs.Attempts.{◌>>=◌, guard}
 use Rattle.wasm_operator_steps.specs.Machine.{State}
 use Rattle.wasm_operator_steps.specs.Meanings.{run}
 use Rattle.wasm_operator_steps.specs.Shapes.{shape_of}

@@ -15,8 +15,8 @@ use Rattle.wasm_validator_type_list.specs.Worlds.{is_within, ids_world}
 use Rattle.wasm_validator_type_list.proofs.Declares.{descends}
 use Rattle.wasm_validator_type_list.proofs.Joined.{length-subs}
 use Rattle.wasm_validator_type_list.proofs.Unknown.{declared_within}
-use Rattle.wasm_operator_steps.specs.Attempts.{◌>>=◌, passes}
-use Rattle.wasm_operator_steps.specs.Worlds.{declared_in, is_below, world_of}
+use Rattle.wasm_rules.specs.Attempts.{◌>>=◌, passes}
+use Rattle.wasm_rules.specs.Worlds.{declared_in, is_below, world_of}
 use Rattle.wasm_operator_steps.specs.Renaming.{Renames}
 use Rattle.wasm_operator_steps.specs.Laws.{IsNear}
 use Rattle.wasm_operator_steps.proofs.MatchingRenamed.{matches_val-map}

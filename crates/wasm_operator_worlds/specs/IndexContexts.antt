@@ -12,7 +12,7 @@ use Rattle.wasm_readers_types.specs.declared.types.SubType.{SubType}
 use Rattle.wasm_validator_type_list.specs.Lookups.{leads_to}
 use Rattle.wasm_validator_type_list.specs.Listable.{AreListable}
 use Rattle.wasm_validator_type_list.specs.Worlds.{ids_world}
-use Rattle.wasm_operator_steps.specs.Worlds.{world_of}
+use Rattle.wasm_rules.specs.Worlds.{world_of}
 use Rattle.wasm_operator_worlds.specs.ListContexts.{list_declares, IsSeen}
 
 -- the id with this number

@@ -9,7 +9,7 @@ use Rattle.wasm_readers_types.specs.declared.types.SubType.{SubType}
 use Rattle.wasm_validator_type_list.specs.Listable.{AreListable}
 use Rattle.wasm_validator_type_list.specs.Declares.{subs_by_ids}
 use Rattle.wasm_validator_type_list.specs.Worlds.{ids_world}
-use Rattle.wasm_operator_steps.specs.Worlds.{world_of}
+use Rattle.wasm_rules.specs.Worlds.{world_of}
 use Rattle.wasm_operator_steps.specs.Renaming.{Renames}
 
 module _ {R : Type 0} (f : ℕ → R) where

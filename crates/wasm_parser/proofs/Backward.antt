@@ -6,7 +6,7 @@ use Rattle.std.proofs.lemmas.Bool.{eqb-true}
 use Rattle.std.proofs.lemmas.List.{nil_from_length}
 use Rattle.std.proofs.lemmas.Option.{cond_some}
 use Rattle.wasm_spec.specs.Values.{u32_at, sized_at}
-use Rattle.wasm_parser.specs.Framing.{Piece, CodeStart, CodeEntry, End, section_at, Frames, piece_of, code_pieces, pieces_of, all_pieces, tally, tally_all, agrees}
+use Rattle.wasm_spec.specs.Framing.{Piece, CodeStart, CodeEntry, End, section_at, Frames, piece_of, code_pieces, pieces_of, all_pieces, tally, tally_all, agrees}
 use Rattle.wasm_parser.specs.Machine.{may_follow}
 use Rattle.wasm_parser.proofs.Order.{Follow}
 use Rattle.wasm_parser.specs.Machine.{State, at_sections, ended, entry_of, opened, behind, settled, section_of, part_of, Run}

@@ -4,7 +4,7 @@ use Rattle.std.specs.Option.{option_map}
 use Rattle.std.specs.Prelude.{◌||◌, ◌&&◌}
 use Rattle.std.proofs.lemmas.Bool.{eqb-true, ltb-true}
 use Rattle.wasm_spec.specs.Values.{u32_at, name_at}
-use Rattle.wasm_parser.specs.Framing.{Piece, Custom, Counted, Start, DataCount, CodeEntry, Unknown, End, place, number_of, piece_of, code_pieces, pieces_of, all_pieces, Tally, tally, tally_all, is_none_or, agrees}
+use Rattle.wasm_spec.specs.Framing.{Piece, Custom, Counted, Start, DataCount, CodeEntry, Unknown, End, place, number_of, piece_of, code_pieces, pieces_of, all_pieces, Tally, tally, tally_all, is_none_or, agrees}
 use Rattle.wasm_parser.specs.Machine.{may_follow, last_place}
 use Rattle.wasm_parser.proofs.Order.{Follow}
 use Rattle.wasm_parser.specs.Machine.{settled}

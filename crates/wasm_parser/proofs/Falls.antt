@@ -7,7 +7,7 @@ use Rattle.std.proofs.lemmas.List.{length-drop, length-take}
 use Rattle.std.proofs.lemmas.Bool.{ltb-false}
 use Rattle.std.proofs.lemmas.Option.{cond_some}
 use Rattle.wasm_spec.specs.Values.{unsigned_at, u32_at, bytes_at, sized_at}
-use Rattle.wasm_parser.specs.Framing.{Piece, Version, CodeStart, CodeEntry, End, magic, u16_at, section_at, piece_of, agrees}
+use Rattle.wasm_spec.specs.Framing.{Piece, Version, CodeStart, CodeEntry, End, magic, u16_at, section_at, piece_of, agrees}
 use Rattle.wasm_parser.specs.Machine.{may_follow}
 use Rattle.wasm_parser.specs.Machine.{Stage, State, at_header, at_sections, ended, failed, version_of, numbers_of, header_of, entry_of, opened, behind, contents_of, alone_of, ending_of, part_of, next_at, next_of, most_at, most_left}
 use Rattle.wasm_parser.proofs.Steps.{then_some, map_some, gives, guarded, chosen, unless, alone_is, which}

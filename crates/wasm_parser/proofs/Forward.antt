@@ -4,7 +4,7 @@ use Rattle.std.specs.Option.{option_map}
 use Rattle.std.proofs.lemmas.Bool.{eqb-true}
 use Rattle.std.proofs.lemmas.Option.{cond_some}
 use Rattle.wasm_spec.specs.Values.{u32_at, sized_at}
-use Rattle.wasm_parser.specs.Framing.{Piece, CodeStart, CodeEntry, End, section_at, piece_of, all_pieces, agrees}
+use Rattle.wasm_spec.specs.Framing.{Piece, CodeStart, CodeEntry, End, section_at, piece_of, all_pieces, agrees}
 use Rattle.wasm_parser.specs.Machine.{may_follow}
 use Rattle.wasm_parser.specs.Machine.{State, at_sections, ended, entry_of, opened, behind, contents_of, alone_of, section_of, part_of, Run}
 use Rattle.wasm_parser.proofs.Steps.{then_some, map_some, not_end, gives, guarded, chosen, some_is, left_more, at_part, alone_is, AtEnd, which, bodies_of, Completes, no_bodies, over_run}

@@ -9,7 +9,7 @@ use Rattle.std.proofs.lemmas.Bool.{le-ltb, leb-true, le-leb}
 use Rattle.std.proofs.lemmas.List.{take-append-drop, length-append}
 use Rattle.std.proofs.lemmas.Option.{cond_some}
 use Rattle.wasm_spec.specs.Values.{bytes_at}
-use Rattle.wasm_parser.specs.Framing.{Piece, Version, CodeEntry, End, magic, u16_at, nothing_yet, tally_all, agrees, IsFramed}
+use Rattle.wasm_spec.specs.Framing.{Piece, Version, CodeEntry, End, magic, u16_at, nothing_yet, tally_all, agrees, IsFramed}
 use Rattle.wasm_parser.specs.Machine.{State, start, at_sections, version_of, numbers_of, header_of, Run}
 use Rattle.wasm_parser.proofs.Steps.{then_some, not_end, gives, guarded, unless, some_is, at_start}
 use Rattle.wasm_parser.proofs.Order.{to_order, from_order, below_zero}

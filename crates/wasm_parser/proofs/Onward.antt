@@ -1,6 +1,6 @@
 -- A run that was begun, and what is still to come of it.
 use Rattle.std.proofs.Common.{◌≡◌, List, [], ◌∷◌, ◌++◌, Some, None, refl, sym, ap, subst, ◌∙◌}
-use Rattle.wasm_parser.specs.Framing.{Piece}
+use Rattle.wasm_spec.specs.Framing.{Piece}
 use Rattle.wasm_parser.specs.Machine.{State, next_of, Run, Given}
 
 first_is : (t u : State) (p : Piece) (rs : List Piece) → next_of t ≡ Some (Some (p, u)) → Run t rs → (qs : List Piece) × (rs ≡ p ∷ qs) × Run u qs

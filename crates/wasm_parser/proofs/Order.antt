@@ -2,7 +2,7 @@
 use Rattle.std.proofs.Common.{◌≡◌, ◌<◌, ◌≤◌, ℕ, Bool, true, false, cond, eqb, ltb, List, [], ◌∷◌, refl, arith}
 use Rattle.std.specs.Prelude.{◌||◌}
 use Rattle.std.proofs.lemmas.Bool.{eqb-true, eqb-false, ltb-true, lt-ltb}
-use Rattle.wasm_parser.specs.Framing.{place, Below, InOrder}
+use Rattle.wasm_spec.specs.Framing.{place, Below, InOrder}
 use Rattle.wasm_parser.specs.Machine.{may_follow, last_place}
 
 -- the sections may come one after another behind the place low

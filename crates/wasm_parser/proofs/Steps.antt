@@ -5,7 +5,7 @@ use Rattle.std.proofs.lemmas.Bool.{eqb-true, eqb-false}
 use Rattle.std.proofs.lemmas.List.{nil_from_length}
 use Rattle.std.proofs.lemmas.Option.{cond_some}
 use Rattle.wasm_spec.specs.Values.{sized_at, items_at}
-use Rattle.wasm_parser.specs.Framing.{Piece, CodeEntry, End, Frames, all_pieces, tally_all, agrees}
+use Rattle.wasm_spec.specs.Framing.{Piece, CodeEntry, End, Frames, all_pieces, tally_all, agrees}
 use Rattle.wasm_parser.proofs.Order.{Follow}
 use Rattle.wasm_parser.specs.Machine.{State, at_header, at_sections, ended, header_of, entry_of, alone_of, settled, section_of, ending_of, part_of, next_of, Run}
 

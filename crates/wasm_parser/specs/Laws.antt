@@ -1,6 +1,6 @@
 -- Laws of the machine and the framing, as facts that a contract can name.
 use Rattle.std.specs.Prelude.{◌≡◌, ◌<◌, List, ℕ, ◌++◌, ◌∷◌, [], Some, None}
-use Rattle.wasm_parser.specs.Framing.{Piece, IsFramed}
+use Rattle.wasm_spec.specs.Framing.{Piece, IsFramed}
 use Rattle.wasm_parser.specs.Machine.{State, start, next_of, Run, Given, most_left}
 
 -- a run of the machine through the end is a framing

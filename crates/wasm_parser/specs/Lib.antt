@@ -1,4 +1,3 @@
-pub mod Framing
 pub mod Machine
 pub mod Seen
 pub mod Places

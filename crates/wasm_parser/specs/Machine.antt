@@ -3,7 +3,7 @@ use Rattle.std.specs.Prelude.{◌≡◌, ℕ, ◌-◌, Bool, true, List, [], ◌
 use Rattle.std.specs.Option.{option_map, option_and_then}
 use Rattle.std.specs.Cmp.Lexicographic.{pointwise}
 use Rattle.wasm_spec.specs.Values.{u32_at, bytes_at, sized_at}
-use Rattle.wasm_parser.specs.Framing.{Piece, Version, Counted, CodeStart, CodeEntry, End, magic, u16_at, section_at, place, piece_of, Tally, nothing_yet, tally, is_none_or, agrees}
+use Rattle.wasm_spec.specs.Framing.{Piece, Version, Counted, CodeStart, CodeEntry, End, magic, u16_at, section_at, place, piece_of, Tally, nothing_yet, tally, is_none_or, agrees}
 
 -- what is next: the header, something behind it, nothing since the end was given, or nothing since bytes were refused
 pub data Stage : Type 0 where

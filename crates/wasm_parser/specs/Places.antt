@@ -10,7 +10,7 @@ use Rattle.wasm_parser.specs.declared.payload.Payload.TheVariants as payloads
 use Rattle.wasm_parser.specs.declared.parser.ParseAll.{ParseAll}
 use Rattle.wasm_parser.specs.declared.parser.Progress.{Progress}
 use Rattle.wasm_parser.specs.declared.parser.Progress.TheVariants as stages
-use Rattle.wasm_parser.specs.Framing.{section_at}
+use Rattle.wasm_spec.specs.Framing.{section_at}
 use Rattle.wasm_parser.specs.Machine.{Stage, State, at_header, at_sections, ended, failed}
 use Rattle.wasm_parser.specs.Seen.{data_reader, body_reader}
 

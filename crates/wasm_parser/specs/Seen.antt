@@ -16,7 +16,7 @@ use Rattle.wasm_parser.specs.declared.parser.Parser.{Parser}
 use Rattle.wasm_parser.specs.declared.parser.ParseAll.{ParseAll}
 use Rattle.wasm_parser.specs.declared.parser.Progress.{Progress}
 use Rattle.wasm_parser.specs.declared.parser.Progress.TheVariants as stages
-use Rattle.wasm_parser.specs.Framing.{Piece, Version, Custom, Counted, Start, DataCount, CodeStart, CodeEntry, Unknown, End}
+use Rattle.wasm_spec.specs.Framing.{Piece, Version, Custom, Counted, Start, DataCount, CodeStart, CodeEntry, Unknown, End}
 use Rattle.wasm_parser.specs.Machine.{Stage, State, at_header, at_sections, ended, failed, next_of}
 
 -- the kind in the header that stands for an encoding

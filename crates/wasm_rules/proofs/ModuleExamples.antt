@@ -10,7 +10,7 @@ use Rattle.wasm_spec.specs.BinarySections.{GlobalEntry}
 use Rattle.wasm_spec.specs.Closing.{resolve}
 use Rattle.wasm_spec.specs.GroupRules.{IsValidType}
 use Rattle.wasm_spec.proofs.Numbering.{members-close}
-use Rattle.wasm_parser.specs.Framing.{Piece, Version, End, u16_at}
+use Rattle.wasm_spec.specs.Framing.{Piece, Version, End, u16_at}
 use Rattle.wasm_rules.specs.Parts.{Parts, Expression}
 use Rattle.wasm_rules.specs.IndexSpaces.{IndexSpaces, IsFunctionType, signature, signature_at}
 use Rattle.wasm_rules.specs.ItemRules.{IsValidTableEntry, IsValidMemory, IsValidTag, IsValidGlobal}

@@ -11,3 +11,6 @@ pub mod ModuleExamples
 pub mod StateTable
 pub mod Totals
 pub mod Contexts
+pub mod Attempts
+pub mod Signatures
+pub mod Worlds

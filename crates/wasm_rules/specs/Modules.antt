@@ -4,7 +4,7 @@ use Rattle.std.specs.List.{All}
 use Rattle.wasm_spec.specs.Features.{Features}
 use Rattle.wasm_spec.specs.BinarySections.{GlobalEntry}
 use Rattle.wasm_spec.specs.GroupRules.{IsValidTypeSection}
-use Rattle.wasm_parser.specs.Framing.{Piece, Version, Counted, DataCount, Unknown, IsFramed}
+use Rattle.wasm_spec.specs.Framing.{Piece, Version, Counted, DataCount, Unknown, IsFramed}
 use Rattle.wasm_rules.specs.Parts.{Parts, Expression, HasParts, expressions_of}
 use Rattle.wasm_rules.specs.IndexSpaces.{IndexSpaces, index_spaces, IsFunctionType}
 use Rattle.wasm_rules.specs.ItemRules.{IsValidTableEntry, IsValidMemory, IsValidTag, IsValidGlobal}

@@ -8,7 +8,7 @@ use Rattle.wasm_spec.specs.Values.{u32_at, items_at}
 use Rattle.wasm_spec.specs.BinaryTypes.{rec_at, memory_at, tag_at}
 use Rattle.wasm_spec.specs.BinaryModules.{Import, Export, import_at, export_at}
 use Rattle.wasm_spec.specs.BinarySections.{TableEntry, GlobalEntry, Element, ElementItems, functions, expressions, Data, SegmentMode, passive, active, declarative, table_entry_at, global_entry_at, element_at, data_at}
-use Rattle.wasm_parser.specs.Framing.{Piece, Counted, Start, DataCount, CodeEntry}
+use Rattle.wasm_spec.specs.Framing.{Piece, Counted, Start, DataCount, CodeEntry}
 
 -- a constant expression, as the bytes of its instructions
 abbrev pub Expression : Type 0

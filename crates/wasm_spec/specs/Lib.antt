@@ -3,6 +3,7 @@ pub mod Values
 pub mod BinaryTypes
 pub mod BinaryModules
 pub mod BinarySections
+pub mod Framing
 pub mod Laws
 pub mod References
 pub mod Trees

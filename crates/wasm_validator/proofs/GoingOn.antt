@@ -5,7 +5,7 @@ use Rattle.std.specs.Prelude.{nat_eq}
 use Rattle.std.specs.Cmp.Lexicographic.{pointwise}
 use Rattle.std.proofs.lemmas.Option.{cond_some}
 use Rattle.wasm_spec.specs.Values.{u32_at, bytes_at, sized_at}
-use Rattle.wasm_parser.specs.Framing.{Piece, Version, CodeStart, CodeEntry, End, magic, u16_at, section_at, piece_of, agrees}
+use Rattle.wasm_spec.specs.Framing.{Piece, Version, CodeStart, CodeEntry, End, magic, u16_at, section_at, piece_of, agrees}
 use Rattle.wasm_parser.specs.Machine.{may_follow, Stage, State, at_header, at_sections, ended, failed, start, version_of, numbers_of, header_of, entry_of, opened, behind, contents_of, alone_of, ending_of, part_of, next_at, next_of}
 use Rattle.wasm_parser.specs.Places.{refused_with}
 use Rattle.wasm_parser.specs.Seen.{stage_of, state}

@@ -6,7 +6,7 @@ use Rattle.std.specs.List.{All, flat_map}
 use Rattle.std.proofs.lemmas.List.Elements.{All-nil, All-cons}
 use Rattle.std.proofs.lemmas.Bool.{eqb-true, eqb-false, eq-eqb, ne_eqb}
 use Rattle.wasm_spec.specs.Values.{items_at}
-use Rattle.wasm_parser.specs.Framing.{Piece, Version, Custom, Counted, Start, DataCount, CodeStart, CodeEntry, Unknown, End, place}
+use Rattle.wasm_spec.specs.Framing.{Piece, Version, Custom, Counted, Start, DataCount, CodeStart, CodeEntry, Unknown, End, place}
 use Rattle.wasm_rules.specs.Sections.{each, rank, rank_of_section, at_rank, by_rank}
 use Rattle.wasm_rules.specs.Parts.{items_of, all_items, starts_of, data_counts_of}
 use Rattle.wasm_rules.specs.FeatureFlags.{features_of}

@@ -4,8 +4,8 @@ use Rattle.std.specs.Option.{option_and_then}
 use Rattle.std.specs.List.{list_all}
 use Rattle.std.proofs.lemmas.Bool.{eqb-true, eq-eqb, and_from}
 use Rattle.std.proofs.lemmas.Option.{same_Some}
-use Rattle.wasm_parser.specs.Framing as parts
-use Rattle.wasm_parser.specs.Framing.{Piece, Version, Custom, Counted, Start, DataCount, CodeStart, CodeEntry, Unknown, place}
+use Rattle.wasm_spec.specs.Framing as parts
+use Rattle.wasm_spec.specs.Framing.{Piece, Version, Custom, Counted, Start, DataCount, CodeStart, CodeEntry, Unknown, place}
 use Rattle.wasm_rules.specs.FeatureFlags.{features_of}
 use Rattle.wasm_rules.specs.Sections.{each, rank_of_section}
 use Rattle.wasm_rules.proofs.FramedOrder.{IsInner, AreInner}

@@ -10,7 +10,7 @@ use Rattle.wasm_spec.specs.Values.{byte_at, items_at}
 use Rattle.wasm_spec.specs.BinaryTypes.{flags_at, table_at}
 use Rattle.wasm_spec.specs.BinarySections.{TableEntry, table_from, table_entry_at}
 use Rattle.wasm_spec.proofs.Renaming.{Renames, renames_none, renames_if, renames_same_then, table-renames}
-use Rattle.wasm_parser.specs.Framing.{Piece}
+use Rattle.wasm_spec.specs.Framing.{Piece}
 use Rattle.wasm_rules.specs.Parts.{Expression, index, all_items}
 use Rattle.wasm_rules.specs.IndexSpaces.{table_type}
 use Rattle.wasm_rules.proofs.Tests.{then_some, map_some}

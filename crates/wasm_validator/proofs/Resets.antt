@@ -1,7 +1,7 @@
 -- A module that is refused so that the validator may be reset leaves a list that begins with the one before.
 use Rattle.std.proofs.Common.{◌≡◌, refl, sym, ap, subst, ◌∙◌, inl, inr, ◌⊎◌, Bool, true, false, ◌||◌, cond, ◌==◌, List, [], ◌++◌, Option, Some, None, append_assoc, append-nil}
-use Rattle.wasm_parser.specs.Framing as parts
-use Rattle.wasm_parser.specs.Framing.{Piece, Version, Custom, Counted, Start, DataCount, CodeStart, CodeEntry, Unknown}
+use Rattle.wasm_spec.specs.Framing as parts
+use Rattle.wasm_spec.specs.Framing.{Piece, Version, Custom, Counted, Start, DataCount, CodeStart, CodeEntry, Unknown}
 use Rattle.wasm_parser.specs.Machine.{State, next_of}
 use Rattle.wasm_readers_errors.specs.declared.error.Refusal.{Refusal}
 use Rattle.wasm_validator_types.specs.Spaces.{Spaces}

@@ -14,7 +14,7 @@ use Rattle.wasm_spec.specs.BinaryTypes.{rec_at, memory_at, tag_at}
 use Rattle.wasm_spec.specs.BinaryModules.{Import, Export, import_at, export_at, map_import}
 use Rattle.wasm_spec.specs.Features.{Features}
 use Rattle.wasm_spec.proofs.LawSet.{rec_renames, import_renames}
-use Rattle.wasm_parser.specs.Framing.{Piece, Counted, Start, DataCount, place}
+use Rattle.wasm_spec.specs.Framing.{Piece, Counted, Start, DataCount, place}
 use Rattle.wasm_rules.specs.FeatureFlags.{features_of}
 use Rattle.wasm_rules.specs.Limits.{most_tables, most_memories}
 use Rattle.wasm_rules.specs.Sections.{each, rank, at_rank, by_rank}

@@ -1,8 +1,8 @@
 -- A validator that goes over the payloads of whole bytes.
 use Rattle.std.proofs.Common.{◌≡◌, refl, sym, ap, subst, ◌∙◌, inl, inr, ℕ, List, [], ◌∷◌, ◌++◌, Option, Some, None, append_assoc}
 use Rattle.std.specs.Option.{option_and_then}
-use Rattle.wasm_parser.specs.Framing as parts
-use Rattle.wasm_parser.specs.Framing.{Piece, IsFramed, Version, Custom, Counted, Start, DataCount, CodeStart, CodeEntry, Unknown}
+use Rattle.wasm_spec.specs.Framing as parts
+use Rattle.wasm_spec.specs.Framing.{Piece, IsFramed, Version, Custom, Counted, Start, DataCount, CodeStart, CodeEntry, Unknown}
 use Rattle.wasm_parser.specs.Machine.{State, start, next_of, Run, Given}
 use Rattle.wasm_readers_errors.specs.declared.error.Refusal.{Refusal}
 use Rattle.wasm_parser.proofs.Law.{run_framed, framed_run}

@@ -4,7 +4,7 @@ use Rattle.std.specs.Option.{option_map, option_and_then}
 use Rattle.std.proofs.lemmas.Bool.{le-leb, leb-true}
 use Rattle.wasm_rules.proofs.Tests.{then_some, guarded}
 use Rattle.wasm_spec.specs.Values.{items_at}
-use Rattle.wasm_parser.specs.Framing.{Piece, Counted}
+use Rattle.wasm_spec.specs.Framing.{Piece, Counted}
 use Rattle.wasm_rules.specs.Sections.{each}
 use Rattle.wasm_rules.specs.Parts.{all_items}
 use Rattle.wasm_readers_errors.specs.declared.features.WasmFeatures.{WasmFeatures}

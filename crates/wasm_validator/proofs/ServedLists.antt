@@ -9,7 +9,7 @@ use Rattle.wasm_spec.specs.BinarySections.{TableEntry, table_entry_at}
 use Rattle.wasm_spec.specs.BinaryModules.{Import, Export, import_at, export_at}
 use Rattle.wasm_spec.specs.Features.{Features}
 use Rattle.wasm_spec.specs.Trees.{DefType}
-use Rattle.wasm_parser.specs.Framing.{Piece}
+use Rattle.wasm_spec.specs.Framing.{Piece}
 use Rattle.wasm_rules.specs.Parts.{Parts, Expression, index, all_items, starts_of, data_counts_of}
 use Rattle.wasm_validator_core.specs.Answers.{TypesSoFar}
 use Rattle.wasm_validator_core_laws.specs.Shown.{spaces_of}

@@ -8,7 +8,7 @@ use Rattle.wasm_spec.specs.Syntax.{Rec}
 use Rattle.wasm_spec.specs.Features.{Features, canonical}
 use Rattle.wasm_spec.specs.Trees.{DefType}
 use Rattle.wasm_spec.specs.GroupRules.{IsValidTypeSection}
-use Rattle.wasm_parser.specs.Framing.{Piece, Version, End, IsFramed}
+use Rattle.wasm_spec.specs.Framing.{Piece, Version, End, IsFramed}
 use Rattle.wasm_rules.specs.FeatureFlags.{features_of}
 use Rattle.wasm_rules.specs.Parts.{Parts, Expression, HasParts}
 use Rattle.wasm_rules.specs.IndexSpaces.{index_spaces}

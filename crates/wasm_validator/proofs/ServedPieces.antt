@@ -8,7 +8,7 @@ use Rattle.wasm_spec.specs.BinaryTypes.{rec_at, memory_at, tag_at}
 use Rattle.wasm_spec.specs.BinaryModules.{import_at, export_at}
 use Rattle.wasm_spec.specs.BinarySections.{table_entry_at, global_entry_at, element_at, data_at}
 use Rattle.wasm_spec.specs.Features.{Features}
-use Rattle.wasm_parser.specs.Framing.{Piece, Version, Counted, End}
+use Rattle.wasm_spec.specs.Framing.{Piece, Version, Counted, End}
 use Rattle.wasm_rules.specs.Parts.{Parts, Expression, HasParts, index, items_of, all_items, starts_of, data_counts_of, bodies_of}
 use Rattle.wasm_rules.specs.Modules.{IsAllowedPiece}
 use Rattle.wasm_rules.proofs.Tests.{unless}

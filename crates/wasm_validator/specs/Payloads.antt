@@ -3,8 +3,8 @@ use Rattle.std.specs.Prelude.{ℕ, ◌≡◌, ◌⊎◌, ◌++◌, true, List, [
 use Rattle.std.specs.Option.{option_and_then}
 use Rattle.std.specs.declared.result.Result.{Result}
 use Rattle.std.specs.declared.result.Result.TheVariants as results
-use Rattle.wasm_parser.specs.Framing as parts
-use Rattle.wasm_parser.specs.Framing.{Piece, IsFramed}
+use Rattle.wasm_spec.specs.Framing as parts
+use Rattle.wasm_spec.specs.Framing.{Piece, IsFramed}
 use Rattle.wasm_parser.specs.Machine.{State, start, next_of, Given}
 use Rattle.wasm_parser.specs.Places.{IsFormat}
 use Rattle.wasm_readers_errors.specs.declared.error.Refusal.{Refusal}

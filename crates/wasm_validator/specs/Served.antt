@@ -2,7 +2,7 @@
 -- tables have no initializers.
 use Rattle.std.specs.Prelude.{ℕ, ◌==◌, Bool, true, false, ◌&&◌, ◌||◌, List, length, IsTrue}
 use Rattle.std.specs.List.{list_all, All}
-use Rattle.wasm_parser.specs.Framing.{Piece, Version, Custom, Counted, Start, DataCount, CodeStart, CodeEntry, Unknown, End}
+use Rattle.wasm_spec.specs.Framing.{Piece, Version, Custom, Counted, Start, DataCount, CodeStart, CodeEntry, Unknown, End}
 use Rattle.wasm_rules.specs.Parts.{Parts}
 use Rattle.wasm_validator_core_laws.specs.Lists.{has_no_init}
 

@@ -1,6 +1,6 @@
 use Rattle.std.proofs.Common.{sym, ◌∙◌, ap}
 use Rattle.wasm_readers_types.specs.SeenTypes.{comp_of, sub_of}
-use Rattle.wasm_operator_steps.specs.Meanings.{signature_of}
+use Rattle.wasm_rules.specs.Signatures.{signature_of}
 use Rattle.wasm_operator_calls.proofs.Called.{unsigned, type_found, type_unshared, type_unsigned, type_unknown}
 use Rattle.wasm_operator_calls.proofs.reach.type_reached.Goals as goal
 

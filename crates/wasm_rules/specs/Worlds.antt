@@ -5,7 +5,7 @@ use Rattle.wasm_spec.specs.MatchingTests.{World}
 use Rattle.wasm_spec.specs.Syntax.{Sub}
 use Rattle.wasm_spec.specs.Declared.{supertype}
 use Rattle.wasm_rules.specs.Contexts.{Context}
-use Rattle.wasm_operator_steps.specs.Attempts.{◌>>=◌, passes}
+use Rattle.wasm_rules.specs.Attempts.{◌>>=◌, passes}
 
 module _ {R : Type 0} (same : R → R → Bool) where
   -- what an identity declares in a list of those that declare something
