@@ -9,8 +9,7 @@ use Rattle.wasm_readers_errors.specs.declared.error.Error.TheVariants as error
 use Rattle.wasm_readers_errors.specs.declared.error.Fault.{Fault}
 use Rattle.wasm_readers_errors.specs.declared.error.Fault.TheVariants as fault
 use Rattle.wasm_readers_errors.specs.declared.error.Refusal.{Refusal}
-use Rattle.wasm_readers_errors.specs.declared.features.WasmFeatures.{WasmFeatures}
-use Rattle.wasm_readers_errors.specs.declared.features.TheConstants.WasmFeatures.{FLOATS, SIMD, MULTI_VALUE, REFERENCE_TYPES, BULK_MEMORY, EXCEPTIONS, FUNCTION_REFERENCES, GC, SHARED_EVERYTHING_THREADS, CUSTOM_DESCRIPTORS}
+use Rattle.wasm_readers_errors.specs.Lifting.{lifting}
 use Rattle.wasm_readers_errors.specs.declared.operator_rules.OperatorRule.{OperatorRule}
 use Rattle.wasm_readers_errors.specs.declared.operator_rules.OperatorRule.TheVariants as rule
 use Rattle.wasm_type_words.specs.Seen.{val_in}
@@ -25,21 +24,6 @@ use Rattle.wasm_operator_checks.specs.declared.faults.OperatorError.TheVariants.
 abbrev pub is_operand : OperatorRule → Bool
 is_operand rule.Operand = true
 is_operand _ = false
-
--- the proposal that would lift a refusal by this rule
-abbrev pub lifting : OperatorRule → Option WasmFeatures
-lifting rule.Floats = Some FLOATS
-lifting rule.Simd = Some SIMD
-lifting rule.MultiValue = Some MULTI_VALUE
-lifting rule.ReferenceTypes = Some REFERENCE_TYPES
-lifting rule.BulkMemory = Some BULK_MEMORY
-lifting rule.Exceptions = Some EXCEPTIONS
-lifting rule.FunctionReferences = Some FUNCTION_REFERENCES
-lifting rule.Gc = Some GC
-lifting rule.SharedEverything = Some SHARED_EVERYTHING_THREADS
-lifting rule.CustomDescriptors = Some CUSTOM_DESCRIPTORS
-lifting rule.LocalGlobal = Some GC
-lifting _ = None
 
 -- an operand of the first type is expected, and there is one of the second, or none
 abbrev pub IsOperandType : Fault → Val UnpackedIndex → Option (Val UnpackedIndex) → Type 0

@@ -2,12 +2,12 @@
 
 ghost use Rattle.std.specs.Prelude.{◌≡◌};
 ghost use Rattle.wasm_operator_checks.specs.declared.faults.OperatorError.TheVariants.{Refused, OutOfMemory};
-ghost use Rattle.wasm_operator_checks.specs.Told.{is_operand, lifting};
+ghost use Rattle.wasm_operator_checks.specs.Told.{is_operand};
 
 use std::alloc::AllocError;
 use wasm_numeric_operators::NumberType;
 use wasm_operator_stacks::{Operand, Word};
-use wasm_readers_errors::{Error, Fault, OperatorRule, Refusal, WasmFeatures};
+use wasm_readers_errors::{Error, Fault, OperatorRule, Refusal};
 use wasm_type_words::TypeWord;
 
 /// A rule that is broken, with a number that belongs to it, the type that is expected, and the
@@ -27,27 +27,6 @@ fn is_operand(rule: OperatorRule) -> bool
     match rule {
         OperatorRule::Operand => true,
         _ => false,
-    }
-}
-
-/// The proposal that would lift a refusal by this rule, where one would: what
-/// `OperatorRule::missing` answers, with a contract.
-fn lifting(rule: OperatorRule) -> Option<WasmFeatures>
-    ensures { result ≡ lifting rule }
-{
-    match rule {
-        OperatorRule::Floats => Some(WasmFeatures::FLOATS),
-        OperatorRule::Simd => Some(WasmFeatures::SIMD),
-        OperatorRule::MultiValue => Some(WasmFeatures::MULTI_VALUE),
-        OperatorRule::ReferenceTypes => Some(WasmFeatures::REFERENCE_TYPES),
-        OperatorRule::BulkMemory => Some(WasmFeatures::BULK_MEMORY),
-        OperatorRule::Exceptions => Some(WasmFeatures::EXCEPTIONS),
-        OperatorRule::FunctionReferences => Some(WasmFeatures::FUNCTION_REFERENCES),
-        OperatorRule::Gc => Some(WasmFeatures::GC),
-        OperatorRule::SharedEverything => Some(WasmFeatures::SHARED_EVERYTHING_THREADS),
-        OperatorRule::CustomDescriptors => Some(WasmFeatures::CUSTOM_DESCRIPTORS),
-        OperatorRule::LocalGlobal => Some(WasmFeatures::GC),
-        _ => None,
     }
 }
 
@@ -119,7 +98,7 @@ impl OperatorFault {
         Refusal {
             fault,
             offset,
-            missing: lifting(self.rule),
+            missing: self.rule.missing(),
         }
     }
 }

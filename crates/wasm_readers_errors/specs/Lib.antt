@@ -1,3 +1,4 @@
 pub mod Errors
 pub mod On
 pub mod Refusals
+pub mod Lifting

@@ -1,6 +1,9 @@
 //! Rules of operators (Core Specification 3.0, Validation, Instructions), and what is said where one
 //! is broken.
 
+ghost use Rattle.std.specs.Prelude.{◌≡◌};
+ghost use Rattle.wasm_readers_errors.specs.Lifting.{lifting};
+
 use crate::features::WasmFeatures;
 use std::fmt;
 
@@ -166,7 +169,9 @@ impl OperatorRule {
     }
 
     /// The proposal that would lift a refusal by this rule, where one would.
-    pub fn missing(self) -> Option<WasmFeatures> {
+    pub fn missing(self) -> Option<WasmFeatures>
+        ensures { result ≡ lifting self }
+    {
         match self {
             OperatorRule::Floats => Some(WasmFeatures::FLOATS),
             OperatorRule::Simd => Some(WasmFeatures::SIMD),
