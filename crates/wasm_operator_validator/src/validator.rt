@@ -162,6 +162,8 @@ impl<A: Allocator> OperatorValidator<A> {
         ensures defined { Defines result (val_in (T.context resources.now)
             (features_of self.old.stacks.features) (val_of ty)) count self.old self.new }
         ensures state { typed_state self.new ≡ typed_state self.old }
+        ensures features { self.new.stacks.features ≡ self.old.stacks.features }
+        ensures shared { self.new.stacks.is_shared ≡ self.old.stacks.is_shared }
         ensures failed { self.new.failed ≡ (self.old.failed || not (is_ok result)) }
     {
         if self.failed {
@@ -283,6 +285,14 @@ impl<A: Allocator> OperatorValidator<A> {
         ensures { result ≡ self.now.failed }
     {
         self.failed
+    }
+
+    /// Refuses all from now on, as where what comes next can't be read.
+    pub fn fail(&mut self)
+        ensures failed { self.new.failed ≡ true }
+        ensures same { self.new.stacks ≡ self.old.stacks }
+    {
+        self.failed = true;
     }
 
     /// The memory, for the next body.

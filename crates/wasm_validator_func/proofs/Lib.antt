@@ -1,0 +1,6 @@
+pub mod Reading
+pub mod Declaring
+pub mod Machine
+pub mod Stepping
+pub mod Finding
+pub mod Whole

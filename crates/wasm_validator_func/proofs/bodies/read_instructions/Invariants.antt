@@ -1,0 +1,22 @@
+use Rattle.std.proofs.Common.{◌≡◌, ◌≤◌, ℕ, false, length}
+use Rattle.wasm_binary_reader.specs.Reader.{SameInput, position_in, rest}
+use Rattle.wasm_module_resources.specs.Answers.{world}
+use Rattle.wasm_operator_stacks.specs.Seen.{Kept}
+use Rattle.wasm_operator_validator.specs.Typed.{typed_state}
+use Rattle.wasm_constant_checks.specs.Checked.{within}
+use Rattle.wasm_validator_func.specs.Bodies.{typed_from, instructions_from}
+use Rattle.wasm_validator_func.proofs.bodies.read_instructions.Given as goal
+
+abbrev pub invariant-operators : goal.invariant-operators
+invariant-operators g l = record {
+  same : SameInput l.initial.reader l.reader;
+  onward : position_in l.initial.reader ≤ position_in l.reader;
+  kept : Kept l.initial.validator.stacks l.validator.stacks;
+  going : l.validator.failed ≡ false;
+  so_far : (most : ℕ) × (length (rest l.reader) ≤ most)
+      × (typed_from (world (g.T.WasmModuleResources.context l.resources)) (within l.initial.validator (g.T.WasmModuleResources.context l.resources)) most (typed_state l.validator) (rest l.reader)
+      ≡ instructions_from (world (g.T.WasmModuleResources.context l.resources)) (within l.initial.validator (g.T.WasmModuleResources.context l.resources)) (typed_state l.initial.validator) (rest l.initial.reader));
+}
+
+abbrev pub decreases-operators : goal.decreases-operators
+decreases-operators g l = length (rest l.reader)

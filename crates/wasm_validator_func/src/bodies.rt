@@ -1,0 +1,96 @@
+//! Bodies, read and typed operator by operator.
+
+ghost use Rattle.std.specs.Prelude.{◌≡◌, ◌≤◌, not, false, is_ok, IfErr};
+ghost use Rattle.wasm_binary_reader.specs.Reader.{SameInput, position_in, rest};
+ghost use Rattle.wasm_parser.specs.Seen.{body_of, body_reader};
+ghost use Rattle.wasm_module_resources.specs.Answers.{world};
+ghost use Rattle.wasm_operator_stacks.specs.Seen.{Kept};
+ghost use Rattle.wasm_operator_validator.specs.Typed.{typed_state, locals_in};
+ghost use Rattle.wasm_constant_checks.specs.Checked.{within, IsRefusedAt, StandsIn, ReadsTo};
+ghost use Rattle.wasm_validator_func.specs.Bodies.{instructions_from};
+ghost use Rattle.wasm_validator_func.specs.Validated.{body_in, Goes, Validates};
+
+use crate::locals::read_declarations;
+use std::alloc::Allocator;
+use wasm_module_resources::WasmModuleResources;
+use wasm_operator_validator::OperatorValidator;
+use wasm_operators::read_operator;
+use wasm_parser::FunctionBody;
+use wasm_readers::BinaryReader;
+use wasm_readers_errors::{Error, Fault, OperatorRule, Refusal};
+
+/// The refusal by a rule, at this offset.
+#[inline(never)]
+pub(crate) fn refused(rule: OperatorRule, offset: u64) -> Error
+    ensures { IsRefusedAt offset result }
+{
+    Error::Refused(Refusal::new(Fault::Operator(rule, 0), offset))
+}
+
+/// The instructions of a body, up to the `end` that closes it.
+fn read_instructions<'a, A: Allocator, T: WasmModuleResources>(
+    validator: &mut OperatorValidator<A>,
+    resources: &T,
+    reader: &mut BinaryReader<'a>,
+) -> Result<(), Error>
+    requires { validator.old.failed ≡ false }
+    ensures took { ReadsTo result (instructions_from (world (T.context resources.now))
+        (within validator.old (T.context resources.now)) (typed_state validator.old)
+        (rest reader.old)) (typed_state validator.new) (rest reader.new) }
+    ensures same { Kept validator.old.stacks validator.new.stacks }
+    ensures failed { validator.new.failed ≡ not (is_ok result) }
+    ensures input { SameInput reader.old reader.new }
+    ensures onward { position_in reader.old ≤ position_in reader.new }
+    ensures place { IfErr result (StandsIn reader.old) }
+{
+    'operators: while !validator.is_finished() {
+        let offset = reader.original_position();
+        let op = match read_operator(reader) {
+            Ok(op) => op,
+            Err(refusal) => {
+                validator.fail();
+                return Err(Error::Refused(refusal));
+            }
+        };
+        match validator.op_at(resources, offset, &op) {
+            Ok(()) => {}
+            Err(error) => return Err(error),
+        }
+    }
+    Ok(())
+}
+
+/// Reads and types a whole body: its declarations of locals, and its instructions up to the `end`
+/// that closes it, with nothing behind it.
+///
+/// # Errors
+///
+/// Refused at the first declaration or instruction that can't be read or isn't valid, and at the
+/// first byte behind the closing `end`; and where memory is.
+pub(crate) fn check_body<A: Allocator, T: WasmModuleResources>(
+    validator: &mut OperatorValidator<A>,
+    resources: &T,
+    body: &FunctionBody<'_>,
+) -> Result<(), Error>
+    requires { validator.old.failed ≡ false }
+    ensures took { Validates result (body_in validator.old (T.context resources.now)
+        (body_of body.now)) (locals_in validator.new) (typed_state validator.new) }
+    ensures goes { Goes validator.old validator.new }
+    ensures failed { validator.new.failed ≡ not (is_ok result) }
+    ensures place { IfErr result (StandsIn (body_reader body.now)) }
+{
+    let mut reader = body.get_binary_reader();
+    match read_declarations(validator, resources, &mut reader) {
+        Ok(()) => {}
+        Err(error) => return Err(error),
+    }
+    match read_instructions(validator, resources, &mut reader) {
+        Ok(()) => {}
+        Err(error) => return Err(error),
+    }
+    if reader.is_empty() {
+        return Ok(());
+    }
+    validator.fail();
+    Err(refused(OperatorRule::Ended, reader.original_position()))
+}

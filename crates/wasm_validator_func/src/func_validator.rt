@@ -1,0 +1,312 @@
+//! The validator of one function body.
+
+ghost use Rattle.std.specs.Prelude.{◌≡◌, ◌≤◌, ◌<◌, ◌^◌, ◌||◌, true, false, not, is_ok, length, slice_get, IfOk, IfErr, OnErr, IsSome};
+ghost use Rattle.std.specs.Option.{option_map};
+ghost use Rattle.wasm_binary_reader.specs.Reader.{SameInput, position_in, rest};
+ghost use Rattle.wasm_parser.specs.Seen.{body_of, body_reader};
+ghost use Rattle.wasm_readers_types.specs.SeenValues.{val_of};
+ghost use Rattle.wasm_operators.specs.SeenOperators.{operator_of};
+ghost use Rattle.wasm_module_resources.specs.Answers.{IsWrittenVal};
+ghost use Rattle.wasm_operator_stacks.specs.Seen.{Kept};
+ghost use Rattle.wasm_operator_control.specs.Blocks.{function_in};
+ghost use Rattle.wasm_operator_validator.specs.Stepped.{IsWrittenInstruction};
+ghost use Rattle.wasm_operator_validator.specs.Visited.{StepsAt};
+ghost use Rattle.wasm_operator_validator.specs.Typed.{typed_state, locals_in, BeginsBody};
+ghost use Rattle.wasm_operator_validator.specs.Shown.{known_type, shown_frame};
+ghost use Rattle.wasm_constant_checks.specs.Checked.{StandsIn};
+ghost use Rattle.wasm_validator_func.specs.Validated.{declaration_of, declared_in, listed_in, body_in, Goes, DeclaredAt, Declares, Validates};
+
+use crate::bodies::{check_body, refused};
+use crate::locals::{define, read_declarations};
+use std::alloc::{Allocator, Global};
+use wasm_module_resources::WasmModuleResources;
+use wasm_operator_stacks::MAX_LOCALS;
+use wasm_operator_validator::{Frame, OperatorValidator, OperatorValidatorAllocations};
+use wasm_operators::Operator;
+use wasm_parser::FunctionBody;
+use wasm_readers::BinaryReader;
+use wasm_readers_errors::{Error, OperatorRule, WasmFeatures};
+use wasm_readers_types::ValType;
+
+/// A function whose body is to be validated: what is looked up of its module, its index, its type's
+/// index, and the features.
+#[derive(Drop)]
+pub struct FuncToValidate<T> {
+    /// What is looked up of the module.
+    pub resources: T,
+    /// The function's index.
+    pub index: u32,
+    /// The index of the function's type.
+    pub ty: u32,
+    /// The features.
+    pub features: WasmFeatures,
+}
+
+/// The memory of a validator of bodies, to be handed on from one body to the next.
+#[derive(Drop)]
+pub struct FuncValidatorAllocations<A: Allocator = Global>(OperatorValidatorAllocations<A>);
+
+/// The validation of one function body. Once something was refused it has failed, and refuses all.
+#[derive(Drop)]
+pub struct FuncValidator<T, A: Allocator = Global> {
+    validator: OperatorValidator<A>,
+    resources: T,
+    index: u32,
+}
+
+impl<A: Allocator + Copy> FuncValidatorAllocations<A> {
+    /// No memory yet.
+    pub fn new(alloc: A) -> FuncValidatorAllocations<A> {
+        FuncValidatorAllocations(OperatorValidatorAllocations::new(alloc))
+    }
+}
+
+impl<T: WasmModuleResources + Drop> FuncToValidate<T> {
+    /// The validator of the function's body, at its start, in memory that was used before. The
+    /// type's index names a function type.
+    ///
+    /// # Errors
+    ///
+    /// Refuses more than 50,000 parameters, at 0, and answers want of memory.
+    pub fn into_validator<A: Allocator>(
+        self,
+        allocations: FuncValidatorAllocations<A>,
+    ) -> Result<FuncValidator<T, A>, Error>
+        requires { IsSome (function_in (T.context self.resources) self.ty) }
+        ensures begins { IfOk result (λ v. BeginsBody v.validator (T.context self.resources)
+            self.ty) }
+        ensures few { IfOk result (λ v. length (locals_in v.validator) ≤ 50000) }
+        ensures features { IfOk result (λ v. v.validator.stacks.features ≡ self.features) }
+        ensures resources { IfOk result (λ v. v.resources ≡ self.resources) }
+        ensures index { IfOk result (λ v. v.index ≡ self.index) }
+    {
+        let FuncToValidate {
+            resources,
+            index,
+            ty,
+            features,
+        } = self;
+        let begun = OperatorValidator::new_func(ty, features, &resources, allocations.0);
+        let validator = match begun {
+            Ok(validator) => validator,
+            Err(error) => return Err(error.at(0)),
+        };
+        if validator.len_locals() > MAX_LOCALS {
+            return Err(refused(OperatorRule::TooManyLocals, 0));
+        }
+        Ok(FuncValidator {
+            validator,
+            resources,
+            index,
+        })
+    }
+}
+
+impl<T: WasmModuleResources, A: Allocator> FuncValidator<T, A> {
+    /// Validates a whole body: its declarations of locals, and its instructions up to the `end`
+    /// that closes it, with nothing behind it.
+    ///
+    /// # Errors
+    ///
+    /// Refused at the first declaration or instruction that can't be read or isn't valid, and at
+    /// the first byte behind the closing `end`; all once something was refused; and where memory
+    /// is.
+    pub fn validate(&mut self, body: &FunctionBody<'_>) -> Result<(), Error>
+        ensures took { self.old.validator.failed ≡ false → Validates result
+            (body_in self.old.validator (T.context self.old.resources) (body_of body.now))
+            (locals_in self.new.validator) (typed_state self.new.validator) }
+        ensures ended { self.old.validator.failed ≡ true → is_ok result ≡ false }
+        ensures failed { self.new.validator.failed
+            ≡ (self.old.validator.failed || not (is_ok result)) }
+        ensures goes { Goes self.old.validator self.new.validator }
+        ensures same { (self.new.resources ≡ self.old.resources)
+            × (self.new.index ≡ self.old.index) }
+        ensures place { IfErr result (StandsIn (body_reader body.now)) }
+    {
+        if self.validator.has_failed() {
+            let offset = body.get_binary_reader().original_position();
+            return Err(refused(OperatorRule::Failed, offset));
+        }
+        check_body(&mut self.validator, &self.resources, body)
+    }
+
+    /// Reads the list of declarations that a body begins with, and declares its locals.
+    ///
+    /// # Errors
+    ///
+    /// Refused where the bytes begin with no list of declarations, and at a declaration whose type
+    /// the features don't allow or the module doesn't have, or that leads past 50,000 locals; all
+    /// once something was refused; and where memory is.
+    pub fn read_locals<'a>(&mut self, reader: &mut BinaryReader<'a>) -> Result<(), Error>
+        ensures declared { self.old.validator.failed ≡ false → Declares result
+            (listed_in self.old.validator (T.context self.old.resources) (rest reader.old))
+            (locals_in self.new.validator) (rest reader.new) }
+        ensures ended { self.old.validator.failed ≡ true → is_ok result ≡ false }
+        ensures failed { self.new.validator.failed
+            ≡ (self.old.validator.failed || not (is_ok result)) }
+        ensures state { typed_state self.new.validator ≡ typed_state self.old.validator }
+        ensures goes { Goes self.old.validator self.new.validator }
+        ensures same { (self.new.resources ≡ self.old.resources)
+            × (self.new.index ≡ self.old.index) }
+        ensures input { SameInput reader.old reader.new }
+        ensures onward { position_in reader.old ≤ position_in reader.new }
+        ensures place { IfErr result (StandsIn reader.old) }
+    {
+        if self.validator.has_failed() {
+            return Err(refused(OperatorRule::Failed, reader.original_position()));
+        }
+        read_declarations(&mut self.validator, &self.resources, reader)
+    }
+
+    /// Declares so many locals of one type, which is written with type indices of the module, at
+    /// this offset.
+    ///
+    /// # Errors
+    ///
+    /// Refused, at the offset, where the features don't allow the type, where the module doesn't
+    /// have it, and where it leads past 50,000 locals; all once something was refused; and where
+    /// memory is.
+    pub fn define_locals(&mut self, offset: u64, count: u32, ty: ValType) -> Result<(), Error>
+        requires { IsWrittenVal (val_of ty) }
+        ensures declared { self.old.validator.failed ≡ false → DeclaredAt offset result
+            (declared_in self.old.validator (T.context self.old.resources)
+            (declaration_of count ty)) (locals_in self.new.validator) }
+        ensures state { typed_state self.new.validator ≡ typed_state self.old.validator }
+        ensures goes { Goes self.old.validator self.new.validator }
+        ensures same { (self.new.resources ≡ self.old.resources)
+            × (self.new.index ≡ self.old.index) }
+        ensures failed { self.new.validator.failed
+            ≡ (self.old.validator.failed || not (is_ok result)) }
+    {
+        define(&mut self.validator, &self.resources, offset, count, ty)
+    }
+
+    /// Takes one step by the operator at this offset, where its types name type indices of the
+    /// module.
+    ///
+    /// # Errors
+    ///
+    /// Refuses at the offset an operator that isn't valid here, and any once something was refused;
+    /// answers want of memory.
+    pub fn op<'a>(&mut self, offset: u64, op: &Operator<'a>) -> Result<(), Error>
+        requires { IsWrittenInstruction (operator_of op.now) }
+        ensures took { self.old.validator.failed ≡ false → StepsAt result offset
+            (T.context self.old.resources) (operator_of op.now)
+            self.old.validator.stacks self.new.validator.stacks }
+        ensures ended { self.old.validator.failed ≡ true → (is_ok result ≡ false)
+            × (typed_state self.new.validator ≡ typed_state self.old.validator) }
+        ensures kept { Kept self.old.validator.stacks self.new.validator.stacks }
+        ensures same { (self.new.resources ≡ self.old.resources)
+            × (self.new.index ≡ self.old.index) }
+        ensures failed { self.new.validator.failed
+            ≡ (self.old.validator.failed || not (is_ok result)) }
+    {
+        self.validator.op_at(&self.resources, offset, op)
+    }
+
+    /// As [`FuncValidator::op`], but where the operator is refused all stays.
+    ///
+    /// # Errors
+    ///
+    /// As [`FuncValidator::op`].
+    #[tactic(auto, using(crate::proofs::Stepping::tries))]
+    pub fn try_op<'a>(&mut self, offset: u64, op: &Operator<'a>) -> Result<(), Error>
+        requires { IsWrittenInstruction (operator_of op.now) }
+        ensures took { self.old.validator.failed ≡ false → StepsAt result offset
+            (T.context self.old.resources) (operator_of op.now)
+            self.old.validator.stacks self.new.validator.stacks }
+        ensures ended { self.old.validator.failed ≡ true → (is_ok result ≡ false)
+            × (typed_state self.new.validator ≡ typed_state self.old.validator) }
+        ensures kept { Kept self.old.validator.stacks self.new.validator.stacks }
+        ensures same { (self.new.resources ≡ self.old.resources)
+            × (self.new.index ≡ self.old.index) }
+        ensures failed { self.new.validator.failed ≡ self.old.validator.failed }
+    {
+        match self.validator.try_op(&self.resources, op) {
+            Ok(()) => Ok(()),
+            Err(error) => Err(error.at(offset)),
+        }
+    }
+
+    /// The features.
+    pub fn features(&self) -> WasmFeatures
+        ensures { result ≡ self.now.validator.stacks.features }
+    {
+        self.validator.features()
+    }
+
+    /// What is looked up of the module.
+    pub fn resources(&self) -> &T
+        ensures { result.now ≡ self.now.resources }
+    {
+        &self.resources
+    }
+
+    /// The function's index.
+    pub fn index(&self) -> u32
+        ensures { result ≡ self.now.index }
+    {
+        self.index
+    }
+
+    /// How many locals there are, parameters included.
+    pub fn len_locals(&self) -> u32
+        ensures { result ≡ length (locals_in self.now.validator) }
+    {
+        self.validator.len_locals()
+    }
+
+    /// The type of a local, if there is one of this index.
+    pub fn get_local_type(&self, index: u32) -> Option<ValType>
+        ensures { option_map val_of result ≡ option_map (λ l. l.content)
+            (slice_get (locals_in self.now.validator) index) }
+    {
+        self.validator.get_local_type(index)
+    }
+
+    /// How many operands there are.
+    pub fn operand_stack_height(&self) -> usize
+        ensures { result ≡ length (typed_state self.now.validator).operands }
+    {
+        self.validator.operand_stack_height()
+    }
+
+    /// The type of the operand at this depth, the top at 0: nothing where there is no such
+    /// operand, and no type where the operand's type isn't known, in code that isn't reached.
+    pub fn get_operand_type(&self, depth: usize) -> Option<Option<ValType>>
+        ensures { option_map (option_map val_of) result
+            ≡ option_map known_type (slice_get (typed_state self.now.validator).operands depth) }
+    {
+        self.validator.get_operand_type(depth)
+    }
+
+    /// How many frames are open.
+    pub fn control_stack_height(&self) -> usize
+        ensures { length (typed_state self.now.validator).frames < 2 ^ 64
+            → result ≡ length (typed_state self.now.validator).frames }
+    {
+        self.validator.control_stack_height()
+    }
+
+    /// The frame at this depth, the innermost at 0, if there is one.
+    pub fn get_control_frame(&self, depth: u32) -> Option<Frame>
+        ensures { option_map shown_frame result
+            ≡ slice_get (typed_state self.now.validator).frames depth }
+    {
+        self.validator.get_control_frame(depth)
+    }
+
+    /// Whether something was refused.
+    pub fn has_failed(&self) -> bool
+        ensures { result ≡ self.now.validator.failed }
+    {
+        self.validator.has_failed()
+    }
+}
+
+impl<T: Drop, A: Allocator> FuncValidator<T, A> {
+    /// The memory, for the next body.
+    pub fn into_allocations(self) -> FuncValidatorAllocations<A> {
+        FuncValidatorAllocations(self.validator.into_allocations())
+    }
+}

@@ -1,0 +1,13 @@
+//! The validation of function bodies, one by one, over any look-ups (Core Specification 3.0,
+//! Validation, Modules, Functions).
+//!
+//! Each `offset` counts bytes from the start of the input.
+#![tactic(auto)]
+
+mod bodies;
+mod func_validator;
+mod laws;
+mod locals;
+
+pub use func_validator::{FuncToValidate, FuncValidator, FuncValidatorAllocations};
+pub use laws::bodies_are_declarations_and_instructions;
