@@ -232,11 +232,8 @@ impl<'a, A: Allocator + Copy> WasmModuleResources for ModuleResources<'a, A> {
         if at >= spaces.tag_count() {
             return None;
         }
-        match &self
-            .sub_type_at(spaces.tag_type_index(at))?
-            .composite_type
-            .inner
-        {
+        let ty = self.sub_type_at(spaces.tag_type_index(at))?;
+        match &ty.composite_type.inner {
             CompositeInnerType::Func(signature) => Some(signature),
             _ => None,
         }
@@ -348,7 +345,7 @@ impl<'a, A: Allocator + Copy> WasmModuleResources for ModuleResources<'a, A> {
 
     fn is_function_referenced(&self, function_index: u32) -> bool {
         let spaces = self.spaces;
-        function_index < spaces.function_count()
+        spaces.function_count() > function_index
     }
 
     fn has_function_exact_type(&self, function_index: u32) -> bool {
