@@ -1,0 +1,2 @@
+pub mod ModuleContexts
+pub mod Shown

@@ -1,0 +1,45 @@
+-- The context that a module gives as far as it has been read, where its types are ids of a list. Core Specification 3.0, Validation,
+-- Conventions (Contexts).
+use Rattle.std.specs.Prelude.{ℕ, zero, suc, ◌≡◌, Bool, true, List, [], ◌∷◌, map, length, Option}
+use Rattle.wasm_spec.specs.Syntax.{Ref, map_sub}
+use Rattle.wasm_rules.specs.Contexts.{Context}
+use Rattle.wasm_readers_types.specs.declared.indices.UnpackedIndex.{UnpackedIndex}
+use Rattle.wasm_readers_types.specs.declared.types.SubType.{SubType}
+use Rattle.wasm_readers_types.specs.SeenTypes.{sub_of}
+use Rattle.wasm_validator_type_list.specs.Listing.{Listing}
+use Rattle.wasm_validator_type_list.specs.Declares.{subs_by_ids}
+use Rattle.wasm_validator_types.specs.Spaces.{Spaces}
+use Rattle.wasm_operator_worlds.specs.ListContexts.{list_declares}
+use Rattle.wasm_operator_worlds.specs.IndexContexts.{id_of}
+
+-- which functions are exactly of their type: the imported ones, which are the first, as they say, and all behind them
+abbrev pub exact_flags : List ℕ → List Bool → List Bool
+exact_flags [] imported = []
+exact_flags (x ∷ xs) [] = true ∷ exact_flags xs []
+exact_flags (x ∷ xs) (b ∷ bs) = b ∷ exact_flags xs bs
+
+-- so many numbers, one after another from this one on
+abbrev pub numbers_from : ℕ → ℕ → List ℕ
+numbers_from n zero = []
+numbers_from n (suc count) = n ∷ numbers_from (suc n) count
+
+-- The context of a module with these index spaces, over this list of types, with these types of element segments and this data count.
+-- Each of its functions counts as referenced, as it does to constant expressions.
+abbrev pub module_context : {A : Type 0} → Spaces → Listing A → List (Ref UnpackedIndex) → Option ℕ → Context UnpackedIndex
+module_context s list elements data_count = record {
+  types = map id_of s.types;
+  declares = list_declares id_of list.groups;
+  functions = s.functions;
+  exact = exact_flags s.functions s.imported_functions;
+  tables = s.tables;
+  memories = s.memories;
+  globals = s.globals;
+  tags = s.tags;
+  elements = elements;
+  data_count = data_count;
+  references = numbers_from 0 (length s.functions);
+}
+
+-- These are the types of the groups in the order of their ids, with the id in the place of each position in a group.
+abbrev pub AreByIds : {A : Type 0} → List (List (SubType A)) → List (SubType A) → Type 0
+AreByIds gs types = map sub_of types ≡ map (map_sub id_of) (subs_by_ids 0 gs)

@@ -1,0 +1,22 @@
+-- What a contract sees of the look-ups of a module, and what is always true of them.
+use Rattle.std.specs.Prelude.{ℕ, ◌<◌, ◌^◌, map, length}
+use Rattle.std.specs.List.{All}
+use Rattle.wasm_rules.specs.Contexts.{Context}
+use Rattle.wasm_readers_types.specs.SeenValues.{ref_of}
+use Rattle.wasm_readers_types.specs.declared.indices.TheConstants.{MAX_IDS}
+use Rattle.wasm_readers_types.specs.declared.indices.UnpackedIndex.{UnpackedIndex}
+use Rattle.wasm_validator_type_list.specs.Listable.{AreListable}
+use Rattle.wasm_validator_core_resources.specs.declared.resources.ModuleResources.TheInside.{Inside}
+use Rattle.wasm_validator_core_resources.specs.ModuleContexts.{module_context, AreByIds}
+
+module _ {A : Type 0} where
+  abbrev pub shown : Inside A → Context UnpackedIndex
+  shown a = module_context a.spaces.now a.list.now (map ref_of a.elements.now) a.data_count
+
+  -- references in the list are known, each id of the module can be packed, the types are those of the list, and the count of element
+  -- segments fits a `u32`
+  pub record IsSound (a : Inside A) : Type 0 where
+    pub listable : AreListable a.list.now.groups
+    pub small : All (λ (id : ℕ). id < MAX_IDS) a.spaces.now.types
+    pub types : AreByIds a.list.now.groups a.types.now
+    pub elements : length a.elements.now < 2 ^ 32

@@ -1,0 +1,355 @@
+//! The look-ups of a module that is being read.
+
+ghost use Rattle.std.specs.Prelude.{◌≡◌, ◌<◌, ◌^◌, length, map, slice_get, IfSome, IfOk, OnErr, OnOk};
+ghost use Rattle.std.specs.List.{All};
+ghost use Rattle.std.specs.Option.{option_map};
+ghost use Rattle.std.specs.declared.option.Option.TheVariants.{None, Some};
+ghost use Rattle.wasm_spec.specs.Syntax.{abstract_heap, concrete, exact};
+ghost use Rattle.wasm_spec.specs.MatchingTests.{matches_heap, matches_ref};
+ghost use Rattle.wasm_readers_types.specs.SeenTypes.{sub_of};
+ghost use Rattle.wasm_readers_types.specs.SeenValues.{abstract_heap_of, heap_of, ref_of};
+ghost use Rattle.wasm_readers_types.specs.declared.indices.TheConstants.{MAX_IDS};
+ghost use Rattle.wasm_readers_types.specs.declared.indices.UnpackedIndex.TheVariants.{Id};
+ghost use Rattle.wasm_validator_type_list.specs.DefTypes.{types_of_list};
+ghost use Rattle.wasm_module_resources.specs.Answers.{world, written_index, IsWritten};
+ghost use Rattle.wasm_validator_core_resources.specs.ModuleContexts.{module_context, AreByIds};
+
+use crate::heaps::{
+    abstract_matches, abstract_top, is_below_kind, is_shared, kind, kind_matches, same_flag,
+    same_index,
+};
+use std::alloc::Allocator;
+use std::marker::Model;
+use wasm_module_resources::WasmModuleResources;
+use wasm_readers_errors::{Fault, Refusal};
+use wasm_readers_types::{
+    AbstractHeapType, CompositeInnerType, CoreTypeId, FuncType, GlobalType, HeapType, MemoryType,
+    RefType, SubType, TableType, UnpackedIndex, ValType,
+};
+use wasm_validator_type_list::TypeList;
+use wasm_validator_types::IndexSpaces;
+
+/// The look-ups of a module as far as it has been read, by reference. A contract sees the context
+/// that they are read from (Core Specification 3.0, Validation, Conventions, Contexts).
+pub struct ModuleResources<'a, A: Allocator> {
+    spaces: &'a IndexSpaces<A>,
+    list: &'a TypeList<A>,
+    types: &'a [SubType<A>],
+    elements: &'a [RefType],
+    data_count: Option<u32>,
+}
+
+impl<'a, A: Allocator> Model for ModuleResources<'a, A> {
+    ghost use Rattle.wasm_rules.specs.Contexts.{Context};
+    ghost use Rattle.wasm_readers_types.specs.declared.indices.UnpackedIndex.{UnpackedIndex};
+
+    ghost Value = { Context UnpackedIndex };
+
+    ghost use Rattle.wasm_validator_core_resources.specs.Shown.{shown, IsSound};
+
+    ghost view = { shown };
+
+    ghost invariant = { IsSound };
+}
+
+impl<'a, A: Allocator + Copy> ModuleResources<'a, A> {
+    /// Those of a module with these index spaces over this list of types, whose element segments
+    /// have these types, and which has this data count. The list must have the module's types; and
+    /// `types` are all that it has, with ids in the place of positions in their groups.
+    ///
+    /// Each function of the module counts as referenced, as it does to constant expressions.
+    pub fn new(
+        spaces: &'a IndexSpaces<A>,
+        list: &'a TypeList<A>,
+        types: &'a [SubType<A>],
+        elements: &'a [RefType],
+        data_count: Option<u32>,
+    ) -> ModuleResources<'a, A>
+        requires held { All (λ id. id < length (types_of_list list.now)) spaces.now.types }
+        requires types { AreByIds list.now.groups types.now }
+        requires few { length elements.now < 2 ^ 32 }
+        ensures { result ≡ module_context spaces.now list.now (map ref_of elements.now)
+            data_count }
+    {
+        // Asked for what it promises: the list's references are known, and ids are small.
+        let _count = list.len();
+        ModuleResources {
+            spaces,
+            list,
+            types,
+            elements,
+            data_count,
+        }
+    }
+
+    /// The id of the type with this index, if there is one.
+    fn type_id_at(&self, type_index: u32) -> Option<CoreTypeId>
+        ensures value { option_map Id result ≡ slice_get self.now.types type_index }
+        ensures small { IfSome result (λ id. id.index < MAX_IDS) }
+    {
+        let spaces = self.spaces;
+        if type_index < spaces.type_count() {
+            Some(spaces.type_at(type_index))
+        } else {
+            None
+        }
+    }
+
+    /// What the type with this id is, if the list has one.
+    fn type_of(&self, id: CoreTypeId) -> Option<&SubType<A>>
+        ensures { option_map (λ t. sub_of t.now) result ≡ (world self.now).declared (Id id) }
+    {
+        self.types.get(id.index())
+    }
+
+    /// What the type is that this stands for, if it stands for one.
+    fn declared(&self, index: UnpackedIndex) -> Option<&SubType<A>>
+        ensures { option_map (λ t. sub_of t.now) result ≡ (world self.now).declared index }
+    {
+        // What is always true of the look-ups is known from here on.
+        let _types = self.types;
+        match index {
+            UnpackedIndex::Id(id) => self.type_of(id),
+            UnpackedIndex::Module(_) | UnpackedIndex::RecGroup(_) => None,
+        }
+    }
+
+    /// Whether the second is the first or stands for one of its ancestors.
+    fn is_below(&self, a: UnpackedIndex, b: UnpackedIndex) -> bool
+        ensures { result ≡ (world self.now).below a b }
+    {
+        let list = self.list;
+        let id = match a {
+            UnpackedIndex::Id(id) => id,
+            UnpackedIndex::Module(_) | UnpackedIndex::RecGroup(_) => return same_index(a, b),
+        };
+        match b {
+            UnpackedIndex::Id(other) => list.id_is_below(id, other),
+            UnpackedIndex::Module(_) | UnpackedIndex::RecGroup(_) => false,
+        }
+    }
+
+    /// Whether the abstract heap type matches the heap type.
+    fn abstract_matches(&self, shared: bool, ty: AbstractHeapType, b: HeapType) -> bool
+        ensures { result ≡ matches_heap (world self.now)
+            (abstract_heap shared (abstract_heap_of ty)) (heap_of b) }
+    {
+        match b {
+            HeapType::Abstract {
+                shared: other_shared,
+                ty: other,
+            } => same_flag(shared, other_shared) && abstract_matches(ty, other),
+            HeapType::Concrete(index) | HeapType::Exact(index) => {
+                is_below_kind(self.declared(index), shared, ty)
+            }
+        }
+    }
+
+    /// Whether what the type or a subtype of it describes matches the heap type.
+    fn concrete_matches(&self, a: UnpackedIndex, b: HeapType) -> bool
+        ensures { result ≡ matches_heap (world self.now) (concrete a) (heap_of b) }
+    {
+        match b {
+            HeapType::Abstract { shared, ty } => kind_matches(self.declared(a), shared, ty),
+            HeapType::Concrete(index) => self.is_below(a, index),
+            HeapType::Exact(_) => false,
+        }
+    }
+
+    /// Whether what exactly the type describes matches the heap type.
+    fn exact_matches(&self, a: UnpackedIndex, b: HeapType) -> bool
+        ensures { result ≡ matches_heap (world self.now) (exact a) (heap_of b) }
+    {
+        match b {
+            HeapType::Abstract { shared, ty } => kind_matches(self.declared(a), shared, ty),
+            HeapType::Concrete(index) => self.is_below(a, index),
+            HeapType::Exact(index) => same_index(a, index),
+        }
+    }
+
+    /// Whether the first heap type matches the second.
+    fn heap_matches(&self, a: HeapType, b: HeapType) -> bool
+        ensures { result ≡ matches_heap (world self.now) (heap_of a) (heap_of b) }
+    {
+        match a {
+            HeapType::Abstract { shared, ty } => self.abstract_matches(shared, ty, b),
+            HeapType::Concrete(index) => self.concrete_matches(index, b),
+            HeapType::Exact(index) => self.exact_matches(index, b),
+        }
+    }
+
+    /// Whether the first reference type matches the second.
+    fn ref_matches(&self, a: RefType, b: RefType) -> bool
+        ensures { result ≡ matches_ref (world self.now) (ref_of a) (ref_of b) }
+    {
+        (!a.is_nullable() || b.is_nullable()) && self.heap_matches(a.heap_type(), b.heap_type())
+    }
+
+    /// The id of the type that is written so in the module.
+    fn resolved(&self, written: UnpackedIndex, offset: u64) -> Result<CoreTypeId, Refusal>
+        requires { IsWritten written }
+        ensures ok { IfOk result (λ id. slice_get self.now.types (written_index written)
+            ≡ Some (Id id)) }
+        ensures small { IfOk result (λ id. id.index < MAX_IDS) }
+        ensures err { OnErr result (slice_get self.now.types (written_index written) ≡ None) }
+    {
+        let type_index = match written {
+            UnpackedIndex::Module(type_index) => type_index,
+            UnpackedIndex::RecGroup(_) | UnpackedIndex::Id(_) => unreachable!(),
+        };
+        match self.type_id_at(type_index) {
+            Some(id) => Ok(id),
+            None => Err(Refusal::new(Fault::UnknownType(type_index), offset)),
+        }
+    }
+}
+
+impl<'a, A: Allocator + Copy> WasmModuleResources for ModuleResources<'a, A> {
+    type A = A;
+
+    ghost context = { λ C. C };
+
+    fn table_at(&self, at: u32) -> Option<TableType> {
+        let spaces = self.spaces;
+        if at < spaces.table_count() {
+            Some(spaces.table_at(at))
+        } else {
+            None
+        }
+    }
+
+    fn memory_at(&self, at: u32) -> Option<MemoryType> {
+        let spaces = self.spaces;
+        if at < spaces.memory_count() {
+            Some(spaces.memory_at(at))
+        } else {
+            None
+        }
+    }
+
+    fn tag_at(&self, at: u32) -> Option<&FuncType<A>> {
+        let spaces = self.spaces;
+        if at >= spaces.tag_count() {
+            return None;
+        }
+        let ty = self.sub_type_at(spaces.tag_type_index(at))?;
+        match &ty.composite_type.inner {
+            CompositeInnerType::Func(signature) => Some(signature),
+            _ => None,
+        }
+    }
+
+    fn global_at(&self, at: u32) -> Option<GlobalType> {
+        let spaces = self.spaces;
+        if at < spaces.global_count() {
+            Some(spaces.global_at(at))
+        } else {
+            None
+        }
+    }
+
+    fn sub_type_at(&self, type_index: u32) -> Option<&SubType<A>> {
+        match self.type_id_at(type_index) {
+            Some(id) => self.type_of(id),
+            None => None,
+        }
+    }
+
+    fn sub_type_at_id(&self, id: CoreTypeId) -> &SubType<A> {
+        match self.type_of(id) {
+            Some(ty) => ty,
+            None => unreachable!(),
+        }
+    }
+
+    fn type_id_of_function(&self, function_index: u32) -> Option<CoreTypeId> {
+        match self.type_index_of_function(function_index) {
+            Some(type_index) => self.type_id_at(type_index),
+            None => None,
+        }
+    }
+
+    fn type_index_of_function(&self, function_index: u32) -> Option<u32> {
+        let spaces = self.spaces;
+        if function_index < spaces.function_count() {
+            Some(spaces.function_type_index(function_index))
+        } else {
+            None
+        }
+    }
+
+    fn element_type_at(&self, at: u32) -> Option<RefType> {
+        match self.elements.get(at as usize) {
+            Some(ty) => Some(*ty),
+            None => None,
+        }
+    }
+
+    fn is_subtype(&self, a: ValType, b: ValType) -> bool {
+        match (a, b) {
+            (ValType::Ref(a), ValType::Ref(b)) => self.ref_matches(a, b),
+            (ValType::I32, ValType::I32)
+            | (ValType::I64, ValType::I64)
+            | (ValType::F32, ValType::F32)
+            | (ValType::F64, ValType::F64)
+            | (ValType::V128, ValType::V128) => true,
+            _ => false,
+        }
+    }
+
+    fn is_shared(&self, ty: RefType) -> bool {
+        match ty.heap_type() {
+            HeapType::Abstract { shared, .. } => shared,
+            HeapType::Concrete(index) | HeapType::Exact(index) => is_shared(self.declared(index)),
+        }
+    }
+
+    fn check_heap_type(&self, heap_type: &mut HeapType, offset: u64) -> Result<(), Refusal> {
+        match *heap_type {
+            HeapType::Abstract { .. } => {}
+            HeapType::Concrete(written) => {
+                let id = self.resolved(written, offset)?;
+                *heap_type = HeapType::Concrete(UnpackedIndex::Id(id));
+            }
+            HeapType::Exact(written) => {
+                let id = self.resolved(written, offset)?;
+                *heap_type = HeapType::Exact(UnpackedIndex::Id(id));
+            }
+        }
+        Ok(())
+    }
+
+    fn top_type(&self, heap_type: &HeapType) -> HeapType {
+        match *heap_type {
+            HeapType::Abstract { shared, ty } => HeapType::Abstract {
+                shared,
+                ty: abstract_top(ty),
+            },
+            HeapType::Concrete(index) | HeapType::Exact(index) => match self.declared(index) {
+                Some(sub) => HeapType::Abstract {
+                    shared: sub.composite_type.shared,
+                    ty: abstract_top(kind(&sub.composite_type.inner)),
+                },
+                None => unreachable!(),
+            },
+        }
+    }
+
+    fn element_count(&self) -> u32 {
+        self.elements.len() as u32
+    }
+
+    fn data_count(&self) -> Option<u32> {
+        self.data_count
+    }
+
+    fn is_function_referenced(&self, function_index: u32) -> bool {
+        let spaces = self.spaces;
+        spaces.function_count() > function_index
+    }
+
+    fn has_function_exact_type(&self, function_index: u32) -> bool {
+        let spaces = self.spaces;
+        function_index < spaces.function_count() && spaces.is_exact_function(function_index)
+    }
+}
