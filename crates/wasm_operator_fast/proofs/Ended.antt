@@ -1,0 +1,54 @@
+-- The end of a frame that gives nothing or one value.
+use Rattle.std.proofs.Common.{◌≡◌, ◌-◌, true, false, [], ◌∷◌, length, drop, refl, sym, ◌∙◌, ap, arith}
+use Rattle.std.specs.Prelude.{Some}
+use Rattle.wasm_spec.specs.MatchingTests.{World}
+use Rattle.wasm_spec.specs.Syntax.{Val}
+use Rattle.wasm_rules.specs.Contexts.{Context}
+use Rattle.wasm_readers_types.specs.declared.indices.UnpackedIndex.{UnpackedIndex}
+use Rattle.wasm_operators.specs.Control.{empty_block, value_block}
+use Rattle.wasm_operator_steps.specs.Actions.{leave}
+use Rattle.wasm_operator_steps.specs.Machine.{Kind, block_kind, loop_kind, if_kind, else_kind, try_table_kind, is_if, State, known, pop_val, push_operand}
+use Rattle.wasm_operator_steps.specs.Meanings.{Signature}
+use Rattle.wasm_module_resources.specs.Answers.{world}
+use Rattle.wasm_operator_stacks.specs.Seen.{state_of, below}
+use Rattle.wasm_operator_stacks.specs.SeenBlocks.{block_in, kind_of}
+use Rattle.wasm_operator_stacks.specs.declared.stacks.Stacks.{Stacks}
+use Rattle.wasm_operator_checks.specs.Steps.{acted}
+use Rattle.wasm_operator_control.specs.Blocks.{signature_in, ends_in}
+use Rattle.wasm_operator_control.proofs.Ended.{end_is}
+
+some_same : {X : Type 0} (x y : X) → Some x ≡ Some y → x ≡ y
+some_same x y e = cc
+
+nothing_ends : (W : World UnpackedIndex) (k : Kind) → true ≡ ends_in W k (record { takes = []; gives = [] })
+nothing_ends W block_kind = refl
+nothing_ends W loop_kind = refl
+nothing_ends W if_kind = refl
+nothing_ends W else_kind = refl
+nothing_ends W try_table_kind = refl
+
+other_ends : (W : World UnpackedIndex) (k : Kind) (g : Signature UnpackedIndex) → is_if k ≡ false → true ≡ ends_in W k g
+other_ends W block_kind g e = refl
+other_ends W loop_kind g e = refl
+other_ends W if_kind g e = cc
+other_ends W else_kind g e = refl
+other_ends W try_table_kind g e = refl
+
+module _ {A : Type 0} (v : Stacks A) (C : Context UnpackedIndex) (new : State UnpackedIndex) where
+  abbrev pub Closed : Type 0
+  Closed = new ≡ record (state_of v) { frames = drop 1 (state_of v).frames; inits = drop (length (state_of v).inits - v.frame.init_height) (state_of v).inits }
+
+  pub end_empty : v.is_open ≡ true → empty_block ≡ block_in v.frame.block → length v.operands ≡ v.frame.height → Closed → acted v C (leave ∷ []) ≡ Some new
+  end_empty e b h n =
+      let f : signature_in C (block_in v.frame.block) ≡ Some (record { takes = []; gives = [] }) = rw (← b) refl in
+      end_is v C [] 0 v.frame.init_height true (state_of v) new e (rw f refl) refl (omega (arith, h))
+      (λ g i. nothing_ends (world C) (kind_of v.frame.kind) ∙ ap (ends_in (world C) (kind_of v.frame.kind)) (some_same _ _ (sym f ∙ i))) refl refl refl n
+
+  pub end_value : (x : Val UnpackedIndex) → v.is_open ≡ true → value_block x ≡ block_in v.frame.block → is_if (kind_of v.frame.kind) ≡ false → pop_val (world C) x (state_of v) ≡ Some (below 1 (state_of v)) → push_operand (known x) (below 1 (state_of v)) ≡ state_of v
+      → length v.operands - 1 ≡ v.frame.height → Closed → acted v C (leave ∷ []) ≡ Some new
+  end_value x e b i p q h n =
+      let f : signature_in C (block_in v.frame.block) ≡ Some (record { takes = []; gives = x ∷ [] }) = rw (← b) refl in
+      end_is v C (x ∷ []) 1 v.frame.init_height true (state_of v) new e (rw f refl) p h
+      (λ g j. other_ends (world C) (kind_of v.frame.kind) g i) refl (sym q) refl n
+
+pub ruleset ends = (end_empty, end_value)

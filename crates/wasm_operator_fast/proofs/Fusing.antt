@@ -1,0 +1,223 @@
+-- Instructions that are read and stepped at once.
+use Rattle.std.proofs.Common.{◌≡◌, ◌≤◌, ◌<◌, ◌==◌, ℕ, ℤ, Bool, true, false, List, [], ◌∷◌, refl, sym, arith, ◌∙◌, ap, subst}
+use Rattle.std.specs.Prelude.{Some, None, Option, Result, Ok, Err, nat_lt}
+use Rattle.std.proofs.lemmas.Bool.Decides.{nat_tests}
+use Rattle.wasm_spec.specs.Values.{u32_at, signed_at}
+use Rattle.wasm_rules.specs.Contexts.{Context}
+use Rattle.wasm_readers.specs.Written.{written}
+use Rattle.wasm_readers_types.specs.declared.indices.UnpackedIndex.{UnpackedIndex}
+use Rattle.wasm_flat_operators.specs.Variables.{variable_from}
+use Rattle.wasm_flat_operators.specs.Constants.{constant_from}
+use Rattle.wasm_flat_operators.specs.Memories.{access_from, memarg_at}
+use Rattle.wasm_flat_operators.specs.declared.memories.MemoryOperator.{MemoryOperator}
+use Rattle.wasm_flat_operators.specs.declared.memories.MemArg.{MemArg}
+use Rattle.wasm_flat_operators.specs.declared.variables.VariableOperator.TheVariants.{LocalGet, LocalSet, LocalTee, GlobalGet, GlobalSet}
+use Rattle.wasm_flat_operators.specs.declared.constants.ConstantOperator.TheVariants.{I32Const, I64Const}
+use Rattle.wasm_numeric_operators.specs.Numeric.{numeric_from}
+use Rattle.wasm_numeric_operators.specs.Signatures.{signature_of}
+use Rattle.wasm_numeric_operators.specs.declared.numeric.NumericOperator.{NumericOperator}
+use Rattle.wasm_numeric_operators.specs.declared.signatures.NumberType.TheVariants as number
+use Rattle.wasm_numeric_operators.specs.declared.signatures.Signature.{Signature}
+use Rattle.wasm_operators.specs.Control.{parametric_from, drop_, control_from, end_, br, br_if, return_}
+use Rattle.wasm_operators.specs.References.{reference_from}
+use Rattle.wasm_operators.specs.Instructions.{Instruction, instruction_at, plain_from, variable, constant, numeric, parametric, control, access}
+use Rattle.wasm_operators.specs.Maps.{map_instruction}
+use Rattle.wasm_operator_steps.specs.Actions.{allows}
+use Rattle.wasm_operator_steps.specs.Machine.{State}
+use Rattle.wasm_operator_steps.specs.Shapes.{Shape, shape_of, variable_shape, computing, dropping, access_shape, control_shape, plain, one, nothing, closing, number_type}
+use Rattle.wasm_operator_steps.specs.Attempts.{◌>>=◌}
+use Rattle.wasm_operator_steps.specs.Steps.{is_open, step_in, actions_of}
+use Rattle.wasm_module_resources.specs.Answers.{world, written_index}
+use Rattle.wasm_operator_stacks.specs.Seen.{state_of, around}
+use Rattle.wasm_operator_stacks.specs.declared.stacks.Stacks.{Stacks}
+use Rattle.wasm_operator_checks.specs.Steps.{acted}
+use Rattle.wasm_operator_fast.specs.Fast.{Fast}
+use Rattle.wasm_operator_fast.specs.Fused.{Fused, performed, performed_from, step_at}
+use Rattle.wasm_operator_fast.specs.declared.not_taken.NotTaken.{NotTaken}
+
+below : (b m : ℕ) → b < m → nat_lt b m ≡ true
+below b m h = grind (arith, nat_tests)
+
+not_below : (b m : ℕ) → m ≤ b → nat_lt b m ≡ false
+not_below b m h = grind (arith, nat_tests)
+
+under : (b m : ℕ) → nat_lt b m ≡ false → m ≤ b
+under b m e = grind (arith, nat_tests)
+
+differ : (b m : ℕ) → m < b → (b == m) ≡ false
+differ b m h = grind (arith, nat_tests)
+
+-- no prefix is an opcode
+no_plain : (b : ℕ) (bytes : List ℕ) → 0xfb ≤ b → plain_from written b bytes ≡ None
+unfolding plain_from reference_from
+no_plain b bytes h =
+    rw (
+      not_below b 0x10 (omega arith),
+      not_below b 0x1a (omega arith),
+      not_below b 0x1f (omega arith),
+      not_below b 0x20 (omega arith),
+      not_below b 0x25 (omega arith),
+      not_below b 0x28 (omega arith),
+      not_below b 0x3f (omega arith),
+      not_below b 0x41 (omega arith),
+      not_below b 0x45 (omega arith),
+      not_below b 0xd0 (omega arith),
+      differ b 0xd0 (omega arith),
+      differ b 0xd1 (omega arith),
+      differ b 0xd2 (omega arith),
+      differ b 0xd3 (omega arith),
+      differ b 0xd4 (omega arith),
+      differ b 0xd5 (omega arith),
+      differ b 0xd6 (omega arith),
+    ) refl
+
+is_plain : (b : ℕ) (bytes : List ℕ) (i : Instruction UnpackedIndex × List ℕ) (t : Bool) → nat_lt b 0xfb ≡ t → plain_from written b bytes ≡ Some i → nat_lt b 0xfb ≡ true
+is_plain b bytes i true e f = e
+is_plain b bytes i false e f = let n : plain_from written b bytes ≡ None = no_plain b bytes (under b 0xfb e) in absurd cc
+
+pub fused_left : (e : NotTaken) (o : Option (State UnpackedIndex × List ℕ)) (old new : State UnpackedIndex) (bytes : List ℕ) → new ≡ old → Fused (Err e) o old new bytes
+unfolding Fused
+fused_left e o old new bytes h = h
+
+-- reading, by opcodes
+read_numeric : (b : ℕ) (op : NumericOperator) (bytes : List ℕ) → 0x45 ≤ b → b < 0xd0 → numeric_from b ≡ Some op → plain_from written b bytes ≡ Some (numeric op, bytes)
+unfolding plain_from
+read_numeric b op bytes l h f = rw (not_below b 0x10 (omega arith), not_below b 0x1a (omega arith), not_below b 0x1f (omega arith), not_below b 0x20 (omega arith), not_below b 0x25 (omega arith), not_below b 0x28 (omega arith), not_below b 0x3f (omega arith), not_below b 0x41 (omega arith), not_below b 0x45 l, below b 0xd0 h, f) refl
+
+read_access : (b : ℕ) (op : MemoryOperator) (m : MemArg) (bytes rest : List ℕ) → 0x28 ≤ b → b < 0x3f → access_from b ≡ Some op → memarg_at bytes ≡ Some (m, rest) → plain_from written b bytes ≡ Some (access op m, rest)
+unfolding plain_from
+read_access b op m bytes rest l h f g = rw (not_below b 0x10 (omega arith), not_below b 0x1a (omega arith), not_below b 0x1f (omega arith), not_below b 0x20 (omega arith), not_below b 0x25 (omega arith), not_below b 0x28 l, below b 0x3f h, f, g) refl
+
+module _ {A : Type 0} (v : Stacks A) (C : Context UnpackedIndex) (r : Result (Unit {0}) NotTaken) (b : ℕ) (bytes rest : List ℕ) (old new : State UnpackedIndex) where
+  abbrev Steps : Shape → Type 0
+  Steps shape = Fast r (acted v C (actions_of shape)) old new
+
+  abbrev Goes : Type 0
+  Goes = Fused r (performed_from v C b bytes) old new rest
+
+  -- an instruction that is read, and its step
+  fuse : (q : Result (Unit {0}) NotTaken) (i : Instruction UnpackedIndex) → plain_from written b bytes ≡ Some (i, rest) → Fast q (acted v C (actions_of (shape_of (map_instruction written_index i)))) old new → Fused q (performed_from v C b bytes) old new rest
+  unfolding Fast Fused performed_from
+  fuse (Ok x) i e h = rw (e, h) refl
+  fuse (Err y) i e h = h
+
+  read_get : (n : ℕ) → b ≡ 0x20 → u32_at bytes ≡ Some (n, rest) → plain_from written b bytes ≡ Some (variable (LocalGet n), rest)
+  unfolding plain_from variable_from
+  read_get n e f = rw (e, f) refl
+
+  read_set : (n : ℕ) → b ≡ 0x21 → u32_at bytes ≡ Some (n, rest) → plain_from written b bytes ≡ Some (variable (LocalSet n), rest)
+  unfolding plain_from variable_from
+  read_set n e f = rw (e, f) refl
+
+  read_tee : (n : ℕ) → b ≡ 0x22 → u32_at bytes ≡ Some (n, rest) → plain_from written b bytes ≡ Some (variable (LocalTee n), rest)
+  unfolding plain_from variable_from
+  read_tee n e f = rw (e, f) refl
+
+  read_global : (n : ℕ) → b ≡ 0x23 → u32_at bytes ≡ Some (n, rest) → plain_from written b bytes ≡ Some (variable (GlobalGet n), rest)
+  unfolding plain_from variable_from
+  read_global n e f = rw (e, f) refl
+
+  read_put : (n : ℕ) → b ≡ 0x24 → u32_at bytes ≡ Some (n, rest) → plain_from written b bytes ≡ Some (variable (GlobalSet n), rest)
+  unfolding plain_from variable_from
+  read_put n e f = rw (e, f) refl
+
+  read_i32 : (n : ℤ) → b ≡ 0x41 → signed_at 32 bytes ≡ Some (n, rest) → plain_from written b bytes ≡ Some (constant (I32Const n), rest)
+  unfolding plain_from constant_from
+  read_i32 n e f = rw (e, f) refl
+
+  read_i64 : (n : ℤ) → b ≡ 0x42 → signed_at 64 bytes ≡ Some (n, rest) → plain_from written b bytes ≡ Some (constant (I64Const n), rest)
+  unfolding plain_from constant_from
+  read_i64 n e f = rw (e, f) refl
+
+  pub at_get : (n : ℕ) → b ≡ 0x20 → u32_at bytes ≡ Some (n, rest) → Steps (variable_shape (LocalGet n)) → Goes
+  at_get n e f h = fuse r (variable (LocalGet n)) (read_get n e f) h
+
+  pub at_set : (n : ℕ) → b ≡ 0x21 → u32_at bytes ≡ Some (n, rest) → Steps (variable_shape (LocalSet n)) → Goes
+  at_set n e f h = fuse r (variable (LocalSet n)) (read_set n e f) h
+
+  pub at_tee : (n : ℕ) → b ≡ 0x22 → u32_at bytes ≡ Some (n, rest) → Steps (variable_shape (LocalTee n)) → Goes
+  at_tee n e f h = fuse r (variable (LocalTee n)) (read_tee n e f) h
+
+  pub at_global : (n : ℕ) → b ≡ 0x23 → u32_at bytes ≡ Some (n, rest) → Steps (variable_shape (GlobalGet n)) → Goes
+  at_global n e f h = fuse r (variable (GlobalGet n)) (read_global n e f) h
+
+  pub at_put : (n : ℕ) → b ≡ 0x24 → u32_at bytes ≡ Some (n, rest) → Steps (variable_shape (GlobalSet n)) → Goes
+  at_put n e f h = fuse r (variable (GlobalSet n)) (read_put n e f) h
+
+  pub at_i32 : (n : ℤ) → b ≡ 0x41 → signed_at 32 bytes ≡ Some (n, rest) → Steps (plain (allows (number_type number.I32) ∷ []) nothing (one (number_type number.I32))) → Goes
+  at_i32 n e f h = fuse r (constant (I32Const n)) (read_i32 n e f) h
+
+  pub at_i64 : (n : ℤ) → b ≡ 0x42 → signed_at 64 bytes ≡ Some (n, rest) → Steps (plain (allows (number_type number.I64) ∷ []) nothing (one (number_type number.I64))) → Goes
+  at_i64 n e f h = fuse r (constant (I64Const n)) (read_i64 n e f) h
+
+  read_br : (n : ℕ) → b ≡ 0x0c → u32_at bytes ≡ Some (n, rest) → plain_from written b bytes ≡ Some (control (br n), rest)
+  unfolding plain_from control_from
+  read_br n e f = rw (e, f) refl
+
+  read_br_if : (n : ℕ) → b ≡ 0x0d → u32_at bytes ≡ Some (n, rest) → plain_from written b bytes ≡ Some (control (br_if n), rest)
+  unfolding plain_from control_from
+  read_br_if n e f = rw (e, f) refl
+
+  pub at_br : (n : ℕ) → b ≡ 0x0c → u32_at bytes ≡ Some (n, rest) → Steps (control_shape (br n)) → Goes
+  at_br n e f h = fuse r (control (br n)) (read_br n e f) h
+
+  pub at_br_if : (n : ℕ) → b ≡ 0x0d → u32_at bytes ≡ Some (n, rest) → Steps (control_shape (br_if n)) → Goes
+  at_br_if n e f h = fuse r (control (br_if n)) (read_br_if n e f) h
+
+  pub at_access : (op : MemoryOperator) (m : MemArg) → 0x28 ≤ b → b < 0x3f → Some op ≡ access_from b → memarg_at bytes ≡ Some (m, rest) → Steps (access_shape op m) → Goes
+  at_access op m l h f g k = fuse r (access op m) (read_access b op m bytes rest l h (sym f) g) k
+
+module _ {A : Type 0} (v : Stacks A) (C : Context UnpackedIndex) (r : Result (Unit {0}) NotTaken) (b : ℕ) (bytes : List ℕ) (old new : State UnpackedIndex) where
+  read_end : b ≡ 0x0b → plain_from written b bytes ≡ Some (control end_, bytes)
+  unfolding plain_from control_from
+  read_end e = rw e refl
+
+  read_drop : b ≡ 0x1a → plain_from written b bytes ≡ Some (parametric drop_, bytes)
+  unfolding plain_from parametric_from
+  read_drop e = rw e refl
+
+  read_return : b ≡ 0x0f → plain_from written b bytes ≡ Some (control return_, bytes)
+  unfolding plain_from control_from
+  read_return e = rw e refl
+
+  pub at_return : b ≡ 0x0f → Fast r (acted v C (actions_of (control_shape return_))) old new → Fused r (performed_from v C b bytes) old new bytes
+  at_return e h = fuse v C r b bytes bytes old new r (control return_) (read_return e) h
+
+  pub at_end : b ≡ 0x0b → Fast r (acted v C (actions_of closing)) old new → Fused r (performed_from v C b bytes) old new bytes
+  at_end e h = fuse v C r b bytes bytes old new r (control end_) (read_end e) h
+
+  pub at_drop : b ≡ 0x1a → Fast r (acted v C (actions_of dropping)) old new → Fused r (performed_from v C b bytes) old new bytes
+  at_drop e h = fuse v C r b bytes bytes old new r (parametric drop_) (read_drop e) h
+
+  pub at_numeric : (op : NumericOperator) (g : Signature) → 0x45 ≤ b → b < 0xd0 → Some op ≡ numeric_from b → g ≡ signature_of op → Fast r (acted v C (actions_of (computing g))) old new → Fused r (performed_from v C b bytes) old new bytes
+  at_numeric op g l h f s k = fuse v C r b bytes bytes old new r (numeric op) (read_numeric b op bytes l h (sym f)) (subst (λ (x : Signature). Fast r (acted v C (actions_of (computing x))) old new) s k)
+
+pub ruleset variables = (fused_left, at_get, at_set, at_tee, at_global, at_put)
+
+pub ruleset structures = (fused_left, at_end, at_br, at_br_if, at_return, at_drop, at_i32, at_i64)
+
+pub ruleset tables = (fused_left, at_numeric, at_access)
+
+-- in a frame that is open
+module _ {A : Type 0} (v : Stacks A) (C : Context UnpackedIndex) (b : ℕ) (bytes behind rest : List ℕ) (old new : State UnpackedIndex) where
+  opened : v.is_open ≡ true → is_open (state_of v) ≡ true
+  opened e = rw e refl
+
+  stepped : (op : Instruction ℕ) → v.is_open ≡ true → step_in (world C) (around v C) op (state_of v) ≡ acted v C (actions_of (shape_of op))
+  unfolding acted
+  stepped op e = rw (opened e) refl
+
+  performs_one : (o : Option (Instruction UnpackedIndex × List ℕ)) → v.is_open ≡ true → bytes ≡ b ∷ behind → plain_from written b behind ≡ o → performed v C o ≡ Some (new, rest) → step_at (world C) (around v C) (state_of v) bytes ≡ Some (new, rest)
+  unfolding step_at instruction_at
+  performs_one None e f g p = cc
+  performs_one (Some i) e f g p = rw (f, is_plain b behind i (nat_lt b 0xfb) refl g, g) (ap (λ o. o >>= λ t. Some (t, i.1)) (stepped (map_instruction written_index i.0) e) ∙ p)
+
+  pub is_taken : (x : Unit {0}) → v.is_open ≡ true → bytes ≡ b ∷ behind → Fused (Ok x) (performed_from v C b behind) old new rest → step_at (world C) (around v C) (state_of v) bytes ≡ Some (new, rest)
+  unfolding Fused performed_from
+  is_taken x e f p = performs_one (plain_from written b behind) e f refl p
+
+pub not_taken : (y : NotTaken) (o : Option (State UnpackedIndex × List ℕ)) (old new : State UnpackedIndex) (rest : List ℕ) → Fused (Err y) o old new rest → new ≡ old
+unfolding Fused
+not_taken y o old new rest p = p
+
+pub ruleset steps = (is_taken, not_taken)

@@ -1,0 +1,5 @@
+pub mod Fasting
+pub mod Peeking
+pub mod Locally
+pub mod Ended
+pub mod Fusing

@@ -1,0 +1,42 @@
+-- Operands whose types are known.
+use Rattle.std.proofs.Common.{◌≡◌, ◌≢◌, ℕ, ◌-◌, ◌+◌, ◌<◌, ◌≤◌, true, [], ◌∷◌, length, drop, map, refl, sym, ◌∙◌, ap, arith}
+use Rattle.std.specs.Option.{option_map}
+use Rattle.std.specs.Prelude.{Some, slice_get}
+use Rattle.std.proofs.lemmas.Option.{slice_get-map}
+use Rattle.wasm_spec.specs.MatchingTests.{World}
+use Rattle.wasm_spec.specs.Syntax.{Val}
+use Rattle.wasm_rules.specs.Contexts.{Context}
+use Rattle.wasm_readers_types.specs.declared.indices.UnpackedIndex.{UnpackedIndex}
+use Rattle.wasm_operator_steps.specs.Machine.{State, known, pop_val, pop_vals, push_operand}
+use Rattle.wasm_module_resources.specs.Answers.{world}
+use Rattle.wasm_operator_stacks.specs.Seen.{state_of, below}
+use Rattle.wasm_operator_stacks.specs.SeenOperands.{operand_of}
+use Rattle.wasm_operator_stacks.specs.declared.word.Word.{Word}
+use Rattle.wasm_operator_stacks.specs.declared.stacks.Stacks.{Stacks}
+use Rattle.wasm_operator_checks.proofs.Agreeing.{known_matches}
+use Rattle.wasm_operator_checks.proofs.Looking.{look_within, one_popped, one_more, from_on}
+
+higher : (a b : ℕ) → b < a → a ≢ b
+higher a b h e = absurd (omega (arith, h, e))
+
+module _ {A : Type 0} (v : Stacks A) (C : Context UnpackedIndex) (k : ℕ) (o : Word) (x : Val UnpackedIndex) where
+  pub peeked : v.is_open ≡ true → slice_get v.operands k ≡ Some o → operand_of o ≡ known x → v.frame.height < length v.operands - k → pop_val (world C) x (below k (state_of v)) ≡ Some (below (k + 1) (state_of v))
+  peeked e u h l =
+      one_popped (world C) x (below k (state_of v)) (below (k + 1) (state_of v)) (operand_of o)
+      (look_within v.operands v.is_open v.frame v.outer v.locals.inits k o e (higher (length v.operands - k) v.frame.height l) u) (known_matches C (operand_of o) x h)
+
+  pub given_again : slice_get v.operands k ≡ Some o → operand_of o ≡ known x → push_operand (known x) (below (k + 1) (state_of v)) ≡ below k (state_of v)
+  given_again u h =
+      let d = from_on (map operand_of v.operands) k (operand_of o) (slice_get-map operand_of v.operands k ∙ ap (option_map operand_of) u) in
+      ap (λ xs. record (state_of v) { operands = xs }) (ap (λ y. y ∷ drop (k + 1) (map operand_of v.operands)) (sym h) ∙ sym d)
+
+  pub is_within : slice_get v.operands k ≡ Some o → k + 1 ≤ length (state_of v).operands
+  is_within u = one_more v.operands k o u
+
+pub ruleset peeks = (peeked, given_again, is_within)
+
+module _ (W : World UnpackedIndex) where
+  pub three_there : (u v w : Val UnpackedIndex) (s t x y : State UnpackedIndex) → pop_val W w s ≡ Some t → pop_val W v t ≡ Some x → pop_val W u x ≡ Some y → pop_vals W (u ∷ v ∷ w ∷ []) s ≡ Some y
+  three_there u v w s t x y e f g = rw (e, f, g) refl
+
+pub ruleset three = (three_there)

@@ -1,0 +1,14 @@
+use Rattle.wasm_type_words.specs.Seen.{val_in}
+use Rattle.wasm_module_resources.specs.Answers.{world}
+use Rattle.wasm_operator_stacks.specs.Seen.{state_of, below}
+use Rattle.wasm_operator_fast.proofs.Peeking.{three_there}
+use Rattle.wasm_operator_fast.proofs.peeks.peek_takes.Goals as goal
+
+pub returns-in_ok-peek-in-Three-3 : goal.returns-in_ok-peek-in-Three-3
+returns-in_ok-peek-in-Three-3 g c =
+    let s = state_of c.args.stacks.now in
+    rw c.in-Three.is (
+      three_there (world (g.T.WasmModuleResources.context c.args.resources.now)) (val_in c.in-Three.first) (val_in c.in-Three.second) (val_in c.in-Three.third) s (below 1 s) (below 2 s) (below 3 s)
+          c.in_ok-peek-in-Three.ensures.popped c.in_ok-peek-in-Three-2.ensures.popped c.in_ok-peek-in-Three-3.ensures.popped,
+      c.in_ok-peek-in-Three-3.ensures.within,
+    )

@@ -1,0 +1,12 @@
+use Rattle.wasm_module_resources.specs.Answers.{world}
+use Rattle.wasm_operator_stacks.specs.Seen.{state_of, below}
+use Rattle.wasm_operator_checks.specs.SeenTypes.{types_seen, takes_seen}
+use Rattle.wasm_operator_checks.proofs.Taking.{are_exchanged}
+use Rattle.wasm_operator_fast.specs.Fast.{Fast}
+use Rattle.wasm_operator_fast.proofs.plain.plain.Goals as goal
+
+pub returns-in-Ok-clause-took : goal.returns-in-Ok-clause-took
+unfolding Fast
+returns-in-Ok-clause-took g c =
+    are_exchanged (world (g.T.WasmModuleResources.context c.args.resources.now)) (takes_seen c.args.takes) (types_seen c.args.gives) (state_of c.args.stacks.now) (below c.in_ok-taken.taken (state_of c.args.stacks.now)) (state_of c.exchange_types.new.stacks)
+    c.in_ok-taken.ensures.0 c.in-Ok.ensures.ok

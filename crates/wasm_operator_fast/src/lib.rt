@@ -1,0 +1,15 @@
+//! Frequent operators, read and typed at once.
+#![tactic(auto)]
+
+mod ends;
+mod general;
+mod immediates;
+mod locals;
+mod not_taken;
+mod numbers;
+mod peeks;
+mod plain;
+mod steps;
+
+pub use not_taken::NotTaken;
+pub use steps::fast_step;

@@ -1,0 +1,113 @@
+//! Constants and numeric operators.
+
+ghost use Rattle.std.specs.Prelude.{◌≡◌, ◌∷◌, []};
+ghost use Rattle.wasm_numeric_operators.specs.declared.signatures.Signature.TheVariants.{Unary, Binary};
+ghost use Rattle.wasm_operator_steps.specs.Actions.{allows};
+ghost use Rattle.wasm_operator_steps.specs.Shapes.{computing, number_type, nothing, one, plain as plain_shape};
+ghost use Rattle.wasm_operator_stacks.specs.Seen.{Kept};
+ghost use Rattle.wasm_operator_fast.specs.Fast.{Performs};
+
+use crate::not_taken::NotTaken;
+use crate::plain::plain;
+use std::alloc::Allocator;
+use wasm_module_resources::WasmModuleResources;
+use wasm_numeric_operators::{NumberType, Signature};
+use wasm_operator_checks::{Takes, ValTypes};
+use wasm_operator_numbers::allows_number;
+use wasm_operator_stacks::Stacks;
+use wasm_type_words::TypeWord;
+
+/// An operator that takes a number and gives one.
+#[inline(always)]
+#[tactic(auto, using(crate::proofs::Fasting::acts, wasm_operator_checks::proofs::Typing::types))]
+fn unary<A: Allocator, T: WasmModuleResources>(
+    stacks: &mut Stacks<A>,
+    resources: &T,
+    from: NumberType,
+    to: NumberType,
+) -> Result<(), NotTaken>
+    ensures took { Performs result (T.context resources.now) (computing (Unary from to))
+        stacks.old stacks.new }
+    ensures same { Kept stacks.old stacks.new }
+{
+    if !allows_number(stacks, from) {
+        return Err(NotTaken::Left);
+    }
+    if !allows_number(stacks, to) {
+        return Err(NotTaken::Left);
+    }
+    plain(
+        stacks,
+        resources,
+        Takes::One(TypeWord::number(from)),
+        ValTypes::One(TypeWord::number(to)),
+    )
+}
+
+/// An operator that takes two numbers of one type and gives one.
+#[inline(always)]
+#[tactic(auto, using(crate::proofs::Fasting::acts, wasm_operator_checks::proofs::Typing::types))]
+fn binary<A: Allocator, T: WasmModuleResources>(
+    stacks: &mut Stacks<A>,
+    resources: &T,
+    from: NumberType,
+    to: NumberType,
+) -> Result<(), NotTaken>
+    ensures took { Performs result (T.context resources.now) (computing (Binary from to))
+        stacks.old stacks.new }
+    ensures same { Kept stacks.old stacks.new }
+{
+    if !allows_number(stacks, from) {
+        return Err(NotTaken::Left);
+    }
+    if !allows_number(stacks, to) {
+        return Err(NotTaken::Left);
+    }
+    plain(
+        stacks,
+        resources,
+        Takes::Two(TypeWord::number(from), TypeWord::number(from)),
+        ValTypes::One(TypeWord::number(to)),
+    )
+}
+
+/// An operator that takes and gives numbers.
+#[inline(always)]
+pub(crate) fn compute<A: Allocator, T: WasmModuleResources>(
+    stacks: &mut Stacks<A>,
+    resources: &T,
+    signature: Signature,
+) -> Result<(), NotTaken>
+    ensures took { Performs result (T.context resources.now) (computing signature)
+        stacks.old stacks.new }
+    ensures same { Kept stacks.old stacks.new }
+{
+    match signature {
+        Signature::Unary(from, to) => unary(stacks, resources, from, to),
+        Signature::Binary(from, to) => binary(stacks, resources, from, to),
+    }
+}
+
+/// A constant of a number type.
+#[inline(always)]
+#[tactic(auto, using(crate::proofs::Fasting::acts, wasm_operator_checks::proofs::Typing::types))]
+pub(crate) fn constant<A: Allocator, T: WasmModuleResources>(
+    stacks: &mut Stacks<A>,
+    resources: &T,
+    ty: NumberType,
+) -> Result<(), NotTaken>
+    ensures took { Performs result (T.context resources.now)
+        (plain_shape (allows (number_type ty) ∷ []) nothing (one (number_type ty)))
+        stacks.old stacks.new }
+    ensures same { Kept stacks.old stacks.new }
+{
+    if !allows_number(stacks, ty) {
+        return Err(NotTaken::Left);
+    }
+    plain(
+        stacks,
+        resources,
+        Takes::None,
+        ValTypes::One(TypeWord::number(ty)),
+    )
+}

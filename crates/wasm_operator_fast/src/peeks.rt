@@ -1,0 +1,80 @@
+//! Looks at operands whose types are known.
+
+ghost use Rattle.std.specs.Prelude.{◌≡◌, ◌≤◌, ◌+◌, Some, length, OnOk};
+ghost use Rattle.wasm_type_words.specs.Seen.{val_in};
+ghost use Rattle.wasm_operator_steps.specs.Machine.{known, pop_val, pop_vals, push_operand};
+ghost use Rattle.wasm_module_resources.specs.Answers.{world};
+ghost use Rattle.wasm_operator_stacks.specs.Seen.{state_of, below};
+ghost use Rattle.wasm_operator_checks.specs.SeenTypes.{takes_seen};
+ghost use Rattle.wasm_operator_fast.specs.Fast.{Peeked};
+
+use crate::not_taken::NotTaken;
+use std::alloc::Allocator;
+use wasm_module_resources::WasmModuleResources;
+use wasm_operator_checks::Takes;
+use wasm_operator_stacks::Stacks;
+use wasm_type_words::TypeWord;
+
+/// Looks whether an operand that is known to be of this type is in the innermost frame, below so
+/// many others.
+#[inline(always)]
+#[tactic(auto, using(crate::proofs::Peeking::peeks))]
+pub(crate) fn peek<A: Allocator, T: WasmModuleResources>(
+    stacks: &Stacks<A>,
+    _resources: &T,
+    depth: usize,
+    ty: TypeWord,
+) -> Result<(), NotTaken>
+    ensures popped { OnOk result (pop_val (world (T.context _resources.now)) (val_in ty)
+        (below depth (state_of stacks.now)) ≡ Some (below (depth + 1) (state_of stacks.now))) }
+    ensures there { OnOk result (push_operand (known (val_in ty))
+        (below (depth + 1) (state_of stacks.now)) ≡ below depth (state_of stacks.now)) }
+    ensures within { OnOk result (depth + 1 ≤ length (state_of stacks.now).operands) }
+{
+    if !stacks.is_open {
+        return Err(NotTaken::Left);
+    }
+    let Some(operand) = stacks.operands.get(depth) else {
+        return Err(NotTaken::Left);
+    };
+    if !operand.is(ty) {
+        return Err(NotTaken::Left);
+    }
+    if stacks.operands.len() - depth <= stacks.frame.height {
+        return Err(NotTaken::Left);
+    }
+    Ok(())
+}
+
+/// Looks whether the operands are on top that an operator takes, at most three, and how many they
+/// are.
+#[inline(always)]
+#[tactic(auto, using(wasm_operator_checks::proofs::Taking::two, crate::proofs::Peeking::three))]
+pub(crate) fn peek_takes<'a, A: Allocator, T: WasmModuleResources>(
+    stacks: &Stacks<A>,
+    resources: &T,
+    takes: Takes<'a>,
+) -> Result<usize, NotTaken>
+    ensures { Peeked result (pop_vals (world (T.context resources.now)) (takes_seen takes.entry)
+        (state_of stacks.now)) (state_of stacks.now) }
+{
+    match takes {
+        Takes::None => Ok(0),
+        Takes::One(ty) => {
+            peek(stacks, resources, 0, ty)?;
+            Ok(1)
+        }
+        Takes::Two(first, second) => {
+            peek(stacks, resources, 0, second)?;
+            peek(stacks, resources, 1, first)?;
+            Ok(2)
+        }
+        Takes::Three(first, second, third) => {
+            peek(stacks, resources, 0, third)?;
+            peek(stacks, resources, 1, second)?;
+            peek(stacks, resources, 2, first)?;
+            Ok(3)
+        }
+        Takes::Many(_) => Err(NotTaken::Left),
+    }
+}

@@ -1,0 +1,191 @@
+//! Reading and typing at once.
+
+ghost use Rattle.std.specs.Prelude.{◌≡◌, ◌≤◌, ◌<◌, Some, OnOk, OnErr};
+ghost use Rattle.wasm_binary_reader.specs.Reader.{SameInput, position_in, rest};
+ghost use Rattle.wasm_module_resources.specs.Answers.{world};
+ghost use Rattle.wasm_operator_stacks.specs.Seen.{state_of, around, Kept};
+ghost use Rattle.wasm_operator_fast.specs.Fused.{Fuses, step_at};
+
+use crate::ends::end;
+use crate::general::{
+    access, branch_away, branch_perhaps, drop_one, get_global, return_all, set_global,
+};
+use crate::immediates::{next_byte, next_i32, next_i64, next_index, next_memarg};
+use crate::locals::{local_get, local_set, local_tee};
+use crate::not_taken::NotTaken;
+use crate::numbers::{compute, constant};
+use std::alloc::Allocator;
+use wasm_flat_operators::access_from_opcode;
+use wasm_module_resources::WasmModuleResources;
+use wasm_numeric_operators::{NumberType, numeric_from_opcode, numeric_signature};
+use wasm_operator_stacks::Stacks;
+use wasm_readers::BinaryReader;
+
+/// A numeric operator, a load or a store.
+#[inline(always)]
+#[tactic(auto, using(crate::proofs::Fusing::tables))]
+fn step_by_table<A: Allocator, T: WasmModuleResources>(
+    reader: &mut BinaryReader,
+    stacks: &mut Stacks<A>,
+    resources: &T,
+    opcode: u8,
+) -> Result<(), NotTaken>
+    ensures input { SameInput reader.old reader.new }
+    ensures onward { position_in reader.old ≤ position_in reader.new }
+    ensures took { Fuses result (T.context resources.now) opcode reader.old
+        stacks.old reader.new stacks.new }
+    ensures same { Kept stacks.old stacks.new }
+{
+    if 0x45 <= opcode && opcode < 0xd0 {
+        match numeric_from_opcode(opcode) {
+            Some(op) => compute(stacks, resources, numeric_signature(op)),
+            None => Err(NotTaken::Left),
+        }
+    } else if 0x28 <= opcode && opcode < 0x3f {
+        match access_from_opcode(opcode) {
+            Some(op) => {
+                let arg = next_memarg(reader)?;
+                access(stacks, resources, op, arg)
+            }
+            None => Err(NotTaken::Left),
+        }
+    } else {
+        Err(NotTaken::Left)
+    }
+}
+
+/// A constant or a control operator, or another.
+#[inline(always)]
+#[tactic(auto, using(crate::proofs::Fusing::structures))]
+fn step_structural<A: Allocator, T: WasmModuleResources>(
+    reader: &mut BinaryReader,
+    stacks: &mut Stacks<A>,
+    resources: &T,
+    opcode: u8,
+) -> Result<(), NotTaken>
+    ensures input { SameInput reader.old reader.new }
+    ensures onward { position_in reader.old ≤ position_in reader.new }
+    ensures took { Fuses result (T.context resources.now) opcode reader.old
+        stacks.old reader.new stacks.new }
+    ensures same { Kept stacks.old stacks.new }
+{
+    match opcode {
+        0x0b => end(stacks, resources),
+        0x0c => {
+            let depth = next_index(reader)?;
+            branch_away(stacks, resources, depth)
+        }
+        0x0d => {
+            let depth = next_index(reader)?;
+            branch_perhaps(stacks, resources, depth)
+        }
+        0x0f => return_all(stacks, resources),
+        0x1a => drop_one(stacks, resources),
+        0x41 => {
+            let _value = next_i32(reader)?;
+            constant(stacks, resources, NumberType::I32)
+        }
+        0x42 => {
+            let _value = next_i64(reader)?;
+            constant(stacks, resources, NumberType::I64)
+        }
+        _ => step_by_table(reader, stacks, resources, opcode),
+    }
+}
+
+/// An operator on a local or a global, or another.
+#[inline(always)]
+#[tactic(auto, using(crate::proofs::Fusing::variables))]
+fn step_by_opcode<A: Allocator, T: WasmModuleResources>(
+    reader: &mut BinaryReader,
+    stacks: &mut Stacks<A>,
+    resources: &T,
+    opcode: u8,
+) -> Result<(), NotTaken>
+    ensures input { SameInput reader.old reader.new }
+    ensures onward { position_in reader.old ≤ position_in reader.new }
+    ensures took { Fuses result (T.context resources.now) opcode reader.old
+        stacks.old reader.new stacks.new }
+    ensures same { Kept stacks.old stacks.new }
+{
+    match opcode {
+        0x20 => {
+            let index = next_index(reader)?;
+            local_get(stacks, resources, index)
+        }
+        0x21 => {
+            let index = next_index(reader)?;
+            local_set(stacks, resources, index)
+        }
+        0x22 => {
+            let index = next_index(reader)?;
+            local_tee(stacks, resources, index)
+        }
+        0x23 => {
+            let index = next_index(reader)?;
+            get_global(stacks, resources, index)
+        }
+        0x24 => {
+            let index = next_index(reader)?;
+            set_global(stacks, resources, index)
+        }
+        _ => step_structural(reader, stacks, resources, opcode),
+    }
+}
+
+/// Reads and types the next operator, if a frame is open. Where that isn't done the reader may
+/// stand further on.
+#[inline(always)]
+#[tactic(auto, using(crate::proofs::Fusing::steps))]
+fn next_step<A: Allocator, T: WasmModuleResources>(
+    reader: &mut BinaryReader,
+    stacks: &mut Stacks<A>,
+    resources: &T,
+) -> Result<(), NotTaken>
+    ensures input { SameInput reader.old reader.new }
+    ensures further { OnOk result (position_in reader.old < position_in reader.new) }
+    ensures took { OnOk result (step_at (world (T.context resources.now))
+        (around stacks.old (T.context resources.now)) (state_of stacks.old) (rest reader.old)
+        ≡ Some (state_of stacks.new, rest reader.new)) }
+    ensures left { OnErr result (state_of stacks.new ≡ state_of stacks.old) }
+    ensures same { Kept stacks.old stacks.new }
+{
+    if !stacks.is_open {
+        return Err(NotTaken::Left);
+    }
+    let opcode = next_byte(reader)?;
+    step_by_opcode(reader, stacks, resources, opcode)?;
+    Ok(())
+}
+
+/// Reads the next operator and takes its step, where it is a frequent one and its operands are of
+/// known types: those that a compiler's output is made of.
+///
+/// # Errors
+///
+/// Where it isn't, or the bytes or the operator are wrong in any way, and where a stack's growth is
+/// refused its memory. Nothing has changed then, and the reader stands where it stood.
+#[inline(always)]
+pub fn fast_step<A: Allocator, T: WasmModuleResources>(
+    reader: &mut BinaryReader,
+    stacks: &mut Stacks<A>,
+    resources: &T,
+) -> Result<(), NotTaken>
+    ensures input { SameInput reader.old reader.new }
+    ensures further { OnOk result (position_in reader.old < position_in reader.new) }
+    ensures took { OnOk result (step_at (world (T.context resources.now))
+        (around stacks.old (T.context resources.now)) (state_of stacks.old) (rest reader.old)
+        ≡ Some (state_of stacks.new, rest reader.new)) }
+    ensures unread { OnErr result (reader.new ≡ reader.old) }
+    ensures left { OnErr result (state_of stacks.new ≡ state_of stacks.old) }
+    ensures same { Kept stacks.old stacks.new }
+{
+    let mut ahead = *reader;
+    match next_step(&mut ahead, stacks, resources) {
+        Ok(()) => {
+            reader.go_on_from(&ahead);
+            Ok(())
+        }
+        Err(error) => Err(error),
+    }
+}
