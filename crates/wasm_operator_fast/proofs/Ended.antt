@@ -8,7 +8,7 @@ use Rattle.wasm_readers_types.specs.declared.indices.UnpackedIndex.{UnpackedInde
 use Rattle.wasm_operators.specs.Control.{empty_block, value_block}
 use Rattle.wasm_operator_steps.specs.Actions.{leave}
 use Rattle.wasm_operator_steps.specs.Machine.{Kind, block_kind, loop_kind, if_kind, else_kind, try_table_kind, is_if, State, known, pop_val, push_operand}
-use Rattle.wasm_operator_steps.specs.Meanings.{Signature}
+use Rattle.wasm_rules.specs.Signatures.{Signature}
 use Rattle.wasm_module_resources.specs.Answers.{world}
 use Rattle.wasm_operator_stacks.specs.Seen.{state_of, below}
 use Rattle.wasm_operator_stacks.specs.SeenBlocks.{block_in, kind_of}

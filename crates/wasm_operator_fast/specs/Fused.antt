@@ -8,7 +8,7 @@ use Rattle.wasm_readers.specs.Written.{written}
 use Rattle.wasm_readers_types.specs.declared.indices.UnpackedIndex.{UnpackedIndex}
 use Rattle.wasm_operators.specs.Instructions.{Instruction, instruction_at, plain_from}
 use Rattle.wasm_operators.specs.Maps.{map_instruction}
-use Rattle.wasm_operator_steps.specs.Attempts.{◌>>=◌}
+use Rattle.wasm_rules.specs.Attempts.{◌>>=◌}
 use Rattle.wasm_operator_steps.specs.Bodies.{Surroundings}
 use Rattle.wasm_operator_steps.specs.Machine.{State}
 use Rattle.wasm_operator_steps.specs.Shapes.{shape_of}

@@ -13,8 +13,8 @@ use Rattle.wasm_readers_types.specs.declared.indices.UnpackedIndex.TheVariants.{
 use Rattle.wasm_readers_types.specs.declared.types.SubType.{SubType}
 use Rattle.wasm_validator_type_list.specs.Declares.{subs_by_ids, declares}
 use Rattle.wasm_validator_type_list.specs.Worlds.{ids_world}
-use Rattle.wasm_operator_steps.specs.Attempts.{◌>>=◌, passes}
-use Rattle.wasm_operator_steps.specs.Worlds.{declared_in, is_below}
+use Rattle.wasm_rules.specs.Attempts.{◌>>=◌, passes}
+use Rattle.wasm_rules.specs.Worlds.{declared_in, is_below}
 use Rattle.wasm_module_resources.specs.Answers.{same_index, world}
 use Rattle.wasm_operator_worlds.specs.ListContexts.{IsNoId, IsSeen}
 use Rattle.wasm_operator_worlds.specs.IndexContexts.{id_of}

@@ -2,7 +2,7 @@
 use Rattle.std.proofs.Common.{◌≡◌, refl, sym, ◌∙◌, ℕ, zero, suc, ◌+◌, ◌<◌, ◌≤◌, Bool, true, false, true≢false, ◌||◌, ◌==◌, List, [], ◌∷◌, length, Some, None, slice_get, get_or, arith}
 use Rattle.std.specs.Prelude.{nat_lt}
 use Rattle.std.proofs.lemmas.Bool.Decides.{Decides-eqb, Decides-ltb}
-use Rattle.wasm_operator_steps.specs.Attempts.{among}
+use Rattle.wasm_rules.specs.Attempts.{among}
 use Rattle.wasm_validator_core_resources.specs.ModuleContexts.{exact_flags, numbers_from}
 
 -- a function that is there is exact as the module says

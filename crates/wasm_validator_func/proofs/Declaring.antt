@@ -12,7 +12,7 @@ use Rattle.wasm_readers_errors.specs.declared.error.Error.{Error}
 use Rattle.wasm_readers_errors.specs.declared.error.Error.TheVariants as error
 use Rattle.wasm_readers_types.specs.declared.indices.UnpackedIndex.{UnpackedIndex}
 use Rattle.wasm_operator_steps.specs.Bodies.{Local}
-use Rattle.wasm_operator_steps.specs.Meanings.{resolve_val}
+use Rattle.wasm_rules.specs.Signatures.{resolve_val}
 use Rattle.wasm_module_resources.specs.Answers.{written_index, val_in}
 use Rattle.wasm_operator_checks.specs.Told.{TellsError}
 use Rattle.wasm_operator_checks.specs.declared.faults.OperatorError.{OperatorError}

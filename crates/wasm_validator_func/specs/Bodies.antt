@@ -11,7 +11,8 @@ use Rattle.wasm_spec.specs.MatchingTests.{World}
 use Rattle.wasm_operators.specs.Instructions.{Instruction, instruction_at}
 use Rattle.wasm_operator_steps.specs.Bodies.{Local, Surroundings}
 use Rattle.wasm_operator_steps.specs.Machine.{State}
-use Rattle.wasm_operator_steps.specs.Meanings.{has_default, resolve_val}
+use Rattle.wasm_rules.specs.Signatures.{resolve_val}
+use Rattle.wasm_operator_steps.specs.Meanings.{has_default}
 use Rattle.wasm_operator_steps.specs.Steps.{step_in, steps_in, is_finished}
 use Rattle.wasm_constant_checks.specs.Constants.{Are}
 

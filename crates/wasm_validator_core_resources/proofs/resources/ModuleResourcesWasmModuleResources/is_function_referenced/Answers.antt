@@ -1,6 +1,6 @@
 use Rattle.std.proofs.Common.{◌∙◌, ap}
 use Rattle.std.specs.Prelude.{nat_lt, length}
-use Rattle.wasm_operator_steps.specs.Attempts.{among}
+use Rattle.wasm_rules.specs.Attempts.{among}
 use Rattle.wasm_validator_core_resources.proofs.Lists.{among_first}
 use Rattle.wasm_validator_core_resources.proofs.resources.ModuleResourcesWasmModuleResources.is_function_referenced.Goals as goal
 
