@@ -61,7 +61,7 @@ fn refusal(malformed: Malformed, offset: u64) -> Refusal
     Refusal::new(Fault::Malformed(malformed), offset)
 }
 
-#[tactic(auto, unfolding(crate::specs::Framing::place))]
+#[tactic(auto, unfolding(wasm_spec::specs::Framing::place))]
 fn place_of(id: u8) -> u8
     ensures { result ≡ place id }
 {
@@ -98,7 +98,7 @@ fn read_number(body: BinaryReader) -> Result<u32, Refusal>
 }
 
 /// The section of this id other than the code section with these contents.
-#[tactic(auto, unfolding(crate::specs::Framing::piece_of))]
+#[tactic(auto, unfolding(wasm_spec::specs::Framing::piece_of))]
 fn read_piece<'a, A: Allocator + Copy>(
     alloc: A,
     id: u8,
