@@ -1,10 +1,13 @@
 -- The start of a body and of a constant expression.
-use Rattle.std.proofs.Common.{◌≡◌, ℕ, Bool, List, [], ◌++◌, map, refl, sym, ◌∙◌, ap}
+use Rattle.std.proofs.Common.{◌≡◌, ◌<◌, ℕ, Bool, List, [], ◌++◌, map, length, refl, sym, ◌∙◌, ap, subst}
+use Rattle.std.proofs.lemmas.List.{length-map}
 use Rattle.std.specs.Option.{option_map}
-use Rattle.std.specs.Prelude.{Option, Some}
+use Rattle.std.specs.Prelude.{Option, Some, Err}
 use Rattle.wasm_spec.specs.Syntax.{Val, Sub}
 use Rattle.wasm_rules.specs.Contexts.{Context}
 use Rattle.wasm_readers_types.specs.declared.indices.UnpackedIndex.{UnpackedIndex}
+use Rattle.wasm_readers_types.specs.SeenValues.{val_of}
+use Rattle.wasm_readers_types.specs.declared.values.ValType.{ValType}
 use Rattle.wasm_operators.specs.Control.{Block}
 use Rattle.wasm_rules.specs.Attempts.{◌>>=◌}
 use Rattle.wasm_operator_steps.specs.Bodies.{Local}
@@ -13,7 +16,9 @@ use Rattle.wasm_rules.specs.Signatures.{Signature, signature_of}
 use Rattle.wasm_operator_steps.specs.Steps.{start}
 use Rattle.wasm_module_resources.specs.Answers.{sub_in}
 use Rattle.wasm_operator_control.specs.Blocks.{function_in}
-use Rattle.wasm_operator_validator.specs.Typed.{parameter}
+use Rattle.wasm_operator_checks.specs.declared.faults.OperatorError.{OperatorError}
+use Rattle.wasm_operator_checks.specs.declared.faults.OperatorError.TheVariants.{Refused, OutOfMemory}
+use Rattle.wasm_operator_validator.specs.Typed.{parameter, HasMany, IsRefused}
 
 abbrev nothing : State UnpackedIndex
 nothing = record { operands = []; frames = []; inits = [] }
@@ -32,4 +37,13 @@ module _ (C : Context UnpackedIndex) (n : ℕ) (d : Sub UnpackedIndex) where
   pub shared_found : (b c : Bool) → Some d ≡ sub_in C n → b ≡ d.shared → c ≡ b → Some c ≡ option_map (λ x. x.shared) (sub_in C n)
   shared_found b c e f h = ap Some (h ∙ f) ∙ ap (option_map (λ (x : Sub UnpackedIndex). x.shared)) e
 
-pub ruleset begins = (begun, parameters_found, shared_found)
+  signature_found : (g : Signature UnpackedIndex) → Some d ≡ sub_in C n → signature_of d.comp ≡ Some g → Some g ≡ function_in C n
+  signature_found g e f = sym f ∙ ap (λ o. option_map (λ (x : Sub UnpackedIndex). x.comp) o >>= signature_of) e
+
+  -- too many parameters
+  pub many_found : (X : Type 0) (r : OperatorError) (g : Signature UnpackedIndex) (xs : List ValType) → IsRefused r → Some d ≡ sub_in C n → signature_of d.comp ≡ Some g → g.takes ≡ map val_of xs → 50000 < length xs → HasMany {X = X} (Err r) (function_in C n)
+  many_found X (Refused f) g xs i e h j k =
+      subst (λ o. HasMany {X = X} (Err (Refused f)) o) (signature_found g e h) (subst (λ m. 50000 < m) (sym (length-map xs val_of) ∙ ap length (sym j)) k)
+  many_found X OutOfMemory g xs i e h j k = absurd i
+
+pub ruleset begins = (begun, parameters_found, shared_found, many_found)

@@ -8,7 +8,7 @@ use Rattle.wasm_readers_types.specs.declared.indices.UnpackedIndex.{UnpackedInde
 use Rattle.wasm_operators.specs.Control.{value_block, func_block}
 use Rattle.wasm_operator_steps.specs.Bodies.{Local}
 use Rattle.wasm_operator_steps.specs.Machine.{State}
-use Rattle.wasm_operator_steps.specs.Meanings.{has_default}
+use Rattle.wasm_operator_steps.specs.Meanings.{Signature, has_default}
 use Rattle.wasm_operator_steps.specs.Steps.{start}
 use Rattle.wasm_module_resources.specs.Answers.{sub_in}
 use Rattle.wasm_operator_stacks.specs.Seen.{state_of}
@@ -46,6 +46,13 @@ module _ {A : Type 0} (v : OperatorValidator A) where
     pub locals : locals_in v ≡ []
     pub shared : v.stacks.is_shared ≡ false
     pub not_failed : v.failed ≡ false
+
+-- A refusal at the start of a body: its function has more parameters than a body may have locals.
+abbrev pub HasMany : {X : Type 0} → Result X OperatorError → Option (Signature UnpackedIndex) → Type 0
+HasMany (Ok x) g = ⊤
+HasMany (Err (Refused f)) None = ⊥
+HasMany (Err (Refused f)) (Some g) = 50000 < length g.takes
+HasMany (Err OutOfMemory) g = ⊤
 
 -- a refusal, and not want of memory
 abbrev pub IsRefused : OperatorError → Type 0

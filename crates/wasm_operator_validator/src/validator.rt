@@ -11,7 +11,7 @@ ghost use Rattle.wasm_operator_stacks.specs.Seen.{Kept};
 ghost use Rattle.wasm_operator_control.specs.Blocks.{function_in};
 ghost use Rattle.wasm_operator_validator.specs.Stepped.{Steps, IsWrittenInstruction};
 ghost use Rattle.wasm_operator_validator.specs.Visited.{IsToldAt, StepsAt};
-ghost use Rattle.wasm_operator_validator.specs.Typed.{typed_state, parameter, BeginsBody, BeginsConstant, Defines, IsRefused};
+ghost use Rattle.wasm_operator_validator.specs.Typed.{typed_state, parameter, BeginsBody, BeginsConstant, Defines, HasMany, IsRefused};
 
 use crate::steps::step;
 use std::alloc::{AllocError, Allocator, Global};
@@ -98,6 +98,7 @@ impl<A: Allocator> OperatorValidator<A> {
         requires { IsSome (function_in (T.context resources.now) type_index) }
         ensures begins { IfOk result (λ v. BeginsBody v (T.context resources.now) type_index) }
         ensures features { IfOk result (λ v. v.stacks.features ≡ features) }
+        ensures many { HasMany result (function_in (T.context resources.now) type_index) }
     {
         let mut stacks = allocations.stacks;
         let sub = match resources.sub_type_at(type_index) {

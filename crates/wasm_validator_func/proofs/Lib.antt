@@ -4,3 +4,4 @@ pub mod Machine
 pub mod Stepping
 pub mod Finding
 pub mod Whole
+pub mod Functions

@@ -1,5 +1,5 @@
 -- One operator at an offset, as the step that it takes.
-use Rattle.std.proofs.Common.{◌≡◌, ◌≤◌, ◌+◌, ◌∙◌, refl, sym, ap, ℕ, List, length, Option, Some, None, Result, Ok, Err, arith}
+use Rattle.std.proofs.Common.{◌≡◌, ◌≤◌, ap, ℕ, length, Option, Result, Ok, Err, arith}
 use Rattle.wasm_rules.specs.Contexts.{Context}
 use Rattle.wasm_binary_reader.specs.Reader.{SameInput, input, original, position_in}
 use Rattle.wasm_binary_reader.specs.declared.binary_reader.BinaryReader.{BinaryReader}

@@ -1,8 +1,8 @@
 -- Function bodies: the locals that they declare, and the instructions behind them.
 -- Core Specification 3.0, Validation, Modules (Functions), and Binary Format, Modules (Code Section).
-use Rattle.std.specs.Prelude.{◌≡◌, ◌≤◌, ◌+◌, ◌++◌, ◌==◌, ℕ, zero, suc, Bool, true, nat_le, if◌then◌else◌, List, [], ◌∷◌, length, map, replicate, Option, Some, None}
+use Rattle.std.specs.Prelude.{◌≡◌, ◌≤◌, ◌+◌, ◌++◌, ◌==◌, ℕ, zero, suc, true, nat_le, if◌then◌else◌, List, [], ◌∷◌, length, replicate, Option, Some, None}
 use Rattle.std.specs.Option.{option_map, option_and_then}
-use Rattle.wasm_spec.specs.Syntax.{Val, Sub}
+use Rattle.wasm_spec.specs.Syntax.{Val}
 use Rattle.wasm_spec.specs.Features.{Features}
 use Rattle.wasm_spec.specs.ValueTypes.{allows_val}
 use Rattle.wasm_spec.specs.Values.{u32_at, list_at}

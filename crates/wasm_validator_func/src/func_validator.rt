@@ -3,6 +3,7 @@
 ghost use Rattle.std.specs.Prelude.{◌≡◌, ◌≤◌, ◌<◌, ◌^◌, ◌||◌, true, false, not, is_ok, length, slice_get, IfOk, IfErr, OnErr, IsSome};
 ghost use Rattle.std.specs.Option.{option_map};
 ghost use Rattle.wasm_binary_reader.specs.Reader.{SameInput, position_in, rest};
+ghost use Rattle.wasm_rules.specs.FeatureFlags.{features_of};
 ghost use Rattle.wasm_parser.specs.Seen.{body_of, body_reader};
 ghost use Rattle.wasm_readers_types.specs.SeenValues.{val_of};
 ghost use Rattle.wasm_operators.specs.SeenOperators.{operator_of};
@@ -14,6 +15,7 @@ ghost use Rattle.wasm_operator_validator.specs.Visited.{StepsAt};
 ghost use Rattle.wasm_operator_validator.specs.Typed.{typed_state, locals_in, BeginsBody};
 ghost use Rattle.wasm_operator_validator.specs.Shown.{known_type, shown_frame};
 ghost use Rattle.wasm_constant_checks.specs.Checked.{StandsIn};
+ghost use Rattle.wasm_validator_func.specs.Functions.{IsFunctionBody, Decides, HasMore};
 ghost use Rattle.wasm_validator_func.specs.Validated.{declaration_of, declared_in, listed_in, body_in, Goes, DeclaredAt, Declares, Validates};
 
 use crate::bodies::{check_body, refused};
@@ -79,6 +81,7 @@ impl<T: WasmModuleResources + Drop> FuncToValidate<T> {
         ensures features { IfOk result (λ v. v.validator.stacks.features ≡ self.features) }
         ensures resources { IfOk result (λ v. v.resources ≡ self.resources) }
         ensures index { IfOk result (λ v. v.index ≡ self.index) }
+        ensures many { HasMore result (function_in (T.context self.resources) self.ty) }
     {
         let FuncToValidate {
             resources,
@@ -99,6 +102,33 @@ impl<T: WasmModuleResources + Drop> FuncToValidate<T> {
             resources,
             index,
         })
+    }
+
+    /// Validates the function's body, in memory that was used before, and gives the memory back.
+    /// The type's index names a function type.
+    ///
+    /// # Errors
+    ///
+    /// Refused exactly where it isn't the body of a function of this type (Core Specification 3.0,
+    /// Validation, Modules, Functions), and where memory is.
+    #[tactic(auto, using(crate::proofs::Functions::functions))]
+    pub fn validate<A: Allocator>(
+        self,
+        body: &FunctionBody<'_>,
+        allocations: FuncValidatorAllocations<A>,
+    ) -> Result<FuncValidatorAllocations<A>, Error>
+        requires { IsSome (function_in (T.context self.resources) self.ty) }
+        ensures { Decides (IsFunctionBody (features_of self.features)
+            (T.context self.resources) self.ty (body_of body.now)) result }
+    {
+        let mut validator = match self.into_validator(allocations) {
+            Ok(validator) => validator,
+            Err(error) => return Err(error),
+        };
+        match validator.validate(body) {
+            Ok(()) => Ok(validator.into_allocations()),
+            Err(error) => Err(error),
+        }
     }
 }
 

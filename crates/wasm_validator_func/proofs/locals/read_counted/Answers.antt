@@ -1,4 +1,4 @@
-use Rattle.std.proofs.Common.{◌≡◌, ◌≤◌, ◌<◌, ◌∙◌, ◌||◌, ap, subst, Some, None, Ok, Err, false, arith, rules}
+use Rattle.std.proofs.Common.{◌≡◌, ◌<◌, ◌∙◌, ◌||◌, ap, subst, Some, None, false, arith, rules}
 use Rattle.wasm_rules.specs.FeatureFlags.{features_of}
 use Rattle.wasm_binary_reader.specs.Reader.{position_in, rest}
 use Rattle.wasm_operator_validator.specs.Typed.{locals_in}

@@ -1,0 +1,100 @@
+-- The body of a function, from its start.
+use Rattle.std.proofs.Common.{◌≡◌, ◌≤◌, ◌<◌, ◌+◌, ◌∙◌, refl, sym, ap, subst, ℕ, Bool, List, length, map, Option, Some, None, Err, length-append, arith}
+use Rattle.std.proofs.lemmas.List.{length-map}
+use Rattle.std.specs.Option.{option_map}
+use Rattle.wasm_spec.specs.Features.{Features}
+use Rattle.wasm_rules.specs.Contexts.{Context}
+use Rattle.wasm_rules.specs.FeatureFlags.{features_of}
+use Rattle.wasm_readers_errors.specs.declared.error.Error.{Error}
+use Rattle.wasm_readers_errors.specs.declared.error.Error.TheVariants.{Refused, OutOfMemory}
+use Rattle.wasm_readers_errors.specs.declared.error.Refusal.{Refusal}
+use Rattle.wasm_readers_types.specs.declared.indices.UnpackedIndex.{UnpackedIndex}
+use Rattle.wasm_operators.specs.Control.{func_block}
+use Rattle.wasm_operator_steps.specs.Bodies.{Local}
+use Rattle.wasm_operator_steps.specs.Machine.{State}
+use Rattle.wasm_operator_steps.specs.Meanings.{Signature}
+use Rattle.wasm_operator_steps.specs.Steps.{start}
+use Rattle.wasm_module_resources.specs.Answers.{world, sub_in}
+use Rattle.wasm_operator_stacks.specs.Seen.{surroundings}
+use Rattle.wasm_operator_control.specs.Blocks.{function_in}
+use Rattle.wasm_operator_validator.specs.Typed.{typed_state, locals_in, parameter, BeginsBody}
+use Rattle.wasm_operator_validator.specs.declared.validator.OperatorValidator.{OperatorValidator}
+use Rattle.wasm_constant_checks.specs.Checked.{within}
+use Rattle.wasm_validator_func.specs.Bodies.{IsBody, body_from}
+use Rattle.wasm_validator_func.specs.Functions.{IsFunctionBody, Refuses, HasMore}
+use Rattle.wasm_validator_func.specs.Validated.{body_in, Validates}
+use Rattle.wasm_validator_func.proofs.Finding.{finds, are_found}
+
+abbrev value_or : {X : Type 0} → X → Option X → X
+value_or x None = x
+value_or x (Some y) = y
+
+something : {X : Type 0} (x : X) → Some x ≡ None → ⊥
+something x e = absurd cc
+
+abbrev parameters : Signature UnpackedIndex → List (Local UnpackedIndex)
+parameters g = map parameter g.takes
+
+-- a validator that begins the body of a function
+module _ {A : Type 0} (v : OperatorValidator A) (F : Features) (C : Context UnpackedIndex) (n : ℕ) (bytes : List ℕ) where
+  abbrev Body : List (Local UnpackedIndex) → Bool → State UnpackedIndex → List (Local UnpackedIndex) → State UnpackedIndex → Type 0
+  Body ps shared s ls t = IsBody (world C) (surroundings F shared C ps) s bytes ls t
+
+  accepted_by : (ls : List (Local UnpackedIndex)) (t : State UnpackedIndex) (o : Option (Signature UnpackedIndex)) → function_in C n ≡ o → Some (locals_in v) ≡ option_map parameters o
+      → option_map (λ d. d.shared) (sub_in C n) ≡ Some v.stacks.is_shared → Body (locals_in v) v.stacks.is_shared (start (func_block n)) ls t → IsFunctionBody F C n bytes
+  accepted_by ls t None e f h b = absurd cc
+  accepted_by ls t (Some g) e f h b = record {
+    signature = g;
+    shared = v.stacks.is_shared;
+    locals = ls;
+    last = t;
+    is_function = e;
+    is_shared = h;
+    body = subst (λ ps. Body ps v.stacks.is_shared (start (func_block n)) ls t) (ap (value_or (locals_in v)) f) b;
+  }
+
+  pub accepted : (ls : List (Local UnpackedIndex)) (t : State UnpackedIndex) → features_of v.stacks.features ≡ F → length (locals_in v) ≤ 50000 → BeginsBody v C n → body_in v C bytes ≡ Some (ls, t) → IsFunctionBody F C n bytes
+  accepted ls t e h b f =
+      let found : IsBody (world C) (within v C) (typed_state v) bytes ls t = finds (world C) (within v C) (typed_state v) bytes ls t h f in
+      let featured : Body (locals_in v) v.stacks.is_shared (typed_state v) ls t =
+      subst (λ G. IsBody (world C) (surroundings G v.stacks.is_shared C (locals_in v)) (typed_state v) bytes ls t) e found in
+      accepted_by ls t (function_in C n) refl b.locals (sym b.shared) (subst (λ s. Body (locals_in v) v.stacks.is_shared s ls t) b.state featured)
+
+  -- such a body is found
+  found : features_of v.stacks.features ≡ F → BeginsBody v C n → (x : IsFunctionBody F C n bytes) → body_in v C bytes ≡ Some (x.locals, x.last)
+  found e b x =
+      let there : body_from (world C) (surroundings F x.shared C (parameters x.signature)) (start (func_block n)) bytes ≡ Some (x.locals, x.last) =
+      are_found (world C) (surroundings F x.shared C (parameters x.signature)) (start (func_block n)) bytes x.locals x.last x.body in
+      let same_locals : locals_in v ≡ parameters x.signature = ap (value_or (locals_in v)) (b.locals ∙ ap (option_map parameters) x.is_function) in
+      let same_shared : v.stacks.is_shared ≡ x.shared = ap (value_or v.stacks.is_shared) (b.shared ∙ x.is_shared) in
+      ap (λ G. body_from (world C) (surroundings G v.stacks.is_shared C (locals_in v)) (typed_state v) bytes) e
+      ∙ ap (λ c. body_from (world C) (surroundings F c C (locals_in v)) (typed_state v) bytes) same_shared
+      ∙ ap (λ ps. body_from (world C) (surroundings F x.shared C ps) (typed_state v) bytes) same_locals
+      ∙ ap (λ s. body_from (world C) (surroundings F x.shared C (parameters x.signature)) s bytes) b.state ∙ there
+
+  refused : features_of v.stacks.features ≡ F → BeginsBody v C n → body_in v C bytes ≡ None → IsFunctionBody F C n bytes → ⊥
+  refused e b f x = something (x.locals, x.last) (sym (found e b x) ∙ f)
+
+-- a function of too many parameters has no body
+module _ (F : Features) (C : Context UnpackedIndex) (n : ℕ) (bytes : List ℕ) where
+  too_many : (X : Type 0) (r : Refusal) → HasMore {X = X} (Err (Refused r)) (function_in C n) → IsFunctionBody F C n bytes → ⊥
+  too_many X r h x =
+      let many : 50000 < length x.signature.takes = subst (λ o. HasMore {X = X} (Err (Refused r)) o) x.is_function h in
+      let all : length x.locals ≡ length (parameters x.signature) + length x.body.locals = ap length x.body.all ∙ length-append (parameters x.signature) x.body.locals in
+      let mapped : length (parameters x.signature) ≡ length x.signature.takes = length-map x.signature.takes parameter in
+      let few : length x.locals ≤ 50000 = x.body.few in
+      absurd (omega (arith, many, all, mapped, few))
+
+  -- the answer where the start is refused
+  pub begins_not : (X : Type 0) (e : Error) → HasMore {X = X} (Err e) (function_in C n) → Refuses (IsFunctionBody F C n bytes) e
+  begins_not X (Refused r) h = too_many X r h
+  begins_not X OutOfMemory h = tt
+
+module _ {A : Type 0} (v : OperatorValidator A) (F : Features) (C : Context UnpackedIndex) (n : ℕ) (bytes : List ℕ) where
+  -- and where the body is
+  pub body_refused : (e : Error) (ls : List (Local UnpackedIndex)) (t : State UnpackedIndex) → features_of v.stacks.features ≡ F → BeginsBody v C n → Validates (Err e) (body_in v C bytes) ls t
+      → Refuses (IsFunctionBody F C n bytes) e
+  body_refused (Refused r) ls t e b f = refused v F C n bytes e b f
+  body_refused OutOfMemory ls t e b f = tt
+
+pub ruleset functions = (begins_not)
