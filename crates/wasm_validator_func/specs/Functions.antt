@@ -9,7 +9,7 @@ use Rattle.wasm_readers_types.specs.declared.indices.UnpackedIndex.{UnpackedInde
 use Rattle.wasm_operators.specs.Control.{func_block}
 use Rattle.wasm_operator_steps.specs.Bodies.{Local}
 use Rattle.wasm_operator_steps.specs.Machine.{State}
-use Rattle.wasm_operator_steps.specs.Meanings.{Signature}
+use Rattle.wasm_rules.specs.Signatures.{Signature}
 use Rattle.wasm_operator_steps.specs.Steps.{start}
 use Rattle.wasm_module_resources.specs.Answers.{world, sub_in}
 use Rattle.wasm_operator_stacks.specs.Seen.{surroundings}
