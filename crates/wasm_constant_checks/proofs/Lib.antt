@@ -1,4 +1,3 @@
-pub mod Written
 pub mod Machine
 pub mod Finding
 pub mod Stepping

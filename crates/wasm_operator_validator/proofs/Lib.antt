@@ -3,3 +3,5 @@ pub mod Defining
 pub mod Beginning
 pub mod Declaring
 pub mod Visiting
+pub mod Written
+pub mod Reading

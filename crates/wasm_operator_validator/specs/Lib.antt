@@ -2,3 +2,4 @@ pub mod Stepped
 pub mod Typed
 pub mod Shown
 pub mod Visited
+pub mod Reads

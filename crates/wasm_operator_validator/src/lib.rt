@@ -2,6 +2,7 @@
 //! (Core Specification 3.0, Validation, Instructions, and Appendix, Validation Algorithm).
 #![tactic(auto)]
 
+mod bytes;
 mod queries;
 mod steps;
 mod validator;

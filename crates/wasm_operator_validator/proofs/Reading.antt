@@ -1,0 +1,59 @@
+-- One step from bytes is reading, and the step of what was read.
+use Rattle.std.proofs.Common.{◌≡◌, ◌∙◌, refl, ap, subst, ℕ, List, Option, Some, None, Result, Ok, Err}
+use Rattle.wasm_rules.specs.Contexts.{Context}
+use Rattle.wasm_binary_reader.specs.Reader.{rest}
+use Rattle.wasm_binary_reader.specs.declared.binary_reader.BinaryReader.{BinaryReader}
+use Rattle.wasm_readers.specs.Written.{written}
+use Rattle.wasm_readers_errors.specs.declared.error.Error.{Error}
+use Rattle.wasm_readers_errors.specs.declared.error.Error.TheVariants.{Refused, OutOfMemory}
+use Rattle.wasm_readers_types.specs.declared.indices.UnpackedIndex.{UnpackedIndex}
+use Rattle.wasm_operators.specs.Instructions.{Instruction, instruction_at}
+use Rattle.wasm_operators.specs.Maps.{map_instruction}
+use Rattle.wasm_operator_steps.specs.Machine.{State}
+use Rattle.wasm_operator_steps.specs.Steps.{step_in}
+use Rattle.wasm_module_resources.specs.Answers.{world, written_index}
+use Rattle.wasm_operator_stacks.specs.Seen.{state_of, around, Kept}
+use Rattle.wasm_operator_stacks.specs.declared.stacks.Stacks.{Stacks}
+use Rattle.wasm_operator_checks.specs.Steps.{Took}
+use Rattle.wasm_operator_checks.specs.Told.{TellsError}
+use Rattle.wasm_operator_checks.specs.declared.faults.OperatorError.{OperatorError}
+use Rattle.wasm_operator_checks.specs.declared.faults.OperatorError.TheVariants as operator
+use Rattle.wasm_operator_fast.specs.Fused.{step_at}
+use Rattle.wasm_operator_validator.specs.Stepped.{Steps}
+use Rattle.wasm_operator_validator.specs.Reads.{ReadsStep, stepped}
+
+module _ {A : Type 0} (C : Context UnpackedIndex) (v : Stacks A) (r : BinaryReader) where
+  abbrev step_of : Instruction UnpackedIndex → Option (State UnpackedIndex)
+  step_of i = step_in (world C) (around v C) (map_instruction written_index i) (state_of v)
+
+  pub unread : instruction_at written (rest r) ≡ None → stepped C v r ≡ None
+  unfolding step_at
+  unread e = rw e refl
+
+  refused : (i : Instruction UnpackedIndex) (more : List ℕ) → instruction_at written (rest r) ≡ Some (i, more) → step_of i ≡ None → stepped C v r ≡ None
+  unfolding step_at
+  refused i more e f = rw (e, f) refl
+
+  taken : (i : Instruction UnpackedIndex) (more : List ℕ) (t : State UnpackedIndex) → instruction_at written (rest r) ≡ Some (i, more) → step_of i ≡ Some t → stepped C v r ≡ Some (t, more)
+  unfolding step_at
+  taken i more t e f = rw (e, f) refl
+
+  pub step_taken : (i : Instruction UnpackedIndex) (more : List ℕ) (x : Unit {0}) (w : Stacks A) → instruction_at written (rest r) ≡ Some (i, more) → Steps (Ok x) C i v w → stepped C v r ≡ Some (state_of w, more)
+  unfolding Took
+  step_taken i more x w e p = taken i more (state_of w) e p
+
+  pub step_refused : (i : Instruction UnpackedIndex) (more : List ℕ) (e : OperatorError) (offset : ℕ) (q : Error) (w : Stacks A) (new : State UnpackedIndex) (behind : List ℕ) → instruction_at written (rest r) ≡ Some (i, more) → TellsError e offset q → Steps (Err e) C i v w → ReadsStep (Err q) (stepped C v r) new behind
+  unfolding Took
+  step_refused i more (operator.Refused f) offset (Refused q) w new behind e t p = refused i more e p.0
+  step_refused i more (operator.Refused f) offset OutOfMemory w new behind e t p = absurd t
+  step_refused i more operator.OutOfMemory offset OutOfMemory w new behind e t p = tt
+  step_refused i more operator.OutOfMemory offset (Refused q) w new behind e t p = absurd t
+
+kept_around : {A : Type 0} (v w : Stacks A) (C : Context UnpackedIndex) → Kept v w → around w C ≡ around v C
+kept_around v w C k = rw (k.features, k.shared, k.content) refl
+
+-- from where nothing changed
+pub from_the_same : {A : Type 0} (C : Context UnpackedIndex) (v w : Stacks A) (r s : BinaryReader) (q : Result (Unit {0}) Error) (new : State UnpackedIndex) (more : List ℕ) → Kept v w → state_of w ≡ state_of v → s ≡ r → ReadsStep q (stepped C w s) new more → ReadsStep q (stepped C v r) new more
+from_the_same C v w r s q new more k e f p =
+    let same : stepped C w s ≡ stepped C v r = ap (λ (x : BinaryReader). step_at (world C) (around w C) (state_of w) (rest x)) f ∙ ap (λ t. step_at (world C) (around w C) t (rest r)) e ∙ ap (λ B. step_at (world C) B (state_of v) (rest r)) (kept_around v w C k) in
+    subst (λ o. ReadsStep q o new more) same p

@@ -1,0 +1,97 @@
+//! Steps from bytes.
+
+ghost use Rattle.std.specs.Prelude.{◌≡◌, ◌≤◌, ◌<◌, Some, false, OnOk, OnErr};
+ghost use Rattle.wasm_binary_reader.specs.Reader.{SameInput, position_in, rest};
+ghost use Rattle.wasm_operator_stacks.specs.Seen.{Kept};
+ghost use Rattle.wasm_operator_validator.specs.Typed.{typed_state};
+ghost use Rattle.wasm_operator_validator.specs.Reads.{ReadsStep, stepped};
+
+use crate::validator::OperatorValidator;
+use std::alloc::Allocator;
+use wasm_module_resources::WasmModuleResources;
+use wasm_operator_fast::{NotTaken, fast_step};
+use wasm_operators::read_operator;
+use wasm_readers::BinaryReader;
+use wasm_readers_errors::Error;
+
+impl<A: Allocator> OperatorValidator<A> {
+    /// Reads the next operator and takes its step, where it is a frequent one, its operands are of
+    /// known types and nothing was refused. Where that isn't done, all stays.
+    #[inline(always)]
+    fn frequent_op<'a, T: WasmModuleResources>(
+        &mut self,
+        resources: &T,
+        reader: &mut BinaryReader<'a>,
+    ) -> Result<(), NotTaken>
+        ensures took { OnOk result (stepped (T.context resources.now) self.old.stacks reader.old
+            ≡ Some (typed_state self.new, rest reader.new)) }
+        ensures unread { OnErr result (reader.new ≡ reader.old) }
+        ensures left { OnErr result (typed_state self.new ≡ typed_state self.old) }
+        ensures input { SameInput reader.old reader.new }
+        ensures further { OnOk result (position_in reader.old < position_in reader.new) }
+        ensures same { Kept self.old.stacks self.new.stacks }
+        ensures going { OnOk result (self.new.failed ≡ false) }
+        ensures failed { self.new.failed ≡ self.old.failed }
+    {
+        if self.has_failed() {
+            return Err(NotTaken::Left);
+        }
+        fast_step(reader, &mut self.stacks, resources)?;
+        Ok(())
+    }
+
+    /// Reads the next operator, and takes its step.
+    #[inline(never)]
+    fn read_op<'a, T: WasmModuleResources>(
+        &mut self,
+        resources: &T,
+        reader: &mut BinaryReader<'a>,
+    ) -> Result<(), Error>
+        ensures took { self.old.failed ≡ false → ReadsStep result
+            (stepped (T.context resources.now) self.old.stacks reader.old)
+            (typed_state self.new) (rest reader.new) }
+        ensures input { SameInput reader.old reader.new }
+        ensures onward { position_in reader.old ≤ position_in reader.new }
+        ensures further { OnOk result (position_in reader.old < position_in reader.new) }
+        ensures same { Kept self.old.stacks self.new.stacks }
+        ensures going { OnOk result (self.new.failed ≡ false) }
+    {
+        let offset = reader.original_position();
+        let op = match read_operator(reader) {
+            Ok(op) => op,
+            Err(refusal) => return Err(Error::Refused(refusal)),
+        };
+        match self.op(resources, &op) {
+            Ok(()) => Ok(()),
+            Err(error) => Err(error.at(offset)),
+        }
+    }
+
+    /// Reads the next operator and takes its step: [`wasm_operators::read_operator`] and then
+    /// [`OperatorValidator::op`], with a fast way for frequent operators.
+    ///
+    /// # Errors
+    ///
+    /// Refuses bytes that aren't an operator, and at its offset an operator that isn't valid here,
+    /// and any once something was refused; answers want of memory.
+    #[inline]
+    pub fn step_from_bytes<'a, T: WasmModuleResources>(
+        &mut self,
+        resources: &T,
+        reader: &mut BinaryReader<'a>,
+    ) -> Result<(), Error>
+        ensures took { self.old.failed ≡ false → ReadsStep result
+            (stepped (T.context resources.now) self.old.stacks reader.old)
+            (typed_state self.new) (rest reader.new) }
+        ensures input { SameInput reader.old reader.new }
+        ensures onward { position_in reader.old ≤ position_in reader.new }
+        ensures further { OnOk result (position_in reader.old < position_in reader.new) }
+        ensures same { Kept self.old.stacks self.new.stacks }
+        ensures going { OnOk result (self.new.failed ≡ false) }
+    {
+        match self.frequent_op(resources, reader) {
+            Ok(()) => Ok(()),
+            Err(_) => self.read_op(resources, reader),
+        }
+    }
+}
