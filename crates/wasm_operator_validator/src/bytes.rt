@@ -1,6 +1,6 @@
 //! Steps from bytes.
 
-ghost use Rattle.std.specs.Prelude.{◌≡◌, ◌≤◌, ◌<◌, Some, false, OnOk, OnErr};
+ghost use Rattle.std.specs.Prelude.{◌≡◌, ◌≤◌, ◌<◌, ◌||◌, Some, false, not, is_ok, OnOk, OnErr};
 ghost use Rattle.wasm_binary_reader.specs.Reader.{SameInput, position_in, rest};
 ghost use Rattle.wasm_operator_stacks.specs.Seen.{Kept};
 ghost use Rattle.wasm_operator_validator.specs.Typed.{typed_state};
@@ -54,12 +54,15 @@ impl<A: Allocator> OperatorValidator<A> {
         ensures onward { position_in reader.old ≤ position_in reader.new }
         ensures further { OnOk result (position_in reader.old < position_in reader.new) }
         ensures same { Kept self.old.stacks self.new.stacks }
-        ensures going { OnOk result (self.new.failed ≡ false) }
+        ensures failed { self.new.failed ≡ (self.old.failed || not (is_ok result)) }
     {
         let offset = reader.original_position();
         let op = match read_operator(reader) {
             Ok(op) => op,
-            Err(refusal) => return Err(Error::Refused(refusal)),
+            Err(refusal) => {
+                self.fail();
+                return Err(Error::Refused(refusal));
+            }
         };
         match self.op(resources, &op) {
             Ok(()) => Ok(()),
@@ -72,8 +75,8 @@ impl<A: Allocator> OperatorValidator<A> {
     ///
     /// # Errors
     ///
-    /// Refuses bytes that aren't an operator, and at its offset an operator that isn't valid here,
-    /// and any once something was refused; answers want of memory.
+    /// Refuses bytes that aren't an operator, and at its offset an operator that isn't valid here;
+    /// and all once something was refused. Answers want of memory.
     #[inline]
     pub fn step_from_bytes<'a, T: WasmModuleResources>(
         &mut self,
@@ -87,7 +90,7 @@ impl<A: Allocator> OperatorValidator<A> {
         ensures onward { position_in reader.old ≤ position_in reader.new }
         ensures further { OnOk result (position_in reader.old < position_in reader.new) }
         ensures same { Kept self.old.stacks self.new.stacks }
-        ensures going { OnOk result (self.new.failed ≡ false) }
+        ensures failed { self.new.failed ≡ (self.old.failed || not (is_ok result)) }
     {
         match self.frequent_op(resources, reader) {
             Ok(()) => Ok(()),
