@@ -1,2 +1,3 @@
 pub mod Typing
 pub mod Finding
+pub mod Written

@@ -1,11 +1,13 @@
-//! Constant expressions of a type, read and typed in one pass (Core Specification 3.0, Validation,
-//! Instructions, Constant Expressions).
+//! Items that hold constant expressions, read and typed in one pass: globals (Core Specification
+//! 3.0, Validation, Modules).
 //!
 //! Each `offset` counts bytes from the start of the input.
 #![tactic(auto)]
 
 mod expressions;
+mod globals;
 mod laws;
 
 pub use expressions::check_expression_of_type;
+pub use globals::check_global_entry;
 pub use laws::expressions_are_found;
