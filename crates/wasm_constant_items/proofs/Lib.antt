@@ -1,0 +1,4 @@
+pub mod Typing
+pub mod Finding
+pub mod Written
+pub mod Loops

@@ -1,0 +1,14 @@
+use Rattle.std.proofs.Common.{◌∙◌, arith, rules}
+use Rattle.wasm_rules.specs.FeatureFlags.{features_of}
+use Rattle.wasm_binary_reader.specs.Reader.{rest}
+use Rattle.wasm_readers_types.specs.SeenValues.{val_of}
+use Rattle.wasm_constant_items.specs.Expressions.{behind_expression}
+use Rattle.wasm_constant_items.proofs.Loops.{one_less}
+use Rattle.wasm_constant_items.proofs.lists.check_expressions.Goals as goal
+
+pub items-preserved : goal.items-preserved
+items-preserved g c = record {
+  same = search rules;
+  onward = omega arith;
+  so_far = one_less (behind_expression (g.T.WasmModuleResources.context c.args.resources.now) (features_of c.args.features) c.args.imported_globals (val_of c.args.ty)) c.items.left (rest c.items.reader) (rest c.check_expression_of_type.new.reader) (omega arith) c.in_ok-allocations.ensures.past ∙ c.items.invariant.so_far;
+}

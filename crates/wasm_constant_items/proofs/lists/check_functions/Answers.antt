@@ -1,0 +1,12 @@
+use Rattle.std.proofs.Common.{◌∙◌, arith, rules}
+use Rattle.wasm_binary_reader.specs.Reader.{rest}
+use Rattle.wasm_constant_items.specs.Elements.{behind_function}
+use Rattle.wasm_constant_items.proofs.Loops.{one_less}
+use Rattle.wasm_constant_items.proofs.lists.check_functions.Goals as goal
+
+pub items-preserved : goal.items-preserved
+items-preserved g c = record {
+  same = search rules;
+  onward = omega arith;
+  so_far = one_less (behind_function (g.T.WasmModuleResources.context c.args.resources.now)) c.items.left (rest c.items.reader) (rest c.check_function.new.reader) (omega arith) c.in_ok-check_function.ensures.past ∙ c.items.invariant.so_far;
+}

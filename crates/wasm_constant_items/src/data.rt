@@ -1,0 +1,98 @@
+//! Data segments.
+
+ghost use Rattle.std.specs.Prelude.{◌≤◌, IfErr};
+ghost use Rattle.wasm_rules.specs.FeatureFlags.{features_of};
+ghost use Rattle.wasm_binary_reader.specs.Reader.{SameInput, position_in, rest};
+ghost use Rattle.wasm_constant_checks.specs.Checked.{IsRefusedAt, StandsIn};
+ghost use Rattle.wasm_constant_items.specs.Answers.{GoesPast};
+ghost use Rattle.wasm_constant_items.specs.Data.{behind_data_mode, behind_data};
+
+use crate::offsets::check_memory_offset;
+use std::alloc::Allocator;
+use wasm_module_resources::WasmModuleResources;
+use wasm_operator_validator::OperatorValidatorAllocations;
+use wasm_readers::BinaryReader;
+use wasm_readers_errors::{Error, Fault, Malformed, Refusal, WasmFeatures};
+
+/// The refusal of a segment's flag, at this offset.
+#[inline(never)]
+pub(crate) fn unknown_flag(offset: u64) -> Error
+    ensures { IsRefusedAt offset result }
+{
+    Error::Refused(Refusal::new(Fault::Malformed(Malformed::Flag), offset))
+}
+
+/// Reads where a data segment with this flag goes, and types its offset.
+fn check_data_mode<'a, A: Allocator, T: WasmModuleResources>(
+    allocations: OperatorValidatorAllocations<A>,
+    features: WasmFeatures,
+    resources: &T,
+    imported_globals: u32,
+    flag: u32,
+    reader: &mut BinaryReader<'a>,
+) -> Result<OperatorValidatorAllocations<A>, Error>
+    ensures past { GoesPast result (behind_data_mode (T.context resources.now)
+        (features_of features) imported_globals flag (rest reader.old)) (rest reader.new) }
+    ensures input { SameInput reader.old reader.new }
+    ensures onward { position_in reader.old ≤ position_in reader.new }
+    ensures place { IfErr result (StandsIn reader.old) }
+{
+    match flag {
+        0 => check_memory_offset(
+            allocations,
+            features,
+            resources,
+            imported_globals,
+            0,
+            reader,
+        ),
+        1 => Ok(allocations),
+        2 => {
+            let memory_index = reader.read_var_u32()?;
+            check_memory_offset(
+                allocations,
+                features,
+                resources,
+                imported_globals,
+                memory_index,
+                reader,
+            )
+        }
+        _ => Err(unknown_flag(reader.original_position())),
+    }
+}
+
+/// Reads a data segment, and types its offset in memory that was used before, which is handed on.
+/// So many globals are imported, and they come first.
+///
+/// # Errors
+///
+/// Refused where the bytes don't begin with a data segment, and where it goes into a memory that
+/// isn't there, or from an offset that isn't a constant expression of the memory's address type
+/// (Core Specification 3.0, Validation, Modules, Data Segments); and where memory is.
+#[tactic(auto, unfolding(crate::specs::Data::behind_data))]
+pub fn check_data<'a, A: Allocator, T: WasmModuleResources>(
+    allocations: OperatorValidatorAllocations<A>,
+    features: WasmFeatures,
+    resources: &T,
+    imported_globals: u32,
+    reader: &mut BinaryReader<'a>,
+) -> Result<OperatorValidatorAllocations<A>, Error>
+    ensures past { GoesPast result (behind_data (T.context resources.now) (features_of features)
+        imported_globals (rest reader.old)) (rest reader.new) }
+    ensures input { SameInput reader.old reader.new }
+    ensures onward { position_in reader.old ≤ position_in reader.new }
+    ensures place { IfErr result (StandsIn reader.old) }
+{
+    let flag = reader.read_var_u32()?;
+    let allocations = check_data_mode(
+        allocations,
+        features,
+        resources,
+        imported_globals,
+        flag,
+        reader,
+    )?;
+    reader.read_sized()?;
+    Ok(allocations)
+}

@@ -1,0 +1,46 @@
+//! Constant expressions of a type.
+
+ghost use Rattle.std.specs.Prelude.{◌≤◌, IfErr};
+ghost use Rattle.wasm_rules.specs.FeatureFlags.{features_of};
+ghost use Rattle.wasm_binary_reader.specs.Reader.{SameInput, position_in, rest};
+ghost use Rattle.wasm_readers_types.specs.SeenValues.{val_of};
+ghost use Rattle.wasm_constant_checks.specs.Checked.{StandsIn};
+ghost use Rattle.wasm_constant_items.specs.Answers.{GoesPast};
+ghost use Rattle.wasm_constant_items.specs.Expressions.{behind_expression};
+
+use std::alloc::Allocator;
+use wasm_constant_checks::check_constant_expression;
+use wasm_module_resources::WasmModuleResources;
+use wasm_operator_validator::{OperatorValidator, OperatorValidatorAllocations};
+use wasm_readers::BinaryReader;
+use wasm_readers_errors::{Error, WasmFeatures};
+use wasm_readers_types::ValType;
+
+/// Reads and types the constant expression of this type that the bytes begin with, in memory that
+/// was used before, and hands the memory on. The type's references are identities. So many globals
+/// are imported, and they come first.
+///
+/// # Errors
+///
+/// Refused where the bytes don't begin with a constant expression of this type (Core Specification
+/// 3.0, Validation, Instructions, Constant Expressions); and where memory is.
+pub fn check_expression_of_type<'a, A: Allocator, T: WasmModuleResources>(
+    allocations: OperatorValidatorAllocations<A>,
+    features: WasmFeatures,
+    resources: &T,
+    imported_globals: u32,
+    ty: ValType,
+    reader: &mut BinaryReader<'a>,
+) -> Result<OperatorValidatorAllocations<A>, Error>
+    ensures past { GoesPast result (behind_expression (T.context resources.now)
+        (features_of features) imported_globals (val_of ty) (rest reader.old)) (rest reader.new) }
+    ensures input { SameInput reader.old reader.new }
+    ensures onward { position_in reader.old ≤ position_in reader.new }
+    ensures place { IfErr result (StandsIn reader.old) }
+{
+    let mut validator = OperatorValidator::new_const_expr(features, ty, allocations)?;
+    match check_constant_expression(&mut validator, resources, imported_globals, reader) {
+        Ok(()) => Ok(validator.into_allocations()),
+        Err(error) => Err(error),
+    }
+}

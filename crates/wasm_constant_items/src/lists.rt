@@ -1,0 +1,154 @@
+//! The items of element segments.
+
+ghost use Rattle.std.specs.Prelude.{◌≤◌, IfErr};
+ghost use Rattle.wasm_rules.specs.FeatureFlags.{features_of};
+ghost use Rattle.wasm_binary_reader.specs.Reader.{SameInput, position_in, rest};
+ghost use Rattle.wasm_readers_types.specs.SeenValues.{val_of};
+ghost use Rattle.wasm_constant_checks.specs.Checked.{IsRefusedAt, StandsIn};
+ghost use Rattle.wasm_constant_items.specs.Answers.{GoesPast};
+ghost use Rattle.wasm_constant_items.specs.Elements.{behind_function};
+ghost use Rattle.wasm_constant_items.specs.Expressions.{behind_expression};
+ghost use Rattle.wasm_constant_items.specs.Lists.{behind_many, behind_list};
+
+use crate::expressions::check_expression_of_type;
+use std::alloc::Allocator;
+use wasm_module_resources::WasmModuleResources;
+use wasm_operator_validator::OperatorValidatorAllocations;
+use wasm_readers::BinaryReader;
+use wasm_readers_errors::{Error, Fault, Refusal, WasmFeatures};
+use wasm_readers_types::ValType;
+
+/// The refusal of a function's index, at this offset.
+#[inline(never)]
+fn unknown_function(function_index: u32, offset: u64) -> Error
+    ensures { IsRefusedAt offset result }
+{
+    Error::Refused(Refusal::new(Fault::UnknownFunction(function_index), offset))
+}
+
+/// Reads the index of a function that is there.
+#[tactic(auto, unfolding(crate::specs::Elements::behind_function))]
+fn check_function<'a, T: WasmModuleResources>(
+    resources: &T,
+    reader: &mut BinaryReader<'a>,
+) -> Result<(), Error>
+    ensures past { GoesPast result (behind_function (T.context resources.now) (rest reader.old))
+        (rest reader.new) }
+    ensures input { SameInput reader.old reader.new }
+    ensures onward { position_in reader.old ≤ position_in reader.new }
+    ensures place { IfErr result (StandsIn reader.old) }
+{
+    let offset = reader.original_position();
+    let function_index = reader.read_var_u32()?;
+    match resources.type_index_of_function(function_index) {
+        Some(_) => Ok(()),
+        None => Err(unknown_function(function_index, offset)),
+    }
+}
+
+/// Reads so many indices of functions that are there.
+fn check_functions<'a, T: WasmModuleResources>(
+    resources: &T,
+    count: u32,
+    reader: &mut BinaryReader<'a>,
+) -> Result<(), Error>
+    ensures past { GoesPast result (behind_many (behind_function (T.context resources.now)) count
+        (rest reader.old)) (rest reader.new) }
+    ensures input { SameInput reader.old reader.new }
+    ensures onward { position_in reader.old ≤ position_in reader.new }
+    ensures place { IfErr result (StandsIn reader.old) }
+{
+    let mut left = count;
+    'items: while left > 0 {
+        check_function(resources, reader)?;
+        left -= 1;
+    }
+    Ok(())
+}
+
+/// Reads a list of indices of functions.
+///
+/// # Errors
+///
+/// Refused where the bytes don't begin with such a list, and where there is no such function (Core
+/// Specification 3.0, Validation, Modules, Element Segments).
+pub fn check_function_list<'a, T: WasmModuleResources>(
+    resources: &T,
+    reader: &mut BinaryReader<'a>,
+) -> Result<(), Error>
+    ensures past { GoesPast result (behind_list (behind_function (T.context resources.now))
+        (rest reader.old)) (rest reader.new) }
+    ensures input { SameInput reader.old reader.new }
+    ensures onward { position_in reader.old ≤ position_in reader.new }
+    ensures place { IfErr result (StandsIn reader.old) }
+{
+    let count = reader.read_var_u32()?;
+    check_functions(resources, count, reader)
+}
+
+/// Reads so many constant expressions of this type.
+fn check_expressions<'a, A: Allocator, T: WasmModuleResources>(
+    allocations: OperatorValidatorAllocations<A>,
+    features: WasmFeatures,
+    resources: &T,
+    imported_globals: u32,
+    ty: ValType,
+    count: u32,
+    reader: &mut BinaryReader<'a>,
+) -> Result<OperatorValidatorAllocations<A>, Error>
+    ensures past { GoesPast result (behind_many (behind_expression (T.context resources.now)
+        (features_of features) imported_globals (val_of ty)) count (rest reader.old))
+        (rest reader.new) }
+    ensures input { SameInput reader.old reader.new }
+    ensures onward { position_in reader.old ≤ position_in reader.new }
+    ensures place { IfErr result (StandsIn reader.old) }
+{
+    let mut allocations = allocations;
+    let mut left = count;
+    'items: while left > 0 {
+        allocations = check_expression_of_type(
+            allocations,
+            features,
+            resources,
+            imported_globals,
+            ty,
+            reader,
+        )?;
+        left -= 1;
+    }
+    Ok(allocations)
+}
+
+/// Reads a list of constant expressions of this type, which are typed in memory that was used
+/// before, and hands the memory on. The type's references are identities. So many globals are
+/// imported, and they come first.
+///
+/// # Errors
+///
+/// Refused where the bytes don't begin with such a list (Core Specification 3.0, Validation,
+/// Modules, Element Segments); and where memory is.
+pub fn check_expression_list<'a, A: Allocator, T: WasmModuleResources>(
+    allocations: OperatorValidatorAllocations<A>,
+    features: WasmFeatures,
+    resources: &T,
+    imported_globals: u32,
+    ty: ValType,
+    reader: &mut BinaryReader<'a>,
+) -> Result<OperatorValidatorAllocations<A>, Error>
+    ensures past { GoesPast result (behind_list (behind_expression (T.context resources.now)
+        (features_of features) imported_globals (val_of ty)) (rest reader.old)) (rest reader.new) }
+    ensures input { SameInput reader.old reader.new }
+    ensures onward { position_in reader.old ≤ position_in reader.new }
+    ensures place { IfErr result (StandsIn reader.old) }
+{
+    let count = reader.read_var_u32()?;
+    check_expressions(
+        allocations,
+        features,
+        resources,
+        imported_globals,
+        ty,
+        count,
+        reader,
+    )
+}
