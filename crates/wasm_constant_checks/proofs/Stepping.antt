@@ -1,7 +1,6 @@
 -- One instruction of a constant expression, as the operator validator takes it.
 use Rattle.std.proofs.Common.{◌≡◌, ◌∙◌, refl, ℕ, Bool, true, false, ◌&&◌, List, Option, Some, None, Result, Ok, Err}
 use Rattle.wasm_spec.specs.MatchingTests.{World}
-use Rattle.wasm_rules.specs.Contexts.{Context}
 use Rattle.wasm_readers_errors.specs.declared.error.Error.{Error}
 use Rattle.wasm_readers_errors.specs.declared.error.Error.TheVariants.{Refused, OutOfMemory}
 use Rattle.wasm_readers_types.specs.declared.indices.UnpackedIndex.{UnpackedIndex}
@@ -10,14 +9,12 @@ use Rattle.wasm_operator_steps.specs.Bodies.{Surroundings}
 use Rattle.wasm_operator_steps.specs.ConstantExpressions.{is_constant}
 use Rattle.wasm_operator_steps.specs.Machine.{State}
 use Rattle.wasm_operator_steps.specs.Steps.{step_in}
-use Rattle.wasm_operator_stacks.specs.Seen.{around, Kept}
-use Rattle.wasm_operator_stacks.specs.declared.stacks.Stacks.{Stacks}
 use Rattle.wasm_operator_checks.specs.Steps.{Took}
 use Rattle.wasm_operator_checks.specs.Told.{TellsError}
 use Rattle.wasm_operator_checks.specs.declared.faults.OperatorError.{OperatorError}
 use Rattle.wasm_operator_checks.specs.declared.faults.OperatorError.TheVariants as operator
 use Rattle.wasm_constant_checks.specs.Constants.{is_readable, constant_step}
-use Rattle.wasm_constant_checks.specs.Checked.{IsRefusedAt, TookAt, ReadsTo}
+use Rattle.wasm_operator_validator.specs.Checked.{IsRefusedAt, TookAt}
 
 and_false : (b : Bool) → (b && false) ≡ false
 and_false true = refl
@@ -50,19 +47,3 @@ not_taken (operator.Refused f) offset (Refused r) o p old new same t told = (sam
 not_taken (operator.Refused f) offset OutOfMemory o p old new same t told = absurd told
 not_taken operator.OutOfMemory offset OutOfMemory o p old new same t told = tt
 not_taken operator.OutOfMemory offset (Refused r) o p old new same t told = absurd told
-
--- what surrounds the code stays
-pub kept_around : {A : Type 0} (v w : Stacks A) (C : Context UnpackedIndex) → Kept v w → around w C ≡ around v C
-kept_around v w C k = rw (k.features, k.shared, k.content) refl
-
-pub kept_on : {A : Type 0} (u v w : Stacks A) → Kept u v → Kept v w → Kept u w
-kept_on u v w j k = record { features = k.features ∙ j.features; shared = k.shared ∙ j.shared; content = k.content ∙ j.content }
-
-pub same_kept : {A : Type 0} (v : Stacks A) → Kept v v
-same_kept v = record { features = refl; shared = refl; content = refl }
-
--- a refused instruction refuses the expression
-pub ends : (offset : ℕ) (e : Error) (o : Option (State UnpackedIndex)) (u : State UnpackedIndex) (all : Option (State UnpackedIndex × List ℕ)) (w : State UnpackedIndex) (more : List ℕ)
-    → TookAt offset (Err e) o u → (o ≡ None → all ≡ None) → ReadsTo (Err e) all w more
-ends offset (Refused r) o u all w more t f = f t.0
-ends offset OutOfMemory o u all w more t f = tt

@@ -12,6 +12,7 @@ use Rattle.wasm_operator_steps.specs.Bodies.{Surroundings}
 use Rattle.wasm_operator_steps.specs.Machine.{State}
 use Rattle.wasm_operator_steps.specs.ConstantExpressions.{is_constant}
 use Rattle.wasm_operator_steps.specs.Steps.{step_in, steps_in, is_finished}
+use Rattle.wasm_operator_validator.specs.Sequences.{Are}
 
 -- A global may be read if it is there, is immutable, and is imported or else `gc` is on. The imported ones come first.
 abbrev pub may_be_read : {R : Type 0} → Features → ℕ → ℕ → Option (Global R) → Bool
@@ -21,11 +22,6 @@ may_be_read F imported x (Some g) = not g.mutable && (F.gc || nat_lt x imported)
 abbrev pub is_readable : {R : Type 0} → Features → ℕ → List (Global R) → Instruction ℕ → Bool
 is_readable F imported globals (variable (GlobalGet x)) = may_be_read F imported x (slice_get globals x)
 is_readable F imported globals _ = true
-
--- these instructions, one behind the other, and the bytes behind them
-abbrev pub Are : List (Instruction ℕ) → List ℕ → List ℕ → Type 0
-Are [] bytes more = bytes ≡ more
-Are (op ∷ ops) bytes more = (next : List ℕ) × (instruction_at (λ n. n) bytes ≡ Some (op, next)) × Are ops next more
 
 -- whether the instruction may stand in a constant expression
 abbrev pub is_allowed : {R : Type 0} → Surroundings R → ℕ → Instruction ℕ → Bool

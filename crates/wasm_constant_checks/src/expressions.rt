@@ -10,7 +10,7 @@ ghost use Rattle.wasm_operator_stacks.specs.Seen.{Kept};
 ghost use Rattle.wasm_operator_validator.specs.Stepped.{IsWrittenInstruction};
 ghost use Rattle.wasm_operator_validator.specs.Typed.{typed_state};
 ghost use Rattle.wasm_constant_checks.specs.Constants.{constant_step, constant_from};
-ghost use Rattle.wasm_constant_checks.specs.Checked.{within, IsRefusedAt, StandsIn, TookAt, ReadsTo};
+ghost use Rattle.wasm_operator_validator.specs.Checked.{within, IsRefusedAt, StandsIn, TookAt, ReadsTo};
 
 use crate::operators::{gated_constant, is_constant, reads_constants};
 use std::alloc::Allocator;

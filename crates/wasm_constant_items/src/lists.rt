@@ -4,7 +4,7 @@ ghost use Rattle.std.specs.Prelude.{◌≤◌, IfErr};
 ghost use Rattle.wasm_rules.specs.FeatureFlags.{features_of};
 ghost use Rattle.wasm_binary_reader.specs.Reader.{SameInput, position_in, rest};
 ghost use Rattle.wasm_readers_types.specs.SeenValues.{val_of};
-ghost use Rattle.wasm_constant_checks.specs.Checked.{IsRefusedAt, StandsIn};
+ghost use Rattle.wasm_operator_validator.specs.Checked.{IsRefusedAt, StandsIn};
 ghost use Rattle.wasm_constant_items.specs.Answers.{GoesPast};
 ghost use Rattle.wasm_constant_items.specs.Elements.{behind_function};
 ghost use Rattle.wasm_constant_items.specs.Expressions.{behind_expression};

@@ -5,3 +5,4 @@ pub mod Declaring
 pub mod Visiting
 pub mod Written
 pub mod Reading
+pub mod Kept

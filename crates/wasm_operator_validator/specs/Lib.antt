@@ -3,3 +3,5 @@ pub mod Typed
 pub mod Shown
 pub mod Visited
 pub mod Reads
+pub mod Checked
+pub mod Sequences

@@ -14,7 +14,7 @@ use Rattle.wasm_rules.specs.Attempts.{◌>>=◌}
 use Rattle.wasm_operator_steps.specs.Bodies.{Local, Surroundings}
 use Rattle.wasm_operator_steps.specs.Machine.{Frame, State}
 use Rattle.wasm_operator_steps.specs.Steps.{step_in, steps_in, is_open, is_finished}
-use Rattle.wasm_constant_checks.specs.Constants.{Are}
+use Rattle.wasm_operator_validator.specs.Sequences.{Are}
 use Rattle.wasm_validator_func.specs.Bodies.{Declaration, declaration_at, local_declared, type_of, declared_locals, more_locals, declared_from, locals_from, with_locals, typed_from, instructions_from, where_all_is_read, body_from, IsBody, FindsBodies, BodiesAreFound}
 use Rattle.wasm_validator_func.proofs.Declaring.{more_of, room, on_from, then_more}
 use Rattle.wasm_validator_func.proofs.Machine.{here, stepped_from, read_from, one_step, done}

@@ -19,7 +19,7 @@ use Rattle.wasm_operator_checks.specs.declared.faults.OperatorError.{OperatorErr
 use Rattle.wasm_operator_checks.specs.declared.faults.OperatorError.TheVariants.{Refused, OutOfMemory}
 use Rattle.wasm_operator_validator.specs.Stepped.{Steps}
 use Rattle.wasm_operator_validator.specs.Visited.{SaysAt, StepsAt}
-use Rattle.wasm_constant_checks.specs.Checked.{StandsIn, TookAt}
+use Rattle.wasm_operator_validator.specs.Checked.{StandsIn, TookAt}
 
 module _ {A : Type 0} (offset : ℕ) (C : Context UnpackedIndex) (op : Instruction UnpackedIndex) (v w : Stacks A) where
   abbrev step : Option (State UnpackedIndex)

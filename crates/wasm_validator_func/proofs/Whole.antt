@@ -12,7 +12,7 @@ use Rattle.wasm_module_resources.specs.Answers.{world}
 use Rattle.wasm_operator_stacks.specs.Seen.{surroundings}
 use Rattle.wasm_operator_validator.specs.Typed.{typed_state, locals_in}
 use Rattle.wasm_operator_validator.specs.declared.validator.OperatorValidator.{OperatorValidator}
-use Rattle.wasm_constant_checks.specs.Checked.{within, IsRefusedAt, ReadsTo}
+use Rattle.wasm_operator_validator.specs.Checked.{within, IsRefusedAt, ReadsTo}
 use Rattle.wasm_validator_func.specs.Bodies.{with_locals, instructions_from, where_all_is_read, body_from}
 use Rattle.wasm_validator_func.specs.Validated.{listed_in, body_in, Goes, Declares, Validates}
 

@@ -14,7 +14,7 @@ use Rattle.wasm_operator_steps.specs.Machine.{State}
 use Rattle.wasm_rules.specs.Signatures.{resolve_val}
 use Rattle.wasm_operator_steps.specs.Meanings.{has_default}
 use Rattle.wasm_operator_steps.specs.Steps.{step_in, steps_in, is_finished}
-use Rattle.wasm_constant_checks.specs.Constants.{Are}
+use Rattle.wasm_operator_validator.specs.Sequences.{Are}
 
 -- so many locals of one type
 pub record Declaration : Type 0 where

@@ -6,7 +6,7 @@ ghost use Rattle.wasm_parser.specs.Seen.{body_of, body_reader};
 ghost use Rattle.wasm_module_resources.specs.Answers.{world};
 ghost use Rattle.wasm_operator_stacks.specs.Seen.{Kept};
 ghost use Rattle.wasm_operator_validator.specs.Typed.{typed_state, locals_in};
-ghost use Rattle.wasm_constant_checks.specs.Checked.{within, IsRefusedAt, StandsIn, ReadsTo};
+ghost use Rattle.wasm_operator_validator.specs.Checked.{within, IsRefusedAt, StandsIn, ReadsTo};
 ghost use Rattle.wasm_validator_func.specs.Bodies.{instructions_from};
 ghost use Rattle.wasm_validator_func.specs.Validated.{body_in, Goes, Validates};
 

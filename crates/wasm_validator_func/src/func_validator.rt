@@ -14,7 +14,7 @@ ghost use Rattle.wasm_operator_validator.specs.Stepped.{IsWrittenInstruction};
 ghost use Rattle.wasm_operator_validator.specs.Visited.{StepsAt};
 ghost use Rattle.wasm_operator_validator.specs.Typed.{typed_state, locals_in, BeginsBody};
 ghost use Rattle.wasm_operator_validator.specs.Shown.{known_type, shown_frame};
-ghost use Rattle.wasm_constant_checks.specs.Checked.{StandsIn};
+ghost use Rattle.wasm_operator_validator.specs.Checked.{StandsIn};
 ghost use Rattle.wasm_validator_func.specs.Functions.{IsFunctionBody, Decides, HasMore};
 ghost use Rattle.wasm_validator_func.specs.Validated.{declaration_of, declared_in, listed_in, body_in, Goes, DeclaredAt, Declares, Validates};
 

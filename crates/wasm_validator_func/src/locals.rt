@@ -5,7 +5,7 @@ ghost use Rattle.wasm_binary_reader.specs.Reader.{SameInput, position_in, rest, 
 ghost use Rattle.wasm_readers_types.specs.SeenValues.{val_of};
 ghost use Rattle.wasm_module_resources.specs.Answers.{IsWrittenVal};
 ghost use Rattle.wasm_operator_validator.specs.Typed.{typed_state, locals_in};
-ghost use Rattle.wasm_constant_checks.specs.Checked.{StandsIn};
+ghost use Rattle.wasm_operator_validator.specs.Checked.{StandsIn};
 ghost use Rattle.wasm_validator_func.specs.Bodies.{declaration_at};
 ghost use Rattle.wasm_validator_func.specs.Validated.{declaration_of, declared_in, counted_in, listed_in, Goes, DeclaredAt, Declares};
 

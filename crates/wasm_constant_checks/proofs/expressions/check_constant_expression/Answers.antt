@@ -7,10 +7,10 @@ use Rattle.wasm_operator_steps.specs.Steps.{is_finished}
 use Rattle.wasm_module_resources.specs.Answers.{world, written_index}
 use Rattle.wasm_operator_validator.specs.Typed.{typed_state}
 use Rattle.wasm_constant_checks.specs.Constants.{constant_step, constant_from}
-use Rattle.wasm_constant_checks.specs.Checked.{within}
+use Rattle.wasm_operator_validator.specs.Checked.{within}
 use Rattle.wasm_operator_validator.proofs.Written.{is_written, by_numbers, no_numbers}
 use Rattle.wasm_constant_checks.proofs.Machine.{go_one, refused_here, none_here, all_of}
-use Rattle.wasm_constant_checks.proofs.Stepping.{kept_around, kept_on, same_kept, ends}
+use Rattle.wasm_operator_validator.proofs.Kept.{kept_around, kept_on, same_kept, ends}
 use Rattle.wasm_constant_checks.proofs.expressions.check_constant_expression.Goals as goal
 
 pub check_constant_operator-requires-clause-written : goal.check_constant_operator-requires-clause-written

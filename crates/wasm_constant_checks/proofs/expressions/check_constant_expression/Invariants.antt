@@ -4,7 +4,7 @@ use Rattle.wasm_module_resources.specs.Answers.{world}
 use Rattle.wasm_operator_stacks.specs.Seen.{Kept}
 use Rattle.wasm_operator_validator.specs.Typed.{typed_state}
 use Rattle.wasm_constant_checks.specs.Constants.{typed_from, constant_from}
-use Rattle.wasm_constant_checks.specs.Checked.{within}
+use Rattle.wasm_operator_validator.specs.Checked.{within}
 use Rattle.wasm_constant_checks.proofs.expressions.check_constant_expression.Given as goal
 
 abbrev pub invariant-operators : goal.invariant-operators

@@ -3,7 +3,7 @@ use Rattle.wasm_binary_reader.specs.Reader.{rest}
 use Rattle.wasm_parser.specs.Seen.{body_of}
 use Rattle.wasm_module_resources.specs.Answers.{world}
 use Rattle.wasm_operator_validator.specs.Typed.{typed_state, locals_in}
-use Rattle.wasm_constant_checks.specs.Checked.{within}
+use Rattle.wasm_operator_validator.specs.Checked.{within}
 use Rattle.wasm_validator_func.specs.Bodies.{instructions_from}
 use Rattle.wasm_validator_func.specs.Validated.{body_in, Validates}
 use Rattle.wasm_validator_func.proofs.Whole.{no_locals, some_locals, stopped, ended, goes_past}

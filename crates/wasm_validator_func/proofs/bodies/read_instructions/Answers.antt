@@ -6,9 +6,9 @@ use Rattle.wasm_operators.proofs.Skipping.{shorter}
 use Rattle.wasm_operator_steps.specs.Steps.{step_in, is_finished}
 use Rattle.wasm_module_resources.specs.Answers.{world, written_index}
 use Rattle.wasm_operator_validator.specs.Typed.{typed_state}
-use Rattle.wasm_constant_checks.specs.Checked.{within}
+use Rattle.wasm_operator_validator.specs.Checked.{within}
 use Rattle.wasm_operator_validator.proofs.Written.{is_written, by_numbers, no_numbers}
-use Rattle.wasm_constant_checks.proofs.Stepping.{kept_around, kept_on, same_kept, ends}
+use Rattle.wasm_operator_validator.proofs.Kept.{kept_around, kept_on, same_kept, ends}
 use Rattle.wasm_validator_func.specs.Bodies.{instructions_from}
 use Rattle.wasm_validator_func.proofs.Machine.{go_one, refused_here, none_here, all_of}
 use Rattle.wasm_validator_func.proofs.Stepping.{took}

@@ -3,7 +3,7 @@ use Rattle.wasm_binary_reader.specs.Reader.{SameInput, position_in, rest}
 use Rattle.wasm_module_resources.specs.Answers.{world}
 use Rattle.wasm_operator_stacks.specs.Seen.{Kept}
 use Rattle.wasm_operator_validator.specs.Typed.{typed_state}
-use Rattle.wasm_constant_checks.specs.Checked.{within}
+use Rattle.wasm_operator_validator.specs.Checked.{within}
 use Rattle.wasm_validator_func.specs.Bodies.{typed_from, instructions_from}
 use Rattle.wasm_validator_func.proofs.bodies.read_instructions.Given as goal
 

@@ -1,4 +1,5 @@
--- What contracts see of the typing of a constant expression.
+-- What contracts see of instructions that are read and typed.
+-- Core Specification 3.0, Appendix, Validation Algorithm.
 use Rattle.std.specs.Prelude.{◌≡◌, ◌≤◌, ◌+◌, ℕ, List, length, Option, Some, None, Result, Ok, Err, ⊤}
 use Rattle.wasm_rules.specs.Contexts.{Context}
 use Rattle.wasm_binary_reader.specs.Reader.{input, original, position_in}
@@ -11,7 +12,7 @@ use Rattle.wasm_operator_steps.specs.Machine.{State}
 use Rattle.wasm_operator_stacks.specs.Seen.{around}
 use Rattle.wasm_operator_validator.specs.declared.validator.OperatorValidator.{OperatorValidator}
 
--- what the expression is checked in
+-- what the code is checked in
 abbrev pub within : {A : Type 0} → OperatorValidator A → Context UnpackedIndex → Surroundings UnpackedIndex
 within v C = around v.stacks C
 
