@@ -11,8 +11,9 @@ use Rattle.wasm_rules.specs.Attempts.{◌>>=◌}
 use Rattle.wasm_operator_steps.specs.Bodies.{Surroundings}
 use Rattle.wasm_operator_steps.specs.Machine.{Frame, State}
 use Rattle.wasm_operator_steps.specs.Steps.{step_in, steps_in, is_open, is_finished}
-use Rattle.wasm_operator_validator.specs.Sequences.{Are}
-use Rattle.wasm_constant_checks.specs.Constants.{is_allowed, constant_step, typed_from, constant_from, IsConstantExpression, FindsConstants, ConstantsAreFound}
+use Rattle.wasm_operator_steps.specs.Sequences.{Are}
+use Rattle.wasm_constant_checks.specs.Constants.{constant_step, typed_from, constant_from, FindsConstants, ConstantsAreFound}
+use Rattle.wasm_operator_steps.specs.ConstantRules.{is_allowed, IsConstantExpression}
 use Rattle.wasm_constant_checks.proofs.Machine.{one_step}
 
 allowed_step : {S : Type 0} (b : Bool) (o : Option S) (t : S) → (if b then o else None) ≡ Some t → (b ≡ true) × (o ≡ Some t)

@@ -13,7 +13,8 @@ use Rattle.wasm_operator_checks.specs.Steps.{Took}
 use Rattle.wasm_operator_checks.specs.Told.{TellsError}
 use Rattle.wasm_operator_checks.specs.declared.faults.OperatorError.{OperatorError}
 use Rattle.wasm_operator_checks.specs.declared.faults.OperatorError.TheVariants as operator
-use Rattle.wasm_constant_checks.specs.Constants.{is_readable, constant_step}
+use Rattle.wasm_constant_checks.specs.Constants.{constant_step}
+use Rattle.wasm_operator_steps.specs.ConstantRules.{is_readable}
 use Rattle.wasm_operator_validator.specs.Checked.{IsRefusedAt, TookAt}
 
 and_false : (b : Bool) → (b && false) ≡ false

@@ -11,3 +11,6 @@ mod operators;
 pub use expressions::{check_constant_expression, check_constant_operator};
 pub use laws::constants_are_lists_of_instructions;
 pub use operators::{is_constant, reads_constants};
+
+/// What constant expressions are validated by.
+pub use wasm_operator_validator::{OperatorValidator, OperatorValidatorAllocations};

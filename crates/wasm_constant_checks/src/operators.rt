@@ -6,7 +6,7 @@ ghost use Rattle.wasm_operators.specs.Maps.{map_instruction};
 ghost use Rattle.wasm_operators.specs.SeenOperators.{operator_of};
 ghost use Rattle.wasm_operator_steps.specs.ConstantExpressions.{is_extended, makes_structure, makes_array, is_constant_conversion, is_constant};
 ghost use Rattle.wasm_module_resources.specs.Answers.{written_index};
-ghost use Rattle.wasm_constant_checks.specs.Constants.{may_be_read, is_readable};
+ghost use Rattle.wasm_operator_steps.specs.ConstantRules.{may_be_read, is_readable};
 
 use bitflags::Flags;
 use wasm_flat_operators::{ArrayOperator, ConversionOperator, StructOperator, VariableOperator};

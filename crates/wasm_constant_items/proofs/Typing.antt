@@ -14,10 +14,10 @@ use Rattle.wasm_operator_steps.specs.Machine.{State}
 use Rattle.wasm_operator_steps.specs.Steps.{start}
 use Rattle.wasm_module_resources.specs.Answers.{world}
 use Rattle.wasm_operator_stacks.specs.Seen.{surroundings}
-use Rattle.wasm_operator_validator.specs.Typed.{typed_state, BeginsConstant}
-use Rattle.wasm_operator_validator.specs.declared.validator.OperatorValidator.{OperatorValidator}
+use Rattle.wasm_constant_checks.specs.Typed.{typed_state, BeginsConstant}
+use Rattle.wasm_constant_checks.specs.OperatorValidator.{OperatorValidator}
 use Rattle.wasm_constant_checks.specs.Constants.{constant_from}
-use Rattle.wasm_operator_validator.specs.Checked.{within, ReadsTo}
+use Rattle.wasm_constant_checks.specs.Checked.{within, ReadsTo}
 use Rattle.wasm_constant_items.specs.Answers.{Refuses, GoesPast}
 use Rattle.wasm_constant_items.specs.Expressions.{around_constants, behind_expression}
 

@@ -12,7 +12,8 @@ use Rattle.wasm_operator_steps.specs.Machine.{State}
 use Rattle.wasm_operator_steps.specs.Steps.{start}
 use Rattle.wasm_module_resources.specs.Answers.{world}
 use Rattle.wasm_operator_stacks.specs.Seen.{surroundings}
-use Rattle.wasm_constant_checks.specs.Constants.{constant_from, IsConstantExpression}
+use Rattle.wasm_constant_checks.specs.Constants.{constant_from}
+use Rattle.wasm_operator_steps.specs.ConstantRules.{IsConstantExpression}
 
 -- what an expression is checked in: it has no locals, and isn't shared
 abbrev pub around_constants : Context UnpackedIndex → Features → Surroundings UnpackedIndex

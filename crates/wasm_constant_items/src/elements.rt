@@ -6,7 +6,7 @@ ghost use Rattle.wasm_rules.specs.FeatureFlags.{features_of};
 ghost use Rattle.wasm_binary_reader.specs.Reader.{SameInput, position_in, rest, RefusedFrom};
 ghost use Rattle.wasm_readers_errors.specs.Errors.{Reads};
 ghost use Rattle.wasm_readers_types.specs.SeenValues.{val_of, ref_of};
-ghost use Rattle.wasm_operator_validator.specs.Checked.{IsRefusedAt, StandsIn};
+ghost use Rattle.wasm_constant_checks.specs.Checked.{IsRefusedAt, StandsIn};
 ghost use Rattle.wasm_constant_items.specs.Answers.{GoesPast};
 ghost use Rattle.wasm_constant_items.specs.Elements.{index_if, written_type_at, may_go, reference_at, items_type_at, segment_table_at, behind_items, typed_items_at, typed_element_from, typed_element_at};
 
@@ -16,7 +16,7 @@ use crate::lists::{check_expression_list, check_function_list};
 use crate::offsets::check_table_offset;
 use std::alloc::Allocator;
 use wasm_module_resources::WasmModuleResources;
-use wasm_operator_validator::OperatorValidatorAllocations;
+use wasm_constant_checks::OperatorValidatorAllocations;
 use wasm_readers::BinaryReader;
 use wasm_readers::types::read_ref_type;
 use wasm_readers_errors::{Error, Fault, Malformed, OperatorRule, Refusal, WasmFeatures};

@@ -4,14 +4,15 @@ ghost use Rattle.std.specs.Prelude.{◌≤◌, IfErr};
 ghost use Rattle.wasm_rules.specs.FeatureFlags.{features_of};
 ghost use Rattle.wasm_binary_reader.specs.Reader.{SameInput, position_in, rest};
 ghost use Rattle.wasm_readers_types.specs.SeenValues.{val_of};
-ghost use Rattle.wasm_operator_validator.specs.Checked.{StandsIn};
+ghost use Rattle.wasm_constant_checks.specs.Checked.{StandsIn};
 ghost use Rattle.wasm_constant_items.specs.Answers.{GoesPast};
 ghost use Rattle.wasm_constant_items.specs.Expressions.{behind_expression};
 
 use std::alloc::Allocator;
-use wasm_constant_checks::check_constant_expression;
 use wasm_module_resources::WasmModuleResources;
-use wasm_operator_validator::{OperatorValidator, OperatorValidatorAllocations};
+use wasm_constant_checks::{
+    OperatorValidator, OperatorValidatorAllocations, check_constant_expression,
+};
 use wasm_readers::BinaryReader;
 use wasm_readers_errors::{Error, WasmFeatures};
 use wasm_readers_types::ValType;

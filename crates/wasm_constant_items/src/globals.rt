@@ -5,13 +5,13 @@ ghost use Rattle.wasm_rules.specs.FeatureFlags.{features_of};
 ghost use Rattle.wasm_binary_reader.specs.Reader.{SameInput, position_in, rest};
 ghost use Rattle.wasm_readers_errors.specs.Errors.{Reads};
 ghost use Rattle.wasm_readers_types.specs.SeenExterns.{global_of};
-ghost use Rattle.wasm_operator_validator.specs.Checked.{IsRefusedAt, StandsIn};
+ghost use Rattle.wasm_constant_checks.specs.Checked.{IsRefusedAt, StandsIn};
 ghost use Rattle.wasm_constant_items.specs.Globals.{global_type_at, typed_global_at};
 
 use crate::expressions::check_expression_of_type;
 use std::alloc::Allocator;
 use wasm_module_resources::WasmModuleResources;
-use wasm_operator_validator::OperatorValidatorAllocations;
+use wasm_constant_checks::OperatorValidatorAllocations;
 use wasm_readers::BinaryReader;
 use wasm_readers::externs::read_global_type;
 use wasm_readers_errors::{Error, Refusal, WasmFeatures};

@@ -7,6 +7,9 @@ pub mod Shapes
 pub mod Steps
 pub mod Renaming
 pub mod ConstantExpressions
+pub mod Sequences
+pub mod ConstantRules
+pub mod FunctionBodies
 pub mod Identities
 pub mod Laws
 pub mod StackLaws

@@ -4,4 +4,3 @@ pub mod Shown
 pub mod Visited
 pub mod Reads
 pub mod Checked
-pub mod Sequences

@@ -19,7 +19,8 @@ use Rattle.wasm_operator_checks.specs.declared.faults.OperatorError.{OperatorErr
 use Rattle.wasm_operator_checks.specs.declared.faults.OperatorError.TheVariants.{Refused, OutOfMemory}
 use Rattle.wasm_operator_validator.specs.Typed.{locals_in, Defines}
 use Rattle.wasm_operator_validator.specs.declared.validator.OperatorValidator.{OperatorValidator}
-use Rattle.wasm_validator_func.specs.Bodies.{Declaration, declaration_at, local_declared, type_of, more_locals, declared_from, locals_from}
+use Rattle.wasm_validator_func.specs.Bodies.{more_locals, declared_from, locals_from}
+use Rattle.wasm_operator_steps.specs.FunctionBodies.{Declaration, declaration_at, local_declared, type_of}
 use Rattle.wasm_validator_func.specs.Validated.{Goes, DeclaredAt, Declares}
 
 heap_allowed : (F : Features) (nullable : Bool) (h : Heap UnpackedIndex) → allows_heap F nullable (map_heap written_index h) ≡ allows_heap F nullable h

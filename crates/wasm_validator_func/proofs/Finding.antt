@@ -14,8 +14,9 @@ use Rattle.wasm_rules.specs.Attempts.{◌>>=◌}
 use Rattle.wasm_operator_steps.specs.Bodies.{Local, Surroundings}
 use Rattle.wasm_operator_steps.specs.Machine.{Frame, State}
 use Rattle.wasm_operator_steps.specs.Steps.{step_in, steps_in, is_open, is_finished}
-use Rattle.wasm_operator_validator.specs.Sequences.{Are}
-use Rattle.wasm_validator_func.specs.Bodies.{Declaration, declaration_at, local_declared, type_of, declared_locals, more_locals, declared_from, locals_from, with_locals, typed_from, instructions_from, where_all_is_read, body_from, IsBody, FindsBodies, BodiesAreFound}
+use Rattle.wasm_operator_steps.specs.Sequences.{Are}
+use Rattle.wasm_validator_func.specs.Bodies.{more_locals, declared_from, locals_from, typed_from, instructions_from, where_all_is_read, body_from, FindsBodies, BodiesAreFound}
+use Rattle.wasm_operator_steps.specs.FunctionBodies.{Declaration, declaration_at, local_declared, type_of, declared_locals, with_locals, IsBody}
 use Rattle.wasm_validator_func.proofs.Declaring.{more_of, room, on_from, then_more}
 use Rattle.wasm_validator_func.proofs.Machine.{here, stepped_from, read_from, one_step, done}
 

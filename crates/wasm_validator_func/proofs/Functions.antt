@@ -20,7 +20,8 @@ use Rattle.wasm_operator_control.specs.Blocks.{function_in}
 use Rattle.wasm_operator_validator.specs.Typed.{typed_state, locals_in, parameter, BeginsBody}
 use Rattle.wasm_operator_validator.specs.declared.validator.OperatorValidator.{OperatorValidator}
 use Rattle.wasm_operator_validator.specs.Checked.{within}
-use Rattle.wasm_validator_func.specs.Bodies.{IsBody, body_from}
+use Rattle.wasm_validator_func.specs.Bodies.{body_from}
+use Rattle.wasm_operator_steps.specs.FunctionBodies.{IsBody}
 use Rattle.wasm_validator_func.specs.Functions.{IsFunctionBody, Refuses, HasMore}
 use Rattle.wasm_validator_func.specs.Validated.{body_in, Validates}
 use Rattle.wasm_validator_func.proofs.Finding.{finds, are_found}

@@ -8,7 +8,7 @@ use Rattle.wasm_spec.proofs.LawSet.{val_renames}
 use Rattle.wasm_readers.specs.Written.{written}
 use Rattle.wasm_readers_types.specs.declared.indices.UnpackedIndex.{UnpackedIndex}
 use Rattle.wasm_module_resources.specs.Answers.{written_index, IsWrittenHeap, IsWrittenVal}
-use Rattle.wasm_validator_func.specs.Bodies.{Declaration, declaration_at}
+use Rattle.wasm_operator_steps.specs.FunctionBodies.{Declaration, declaration_at}
 
 heap_written : (h : Heap ℕ) → IsWrittenHeap (map_heap written h)
 heap_written (abstract_heap s a) = tt

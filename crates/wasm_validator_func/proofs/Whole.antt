@@ -13,7 +13,8 @@ use Rattle.wasm_operator_stacks.specs.Seen.{surroundings}
 use Rattle.wasm_operator_validator.specs.Typed.{typed_state, locals_in}
 use Rattle.wasm_operator_validator.specs.declared.validator.OperatorValidator.{OperatorValidator}
 use Rattle.wasm_operator_validator.specs.Checked.{within, IsRefusedAt, ReadsTo}
-use Rattle.wasm_validator_func.specs.Bodies.{with_locals, instructions_from, where_all_is_read, body_from}
+use Rattle.wasm_validator_func.specs.Bodies.{instructions_from, where_all_is_read, body_from}
+use Rattle.wasm_operator_steps.specs.FunctionBodies.{with_locals}
 use Rattle.wasm_validator_func.specs.Validated.{listed_in, body_in, Goes, Declares, Validates}
 
 abbrev Locals : Type 0

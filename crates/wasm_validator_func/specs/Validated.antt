@@ -14,7 +14,8 @@ use Rattle.wasm_module_resources.specs.Answers.{world, written_index}
 use Rattle.wasm_operator_validator.specs.Typed.{typed_state, locals_in}
 use Rattle.wasm_operator_validator.specs.declared.validator.OperatorValidator.{OperatorValidator}
 use Rattle.wasm_operator_validator.specs.Checked.{within}
-use Rattle.wasm_validator_func.specs.Bodies.{Declaration, more_locals, declared_from, locals_from, body_from}
+use Rattle.wasm_validator_func.specs.Bodies.{more_locals, declared_from, locals_from, body_from}
+use Rattle.wasm_operator_steps.specs.FunctionBodies.{Declaration}
 
 -- a declaration of so many locals of a type
 abbrev pub declaration_of : ℕ → ValType → Declaration

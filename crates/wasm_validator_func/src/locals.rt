@@ -6,7 +6,7 @@ ghost use Rattle.wasm_readers_types.specs.SeenValues.{val_of};
 ghost use Rattle.wasm_module_resources.specs.Answers.{IsWrittenVal};
 ghost use Rattle.wasm_operator_validator.specs.Typed.{typed_state, locals_in};
 ghost use Rattle.wasm_operator_validator.specs.Checked.{StandsIn};
-ghost use Rattle.wasm_validator_func.specs.Bodies.{declaration_at};
+ghost use Rattle.wasm_operator_steps.specs.FunctionBodies.{declaration_at};
 ghost use Rattle.wasm_validator_func.specs.Validated.{declaration_of, declared_in, counted_in, listed_in, Goes, DeclaredAt, Declares};
 
 use std::alloc::Allocator;
@@ -17,7 +17,7 @@ use wasm_readers::{BinaryReader, Error, Refusal, ValType};
 
 /// A declaration: how many locals, and their type, which names type indices of the module (Core
 /// Specification 3.0, Binary Format, Modules, Code Section).
-#[tactic(auto, using(crate::proofs::Reading::declarations), unfolding(crate::specs::Bodies::declaration_at))]
+#[tactic(auto, using(crate::proofs::Reading::declarations), unfolding(wasm_operator_steps::specs::FunctionBodies::declaration_at))]
 fn read_declaration(reader: &mut BinaryReader<'_>) -> Result<(u32, ValType), Refusal>
     ensures same { SameInput reader.old reader.new }
     ensures onward { position_in reader.old ≤ position_in reader.new }

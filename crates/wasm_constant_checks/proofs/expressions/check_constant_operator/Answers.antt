@@ -6,7 +6,8 @@ use Rattle.wasm_operator_steps.specs.ConstantExpressions.{is_constant}
 use Rattle.wasm_operator_steps.specs.Steps.{step_in}
 use Rattle.wasm_module_resources.specs.Answers.{world, written_index}
 use Rattle.wasm_operator_validator.specs.Typed.{typed_state}
-use Rattle.wasm_constant_checks.specs.Constants.{is_readable, constant_step}
+use Rattle.wasm_constant_checks.specs.Constants.{constant_step}
+use Rattle.wasm_operator_steps.specs.ConstantRules.{is_readable}
 use Rattle.wasm_operator_validator.specs.Checked.{within}
 use Rattle.wasm_constant_checks.proofs.Stepping.{no_constant, no_global, goes, refused_at, taken, not_taken}
 use Rattle.wasm_constant_checks.proofs.expressions.check_constant_operator.Goals as goal

@@ -1,6 +1,6 @@
 use Rattle.wasm_readers_types.specs.SeenValues.{val_of}
 use Rattle.wasm_binary_reader.specs.Reader.{rest}
-use Rattle.wasm_operator_validator.specs.Typed.{typed_state}
+use Rattle.wasm_constant_checks.specs.Typed.{typed_state}
 use Rattle.wasm_constant_items.proofs.Typing.{goes_past, goes_nowhere}
 use Rattle.wasm_constant_items.proofs.expressions.check_expression_of_type.Goals as goal
 
