@@ -1,0 +1,11 @@
+pub mod Numbered
+pub mod Plain
+pub mod Cutting
+pub mod Frames
+pub mod Whole
+pub mod Determined
+pub mod Examples
+pub mod References
+pub mod ModuleExamples
+pub mod SeenLittle
+pub mod Renamed
