@@ -33,12 +33,12 @@ module _ {R S : Type 0} (f : R → S) where
   is_finished-map s = finished_frames-map s.frames s
 
 module _ {R S : Type 0} (f : R → S) (W : World R) (V : World S) (h : Renames f W V) (B : Surroundings R) where
-  step_in-map : (op : Instruction ℕ) (s : State R) → step_in V (map_surroundings f B) op (map_state f s) ≡ option_map (map_state f) (step_in W B op s)
+  pub step_in-map : (op : Instruction ℕ) (s : State R) → step_in V (map_surroundings f B) op (map_state f s) ≡ option_map (map_state f) (step_in W B op s)
   step_in-map op s =
       bind-map (map_state f) (map_state f) (run W B (actions_of (shape_of op))) (run V (map_surroundings f B) (actions_of (shape_of op))) (run-map f W V h B (actions_of (shape_of op)))
       (guard (is_open s) s) (guard-map (map_state f) s (is_open-map f s) refl)
 
-  steps_in-map : (ops : List (Instruction ℕ)) (s : State R) → steps_in V (map_surroundings f B) ops (map_state f s) ≡ option_map (map_state f) (steps_in W B ops s)
+  pub steps_in-map : (ops : List (Instruction ℕ)) (s : State R) → steps_in V (map_surroundings f B) ops (map_state f s) ≡ option_map (map_state f) (steps_in W B ops s)
   steps_in-map [] s = refl
   steps_in-map (op ∷ ops) s = bind-map (map_state f) (map_state f) (steps_in W B ops) (steps_in V (map_surroundings f B) ops) (steps_in-map ops) (step_in W B op s) (step_in-map op s)
 

@@ -1,0 +1,4 @@
+pub mod Declaring
+pub mod Numbered
+pub mod ModuleOverIds
+pub mod ListedTypes
