@@ -1,3 +1,5 @@
 pub mod Lists
 pub mod Exact
 pub mod Declared
+pub mod ById
+pub mod Referenced

@@ -1,9 +1,11 @@
 -- The lists of a module's context.
-use Rattle.std.proofs.Common.{◌≡◌, refl, sym, ◌∙◌, ℕ, zero, suc, ◌+◌, ◌<◌, ◌≤◌, Bool, true, false, true≢false, ◌||◌, ◌==◌, List, [], ◌∷◌, length, Some, None, slice_get, get_or, arith}
+use Rattle.std.proofs.Common.{◌≡◌, ⊎_elim, refl, sym, ◌∙◌, ℕ, zero, suc, ◌+◌, ◌<◌, ◌≤◌, Bool, true, false, true≢false, ◌||◌, ◌==◌, List, [], ◌∷◌, length, Some, None, slice_get, get_or, arith}
 use Rattle.std.specs.Prelude.{nat_lt}
 use Rattle.std.proofs.lemmas.Bool.Decides.{Decides-eqb, Decides-ltb}
+use Rattle.std.proofs.lemmas.Option.{none-some, same_Some, slice_get-get_or}
+use Rattle.std.proofs.lemmas.Bool.{cases_lt}
 use Rattle.wasm_rules.specs.Attempts.{among}
-use Rattle.wasm_validator_core_resources.specs.ModuleContexts.{exact_flags, numbers_from}
+use Rattle.wasm_validator_core_resources.specs.ModuleContexts.{exact_flags, numbers_from, flagged_from, FlagsSayReferences}
 
 -- a function that is there is exact as the module says
 pub flag_there : (xs : List ℕ) (bs : List Bool) (i : ℕ) → i < length xs → slice_get (exact_flags xs bs) i ≡ Some (get_or bs i true)
@@ -65,3 +67,45 @@ among_first i count = elim (nat_lt i count) as (λ t. nat_lt i count ≡ t → t
 
 pub below_not : (i count : ℕ) → count ≤ i → nat_lt i count ≡ false
 below_not i count l = not_true (nat_lt i count) (λ e. let f : i < count = (Decides-ltb i count).0 e in omega (arith, l, f))
+
+-- which numbers are those of flags that are set
+other_number : (i n : ℕ) → (i ≡ n → ⊥) → (i == n) ≡ false
+other_number i n h = not_true (i == n) (λ e. h ((Decides-eqb i n).0 e))
+
+not_first : (a b c : Bool) → a ≡ false → b ≡ c → (a || b) ≡ c
+not_first true b c e f = absurd (true≢false e)
+not_first false b c e f = f
+
+not_before : (flags : List Bool) (i n : ℕ) → i < n → among i (flagged_from n flags) ≡ false
+not_before [] i n l = refl
+not_before (true ∷ bs) i n l = not_first (i == n) (among i (flagged_from (suc n) bs)) false (other_number i n (λ e. omega (arith, l, e))) (not_before bs i (suc n) (omega (arith, l)))
+not_before (false ∷ bs) i n l = not_before bs i (suc n) (omega (arith, l))
+
+flag_from : (flags : List Bool) (i k n : ℕ) (b : Bool) → i ≡ n + k → slice_get flags k ≡ Some b → among i (flagged_from n flags) ≡ b
+flag_from [] i k n b e f = absurd (none-some b f)
+flag_from (true ∷ bs) i zero n b e f = or_true (i == n) (among i (flagged_from (suc n) bs)) ((Decides-eqb i n).1 (omega (arith, e))) ∙ same_Some true b f
+flag_from (false ∷ bs) i zero n b e f = not_before bs i (suc n) (omega (arith, e)) ∙ same_Some false b f
+flag_from (true ∷ bs) i (suc k) n b e f = not_first (i == n) (among i (flagged_from (suc n) bs)) b (other_number i n (λ g. omega (arith, e, g))) (flag_from bs i k (suc n) b (omega (arith, e)) f)
+flag_from (false ∷ bs) i (suc k) n b e f = flag_from bs i k (suc n) b (omega (arith, e)) f
+
+no_flag_from : (flags : List Bool) (i n : ℕ) → n + length flags ≤ i → among i (flagged_from n flags) ≡ false
+no_flag_from [] i n l = refl
+no_flag_from (true ∷ bs) i n l = not_first (i == n) (among i (flagged_from (suc n) bs)) false (other_number i n (λ e. omega (arith, l, e))) (no_flag_from bs i (suc n) (omega (arith, l)))
+no_flag_from (false ∷ bs) i n l = no_flag_from bs i (suc n) (omega (arith, l))
+
+pub flag_set : (flags : List Bool) (i : ℕ) (b : Bool) → slice_get flags i ≡ Some b → among i (flagged_from 0 flags) ≡ b
+flag_set flags i b e = flag_from flags i i 0 b (omega arith) e
+
+pub flag_past : (flags : List Bool) (i : ℕ) → length flags ≤ i → among i (flagged_from 0 flags) ≡ false
+flag_past flags i l = no_flag_from flags i 0 (omega (arith, l))
+
+none_past : (flags : List Bool) (i : ℕ) → length flags ≤ i → get_or flags i false ≡ false
+none_past [] i l = refl
+none_past (b ∷ bs) zero l = absurd (omega (arith, l))
+none_past (b ∷ bs) (suc i) l = none_past bs i (omega (arith, l))
+
+pub flags_say_references : FlagsSayReferences
+flags_say_references flags i = ⊎_elim
+    (λ (l : i < length flags). flag_set flags i (get_or flags i false) (slice_get-get_or flags i false l))
+    (λ (l : length flags ≤ i). flag_past flags i l ∙ sym (none_past flags i l))
+    (cases_lt i (length flags))

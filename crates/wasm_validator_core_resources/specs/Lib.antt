@@ -1,2 +1,3 @@
 pub mod ModuleContexts
+pub mod ById
 pub mod Shown

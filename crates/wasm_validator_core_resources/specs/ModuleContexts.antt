@@ -1,7 +1,8 @@
 -- The context that a module gives as far as it has been read, where its types are ids of a list. Core Specification 3.0, Validation,
 -- Conventions (Contexts).
-use Rattle.std.specs.Prelude.{ℕ, zero, suc, ◌≡◌, Bool, true, List, [], ◌∷◌, map, length, Option}
+use Rattle.std.specs.Prelude.{ℕ, zero, suc, ◌≡◌, Bool, true, false, List, [], ◌∷◌, map, length, get_or, Option}
 use Rattle.wasm_spec.specs.Syntax.{Ref, map_sub}
+use Rattle.wasm_rules.specs.Attempts.{among}
 use Rattle.wasm_rules.specs.Contexts.{Context}
 use Rattle.wasm_readers_types.specs.declared.indices.UnpackedIndex.{UnpackedIndex}
 use Rattle.wasm_readers_types.specs.declared.types.SubType.{SubType}
@@ -23,6 +24,12 @@ abbrev pub numbers_from : ℕ → ℕ → List ℕ
 numbers_from n zero = []
 numbers_from n (suc count) = n ∷ numbers_from (suc n) count
 
+-- the numbers, from this one on, of the flags that are set
+abbrev pub flagged_from : ℕ → List Bool → List ℕ
+flagged_from n [] = []
+flagged_from n (true ∷ bs) = n ∷ flagged_from (suc n) bs
+flagged_from n (false ∷ bs) = flagged_from (suc n) bs
+
 -- The context of a module with these index spaces, over this list of types, with these types of element segments and this data count.
 -- Each of its functions counts as referenced, as it does to constant expressions.
 abbrev pub module_context : {A : Type 0} → Spaces → Listing A → List (Ref UnpackedIndex) → Option ℕ → Context UnpackedIndex
@@ -39,6 +46,14 @@ module_context s list elements data_count = record {
   data_count = data_count;
   references = numbers_from 0 (length s.functions);
 }
+
+-- the same context, where these functions count as referenced
+abbrev pub with_references : List ℕ → Context UnpackedIndex → Context UnpackedIndex
+with_references references C = record C { references = references }
+
+-- A function is among those that flags say where its flag is set.
+abbrev pub FlagsSayReferences : Type 0
+FlagsSayReferences = (flags : List Bool) (i : ℕ) → among i (flagged_from 0 flags) ≡ get_or flags i false
 
 -- These are the types of the groups in the order of their ids, with the id in the place of each position in a group.
 abbrev pub AreByIds : {A : Type 0} → List (List (SubType A)) → List (SubType A) → Type 0

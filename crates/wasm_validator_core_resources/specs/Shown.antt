@@ -1,5 +1,7 @@
 -- What a contract sees of the look-ups of a module, and what is always true of them.
-use Rattle.std.specs.Prelude.{ℕ, ◌<◌, ◌^◌, map, length}
+use Rattle.std.specs.Prelude.{ℕ, ◌<◌, ◌^◌, Bool, List, map, length, Option}
+use Rattle.std.specs.Borrow.{Bor}
+use Rattle.std.specs.declared.option.Option.TheVariants.{None, Some}
 use Rattle.std.specs.List.{All}
 use Rattle.wasm_rules.specs.Contexts.{Context}
 use Rattle.wasm_readers_types.specs.SeenValues.{ref_of}
@@ -7,11 +9,16 @@ use Rattle.wasm_readers_types.specs.declared.indices.TheConstants.{MAX_IDS}
 use Rattle.wasm_readers_types.specs.declared.indices.UnpackedIndex.{UnpackedIndex}
 use Rattle.wasm_validator_type_list.specs.Listable.{AreListable}
 use Rattle.wasm_validator_core_resources.specs.declared.resources.ModuleResources.TheInside.{Inside}
-use Rattle.wasm_validator_core_resources.specs.ModuleContexts.{module_context, AreByIds}
+use Rattle.wasm_validator_core_resources.specs.ModuleContexts.{numbers_from, flagged_from, module_context, with_references, AreByIds}
+
+-- the functions that count as referenced: all of them, or those whose flags are set
+abbrev pub references_of : List ℕ → Option (Bor (List Bool)) → List ℕ
+references_of functions None = numbers_from 0 (length functions)
+references_of functions (Some flags) = flagged_from 0 flags.now
 
 module _ {A : Type 0} where
   abbrev pub shown : Inside A → Context UnpackedIndex
-  shown a = module_context a.spaces.now a.list.now (map ref_of a.elements.now) a.data_count
+  shown a = with_references (references_of a.spaces.now.functions a.referenced) (module_context a.spaces.now a.list.now (map ref_of a.elements.now) a.data_count)
 
   -- references in the list are known, each id of the module can be packed, the types are those of the list, and the count of element
   -- segments fits a `u32`

@@ -2,7 +2,10 @@
 //! types that it stands over (Core Specification 3.0, Validation, Conventions, Contexts).
 #![tactic(auto)]
 
+mod by_ids;
 mod heaps;
 mod resources;
+mod types_by_ids;
 
-pub use resources::ModuleResources;
+pub use resources::{ModuleResources, flags_say_references};
+pub use types_by_ids::{TypesByIds, first_types};

@@ -1,6 +1,6 @@
 //! The look-ups of a module that is being read.
 
-ghost use Rattle.std.specs.Prelude.{◌≡◌, ◌<◌, ◌^◌, length, map, slice_get, IfSome, IfOk, OnErr, OnOk};
+ghost use Rattle.std.specs.Prelude.{◌≡◌, ◌<◌, ◌^◌, length, map, nat_lt, slice_get, IfSome, IfOk, OnErr, OnOk};
 ghost use Rattle.std.specs.List.{All};
 ghost use Rattle.std.specs.Option.{option_map};
 ghost use Rattle.std.specs.declared.option.Option.TheVariants.{None, Some};
@@ -12,12 +12,13 @@ ghost use Rattle.wasm_readers_types.specs.declared.indices.TheConstants.{MAX_IDS
 ghost use Rattle.wasm_readers_types.specs.declared.indices.UnpackedIndex.TheVariants.{Id};
 ghost use Rattle.wasm_validator_type_list.specs.DefTypes.{types_of_list};
 ghost use Rattle.wasm_module_resources.specs.Answers.{world, written_index, IsWritten};
-ghost use Rattle.wasm_validator_core_resources.specs.ModuleContexts.{module_context, AreByIds};
+ghost use Rattle.wasm_validator_core_resources.specs.ModuleContexts.{flagged_from, module_context, with_references, AreByIds, FlagsSayReferences};
 
 use crate::heaps::{
     abstract_matches, abstract_top, is_below_kind, is_shared, kind, kind_matches, same_flag,
     same_index,
 };
+use crate::types_by_ids::TypesByIds;
 use std::alloc::Allocator;
 use std::marker::Model;
 use wasm_module_resources::WasmModuleResources;
@@ -31,12 +32,14 @@ use wasm_validator_types::IndexSpaces;
 
 /// The look-ups of a module as far as it has been read, by reference. A contract sees the context
 /// that they are read from (Core Specification 3.0, Validation, Conventions, Contexts).
+#[derive(Drop)]
 pub struct ModuleResources<'a, A: Allocator> {
     spaces: &'a IndexSpaces<A>,
     list: &'a TypeList<A>,
     types: &'a [SubType<A>],
     elements: &'a [RefType],
     data_count: Option<u32>,
+    referenced: Option<&'a [bool]>,
 }
 
 impl<'a, A: Allocator> Model for ModuleResources<'a, A> {
@@ -57,11 +60,12 @@ impl<'a, A: Allocator + Copy> ModuleResources<'a, A> {
     /// have these types, and which has this data count. The list must have the module's types; and
     /// `types` are all that it has, with ids in the place of positions in their groups.
     ///
-    /// Each function of the module counts as referenced, as it does to constant expressions.
+    /// Each function of the module counts as referenced, as it does to constant expressions; bodies
+    /// ask for `with_referenced`.
     pub fn new(
         spaces: &'a IndexSpaces<A>,
         list: &'a TypeList<A>,
-        types: &'a [SubType<A>],
+        types: &'a TypesByIds<A>,
         elements: &'a [RefType],
         data_count: Option<u32>,
     ) -> ModuleResources<'a, A>
@@ -76,9 +80,22 @@ impl<'a, A: Allocator + Copy> ModuleResources<'a, A> {
         ModuleResources {
             spaces,
             list,
-            types,
+            types: types.as_slice(),
             elements,
             data_count,
+            referenced: None,
+        }
+    }
+
+    /// The same, where only the functions whose flags are set count as referenced, as bodies see
+    /// them: those that occur in the module outside of bodies (Core Specification 3.0, Validation,
+    /// Modules). A flag stands at the function's index; functions behind the flags don't count.
+    pub fn with_referenced(self, referenced: &'a [bool]) -> ModuleResources<'a, A>
+        ensures { result ≡ with_references (flagged_from 0 referenced.now) self.entry }
+    {
+        ModuleResources {
+            referenced: Some(referenced),
+            ..self
         }
     }
 
@@ -93,6 +110,14 @@ impl<'a, A: Allocator + Copy> ModuleResources<'a, A> {
         } else {
             None
         }
+    }
+
+    /// Whether the module has the function.
+    fn has_function(&self, function_index: u32) -> bool
+        ensures { result ≡ nat_lt function_index (length self.now.functions) }
+    {
+        let spaces = self.spaces;
+        spaces.function_count() > function_index
     }
 
     /// What the type with this id is, if the list has one.
@@ -344,8 +369,13 @@ impl<'a, A: Allocator + Copy> WasmModuleResources for ModuleResources<'a, A> {
     }
 
     fn is_function_referenced(&self, function_index: u32) -> bool {
-        let spaces = self.spaces;
-        spaces.function_count() > function_index
+        match self.referenced {
+            Some(flags) => match flags.get(function_index as usize) {
+                Some(flag) => *flag,
+                None => false,
+            },
+            None => self.has_function(function_index),
+        }
     }
 
     fn has_function_exact_type(&self, function_index: u32) -> bool {
@@ -353,3 +383,9 @@ impl<'a, A: Allocator + Copy> WasmModuleResources for ModuleResources<'a, A> {
         function_index < spaces.function_count() && spaces.is_exact_function(function_index)
     }
 }
+
+/// The functions that flags say, as the context of bodies lists them, are those whose flags are
+/// set.
+pub fn flags_say_references()
+    ensures { FlagsSayReferences }
+{}

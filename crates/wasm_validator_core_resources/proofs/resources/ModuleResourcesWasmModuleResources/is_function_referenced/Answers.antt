@@ -1,8 +1,11 @@
-use Rattle.std.proofs.Common.{◌∙◌, ap}
-use Rattle.std.specs.Prelude.{nat_lt, length}
-use Rattle.wasm_rules.specs.Attempts.{among}
-use Rattle.wasm_validator_core_resources.proofs.Lists.{among_first}
+use Rattle.wasm_validator_core_resources.proofs.Referenced.{flag_read, no_flag_read, each_counts}
 use Rattle.wasm_validator_core_resources.proofs.resources.ModuleResourcesWasmModuleResources.is_function_referenced.Goals as goal
 
-pub returns : goal.returns
-returns g c = ap (nat_lt c.args.function_index) c.function_count.ensures ∙ among_first c.args.function_index (length c.self.inside.spaces.now.functions) ∙ ap (λ C. among c.args.function_index C.references) c.self.view_is
+pub returns-in-Some-get : goal.returns-in-Some-get
+returns-in-Some-get g c = flag_read c.self.inside c.args.self.now c.self.view_is c.args.function_index c.in-Some.flags c.in-Some-get.flag.now c.in-Some.is c.in-Some-get.ensures.lookup.0 c.in-Some-get.ensures.lookup.1
+
+pub returns-in-None-get : goal.returns-in-None-get
+returns-in-None-get g c = no_flag_read c.self.inside c.args.self.now c.self.view_is c.args.function_index c.in-Some.flags c.in-Some.is c.in-None-get.ensures.lookup.0
+
+pub returns-in-None : goal.returns-in-None
+returns-in-None g c = each_counts c.self.inside c.args.self.now c.self.view_is c.args.function_index c.has_function.result c.in-None.is c.has_function.ensures

@@ -1,0 +1,10 @@
+use Rattle.std.proofs.Common.{◌≡◌, length, take}
+use Rattle.wasm_validator_core_resources.specs.ById.{AreFirstByIds}
+use Rattle.wasm_validator_core_resources.proofs.types_by_ids.TypesByIds.update.Given as goal
+
+abbrev pub invariant-loop-place : goal.invariant-loop-place
+invariant-loop-place g l = record {
+  first : AreFirstByIds l.list.groups l.self-inside.types.items;
+  kept : take (length l.fn.self) l.self-inside.types.items ≡ l.fn.self;
+  count : length l.self-inside.types.items ≡ l.place;
+}
