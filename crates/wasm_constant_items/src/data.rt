@@ -9,8 +9,8 @@ ghost use Rattle.wasm_constant_items.specs.Data.{behind_data_mode, behind_data};
 
 use crate::offsets::check_memory_offset;
 use std::alloc::Allocator;
-use wasm_module_resources::WasmModuleResources;
 use wasm_constant_checks::OperatorValidatorAllocations;
+use wasm_module_resources::WasmModuleResources;
 use wasm_readers::BinaryReader;
 use wasm_readers_errors::{Error, Fault, Malformed, Refusal, WasmFeatures};
 

@@ -9,10 +9,10 @@ ghost use Rattle.wasm_constant_items.specs.Answers.{GoesPast};
 ghost use Rattle.wasm_constant_items.specs.Expressions.{behind_expression};
 
 use std::alloc::Allocator;
-use wasm_module_resources::WasmModuleResources;
 use wasm_constant_checks::{
     OperatorValidator, OperatorValidatorAllocations, check_constant_expression,
 };
+use wasm_module_resources::WasmModuleResources;
 use wasm_readers::BinaryReader;
 use wasm_readers_errors::{Error, WasmFeatures};
 use wasm_readers_types::ValType;

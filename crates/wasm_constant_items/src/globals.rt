@@ -10,8 +10,8 @@ ghost use Rattle.wasm_constant_items.specs.Globals.{global_type_at, typed_global
 
 use crate::expressions::check_expression_of_type;
 use std::alloc::Allocator;
-use wasm_module_resources::WasmModuleResources;
 use wasm_constant_checks::OperatorValidatorAllocations;
+use wasm_module_resources::WasmModuleResources;
 use wasm_readers::BinaryReader;
 use wasm_readers::externs::read_global_type;
 use wasm_readers_errors::{Error, Refusal, WasmFeatures};

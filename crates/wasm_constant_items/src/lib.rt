@@ -19,3 +19,6 @@ pub use globals::check_global_entry;
 pub use laws::expressions_are_found;
 pub use lists::{check_expression_list, check_function_list};
 pub use offsets::{check_memory_offset, check_table_offset};
+
+/// The memory that the checks use again.
+pub use wasm_constant_checks::OperatorValidatorAllocations;

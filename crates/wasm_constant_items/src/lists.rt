@@ -12,8 +12,8 @@ ghost use Rattle.wasm_constant_items.specs.Lists.{behind_many, behind_list};
 
 use crate::expressions::check_expression_of_type;
 use std::alloc::Allocator;
-use wasm_module_resources::WasmModuleResources;
 use wasm_constant_checks::OperatorValidatorAllocations;
+use wasm_module_resources::WasmModuleResources;
 use wasm_readers::BinaryReader;
 use wasm_readers_errors::{Error, Fault, Refusal, WasmFeatures};
 use wasm_readers_types::ValType;

@@ -10,8 +10,8 @@ ghost use Rattle.wasm_constant_items.specs.Offsets.{address_type, behind_table_o
 
 use crate::expressions::check_expression_of_type;
 use std::alloc::Allocator;
-use wasm_module_resources::WasmModuleResources;
 use wasm_constant_checks::OperatorValidatorAllocations;
+use wasm_module_resources::WasmModuleResources;
 use wasm_readers::BinaryReader;
 use wasm_readers_errors::{Error, Fault, OperatorRule, Refusal, WasmFeatures};
 use wasm_readers_types::ValType;
