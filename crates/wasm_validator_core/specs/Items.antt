@@ -37,6 +37,10 @@ with_memory F s m = limited (length s.memories + 1) (most_memories F) (record s 
 abbrev pub with_imported_global : Spaces → Global UnpackedIndex → Option Spaces
 with_imported_global s g = limited (length s.globals + 1) MAX_GLOBALS (record s { globals = s.globals ++ g ∷ []; imported_globals = s.imported_globals + 1 })
 
+-- a global that is defined, whose type is as the list of types has it
+abbrev pub with_global : Spaces → Global UnpackedIndex → Option Spaces
+with_global s g = limited (length s.globals + 1) MAX_GLOBALS (record s { globals = s.globals ++ g ∷ [] })
+
 abbrev pub with_tag : Spaces → ℕ → Option Spaces
 with_tag s x = limited (length s.tags + 1) MAX_TAGS (record s { tags = s.tags ++ x ∷ [] })
 

@@ -7,7 +7,7 @@ ghost use Rattle.wasm_readers_types.specs.SeenExterns.{table_of, memory_of, glob
 ghost use Rattle.wasm_validator_type_list.specs.DefTypes.{types_of_list};
 ghost use Rattle.wasm_validator_core.specs.Errors.{IsAt};
 ghost use Rattle.wasm_validator_core.specs.Answers.{Adds};
-ghost use Rattle.wasm_validator_core.specs.Items.{with_function, with_table, with_memory, with_imported_global, with_tag, add_function, add_table, add_memory, add_tag};
+ghost use Rattle.wasm_validator_core.specs.Items.{with_function, with_table, with_memory, with_imported_global, with_global, with_tag, add_function, add_table, add_memory, add_tag};
 ghost use Rattle.wasm_validator_core.specs.Ready.{AreHeld};
 ghost use Rattle.wasm_validator_core.specs.Told.{Tells, told_of_limit, told_of_table_limit, told_of_memory_limit, told_of_added_function, told_of_added_table, told_of_added_memory, told_of_added_tag};
 
@@ -95,6 +95,24 @@ pub(crate) fn place_imported_global<A: Allocator + Copy>(
     let count = spaces.global_count() as usize;
     check_max(count, 1, MAX_GLOBALS, Counted::Globals, offset)?;
     spaces.push_imported_global(ty)?;
+    Ok(())
+}
+
+/// One more global that is defined, whose type is as the list of types has it.
+pub(crate) fn place_global<A: Allocator + Copy>(
+    spaces: &mut IndexSpaces<A>,
+    ty: GlobalType,
+    offset: u64,
+) -> Result<(), Error<A>>
+    ensures added { Adds result (with_global spaces.old (global_of ty)) spaces.new }
+    ensures types { spaces.new.types ≡ spaces.old.types }
+    ensures place { IfErr result (IsAt offset) }
+    ensures told { Tells result (told_of_limit offset Counted.Globals
+        (length spaces.old.globals) MAX_GLOBALS) }
+{
+    let count = spaces.global_count() as usize;
+    check_max(count, 1, MAX_GLOBALS, Counted::Globals, offset)?;
+    spaces.push_global(ty)?;
     Ok(())
 }
 

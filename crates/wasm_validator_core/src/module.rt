@@ -6,7 +6,7 @@ ghost use Rattle.std.specs.declared.option.Option.TheVariants.{Some, None};
 ghost use Rattle.wasm_rules.specs.FeatureFlags.{features_of};
 ghost use Rattle.wasm_rules.specs.Limits.{most_tables, most_memories};
 ghost use Rattle.wasm_readers.specs.Items.{import_of, export_of};
-ghost use Rattle.wasm_readers_types.specs.SeenExterns.{table_of, memory_of, extern_of};
+ghost use Rattle.wasm_readers_types.specs.SeenExterns.{table_of, memory_of, global_of, extern_of};
 ghost use Rattle.wasm_readers_types.specs.SeenTypes.{rec_of};
 ghost use Rattle.wasm_item_checks.specs.Answers.{IsRefusalAt, IsPlainRefusalAt};
 ghost use Rattle.wasm_item_checks.specs.Items.{is_valid_extern};
@@ -19,8 +19,8 @@ ghost use Rattle.wasm_validator_core.specs.Answers.{Adds, AddsWhere, HasValidTyp
 ghost use Rattle.wasm_validator_core.specs.Functions.{IsTypeOfFunction, IsUnknownFunction};
 ghost use Rattle.wasm_validator_core.specs.Ready.{IsOpenFor, AreIdsOf, AreHeld};
 ghost use Rattle.wasm_validator_core.specs.Machine.{add_group};
-ghost use Rattle.wasm_validator_core.specs.Items.{types_of_module, listed, entity, exported_function, exported_entity, arity_of_function, is_startable, add_import, add_function, add_table, add_memory, add_tag, add_export};
-ghost use Rattle.wasm_validator_core.specs.Told.{Tells, TellsExport, told_of_added_function, told_of_added_table, told_of_added_memory, told_of_added_tag, ToldOfAddedGroup, told_of_import, told_of_entity_there, told_of_entity, told_of_function_type, told_of_start};
+ghost use Rattle.wasm_validator_core.specs.Items.{types_of_module, listed, entity, exported_function, exported_entity, arity_of_function, is_startable, add_import, add_function, add_table, add_memory, with_global, add_tag, add_export};
+ghost use Rattle.wasm_validator_core.specs.Told.{Tells, TellsExport, told_of_added_function, told_of_added_table, told_of_added_memory, told_of_limit, told_of_added_tag, ToldOfAddedGroup, told_of_import, told_of_entity_there, told_of_entity, told_of_function_type, told_of_start};
 ghost use Rattle.wasm_readers_errors.specs.Refusals.{refused};
 ghost use Rattle.wasm_item_checks.specs.Told.{told_of_extern};
 
@@ -28,14 +28,16 @@ use crate::entities::{entity_type, known_ids, listed_type_ref};
 use crate::error::Error;
 use crate::exports::{add_one_export, exported, function_entity};
 use crate::imports::add_one_import;
-use crate::items::{add_defined_function, add_defined_memory, add_defined_table, add_defined_tag};
-use crate::limits::{MAX_TYPES, check_max, max_memories, max_tables};
+use crate::items::{
+    add_defined_function, add_defined_memory, add_defined_table, add_defined_tag, place_global,
+};
+use crate::limits::{MAX_GLOBALS, MAX_TYPES, check_max, max_memories, max_tables};
 use crate::start::{check_start_function, function_type};
 use std::alloc::{AllocError, Allocator, Global};
 use std::marker::Model;
 use wasm_readers::{
-    CoreTypeId, Counted, Export, FuncType, Import, MemoryType, RecGroup, Refusal, TableType,
-    TagType, TypeRef, WasmFeatures,
+    CoreTypeId, Counted, Export, FuncType, GlobalType, Import, MemoryType, RecGroup, Refusal,
+    TableType, TagType, TypeRef, WasmFeatures,
 };
 use wasm_validator_canonical::{InternRecGroup, intern_rec_group_of};
 use wasm_validator_types::{EntityType, IndexSpaces, TypeList};
@@ -227,6 +229,24 @@ impl<A: Allocator + Copy> Module<A> {
         ensures told { Tells result (told_of_added_memory features offset self.old (memory_of ty)) }
     {
         add_defined_memory(features, &mut self.spaces, ty, offset)
+    }
+
+    /// Adds a global that is defined, whose type is as the list of types has it: valid, and with
+    /// ids in place of type indices. `offset` is where it stands in the input (Core Specification
+    /// 3.0, Validation, Modules, Globals).
+    ///
+    /// # Errors
+    ///
+    /// Refused where there would be too many globals, and where memory is. The module is then only
+    /// to be dropped.
+    pub fn add_global(&mut self, ty: GlobalType, offset: u64) -> Result<(), Error<A>>
+        ensures added { Adds result (with_global self.old (global_of ty)) self.new }
+        ensures types { self.new.types ≡ self.old.types }
+        ensures place { IfErr result (IsAt offset) }
+        ensures told { Tells result (told_of_limit offset Counted.Globals
+            (length self.old.globals) MAX_GLOBALS) }
+    {
+        place_global(&mut self.spaces, ty, offset)
     }
 
     /// Adds a tag of this type. `offset` is where it stands in the input (Core Specification 3.0,

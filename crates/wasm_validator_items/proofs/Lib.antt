@@ -1,0 +1,4 @@
+mod Loops
+mod Places
+mod Refusals
+mod Steps

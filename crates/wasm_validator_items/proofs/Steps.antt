@@ -1,0 +1,44 @@
+-- Initializers in a module, and where a global isn't added.
+use Rattle.std.proofs.Common.{◌≡◌, sym, ap, ◌∙◌, ℕ, true, List, Some, None}
+use Rattle.std.specs.Prelude.{if◌then◌else◌}
+use Rattle.std.specs.Option.{option_map, option_and_then}
+use Rattle.wasm_spec.specs.Syntax.{Sub, Val, Global, map_global}
+use Rattle.wasm_spec.specs.BinaryTypes.{global_at}
+use Rattle.wasm_spec.specs.Features.{Features}
+use Rattle.wasm_readers.specs.Written.{written}
+use Rattle.wasm_readers_types.specs.declared.indices.UnpackedIndex.{UnpackedIndex}
+use Rattle.wasm_validator_canonical.specs.Indices.{canonical_index}
+use Rattle.wasm_item_checks.specs.Items.{is_valid_global}
+use Rattle.wasm_validator_types.specs.Spaces.{Spaces}
+use Rattle.wasm_validator_core.specs.Answers.{TypesSoFar}
+use Rattle.wasm_validator_core.specs.Items.{types_of_module, with_global}
+use Rattle.wasm_rules.specs.Contexts.{Context}
+use Rattle.wasm_constant_items.specs.Expressions.{behind_expression}
+use Rattle.wasm_validator_items.specs.Machine.{context_of, behind_initializer, with_initialized, with_written, global_step}
+
+-- an expression in the context of the module is an initializer in it
+pub initializer_is : (F : Features) (declares : List (UnpackedIndex × Sub UnpackedIndex)) (s t : Spaces) (C : Context UnpackedIndex) (imported : ℕ) (v : Val UnpackedIndex) (bytes : List ℕ)
+    → t ≡ s → C ≡ context_of declares t → imported ≡ t.imported_globals → behind_expression C F imported v bytes ≡ behind_initializer F declares s v bytes
+unfolding behind_initializer
+initializer_is F declares s t C imported v bytes here context count =
+    λ i. behind_expression ((context ∙ ap (context_of declares) here) i) F ((count ∙ ap (λ (u : Spaces). u.imported_globals) here) i) v bytes
+
+module _ (F : Features) (declares : List (UnpackedIndex × Sub UnpackedIndex)) (us : TypesSoFar) (s : Spaces) (bytes more : List ℕ) (g h : Global UnpackedIndex) where
+  -- of a valid type, it is there with its initializer
+  step_is : global_at written bytes ≡ Some (g, more) → true ≡ is_valid_global F (types_of_module us s) g → h ≡ map_global (canonical_index s.types) g → global_step F declares us s bytes ≡ with_initialized F declares s h more
+  unfolding global_step
+  step_is e v l =
+      ap (option_and_then (λ (x : Global UnpackedIndex × List ℕ). with_written F declares us s x.0 x.1)) e
+      ∙ (λ i. if sym v i then with_initialized F declares s (sym l i) more else None)
+
+  -- its initializer isn't there
+  pub uninitialized : global_at written bytes ≡ Some (g, more) → true ≡ is_valid_global F (types_of_module us s) g → h ≡ map_global (canonical_index s.types) g
+      → behind_initializer F declares s h.content more ≡ None → global_step F declares us s bytes ≡ None
+  uninitialized e v l n = step_is e v l ∙ ap (option_and_then (λ (a : List ℕ). option_map (λ (t : Spaces). (t, a)) (with_global s h))) n
+
+  -- there is no room for it
+  pub no_room : (after : List ℕ) → global_at written bytes ≡ Some (g, more) → true ≡ is_valid_global F (types_of_module us s) g → h ≡ map_global (canonical_index s.types) g
+      → behind_initializer F declares s h.content more ≡ Some after → with_global s h ≡ None → global_step F declares us s bytes ≡ None
+  no_room after e v l i n =
+      step_is e v l ∙ ap (option_and_then (λ (a : List ℕ). option_map (λ (t : Spaces). (t, a)) (with_global s h))) i
+      ∙ ap (option_map (λ (t : Spaces). (t, after))) n

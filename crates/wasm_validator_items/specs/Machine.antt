@@ -1,0 +1,64 @@
+-- What sections add to a module whose items hold constant expressions: each item is read and typed in the module as far as it has been
+-- read. `us` are the types of all modules so far, and `declares` says of each of their ids what it declares.
+-- Core Specification 3.0, Validation, Modules, and Binary Format, Modules.
+use Rattle.std.specs.Prelude.{ℕ, zero, suc, ◌+◌, ◌==◌, nat_le, if◌then◌else◌, List, [], map, length, Option, Some, None}
+use Rattle.std.specs.Option.{option_map, option_and_then}
+use Rattle.wasm_spec.specs.Syntax.{Sub, Val, Global, map_global}
+use Rattle.wasm_spec.specs.BinaryTypes.{global_at}
+use Rattle.wasm_spec.specs.Features.{Features}
+use Rattle.wasm_rules.specs.Contexts.{Context}
+use Rattle.wasm_readers.specs.Written.{written}
+use Rattle.wasm_readers_types.specs.declared.indices.UnpackedIndex.{UnpackedIndex}
+use Rattle.wasm_validator_canonical.specs.Indices.{canonical_index}
+use Rattle.wasm_item_checks.specs.Items.{is_valid_global}
+use Rattle.wasm_validator_types.specs.Spaces.{Spaces}
+use Rattle.wasm_validator_core.specs.declared.limits.TheConstants.{MAX_GLOBALS}
+use Rattle.wasm_validator_core.specs.Answers.{TypesSoFar}
+use Rattle.wasm_validator_core.specs.Items.{types_of_module, with_global}
+use Rattle.wasm_operator_worlds.specs.IndexContexts.{id_of}
+use Rattle.wasm_validator_core_resources.specs.ModuleContexts.{exact_flags, numbers_from}
+use Rattle.wasm_constant_items.specs.Expressions.{behind_expression}
+
+module _ {S : Type 0} (step : S → List ℕ → Option (S × List ℕ)) where
+  -- so many items one after another, each read in the state that those before it left, and nothing behind the last
+  abbrev pub items_from : ℕ → List ℕ → S → Option S
+  items_from zero bytes s = if length bytes == 0 then Some s else None
+  items_from (suc n) bytes s = option_and_then (λ x. items_from n x.1 x.0) (step s bytes)
+
+-- The context of constant expressions in a module as far as it has been read: they name no segments, and each function counts as referenced.
+abbrev pub context_of : List (UnpackedIndex × Sub UnpackedIndex) → Spaces → Context UnpackedIndex
+context_of declares s = record {
+  types = map id_of s.types;
+  declares = declares;
+  functions = s.functions;
+  exact = exact_flags s.functions s.imported_functions;
+  tables = s.tables;
+  memories = s.memories;
+  globals = s.globals;
+  tags = s.tags;
+  elements = [];
+  data_count = None;
+  references = numbers_from 0 (length s.functions);
+}
+
+module _ (F : Features) (declares : List (UnpackedIndex × Sub UnpackedIndex)) where
+  -- the bytes behind an expression of this type, which may read the imported globals
+  unfoldable pub behind_initializer : Spaces → Val UnpackedIndex → List ℕ → Option (List ℕ)
+  behind_initializer s v bytes = behind_expression (context_of declares s) F s.imported_globals v bytes
+
+  -- a global of this type, as the list of types has it, behind its initializer
+  abbrev pub with_initialized : Spaces → Global UnpackedIndex → List ℕ → Option (Spaces × List ℕ)
+  with_initialized s g bytes = option_and_then (λ more. option_map (λ t. (t, more)) (with_global s g)) (behind_initializer s g.content bytes)
+
+  -- a global whose type is written so: it is valid over the module's types
+  abbrev pub with_written : TypesSoFar → Spaces → Global UnpackedIndex → List ℕ → Option (Spaces × List ℕ)
+  with_written us s g bytes =
+      if is_valid_global F (types_of_module us s) g then with_initialized s (map_global (canonical_index s.types) g) bytes else None
+
+  -- a global: its type, and its initializer
+  unfoldable pub global_step : TypesSoFar → Spaces → List ℕ → Option (Spaces × List ℕ)
+  global_step us s bytes = option_and_then (λ g. with_written us s g.0 g.1) (global_at written bytes)
+
+  -- a global section: so many globals, which keep to the limit with those that are there
+  abbrev pub global_items : TypesSoFar → ℕ → List ℕ → Spaces → Option Spaces
+  global_items us count bytes s = if nat_le (length s.globals + count) MAX_GLOBALS then items_from (global_step us) count bytes s else None

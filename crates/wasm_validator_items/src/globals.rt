@@ -1,0 +1,205 @@
+//! The globals of a global section, with their initializers.
+
+ghost use Rattle.std.specs.Prelude.{◌≡◌, ◌≤◌, ◌+◌, is_ok, length, IfOk, IfErr};
+ghost use Rattle.std.specs.declared.option.Option.TheVariants.{Some};
+ghost use Rattle.wasm_spec.specs.Syntax.{map_global};
+ghost use Rattle.wasm_rules.specs.FeatureFlags.{features_of};
+ghost use Rattle.wasm_binary_reader.specs.Reader.{SameInput, input, original, position_in, rest};
+ghost use Rattle.wasm_readers_types.specs.SeenExterns.{global_of};
+ghost use Rattle.wasm_readers_types.specs.SeenValues.{val_of};
+ghost use Rattle.wasm_validator_type_list.specs.DefTypes.{types_of_list};
+ghost use Rattle.wasm_validator_canonical.specs.Indices.{canonical_index};
+ghost use Rattle.wasm_item_checks.specs.Answers.{IsRefusalAt};
+ghost use Rattle.wasm_item_checks.specs.Items.{is_valid_global};
+ghost use Rattle.wasm_validator_core.specs.Answers.{Adds};
+ghost use Rattle.wasm_validator_core.specs.Items.{types_of_module};
+ghost use Rattle.wasm_validator_core.specs.Ready.{AreHeld};
+ghost use Rattle.wasm_operator_worlds.specs.IndexContexts.{id_of};
+ghost use Rattle.wasm_operator_worlds.specs.ListContexts.{list_declares};
+ghost use Rattle.wasm_validator_core_resources.specs.ModuleContexts.{AreByIds};
+ghost use Rattle.wasm_validator_items.specs.Answers.{Refuses, StandsBetween, StandsBehind};
+ghost use Rattle.wasm_validator_items.specs.Machine.{behind_initializer, global_step, items_from, global_items};
+
+use std::alloc::Allocator;
+use wasm_constant_items::{OperatorValidatorAllocations, check_expression_of_type};
+use wasm_readers::BinaryReader;
+use wasm_readers::externs::read_global_type;
+use wasm_readers_errors::{Counted, Fault, Malformed, Refusal, WasmFeatures};
+use wasm_readers_types::{GlobalType, TypeRef, ValType};
+use wasm_validator_core::{Error, MAX_GLOBALS, Module, check_max};
+use wasm_validator_core_resources::{ModuleResources, TypesByIds};
+use wasm_validator_types::{EntityType, TypeList};
+
+/// Accepts the type of a global, and gives it as the list of types has it.
+fn listed_global<A: Allocator + Copy>(
+    features: WasmFeatures,
+    list: &TypeList<A>,
+    opened: &Module<A>,
+    ty: GlobalType,
+    offset: u64,
+) -> Result<GlobalType, Refusal>
+    requires { AreHeld list.now opened.now.types }
+    ensures allowed { is_ok result ≡ is_valid_global (features_of features)
+        (types_of_module (types_of_list list.now) opened.now) (global_of ty) }
+    ensures listed { IfOk result (λ g. global_of g
+        ≡ map_global (canonical_index opened.now.types) (global_of ty)) }
+    ensures refusal { IfErr result (IsRefusalAt features offset) }
+{
+    match opened.check_type_ref(features, list, TypeRef::Global(ty), offset)? {
+        EntityType::Global(global) => Ok(global),
+        _ => unreachable!(),
+    }
+}
+
+/// Reads and types the constant expression of this type that the bytes begin with, in the module as
+/// far as it has been read.
+#[tactic(auto, unfolding(crate::specs::Machine::behind_initializer))]
+fn check_initializer<'a, A: Allocator + Copy>(
+    features: WasmFeatures,
+    list: &TypeList<A>,
+    types: &TypesByIds<A>,
+    allocations: OperatorValidatorAllocations<A>,
+    opened: &Module<A>,
+    ty: ValType,
+    reader: &mut BinaryReader<'a>,
+) -> Result<OperatorValidatorAllocations<A>, Error<A>>
+    requires held { AreHeld list.now opened.now.types }
+    requires types { AreByIds list.now.groups types.now }
+    ensures ok { IfOk result (λ _. behind_initializer (features_of features)
+        (list_declares id_of list.now.groups) opened.now (val_of ty) (rest reader.old)
+        ≡ Some (rest reader.new)) }
+    ensures err { IfErr result (λ e. Refuses e (behind_initializer (features_of features)
+        (list_declares id_of list.now.groups) opened.now (val_of ty) (rest reader.old))) }
+    ensures input { SameInput reader.old reader.new }
+    ensures onward { position_in reader.old ≤ position_in reader.new }
+    ensures place { IfErr result (StandsBehind reader.old) }
+{
+    let spaces = opened.spaces();
+    let imported_globals = spaces.imported_global_count();
+    let resources = ModuleResources::new(spaces, list, types, &[], None);
+    let allocations = check_expression_of_type(
+        allocations,
+        features,
+        &resources,
+        imported_globals,
+        ty,
+        reader,
+    )?;
+    Ok(allocations)
+}
+
+/// Reads a global in the module as far as it has been read, and adds it.
+#[tactic(auto, unfolding(crate::specs::Machine::global_step))]
+fn add_next_global<'a, A: Allocator + Copy>(
+    features: WasmFeatures,
+    list: &TypeList<A>,
+    types: &TypesByIds<A>,
+    allocations: OperatorValidatorAllocations<A>,
+    opened: &mut Module<A>,
+    reader: &mut BinaryReader<'a>,
+) -> Result<OperatorValidatorAllocations<A>, Error<A>>
+    requires held { AreHeld list.now opened.old.types }
+    requires types { AreByIds list.now.groups types.now }
+    ensures ok { IfOk result (λ _. global_step (features_of features)
+        (list_declares id_of list.now.groups) (types_of_list list.now) opened.old (rest reader.old)
+        ≡ Some (opened.new, rest reader.new)) }
+    ensures err { IfErr result (λ e. Refuses e (global_step (features_of features)
+        (list_declares id_of list.now.groups) (types_of_list list.now) opened.old
+        (rest reader.old))) }
+    ensures types { opened.new.types ≡ opened.old.types }
+    ensures input { SameInput reader.old reader.new }
+    ensures onward { position_in reader.old ≤ position_in reader.new }
+    ensures place { IfErr result (StandsBehind reader.old) }
+{
+    let offset = reader.original_position();
+    let written = read_global_type(reader)?;
+    let ty = listed_global(features, list, opened, written, offset)?;
+    let content = ty.content_type;
+    let allocations = check_initializer(
+        features,
+        list,
+        types,
+        allocations,
+        opened,
+        content,
+        reader,
+    )?;
+    opened.add_global(ty, offset)?;
+    Ok(allocations)
+}
+
+/// Adds so many globals, behind which nothing is left.
+fn add_each_global<'a, A: Allocator + Copy>(
+    features: WasmFeatures,
+    list: &TypeList<A>,
+    types: &TypesByIds<A>,
+    allocations: OperatorValidatorAllocations<A>,
+    opened: &mut Module<A>,
+    count: u32,
+    reader: BinaryReader<'a>,
+) -> Result<OperatorValidatorAllocations<A>, Error<A>>
+    requires held { AreHeld list.now opened.old.types }
+    requires types { AreByIds list.now.groups types.now }
+    ensures added { Adds result (items_from (global_step (features_of features)
+        (list_declares id_of list.now.groups) (types_of_list list.now)) count (rest reader.entry)
+        opened.old) opened.new }
+    ensures types { opened.new.types ≡ opened.old.types }
+    ensures place { IfErr result (StandsBehind reader.entry) }
+{
+    let mut allocations = allocations;
+    let mut reader = reader;
+    let mut left = count;
+    'globals: while left > 0 {
+        allocations = add_next_global(features, list, types, allocations, opened, &mut reader)?;
+        left -= 1;
+    }
+    if reader.is_empty() {
+        return Ok(allocations);
+    }
+    let fault = Fault::Malformed(Malformed::SectionSize);
+    let offset = reader.original_position();
+    Err(Error::Refused(Refusal::new(fault, offset)))
+}
+
+/// Adds the globals of a global section, each with its initializer, which may read the imported
+/// globals. `reader` is the section's, behind its count; and the initializers are typed in memory
+/// that was used before, which is handed on.
+///
+/// The list must have the types of the module; and `types` are all that it has, with ids in the
+/// place of positions in their groups.
+///
+/// # Errors
+///
+/// Refused where there would be too many globals, at the section's start; where the bytes aren't so
+/// many globals, each of a type that keeps every rule, with a constant expression of what it holds
+/// (Core Specification 3.0, Validation, Modules, Globals), where its type or the operator stands;
+/// and where memory is. The module is then only to be dropped.
+pub fn add_globals<'a, A: Allocator + Copy>(
+    features: WasmFeatures,
+    list: &TypeList<A>,
+    types: &TypesByIds<A>,
+    allocations: OperatorValidatorAllocations<A>,
+    opened: &mut Module<A>,
+    count: u32,
+    reader: BinaryReader<'a>,
+) -> Result<OperatorValidatorAllocations<A>, Error<A>>
+    requires held { AreHeld list.now opened.old.types }
+    requires types { AreByIds list.now.groups types.now }
+    ensures added { Adds result (global_items (features_of features)
+        (list_declares id_of list.now.groups) (types_of_list list.now) count (rest reader.entry)
+        opened.old) opened.new }
+    ensures types { opened.new.types ≡ opened.old.types }
+    ensures place { IfErr result (StandsBetween (original reader.entry)
+        (original reader.entry + length (input reader.entry))) }
+{
+    let there = opened.spaces().global_count() as usize;
+    let more = count as usize;
+    check_max(
+        there,
+        more,
+        MAX_GLOBALS,
+        Counted::Globals,
+        reader.range().start,
+    )?;
+    add_each_global(features, list, types, allocations, opened, count, reader)
+}
