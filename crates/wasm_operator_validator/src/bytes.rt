@@ -1,9 +1,10 @@
 //! Steps from bytes.
 
-ghost use Rattle.std.specs.Prelude.{◌≡◌, ◌≤◌, ◌<◌, ◌||◌, Some, false, not, is_ok, OnOk, OnErr};
+ghost use Rattle.std.specs.Prelude.{◌≡◌, ◌≤◌, ◌<◌, ◌||◌, Some, false, not, is_ok, IfErr, OnOk, OnErr};
 ghost use Rattle.wasm_binary_reader.specs.Reader.{SameInput, position_in, rest};
 ghost use Rattle.wasm_operator_stacks.specs.Seen.{Kept};
 ghost use Rattle.wasm_operator_validator.specs.Typed.{typed_state};
+ghost use Rattle.wasm_operator_validator.specs.Checked.{StandsIn};
 ghost use Rattle.wasm_operator_validator.specs.Reads.{ReadsStep, stepped};
 
 use crate::validator::OperatorValidator;
@@ -16,9 +17,14 @@ use wasm_readers_errors::Error;
 
 impl<A: Allocator> OperatorValidator<A> {
     /// Reads the next operator and takes its step, where it is a frequent one, its operands are of
-    /// known types and nothing was refused. Where that isn't done, all stays.
+    /// known types and nothing was refused.
+    ///
+    /// # Errors
+    ///
+    /// Where that isn't done, all stays: [`OperatorValidator::read_op`] goes on from here, and says
+    /// what is wrong.
     #[inline(always)]
-    fn frequent_op<'a, T: WasmModuleResources>(
+    pub fn frequent_op<'a, T: WasmModuleResources>(
         &mut self,
         resources: &T,
         reader: &mut BinaryReader<'a>,
@@ -40,9 +46,15 @@ impl<A: Allocator> OperatorValidator<A> {
         Ok(())
     }
 
-    /// Reads the next operator, and takes its step.
+    /// Reads the next operator, and takes its step: [`wasm_operators::read_operator`] and then
+    /// [`OperatorValidator::op`].
+    ///
+    /// # Errors
+    ///
+    /// Refuses bytes that aren't an operator, and at its offset an operator that isn't valid here;
+    /// and all once something was refused. Answers want of memory.
     #[inline(never)]
-    fn read_op<'a, T: WasmModuleResources>(
+    pub fn read_op<'a, T: WasmModuleResources>(
         &mut self,
         resources: &T,
         reader: &mut BinaryReader<'a>,
@@ -55,6 +67,7 @@ impl<A: Allocator> OperatorValidator<A> {
         ensures further { OnOk result (position_in reader.old < position_in reader.new) }
         ensures same { Kept self.old.stacks self.new.stacks }
         ensures failed { self.new.failed ≡ (self.old.failed || not (is_ok result)) }
+        ensures place { IfErr result (StandsIn reader.old) }
     {
         let offset = reader.original_position();
         let op = match read_operator(reader) {
@@ -70,8 +83,9 @@ impl<A: Allocator> OperatorValidator<A> {
         }
     }
 
-    /// Reads the next operator and takes its step: [`wasm_operators::read_operator`] and then
-    /// [`OperatorValidator::op`], with a fast way for frequent operators.
+    /// Reads the next operator and takes its step: [`OperatorValidator::frequent_op`], and
+    /// [`OperatorValidator::read_op`] where that leaves the operator. A loop that calls these two
+    /// itself has no place for a refusal to be kept while there is none.
     ///
     /// # Errors
     ///
@@ -91,6 +105,7 @@ impl<A: Allocator> OperatorValidator<A> {
         ensures further { OnOk result (position_in reader.old < position_in reader.new) }
         ensures same { Kept self.old.stacks self.new.stacks }
         ensures failed { self.new.failed ≡ (self.old.failed || not (is_ok result)) }
+        ensures place { IfErr result (StandsIn reader.old) }
     {
         match self.frequent_op(resources, reader) {
             Ok(()) => Ok(()),

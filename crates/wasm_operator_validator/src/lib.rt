@@ -12,3 +12,4 @@ pub use queries::Frame;
 pub use steps::step;
 pub use validator::{OperatorValidator, OperatorValidatorAllocations};
 pub use visitor::OperatorVisitor;
+pub use wasm_operator_fast::NotTaken;

@@ -1,5 +1,5 @@
 -- The typing of a body, instruction by instruction.
-use Rattle.std.proofs.Common.{◌≡◌, ◌≤◌, ◌<◌, ◌∙◌, refl, sym, ap, ℕ, zero, suc, true, false, List, length, if◌then◌else◌, Option, Some, None, arith}
+use Rattle.std.proofs.Common.{◌≡◌, ◌∙◌, refl, sym, ap, ℕ, zero, suc, true, false, List, length, if◌then◌else◌, Option, Some, None}
 use Rattle.std.specs.Option.{option_and_then}
 use Rattle.wasm_spec.specs.MatchingTests.{World}
 use Rattle.wasm_operators.specs.Instructions.{Instruction, instruction_at}
@@ -23,32 +23,6 @@ module _ {R : Type 0} (W : World R) (B : Surroundings R) where
       → step_in W B i s ≡ Some t → typed_from W B (suc most) s bytes ≡ typed_from W B most t more
   one_step most s t bytes more i open_ e d =
       ap (λ b. if b then here s bytes else read_from most s (instruction_at (λ n. n) bytes)) open_ ∙ ap (read_from most s) e ∙ ap (stepped_from most more) d
-
-  no_step : (most : ℕ) (s : State R) (bytes more : List ℕ) (i : Instruction ℕ) → is_finished s ≡ false → instruction_at (λ n. n) bytes ≡ Some (i, more)
-      → step_in W B i s ≡ None → typed_from W B (suc most) s bytes ≡ None
-  no_step most s bytes more i open_ e d =
-      ap (λ b. if b then here s bytes else read_from most s (instruction_at (λ n. n) bytes)) open_ ∙ ap (read_from most s) e ∙ ap (stepped_from most more) d
-
-  -- an instruction that is typed
-  pub go_one : (most : ℕ) (s t : State R) (bytes more : List ℕ) (i : Instruction ℕ) (all : Option (State R × List ℕ))
-      → length bytes ≤ most → length more < length bytes → is_finished s ≡ false → instruction_at (λ n. n) bytes ≡ Some (i, more) → step_in W B i s ≡ Some t
-      → typed_from W B most s bytes ≡ all → (m : ℕ) × (length more ≤ m) × (typed_from W B m t more ≡ all)
-  go_one zero s t bytes more i all enough less open_ e d so_far = absurd (omega arith)
-  go_one (suc m) s t bytes more i all enough less open_ e d so_far = (m, omega arith, sym (one_step m s t bytes more i open_ e d) ∙ so_far)
-
-  -- one that isn't
-  pub refused_here : (most : ℕ) (s : State R) (bytes more : List ℕ) (i : Instruction ℕ) (all : Option (State R × List ℕ))
-      → length bytes ≤ most → length more < length bytes → is_finished s ≡ false → instruction_at (λ n. n) bytes ≡ Some (i, more) → step_in W B i s ≡ None
-      → typed_from W B most s bytes ≡ all → all ≡ None
-  refused_here zero s bytes more i all enough less open_ e d so_far = absurd (omega arith)
-  refused_here (suc m) s bytes more i all enough less open_ e d so_far = sym so_far ∙ no_step m s bytes more i open_ e d
-
-  -- none that can be read
-  pub none_here : (most : ℕ) (s : State R) (bytes : List ℕ) (all : Option (State R × List ℕ))
-      → is_finished s ≡ false → instruction_at (λ n. n) bytes ≡ None → typed_from W B most s bytes ≡ all → all ≡ None
-  none_here zero s bytes all open_ e so_far = sym so_far ∙ ap (λ b. if b then here s bytes else None) open_
-  none_here (suc m) s bytes all open_ e so_far =
-      sym so_far ∙ ap (λ b. if b then here s bytes else read_from m s (instruction_at (λ n. n) bytes)) open_ ∙ ap (read_from m s) e
 
   -- the end
   pub done : (most : ℕ) (s : State R) (bytes : List ℕ) → is_finished s ≡ true → typed_from W B most s bytes ≡ Some (s, bytes)

@@ -1,3 +1,4 @@
 pub mod Bodies
 pub mod Validated
 pub mod Functions
+pub use Rattle.wasm_operator_validator.specs.Stepped

@@ -14,7 +14,6 @@ use crate::locals::read_declarations;
 use std::alloc::Allocator;
 use wasm_module_resources::WasmModuleResources;
 use wasm_operator_validator::OperatorValidator;
-use wasm_operators::read_operator;
 use wasm_parser::FunctionBody;
 use wasm_readers::BinaryReader;
 use wasm_readers_errors::{Error, Fault, OperatorRule, Refusal};
@@ -44,15 +43,11 @@ fn read_instructions<'a, A: Allocator, T: WasmModuleResources>(
     ensures place { IfErr result (StandsIn reader.old) }
 {
     'operators: while !validator.is_finished() {
-        let offset = reader.original_position();
-        let op = match read_operator(reader) {
-            Ok(op) => op,
-            Err(refusal) => {
-                validator.fail();
-                return Err(Error::Refused(refusal));
-            }
-        };
-        match validator.op_at(resources, offset, &op) {
+        match validator.frequent_op(resources, reader) {
+            Ok(()) => continue,
+            Err(_) => {}
+        }
+        match validator.read_op(resources, reader) {
             Ok(()) => {}
             Err(error) => return Err(error),
         }

@@ -1,21 +1,18 @@
-use Rattle.std.proofs.Common.{◌≡◌, ◌<◌, ◌∙◌, ◌||◌, ap, subst, Some, None, Ok, Err, false, length, arith, rules}
+use Rattle.std.proofs.Common.{◌≡◌, ◌<◌, ◌≤◌, ◌∙◌, ◌||◌, ap, subst, Some, Ok, Err, false, length, arith, rules}
 use Rattle.wasm_binary_reader.specs.Reader.{position_in, rest}
-use Rattle.wasm_operators.specs.Maps.{map_instruction}
-use Rattle.wasm_operators.specs.SeenOperators.{operator_of}
 use Rattle.wasm_operators.proofs.Skipping.{shorter}
-use Rattle.wasm_operator_steps.specs.Steps.{step_in, is_finished}
-use Rattle.wasm_module_resources.specs.Answers.{world, written_index}
+use Rattle.wasm_operator_steps.specs.Steps.{is_finished}
+use Rattle.wasm_operator_fast.specs.Fused.{step_at}
+use Rattle.wasm_module_resources.specs.Answers.{world}
 use Rattle.wasm_operator_validator.specs.Typed.{typed_state}
 use Rattle.wasm_operator_validator.specs.Checked.{within}
-use Rattle.wasm_operator_validator.proofs.Written.{is_written, by_numbers, no_numbers}
-use Rattle.wasm_operator_validator.proofs.Kept.{kept_around, kept_on, same_kept, ends}
+use Rattle.wasm_operator_validator.specs.Reads.{ReadsStep}
+use Rattle.wasm_operator_validator.proofs.Kept.{kept_around, kept_on, same_kept}
+use Rattle.wasm_operator_validator.proofs.Reading.{from_the_same}
 use Rattle.wasm_validator_func.specs.Bodies.{instructions_from}
-use Rattle.wasm_validator_func.proofs.Machine.{go_one, refused_here, none_here, all_of}
-use Rattle.wasm_validator_func.proofs.Stepping.{took}
+use Rattle.wasm_validator_func.proofs.Machine.{all_of}
+use Rattle.wasm_validator_func.proofs.Bytes.{one_more, stopped_here}
 use Rattle.wasm_validator_func.proofs.bodies.read_instructions.Goals as goal
-
-pub op_at-requires : goal.op_at-requires
-op_at-requires g c = is_written (rest c.operators.reader) (operator_of c.in-Ok.op) (rest c.read_operator.new.reader) c.in-Ok.ensures.ok
 
 pub operators-init : goal.operators-init
 operators-init g c =
@@ -29,58 +26,71 @@ operators-init g c =
       so_far = (length (rest c.args.reader.now), omega arith, all_of (world C) (within v C) (typed_state v) (rest c.args.reader.now));
     }
 
-pub returns-in-Err-clause-took : goal.returns-in-Err-clause-took
-returns-in-Err-clause-took g c =
+pub operators-preserved-in-Ok : goal.operators-preserved-in-Ok
+operators-preserved-in-Ok g c =
     let C = g.T.WasmModuleResources.context c.args.resources.now in
     let v = c.args.validator.now in
     let w = c.operators.validator in
+    let u = c.frequent_op.new.self in
+    let old = c.operators.reader in
+    let new = c.frequent_op.new.reader in
     let far = c.operators.invariant.so_far in
     let going : is_finished (typed_state w) ≡ false = cc in
-    none_here (world C) (within v C) far.0 (typed_state w) (rest c.operators.reader) (instructions_from (world C) (within v C) (typed_state v) (rest c.args.reader.now))
-    going (no_numbers (rest c.operators.reader) c.in-Err.ensures.err) far.2
+    let further : position_in old < position_in new = c.in-Ok.ensures.further in
+    let before = c.operators.invariant.onward in
+    let step : step_at (world C) (within v C) (typed_state w) (rest old) ≡ Some (typed_state u, rest new) =
+    subst (λ B. step_at (world C) B (typed_state w) (rest old) ≡ Some (typed_state u, rest new)) (kept_around v.stacks w.stacks C c.operators.invariant.kept) c.in-Ok.ensures.took in
+    record {
+      same = search rules;
+      onward = omega (arith, further, before);
+      kept = kept_on v.stacks w.stacks u.stacks c.operators.invariant.kept c.in-Ok.ensures.same;
+      going = c.in-Ok.ensures.going;
+      so_far = one_more C (within v C) far.0 (typed_state w) (typed_state u) (rest old) (rest new) (instructions_from (world C) (within v C) (typed_state v) (rest c.args.reader.now))
+          far.1 (shorter old new c.in-Ok.ensures.input further) going step far.2;
+    }
 
 pub operators-preserved : goal.operators-preserved
 operators-preserved g c =
     let C = g.T.WasmModuleResources.context c.args.resources.now in
     let v = c.args.validator.now in
     let w = c.operators.validator in
-    let u = c.op_at.new.self in
+    let u = c.frequent_op.new.self in
+    let t = c.read_op.new.self in
     let old = c.operators.reader in
-    let new = c.read_operator.new.reader in
+    let middle = c.frequent_op.new.reader in
+    let new = c.read_op.new.reader in
     let far = c.operators.invariant.so_far in
-    let i = map_instruction written_index (operator_of c.in-Ok.op) in
     let going : is_finished (typed_state w) ≡ false = cc in
-    let read = by_numbers (rest old) (operator_of c.in-Ok.op) (rest new) c.in-Ok.ensures.ok in
-    let further : position_in old < position_in new = c.in-Ok.ensures.further in
+    let unfailed : u.failed ≡ false = c.in-Err.ensures.failed ∙ c.operators.invariant.going in
+    let unread : position_in middle ≡ position_in old = ap position_in c.in-Err.ensures.unread in
+    let on : position_in middle < position_in new = c.in-Ok-read_op.ensures.further in
+    let further : position_in old < position_in new = omega (arith, unread, on) in
     let before = c.operators.invariant.onward in
-    let stepped = took c.original_position-offset.result C (operator_of c.in-Ok.op) w.stacks u.stacks (Ok c.in-Ok-op_at.field-0) (c.in-Ok-op_at.ensures.took c.operators.invariant.going) in
-    let step : step_in (world C) (within v C) i (typed_state w) ≡ Some (typed_state u) =
-    subst (λ B. step_in (world C) B i (typed_state w) ≡ Some (typed_state u)) (kept_around v.stacks w.stacks C c.operators.invariant.kept) stepped in
+    let stepped = from_the_same C w.stacks u.stacks old middle (Ok c.in-Ok-read_op.field-0) (typed_state t) (rest new) c.in-Err.ensures.same c.in-Err.ensures.left c.in-Err.ensures.unread (c.in-Ok-read_op.ensures.took unfailed) in
+    let step : step_at (world C) (within v C) (typed_state w) (rest old) ≡ Some (typed_state t, rest new) =
+    subst (λ B. step_at (world C) B (typed_state w) (rest old) ≡ Some (typed_state t, rest new)) (kept_around v.stacks w.stacks C c.operators.invariant.kept) stepped in
     record {
       same = search rules;
       onward = omega (arith, further, before);
-      kept = kept_on v.stacks w.stacks u.stacks c.operators.invariant.kept c.in-Ok-op_at.ensures.same;
-      going = c.in-Ok-op_at.ensures.failed ∙ ap (λ b. b || false) c.operators.invariant.going;
-      so_far = go_one (world C) (within v C) far.0 (typed_state w) (typed_state u) (rest old) (rest new) i (instructions_from (world C) (within v C) (typed_state v) (rest c.args.reader.now))
-          far.1 (shorter old new c.in-Ok.ensures.same further) going read step far.2;
+      kept = kept_on v.stacks w.stacks t.stacks c.operators.invariant.kept (kept_on w.stacks u.stacks t.stacks c.in-Err.ensures.same c.in-Ok-read_op.ensures.same);
+      going = c.in-Ok-read_op.ensures.failed ∙ ap (λ b. b || false) unfailed;
+      so_far = one_more C (within v C) far.0 (typed_state w) (typed_state t) (rest old) (rest new) (instructions_from (world C) (within v C) (typed_state v) (rest c.args.reader.now))
+          far.1 (shorter old new (search rules) further) going step far.2;
     }
 
-pub returns-in-Err-op_at-clause-took : goal.returns-in-Err-op_at-clause-took
-returns-in-Err-op_at-clause-took g c =
+pub returns-in-Err-read_op-clause-took : goal.returns-in-Err-read_op-clause-took
+returns-in-Err-read_op-clause-took g c =
     let C = g.T.WasmModuleResources.context c.args.resources.now in
     let v = c.args.validator.now in
     let w = c.operators.validator in
-    let u = c.op_at.new.self in
+    let u = c.frequent_op.new.self in
+    let t = c.read_op.new.self in
     let old = c.operators.reader in
-    let new = c.read_operator.new.reader in
+    let middle = c.frequent_op.new.reader in
+    let new = c.read_op.new.reader in
     let far = c.operators.invariant.so_far in
-    let i = map_instruction written_index (operator_of c.in-Ok.op) in
-    let all = instructions_from (world C) (within v C) (typed_state v) (rest c.args.reader.now) in
     let going : is_finished (typed_state w) ≡ false = cc in
-    let read = by_numbers (rest old) (operator_of c.in-Ok.op) (rest new) c.in-Ok.ensures.ok in
-    let further : position_in old < position_in new = c.in-Ok.ensures.further in
-    let none : step_in (world C) (within w C) i (typed_state w) ≡ None → all ≡ None = λ x.
-    refused_here (world C) (within v C) far.0 (typed_state w) (rest old) (rest new) i all far.1 (shorter old new c.in-Ok.ensures.same further) going read
-    (subst (λ B. step_in (world C) B i (typed_state w) ≡ None) (kept_around v.stacks w.stacks C c.operators.invariant.kept) x) far.2 in
-    ends c.original_position-offset.result c.in-Err-op_at.error (step_in (world C) (within w C) i (typed_state w)) (typed_state u) all (typed_state u) (rest new)
-    (took c.original_position-offset.result C (operator_of c.in-Ok.op) w.stacks u.stacks (Err c.in-Err-op_at.error) (c.in-Err-op_at.ensures.took c.operators.invariant.going)) none
+    let unfailed : u.failed ≡ false = c.in-Err.ensures.failed ∙ c.operators.invariant.going in
+    let stepped = from_the_same C w.stacks u.stacks old middle (Err c.in-Err-read_op.error) (typed_state t) (rest new) c.in-Err.ensures.same c.in-Err.ensures.left c.in-Err.ensures.unread (c.in-Err-read_op.ensures.took unfailed) in
+    stopped_here C (within v C) c.in-Err-read_op.error far.0 (typed_state w) (rest old) (instructions_from (world C) (within v C) (typed_state v) (rest c.args.reader.now)) (typed_state t) (typed_state t) (rest new) (rest new) going
+    (subst (λ B. ReadsStep (Err c.in-Err-read_op.error) (step_at (world C) B (typed_state w) (rest old)) (typed_state t) (rest new)) (kept_around v.stacks w.stacks C c.operators.invariant.kept) stepped) far.2

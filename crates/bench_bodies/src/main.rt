@@ -1,0 +1,54 @@
+//! `bench-bodies FILE..` validates one function body, which is made of the operators in the files,
+//! one file behind the other. It prints how many operators there are, and `ok` where the body is
+//! valid; and to standard error how long the validation took.
+#![tactic(auto)]
+
+mod body;
+mod heaps;
+mod own_module;
+
+use body::{END, FRONT, count_operators, validate_body};
+use std::alloc::Global;
+use std::env::{self, Env};
+use std::fs;
+use std::io::{self, Write};
+use std::process::ExitCode;
+use std::rt::Files;
+use std::time::{Clock, Instant};
+
+fn main(rt: HostRuntime) -> ExitCode {
+    match bench(&rt, &mut rt.stdout(), &mut rt.stderr()) {
+        Ok(()) => ExitCode::SUCCESS,
+        Err(_) => ExitCode::FAILURE,
+    }
+}
+
+/// Reads the files, validates their body, and prints what was found.
+fn bench<R: Env + Files + Clock + AllocGlobal, W: Write, E: Write>(
+    rt: &R,
+    out: &mut W,
+    err: &mut E,
+) -> io::Result<()> {
+    let body = read_body(rt)?;
+    let start = Instant::now(rt)?;
+    let verdict = match validate_body(rt.alloc(), &body) {
+        Ok(()) => "ok",
+        Err(_) => "not valid",
+    };
+    let time = start.elapsed(rt)?;
+    let count = count_operators(&body);
+    writeln!(out, "{count} operators, {verdict}")?;
+    writeln!(err, "{} ns", time.as_nanos())
+}
+
+/// The body: its locals, what the files hold, and its end.
+fn read_body<R: Env + Files + AllocGlobal>(rt: &R) -> io::Result<Vec<u8>> {
+    let mut body = Vec::new(rt.alloc());
+    body.extend_from_slice(&FRONT)?;
+    for name in env::args(rt)?.skip(1) {
+        let part = fs::read(rt, name.as_str())?;
+        body.extend_from_slice(part.as_slice())?;
+    }
+    body.extend_from_slice(&END)?;
+    Ok(body)
+}
