@@ -1,8 +1,11 @@
-//! Tests of parsing, and of the reading of operators and the counts of their operands.
+//! Tests of parsing, of the reading of operators and the counts of their operands, and of bodies that
+//! are validated operator by operator.
 #![tactic(auto)]
 
 #[cfg(test)]
 mod arities;
+#[cfg(test)]
+mod bodies;
 #[cfg(test)]
 mod numbers;
 #[cfg(test)]

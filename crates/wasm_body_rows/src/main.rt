@@ -1,0 +1,43 @@
+//! `wasm-body-rows FILE..` runs rows, each a function's body with the answer that is wanted of it,
+//! over one sample of types, functions, tables and the like, and tells the wrong ones.
+#![tactic(auto)]
+
+mod features;
+mod row;
+mod run;
+mod sample;
+mod types;
+
+use run::{Input, print_error, run};
+use std::alloc::Global;
+use std::env::{self, Env};
+use std::fs;
+use std::io::{self, Write};
+use std::process::ExitCode;
+use std::rt::Files;
+
+fn main(rt: HostRuntime) -> ExitCode {
+    ExitCode::from(run_arguments(&rt, &mut rt.stdout(), &mut rt.stderr()))
+}
+
+/// Reads the files that the arguments name, and runs their rows. The answer is the exit status.
+fn run_arguments<R: Env + Files + AllocGlobal, W: Write, E: Write>(
+    rt: &R,
+    out: &mut W,
+    err: &mut E,
+) -> u8 {
+    match read_arguments(rt) {
+        Ok(files) => run(rt.alloc(), &files, out, err),
+        Err(_) => print_error(err, "the arguments can't be read"),
+    }
+}
+
+/// The arguments besides the program's name, each with what the file at that path holds.
+fn read_arguments<R: Env + Files + AllocGlobal>(rt: &R) -> io::Result<Vec<Input>> {
+    let mut files = Vec::new(rt.alloc());
+    for name in env::args(rt)?.skip(1) {
+        let text = fs::read_to_string(rt, name.as_str()).ok();
+        files.push(Input { name, text })?;
+    }
+    Ok(files)
+}
