@@ -20,7 +20,7 @@ use crate::tops::top_of;
 use std::alloc::Allocator;
 use wasm_module_resources::WasmModuleResources;
 use wasm_operator_checks::{OperatorError, OperatorFault, OperatorRule, has};
-use wasm_operator_references::matches_abstract;
+use wasm_operator_references::{matches_abstract, unknown_type};
 use wasm_operator_stacks::Stacks;
 use wasm_readers_errors::WasmFeatures;
 use wasm_readers_types::{RefType, ValType};
@@ -101,11 +101,11 @@ fn cast_types<A: Allocator, T: WasmModuleResources>(
     }
     let named_from = match resolve_type(resources, from) {
         Some(ty) => ty,
-        None => return Err(OperatorFault::new(OperatorRule::UnknownType)),
+        None => return Err(unknown_type(from.heap_type())),
     };
     let named_to = match resolve_type(resources, to) {
         Some(ty) => ty,
-        None => return Err(OperatorFault::new(OperatorRule::UnknownType)),
+        None => return Err(unknown_type(to.heap_type())),
     };
     if !casts(stacks, resources, from, named_from, named_to) {
         return Err(OperatorFault::new(OperatorRule::CastTypes));

@@ -15,7 +15,7 @@ use wasm_numeric_operators::NumberType;
 use wasm_operator_checks::{
     OperatorError, OperatorFault, OperatorRule, Takes, ValTypes, has, plain,
 };
-use wasm_operator_references::{allows_heap, resolve};
+use wasm_operator_references::{allows_heap, resolve, unknown_type};
 use wasm_operator_stacks::Stacks;
 use wasm_readers_errors::WasmFeatures;
 use wasm_readers_types::HeapType;
@@ -49,7 +49,7 @@ pub fn ref_test<A: Allocator, T: WasmModuleResources>(
     }
     let (shared, top) = match top_of(resources, heap) {
         Some(top) => top,
-        None => return Err(OperatorError::Refused(OperatorFault::new(OperatorRule::UnknownType))),
+        None => return Err(OperatorError::Refused(unknown_type(heap))),
     };
     if !can_be_tested(top) {
         return Err(OperatorError::Refused(OperatorFault::new(OperatorRule::ContinuationTypes)));
@@ -90,7 +90,7 @@ pub fn ref_cast<A: Allocator, T: WasmModuleResources>(
     }
     let (shared, top) = match top_of(resources, heap) {
         Some(top) => top,
-        None => return Err(OperatorError::Refused(OperatorFault::new(OperatorRule::UnknownType))),
+        None => return Err(OperatorError::Refused(unknown_type(heap))),
     };
     if !can_be_tested(top) {
         return Err(OperatorError::Refused(OperatorFault::new(OperatorRule::ContinuationTypes)));
@@ -102,6 +102,6 @@ pub fn ref_cast<A: Allocator, T: WasmModuleResources>(
             Takes::One(TypeWord::reference(abstract_to(true, shared, top))),
             ValTypes::One(TypeWord::reference(ty)),
         ),
-        None => Err(OperatorError::Refused(OperatorFault::new(OperatorRule::UnknownType))),
+        None => Err(OperatorError::Refused(unknown_type(heap))),
     }
 }

@@ -9,7 +9,7 @@ ghost use Rattle.wasm_operator_stacks.specs.Seen.{Kept};
 ghost use Rattle.wasm_operator_checks.specs.Steps.{Performs};
 
 use crate::referenced::{look_reference, non_null};
-use crate::written::{allows_heap, resolve};
+use crate::written::{allows_heap, resolve, unknown_type};
 use std::alloc::Allocator;
 use wasm_module_resources::WasmModuleResources;
 use wasm_numeric_operators::NumberType;
@@ -50,7 +50,7 @@ pub fn ref_null<A: Allocator, T: WasmModuleResources>(
             Takes::None,
             ValTypes::One(TypeWord::reference(ty)),
         ),
-        None => Err(OperatorError::Refused(OperatorFault::new(OperatorRule::UnknownType))),
+        None => Err(OperatorError::Refused(unknown_type(heap))),
     }
 }
 

@@ -13,10 +13,10 @@ ghost use Rattle.wasm_module_resources.specs.Answers.{IsWrittenHeap, written_ind
 
 use std::alloc::Allocator;
 use wasm_module_resources::WasmModuleResources;
-use wasm_operator_checks::has;
+use wasm_operator_checks::{OperatorFault, OperatorRule, has};
 use wasm_operator_stacks::Stacks;
 use wasm_readers_errors::WasmFeatures;
-use wasm_readers_types::{HeapType, RefType};
+use wasm_readers_types::{HeapType, RefType, UnpackedIndex};
 use wasm_value_checks::check_ref_type;
 
 /// Whether the features allow references to this heap type, with null or without.
@@ -60,4 +60,15 @@ pub fn resolve<T: WasmModuleResources>(
         Ok(()) => Some(RefType::new(nullable, named).unwrap()),
         Err(_) => None,
     }
+}
+
+/// The refusal of a written heap type that the module doesn't have, by its type index.
+#[inline(never)]
+pub fn unknown_type(heap: HeapType) -> OperatorFault {
+    let index = match heap {
+        HeapType::Concrete(UnpackedIndex::Module(index)) => index,
+        HeapType::Exact(UnpackedIndex::Module(index)) => index,
+        _ => 0,
+    };
+    OperatorFault::at(OperatorRule::UnknownType, index)
 }
