@@ -116,6 +116,16 @@ impl<'a, T, A: Allocator + Copy> SectionLimited<'a, T, A> {
         self.reader.range()
     }
 
+    /// What is behind the count, to be read by who reads the items himself.
+    pub fn reader(&self) -> BinaryReader<'a>
+        ensures rest { rest result ≡ bytes_of self.now }
+        ensures start { original result ≡ section_start self.now }
+        ensures end { original result + length (input result) ≡ section_end self.now }
+        ensures first { original result + position_in result ≡ first_item_at self.now }
+    {
+        self.reader
+    }
+
     /// The items, each with its offset in the whole input.
     pub fn items(&self) -> SectionItems<'a, T, A>
         ensures left { items_left result ≡ count_of self.now }
