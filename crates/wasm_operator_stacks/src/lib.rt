@@ -2,6 +2,7 @@
 #![tactic(auto)]
 
 mod block_word;
+mod copies;
 mod local_word;
 mod locals;
 mod marks;

@@ -1,6 +1,6 @@
 //! The locals of a body, and which of them are set.
 
-ghost use Rattle.std.specs.Prelude.{◌≡◌, ◌+◌, ◌-◌, ◌^◌, ◌<◌, ◌≤◌, ◌∷◌, ◌++◌, [], false, length, drop, slice_get, map, nat_le, replicate, vec_len, OnOk, OnErr, IsTrue, ◌↔◌};
+ghost use Rattle.std.specs.Prelude.{◌≡◌, ◌+◌, ◌-◌, ◌^◌, ◌<◌, ◌≤◌, ◌∷◌, ◌++◌, [], false, length, drop, slice_get, map, nat_le, replicate, vec_len, IfOk, OnOk, OnErr, IsTrue, ◌↔◌};
 ghost use Rattle.std.specs.Option.{option_map};
 ghost use Rattle.wasm_rules.specs.Attempts.{among};
 ghost use Rattle.wasm_operator_stacks.specs.Locals.{local_of};
@@ -71,6 +71,21 @@ impl<A: Allocator + Copy> Locals<A> {
             behind: Runs::new(alloc),
             marks: Marks::new(alloc),
         }
+    }
+
+    /// The same locals, of which the same are set, in memory of their own.
+    pub fn clone(&self) -> Result<Locals<A>, AllocError>
+        ensures { IfOk result (λ copy. copy ≡ self.now) }
+    {
+        let behind = self.behind.clone()?;
+        let marks = self.marks.clone()?;
+        let mut front = Vec::new(*self.front.allocator());
+        front.extend_from_slice(&self.front)?;
+        Ok(Locals {
+            front,
+            behind,
+            marks,
+        })
     }
 }
 

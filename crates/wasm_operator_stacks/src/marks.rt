@@ -1,6 +1,6 @@
 //! Numbers that were marked, the latest first.
 
-ghost use Rattle.std.specs.Prelude.{◌≡◌, ◌-◌, ◌+◌, ◌^◌, ◌<◌, ◌∷◌, [], false, length, drop, vec_len, OnOk, OnErr};
+ghost use Rattle.std.specs.Prelude.{◌≡◌, ◌-◌, ◌+◌, ◌^◌, ◌<◌, ◌∷◌, [], false, length, drop, vec_len, IfOk, OnOk, OnErr};
 ghost use Rattle.wasm_rules.specs.Attempts.{among};
 ghost use Rattle.wasm_operator_stacks.specs.Marked.{SameMarks};
 
@@ -50,6 +50,16 @@ impl<A: Allocator + Copy> Marks<A> {
             flags: Vec::new(alloc),
             numbers: Stack::new(alloc),
         }
+    }
+
+    /// The same numbers, in memory of their own.
+    pub fn clone(&self) -> Result<Marks<A>, AllocError>
+        ensures { IfOk result (λ copy. copy ≡ self.now) }
+    {
+        let numbers = self.numbers.clone()?;
+        let mut flags = Vec::new(*self.flags.allocator());
+        flags.extend_from_slice(&self.flags)?;
+        Ok(Marks { flags, numbers })
     }
 }
 

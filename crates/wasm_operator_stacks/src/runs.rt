@@ -1,6 +1,6 @@
 //! Runs of like locals.
 
-ghost use Rattle.std.specs.Prelude.{◌≡◌, ◌+◌, ◌-◌, ◌^◌, ◌<◌, ◌≤◌, ◌++◌, [], length, slice_get, replicate, OnOk, OnErr};
+ghost use Rattle.std.specs.Prelude.{◌≡◌, ◌+◌, ◌-◌, ◌^◌, ◌<◌, ◌≤◌, ◌++◌, [], length, slice_get, replicate, IfOk, OnOk, OnErr};
 ghost use Rattle.std.specs.Option.{option_map};
 ghost use Rattle.wasm_operator_stacks.specs.Locals.{local_of, spread, Ascend};
 
@@ -106,5 +106,19 @@ impl<A: Allocator> Runs<A> {
     {
         self.runs.clear();
         self.count = 0;
+    }
+}
+
+impl<A: Allocator + Copy> Runs<A> {
+    /// The same locals, in memory of their own.
+    pub fn clone(&self) -> Result<Runs<A>, AllocError>
+        ensures { IfOk result (λ copy. copy ≡ self.now) }
+    {
+        let mut runs = Vec::new(*self.runs.allocator());
+        runs.extend_from_slice(&self.runs)?;
+        Ok(Runs {
+            runs,
+            count: self.count,
+        })
     }
 }

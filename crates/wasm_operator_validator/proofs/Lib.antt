@@ -6,3 +6,4 @@ pub mod Visiting
 pub mod Written
 pub mod Reading
 pub mod Kept
+pub mod Answering

@@ -4,3 +4,4 @@ pub mod Shown
 pub mod Visited
 pub mod Reads
 pub mod Checked
+pub mod Answered

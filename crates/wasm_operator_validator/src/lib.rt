@@ -2,12 +2,14 @@
 //! (Core Specification 3.0, Validation, Instructions, and Appendix, Validation Algorithm).
 #![tactic(auto)]
 
+mod arity;
 mod bytes;
 mod queries;
 mod steps;
 mod validator;
 mod visitor;
 
+pub use arity::{func_type_of, tag_arity};
 pub use queries::Frame;
 pub use steps::step;
 pub use validator::{OperatorValidator, OperatorValidatorAllocations};

@@ -82,6 +82,20 @@ fn define_parameters<A: Allocator>(
     Ok(())
 }
 
+impl<A: Allocator + Copy> OperatorValidator<A> {
+    /// A validator with the same operands, frames and locals, failed or not as this one, in memory
+    /// of its own.
+    pub fn clone(&self) -> Result<OperatorValidator<A>, AllocError>
+        ensures { IfOk result (λ copy. copy ≡ self.now) }
+    {
+        let stacks = self.stacks.clone()?;
+        Ok(OperatorValidator {
+            stacks,
+            failed: self.failed,
+        })
+    }
+}
+
 impl<A: Allocator> OperatorValidator<A> {
     /// The start of the body of a function of this type, in memory that was used before.
     ///

@@ -17,8 +17,8 @@ use wasm_readers_errors::Error;
 /// handed to it.
 #[derive(Drop)]
 pub struct OperatorVisitor<'v, 'r, T, A: Allocator = Global> {
-    validator: &'v mut OperatorValidator<A>,
-    resources: &'r T,
+    pub(crate) validator: &'v mut OperatorValidator<A>,
+    pub(crate) resources: &'r T,
 }
 
 impl<'v, 'r, T: WasmModuleResources, A: Allocator> OperatorVisitor<'v, 'r, T, A> {

@@ -51,9 +51,9 @@ pub struct FuncValidatorAllocations<A: Allocator = Global>(OperatorValidatorAllo
 /// The validation of one function body. Once something was refused it has failed, and refuses all.
 #[derive(Drop)]
 pub struct FuncValidator<T, A: Allocator = Global> {
-    validator: OperatorValidator<A>,
-    resources: T,
-    index: u32,
+    pub(crate) validator: OperatorValidator<A>,
+    pub(crate) resources: T,
+    pub(crate) index: u32,
 }
 
 impl<A: Allocator + Copy> FuncValidatorAllocations<A> {

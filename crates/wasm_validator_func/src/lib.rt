@@ -4,7 +4,9 @@
 //! Each `offset` counts bytes from the start of the input.
 #![tactic(auto)]
 
+mod arity;
 mod bodies;
+mod copies;
 mod func_validator;
 mod laws;
 mod locals;
