@@ -6,9 +6,11 @@ use Rattle.wasm_spec.specs.Values.{u32_at, signed_at}
 use Rattle.wasm_rules.specs.Contexts.{Context}
 use Rattle.wasm_readers.specs.Written.{written}
 use Rattle.wasm_readers_types.specs.declared.indices.UnpackedIndex.{UnpackedIndex}
+use Rattle.wasm_flat_operators.specs.Calls.{call_from}
 use Rattle.wasm_flat_operators.specs.Variables.{variable_from}
 use Rattle.wasm_flat_operators.specs.Constants.{constant_from}
 use Rattle.wasm_flat_operators.specs.Memories.{access_from, memarg_at}
+use Rattle.wasm_flat_operators.specs.declared.calls.CallOperator.TheVariants.{Call}
 use Rattle.wasm_flat_operators.specs.declared.memories.MemoryOperator.{MemoryOperator}
 use Rattle.wasm_flat_operators.specs.declared.memories.MemArg.{MemArg}
 use Rattle.wasm_flat_operators.specs.declared.variables.VariableOperator.TheVariants.{LocalGet, LocalSet, LocalTee, GlobalGet, GlobalSet}
@@ -16,21 +18,23 @@ use Rattle.wasm_flat_operators.specs.declared.constants.ConstantOperator.TheVari
 use Rattle.wasm_numeric_operators.specs.Numeric.{numeric_from}
 use Rattle.wasm_numeric_operators.specs.Signatures.{signature_of}
 use Rattle.wasm_numeric_operators.specs.declared.numeric.NumericOperator.{NumericOperator}
+use Rattle.wasm_numeric_operators.specs.declared.signatures.NumberType.{NumberType}
 use Rattle.wasm_numeric_operators.specs.declared.signatures.NumberType.TheVariants as number
 use Rattle.wasm_numeric_operators.specs.declared.signatures.Signature.{Signature}
-use Rattle.wasm_operators.specs.Control.{parametric_from, drop_, control_from, end_, br, br_if, return_}
+use Rattle.wasm_operators.specs.Control.{Block, block_at, parametric_from, drop_, control_from, block, loop, if_, end_, br, br_if, return_}
 use Rattle.wasm_operators.specs.References.{reference_from}
-use Rattle.wasm_operators.specs.Instructions.{Instruction, instruction_at, plain_from, variable, constant, numeric, parametric, control, access}
-use Rattle.wasm_operators.specs.Maps.{map_instruction}
+use Rattle.wasm_operators.specs.Instructions.{Instruction, instruction_at, plain_from, variable, constant, numeric, parametric, control, call, access}
+use Rattle.wasm_operators.specs.Maps.{map_block, map_instruction}
 use Rattle.wasm_operator_steps.specs.Actions.{allows}
 use Rattle.wasm_operator_steps.specs.Machine.{State}
-use Rattle.wasm_operator_steps.specs.Shapes.{Shape, shape_of, variable_shape, computing, dropping, access_shape, control_shape, plain, one, nothing, closing, number_type}
+use Rattle.wasm_operator_steps.specs.Shapes.{Shape, shape_of, call_shape, variable_shape, computing, dropping, access_shape, control_shape, plain, one, nothing, closing, number_type}
 use Rattle.wasm_rules.specs.Attempts.{◌>>=◌}
 use Rattle.wasm_operator_steps.specs.Steps.{is_open, step_in, actions_of}
 use Rattle.wasm_module_resources.specs.Answers.{world, written_index}
 use Rattle.wasm_operator_stacks.specs.Seen.{state_of, around}
 use Rattle.wasm_operator_stacks.specs.declared.stacks.Stacks.{Stacks}
 use Rattle.wasm_operator_checks.specs.Steps.{acted}
+use Rattle.wasm_operator_fast.specs.Blocks.{block_giving, block_named}
 use Rattle.wasm_operator_fast.specs.Fast.{Fast}
 use Rattle.wasm_operator_fast.specs.Fused.{Fused, performed, performed_from, step_at}
 use Rattle.wasm_operator_fast.specs.declared.not_taken.NotTaken.{NotTaken}
@@ -78,6 +82,14 @@ is_plain b bytes i false e f = let n : plain_from written b bytes ≡ None = no_
 pub fused_left : (e : NotTaken) (o : Option (State UnpackedIndex × List ℕ)) (old new : State UnpackedIndex) (bytes : List ℕ) → new ≡ old → Fused (Err e) o old new bytes
 unfolding Fused
 fused_left e o old new bytes h = h
+
+-- a block type that is read, as it is written
+again : (g : Option NumberType) → map_block written_index (block_named g) ≡ block_giving g
+again None = refl
+again (Some number.I32) = refl
+again (Some number.I64) = refl
+again (Some number.F32) = refl
+again (Some number.F64) = refl
 
 -- reading, by opcodes
 read_numeric : (b : ℕ) (op : NumericOperator) (bytes : List ℕ) → 0x45 ≤ b → b < 0xd0 → numeric_from b ≡ Some op → plain_from written b bytes ≡ Some (numeric op, bytes)
@@ -150,6 +162,27 @@ module _ {A : Type 0} (v : Stacks A) (C : Context UnpackedIndex) (r : Result (Un
   pub at_i64 : (n : ℤ) → b ≡ 0x42 → signed_at 64 bytes ≡ Some (n, rest) → Steps (plain (allows (number_type number.I64) ∷ []) nothing (one (number_type number.I64))) → Goes
   at_i64 n e f h = fuse r (constant (I64Const n)) (read_i64 n e f) h
 
+  read_block : (x : Block UnpackedIndex) → b ≡ 0x02 → block_at written bytes ≡ Some (x, rest) → plain_from written b bytes ≡ Some (control (block x), rest)
+  unfolding plain_from control_from
+  read_block x e f = rw (e, f) refl
+
+  read_loop : (x : Block UnpackedIndex) → b ≡ 0x03 → block_at written bytes ≡ Some (x, rest) → plain_from written b bytes ≡ Some (control (loop x), rest)
+  unfolding plain_from control_from
+  read_loop x e f = rw (e, f) refl
+
+  read_if : (x : Block UnpackedIndex) → b ≡ 0x04 → block_at written bytes ≡ Some (x, rest) → plain_from written b bytes ≡ Some (control (if_ x), rest)
+  unfolding plain_from control_from
+  read_if x e f = rw (e, f) refl
+
+  pub at_block : (g : Option NumberType) → b ≡ 0x02 → block_at written bytes ≡ Some (block_named g, rest) → Steps (control_shape (block (block_giving g))) → Goes
+  at_block g e f h = fuse r (control (block (block_named g))) (read_block (block_named g) e f) (subst (λ x. Steps (control_shape (block x))) (sym (again g)) h)
+
+  pub at_loop : (g : Option NumberType) → b ≡ 0x03 → block_at written bytes ≡ Some (block_named g, rest) → Steps (control_shape (loop (block_giving g))) → Goes
+  at_loop g e f h = fuse r (control (loop (block_named g))) (read_loop (block_named g) e f) (subst (λ x. Steps (control_shape (loop x))) (sym (again g)) h)
+
+  pub at_if : (g : Option NumberType) → b ≡ 0x04 → block_at written bytes ≡ Some (block_named g, rest) → Steps (control_shape (if_ (block_giving g))) → Goes
+  at_if g e f h = fuse r (control (if_ (block_named g))) (read_if (block_named g) e f) (subst (λ x. Steps (control_shape (if_ x))) (sym (again g)) h)
+
   read_br : (n : ℕ) → b ≡ 0x0c → u32_at bytes ≡ Some (n, rest) → plain_from written b bytes ≡ Some (control (br n), rest)
   unfolding plain_from control_from
   read_br n e f = rw (e, f) refl
@@ -163,6 +196,13 @@ module _ {A : Type 0} (v : Stacks A) (C : Context UnpackedIndex) (r : Result (Un
 
   pub at_br_if : (n : ℕ) → b ≡ 0x0d → u32_at bytes ≡ Some (n, rest) → Steps (control_shape (br_if n)) → Goes
   at_br_if n e f h = fuse r (control (br_if n)) (read_br_if n e f) h
+
+  read_call : (n : ℕ) → b ≡ 0x10 → u32_at bytes ≡ Some (n, rest) → plain_from written b bytes ≡ Some (call (Call n), rest)
+  unfolding plain_from call_from
+  read_call n e f = rw (e, f) refl
+
+  pub at_call : (n : ℕ) → b ≡ 0x10 → u32_at bytes ≡ Some (n, rest) → Steps (call_shape (Call n)) → Goes
+  at_call n e f h = fuse r (call (Call n)) (read_call n e f) h
 
   pub at_access : (op : MemoryOperator) (m : MemArg) → 0x28 ≤ b → b < 0x3f → Some op ≡ access_from b → memarg_at bytes ≡ Some (m, rest) → Steps (access_shape op m) → Goes
   at_access op m l h f g k = fuse r (access op m) (read_access b op m bytes rest l h (sym f) g) k
@@ -194,7 +234,7 @@ module _ {A : Type 0} (v : Stacks A) (C : Context UnpackedIndex) (r : Result (Un
 
 pub ruleset variables = (fused_left, at_get, at_set, at_tee, at_global, at_put)
 
-pub ruleset structures = (fused_left, at_end, at_br, at_br_if, at_return, at_drop, at_i32, at_i64)
+pub ruleset structures = (fused_left, at_block, at_loop, at_if, at_end, at_br, at_br_if, at_return, at_call, at_drop, at_i32, at_i64)
 
 pub ruleset tables = (fused_left, at_numeric, at_access)
 

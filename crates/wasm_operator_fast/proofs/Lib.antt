@@ -3,3 +3,5 @@ pub mod Peeking
 pub mod Locally
 pub mod Ended
 pub mod Fusing
+mod Entered
+mod BlockTypes

@@ -1,2 +1,3 @@
 pub mod Fast
 pub mod Fused
+pub mod Blocks

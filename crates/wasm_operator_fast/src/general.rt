@@ -1,8 +1,9 @@
 //! Operators that the general way steps once they are read.
 
+ghost use Rattle.wasm_flat_operators.specs.declared.calls.CallOperator.TheVariants.{Call};
 ghost use Rattle.wasm_flat_operators.specs.declared.variables.VariableOperator.TheVariants.{GlobalGet, GlobalSet};
 ghost use Rattle.wasm_operators.specs.Control.{br, br_if, return_};
-ghost use Rattle.wasm_operator_steps.specs.Shapes.{access_shape, control_shape, dropping, variable_shape};
+ghost use Rattle.wasm_operator_steps.specs.Shapes.{access_shape, call_shape, control_shape, dropping, variable_shape};
 ghost use Rattle.wasm_operator_stacks.specs.Seen.{Kept};
 ghost use Rattle.wasm_operator_fast.specs.Fast.{Performs};
 
@@ -11,6 +12,7 @@ use crate::plain::as_fast;
 use std::alloc::Allocator;
 use wasm_flat_operators::{MemArg, MemoryOperator};
 use wasm_module_resources::WasmModuleResources;
+use wasm_operator_calls::call;
 use wasm_operator_control::{branch, branch_if, drop_any, give_back, global_get, global_set};
 use wasm_operator_numbers::access_memory;
 use wasm_operator_stacks::Stacks;
@@ -56,6 +58,20 @@ pub(crate) fn set_global<A: Allocator, T: WasmModuleResources>(
     ensures same { Kept stacks.old stacks.new }
 {
     as_fast(global_set(stacks, resources, index))
+}
+
+/// `call`.
+#[inline(always)]
+pub(crate) fn call_function<A: Allocator, T: WasmModuleResources>(
+    stacks: &mut Stacks<A>,
+    resources: &T,
+    index: u32,
+) -> Result<(), NotTaken>
+    ensures took { Performs result (T.context resources.now) (call_shape (Call index))
+        stacks.old stacks.new }
+    ensures same { Kept stacks.old stacks.new }
+{
+    as_fast(call(stacks, resources, index))
 }
 
 /// `br`.

@@ -4,9 +4,13 @@ ghost use Rattle.std.specs.Prelude.{◌≡◌, ◌≤◌, ◌<◌, ◌∷◌, So
 ghost use Rattle.wasm_binary_reader.specs.Reader.{SameInput, position_in, rest};
 ghost use Rattle.wasm_spec.specs.Values.{u32_at, signed_at};
 ghost use Rattle.wasm_flat_operators.specs.Memories.{memarg_at};
+ghost use Rattle.wasm_readers.specs.Written.{written};
+ghost use Rattle.wasm_operators.specs.Control.{block_at};
+ghost use Rattle.wasm_operator_fast.specs.Blocks.{block_named};
 
 use crate::not_taken::NotTaken;
 use wasm_flat_operators::MemArg;
+use wasm_numeric_operators::NumberType;
 use wasm_readers::BinaryReader;
 
 /// The next byte.
@@ -81,5 +85,24 @@ pub(crate) fn next_memarg(reader: &mut BinaryReader) -> Result<MemArg, NotTaken>
             offset,
         }),
         None => Err(NotTaken::Left),
+    }
+}
+
+/// What the next block type gives, where it takes nothing and gives nothing or a number.
+#[inline(always)]
+#[tactic(auto, using(crate::proofs::BlockTypes::blocks))]
+pub(crate) fn next_block(reader: &mut BinaryReader) -> Result<Option<NumberType>, NotTaken>
+    ensures same { SameInput reader.old reader.new }
+    ensures onward { position_in reader.old ≤ position_in reader.new }
+    ensures ok { IfOk result (λ gives. block_at written (rest reader.old)
+        ≡ Some (block_named gives, rest reader.new)) }
+{
+    match next_byte(reader)? {
+        0x40 => Ok(None),
+        0x7f => Ok(Some(NumberType::I32)),
+        0x7e => Ok(Some(NumberType::I64)),
+        0x7d => Ok(Some(NumberType::F32)),
+        0x7c => Ok(Some(NumberType::F64)),
+        _ => Err(NotTaken::Left),
     }
 }

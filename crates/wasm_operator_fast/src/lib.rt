@@ -1,6 +1,7 @@
 //! Frequent operators, read and typed at once.
 #![tactic(auto)]
 
+mod blocks;
 mod ends;
 mod general;
 mod immediates;

@@ -6,11 +6,13 @@ ghost use Rattle.wasm_module_resources.specs.Answers.{world};
 ghost use Rattle.wasm_operator_stacks.specs.Seen.{state_of, around, Kept};
 ghost use Rattle.wasm_operator_fast.specs.Fused.{Fuses, step_at};
 
+use crate::blocks::{open_block, open_if, open_loop};
 use crate::ends::end;
 use crate::general::{
-    access, branch_away, branch_perhaps, drop_one, get_global, return_all, set_global,
+    access, branch_away, branch_perhaps, call_function, drop_one, get_global, return_all,
+    set_global,
 };
-use crate::immediates::{next_byte, next_i32, next_i64, next_index, next_memarg};
+use crate::immediates::{next_block, next_byte, next_i32, next_i64, next_index, next_memarg};
 use crate::locals::{local_get, local_set, local_tee};
 use crate::not_taken::NotTaken;
 use crate::numbers::{compute, constant};
@@ -70,6 +72,18 @@ fn step_structural<A: Allocator, T: WasmModuleResources>(
     ensures same { Kept stacks.old stacks.new }
 {
     match opcode {
+        0x02 => {
+            let gives = next_block(reader)?;
+            open_block(stacks, resources, gives)
+        }
+        0x03 => {
+            let gives = next_block(reader)?;
+            open_loop(stacks, resources, gives)
+        }
+        0x04 => {
+            let gives = next_block(reader)?;
+            open_if(stacks, resources, gives)
+        }
         0x0b => end(stacks, resources),
         0x0c => {
             let depth = next_index(reader)?;
@@ -80,6 +94,10 @@ fn step_structural<A: Allocator, T: WasmModuleResources>(
             branch_perhaps(stacks, resources, depth)
         }
         0x0f => return_all(stacks, resources),
+        0x10 => {
+            let index = next_index(reader)?;
+            call_function(stacks, resources, index)
+        }
         0x1a => drop_one(stacks, resources),
         0x41 => {
             let _value = next_i32(reader)?;
