@@ -1,0 +1,2 @@
+pub mod SeenAlone
+pub mod Renamed
