@@ -1,13 +1,21 @@
 //! Functions, tables, memories and tags that a module defines (Core Specification 3.0, Validation,
 //! Modules), and all items at the ends of their index spaces.
 
-ghost use Rattle.std.specs.Prelude.{◌≡◌, ◌<◌, length, IfErr};
+ghost use Rattle.std.specs.Prelude.{◌≡◌, ◌+◌, ◌<◌, ◌^◌, ◌++◌, ◌∷◌, [], length, is_ok, IfOk, IfErr};
+ghost use Rattle.std.specs.declared.option.Option.TheVariants.{Some};
 ghost use Rattle.wasm_rules.specs.FeatureFlags.{features_of};
+ghost use Rattle.wasm_spec.specs.Syntax.{map_table};
+ghost use Rattle.wasm_readers_errors.specs.Refusals.{refused};
 ghost use Rattle.wasm_readers_types.specs.SeenExterns.{table_of, memory_of, global_of};
+ghost use Rattle.wasm_readers_types.specs.SeenValues.{ref_of};
+ghost use Rattle.wasm_validator_canonical.specs.Indices.{canonical_index};
+ghost use Rattle.wasm_item_checks.specs.Answers.{IsRefusalAt};
+ghost use Rattle.wasm_item_checks.specs.Items.{is_valid_defined_table};
+ghost use Rattle.wasm_item_checks.specs.Told.{told_of_defined_table};
 ghost use Rattle.wasm_validator_type_list.specs.DefTypes.{types_of_list};
-ghost use Rattle.wasm_validator_core.specs.Errors.{IsAt};
+ghost use Rattle.wasm_validator_core.specs.Errors.{IsAt, IsMemory};
 ghost use Rattle.wasm_validator_core.specs.Answers.{Adds};
-ghost use Rattle.wasm_validator_core.specs.Items.{with_function, with_table, with_memory, with_imported_global, with_global, with_tag, add_function, add_table, add_memory, add_tag};
+ghost use Rattle.wasm_validator_core.specs.Items.{types_of_module, with_function, with_table, with_memory, with_imported_global, with_global, with_tag, add_function, add_table, add_memory, add_tag};
 ghost use Rattle.wasm_validator_core.specs.Ready.{AreHeld};
 ghost use Rattle.wasm_validator_core.specs.Told.{Tells, told_of_limit, told_of_table_limit, told_of_memory_limit, told_of_added_function, told_of_added_table, told_of_added_memory, told_of_added_tag};
 
@@ -16,7 +24,8 @@ use crate::error::Error;
 use crate::limits::{MAX_FUNCTIONS, MAX_GLOBALS, MAX_TAGS, check_max, max_memories, max_tables};
 use std::alloc::Allocator;
 use wasm_item_checks::{check_defined_table, check_memory_type, check_tag_type, func_type_at};
-use wasm_readers::{Counted, GlobalType, MemoryType, TableType, TagType, WasmFeatures};
+use wasm_readers::{Counted, GlobalType, MemoryType, Refusal, TableType, TagType, WasmFeatures};
+use wasm_readers_types::RefType;
 use wasm_validator_types::{IndexSpaces, TypeList};
 
 /// One more function, of the type with this index.
@@ -136,6 +145,21 @@ pub(crate) fn place_tag<A: Allocator + Copy>(
     Ok(())
 }
 
+/// One more element segment, whose items are of this type, as the list of types has it.
+pub(crate) fn place_element<A: Allocator + Copy>(
+    spaces: &mut IndexSpaces<A>,
+    ty: RefType,
+) -> Result<(), Error<A>>
+    requires room { length spaces.old.elements + 1 < 2 ^ 32 }
+    ensures added { Adds result (Some (record spaces.old
+        { elements = spaces.old.elements ++ ref_of ty ∷ [] })) spaces.new }
+    ensures types { spaces.new.types ≡ spaces.old.types }
+    ensures memory { IfErr result IsMemory }
+{
+    spaces.push_element(ty)?;
+    Ok(())
+}
+
 /// Adds a function that is defined.
 pub(crate) fn add_defined_function<A: Allocator + Copy>(
     list: &TypeList<A>,
@@ -155,6 +179,29 @@ pub(crate) fn add_defined_function<A: Allocator + Copy>(
     place_function(spaces, type_index, offset)
 }
 
+/// The type of a table that is defined, as the list of types has it.
+pub(crate) fn listed_defined_table<A: Allocator + Copy>(
+    features: WasmFeatures,
+    list: &TypeList<A>,
+    spaces: &IndexSpaces<A>,
+    ty: TableType,
+    has_init: bool,
+    offset: u64,
+) -> Result<TableType, Refusal>
+    requires { AreHeld list.now spaces.now.types }
+    ensures allowed { is_ok result ≡ is_valid_defined_table (features_of features)
+        (types_of_module (types_of_list list.now) spaces.now) (table_of ty) has_init }
+    ensures listed { IfOk result (λ t. table_of t
+        ≡ map_table (canonical_index spaces.now.types) (table_of ty)) }
+    ensures refusal { IfErr result (IsRefusalAt features offset) }
+    ensures told { refused result ≡ told_of_defined_table features offset
+        (types_of_module (types_of_list list.now) spaces.now) (table_of ty) has_init }
+{
+    let ids = known_ids(list, spaces);
+    check_defined_table(features, list, ids, ty, has_init, offset)?;
+    Ok(listed_table(ids, ty))
+}
+
 /// Adds a table that is defined without an initializer.
 pub(crate) fn add_defined_table<A: Allocator + Copy>(
     features: WasmFeatures,
@@ -171,9 +218,7 @@ pub(crate) fn add_defined_table<A: Allocator + Copy>(
     ensures told { Tells result (told_of_added_table features offset (types_of_list list.now)
         spaces.old (table_of ty)) }
 {
-    let ids = known_ids(list, spaces);
-    check_defined_table(features, list, ids, ty, false, offset)?;
-    let ty = listed_table(ids, ty);
+    let ty = listed_defined_table(features, list, spaces, ty, false, offset)?;
     place_table(features, spaces, ty, offset)
 }
 

@@ -15,7 +15,8 @@ mod start;
 
 pub use error::Error;
 pub use limits::{
-    MAX_DATA_SEGMENTS, MAX_EFFECTIVE_SIZE, MAX_EXPORTS, MAX_FUNCTIONS, MAX_GLOBALS, MAX_IMPORTS,
-    MAX_TAGS, MAX_TYPES, check_data_count, check_max, max_memories, max_tables,
+    MAX_DATA_SEGMENTS, MAX_EFFECTIVE_SIZE, MAX_ELEMENT_SEGMENTS, MAX_EXPORTS, MAX_FUNCTIONS,
+    MAX_GLOBALS, MAX_IMPORTS, MAX_TAGS, MAX_TYPES, check_data_count, check_max, max_memories,
+    max_tables,
 };
 pub use module::Module;

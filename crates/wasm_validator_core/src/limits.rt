@@ -29,6 +29,9 @@ pub const MAX_TAGS: u32 = 1_000_000;
 /// The most exports of a module.
 pub const MAX_EXPORTS: u32 = 1_000_000;
 
+/// The most element segments of a module.
+pub const MAX_ELEMENT_SEGMENTS: u32 = 100_000;
+
 /// The most data segments of a module.
 pub const MAX_DATA_SEGMENTS: u32 = 100_000;
 

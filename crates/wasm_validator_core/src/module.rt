@@ -1,35 +1,39 @@
 //! The state of a module as far as it has been read, and what items add to it.
 
-ghost use Rattle.std.specs.Prelude.{◌≡◌, true, length, slice_get, OnOk, OnErr, IfOk, IfErr, is_ok, is_some};
+ghost use Rattle.std.specs.Prelude.{◌≡◌, ◌+◌, ◌<◌, ◌^◌, ◌++◌, ◌∷◌, [], true, length, slice_get, OnOk, OnErr, IfOk, IfErr, is_ok, is_some};
 ghost use Rattle.std.specs.Option.{option_map};
 ghost use Rattle.std.specs.declared.option.Option.TheVariants.{Some, None};
 ghost use Rattle.wasm_rules.specs.FeatureFlags.{features_of};
 ghost use Rattle.wasm_rules.specs.Limits.{most_tables, most_memories};
 ghost use Rattle.wasm_readers.specs.Items.{import_of, export_of};
+ghost use Rattle.wasm_spec.specs.Syntax.{map_table};
 ghost use Rattle.wasm_readers_types.specs.SeenExterns.{table_of, memory_of, global_of, extern_of};
+ghost use Rattle.wasm_readers_types.specs.SeenValues.{ref_of};
 ghost use Rattle.wasm_readers_types.specs.SeenTypes.{rec_of};
 ghost use Rattle.wasm_item_checks.specs.Answers.{IsRefusalAt, IsPlainRefusalAt};
-ghost use Rattle.wasm_item_checks.specs.Items.{is_valid_extern};
+ghost use Rattle.wasm_item_checks.specs.Items.{is_valid_extern, is_valid_defined_table};
 ghost use Rattle.wasm_validator_types.specs.Entities.{entity_of};
 ghost use Rattle.wasm_validator_type_list.specs.DefTypes.{types_of_list};
 ghost use Rattle.wasm_validator_types.specs.Spaces.{no_spaces};
 ghost use Rattle.wasm_validator_canonical.specs.Groups.{has_form, AreValid};
-ghost use Rattle.wasm_validator_core.specs.Errors.{IsAt, IfContent};
+ghost use Rattle.wasm_validator_canonical.specs.Indices.{canonical_index};
+ghost use Rattle.wasm_validator_core.specs.Errors.{IsAt, IsMemory, IfContent};
 ghost use Rattle.wasm_validator_core.specs.Answers.{Adds, AddsWhere, HasValidTypes};
 ghost use Rattle.wasm_validator_core.specs.Functions.{IsTypeOfFunction, IsUnknownFunction};
 ghost use Rattle.wasm_validator_core.specs.Ready.{IsOpenFor, AreIdsOf, AreHeld};
 ghost use Rattle.wasm_validator_core.specs.Machine.{add_group};
-ghost use Rattle.wasm_validator_core.specs.Items.{types_of_module, listed, entity, exported_function, exported_entity, arity_of_function, is_startable, add_import, add_function, add_table, add_memory, with_global, add_tag, add_export};
-ghost use Rattle.wasm_validator_core.specs.Told.{Tells, TellsExport, told_of_added_function, told_of_added_table, told_of_added_memory, told_of_limit, told_of_added_tag, ToldOfAddedGroup, told_of_import, told_of_entity_there, told_of_entity, told_of_function_type, told_of_start};
+ghost use Rattle.wasm_validator_core.specs.Items.{types_of_module, listed, entity, exported_function, exported_entity, arity_of_function, is_startable, add_import, add_function, with_table, add_table, add_memory, with_global, add_tag, add_export};
+ghost use Rattle.wasm_validator_core.specs.Told.{Tells, TellsExport, told_of_added_function, told_of_table_limit, told_of_added_table, told_of_added_memory, told_of_limit, told_of_added_tag, ToldOfAddedGroup, told_of_import, told_of_entity_there, told_of_entity, told_of_function_type, told_of_start};
 ghost use Rattle.wasm_readers_errors.specs.Refusals.{refused};
-ghost use Rattle.wasm_item_checks.specs.Told.{told_of_extern};
+ghost use Rattle.wasm_item_checks.specs.Told.{told_of_extern, told_of_defined_table};
 
 use crate::entities::{entity_type, known_ids, listed_type_ref};
 use crate::error::Error;
 use crate::exports::{add_one_export, exported, function_entity};
 use crate::imports::add_one_import;
 use crate::items::{
-    add_defined_function, add_defined_memory, add_defined_table, add_defined_tag, place_global,
+    add_defined_function, add_defined_memory, add_defined_table, add_defined_tag,
+    listed_defined_table, place_element, place_global, place_table,
 };
 use crate::limits::{MAX_GLOBALS, MAX_TYPES, check_max, max_memories, max_tables};
 use crate::start::{check_start_function, function_type};
@@ -39,6 +43,7 @@ use wasm_readers::{
     CoreTypeId, Counted, Export, FuncType, GlobalType, Import, MemoryType, RecGroup, Refusal,
     TableType, TagType, TypeRef, WasmFeatures,
 };
+use wasm_readers_types::RefType;
 use wasm_validator_canonical::{InternRecGroup, intern_rec_group_of};
 use wasm_validator_types::{EntityType, IndexSpaces, TypeList};
 
@@ -209,6 +214,57 @@ impl<A: Allocator + Copy> Module<A> {
         add_defined_table(features, list, &mut self.spaces, ty, offset)
     }
 
+    /// The type of a table that is defined, with an initializer or without, as the list of types
+    /// has it (Core Specification 3.0, Validation, Modules, Tables).
+    ///
+    /// The list must have the types of the module.
+    ///
+    /// # Errors
+    ///
+    /// Refused, at `offset`, where the type keeps no rule on the types of the module.
+    pub fn check_table(
+        &self,
+        features: WasmFeatures,
+        list: &TypeList<A>,
+        ty: TableType,
+        has_init: bool,
+        offset: u64,
+    ) -> Result<TableType, Refusal>
+        requires { AreHeld list.now self.now.types }
+        ensures allowed { is_ok result ≡ is_valid_defined_table (features_of features)
+            (types_of_module (types_of_list list.now) self.now) (table_of ty) has_init }
+        ensures listed { IfOk result (λ t. table_of t
+            ≡ map_table (canonical_index self.now.types) (table_of ty)) }
+        ensures refusal { IfErr result (IsRefusalAt features offset) }
+        ensures told { refused result ≡ told_of_defined_table features offset
+            (types_of_module (types_of_list list.now) self.now) (table_of ty) has_init }
+    {
+        listed_defined_table(features, list, &self.spaces, ty, has_init, offset)
+    }
+
+    /// Adds a table that is defined, whose type is as the list of types has it: valid, and with ids
+    /// in place of type indices. `offset` is where it stands in the input (Core Specification 3.0,
+    /// Validation, Modules, Tables).
+    ///
+    /// # Errors
+    ///
+    /// Refused where there would be too many tables, and where memory is. The module is then only
+    /// to be dropped.
+    pub fn add_listed_table(
+        &mut self,
+        features: WasmFeatures,
+        ty: TableType,
+        offset: u64,
+    ) -> Result<(), Error<A>>
+        ensures added { Adds result (with_table (features_of features) self.old
+            (table_of ty)) self.new }
+        ensures types { self.new.types ≡ self.old.types }
+        ensures place { IfErr result (IsAt offset) }
+        ensures told { Tells result (told_of_table_limit features offset self.old) }
+    {
+        place_table(features, &mut self.spaces, ty, offset)
+    }
+
     /// Adds a memory of this type. `offset` is where it stands in the input (Core Specification
     /// 3.0, Validation, Modules, Memories).
     ///
@@ -247,6 +303,23 @@ impl<A: Allocator + Copy> Module<A> {
             (length self.old.globals) MAX_GLOBALS) }
     {
         place_global(&mut self.spaces, ty, offset)
+    }
+
+    /// Adds an element segment whose items are of this type, as the list of types has it. The
+    /// number of element segments must fit 32 bits then (Core Specification 3.0, Validation,
+    /// Modules, Element Segments).
+    ///
+    /// # Errors
+    ///
+    /// Refused where memory is. The module is then only to be dropped.
+    pub fn add_element(&mut self, ty: RefType) -> Result<(), Error<A>>
+        requires room { length self.old.elements + 1 < 2 ^ 32 }
+        ensures added { Adds result (Some (record self.old
+            { elements = self.old.elements ++ ref_of ty ∷ [] })) self.new }
+        ensures types { self.new.types ≡ self.old.types }
+        ensures memory { IfErr result IsMemory }
+    {
+        place_element(&mut self.spaces, ty)
     }
 
     /// Adds a tag of this type. `offset` is where it stands in the input (Core Specification 3.0,

@@ -160,6 +160,7 @@ module _ (F : Features) (us : List DefType) (ids : List ℕ) (types : List DefTy
     globals = mapped_before globals_in (listed_global ids) done i j;
     imported_globals = sym (count_one globals_in done i) j;
     tags = before_none tags_in done i j;
+    elements = [];
     imports = rows-push ids done i j;
     exports = [];
     size = size_moved (sum (map (import_size types) done)) (extern_size types i.ty) (sum (map (import_size types) (done ++ i ∷ []))) (size_more done i) j;

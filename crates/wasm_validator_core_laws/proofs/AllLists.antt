@@ -48,7 +48,7 @@ law_as {S} {P} {Q} o s f g law t = (λ e. let h = (law t).0 e in (f h.0, h.1), �
 
 -- functions and tags that are imported are of function types
 module _ (F : Features) (types : List DefType) where
-  function_of_extern : (x : Extern ℕ) → IsValidExtern F types x → All (IsFunctionType types) (functions_in x)
+  pub function_of_extern : (x : Extern ℕ) → IsValidExtern F types x → All (IsFunctionType types) (functions_in x)
   function_of_extern (func_extern x) v = All-cons (IsFunctionType types) x [] v (All-nil (IsFunctionType types))
   function_of_extern (func_exact_extern x) v = All-cons (IsFunctionType types) x [] v.0 (All-nil (IsFunctionType types))
   function_of_extern (table_extern t) v = All-nil (IsFunctionType types)
@@ -56,7 +56,7 @@ module _ (F : Features) (types : List DefType) where
   function_of_extern (global_extern g) v = All-nil (IsFunctionType types)
   function_of_extern (tag_extern x) v = All-nil (IsFunctionType types)
 
-  tag_of_extern : (x : Extern ℕ) → IsValidExtern F types x → All (IsFunctionType types) (tags_in x)
+  pub tag_of_extern : (x : Extern ℕ) → IsValidExtern F types x → All (IsFunctionType types) (tags_in x)
   tag_of_extern (func_extern x) v = All-nil (IsFunctionType types)
   tag_of_extern (func_exact_extern x) v = All-nil (IsFunctionType types)
   tag_of_extern (table_extern t) v = All-nil (IsFunctionType types)
@@ -65,7 +65,7 @@ module _ (F : Features) (types : List DefType) where
   tag_of_extern (tag_extern x) v = All-cons (IsFunctionType types) x [] v.is_of_function_type (All-nil (IsFunctionType types))
 
   -- what valid imports add to an index space, where each adds what is of a function type
-  all_imported : (adds : Extern ℕ → List ℕ) → ((x : Extern ℕ) → IsValidExtern F types x → All (IsFunctionType types) (adds x))
+  pub all_imported : (adds : Extern ℕ → List ℕ) → ((x : Extern ℕ) → IsValidExtern F types x → All (IsFunctionType types) (adds x))
       → (is : List (Import ℕ)) → All (IsValidImport F types) is → All (IsFunctionType types) (imported adds is)
   all_imported adds each_is [] v = All-nil (IsFunctionType types)
   all_imported adds each_is (i ∷ is) v =

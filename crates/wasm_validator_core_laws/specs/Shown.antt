@@ -3,13 +3,15 @@
 use Rattle.std.specs.Prelude.{ℕ, Bool, true, not, ◌&&◌, if◌then◌else◌, List, [], ◌∷◌, ◌++◌, map, filter, length, get_or, slice_index, Option, Some, None}
 use Rattle.std.specs.Option.{option_map}
 use Rattle.std.specs.List.{flat_map}
-use Rattle.wasm_spec.specs.Syntax.{Table, Global, Extern, func_extern, func_exact_extern, table_extern, memory_extern, global_extern, tag_extern, map_table, map_global}
+use Rattle.wasm_spec.specs.Syntax.{Ref, Table, Global, Extern, func_extern, func_exact_extern, table_extern, memory_extern, global_extern, tag_extern, map_ref, map_table, map_global}
 use Rattle.wasm_spec.specs.BinaryModules.{Import, Export}
+use Rattle.wasm_spec.specs.BinarySections.{Element}
 use Rattle.wasm_spec.specs.Features.{Features}
 use Rattle.wasm_spec.specs.Trees.{DefType}
-use Rattle.wasm_rules.specs.Parts.{Parts}
+use Rattle.wasm_rules.specs.Parts.{Parts, Expression}
 use Rattle.wasm_rules.specs.IndexSpaces.{IndexSpaces, index_spaces, imported, globals_in}
 use Rattle.wasm_rules.specs.LinkRules.{exported, effective_size}
+use Rattle.wasm_rules.specs.SegmentRules.{items_type}
 use Rattle.wasm_rules.specs.Contexts.{exact_in, is_exact}
 use Rattle.wasm_readers_types.specs.declared.indices.UnpackedIndex.{UnpackedIndex}
 use Rattle.wasm_validator_canonical.specs.Indices.{canonical_index}
@@ -26,6 +28,10 @@ listed_table ids t = map_table (listed ids) t
 
 abbrev pub listed_global : List ℕ → Global ℕ → Global UnpackedIndex
 listed_global ids g = map_global (listed ids) g
+
+-- the type of an element segment's items
+abbrev pub listed_element : List ℕ → Element Expression ℕ → Ref UnpackedIndex
+listed_element ids e = map_ref (listed ids) (items_type e.items)
 
 -- what is imported or exported, with ids for type indices
 abbrev pub entity_in : List ℕ → Extern ℕ → Entity
@@ -89,6 +95,7 @@ spaces_of F types ids parts = record {
   globals = map (listed_global ids) (index_spaces types parts).globals;
   imported_globals = length (imported globals_in parts.imports);
   tags = (index_spaces types parts).tags;
+  elements = map (listed_element ids) parts.elements;
   imports = import_rows ids parts.imports;
   exports = export_rows F ids (index_spaces types parts) (exact_functions parts) parts.exports;
   size = effective_size (index_spaces types parts) parts.imports parts.exports;

@@ -2,14 +2,15 @@
 use Rattle.std.specs.Prelude.{ℕ, ◌+◌, Bool, true, ◌&&◌, if◌then◌else◌, List, [], ◌∷◌, ◌++◌, get_or}
 use Rattle.std.specs.List.{list_any}
 use Rattle.std.specs.Str.{bytes_eq}
-use Rattle.wasm_spec.specs.Syntax.{Table, Memory, Global, func_extern}
+use Rattle.wasm_spec.specs.Syntax.{Ref, Table, Memory, Global, func_extern}
 use Rattle.wasm_readers_types.specs.declared.indices.UnpackedIndex.{UnpackedIndex}
 use Rattle.wasm_validator_types.specs.Entities.{Entity}
 
 -- The numbers of the ids of its types; the type index of each function, and of each imported one whether it is
 -- imported exactly; the types of its tables, memories and globals, and how many globals are imported; the type index
--- of each tag; the pairs of names (of a module and in it) that it imports from, in the order in which they first came,
--- each with what it imports from there; its exports; and its effective size, one and that of all imports and exports.
+-- of each tag; the types of its element segments; the pairs of names (of a module and in it) that it imports from, in the
+-- order in which they first came, each with what it imports from there; its exports; and its effective size, one and that
+-- of all imports and exports.
 pub record Spaces : Type 0 where
   pub types : List ℕ
   pub functions : List ℕ
@@ -19,6 +20,7 @@ pub record Spaces : Type 0 where
   pub globals : List (Global UnpackedIndex)
   pub imported_globals : ℕ
   pub tags : List ℕ
+  pub elements : List (Ref UnpackedIndex)
   pub imports : List ((List ℕ × List ℕ) × List Entity)
   pub exports : List (List ℕ × Entity)
   pub size : ℕ
@@ -34,6 +36,7 @@ no_spaces = record {
   globals = [];
   imported_globals = 0;
   tags = [];
+  elements = [];
   imports = [];
   exports = [];
   size = 1;

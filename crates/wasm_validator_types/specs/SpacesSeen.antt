@@ -6,6 +6,7 @@ use Rattle.indexmap.specs.Layout.{set_value_at}
 use Rattle.std.specs.String.{string_bytes}
 use Rattle.std.specs.declared.string.String.{String}
 use Rattle.wasm_readers_types.specs.SeenExterns.{table_of, memory_of, global_of}
+use Rattle.wasm_readers_types.specs.SeenValues.{ref_of}
 use Rattle.wasm_readers_types.specs.declared.indices.CoreTypeId.{CoreTypeId}
 use Rattle.wasm_validator_types.specs.declared.entity_type.EntityType.{EntityType}
 use Rattle.wasm_validator_types.specs.declared.index_spaces.IndexSpaces.TheInside.{Inside}
@@ -46,6 +47,7 @@ module _ {A : Type 0} where
     globals = map global_of a.globals.items;
     imported_globals = a.imported_globals;
     tags = a.tags.items;
+    elements = map ref_of a.elements.items;
     imports = map shown_import a.imports.entries;
     exports = map shown_export a.exports.entries;
     size = a.size;
@@ -60,6 +62,7 @@ module _ {A : Type 0} where
     pub memories : length a.memories.items < 2 ^ 32
     pub globals : length a.globals.items < 2 ^ 32
     pub tags : length a.tags.items < 2 ^ 32
+    pub elements : length a.elements.items < 2 ^ 32
     pub functions_typed : AreBelow a.functions.items (length a.types.items)
     pub tags_typed : AreBelow a.tags.items (length a.types.items)
     pub imported_globals : a.imported_globals ≤ length a.globals.items

@@ -5,6 +5,7 @@ ghost use Rattle.std.specs.Prelude.{◌≡◌, ◌+◌, ◌<◌, ◌^◌, ◌++�
 ghost use Rattle.std.specs.List.{All};
 ghost use Rattle.std.specs.declared.option.Option.TheVariants.{Some};
 ghost use Rattle.wasm_readers_types.specs.SeenExterns.{table_of, memory_of, global_of};
+ghost use Rattle.wasm_readers_types.specs.SeenValues.{ref_of};
 ghost use Rattle.wasm_validator_types.specs.Entities.{entity_of, IsAmong};
 ghost use Rattle.wasm_validator_types.specs.Spaces.{no_spaces, importing_global, with_import, is_exported, is_exact};
 ghost use Rattle.indexmap.specs.IndexMap.{index_map_len};
@@ -18,7 +19,7 @@ use indexmap::IndexMap;
 use std::alloc::{AllocError, Allocator, Global};
 use std::hash::{BuildHasherDefault, FoldHasher};
 use std::marker::Model;
-use wasm_readers_types::{CoreTypeId, GlobalType, Items, MemoryType, TableType};
+use wasm_readers_types::{CoreTypeId, GlobalType, Items, MemoryType, RefType, TableType};
 
 /// What is imported under each pair of names.
 pub(crate) type ImportMap<A> = IndexMap<
@@ -41,6 +42,7 @@ pub struct IndexSpaces<A: Allocator = Global> {
     globals: Vec<GlobalType, A>,
     imported_globals: u32,
     tags: Vec<u32, A>,
+    elements: Vec<RefType, A>,
     imports: ImportMap<A>,
     exports: ExportMap<A>,
     size: u32,
@@ -58,6 +60,7 @@ impl<A: Allocator> Drop for IndexSpaces<A> {
             globals: _,
             imported_globals: _,
             tags: _,
+            elements: _,
             imports: _,
             exports: _,
             size: _,
@@ -92,6 +95,7 @@ impl<A: Allocator + Copy> IndexSpaces<A> {
             globals: Vec::new(alloc),
             imported_globals: 0,
             tags: Vec::new(alloc),
+            elements: Vec::new(alloc),
             imports: IndexMap::new(alloc),
             exports: IndexMap::new(alloc),
             size: 1,
@@ -371,6 +375,45 @@ impl<A: Allocator + Copy> IndexSpaces<A> {
         ensures err { OnErr result (self.new ≡ self.old) }
     {
         self.tags.push(type_index)?;
+        Ok(())
+    }
+
+    /// The number of element segments.
+    pub fn element_count(&self) -> u32
+        ensures { result ≡ length self.now.elements }
+    {
+        self.elements.len() as u32
+    }
+
+    /// The type of the items of the element segment with this index, which is below
+    /// [`IndexSpaces::element_count`].
+    pub fn element_at(&self, index: u32) -> RefType
+        requires { index < length self.now.elements }
+        ensures { slice_get self.now.elements index ≡ Some (ref_of result) }
+    {
+        self.elements[index as usize]
+    }
+
+    /// The types of the items of the element segments, in order.
+    pub fn elements(&self) -> &[RefType]
+        ensures { map ref_of result.now ≡ self.now.elements }
+    {
+        self.elements.as_slice()
+    }
+
+    /// Gives an element segment whose items are of this type the next index. The number of element
+    /// segments must fit 32 bits then.
+    ///
+    /// # Errors
+    ///
+    /// Fails where memory is refused, and nothing changes then.
+    pub fn push_element(&mut self, ty: RefType) -> Result<(), AllocError>
+        requires room { length self.old.elements + 1 < 2 ^ 32 }
+        ensures ok { OnOk result (self.new ≡ record self.old
+            { elements = self.old.elements ++ ref_of ty ∷ [] }) }
+        ensures err { OnErr result (self.new ≡ self.old) }
+    {
+        self.elements.push(ty)?;
         Ok(())
     }
 

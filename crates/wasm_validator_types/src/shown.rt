@@ -1,6 +1,7 @@
 ghost use Rattle.std.specs.Prelude.{◌≡◌, ◌+◌, ◌<◌, length, slice_get, slice_index, slice_index_or, IfSome, IsSome, ◌↔◌};
 ghost use Rattle.std.specs.declared.option.Option.TheVariants.{Some};
 ghost use Rattle.wasm_readers_types.specs.SeenExterns.{table_of, memory_of, global_of};
+ghost use Rattle.wasm_readers_types.specs.SeenValues.{ref_of};
 ghost use Rattle.wasm_grouped_list.specs.Groups.{IsInGroup};
 ghost use Rattle.wasm_grouped_list.specs.Elements.{ids_left, ids_of_group};
 ghost use Rattle.wasm_validator_type_list.specs.Listing.{types_in};
@@ -15,7 +16,7 @@ use crate::index_spaces::IndexSpaces;
 use std::alloc::{Allocator, Global};
 use std::ops::{Index, Range};
 use std::rc::Rc;
-use wasm_readers_types::{CoreTypeId, GlobalType, MemoryType, SubType, TableType};
+use wasm_readers_types::{CoreTypeId, GlobalType, MemoryType, RefType, SubType, TableType};
 use wasm_validator_type_list::{RecGroupElements, RecGroupId, TypeList};
 
 /// The types of a validated module, which outlive its validator.
@@ -262,9 +263,19 @@ impl<'a, A: Allocator + Copy> TypesRef<'a, A> {
 
     /// The number of element segments.
     pub fn element_count(&self) -> u32
-        ensures { result ≡ 0 }
+        ensures { result ≡ length (shown_by self.now).spaces.elements }
     {
-        0
+        self.spaces.element_count()
+    }
+
+    /// The type of the items of the element segment with this index, of which there must be one. It
+    /// is that of references to functions, which are never null, where the segment names functions
+    /// by their indices.
+    pub fn element_at(&self, index: u32) -> RefType
+        requires { index < length (shown_by self.now).spaces.elements }
+        ensures { slice_get (shown_by self.now).spaces.elements index ≡ Some (ref_of result) }
+    {
+        self.spaces.element_at(index)
     }
 
     /// The imports of the module. There are always some, be they none. The list has the type of

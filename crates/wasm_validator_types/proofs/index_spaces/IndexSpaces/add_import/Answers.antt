@@ -17,6 +17,7 @@ invariant_of-self g c =
       memories = was.memories;
       globals = was.globals;
       tags = was.tags;
+      elements = was.elements;
       functions_typed = was.functions_typed;
       tags_typed = was.tags_typed;
       imported_globals = was.imported_globals;
