@@ -9,11 +9,11 @@ use Rattle.wasm_readers_types.specs.declared.indices.UnpackedIndex.{UnpackedInde
 use Rattle.wasm_constant_items.specs.Offsets.{behind_memory_offset}
 
 module _ (C : Context UnpackedIndex) (F : Features) (imported : ℕ) where
-  -- where the segment goes, by its flag: 0 into the first memory, 1 nowhere, 2 into a memory that is written
+  -- where the segment goes, by its flag: 0 into the first memory, 1 nowhere, with bulk memory alone, 2 into a memory that is written
   abbrev pub behind_data_mode : ℕ → List ℕ → Option (List ℕ)
   behind_data_mode flag bytes =
       if flag == 0 then behind_memory_offset C F imported 0 bytes
-      else (if flag == 1 then Some bytes
+      else (if flag == 1 then (if F.bulk_memory then Some bytes else None)
       else (if flag == 2 then option_and_then (λ m. behind_memory_offset C F imported m.0 m.1) (u32_at bytes)
       else None))
 

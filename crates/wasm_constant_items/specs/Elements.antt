@@ -48,10 +48,11 @@ module _ (C : Context UnpackedIndex) where
         else (if flag == 0 then Some (reference ref_func, bytes) else option_map (λ k. (reference ref_func, k.1)) (flags_at 0 bytes))
 
     module _ (imported : ℕ) where
-      -- the table that the segment goes to, behind its index, which is 0 where none is written, and its offset
+      -- the table that the segment goes to, behind its index, which is 0 where none is written, and its offset; to none with bulk memory
+      -- alone
       unfoldable pub segment_table_at : ℕ → List ℕ → Option (Option ℕ × List ℕ)
       segment_table_at flag bytes =
-          if has_bit flag 1 then Some (None, bytes)
+          if has_bit flag 1 then (if F.bulk_memory then Some (None, bytes) else None)
           else option_and_then (λ x. option_map (λ more. (Some x.0, more)) (behind_table_offset C F imported x.0 x.1)) (index_if (has_bit flag 2) bytes)
 
       -- the items, of this type: functions by their indices, or expressions

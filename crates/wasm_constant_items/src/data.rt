@@ -8,11 +8,12 @@ ghost use Rattle.wasm_constant_items.specs.Answers.{GoesPast};
 ghost use Rattle.wasm_constant_items.specs.Data.{behind_data_mode, behind_data};
 
 use crate::offsets::check_memory_offset;
+use bitflags::Flags;
 use std::alloc::Allocator;
 use wasm_constant_checks::OperatorValidatorAllocations;
 use wasm_module_resources::WasmModuleResources;
 use wasm_readers::BinaryReader;
-use wasm_readers_errors::{Error, Fault, Malformed, Refusal, WasmFeatures};
+use wasm_readers_errors::{Error, Fault, ItemRule, Malformed, Refusal, WasmFeatures};
 
 /// The refusal of a segment's flag, at this offset.
 #[inline(never)]
@@ -20,6 +21,14 @@ pub(crate) fn unknown_flag(offset: u64) -> Error
     ensures { IsRefusedAt offset result }
 {
     Error::Refused(Refusal::new(Fault::Malformed(Malformed::Flag), offset))
+}
+
+/// The refusal of a segment that isn't active, at this offset.
+#[inline(never)]
+pub(crate) fn no_bulk_memory(rule: ItemRule, offset: u64) -> Error
+    ensures { IsRefusedAt offset result }
+{
+    Error::Refused(Refusal::missing(Fault::Item(rule), offset, WasmFeatures::BULK_MEMORY))
 }
 
 /// Reads where a data segment with this flag goes, and types its offset.
@@ -46,7 +55,13 @@ fn check_data_mode<'a, A: Allocator, T: WasmModuleResources>(
             0,
             reader,
         ),
-        1 => Ok(allocations),
+        1 => {
+            if features.contains(WasmFeatures::BULK_MEMORY) {
+                return Ok(allocations);
+            }
+            let offset = reader.original_position();
+            Err(no_bulk_memory(ItemRule::PassiveData, offset))
+        }
         2 => {
             let memory_index = reader.read_var_u32()?;
             check_memory_offset(
@@ -67,9 +82,10 @@ fn check_data_mode<'a, A: Allocator, T: WasmModuleResources>(
 ///
 /// # Errors
 ///
-/// Refused where the bytes don't begin with a data segment, and where it goes into a memory that
-/// isn't there, or from an offset that isn't a constant expression of the memory's address type
-/// (Core Specification 3.0, Validation, Modules, Data Segments); and where memory is.
+/// Refused where the bytes don't begin with a data segment, where it is passive without
+/// `BULK_MEMORY`, and where it goes into a memory that isn't there, or from an offset that isn't a
+/// constant expression of the memory's address type (Core Specification 3.0, Validation, Modules,
+/// Data Segments); and where memory is.
 #[tactic(auto, unfolding(crate::specs::Data::behind_data))]
 pub fn check_data<'a, A: Allocator, T: WasmModuleResources>(
     allocations: OperatorValidatorAllocations<A>,

@@ -10,16 +10,17 @@ ghost use Rattle.wasm_constant_checks.specs.Checked.{IsRefusedAt, StandsIn};
 ghost use Rattle.wasm_constant_items.specs.Answers.{GoesPast};
 ghost use Rattle.wasm_constant_items.specs.Elements.{index_if, written_type_at, may_go, reference_at, items_type_at, segment_table_at, behind_items, typed_items_at, typed_element_from, typed_element_at};
 
-use crate::data::unknown_flag;
+use crate::data::{no_bulk_memory, unknown_flag};
 use crate::globals::refused_at;
 use crate::lists::{check_expression_list, check_function_list};
 use crate::offsets::check_table_offset;
+use bitflags::Flags;
 use std::alloc::Allocator;
 use wasm_constant_checks::OperatorValidatorAllocations;
 use wasm_module_resources::WasmModuleResources;
 use wasm_readers::BinaryReader;
 use wasm_readers::types::read_ref_type;
-use wasm_readers_errors::{Error, Fault, Malformed, OperatorRule, Refusal, WasmFeatures};
+use wasm_readers_errors::{Error, Fault, ItemRule, Malformed, Refusal, WasmFeatures};
 use wasm_readers_types::{RefType, ValType};
 
 /// An index where one is written, and else the first.
@@ -127,7 +128,11 @@ fn check_segment_table<'a, A: Allocator, T: WasmModuleResources>(
     ensures place { IfErr result (StandsIn reader.old) }
 {
     if flag & 1 != 0 {
-        return Ok((None, allocations));
+        if features.contains(WasmFeatures::BULK_MEMORY) {
+            return Ok((None, allocations));
+        }
+        let offset = reader.original_position();
+        return Err(no_bulk_memory(ItemRule::PassiveElements, offset));
     }
     let table_index = read_index_if(reader, flag & 2 != 0)?;
     let allocations = check_table_offset(
@@ -187,14 +192,10 @@ fn check_items<'a, A: Allocator, T: WasmModuleResources>(
 
 /// The refusal of items that the segment's table may not hold, at this offset.
 #[inline(never)]
-fn wrong_items(table: Option<u32>, offset: u64) -> Error
+fn wrong_items(offset: u64) -> Error
     ensures { IsRefusedAt offset result }
 {
-    let table_index = table.unwrap_or(0);
-    Error::Refused(Refusal::new(
-        Fault::Operator(OperatorRule::ElementTypes, table_index),
-        offset,
-    ))
+    Error::Refused(Refusal::new(Fault::Item(ItemRule::ElementTypes), offset))
 }
 
 /// Reads the items of a segment with this flag, which are of this type and go to this table, if
@@ -217,7 +218,7 @@ fn check_items_for<'a, A: Allocator, T: WasmModuleResources>(
     ensures place { IfErr result (StandsIn reader.old) }
 {
     if !may_go(resources, table, ty) {
-        return Err(wrong_items(table, reader.original_position()));
+        return Err(wrong_items(reader.original_position()));
     }
     let allocations = check_items(
         allocations,
@@ -277,10 +278,11 @@ fn check_element_from<'a, A: Allocator, T: WasmModuleResources>(
 /// # Errors
 ///
 /// Refused where the bytes don't begin with an element segment, or with one that isn't valid: its
-/// functions are there, its expressions are constant expressions of their type, and an active one
-/// goes to a table that is there and may hold its items, from an offset that is a constant
-/// expression of the table's address type (Core Specification 3.0, Validation, Modules, Element
-/// Segments); and where memory is.
+/// functions are there, its expressions are constant expressions of their type, it has at most
+/// 10,000,000 items, an active one goes to a table that is there and may hold its items, from an
+/// offset that is a constant expression of the table's address type, and any other asks for
+/// `BULK_MEMORY` (Core Specification 3.0, Validation, Modules, Element Segments); and where memory
+/// is.
 #[tactic(auto, unfolding(crate::specs::Elements::typed_element_at))]
 pub fn check_element<'a, A: Allocator, T: WasmModuleResources>(
     allocations: OperatorValidatorAllocations<A>,

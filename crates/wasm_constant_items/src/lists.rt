@@ -15,8 +15,11 @@ use std::alloc::Allocator;
 use wasm_constant_checks::OperatorValidatorAllocations;
 use wasm_module_resources::WasmModuleResources;
 use wasm_readers::BinaryReader;
-use wasm_readers_errors::{Error, Fault, Refusal, WasmFeatures};
+use wasm_readers_errors::{Error, Fault, ItemRule, Refusal, WasmFeatures};
 use wasm_readers_types::ValType;
+
+/// The most items of an element segment.
+const MAX_ITEMS: u32 = 10_000_000;
 
 /// The refusal of a function's index, at this offset.
 #[inline(never)]
@@ -24,6 +27,14 @@ fn unknown_function(function_index: u32, offset: u64) -> Error
     ensures { IsRefusedAt offset result }
 {
     Error::Refused(Refusal::new(Fault::UnknownFunction(function_index), offset))
+}
+
+/// The refusal of a list of too many items, at this offset.
+#[inline(never)]
+fn too_many_items(offset: u64) -> Error
+    ensures { IsRefusedAt offset result }
+{
+    Error::Refused(Refusal::new(Fault::Item(ItemRule::ElementCount), offset))
 }
 
 /// Reads the index of a function that is there.
@@ -70,8 +81,9 @@ fn check_functions<'a, T: WasmModuleResources>(
 ///
 /// # Errors
 ///
-/// Refused where the bytes don't begin with such a list, and where there is no such function (Core
-/// Specification 3.0, Validation, Modules, Element Segments).
+/// Refused where the bytes don't begin with such a list, where it has more than 10,000,000 items,
+/// and where there is no such function (Core Specification 3.0, Validation, Modules, Element
+/// Segments).
 pub fn check_function_list<'a, T: WasmModuleResources>(
     resources: &T,
     reader: &mut BinaryReader<'a>,
@@ -82,7 +94,11 @@ pub fn check_function_list<'a, T: WasmModuleResources>(
     ensures onward { position_in reader.old ≤ position_in reader.new }
     ensures place { IfErr result (StandsIn reader.old) }
 {
+    let offset = reader.original_position();
     let count = reader.read_var_u32()?;
+    if count > MAX_ITEMS {
+        return Err(too_many_items(offset));
+    }
     check_functions(resources, count, reader)
 }
 
@@ -125,8 +141,8 @@ fn check_expressions<'a, A: Allocator, T: WasmModuleResources>(
 ///
 /// # Errors
 ///
-/// Refused where the bytes don't begin with such a list (Core Specification 3.0, Validation,
-/// Modules, Element Segments); and where memory is.
+/// Refused where the bytes don't begin with such a list, where it has more than 10,000,000 items
+/// (Core Specification 3.0, Validation, Modules, Element Segments); and where memory is.
 pub fn check_expression_list<'a, A: Allocator, T: WasmModuleResources>(
     allocations: OperatorValidatorAllocations<A>,
     features: WasmFeatures,
@@ -141,7 +157,11 @@ pub fn check_expression_list<'a, A: Allocator, T: WasmModuleResources>(
     ensures onward { position_in reader.old ≤ position_in reader.new }
     ensures place { IfErr result (StandsIn reader.old) }
 {
+    let offset = reader.original_position();
     let count = reader.read_var_u32()?;
+    if count > MAX_ITEMS {
+        return Err(too_many_items(offset));
+    }
     check_expressions(
         allocations,
         features,

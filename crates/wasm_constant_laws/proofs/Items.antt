@@ -1,14 +1,14 @@
 -- Items with constant expressions, as the grammar reads them.
-use Rattle.std.proofs.Common.{◌≡◌, refl, sym, ap, ◌∙◌, subst, ℕ, Bool, true, false, ◌==◌, if◌then◌else◌, List, [], Option, Some, None, option_map, slice_get}
+use Rattle.std.proofs.Common.{◌≡◌, refl, sym, ap, ◌∙◌, subst, ℕ, Bool, true, false, ◌==◌, if◌then◌else◌, List, Option, Some, None, option_map, slice_get}
 use Rattle.std.specs.Option.{option_and_then}
+use Rattle.std.proofs.lemmas.Option.{same_Some}
 use Rattle.wasm_spec.specs.Syntax.{Val, Memory, Global}
 use Rattle.wasm_spec.specs.Values.{u32_at, sized_at}
 use Rattle.wasm_spec.specs.BinaryTypes.{global_at}
-use Rattle.wasm_spec.specs.BinarySections.{GlobalEntry, Data, SegmentMode, passive, active, declarative, data_mode_from, data_at, global_entry_at}
+use Rattle.wasm_spec.specs.BinarySections.{GlobalEntry, Data, SegmentMode, passive, active, data_mode_from, data_at, global_entry_at}
 use Rattle.wasm_spec.specs.Features.{Features}
 use Rattle.wasm_rules.specs.Contexts.{Context}
 use Rattle.wasm_rules.specs.Parts.{Expression}
-use Rattle.wasm_rules.specs.SegmentRules.{index_or_first}
 use Rattle.wasm_readers.specs.Written.{written}
 use Rattle.wasm_readers_types.specs.declared.indices.UnpackedIndex.{UnpackedIndex}
 use Rattle.wasm_module_resources.specs.Answers.{world, val_in}
@@ -19,7 +19,7 @@ use Rattle.wasm_constant_items.specs.Expressions.{around_constants, behind_expre
 use Rattle.wasm_constant_items.specs.Globals.{with_content, global_type_at, typed_global_at}
 use Rattle.wasm_constant_items.specs.Offsets.{address_type, behind_memory_offset}
 use Rattle.wasm_constant_items.proofs.Finding.{are_found}
-use Rattle.wasm_constant_laws.specs.Items.{IsConstantIn, IsTypedExpressionAt, ExpressionsAreTyped, IsTypedGlobalAt, GlobalsAreTyped, IsTypedDataModeIn, IsTypedDataAt, DataAreTyped}
+use Rattle.wasm_constant_laws.specs.Items.{IsTypedExpressionAt, ExpressionsAreTyped, IsTypedGlobalAt, GlobalsAreTyped, IsTypedDataModeIn, IsTypedDataAt, DataAreTyped}
 
 -- attempts that give something, taken apart
 then_gives : {A B : Type 0} (f : A → Option B) (o : Option A) (y : B) → option_and_then f o ≡ Some y → (x : A) × (o ≡ Some x) × (f x ≡ Some y)
@@ -36,6 +36,14 @@ then_of f o x y e g = ap (option_and_then f) e ∙ g
 
 map_of : {A B : Type 0} (f : A → B) (o : Option A) (x : A) → o ≡ Some x → option_map f o ≡ Some (f x)
 map_of f o x e = ap (option_map f) e
+
+-- bytes that are kept where a test passes
+kept_where : (b : Bool) (bytes more : List ℕ) → (if b then Some bytes else None) ≡ Some more → (b ≡ true) × (bytes ≡ more)
+kept_where true bytes more e = (refl, same_Some bytes more e)
+kept_where false bytes more e = absurd cc
+
+are_kept : (b : Bool) (bytes more : List ℕ) → b ≡ true → bytes ≡ more → (if b then Some bytes else None) ≡ Some more
+are_kept b bytes more e same = ap (λ (c : Bool). if c then Some bytes else None) e ∙ ap (λ (r : List ℕ). Some r) same
 
 module _ (C : Context UnpackedIndex) (F : Features) (imported : ℕ) where
   expression_found : (v : Val UnpackedIndex) (bytes more : List ℕ) → behind_expression C F imported v bytes ≡ Some more → IsTypedExpressionAt C F imported v bytes more
@@ -132,7 +140,7 @@ module _ (C : Context UnpackedIndex) (F : Features) (imported : ℕ) where
   abbrev behind_by : Bool → Bool → Bool → List ℕ → Option (List ℕ)
   behind_by b c d bytes =
       if b then behind_memory_offset C F imported 0 bytes
-      else (if c then Some bytes else (if d then option_and_then (λ m. behind_memory_offset C F imported m.0 m.1) (u32_at bytes) else None))
+      else (if c then (if F.bulk_memory then Some bytes else None) else (if d then option_and_then (λ m. behind_memory_offset C F imported m.0 m.1) (u32_at bytes) else None))
 
   abbrev written_mode : ℕ × List ℕ → Option (SegmentMode Expression × List ℕ)
   written_mode m = option_map (λ e. (active (Some m.0) e.0, e.1)) (expression_at m.1)
@@ -146,7 +154,9 @@ module _ (C : Context UnpackedIndex) (F : Features) (imported : ℕ) where
   mode_found true c d bytes more e =
       let o = offset_found 0 bytes more e in
       (active None o.2.expression, map_of (λ (x : Expression × List ℕ). (active None x.0, x.1)) (expression_at bytes) (o.2.expression, more) o.2.read, (o.0, o.1, o.2.typed))
-  mode_found false true d bytes more e = (passive, ap (option_map (λ r. (passive, r))) e, tt)
+  mode_found false true d bytes more e =
+      let k = kept_where F.bulk_memory bytes more e in
+      (passive, ap (λ (r : List ℕ). Some (passive, r)) k.1, k.0)
   mode_found false false true bytes more e =
       let u = then_gives (λ (m : ℕ × List ℕ). behind_memory_offset C F imported m.0 m.1) (u32_at bytes) more e in
       let o = offset_found u.0.0 u.0.1 more u.2 in (
@@ -162,7 +172,10 @@ module _ (C : Context UnpackedIndex) (F : Features) (imported : ℕ) where
       let x = map_gives (λ (x : Expression × List ℕ). (active None x.0, x.1)) (expression_at bytes) (m, more) e in
       let typed : IsTypedDataModeIn C F imported (active None x.0.0) = subst (λ k. IsTypedDataModeIn C F imported k) (sym (ap (λ (q : SegmentMode Expression × List ℕ). q.0) x.2)) t in
       is_offset 0 bytes more typed.0 typed.1 (record { expression = x.0.0; read = x.1 ∙ ap (λ (q : SegmentMode Expression × List ℕ). Some (x.0.0, q.1)) x.2; typed = typed.2 })
-  is_mode false true d bytes more m e t = ap (option_map (λ (q : SegmentMode Expression × List ℕ). q.1)) e
+  is_mode false true d bytes more m e t =
+      let p = same_Some (passive, bytes) (m, more) e in
+      let on : F.bulk_memory ≡ true = subst (λ k. IsTypedDataModeIn C F imported k) (sym (ap (λ (q : SegmentMode Expression × List ℕ). q.0) p)) t in
+      are_kept F.bulk_memory bytes more on (ap (λ (q : SegmentMode Expression × List ℕ). q.1) p)
   is_mode false false true bytes more m e t =
       let u = then_gives written_mode (u32_at bytes) (m, more) e in
       let x = map_gives (λ (x : Expression × List ℕ). (active (Some u.0.0) x.0, x.1)) (expression_at u.0.1) (m, more) u.2 in

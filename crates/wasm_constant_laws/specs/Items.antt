@@ -1,6 +1,6 @@
 -- What is read and typed in one pass is what the grammar reads, typed: the entries of the global, data and element sections, with their
 -- constant expressions. Core Specification 3.0, Validation, Modules, and Binary Format, Modules.
-use Rattle.std.specs.Prelude.{◌≡◌, ◌↔◌, ℕ, List, [], slice_get, Option, Some, None, ⊤}
+use Rattle.std.specs.Prelude.{◌≡◌, ◌↔◌, ℕ, List, [], slice_get, Some, IsTrue}
 use Rattle.wasm_spec.specs.Syntax.{Val, Memory, Global}
 use Rattle.wasm_spec.specs.BinarySections.{GlobalEntry, Data, SegmentMode, passive, active, declarative, global_entry_at, data_at}
 use Rattle.wasm_spec.specs.Features.{Features}
@@ -47,9 +47,9 @@ module _ (C : Context UnpackedIndex) (F : Features) (imported : ℕ) where
   abbrev pub GlobalsAreTyped : Type 0
   GlobalsAreTyped = (bytes : List ℕ) (g : Global UnpackedIndex) (more : List ℕ) → (typed_global_at C F imported bytes ≡ Some (g, more)) ↔ IsTypedGlobalAt bytes g more
 
-  -- An offset into the memory that is there, of the type of its addresses.
+  -- Nowhere, with bulk memory, or from an offset on into the memory that is there, of the type of its addresses.
   abbrev pub IsTypedDataModeIn : SegmentMode Expression → Type 0
-  IsTypedDataModeIn passive = ⊤
+  IsTypedDataModeIn passive = IsTrue F.bulk_memory
   IsTypedDataModeIn declarative = ⊥
   IsTypedDataModeIn (active x e) = (m : Memory) × (slice_get C.memories (index_or_first x) ≡ Some m) × IsConstantIn (address_type m.is_64) e
 
