@@ -4,5 +4,7 @@ pub mod Counted
 pub mod Inside
 pub mod Numbered
 pub mod AcceptedNumbered
+pub mod InRange
 pub mod ModuleOverIds
 pub mod ListedTypes
+pub mod GrownLists

@@ -1,8 +1,9 @@
 -- The ids of a list declare what its types do.
-use Rattle.std.proofs.Common.{◌≡◌, refl, sym, ap, subst, ◌∙◌, ℕ, zero, suc, ◌+◌, ◌<◌, Bool, true, false, ◌&&◌, ◌==◌, if◌then◌else◌, List, [], ◌∷◌, ◌++◌, length, get_or, slice_get, Option, Some, None, All, arith}
+use Rattle.std.proofs.Common.{◌≡◌, refl, sym, ap, subst, ◌∙◌, ℕ, zero, suc, ◌+◌, ◌<◌, Bool, true, false, ◌&&◌, if◌then◌else◌, List, [], ◌∷◌, ◌++◌, length, get_or, slice_get, Some, None, All, arith, length-append}
+use Rattle.std.proofs.lemmas.List.{append-nil, get_or_append_left}
+use Rattle.wasm_spec.proofs.Closing.{slice_get-append_left}
 use Rattle.std.specs.Option.{option_map}
-use Rattle.std.specs.List.{AllByRecursion, flat_map}
-use Rattle.std.proofs.lemmas.Bool.{eqb-true}
+use Rattle.std.specs.List.{AllByRecursion}
 use Rattle.std.proofs.lemmas.Bool.Decides.{Decides-eqb}
 use Rattle.std.proofs.lemmas.List.Elements.{recursion_from_All}
 use Rattle.std.proofs.lemmas.Option.{same_Some, slice_get_within, get_or_from_slice_get}
@@ -19,7 +20,7 @@ use Rattle.wasm_readers_types.specs.SeenTypes.{sub_of}
 use Rattle.wasm_readers_types.specs.declared.indices.UnpackedIndex.{UnpackedIndex}
 use Rattle.wasm_readers_types.specs.declared.indices.UnpackedIndex.TheVariants.{Module, RecGroup, Id}
 use Rattle.wasm_readers_types.specs.declared.types.SubType.{SubType}
-use Rattle.wasm_grouped_list.specs.Groups.{all_in, first_of}
+use Rattle.wasm_grouped_list.specs.Groups.{first_of}
 use Rattle.wasm_validator_type_list.specs.Listable.{IsKnown, AreListable}
 use Rattle.wasm_validator_type_list.specs.Lookups.{leads_to}
 use Rattle.wasm_validator_type_list.specs.DefTypes.{def_types}
@@ -85,7 +86,7 @@ nowhere = record { tree = rec_tree None [] no_uses; position = 0 }
 
 module _ (us : List DefType) (once : HasNoRepetition us) where
   -- where no type has two ids, it is the id
-  number-is : (k : ℕ) (d : DefType) → slice_get us k ≡ Some d → number_in us d ≡ k
+  pub number-is : (k : ℕ) (d : DefType) → slice_get us k ≡ Some d → number_in us d ≡ k
   number-is k d g = once.one_id (number_in us d) k d (number-there us d k g) g
 
   id-again : (k : ℕ) → k < length us → id_in us (get_or us k nowhere) ≡ id_of k
@@ -95,13 +96,6 @@ module _ (us : List DefType) (once : HasNoRepetition us) where
       slice_get-within [] j l = absurd (omega (arith, l))
       slice_get-within (x ∷ xs) zero l = refl
       slice_get-within (x ∷ xs) (suc j) l = slice_get-within xs j (omega (arith, l))
-
-  refs-again : (start n : ℕ) → start + n < suc (length us) → (rs : List UnpackedIndex) → AllByRecursion (IsKnown start n) rs
-      → AllByRecursion (λ r. id_in us (get_or us (leads_to start r) nowhere) ≡ id_of (leads_to start r)) rs
-  refs-again start n l [] h = tt
-  refs-again start n l (Module i ∷ rs) h = absurd h.0
-  refs-again start n l (RecGroup i ∷ rs) h = (let m : i < n = h.0 in id-again (start + i) (omega (arith, l, m)), refs-again start n l rs h.1)
-  refs-again start n l (Id a ∷ rs) h = (let m : a.index < start = h.0 in id-again a.index (omega (arith, l, m)), refs-again start n l rs h.1)
 
 -- one after another, types declare what stands under their ids
 module _ (us : List DefType) where
@@ -120,14 +114,29 @@ module _ (us : List DefType) where
       in_turn (suc start) ss ds (omega (arith, e)) (λ j c t f g. let y : start + suc j ≡ suc start + j = omega arith in subst (λ k. Entry k c t) y (h (suc j) c t f g)) in
       ap (λ l. (id_of start, map_sub id_of s) ∷ l) behind ∙ sym (ap (λ l. l ++ types_declare us ds) here)
 
-module _ {A : Type 0} (c : Bool) (gs : List (List (SubType A))) (listable : AreListable gs) (once : HasNoRepetition (def_types c gs)) where
+-- the types of groups that may stand one behind another, in a list that goes on behind them
+module _ {A : Type 0} (c : Bool) (gs : List (List (SubType A))) (listable : AreListable gs) (vs more : List DefType) (once : HasNoRepetition vs) (front : vs ≡ def_types c gs ++ more) where
   abbrev us : List DefType
   us = def_types c gs
 
   abbrev T : ℕ → DefType
   T id = get_or us id nowhere
 
-  named_again : (k : ℕ) (s : Sub ℕ) → IsDeclared gs 0 k s → map_sub (id_in us) (map_sub T s) ≡ map_sub id_of s
+  here : (k : ℕ) (d : DefType) → slice_get us k ≡ Some d → slice_get vs k ≡ Some d
+  here k d g = ap (λ (l : List DefType). slice_get l k) front ∙ slice_get-append_left us more k (slice_get_within us k d g) ∙ g
+
+  again : (k : ℕ) → k < length us → id_in vs (T k) ≡ id_of k
+  again k l =
+      let n : k < length vs = omega (arith, l, ap length front, length-append us more) in
+      ap (id_in vs) (sym (ap (λ (t : List DefType). get_or t k nowhere) front ∙ get_or_append_left us more nowhere k l)) ∙ id-again vs once k n
+
+  refs-again : (start n : ℕ) → start + n < suc (length us) → (rs : List UnpackedIndex) → AllByRecursion (IsKnown start n) rs → AllByRecursion (λ r. id_in vs (T (leads_to start r)) ≡ id_of (leads_to start r)) rs
+  refs-again start n l [] h = tt
+  refs-again start n l (Module i ∷ rs) h = absurd h.0
+  refs-again start n l (RecGroup i ∷ rs) h = (let m : i < n = h.0 in again (start + i) (omega (arith, l, m)), refs-again start n l rs h.1)
+  refs-again start n l (Id a ∷ rs) h = (let m : a.index < start = h.0 in again a.index (omega (arith, l, m)), refs-again start n l rs h.1)
+
+  named_again : (k : ℕ) (s : Sub ℕ) → IsDeclared gs 0 k s → map_sub (id_in vs) (map_sub T s) ≡ map_sub id_of s
   named_again k s p =
       let start = first_of gs p.group in
       let n = length p.members in
@@ -138,20 +147,23 @@ module _ {A : Type 0} (c : Bool) (gs : List (List (SubType A))) (listable : AreL
       let few : start + n < suc (length us) = omega (arith, first_of-next gs p.group p.members p.there, first_of-within gs (p.group + 1), length-def_types c gs) in
       let z : 0 + start ≡ start = omega arith in
       let says : s ≡ map_sub L x = sym (ap (λ m. map_sub (leads_to m) x) (sym z) ∙ p.says) in
-      let same : map_sub (λ r. id_in us (T (L r))) x ≡ map_sub (λ r. id_of (L r)) x =
-      agree_sub (λ r. id_in us (T (L r))) (λ r. id_of (L r)) x (refs-again us once start n few (refs_sub x) (recursion_from_All (IsKnown start n) (refs_sub x) known)) in
-      ap (λ y. map_sub (id_in us) (map_sub T y)) says ∙ ap (map_sub (id_in us)) (map_sub-map T L x) ∙ map_sub-map (id_in us) (λ r. T (L r)) x ∙ same ∙ sym (map_sub-map id_of L x) ∙ ap (map_sub id_of) (sym says)
+      let same : map_sub (λ r. id_in vs (T (L r))) x ≡ map_sub (λ r. id_of (L r)) x =
+      agree_sub (λ r. id_in vs (T (L r))) (λ r. id_of (L r)) x (refs-again start n few (refs_sub x) (recursion_from_All (IsKnown start n) (refs_sub x) known)) in
+      ap (λ y. map_sub (id_in vs) (map_sub T y)) says ∙ ap (map_sub (id_in vs)) (map_sub-map T L x) ∙ map_sub-map (id_in vs) (λ r. T (L r)) x ∙ same ∙ sym (map_sub-map id_of L x) ∙ ap (map_sub id_of) (sym says)
 
-  entry : (k : ℕ) (d : DefType) (s : Sub ℕ) → slice_get us k ≡ Some d → declares gs k ≡ Some s → Entry us k d s
+  entry : (k : ℕ) (d : DefType) (s : Sub ℕ) → slice_get us k ≡ Some d → declares gs k ≡ Some s → Entry vs k d s
   entry k d s g e =
       let says : declared d ≡ Some (map_sub T s) = types_declare_what_ids_declare c gs nowhere listable k d g ∙ ap (option_map (map_sub T)) e in
       says_so says
     where
-      says_so : declared d ≡ Some (map_sub T s) → Entry us k d s
-      says_so f = ap (declares_at (id_in us) d) f ∙ (λ i. (id_of (number-is us once k d g i), named_again k s (declared_by gs k s e) i) ∷ [])
+      says_so : declared d ≡ Some (map_sub T s) → Entry vs k d s
+      says_so f = ap (declares_at (id_in vs) d) f ∙ (λ i. (id_of (number-is vs once k d (here k d g) i), named_again k s (declared_by gs k s e) i) ∷ [])
+
+  pub declare_in_front : list_declares id_of gs ≡ types_declare vs us
+  unfolding declares
+  declare_in_front =
+      in_turn vs 0 (subs_by_ids 0 gs) us (length-subs gs 0 ∙ sym (length-def_types c gs))
+      (λ j d s f g. let z : 0 + j ≡ j = omega arith in subst (λ k. Entry vs k d s) (sym z) (entry j d s f g))
 
 pub lists_declare_their_types : {A : Type 0} → ListsDeclareTheirTypes A
-unfolding declares
-lists_declare_their_types c gs h once =
-    in_turn (def_types c gs) 0 (subs_by_ids 0 gs) (def_types c gs) (length-subs gs 0 ∙ sym (length-def_types c gs))
-    (λ j d s f g. let z : 0 + j ≡ j = omega arith in subst (λ k. Entry (def_types c gs) k d s) (sym z) (entry c gs h once j d s f g))
+lists_declare_their_types c gs h once = declare_in_front c gs h (def_types c gs) [] once (sym (append-nil (def_types c gs)))

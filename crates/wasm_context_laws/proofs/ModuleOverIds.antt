@@ -1,11 +1,10 @@
 -- The context of a module over the ids of a list, field by field.
-use Rattle.std.proofs.Common.{◌≡◌, refl, sym, ap, subst, ◌∙◌, ℕ, zero, suc, ◌-◌, ◌<◌, Bool, true, List, [], ◌∷◌, ◌++◌, map, length, slice_get, Option, Some, All, append_assoc}
+use Rattle.std.proofs.Common.{◌≡◌, refl, sym, ap, ◌∙◌, ℕ, zero, suc, ◌-◌, ◌<◌, Bool, true, List, [], ◌∷◌, ◌++◌, map, length, slice_get, Option, Some, append_assoc}
 use Rattle.std.specs.List.{flat_map, Contains, AllZip, AllByRecursion}
-use Rattle.std.proofs.lemmas.List.Elements.{All-head, All-tail, All-contains, recursion_from_All}
+use Rattle.std.proofs.lemmas.List.Elements.{All-contains, recursion_from_All}
 use Rattle.std.proofs.lemmas.Option.{none-some, same_Some, get_or_from_slice_get}
-use Rattle.wasm_spec.specs.Syntax.{Heap, abstract_heap, concrete, exact, Ref, Val, i32, i64, f32, f64, v128, reference, Table, Global, Extern, func_extern, func_exact_extern, table_extern, memory_extern, global_extern, tag_extern, map_heap, map_ref, map_val, map_table, map_global}
+use Rattle.wasm_spec.specs.Syntax.{Ref, Extern, func_extern, func_exact_extern, table_extern, memory_extern, global_extern, tag_extern, map_ref, map_table, map_global}
 use Rattle.wasm_spec.specs.BinaryModules.{Import}
-use Rattle.wasm_spec.specs.References.{refs_heap, refs_val}
 use Rattle.wasm_spec.specs.Trees.{DefType}
 use Rattle.wasm_spec.specs.TypeLaws.{HasNoRepetition, AreIdsOf}
 use Rattle.wasm_spec.proofs.SyntaxMaps.{map-map_by, map_table-map, map_global-map}
@@ -31,10 +30,11 @@ use Rattle.wasm_context_laws.specs.Numbered.{AreNumbered, same_number, identity_
 use Rattle.wasm_context_laws.specs.ModuleOverIds.{ShowSpaces, numbered_context, listed_context, within, IsOverIds, ModulesAreOverIds}
 use Rattle.wasm_context_laws.proofs.WorldsAlone.{verdicts_rename_in_worlds}
 use Rattle.wasm_context_laws.proofs.AcceptedNumbered.{all_of}
+use Rattle.wasm_context_laws.proofs.InRange.{tables-agree, globals-agree, zip_at, zip-length}
 use Rattle.wasm_context_laws.proofs.Numbered.{place_of, type-back, ids_rename_numbers}
 
 -- which functions are exactly of their type
-defined-exact : (xs : List ℕ) → exact_flags xs [] ≡ map is_exact xs
+pub defined-exact : (xs : List ℕ) → exact_flags xs [] ≡ map is_exact xs
 defined-exact [] = refl
 defined-exact (x ∷ xs) = λ i. true ∷ defined-exact xs i
 
@@ -55,63 +55,9 @@ all-exact (i ∷ is) xs =
     ∙ ap (λ l. exact_in i.ty ++ l) (all-exact is xs)
     ∙ sym (append_assoc (exact_in i.ty) rest (map is_exact xs))
 
--- types over indices in range, where two readings of such an index agree
-module _ {R : Type 0} (u v : ℕ → R) (end : ℕ) (agree : (x : ℕ) → x < end → u x ≡ v x) where
-  abbrev AreBelow : List ℕ → Type 0
-  AreBelow xs = All (λ x. x < end) xs
-
-  heap-agrees : (h : Heap ℕ) → AreBelow (refs_heap h) → map_heap u h ≡ map_heap v h
-  heap-agrees (abstract_heap s k) b = refl
-  heap-agrees (concrete x) b = ap concrete (agree x (All-head (λ y. y < end) x [] b))
-  heap-agrees (exact x) b = ap exact (agree x (All-head (λ y. y < end) x [] b))
-
-  ref-agrees : (r : Ref ℕ) → AreBelow (refs_heap r.heap) → map_ref u r ≡ map_ref v r
-  ref-agrees r b = λ i. record { nullable = r.nullable; heap = heap-agrees r.heap b i }
-
-  val-agrees : (w : Val ℕ) → AreBelow (refs_val w) → map_val u w ≡ map_val v w
-  val-agrees i32 b = refl
-  val-agrees i64 b = refl
-  val-agrees f32 b = refl
-  val-agrees f64 b = refl
-  val-agrees v128 b = refl
-  val-agrees (reference r) b = ap reference (ref-agrees r b)
-
-  tables-agree : (ts : List (Table ℕ)) → All (λ (t : Table ℕ). AreBelow (refs_heap t.element.heap)) ts → map (map_table u) ts ≡ map (map_table v) ts
-  tables-agree [] b = refl
-  tables-agree (t ∷ ts) b = λ i.
-      record {
-        element = ref-agrees t.element (All-head (λ (y : Table ℕ). AreBelow (refs_heap y.element.heap)) t ts b) i;
-        is_64 = t.is_64;
-        minimum = t.minimum;
-        maximum = t.maximum;
-        shared = t.shared;
-      } ∷ tables-agree ts (All-tail (λ (y : Table ℕ). AreBelow (refs_heap y.element.heap)) t ts b) i
-
-  globals-agree : (gs : List (Global ℕ)) → All (λ (g : Global ℕ). AreBelow (refs_val g.content)) gs → map (map_global u) gs ≡ map (map_global v) gs
-  globals-agree [] b = refl
-  globals-agree (g ∷ gs) b = λ i.
-      record {
-        content = val-agrees g.content (All-head (λ (y : Global ℕ). AreBelow (refs_val y.content)) g gs b) i;
-        mutable = g.mutable;
-        shared = g.shared;
-      } ∷ globals-agree gs (All-tail (λ (y : Global ℕ). AreBelow (refs_val y.content)) g gs b) i
-
 -- an id for each type of a list
 abbrev IsIdOf : List DefType → ℕ → DefType → Type 0
 IsIdOf us id d = slice_get us id ≡ Some d
-
-zip_at : (P : ℕ → DefType → Type 0) (ids : List ℕ) (ds : List DefType) → AllZip P ids ds → (k : ℕ) (d : DefType) → slice_get ds k ≡ Some d → (id : ℕ) × (slice_get ids k ≡ Some id) × P id d
-zip_at P [] [] z k d e = absurd (none-some d e)
-zip_at P [] (x ∷ ds) z k d e = absurd z
-zip_at P (i ∷ ids) [] z k d e = absurd z
-zip_at P (i ∷ ids) (x ∷ ds) z zero d e = (i, refl, subst (P i) (same_Some x d e) z.0)
-zip_at P (i ∷ ids) (x ∷ ds) z (suc k) d e = zip_at P ids ds z.1 k d e
-
-zip-length : (P : ℕ → DefType → Type 0) (ids : List ℕ) (ds : List DefType) → AllZip P ids ds → length ids ≡ length ds
-zip-length P [] [] z = refl
-zip-length P [] (d ∷ ds) z = absurd z
-zip-length P (i ∷ ids) [] z = absurd z
-zip-length P (i ∷ ids) (d ∷ ds) z = ap suc (zip-length P ids ds z.1)
 
 zipped-each : (us : List DefType) (ids : List ℕ) (ds : List DefType) → AllZip (IsIdOf us) ids ds → (k id : ℕ) → slice_get ids k ≡ Some id → slice_get us id ≡ slice_get ds k
 zipped-each us [] [] z k id e = absurd (none-some id e)

@@ -36,27 +36,27 @@ use Rattle.wasm_context_laws.proofs.Counted.{count_below, count-most, count-more
 use Rattle.wasm_context_laws.proofs.Inside.{inside}
 
 -- two tests that hold alike
-alike : (b c : Bool) → (b ≡ true → c ≡ true) → (c ≡ true → b ≡ true) → b ≡ c
+pub alike : (b c : Bool) → (b ≡ true → c ≡ true) → (c ≡ true → b ≡ true) → b ≡ c
 alike true true g h = refl
 alike false false g h = refl
 alike true false g h = sym (g refl)
 alike false true g h = h refl
 
-not_true : (b : Bool) → (b ≡ true → ⊥) → b ≡ false
+pub not_true : (b : Bool) → (b ≡ true → ⊥) → b ≡ false
 not_true true h = absurd (h refl)
 not_true false h = refl
 
-other_number : (a b : ℕ) → (a ≡ b → ⊥) → (a == b) ≡ false
+pub other_number : (a b : ℕ) → (a ≡ b → ⊥) → (a == b) ≡ false
 other_number a b h = not_true (a == b) (λ e. h ((Decides-eqb a b).0 e))
 
 -- places of a list
 pub place_of : {X : Type 0} (xs : List X) (x : X) (c : Contains xs x) → slice_get xs c.0 ≡ Some x
 place_of xs x c = slice_get-get_or xs c.0 x c.1 ∙ ap Some c.2
 
-contains_at : {X : Type 0} (xs : List X) (k : ℕ) (x : X) → slice_get xs k ≡ Some x → Contains xs x
+pub contains_at : {X : Type 0} (xs : List X) (k : ℕ) (x : X) → slice_get xs k ≡ Some x → Contains xs x
 contains_at xs k x e = (k, slice_get_within xs k x e, get_or_from_slice_get xs k x x e)
 
-value_of : {X : Type 0} (o : Option X) → IsTrue (is_some o) → (x : X) × (o ≡ Some x)
+pub value_of : {X : Type 0} (o : Option X) → IsTrue (is_some o) → (x : X) × (o ≡ Some x)
 value_of None h = let e : false ≡ true = h in absurd cc
 value_of (Some x) h = (x, refl)
 

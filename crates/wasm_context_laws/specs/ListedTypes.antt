@@ -1,6 +1,6 @@
 -- What the types of a list declare, by what they are: each type under its id, and each type that it names as its id. No id is looked into.
 -- Core Specification 3.0, Validation, Conventions (Contexts).
-use Rattle.std.specs.Prelude.{ℕ, zero, suc, ◌≡◌, Bool, true, false, ◌==◌, ◌&&◌, if◌then◌else◌, List, [], ◌∷◌}
+use Rattle.std.specs.Prelude.{ℕ, suc, ◌≡◌, Bool, true, false, ◌==◌, ◌&&◌, if◌then◌else◌, List, [], ◌∷◌}
 use Rattle.std.specs.List.{flat_map}
 use base.Stored.{Gv, gnil, gnum, gcons}
 use Rattle.wasm_spec.specs.Syntax.{Sub}

@@ -5,6 +5,7 @@
 #![tactic(auto)]
 
 ghost use Rattle.wasm_context_laws.specs.ListedTypes.{ListsDeclareTheirTypes};
+ghost use Rattle.wasm_context_laws.specs.GrownLists.{FirstTypesStayFirst};
 ghost use Rattle.wasm_context_laws.specs.Declaring.{StepsSeeWorldsAlone, StepsRenameInWorlds, VerdictsRenameInWorlds};
 ghost use Rattle.wasm_context_laws.specs.Numbered.{AcceptedTypesAreNumbered, IdsRenameNumbers};
 ghost use Rattle.wasm_context_laws.specs.ModuleOverIds.{ModulesAreOverIds};
@@ -46,4 +47,11 @@ pub fn modules_are_over_ids<A>()
 #[tactic(auto, using(crate::proofs::ListedTypes::lists_declare_their_types))]
 pub fn lists_declare_their_types<A>()
     ensures { ListsDeclareTheirTypes A }
+{}
+
+/// What is kept of a list of types, with ids in the place of positions in their groups, is still
+/// that of the list when types are added behind.
+#[tactic(auto, using(crate::proofs::GrownLists::first_types_stay_first))]
+pub fn first_types_stay_first<A>()
+    ensures { FirstTypesStayFirst A }
 {}
