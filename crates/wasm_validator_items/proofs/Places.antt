@@ -9,7 +9,7 @@ use Rattle.wasm_binary_reader.specs.Reader.{SameInput, input, original, position
 use Rattle.wasm_binary_reader.specs.declared.binary_reader.BinaryReader.{BinaryReader}
 use Rattle.wasm_validator_core.specs.declared.error.Error.{Error}
 use Rattle.wasm_validator_core.specs.declared.error.Error.TheVariants.{Refused, DuplicateExport, OutOfMemory}
-use Rattle.wasm_validator_core.specs.Errors.{IsAt, lifted}
+use Rattle.wasm_validator_core.specs.Errors.{IsAt, IsMemory, lifted}
 use Rattle.wasm_constant_items.specs.Checked.{StandsIn}
 use Rattle.wasm_validator_items.specs.Answers.{StandsBetween, StandsBehind}
 
@@ -25,6 +25,12 @@ module _ {A : Type 0} where
   at_between place from to (Refused r) a b h = (omega (arith, a, h), omega (arith, b, h))
   at_between place from to (DuplicateExport name offset) a b h = (omega (arith, a, h), omega (arith, b, h))
   at_between place from to OutOfMemory a b h = tt
+
+  -- a refusal of memory stands nowhere
+  pub memory_behind : (r : BinaryReader) (e : Error A) → IsMemory e → StandsBehind r e
+  memory_behind r (Refused x) h = absurd h
+  memory_behind r (DuplicateExport name offset) h = absurd h
+  memory_behind r OutOfMemory h = tt
 
   -- behind what was read further
   pub behind_earlier : (r s : BinaryReader) (e : Error A) → SameInput r s → position_in r ≤ position_in s → StandsBehind s e → StandsBehind r e

@@ -9,7 +9,8 @@ use Rattle.wasm_readers_errors.specs.declared.error.Error.TheVariants as read
 use Rattle.wasm_validator_core.specs.declared.error.Error.{Error}
 use Rattle.wasm_validator_core.specs.declared.error.Error.TheVariants.{Refused, DuplicateExport, OutOfMemory}
 use Rattle.wasm_validator_core.specs.Answers.{Adds}
-use Rattle.wasm_validator_core.specs.Errors.{lifted}
+use Rattle.wasm_readers_errors.specs.Errors.{Reads}
+use Rattle.wasm_validator_core.specs.Errors.{IsMemory, lifted}
 use Rattle.wasm_constant_items.specs.Answers as items
 use Rattle.wasm_validator_items.specs.Answers.{Refuses}
 
@@ -23,7 +24,18 @@ pub lifted_refuses : (A : Type 0) (e : below.Error) (o : Option (List ℕ)) → 
 lifted_refuses A (read.Refused r) o h = h
 lifted_refuses A read.OutOfMemory o h = tt
 
+-- the same of what is read and gives something
+pub reads_refuses : {Y : Type 0} (A : Type 0) (e : below.Error) (o : Option (Y × List ℕ)) (more : List ℕ) → Reads (λ (y : Y). y) (Err e) o more → Refuses {A = A} (lifted e) o
+reads_refuses A (read.Refused r) o more h = h
+reads_refuses A read.OutOfMemory o more h = tt
+
 module _ {A : Type 0} where
+  -- a refusal of memory says nothing
+  pub memory_refuses : {X : Type 0} (e : Error A) (o : Option X) → IsMemory e → Refuses e o
+  memory_refuses (Refused r) o h = absurd h
+  memory_refuses (DuplicateExport name offset) o h = absurd h
+  memory_refuses OutOfMemory o h = tt
+
   -- an error of a part, where nothing of that part is nothing of the whole
   pub refuses_whole : {X Y : Type 0} (e : Error A) (o : Option X) (p : Option Y) → (o ≡ None → p ≡ None) → Refuses e o → Refuses e p
   refuses_whole (Refused r) o p f h = f h

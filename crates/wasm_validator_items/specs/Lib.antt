@@ -1,2 +1,4 @@
 pub mod Machine
 pub mod Answers
+pub mod Sections
+pub mod Entries

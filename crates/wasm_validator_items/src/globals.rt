@@ -6,7 +6,6 @@ ghost use Rattle.wasm_spec.specs.Syntax.{map_global};
 ghost use Rattle.wasm_rules.specs.FeatureFlags.{features_of};
 ghost use Rattle.wasm_binary_reader.specs.Reader.{SameInput, input, original, position_in, rest};
 ghost use Rattle.wasm_readers_types.specs.SeenExterns.{global_of};
-ghost use Rattle.wasm_readers_types.specs.SeenValues.{val_of};
 ghost use Rattle.wasm_validator_type_list.specs.DefTypes.{types_of_list};
 ghost use Rattle.wasm_validator_canonical.specs.Indices.{canonical_index};
 ghost use Rattle.wasm_item_checks.specs.Answers.{IsRefusalAt};
@@ -18,16 +17,17 @@ ghost use Rattle.wasm_operator_worlds.specs.IndexContexts.{id_of};
 ghost use Rattle.wasm_operator_worlds.specs.ListContexts.{list_declares};
 ghost use Rattle.wasm_validator_core_resources.specs.ModuleContexts.{AreByIds};
 ghost use Rattle.wasm_validator_items.specs.Answers.{Refuses, StandsBetween, StandsBehind};
-ghost use Rattle.wasm_validator_items.specs.Machine.{behind_initializer, global_step, items_from, global_items};
+ghost use Rattle.wasm_validator_items.specs.Machine.{global_step, items_from, global_items};
 
+use crate::initializers::check_initializer;
 use std::alloc::Allocator;
-use wasm_constant_items::{OperatorValidatorAllocations, check_expression_of_type};
+use wasm_constant_items::OperatorValidatorAllocations;
 use wasm_readers::BinaryReader;
 use wasm_readers::externs::read_global_type;
 use wasm_readers_errors::{Counted, Fault, Malformed, Refusal, WasmFeatures};
-use wasm_readers_types::{GlobalType, TypeRef, ValType};
+use wasm_readers_types::{GlobalType, TypeRef};
 use wasm_validator_core::{Error, MAX_GLOBALS, Module, check_max};
-use wasm_validator_core_resources::{ModuleResources, TypesByIds};
+use wasm_validator_core_resources::TypesByIds;
 use wasm_validator_types::{EntityType, TypeList};
 
 /// Accepts the type of a global, and gives it as the list of types has it.
@@ -49,43 +49,6 @@ fn listed_global<A: Allocator + Copy>(
         EntityType::Global(global) => Ok(global),
         _ => unreachable!(),
     }
-}
-
-/// Reads and types the constant expression of this type that the bytes begin with, in the module as
-/// far as it has been read.
-#[tactic(auto, unfolding(crate::specs::Machine::behind_initializer))]
-fn check_initializer<'a, A: Allocator + Copy>(
-    features: WasmFeatures,
-    list: &TypeList<A>,
-    types: &TypesByIds<A>,
-    allocations: OperatorValidatorAllocations<A>,
-    opened: &Module<A>,
-    ty: ValType,
-    reader: &mut BinaryReader<'a>,
-) -> Result<OperatorValidatorAllocations<A>, Error<A>>
-    requires held { AreHeld list.now opened.now.types }
-    requires types { AreByIds list.now.groups types.now }
-    ensures ok { IfOk result (λ _. behind_initializer (features_of features)
-        (list_declares id_of list.now.groups) opened.now (val_of ty) (rest reader.old)
-        ≡ Some (rest reader.new)) }
-    ensures err { IfErr result (λ e. Refuses e (behind_initializer (features_of features)
-        (list_declares id_of list.now.groups) opened.now (val_of ty) (rest reader.old))) }
-    ensures input { SameInput reader.old reader.new }
-    ensures onward { position_in reader.old ≤ position_in reader.new }
-    ensures place { IfErr result (StandsBehind reader.old) }
-{
-    let spaces = opened.spaces();
-    let imported_globals = spaces.imported_global_count();
-    let resources = ModuleResources::new(spaces, list, types, &[], None);
-    let allocations = check_expression_of_type(
-        allocations,
-        features,
-        &resources,
-        imported_globals,
-        ty,
-        reader,
-    )?;
-    Ok(allocations)
 }
 
 /// Reads a global in the module as far as it has been read, and adds it.

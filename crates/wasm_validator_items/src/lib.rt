@@ -4,6 +4,13 @@
 //! Each `offset` counts bytes from the start of the input.
 #![tactic(auto)]
 
+mod data;
+mod elements;
 mod globals;
+mod initializers;
+mod tables;
 
+pub use data::add_data_segments;
+pub use elements::add_elements;
 pub use globals::add_globals;
+pub use tables::add_tables;

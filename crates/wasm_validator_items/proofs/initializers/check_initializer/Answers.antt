@@ -12,7 +12,7 @@ use Rattle.wasm_validator_items.specs.Machine.{behind_initializer}
 use Rattle.wasm_validator_items.proofs.Places.{lifted_behind}
 use Rattle.wasm_validator_items.proofs.Refusals.{err_as, lifted_refuses}
 use Rattle.wasm_validator_items.proofs.Steps.{initializer_is}
-use Rattle.wasm_validator_items.proofs.globals.check_initializer.Goals as goal
+use Rattle.wasm_validator_items.proofs.initializers.check_initializer.Goals as goal
 
 pub returns-in_err-allocations-clause-err : goal.returns-in_err-allocations-clause-err
 returns-in_err-allocations-clause-err g c =

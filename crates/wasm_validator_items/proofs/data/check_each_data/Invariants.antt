@@ -1,0 +1,18 @@
+use Rattle.std.proofs.Common.{◌≡◌, ◌≤◌}
+use Rattle.wasm_rules.specs.FeatureFlags.{features_of}
+use Rattle.wasm_binary_reader.specs.Reader.{SameInput, position_in, rest}
+use Rattle.wasm_operator_worlds.specs.IndexContexts.{id_of}
+use Rattle.wasm_operator_worlds.specs.ListContexts.{list_declares}
+use Rattle.wasm_validator_items.specs.Machine.{data_step, items_from}
+use Rattle.wasm_validator_items.proofs.data.check_each_data.Given as goal
+
+abbrev pub invariant-segments : goal.invariant-segments
+invariant-segments g l = record {
+  same : SameInput l.fn.reader l.reader;
+  onward : position_in l.fn.reader ≤ position_in l.reader;
+  so_far : items_from (data_step (features_of l.features) (list_declares id_of l.list.groups)) l.left (rest l.reader) l.opened
+      ≡ items_from (data_step (features_of l.features) (list_declares id_of l.list.groups)) l.count (rest l.fn.reader) l.opened;
+}
+
+abbrev pub decreases-segments : goal.decreases-segments
+decreases-segments g l = l.left

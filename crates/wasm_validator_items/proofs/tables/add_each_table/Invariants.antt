@@ -1,0 +1,22 @@
+use Rattle.std.proofs.Common.{◌≡◌, ◌≤◌}
+use Rattle.wasm_rules.specs.FeatureFlags.{features_of}
+use Rattle.wasm_binary_reader.specs.Reader.{SameInput, position_in, rest}
+use Rattle.wasm_validator_type_list.specs.DefTypes.{types_of_list}
+use Rattle.wasm_validator_core.specs.Ready.{AreHeld}
+use Rattle.wasm_operator_worlds.specs.IndexContexts.{id_of}
+use Rattle.wasm_operator_worlds.specs.ListContexts.{list_declares}
+use Rattle.wasm_validator_items.specs.Machine.{table_step, items_from}
+use Rattle.wasm_validator_items.proofs.tables.add_each_table.Given as goal
+
+abbrev pub invariant-tables : goal.invariant-tables
+invariant-tables g l = record {
+  held : AreHeld l.list l.opened.types;
+  kept : l.opened.types ≡ l.fn.opened.types;
+  same : SameInput l.fn.reader l.reader;
+  onward : position_in l.fn.reader ≤ position_in l.reader;
+  so_far : items_from (table_step (features_of l.features) (list_declares id_of l.list.groups) (types_of_list l.list)) l.left (rest l.reader) l.opened
+      ≡ items_from (table_step (features_of l.features) (list_declares id_of l.list.groups) (types_of_list l.list)) l.count (rest l.fn.reader) l.fn.opened;
+}
+
+abbrev pub decreases-tables : goal.decreases-tables
+decreases-tables g l = l.left

@@ -1,0 +1,57 @@
+use Rattle.std.proofs.Common.{◌+◌, ◌≤◌, length, arith}
+use Rattle.wasm_rules.specs.FeatureFlags.{features_of}
+use Rattle.wasm_binary_reader.specs.Reader.{input, original, position_in, rest}
+use Rattle.wasm_readers.specs.Tables.{head_of}
+use Rattle.wasm_readers_types.specs.SeenExterns.{table_of}
+use Rattle.wasm_validator_type_list.specs.DefTypes.{types_of_list}
+use Rattle.wasm_operator_worlds.specs.IndexContexts.{id_of}
+use Rattle.wasm_operator_worlds.specs.ListContexts.{list_declares}
+use Rattle.wasm_validator_core.specs.declared.error.Error.{Error}
+use Rattle.wasm_validator_core.specs.Items.{with_table}
+use Rattle.wasm_validator_items.specs.Answers.{Refuses, StandsBehind}
+use Rattle.wasm_validator_items.specs.Machine.{behind_init, table_step}
+use Rattle.wasm_validator_items.proofs.Places.{behind_earlier, at_between}
+use Rattle.wasm_validator_items.proofs.Refusals.{err_as, refuses_whole, adding_refuses}
+use Rattle.wasm_validator_items.proofs.Steps.{without_init, no_table_room}
+use Rattle.wasm_validator_items.proofs.tables.add_next_table.Goals as goal
+
+pub returns-in_err-allocations-clause-err : goal.returns-in_err-allocations-clause-err
+returns-in_err-allocations-clause-err g c =
+    let F = features_of c.args.features in
+    let declares = list_declares id_of c.args.list.now.groups in
+    let us = types_of_list c.args.list.now in
+    let s = c.args.opened.now in
+    let more = rest c.read_table_head.new.reader in
+    let step = table_step F declares us s (rest c.args.reader.now) in
+    err_as c.from_residual-in_err-allocations.result c.in_err-allocations.field-0.0 (λ (e : Error g.row.A.Denot). Refuses e step) c.from_residual-in_err-allocations.ensures.1
+    (refuses_whole c.in_err-allocations.field-0.0 (behind_init F declares s (table_of c.in_ok-ty.ty) c.in_ok-head.head.has_init more) step
+    (without_init F declares us s (rest c.args.reader.now) more (head_of c.in_ok-head.head) (table_of c.in_ok-ty.ty) c.in_ok-head.ensures.ok c.in_ok-ty.ensures.allowed c.in_ok-ty.ensures.listed)
+    c.in_err-allocations.ensures.err)
+
+pub returns-in_err-allocations-clause-place : goal.returns-in_err-allocations-clause-place
+returns-in_err-allocations-clause-place g c =
+    err_as c.from_residual-in_err-allocations.result c.in_err-allocations.field-0.0 (λ (e : Error g.row.A.Denot). StandsBehind c.args.reader.now e) c.from_residual-in_err-allocations.ensures.1
+    (behind_earlier c.args.reader.now c.read_table_head.new.reader c.in_err-allocations.field-0.0 c.in_ok-head.ensures.same c.in_ok-head.ensures.onward c.in_err-allocations.ensures.place)
+
+pub returns-in_err-add_listed_table-clause-err : goal.returns-in_err-add_listed_table-clause-err
+returns-in_err-add_listed_table-clause-err g c =
+    let F = features_of c.args.features in
+    let declares = list_declares id_of c.args.list.now.groups in
+    let us = types_of_list c.args.list.now in
+    let s = c.args.opened.now in
+    let more = rest c.read_table_head.new.reader in
+    let after = rest c.check_init.new.reader in
+    let step = table_step F declares us s (rest c.args.reader.now) in
+    err_as c.from_residual-in_err-add_listed_table.result c.in_err-add_listed_table.field-0.0 (λ (e : Error g.row.A.Denot). Refuses e step) c.from_residual-in_err-add_listed_table.ensures.1
+    (refuses_whole c.in_err-add_listed_table.field-0.0 (with_table F s (table_of c.in_ok-ty.ty)) step
+    (no_table_room F declares us s (rest c.args.reader.now) more (head_of c.in_ok-head.head) (table_of c.in_ok-ty.ty) after c.in_ok-head.ensures.ok c.in_ok-ty.ensures.allowed c.in_ok-ty.ensures.listed c.in_ok-allocations.ensures.ok)
+    (adding_refuses c.in_err-add_listed_table.field-0.0 (with_table F s (table_of c.in_ok-ty.ty)) c.add_listed_table.new.self c.in_err-add_listed_table.ensures.added))
+
+pub returns-in_err-add_listed_table-clause-place : goal.returns-in_err-add_listed_table-clause-place
+returns-in_err-add_listed_table-clause-place g c =
+    let r = c.args.reader.now in
+    let within : position_in r ≤ length (input r) = omega arith in
+    let here = c.original_position-offset.ensures in
+    err_as c.from_residual-in_err-add_listed_table.result c.in_err-add_listed_table.field-0.0 (λ (e : Error g.row.A.Denot). StandsBehind r e) c.from_residual-in_err-add_listed_table.ensures.1
+    (at_between c.original_position-offset.result (original r + position_in r) (original r + length (input r)) c.in_err-add_listed_table.field-0.0
+    (omega (arith, here)) (omega (arith, here, within)) c.in_err-add_listed_table.ensures.place)

@@ -1,0 +1,119 @@
+//! The data segments of a data section.
+
+ghost use Rattle.std.specs.Prelude.{◌≡◌, ◌≤◌, ◌+◌, length, IfOk, IfErr};
+ghost use Rattle.std.specs.declared.option.Option.TheVariants.{Some};
+ghost use Rattle.wasm_rules.specs.FeatureFlags.{features_of};
+ghost use Rattle.wasm_binary_reader.specs.Reader.{SameInput, input, original, position_in, rest};
+ghost use Rattle.wasm_validator_core.specs.Answers.{Adds};
+ghost use Rattle.wasm_validator_core.specs.Ready.{AreHeld};
+ghost use Rattle.wasm_operator_worlds.specs.IndexContexts.{id_of};
+ghost use Rattle.wasm_operator_worlds.specs.ListContexts.{list_declares};
+ghost use Rattle.wasm_validator_core_resources.specs.ModuleContexts.{AreByIds};
+ghost use Rattle.wasm_validator_items.specs.Answers.{Refuses, StandsBetween, StandsBehind};
+ghost use Rattle.wasm_validator_items.specs.Machine.{data_step, items_from, data_items};
+
+use std::alloc::Allocator;
+use wasm_constant_items::{OperatorValidatorAllocations, check_data};
+use wasm_readers::BinaryReader;
+use wasm_readers_errors::{Counted, Fault, Malformed, Refusal, WasmFeatures};
+use wasm_validator_core::{Error, MAX_DATA_SEGMENTS, Module, check_max};
+use wasm_validator_core_resources::{ModuleResources, TypesByIds};
+use wasm_validator_types::TypeList;
+
+/// Reads and types a data segment in the module as far as it has been read.
+#[tactic(auto, unfolding(crate::specs::Machine::data_step))]
+fn check_next_data<'a, A: Allocator + Copy>(
+    features: WasmFeatures,
+    list: &TypeList<A>,
+    types: &TypesByIds<A>,
+    allocations: OperatorValidatorAllocations<A>,
+    opened: &Module<A>,
+    reader: &mut BinaryReader<'a>,
+) -> Result<OperatorValidatorAllocations<A>, Error<A>>
+    requires held { AreHeld list.now opened.now.types }
+    requires types { AreByIds list.now.groups types.now }
+    ensures ok { IfOk result (λ _. data_step (features_of features)
+        (list_declares id_of list.now.groups) opened.now (rest reader.old)
+        ≡ Some (opened.now, rest reader.new)) }
+    ensures err { IfErr result (λ e. Refuses e (data_step (features_of features)
+        (list_declares id_of list.now.groups) opened.now (rest reader.old))) }
+    ensures input { SameInput reader.old reader.new }
+    ensures onward { position_in reader.old ≤ position_in reader.new }
+    ensures place { IfErr result (StandsBehind reader.old) }
+{
+    let spaces = opened.spaces();
+    let imported_globals = spaces.imported_global_count();
+    let resources = ModuleResources::new(spaces, list, types, &[], None);
+    let allocations = check_data(allocations, features, &resources, imported_globals, reader)?;
+    Ok(allocations)
+}
+
+/// Reads and types so many data segments, behind which nothing is left.
+fn check_each_data<'a, A: Allocator + Copy>(
+    features: WasmFeatures,
+    list: &TypeList<A>,
+    types: &TypesByIds<A>,
+    allocations: OperatorValidatorAllocations<A>,
+    opened: &Module<A>,
+    count: u32,
+    reader: BinaryReader<'a>,
+) -> Result<OperatorValidatorAllocations<A>, Error<A>>
+    requires held { AreHeld list.now opened.now.types }
+    requires types { AreByIds list.now.groups types.now }
+    ensures added { Adds result (items_from (data_step (features_of features)
+        (list_declares id_of list.now.groups)) count (rest reader.entry) opened.now) opened.now }
+    ensures place { IfErr result (StandsBehind reader.entry) }
+{
+    let mut allocations = allocations;
+    let mut reader = reader;
+    let mut left = count;
+    'segments: while left > 0 {
+        allocations = check_next_data(features, list, types, allocations, opened, &mut reader)?;
+        left -= 1;
+    }
+    if reader.is_empty() {
+        return Ok(allocations);
+    }
+    let fault = Fault::Malformed(Malformed::SectionSize);
+    let offset = reader.original_position();
+    Err(Error::Refused(Refusal::new(fault, offset)))
+}
+
+/// Reads the data segments of a data section, whose offsets may read the imported globals. They add
+/// nothing to the module. `reader` is the section's, behind its count; and the offsets are typed in
+/// memory that was used before, which is handed on.
+///
+/// The list must have the types of the module; and `types` are all that it has, with ids in the
+/// place of positions in their groups.
+///
+/// # Errors
+///
+/// Refused where there are too many data segments, at the section's start; where the bytes aren't
+/// so many valid data segments (Core Specification 3.0, Validation, Modules, Data Segments), behind
+/// where the segment begins; and where memory is.
+pub fn add_data_segments<'a, A: Allocator + Copy>(
+    features: WasmFeatures,
+    list: &TypeList<A>,
+    types: &TypesByIds<A>,
+    allocations: OperatorValidatorAllocations<A>,
+    opened: &Module<A>,
+    count: u32,
+    reader: BinaryReader<'a>,
+) -> Result<OperatorValidatorAllocations<A>, Error<A>>
+    requires held { AreHeld list.now opened.now.types }
+    requires types { AreByIds list.now.groups types.now }
+    ensures added { Adds result (data_items (features_of features)
+        (list_declares id_of list.now.groups) count (rest reader.entry) opened.now) opened.now }
+    ensures place { IfErr result (StandsBetween (original reader.entry)
+        (original reader.entry + length (input reader.entry))) }
+{
+    let more = count as usize;
+    check_max(
+        0,
+        more,
+        MAX_DATA_SEGMENTS,
+        Counted::DataSegments,
+        reader.range().start,
+    )?;
+    check_each_data(features, list, types, allocations, opened, count, reader)
+}

@@ -1,0 +1,172 @@
+//! The element segments of an element section.
+
+ghost use Rattle.std.specs.Prelude.{◌≡◌, ◌≤◌, ◌+◌, ◌<◌, ◌^◌, length, IfOk, OnOk, IfErr};
+ghost use Rattle.std.specs.declared.option.Option.TheVariants.{Some};
+ghost use Rattle.wasm_rules.specs.FeatureFlags.{features_of};
+ghost use Rattle.wasm_binary_reader.specs.Reader.{SameInput, input, original, position_in, rest};
+ghost use Rattle.wasm_readers_types.specs.SeenValues.{val_of};
+ghost use Rattle.wasm_validator_core.specs.Answers.{Adds};
+ghost use Rattle.wasm_validator_core.specs.Errors.{IsMemory};
+ghost use Rattle.wasm_validator_core.specs.Ready.{AreHeld};
+ghost use Rattle.wasm_operator_worlds.specs.IndexContexts.{id_of};
+ghost use Rattle.wasm_operator_worlds.specs.ListContexts.{list_declares};
+ghost use Rattle.wasm_validator_core_resources.specs.ModuleContexts.{AreByIds};
+ghost use Rattle.wasm_constant_items.specs.Elements.{typed_element_at};
+ghost use Rattle.wasm_validator_items.specs.Answers.{Refuses, StandsBetween, StandsBehind};
+ghost use Rattle.wasm_validator_items.specs.Machine.{context_of, with_items, element_step, items_from, element_items};
+
+use std::alloc::Allocator;
+use wasm_constant_items::{OperatorValidatorAllocations, check_element};
+use wasm_readers::BinaryReader;
+use wasm_readers_errors::{Counted, Fault, Malformed, Refusal, WasmFeatures};
+use wasm_readers_types::ValType;
+use wasm_validator_core::{Error, MAX_ELEMENT_SEGMENTS, Module, check_max};
+use wasm_validator_core_resources::{ModuleResources, TypesByIds};
+use wasm_validator_types::TypeList;
+
+/// Reads and types an element segment in the module as far as it has been read, and gives the type
+/// of its items.
+fn check_segment<'a, A: Allocator + Copy>(
+    features: WasmFeatures,
+    list: &TypeList<A>,
+    types: &TypesByIds<A>,
+    allocations: OperatorValidatorAllocations<A>,
+    opened: &Module<A>,
+    reader: &mut BinaryReader<'a>,
+) -> Result<(ValType, OperatorValidatorAllocations<A>), Error<A>>
+    requires held { AreHeld list.now opened.now.types }
+    requires types { AreByIds list.now.groups types.now }
+    ensures ok { IfOk result (λ x. typed_element_at (context_of
+        (list_declares id_of list.now.groups) opened.now) (features_of features)
+        opened.now.imported_globals (rest reader.old) ≡ Some (val_of x.0, rest reader.new)) }
+    ensures err { IfErr result (λ e. Refuses e (typed_element_at (context_of
+        (list_declares id_of list.now.groups) opened.now) (features_of features)
+        opened.now.imported_globals (rest reader.old))) }
+    ensures input { SameInput reader.old reader.new }
+    ensures onward { position_in reader.old ≤ position_in reader.new }
+    ensures place { IfErr result (StandsBehind reader.old) }
+{
+    let spaces = opened.spaces();
+    let imported_globals = spaces.imported_global_count();
+    let resources = ModuleResources::new(spaces, list, types, &[], None);
+    let segment = check_element(allocations, features, &resources, imported_globals, reader)?;
+    Ok(segment)
+}
+
+/// Adds an element segment whose items are of this type, as the list of types has it.
+fn add_segment<A: Allocator + Copy>(opened: &mut Module<A>, ty: ValType) -> Result<(), Error<A>>
+    requires room { length opened.old.elements + 1 < 2 ^ 32 }
+    ensures added { Adds result (Some (with_items opened.old (val_of ty))) opened.new }
+    ensures types { opened.new.types ≡ opened.old.types }
+    ensures count { OnOk result (length opened.new.elements ≤ length opened.old.elements + 1) }
+    ensures memory { IfErr result IsMemory }
+{
+    match ty {
+        ValType::Ref(reference) => opened.add_element(reference),
+        _ => Ok(()),
+    }
+}
+
+/// Reads an element segment in the module as far as it has been read, and adds it.
+#[tactic(auto, unfolding(crate::specs::Machine::element_step))]
+fn add_next_element<'a, A: Allocator + Copy>(
+    features: WasmFeatures,
+    list: &TypeList<A>,
+    types: &TypesByIds<A>,
+    allocations: OperatorValidatorAllocations<A>,
+    opened: &mut Module<A>,
+    reader: &mut BinaryReader<'a>,
+) -> Result<OperatorValidatorAllocations<A>, Error<A>>
+    requires held { AreHeld list.now opened.old.types }
+    requires types { AreByIds list.now.groups types.now }
+    requires room { length opened.old.elements + 1 < 2 ^ 32 }
+    ensures ok { IfOk result (λ _. element_step (features_of features)
+        (list_declares id_of list.now.groups) opened.old (rest reader.old)
+        ≡ Some (opened.new, rest reader.new)) }
+    ensures err { IfErr result (λ e. Refuses e (element_step (features_of features)
+        (list_declares id_of list.now.groups) opened.old (rest reader.old))) }
+    ensures types { opened.new.types ≡ opened.old.types }
+    ensures count { OnOk result (length opened.new.elements ≤ length opened.old.elements + 1) }
+    ensures input { SameInput reader.old reader.new }
+    ensures onward { position_in reader.old ≤ position_in reader.new }
+    ensures place { IfErr result (StandsBehind reader.old) }
+{
+    let (ty, allocations) = check_segment(features, list, types, allocations, opened, reader)?;
+    add_segment(opened, ty)?;
+    Ok(allocations)
+}
+
+/// Adds so many element segments, behind which nothing is left.
+fn add_each_element<'a, A: Allocator + Copy>(
+    features: WasmFeatures,
+    list: &TypeList<A>,
+    types: &TypesByIds<A>,
+    allocations: OperatorValidatorAllocations<A>,
+    opened: &mut Module<A>,
+    count: u32,
+    reader: BinaryReader<'a>,
+) -> Result<OperatorValidatorAllocations<A>, Error<A>>
+    requires held { AreHeld list.now opened.old.types }
+    requires types { AreByIds list.now.groups types.now }
+    requires room { length opened.old.elements + count ≤ MAX_ELEMENT_SEGMENTS }
+    ensures added { Adds result (items_from (element_step (features_of features)
+        (list_declares id_of list.now.groups)) count (rest reader.entry) opened.old) opened.new }
+    ensures types { opened.new.types ≡ opened.old.types }
+    ensures place { IfErr result (StandsBehind reader.entry) }
+{
+    let mut allocations = allocations;
+    let mut reader = reader;
+    let mut left = count;
+    'segments: while left > 0 {
+        allocations = add_next_element(features, list, types, allocations, opened, &mut reader)?;
+        left -= 1;
+    }
+    if reader.is_empty() {
+        return Ok(allocations);
+    }
+    let fault = Fault::Malformed(Malformed::SectionSize);
+    let offset = reader.original_position();
+    Err(Error::Refused(Refusal::new(fault, offset)))
+}
+
+/// Adds the element segments of an element section, whose expressions may read the imported
+/// globals. `reader` is the section's, behind its count; and the expressions are typed in memory
+/// that was used before, which is handed on.
+///
+/// The list must have the types of the module; and `types` are all that it has, with ids in the
+/// place of positions in their groups.
+///
+/// # Errors
+///
+/// Refused where there would be too many element segments, at the section's start; where the bytes
+/// aren't so many valid element segments (Core Specification 3.0, Validation, Modules, Element
+/// Segments), behind where the segment begins; and where memory is. The module is then only to be
+/// dropped.
+pub fn add_elements<'a, A: Allocator + Copy>(
+    features: WasmFeatures,
+    list: &TypeList<A>,
+    types: &TypesByIds<A>,
+    allocations: OperatorValidatorAllocations<A>,
+    opened: &mut Module<A>,
+    count: u32,
+    reader: BinaryReader<'a>,
+) -> Result<OperatorValidatorAllocations<A>, Error<A>>
+    requires held { AreHeld list.now opened.old.types }
+    requires types { AreByIds list.now.groups types.now }
+    ensures added { Adds result (element_items (features_of features)
+        (list_declares id_of list.now.groups) count (rest reader.entry) opened.old) opened.new }
+    ensures types { opened.new.types ≡ opened.old.types }
+    ensures place { IfErr result (StandsBetween (original reader.entry)
+        (original reader.entry + length (input reader.entry))) }
+{
+    let there = opened.spaces().element_count() as usize;
+    let more = count as usize;
+    check_max(
+        there,
+        more,
+        MAX_ELEMENT_SEGMENTS,
+        Counted::ElementSegments,
+        reader.range().start,
+    )?;
+    add_each_element(features, list, types, allocations, opened, count, reader)
+}
