@@ -1,0 +1,12 @@
+pub mod Attempts
+pub mod Initializers
+pub mod Steps
+pub mod Globals
+pub mod Offsets
+pub mod Segments
+pub mod Renamed
+pub mod Tables
+pub mod Lists
+pub mod WrittenTypes
+pub mod ItemLists
+pub mod Elements
