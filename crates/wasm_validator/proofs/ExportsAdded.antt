@@ -11,7 +11,7 @@ use Rattle.wasm_validator_core.specs.Items.{add_export}
 use Rattle.wasm_validator_core_laws.specs.Exports.{with_exports}
 use Rattle.wasm_validator_core_laws.proofs.AddedExports.{exports_are_added_behind}
 use Rattle.wasm_validator_core_laws.proofs.AddedItems.{each_changed}
-use Rattle.wasm_validator.specs.Machine.{read_section}
+use Rattle.wasm_validator_items.specs.Sections.{read_section}
 use Rattle.wasm_validator.specs.Standing.{in_module}
 use Rattle.wasm_validator.specs.SectionLaws.{ExportsAdd}
 use Rattle.wasm_validator.proofs.SectionLists.{limited, section_entries, renames_nothing, same_item}

@@ -17,7 +17,8 @@ use Rattle.wasm_validator_types.specs.Spaces.{Spaces, no_spaces}
 use Rattle.wasm_validator_core.specs.declared.limits.TheConstants.{MAX_TYPES}
 use Rattle.wasm_validator_core.specs.Answers.{TypesSoFar}
 use Rattle.wasm_validator_core.specs.Machine.{with_ids, add_group}
-use Rattle.wasm_validator.specs.Machine.{read_each, type_items, other_items, section_items, start_item, data_count_item, beside}
+use Rattle.wasm_validator_items.specs.Sections.{read_each}
+use Rattle.wasm_validator.specs.Machine.{type_items, other_items, section_items, start_item, data_count_item, beside}
 use Rattle.wasm_validator.specs.Standing.{Stage, unparsed, in_module, in_code, ended, failed, Standing, HoldsAt, within, within_all, at_stage}
 use Rattle.wasm_validator.specs.States.{begun, code_started, module_ended, after_piece}
 use Rattle.wasm_validator.specs.Payloads.{after_all}

@@ -1,28 +1,27 @@
 -- The machine over the pieces between the header and the end: section by section, in the order of the sections.
-use Rattle.std.proofs.Common.{◌≡◌, ◌≢◌, refl, sym, ap, subst, ◌∙◌, ◌⊎◌, inl, inr, ℕ, Bool, true, false, ◌||◌, cond, eqb, List, [], ◌∷◌, ◌++◌, Option, Some, None, append-nil}
+use Rattle.std.proofs.Common.{◌≡◌, ◌≢◌, refl, sym, ap, subst, ◌∙◌, ◌⊎◌, inl, inr, ℕ, Bool, true, false, ◌==◌, ◌||◌, cond, eqb, List, [], ◌∷◌, ◌++◌, Option, Some, None, append-nil}
 use Rattle.std.specs.Option.{option_map, option_and_then}
 use Rattle.std.specs.Prelude.{IsTrue, nat_le}
-use Rattle.std.specs.List.{All, flat_map}
+use Rattle.std.specs.List.{list_all, All, flat_map}
 use Rattle.std.proofs.lemmas.List.Elements.{All-nil, All-cons}
 use Rattle.std.proofs.lemmas.Bool.{eqb-true, eqb-false, eq-eqb, ne_eqb}
 use Rattle.wasm_spec.specs.Values.{items_at}
 use Rattle.wasm_spec.specs.Framing.{Piece, Version, Custom, Counted, Start, DataCount, CodeStart, CodeEntry, Unknown, End, place}
-use Rattle.wasm_rules.specs.Sections.{each, rank, rank_of_section, at_rank, by_rank}
+use Rattle.wasm_rules.specs.Sections.{each, rank, rank_of_section, ranks, at_rank, by_rank}
 use Rattle.wasm_rules.specs.Parts.{items_of, all_items, starts_of, data_counts_of}
 use Rattle.wasm_rules.specs.FeatureFlags.{features_of}
 use Rattle.wasm_rules.specs.Modules.{IsAllowedPiece}
 use Rattle.wasm_spec.specs.Features.{Features}
-use Rattle.wasm_rules.proofs.Ordered.{Follows, done, free, here, body, later, AreRanks, LeavesFree, IsOne, one_at_most, by_ranks}
-use Rattle.wasm_rules.proofs.FramedOrder.{IsInner}
+use Rattle.wasm_rules.proofs.Ordered.{Follows, AreRanks, LeavesFree, IsOne, one_at_most, by_ranks}
+use Rattle.wasm_rules.proofs.FramedOrder.{IsInner, AreInner}
 use Rattle.wasm_rules.proofs.Tests.{truth, when, unless, guarded, then_some}
 use Rattle.wasm_readers_errors.specs.declared.features.WasmFeatures.{WasmFeatures}
 use Rattle.wasm_validator_types.specs.Spaces.{Spaces}
-use Rattle.wasm_validator.specs.Served.{is_served_section}
 use Rattle.wasm_validator_core.specs.declared.limits.TheConstants.{MAX_DATA_SEGMENTS}
 use Rattle.wasm_validator_core.specs.Items.{is_data_count}
 use Rattle.wasm_validator_core.specs.Answers.{TypesSoFar, HasValidTypes}
 use Rattle.wasm_validator.specs.Machine.{tag_items, section_items, start_item, data_count_item, beside}
-use Rattle.wasm_validator_canonical.proofs.Canonical.{and_left}
+use Rattle.wasm_validator_canonical.proofs.Canonical.{and_left, and_right}
 use Rattle.std.proofs.lemmas.Option.{same_Some}
 use Rattle.wasm_validator.proofs.ValidTypes.{beside_back, section_back}
 
@@ -38,27 +37,35 @@ step features p (CodeEntry bytes) = None
 step features p (Unknown id bytes) = None
 step features p End = None
 
--- pieces that are served and may have items
-abbrev pub is_item_piece : Piece → Bool
-is_item_piece (Version number kind) = true
-is_item_piece (Custom name bytes) = true
-is_item_piece (Counted id n bytes) = is_served_section id
-is_item_piece (Start x) = true
-is_item_piece (DataCount n) = true
-is_item_piece (CodeStart n size) = false
-is_item_piece (CodeEntry bytes) = false
-is_item_piece (Unknown id bytes) = false
-is_item_piece End = true
+-- the sections of items, by their ids
+abbrev pub is_known_section : ℕ → Bool
+is_known_section id = (id == 1) || ((id == 2) || ((id == 3) || ((id == 4) || ((id == 5) || ((id == 6) || ((id == 7) || ((id == 9) || ((id == 11) || (id == 13)))))))))
+
+-- what a run may have: these sections, the start function, the data count, the start of the code, and custom sections
+abbrev pub is_part : Piece → Bool
+is_part (Version number kind) = true
+is_part (Custom name bytes) = true
+is_part (Counted id n bytes) = is_known_section id
+is_part (Start x) = true
+is_part (DataCount n) = true
+is_part (CodeStart n size) = true
+is_part (CodeEntry bytes) = false
+is_part (Unknown id bytes) = false
+is_part End = true
 
 -- such pieces between the header and the end
 abbrev pub IsPart : Piece → Type 0
-IsPart p = (is_item_piece p ≡ true) × IsInner p
+IsPart p = (is_part p ≡ true) × IsInner p
 
 abbrev pub AreParts : List Piece → Type 0
 AreParts [] = Unit {0}
 AreParts (p ∷ ps) = IsPart p × AreParts ps
 
--- a part is a custom section, or one of those that are served
+pub are_parts : (ps : List Piece) → list_all is_part ps ≡ true → AreInner ps → AreParts ps
+are_parts [] e i = tt
+are_parts (p ∷ ps) e i = ((and_left (is_part p) (list_all is_part ps) e, i.0), are_parts ps (and_right (is_part p) (list_all is_part ps) e) i.1)
+
+-- the forms of a part
 pub data PartForm : Piece → Type 0 where
   custom : {name bytes : List ℕ} → PartForm (Custom name bytes)
   types : {n : ℕ} {bytes : List ℕ} → PartForm (Counted 1 n bytes)
@@ -66,35 +73,45 @@ pub data PartForm : Piece → Type 0 where
   functions : {n : ℕ} {bytes : List ℕ} → PartForm (Counted 3 n bytes)
   tables : {n : ℕ} {bytes : List ℕ} → PartForm (Counted 4 n bytes)
   memories : {n : ℕ} {bytes : List ℕ} → PartForm (Counted 5 n bytes)
+  globals : {n : ℕ} {bytes : List ℕ} → PartForm (Counted 6 n bytes)
   exports : {n : ℕ} {bytes : List ℕ} → PartForm (Counted 7 n bytes)
+  elements : {n : ℕ} {bytes : List ℕ} → PartForm (Counted 9 n bytes)
+  segments : {n : ℕ} {bytes : List ℕ} → PartForm (Counted 11 n bytes)
   tags : {n : ℕ} {bytes : List ℕ} → PartForm (Counted 13 n bytes)
   start : {x : ℕ} → PartForm (Start x)
   data_count : {n : ℕ} → PartForm (DataCount n)
+  code_start : {n size : ℕ} → PartForm (CodeStart n size)
 
 -- one of two tests is passed
 pub either : (a b : Bool) → (a || b) ≡ true → (a ≡ true) ⊎ (b ≡ true)
 either true b e = inl refl
 either false b e = inr e
 
--- the form of a section goes with its id
-counted_as : (id k n : ℕ) (bytes : List ℕ) → eqb id k ≡ true → PartForm (Counted k n bytes) → PartForm (Counted id n bytes)
-counted_as id k n bytes e f = subst (λ i. PartForm (Counted i n bytes)) (sym (eqb-true id k e)) f
-
-counted_form : (id n : ℕ) (bytes : List ℕ) → is_served_section id ≡ true → PartForm (Counted id n bytes)
-counted_form id n bytes e =
+-- what holds of each id of a section of items
+pub section_case : (P : ℕ → Type 0) → P 1 → P 2 → P 3 → P 4 → P 5 → P 6 → P 7 → P 9 → P 11 → P 13 → (id : ℕ) → is_known_section id ≡ true → P id
+section_case P p1 p2 p3 p4 p5 p6 p7 p9 p11 p13 id e =
     elim (either (eqb id 1) _ e) [
-      | inl a ↦ counted_as id 1 n bytes a types
-      | inr a ↦ elim (either (eqb id 2) _ a) [
-        | inl b ↦ counted_as id 2 n bytes b imports
-        | inr b ↦ elim (either (eqb id 3) _ b) [
-          | inl c ↦ counted_as id 3 n bytes c functions
-          | inr c ↦ elim (either (eqb id 4) _ c) [
-            | inl t ↦ counted_as id 4 n bytes t tables
-            | inr t ↦ elim (either (eqb id 5) _ t) [
-              | inl d ↦ counted_as id 5 n bytes d memories
-              | inr d ↦ elim (either (eqb id 7) _ d) [
-                | inl g ↦ counted_as id 7 n bytes g exports
-                | inr g ↦ counted_as id 13 n bytes g tags
+      | inl y ↦ subst P (sym (eqb-true id 1 y)) p1
+      | inr b ↦ elim (either (eqb id 2) _ b) [
+        | inl y ↦ subst P (sym (eqb-true id 2 y)) p2
+        | inr c ↦ elim (either (eqb id 3) _ c) [
+          | inl y ↦ subst P (sym (eqb-true id 3 y)) p3
+          | inr d ↦ elim (either (eqb id 4) _ d) [
+            | inl y ↦ subst P (sym (eqb-true id 4 y)) p4
+            | inr f ↦ elim (either (eqb id 5) _ f) [
+              | inl y ↦ subst P (sym (eqb-true id 5 y)) p5
+              | inr g ↦ elim (either (eqb id 6) _ g) [
+                | inl y ↦ subst P (sym (eqb-true id 6 y)) p6
+                | inr h ↦ elim (either (eqb id 7) _ h) [
+                  | inl y ↦ subst P (sym (eqb-true id 7 y)) p7
+                  | inr j ↦ elim (either (eqb id 9) _ j) [
+                    | inl y ↦ subst P (sym (eqb-true id 9 y)) p9
+                    | inr k ↦ elim (either (eqb id 11) _ k) [
+                      | inl y ↦ subst P (sym (eqb-true id 11 y)) p11
+                      | inr l ↦ subst P (sym (eqb-true id 13 l)) p13
+                    ]
+                  ]
+                ]
               ]
             ]
           ]
@@ -102,13 +119,16 @@ counted_form id n bytes e =
       ]
     ]
 
+counted_form : (id n : ℕ) (bytes : List ℕ) → is_known_section id ≡ true → PartForm (Counted id n bytes)
+counted_form id n bytes e = section_case (λ i. PartForm (Counted i n bytes)) types imports functions tables memories globals exports elements segments tags id e
+
 pub form_of : (p : Piece) → IsPart p → PartForm p
 form_of (Version number kind) h = absurd h.1
 form_of (Custom name bytes) h = custom
 form_of (Counted id n bytes) h = counted_form id n bytes h.0
 form_of (Start x) h = start
 form_of (DataCount n) h = data_count
-form_of (CodeStart n size) h = absurd (let e = h.0 in cc)
+form_of (CodeStart n size) h = code_start
 form_of (CodeEntry bytes) h = absurd (let e = h.0 in cc)
 form_of (Unknown id bytes) h = absurd (let e = h.0 in cc)
 form_of End h = absurd h.1
@@ -136,7 +156,11 @@ form_accepted features p q x imports e = λ h. absurd cc
 form_accepted features p q x functions e = λ h. absurd cc
 form_accepted features p q x tables e = λ h. absurd cc
 form_accepted features p q x memories e = λ h. absurd cc
+form_accepted features p q x globals e = λ h. absurd cc
+form_accepted features p q x elements e = λ h. absurd cc
+form_accepted features p q x segments e = λ h. absurd cc
 form_accepted features p q x start e = tt
+form_accepted features p q x code_start e = tt
 form_accepted features p q x (data_count {n}) e =
     let a = then_some (λ (s : Spaces). Some (p.0, s)) (data_count_item (features_of features) p.1 n) q e in
     let b = guarded (is_data_count (features_of features) n) (Some p.1) a.0 a.1 in
@@ -152,72 +176,35 @@ run_allowed features (x ∷ ps) p q a e =
     let h = then_some (λ t. each (step features) t ps) (step features p x) q e in
     All-cons (IsAllowedPiece (features_of features)) x ps (form_accepted features p h.0 x (form_of x a.0) h.1) (run_allowed features ps h.0 q a.1 h.2)
 
--- the ranks of the sections that are served: of types, imports, functions, tables, memories, tags, exports, and those of
--- the start function and the data count
-abbrev pub served_ranks : List ℕ
-served_ranks = 1 ∷ 2 ∷ 3 ∷ 4 ∷ 5 ∷ 6 ∷ 8 ∷ 9 ∷ 11 ∷ []
-
-abbrev is_served_rank : ℕ → Bool
-is_served_rank k = eqb k 1 || (eqb k 2 || (eqb k 3 || (eqb k 4 || (eqb k 5 || (eqb k 6 || (eqb k 8 || (eqb k 9 || eqb k 11)))))))
-
--- those of items
+-- the ranks of sections of items
 abbrev IsOfItems : ℕ → Type 0
-IsOfItems k = (0 ≢ k) × (9 ≢ k) × (11 ≢ k)
+IsOfItems k = (0 ≢ k) × (9 ≢ k) × (11 ≢ k) × (12 ≢ k)
 
 -- the id of the section of a rank
 abbrev id_of_rank : ℕ → ℕ
-id_of_rank k = cond (eqb k 6) 13 (cond (eqb k 8) 7 k)
+id_of_rank k = cond (eqb k 6) 13 (cond (eqb k 7) 6 (cond (eqb k 8) 7 (cond (eqb k 10) 9 (cond (eqb k 14) 11 k))))
 
-part_rank : (p : Piece) → PartForm p → 0 ≢ rank p → is_served_rank (rank p) ≡ true
+-- no part is a body
+no_body : (p : Piece) → PartForm p → rank p ≢ 13
 unfolding place
-part_rank p custom z = absurd (z refl)
-part_rank p types z = refl
-part_rank p imports z = refl
-part_rank p functions z = refl
-part_rank p tables z = refl
-part_rank p memories z = refl
-part_rank p exports z = refl
-part_rank p tags z = refl
-part_rank p start z = refl
-part_rank p data_count z = refl
+no_body p custom = λ e. cc
+no_body p types = λ e. cc
+no_body p imports = λ e. cc
+no_body p functions = λ e. cc
+no_body p tables = λ e. cc
+no_body p memories = λ e. cc
+no_body p globals = λ e. cc
+no_body p exports = λ e. cc
+no_body p elements = λ e. cc
+no_body p segments = λ e. cc
+no_body p tags = λ e. cc
+no_body p start = λ e. cc
+no_body p data_count = λ e. cc
+no_body p code_start = λ e. cc
 
-no_body : (p : Piece) → PartForm p → rank p ≡ 13 → ⊥
-unfolding place
-no_body p custom e = cc
-no_body p types e = cc
-no_body p imports e = cc
-no_body p functions e = cc
-no_body p tables e = cc
-no_body p memories e = cc
-no_body p exports e = cc
-no_body p tags e = cc
-no_body p start e = cc
-no_body p data_count e = cc
-
--- of these ranks, those that are served
-abbrev pub restricted : List ℕ → List ℕ
-restricted [] = []
-restricted (k ∷ ks) = cond (is_served_rank k) (k ∷ restricted ks) (restricted ks)
-
-abbrev pub no_zero : List ℕ → Type 0
-no_zero [] = Unit {0}
-no_zero (k ∷ ks) = (0 ≢ k) × no_zero ks
-
-restrict_here : (k : ℕ) (ks : List ℕ) (p : Piece) (ps : List Piece) → 0 ≢ k → rank p ≡ k → PartForm p → Follows (restricted ks) ps → Follows (restricted (k ∷ ks)) (p ∷ ps)
-restrict_here k ks p ps z r f g =
-    let served : is_served_rank k ≡ true = ap is_served_rank (sym r) ∙ part_rank p f (λ e. z (e ∙ r)) in
-    subst (λ (js : List ℕ). Follows js (p ∷ ps)) (sym (when (is_served_rank k) (k ∷ restricted ks) (restricted ks) served)) (here r g)
-
-restrict_later : (b : Bool) (k : ℕ) (ks : List ℕ) (ps : List Piece) → Follows ks ps → Follows (cond b (k ∷ ks) ks) ps
-restrict_later true k ks ps f = later f
-restrict_later false k ks ps f = f
-
-pub restrict : (ks : List ℕ) (ps : List Piece) → no_zero ks → AreParts ps → Follows ks ps → Follows (restricted ks) ps
-restrict ks [] z a done = done
-restrict ks (p ∷ ps) z a (free r f) = free r (restrict ks ps z a.1 f)
-restrict (k ∷ ks) (p ∷ ps) z a (here r f) = restrict_here k ks p ps z.0 r (form_of p a.0) (restrict ks ps z.1 a.1 f)
-restrict (k ∷ ks) (p ∷ ps) z a (body r b f) = absurd (no_body p (form_of p a.0) (r ∙ b))
-restrict (k ∷ ks) ps z a (later f) = restrict_later (is_served_rank k) k (restricted ks) ps (restrict ks ps z.1 a f)
+pub no_bodies_there : (ps : List Piece) → AreParts ps → at_rank 13 ps ≡ []
+no_bodies_there [] a = refl
+no_bodies_there (p ∷ ps) a = unless (eqb (rank p) 13) (p ∷ at_rank 13 ps) (at_rank 13 ps) (ne_eqb (rank p) 13 (no_body p (form_of p a.0))) ∙ no_bodies_there ps a.1
 
 -- a custom section changes nothing
 part_free : (features : WasmFeatures) (p : Piece) → PartForm p → rank p ≡ 0 → (s : TypesSoFar × Spaces) → step features s p ≡ Some s
@@ -228,21 +215,25 @@ part_free features p imports r s = absurd cc
 part_free features p functions r s = absurd cc
 part_free features p tables r s = absurd cc
 part_free features p memories r s = absurd cc
+part_free features p globals r s = absurd cc
 part_free features p exports r s = absurd cc
+part_free features p elements r s = absurd cc
+part_free features p segments r s = absurd cc
 part_free features p tags r s = absurd cc
 part_free features p start r s = absurd cc
 part_free features p data_count r s = absurd cc
+part_free features p code_start r s = absurd cc
 
 leaves_free : (features : WasmFeatures) (ps : List Piece) → AreParts ps → LeavesFree (step features) ps
 leaves_free features [] a = tt
 leaves_free features (p ∷ ps) a = (part_free features p (form_of p a.0), leaves_free features ps a.1)
 
-served_are_ranks : AreRanks served_ranks
-served_are_ranks = ((λ e. cc), (((λ e. cc), ((λ e. cc), ((λ e. cc), ((λ e. cc), ((λ e. cc), ((λ e. cc), ((λ e. cc), ((λ e. cc), tt)))))))), ((λ e. cc), (((λ e. cc), ((λ e. cc), ((λ e. cc), ((λ e. cc), ((λ e. cc), ((λ e. cc), ((λ e. cc), tt))))))), ((λ e. cc), (((λ e. cc), ((λ e. cc), ((λ e. cc), ((λ e. cc), ((λ e. cc), ((λ e. cc), tt)))))), ((λ e. cc), (((λ e. cc), ((λ e. cc), ((λ e. cc), ((λ e. cc), ((λ e. cc), tt))))), ((λ e. cc), (((λ e. cc), ((λ e. cc), ((λ e. cc), ((λ e. cc), tt)))), ((λ e. cc), (((λ e. cc), ((λ e. cc), ((λ e. cc), tt))), ((λ e. cc), (((λ e. cc), ((λ e. cc), tt)), ((λ e. cc), (((λ e. cc), tt), ((λ e. cc), (tt, tt))))))))))))))))))
+are_ranks : AreRanks ranks
+are_ranks = ((λ e. cc), (((λ e. cc), ((λ e. cc), ((λ e. cc), ((λ e. cc), ((λ e. cc), ((λ e. cc), ((λ e. cc), ((λ e. cc), ((λ e. cc), ((λ e. cc), ((λ e. cc), ((λ e. cc), ((λ e. cc), tt))))))))))))), ((λ e. cc), (((λ e. cc), ((λ e. cc), ((λ e. cc), ((λ e. cc), ((λ e. cc), ((λ e. cc), ((λ e. cc), ((λ e. cc), ((λ e. cc), ((λ e. cc), ((λ e. cc), ((λ e. cc), tt)))))))))))), ((λ e. cc), (((λ e. cc), ((λ e. cc), ((λ e. cc), ((λ e. cc), ((λ e. cc), ((λ e. cc), ((λ e. cc), ((λ e. cc), ((λ e. cc), ((λ e. cc), ((λ e. cc), tt))))))))))), ((λ e. cc), (((λ e. cc), ((λ e. cc), ((λ e. cc), ((λ e. cc), ((λ e. cc), ((λ e. cc), ((λ e. cc), ((λ e. cc), ((λ e. cc), ((λ e. cc), tt)))))))))), ((λ e. cc), (((λ e. cc), ((λ e. cc), ((λ e. cc), ((λ e. cc), ((λ e. cc), ((λ e. cc), ((λ e. cc), ((λ e. cc), ((λ e. cc), tt))))))))), ((λ e. cc), (((λ e. cc), ((λ e. cc), ((λ e. cc), ((λ e. cc), ((λ e. cc), ((λ e. cc), ((λ e. cc), ((λ e. cc), tt)))))))), ((λ e. cc), (((λ e. cc), ((λ e. cc), ((λ e. cc), ((λ e. cc), ((λ e. cc), ((λ e. cc), ((λ e. cc), tt))))))), ((λ e. cc), (((λ e. cc), ((λ e. cc), ((λ e. cc), ((λ e. cc), ((λ e. cc), ((λ e. cc), tt)))))), ((λ e. cc), (((λ e. cc), ((λ e. cc), ((λ e. cc), ((λ e. cc), ((λ e. cc), tt))))), ((λ e. cc), (((λ e. cc), ((λ e. cc), ((λ e. cc), ((λ e. cc), tt)))), ((λ e. cc), (((λ e. cc), ((λ e. cc), ((λ e. cc), tt))), ((λ e. cc), (((λ e. cc), ((λ e. cc), tt)), ((λ e. cc), (((λ e. cc), tt), ((λ e. cc), (tt, tt))))))))))))))))))))))))))))
 
 -- parts in the order of the ranks, as their sections
-pub by_sections : (features : WasmFeatures) (ps : List Piece) (s : TypesSoFar × Spaces) → AreParts ps → Follows served_ranks ps → each (step features) s ps ≡ by_rank (step features) served_ranks s ps
-by_sections features ps s a f = by_ranks (step features) served_ranks ps s f served_are_ranks (leaves_free features ps a)
+pub by_sections : (features : WasmFeatures) (ps : List Piece) (s : TypesSoFar × Spaces) → AreParts ps → Follows ranks ps → each (step features) s ps ≡ by_rank (step features) ranks s ps
+by_sections features ps s a f = by_ranks (step features) ranks ps s f are_ranks (leaves_free features ps a)
 
 -- the section of this id, if it is there
 pub record IsSection (id : ℕ) (ps : List Piece) : Type 0 where
@@ -274,10 +265,14 @@ rank_form p (imports {n} {bytes}) z = record { count = n; contents = bytes; is =
 rank_form p (functions {n} {bytes}) z = record { count = n; contents = bytes; is = refl }
 rank_form p (tables {n} {bytes}) z = record { count = n; contents = bytes; is = refl }
 rank_form p (memories {n} {bytes}) z = record { count = n; contents = bytes; is = refl }
+rank_form p (globals {n} {bytes}) z = record { count = n; contents = bytes; is = refl }
 rank_form p (exports {n} {bytes}) z = record { count = n; contents = bytes; is = refl }
+rank_form p (elements {n} {bytes}) z = record { count = n; contents = bytes; is = refl }
+rank_form p (segments {n} {bytes}) z = record { count = n; contents = bytes; is = refl }
 rank_form p (tags {n} {bytes}) z = record { count = n; contents = bytes; is = refl }
 rank_form p start z = absurd (z.1 refl)
 rank_form p data_count z = absurd (z.2 refl)
+rank_form p code_start z = absurd (z.3 refl)
 
 section_from : (k : ℕ) (ps : List Piece) → AreParts ps → IsOfItems k → (at_rank k ps ≡ []) ⊎ IsOne (at_rank k ps) → SectionOf (id_of_rank k) (at_rank k ps)
 section_from k ps a z (inl e) = inl e
@@ -286,12 +281,15 @@ section_from k ps a z (inr o) =
     let here = rank_form o.piece (form_of o.piece f.1) (subst IsOfItems (sym f.0) z) in
     inr (subst (λ (x : ℕ × List Piece). IsSection (id_of_rank x.0) x.1) (λ i. (f.0 i, sym o.is i)) here)
 
--- the start function, and the data count, if they are there
+-- the start function, the data count, and the start of the code, if they are there
 abbrev pub StartOf : List Piece → Type 0
 StartOf ps = (ps ≡ []) ⊎ ((x : ℕ) × (ps ≡ Start x ∷ []))
 
 abbrev pub DataCountOf : List Piece → Type 0
 DataCountOf ps = (ps ≡ []) ⊎ ((n : ℕ) × (ps ≡ DataCount n ∷ []))
+
+abbrev pub CodeStartOf : List Piece → Type 0
+CodeStartOf ps = (ps ≡ []) ⊎ ((n : ℕ) × (size : ℕ) × (ps ≡ CodeStart n size ∷ []))
 
 start_form : (p : Piece) → PartForm p → rank p ≡ 9 → (x : ℕ) × (p ∷ [] ≡ Start x ∷ [])
 unfolding place
@@ -301,10 +299,14 @@ start_form p imports e = absurd cc
 start_form p functions e = absurd cc
 start_form p tables e = absurd cc
 start_form p memories e = absurd cc
+start_form p globals e = absurd cc
 start_form p exports e = absurd cc
+start_form p elements e = absurd cc
+start_form p segments e = absurd cc
 start_form p tags e = absurd cc
 start_form p (start {x}) e = (x, refl)
 start_form p data_count e = absurd cc
+start_form p code_start e = absurd cc
 
 data_count_form : (p : Piece) → PartForm p → rank p ≡ 11 → (n : ℕ) × (p ∷ [] ≡ DataCount n ∷ [])
 unfolding place
@@ -314,10 +316,31 @@ data_count_form p imports e = absurd cc
 data_count_form p functions e = absurd cc
 data_count_form p tables e = absurd cc
 data_count_form p memories e = absurd cc
+data_count_form p globals e = absurd cc
 data_count_form p exports e = absurd cc
+data_count_form p elements e = absurd cc
+data_count_form p segments e = absurd cc
 data_count_form p tags e = absurd cc
 data_count_form p start e = absurd cc
 data_count_form p (data_count {n}) e = (n, refl)
+data_count_form p code_start e = absurd cc
+
+code_start_form : (p : Piece) → PartForm p → rank p ≡ 12 → (n : ℕ) × (size : ℕ) × (p ∷ [] ≡ CodeStart n size ∷ [])
+unfolding place
+code_start_form p custom e = absurd cc
+code_start_form p types e = absurd cc
+code_start_form p imports e = absurd cc
+code_start_form p functions e = absurd cc
+code_start_form p tables e = absurd cc
+code_start_form p memories e = absurd cc
+code_start_form p globals e = absurd cc
+code_start_form p exports e = absurd cc
+code_start_form p elements e = absurd cc
+code_start_form p segments e = absurd cc
+code_start_form p tags e = absurd cc
+code_start_form p start e = absurd cc
+code_start_form p data_count e = absurd cc
+code_start_form p (code_start {n} {size}) e = (n, size, refl)
 
 start_from : (ps : List Piece) → AreParts ps → (at_rank 9 ps ≡ []) ⊎ IsOne (at_rank 9 ps) → StartOf (at_rank 9 ps)
 start_from ps a (inl e) = inl e
@@ -333,16 +356,26 @@ data_count_from ps a (inr o) =
     let here = data_count_form o.piece (form_of o.piece f.1) f.0 in
     inr (here.0, o.is ∙ here.1)
 
+code_start_from : (ps : List Piece) → AreParts ps → (at_rank 12 ps ≡ []) ⊎ IsOne (at_rank 12 ps) → CodeStartOf (at_rank 12 ps)
+code_start_from ps a (inl e) = inl e
+code_start_from ps a (inr o) =
+    let f = first_of 12 ps o.piece a o.is in
+    let here = code_start_form o.piece (form_of o.piece f.1) f.0 in
+    inr (here.0, here.1, o.is ∙ here.2)
+
 -- the sections
-module _ (ps : List Piece) (a : AreParts ps) (f : Follows served_ranks ps) where
+module _ (ps : List Piece) (a : AreParts ps) (f : Follows ranks ps) where
   pub section_at : (k : ℕ) → IsOfItems k → k ≢ 13 → SectionOf (id_of_rank k) (at_rank k ps)
-  section_at k z b = section_from k ps a z (one_at_most served_ranks ps k f served_are_ranks z.0 b)
+  section_at k z b = section_from k ps a z (one_at_most ranks ps k f are_ranks z.0 b)
 
   pub start_at : StartOf (at_rank 9 ps)
-  start_at = start_from ps a (one_at_most served_ranks ps 9 f served_are_ranks (λ e. cc) (λ e. cc))
+  start_at = start_from ps a (one_at_most ranks ps 9 f are_ranks (λ e. cc) (λ e. cc))
 
   pub data_count_at : DataCountOf (at_rank 11 ps)
-  data_count_at = data_count_from ps a (one_at_most served_ranks ps 11 f served_are_ranks (λ e. cc) (λ e. cc))
+  data_count_at = data_count_from ps a (one_at_most ranks ps 11 f are_ranks (λ e. cc) (λ e. cc))
+
+  pub code_start_at : CodeStartOf (at_rank 12 ps)
+  code_start_at = code_start_from ps a (one_at_most ranks ps 12 f are_ranks (λ e. cc) (λ e. cc))
 
 -- the items of the sections of an id are those of the pieces of its rank
 module _ {V : Type 0} (id : ℕ) (reads : List ℕ → Option (V × List ℕ)) where

@@ -11,7 +11,6 @@ use Rattle.wasm_validator_types.specs.Shown.{shown_of}
 use Rattle.wasm_validator_types.specs.declared.shown.Types as shown
 use Rattle.wasm_validator_core.specs.Answers.{TypesSoFar}
 use Rattle.wasm_validator.specs.Standing.{unparsed, Standing, after_reset}
-use Rattle.wasm_validator.specs.Verdict.{Expressions}
 use Rattle.wasm_validator.specs.Sequences.{Takes, TakesEach, its_types, all_types, OwnIdForEachType}
 
 -- each id is above those before it, and none is below this
@@ -58,10 +57,10 @@ apart low (z ∷ ps) (suc j) (suc k) p q r x y e = ap suc (apart (z.0 + 1) ps j 
 stages_apart : (T U : TypesSoFar) → unparsed T ≡ unparsed U → T ≡ U
 stages_apart T U e = cc
 
-module _ {A : Type 0} (expression_at : Expressions) where
+module _ {A : Type 0} where
   -- the ids of a module, and of those behind it
-  one_rises : (bytes : List ℕ) (answer : Option (shown.Types A)) (old new : Standing) (a : Takes expression_at bytes answer old new) (before : TypesSoFar) (later : List (ℕ × DefType)) → canonical (features_of old.features) ≡ false → old.stage ≡ unparsed before
-      → ((next : TypesSoFar) → (after_reset new).features ≡ old.features → (after_reset new).stage ≡ unparsed next → Rising (length next) later) → Rising (length before) (its_types expression_at bytes answer old new a ++ later)
+  one_rises : (bytes : List ℕ) (answer : Option (shown.Types A)) (old new : Standing) (a : Takes bytes answer old new) (before : TypesSoFar) (later : List (ℕ × DefType)) → canonical (features_of old.features) ≡ false → old.stage ≡ unparsed before
+      → ((next : TypesSoFar) → (after_reset new).features ≡ old.features → (after_reset new).stage ≡ unparsed next → Rising (length next) later) → Rising (length before) (its_types bytes answer old new a ++ later)
   one_rises bytes (Some t) old new a before later c w rest =
       let list = types_of_list (shown_of t).list in
       let ds = a.module_valid.well_formed.types.types in
@@ -73,15 +72,15 @@ module _ {A : Type 0} (expression_at : Expressions) where
       let longer = length-append a.before a.more in
       subst (λ us. Rising (length us) later) (stages_apart a.before before (sym a.began ∙ w)) (from_lower (length a.before) (length (a.before ++ a.more)) later (omega (arith, longer)) higher)
 
-  all_rise : (ms : List (List ℕ × Option (shown.Types A))) (old : Standing) (before : TypesSoFar) (a : TakesEach expression_at old ms) → canonical (features_of old.features) ≡ false → old.stage ≡ unparsed before
-      → Rising (length before) (all_types expression_at old ms a)
+  all_rise : (ms : List (List ℕ × Option (shown.Types A))) (old : Standing) (before : TypesSoFar) (a : TakesEach old ms) → canonical (features_of old.features) ≡ false → old.stage ≡ unparsed before
+      → Rising (length before) (all_types old ms a)
   unfolding Rising
   all_rise [] old before a c w = tt
   all_rise (m ∷ ms) old before a c w =
-      one_rises m.0 m.1 old a.0 a.1 before (all_types expression_at (after_reset a.0) ms a.2) c w
+      one_rises m.0 m.1 old a.0 a.1 before (all_types (after_reset a.0) ms a.2) c w
       (λ next f s. all_rise ms (after_reset a.0) next a.2 (ap (λ g. canonical (features_of g)) f ∙ c) s)
 
-  began_with : (bytes : List ℕ) (answer : Option (shown.Types A)) (old new : Standing) → Takes expression_at bytes answer old new → (before : TypesSoFar) × (old.stage ≡ unparsed before)
+  began_with : (bytes : List ℕ) (answer : Option (shown.Types A)) (old new : Standing) → Takes bytes answer old new → (before : TypesSoFar) × (old.stage ≡ unparsed before)
   began_with bytes (Some t) old new a = (a.before, a.began)
   began_with bytes None old new a = (a.before, a.began)
 
@@ -89,8 +88,8 @@ same_place : (ps : List (ℕ × DefType)) (j k : ℕ) (p q : ℕ × DefType) →
 same_place ps j k p q x y e = ap (λ (w : ℕ × DefType). w.0) (same_Some p q (sym x ∙ ap (slice_get ps) e ∙ y))
 
 pub own_id_for_each : {A : Type 0} → OwnIdForEachType A
-own_id_for_each expression_at old [] a c j k p q x y = absurd (none-some p x)
-own_id_for_each expression_at old (m ∷ ms) a c j k p q x y =
-    let b = began_with expression_at m.0 m.1 old a.0 a.1 in
-    let all = all_types expression_at old (m ∷ ms) a in
-    (λ e. apart (length b.0) all j k p q (all_rise expression_at (m ∷ ms) old b.0 a c b.1) x y e, λ e. same_place all j k p q x y e)
+own_id_for_each old [] a c j k p q x y = absurd (none-some p x)
+own_id_for_each old (m ∷ ms) a c j k p q x y =
+    let b = began_with m.0 m.1 old a.0 a.1 in
+    let all = all_types old (m ∷ ms) a in
+    (λ e. apart (length b.0) all j k p q (all_rise (m ∷ ms) old b.0 a c b.1) x y e, λ e. same_place all j k p q x y e)

@@ -2,7 +2,7 @@
 use Rattle.std.proofs.Common.{◌≡◌, refl, sym, ap, subst, ◌∙◌, inl, inr, ℕ, Bool, true, false, cond, eqb, List, [], ◌∷◌, Option, Some}
 use Rattle.std.specs.Option.{option_and_then}
 use Rattle.std.specs.List.{list_all}
-use Rattle.std.proofs.lemmas.Bool.{eqb-true, eq-eqb, and_from}
+use Rattle.std.proofs.lemmas.Bool.{eq-eqb, and_from}
 use Rattle.std.proofs.lemmas.Option.{same_Some}
 use Rattle.wasm_spec.specs.Framing as parts
 use Rattle.wasm_spec.specs.Framing.{Piece, Version, Custom, Counted, Start, DataCount, CodeStart, CodeEntry, Unknown, place}
@@ -11,16 +11,14 @@ use Rattle.wasm_rules.specs.Sections.{each, rank_of_section}
 use Rattle.wasm_rules.proofs.FramedOrder.{IsInner, AreInner}
 use Rattle.wasm_rules.proofs.Tests.{truth, when, unless, then_some}
 use Rattle.wasm_readers_errors.specs.declared.features.WasmFeatures.{WasmFeatures}
-use Rattle.wasm_validator_canonical.proofs.Canonical.{and_right}
 use Rattle.wasm_validator_types.specs.Spaces.{Spaces}
 use Rattle.wasm_validator_core.specs.Answers.{TypesSoFar}
 use Rattle.wasm_validator.specs.Machine.{section_items, start_item, data_count_item, beside}
-use Rattle.wasm_validator.specs.Served.{is_served_section, is_empty_section, is_served_piece}
 use Rattle.wasm_validator.specs.Standing.{Stage, Standing, in_module, in_code, ended, shown_at, within, within_all, at_stage}
 use Rattle.wasm_validator.specs.States.{after_piece}
 use Rattle.wasm_validator.specs.Payloads.{after_all}
-use Rattle.wasm_validator.proofs.ModuleRun.{either, step}
-use Rattle.wasm_validator.proofs.EmptyPieces.{section_served}
+use Rattle.wasm_validator.proofs.ModuleRun.{is_known_section, is_part, section_case, step}
+use Rattle.wasm_validator.proofs.KnownSections.{section_known}
 use Rattle.wasm_validator.proofs.CodeOrder.{IsLate, InOrder}
 
 -- a validator in a module, before the start of its code or behind it
@@ -47,7 +45,7 @@ module _ (id : ℕ) (features : WasmFeatures) where
     q : TypesSoFar × Spaces
     there : at id features code q ≡ t
     stepped : step features p x ≡ Some q
-    served : is_served_piece x ≡ true
+    known : is_part x ≡ true
 
   -- the same stage, by an item step
   abbrev lifted : Bool → Standing → Option (TypesSoFar × Spaces) → Option Standing
@@ -67,30 +65,30 @@ module _ (id : ℕ) (features : WasmFeatures) where
   section_step : (code : Bool) (p : TypesSoFar × Spaces) (k n : ℕ) (bytes : List ℕ) (t : Standing) → after_piece (at id features code p) (Counted k n bytes) ≡ Some t → Stepped p (Counted k n bytes) t
   section_step false p k n bytes t e =
       let h = took false (at id features false p) t (section_items features k n bytes p) (sym (ap (at_stage (at id features false p)) (either_stage (eqb k 11) p (section_items features k n bytes))) ∙ e) in
-      record { code = false; q = h.0; there = h.2; stepped = h.1; served = section_served features p h.0 k n bytes h.1 }
+      record { code = false; q = h.0; there = h.2; stepped = h.1; known = section_known features p h.0 k n bytes h.1 }
   section_step true p k n bytes t e =
       let f = section_items features k n bytes in
       let s = at id features true p in
       elim (truth (eqb k 11)) [
         | inl a ↦
             let h = took true s t (f p) (sym (ap (at_stage s) (when (eqb k 11) (within_all f (in_code p.0 p.1)) (within f (in_code p.0 p.1)) a)) ∙ e) in
-            record { code = true; q = h.0; there = h.2; stepped = h.1; served = section_served features p h.0 k n bytes h.1 }
+            record { code = true; q = h.0; there = h.2; stepped = h.1; known = section_known features p h.0 k n bytes h.1 }
         | inr a ↦ absurd (let none = sym (ap (at_stage s) (unless (eqb k 11) (within_all f (in_code p.0 p.1)) (within f (in_code p.0 p.1)) a)) ∙ e in cc)
       ]
 
   one_step : (code : Bool) (p : TypesSoFar × Spaces) (x : Piece) (t : Standing) → IsInner x → after_piece (at id features code p) x ≡ Some t → Stepped p x t
   one_step code p (Version number kind) t i e = absurd i
-  one_step code p (Custom name bytes) t i e = record { code = code; q = p; there = same_Some (at id features code p) t e; stepped = refl; served = refl }
+  one_step code p (Custom name bytes) t i e = record { code = code; q = p; there = same_Some (at id features code p) t e; stepped = refl; known = refl }
   one_step code p (Counted k n bytes) t i e = section_step code p k n bytes t e
   one_step false p (Start x) t i e =
       let h = took false (at id features false p) t (beside (λ us s. start_item us s x) p) e in
-      record { code = false; q = h.0; there = h.2; stepped = h.1; served = refl }
+      record { code = false; q = h.0; there = h.2; stepped = h.1; known = refl }
   one_step true p (Start x) t i e = absurd cc
   one_step false p (DataCount n) t i e =
       let h = took false (at id features false p) t (beside (λ us s. data_count_item (features_of features) s n) p) e in
-      record { code = false; q = h.0; there = h.2; stepped = h.1; served = refl }
+      record { code = false; q = h.0; there = h.2; stepped = h.1; known = refl }
   one_step true p (DataCount n) t i e = absurd cc
-  one_step false p (CodeStart n size) t i e = record { code = true; q = p; there = same_Some (at id features true p) t e; stepped = refl; served = refl }
+  one_step false p (CodeStart n size) t i e = record { code = true; q = p; there = same_Some (at id features true p) t e; stepped = refl; known = refl }
   one_step true p (CodeStart n size) t i e = absurd cc
   one_step code p (CodeEntry bytes) t i e = absurd cc
   one_step code p (Unknown k bytes) t i e = absurd cc
@@ -102,10 +100,10 @@ module _ (id : ℕ) (features : WasmFeatures) where
     pub q : TypesSoFar × Spaces
     pub there : at id features code q ≡ t
     pub ran : each (step features) p ps ≡ Some q
-    pub served : list_all is_served_piece ps ≡ true
+    pub known : list_all is_part ps ≡ true
 
   pub went : (ps : List Piece) (code : Bool) (p : TypesSoFar × Spaces) (t : Standing) → AreInner ps → after_all (at id features code p) ps ≡ Some t → Went p ps t
-  went [] code p t i e = record { code = code; q = p; there = same_Some (at id features code p) t e; ran = refl; served = refl }
+  went [] code p t i e = record { code = code; q = p; there = same_Some (at id features code p) t e; ran = refl; known = refl }
   went (x ∷ ps) code p t i e =
       let a = then_some (λ s. after_all s ps) (after_piece (at id features code p) x) t e in
       let h = one_step code p x a.0 i.0 a.1 in
@@ -115,40 +113,8 @@ module _ (id : ℕ) (features : WasmFeatures) where
         q = r.q;
         there = r.there;
         ran = ap (option_and_then (λ u. each (step features) u ps)) h.stepped ∙ r.ran;
-        served = and_from (is_served_piece x) (list_all is_served_piece ps) h.served r.served;
+        known = and_from (is_part x) (list_all is_part ps) h.known r.known;
       }
-
--- the sections that are served, by their ids
-section_case : (P : ℕ → Type 0) → P 1 → P 2 → P 3 → P 4 → P 5 → P 6 → P 7 → P 9 → P 11 → P 13 → (id n : ℕ) (bytes : List ℕ) → is_served_piece (Counted id n bytes) ≡ true → P id
-section_case P p1 p2 p3 p4 p5 p6 p7 p9 p11 p13 id n bytes e =
-    elim (either (is_served_section id) (is_empty_section id n bytes) e) [
-      | inl a ↦ elim (either (eqb id 1) _ a) [
-        | inl b ↦ subst P (sym (eqb-true id 1 b)) p1
-        | inr b ↦ elim (either (eqb id 2) _ b) [
-          | inl c ↦ subst P (sym (eqb-true id 2 c)) p2
-          | inr c ↦ elim (either (eqb id 3) _ c) [
-            | inl d ↦ subst P (sym (eqb-true id 3 d)) p3
-            | inr d ↦ elim (either (eqb id 4) _ d) [
-              | inl g ↦ subst P (sym (eqb-true id 4 g)) p4
-              | inr g ↦ elim (either (eqb id 5) _ g) [
-                | inl h ↦ subst P (sym (eqb-true id 5 h)) p5
-                | inr h ↦ elim (either (eqb id 7) _ h) [
-                  | inl k ↦ subst P (sym (eqb-true id 7 k)) p7
-                  | inr k ↦ subst P (sym (eqb-true id 13 k)) p13
-                ]
-              ]
-            ]
-          ]
-        ]
-      ]
-      | inr a ↦ elim (either (eqb id 6) _ (and_right _ _ a)) [
-        | inl b ↦ subst P (sym (eqb-true id 6 b)) p6
-        | inr b ↦ elim (either (eqb id 9) _ b) [
-          | inl c ↦ subst P (sym (eqb-true id 9 c)) p9
-          | inr c ↦ subst P (sym (eqb-true id 11 c)) p11
-        ]
-      ]
-    ]
 
 early : (k : ℕ) → ((k ≡ 0) → ⊥) → ((k ≡ 13) → ⊥) → ((k ≡ 14) → ⊥) → IsLate k → ⊥
 early k a b c (inl e) = a e
@@ -161,14 +127,14 @@ LateIsData id = IsLate (rank_of_section id) → id ≡ 11
 early_section : (id k : ℕ) → rank_of_section id ≡ k → ((k ≡ 0) → ⊥) → ((k ≡ 13) → ⊥) → ((k ≡ 14) → ⊥) → LateIsData id
 early_section id k e a b c l = absurd (early k a b c (subst IsLate e l))
 
-late_section : (id n : ℕ) (bytes : List ℕ) → is_served_piece (Counted id n bytes) ≡ true → LateIsData id
+late_section : (id : ℕ) → is_known_section id ≡ true → LateIsData id
 unfolding place
-late_section id n bytes e =
+late_section id e =
     section_case LateIsData
     (early_section 1 1 refl (λ h. cc) (λ h. cc) (λ h. cc)) (early_section 2 2 refl (λ h. cc) (λ h. cc) (λ h. cc)) (early_section 3 3 refl (λ h. cc) (λ h. cc) (λ h. cc))
     (early_section 4 4 refl (λ h. cc) (λ h. cc) (λ h. cc)) (early_section 5 5 refl (λ h. cc) (λ h. cc) (λ h. cc)) (early_section 6 7 refl (λ h. cc) (λ h. cc) (λ h. cc))
     (early_section 7 8 refl (λ h. cc) (λ h. cc) (λ h. cc)) (early_section 9 10 refl (λ h. cc) (λ h. cc) (λ h. cc)) (λ l. refl) (early_section 13 6 refl (λ h. cc) (λ h. cc) (λ h. cc))
-    id n bytes e
+    id e
 
 -- the machine's steps are a validator's, where pieces are in order
 module _ (id : ℕ) (features : WasmFeatures) where
@@ -182,7 +148,7 @@ module _ (id : ℕ) (features : WasmFeatures) where
   section_taken true p q k n bytes l e =
       let f = section_items features k n bytes in
       let s = at id features true p in
-      let last = late_section k n bytes (section_served features p q k n bytes e) (l refl) in
+      let last = late_section k (section_known features p q k n bytes e) (l refl) in
       ap (at_stage s) (when (eqb k 11) (within_all f (in_code p.0 p.1)) (within f (in_code p.0 p.1)) (eq-eqb k 11 last)) ∙ lift true s (f p) q e
 
   -- a validator that went through all pieces

@@ -1,45 +1,34 @@
 -- Each section adds its items behind the lists that a module has.
-use Rattle.std.proofs.Common.{◌≡◌, refl, sym, ap, subst, ◌∙◌, ℕ, ◌+◌, ◌≤◌, Bool, true, false, cond, leb, List, [], ◌∷◌, ◌++◌, map, length, Option, Some, None, arith, append_assoc, append-nil, length-append}
+use Rattle.std.proofs.Common.{◌≡◌, refl, sym, ap, ◌∙◌, ℕ, ◌+◌, ◌≤◌, Bool, true, false, cond, leb, List, [], ◌∷◌, ◌++◌, map, length, Option, Some, None, arith, append_assoc, append-nil, length-append}
 use Rattle.std.specs.Option.{option_and_then}
 use Rattle.std.specs.List.{All}
 use Rattle.std.proofs.lemmas.Bool.{leb-true, le-leb}
-use Rattle.std.proofs.lemmas.List.{length-map, map-append}
-use Rattle.std.proofs.lemmas.List.Elements.{All-nil, All-cons, All-head, All-tail}
 use Rattle.std.proofs.lemmas.Option.{none-some, same_Some}
 use Rattle.wasm_spec.specs.Values.{u32_at, items_at}
-use Rattle.wasm_spec.specs.Syntax.{Table, Memory, map_table}
+use Rattle.wasm_spec.specs.Syntax.{Memory}
 use Rattle.wasm_spec.specs.BinaryTypes.{memory_at, tag_at}
-use Rattle.wasm_spec.specs.BinarySections.{TableEntry, table_entry_at}
 use Rattle.wasm_spec.specs.Features.{Features, canonical}
 use Rattle.wasm_spec.specs.Trees.{DefType}
-use Rattle.wasm_spec.proofs.SyntaxMaps.{map_table-map}
 use Rattle.wasm_rules.specs.FeatureFlags.{features_of}
 use Rattle.wasm_rules.specs.Sections.{each}
-use Rattle.wasm_rules.specs.IndexSpaces.{IsFunctionType, table_type}
-use Rattle.wasm_rules.specs.ItemRules.{IsValidTableEntry, IsValidMemory, IsValidTag}
-use Rattle.wasm_rules.specs.Parts.{Expression, index}
-use Rattle.wasm_rules.specs.Limits.{most_tables, most_memories}
+use Rattle.wasm_rules.specs.IndexSpaces.{IsFunctionType}
+use Rattle.wasm_rules.specs.ItemRules.{IsValidMemory, IsValidTag}
+use Rattle.wasm_rules.specs.Limits.{most_memories}
 use Rattle.wasm_rules.proofs.Tests.{then_some, guarded}
 use Rattle.wasm_rules.proofs.Verdicts.{Verdict, verdict_some, verdict_yes}
 use Rattle.wasm_validator_canonical.specs.Groups.{types_at}
-use Rattle.wasm_validator_canonical.specs.Indices.{canonical_index}
-use Rattle.wasm_readers.specs.Tables.{table_head_at}
-use Rattle.wasm_readers.specs.Written.{written}
-use Rattle.wasm_item_checks.specs.Items.{is_function, is_valid_defined_table, is_valid_memory, is_valid_tag}
+use Rattle.wasm_item_checks.specs.Items.{is_function, is_valid_memory, is_valid_tag}
 use Rattle.wasm_item_checks.specs.Laws.{Stand}
-use Rattle.wasm_item_checks.proofs.Decided.{functions_are_decided, defined_tables_are_decided, memories_are_decided, tags_are_decided}
+use Rattle.wasm_item_checks.proofs.Decided.{functions_are_decided, memories_are_decided, tags_are_decided}
 use Rattle.wasm_validator_types.specs.Spaces.{Spaces}
 use Rattle.wasm_validator_core.specs.Answers.{TypesSoFar}
-use Rattle.wasm_validator_core.specs.Items.{add_function, add_table, add_memory, add_tag}
-use Rattle.wasm_validator_core_laws.specs.Lists.{has_no_init}
-use Rattle.wasm_validator_core_laws.specs.Shown.{listed_table}
-use Rattle.wasm_validator_core_laws.proofs.AddedItems.{of_each, for_each, each_changed, IsStep, step_of, items_verdict}
-use Rattle.wasm_validator.specs.Machine.{add_table_head, read_section, section_items}
+use Rattle.wasm_validator_core.specs.Items.{add_function, add_memory, add_tag}
+use Rattle.wasm_validator_core_laws.proofs.AddedItems.{of_each, each_changed, IsStep, step_of, items_verdict}
+use Rattle.wasm_validator_items.specs.Sections.{read_section}
+use Rattle.wasm_validator.specs.Machine.{section_items}
 use Rattle.wasm_validator.specs.Standing.{Stage, Standing, in_module, at_stage}
 use Rattle.wasm_validator.specs.States.{within_by, after_section}
-use Rattle.wasm_validator.specs.SectionLaws.{HasAdded, FunctionsAdd, TablesAdd, MemoriesAdd, TagsAdd}
-use Rattle.wasm_validator.specs.Verdict.{Expressions}
-use Rattle.wasm_validator.proofs.PlainTables.{plain_at, plain_renames, bare, bare_types, plain_entries, entries_plain, heads_are_plain}
+use Rattle.wasm_validator.specs.SectionLaws.{HasAdded, FunctionsAdd, MemoriesAdd, TagsAdd}
 use Rattle.wasm_validator.proofs.SectionLists.{Renames, limited, section_entries, renames_nothing, same_item}
 
 -- items that are read and added behind lists
@@ -78,7 +67,7 @@ module _ {V W : Type 0} (f : V → W) (reads : List ℕ → Option (V × List �
 
 -- a section within a module, by what its items make of the lists
 module _ (s new : Standing) (us : TypesSoFar) where
-  abbrev moved : Option Spaces → Option Standing
+  abbrev pub moved : Option Spaces → Option Standing
   moved o = option_and_then (λ (g : Stage). Some (record s { stage = g })) (option_and_then (λ (p : TypesSoFar × Spaces). Some (in_module p.0 p.1)) (option_and_then (λ (t : Spaces). Some (us, t)) o))
 
   pub moved_from : (o : Option Spaces) → moved o ≡ Some new → (t : Spaces) × (o ≡ Some t) × (new ≡ record s { stage = in_module us t })
@@ -180,91 +169,4 @@ tags_add old new us m types count bytes r =
           (a.0, added_from old new us same_item tag_at tag_at (renames_nothing tag_at) (add_tag F us) (IsValidTag F types) (λ xs. record m { tags = m.tags ++ xs }) (length m.tags) 1000000 steps m none count bytes a.1),
       λ h. at_module old us m 13 count bytes r.stage ∙ ap (λ b. moved old new us (cond b o None)) h.0
           ∙ added_to old new us same_item tag_at tag_at (renames_nothing tag_at) (add_tag F us) (IsValidTag F types) (λ xs. record m { tags = m.tags ++ xs }) (length m.tags) 1000000 steps m none count bytes h.1,
-    )
-
--- tables, by their types alone
-module _ (F : Features) (us : TypesSoFar) (m : Spaces) (types : List DefType) (stand : Stand (canonical F) us m.types types) where
-  abbrev with_tables : List (Table ℕ) → Spaces
-  with_tables ts = record m { tables = m.tables ++ map (listed_table m.types) ts }
-
-  abbrev IsPlain : Table ℕ → Type 0
-  IsPlain t = IsValidTableEntry F types (bare t)
-
-  many_tables : (acc : List (Table ℕ)) → length (m.tables ++ map (listed_table m.types) acc) ≡ length m.tables + length acc
-  many_tables acc = length-append m.tables (map (listed_table m.types) acc) ∙ ap (λ n. length m.tables + n) (length-map acc (listed_table m.types))
-
-  next_tables : (acc : List (Table ℕ)) (t : Table ℕ) → (m.tables ++ map (listed_table m.types) acc) ++ map_table (canonical_index m.types) (map_table written t) ∷ [] ≡ m.tables ++ map (listed_table m.types) (acc ++ t ∷ [])
-  next_tables acc t =
-      append_assoc m.tables (map (listed_table m.types) acc) (map_table (canonical_index m.types) (map_table written t) ∷ [])
-      ∙ (λ i. m.tables ++ (map (listed_table m.types) acc ++ map_table-map (canonical_index m.types) written t i ∷ []))
-      ∙ ap (λ ts. m.tables ++ ts) (sym (map-append (listed_table m.types) acc (t ∷ [])))
-
-  table_step : (t : Table ℕ) → IsStep IsPlain (λ s x. add_table F us s (map_table written x)) with_tables (length m.tables) (most_tables F) t
-  table_step t =
-      let test = is_valid_defined_table F (types_at us m.types) (map_table written t) false in
-      step_of IsPlain (λ s x. add_table F us s (map_table written x)) with_tables (length m.tables) (most_tables F) t test (defined_tables_are_decided F (canonical F) us m.types types stand (bare t))
-      (λ acc. λ i. cond test (cond (leb (many_tables acc i + 1) (most_tables F)) (Some (record m { tables = next_tables acc t i })) None) None)
-
-  no_tables : with_tables [] ≡ m
-  no_tables = λ i. record m { tables = append-nil m.tables i }
-
-  -- entries without initializers, and their types
-  abbrev Rule : TableEntry Expression ℕ → Type 0
-  Rule x = has_no_init x × IsValidTableEntry F types x
-
-  all_entries : (ts : List (Table ℕ)) → All IsPlain ts → All Rule (map bare ts)
-  all_entries [] a = All-nil Rule
-  all_entries (t ∷ ts) a = All-cons Rule (bare t) (map bare ts) (refl, All-head IsPlain t ts a) (all_entries ts (All-tail IsPlain t ts a))
-
-  all_plain : (es : List (TableEntry Expression ℕ)) → All Rule es → All IsPlain (map table_type es)
-  all_plain [] a = All-nil IsPlain
-  all_plain (x ∷ es) a =
-      let h = All-head Rule x es a in
-      All-cons IsPlain x.ty (map table_type es) (subst (IsValidTableEntry F types) (λ i. record { ty = x.ty; init = h.0 i }) h.1) (all_plain es (All-tail Rule x es a))
-
-  no_inits : (es : List (TableEntry Expression ℕ)) → All Rule es → All has_no_init es
-  no_inits es a = for_each Rule has_no_init es (λ x h. h.0) a
-
-  module _ (expression_at : Expressions) (old new : Standing) (count : ℕ) (bytes : List ℕ) where
-    abbrev Plain : Type 0
-    Plain = HasAdded (plain_at index) IsPlain (length m.tables) (most_tables F) with_tables old new us count bytes
-
-    abbrev Entries : Type 0
-    Entries = HasAdded (table_entry_at expression_at index) Rule (length m.tables) (most_tables F) (λ ts. with_tables (map table_type ts)) old new us count bytes
-
-    entries_of : Plain → Entries
-    entries_of h =
-        let few = h.few in
-        let many = length-map h.items bare in
-        record {
-          items = map bare h.items;
-          read = plain_entries expression_at count bytes h.items h.read;
-          rules = all_entries h.items h.rules;
-          few = omega (arith, few, many);
-          after = h.after ∙ (λ i. record old { stage = in_module us (with_tables (sym (bare_types h.items) i)) });
-        }
-
-    plain_of : Entries → Plain
-    plain_of h =
-        let few = h.few in
-        let many = length-map h.items table_type in
-        record {
-          items = map table_type h.items;
-          read = entries_plain expression_at count bytes h.items h.read (no_inits h.items h.rules);
-          rules = all_plain h.items h.rules;
-          few = omega (arith, few, many);
-          after = h.after;
-        }
-
-pub tables_add : TablesAdd
-tables_add expression_at old new us m types count bytes r =
-    let F = features_of old.features in
-    let steps = table_step F us m types r.stand in
-    let none = no_tables F us m types r.stand in
-    let plain : moved old new us (read_section table_head_at (add_table_head F us) (length m.tables) (most_tables F) count bytes m) ≡ moved old new us (read_section (plain_at written) (add_table F us) (length m.tables) (most_tables F) count bytes m) =
-    ap (λ o. moved old new us (cond (leb (length m.tables + count) (most_tables F)) o None)) (heads_are_plain F us count bytes m) in (
-      λ e. entries_of F us m types r.stand expression_at old new count bytes
-          (added_from old new us (map_table written) (plain_at index) (plain_at written) plain_renames (add_table F us) (IsPlain F us m types r.stand) (with_tables F us m types r.stand) (length m.tables) (most_tables F) steps m none count bytes (sym plain ∙ sym (at_module old us m 4 count bytes r.stage) ∙ e)),
-      λ h. at_module old us m 4 count bytes r.stage ∙ plain
-          ∙ added_to old new us (map_table written) (plain_at index) (plain_at written) plain_renames (add_table F us) (IsPlain F us m types r.stand) (with_tables F us m types r.stand) (length m.tables) (most_tables F) steps m none count bytes (plain_of F us m types r.stand expression_at old new count bytes h),
     )

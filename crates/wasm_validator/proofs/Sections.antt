@@ -1,6 +1,8 @@
 -- How a section moves a validator.
-use Rattle.std.proofs.Common.{◌≡◌, refl, sym, ap, subst, ◌∙◌, ◌⊎◌, inl, inr, ℕ, ◌<◌, Some}
+use Rattle.std.proofs.Common.{◌≡◌, refl, sym, ap, subst, ◌∙◌, ◌⊎◌, inl, inr, ℕ, ◌<◌, List, Some}
 use Rattle.wasm_readers_errors.specs.declared.features.WasmFeatures.{WasmFeatures}
+use Rattle.wasm_readers_types.specs.declared.types.SubType.{SubType}
+use Rattle.wasm_validator_core_resources.specs.ById.{AreFirstByIds}
 use Rattle.wasm_validator_types.specs.Spaces.{Spaces}
 use Rattle.wasm_validator.specs.declared.validator.State.{State}
 use Rattle.wasm_validator.specs.declared.validator.State.TheVariants.{Unparsed, Module, Code, End, Failed}
@@ -15,9 +17,10 @@ use Rattle.wasm_validator_type_list.specs.Listing as lists
 use Rattle.wasm_validator_type_list.proofs.DefTypes.{length-def_types}
 use Rattle.wasm_validator_core.specs.Ready.{AreIdsOf}
 use Rattle.wasm_validator_module_state.specs.declared.module_state.ModuleState.{ModuleState}
-use Rattle.wasm_validator.specs.Ready.{AreIdsIn, AreValidIn}
+use Rattle.wasm_validator.specs.Ready.{AreIdsIn, AreValidIn, AreFirstIn}
 use Rattle.wasm_validator.specs.States.{open_of, read_of, stage_of, state_kept, module_ended, after_end}
 use Rattle.std.specs.List.{All}
+use Rattle.std.specs.Prelude.{OnOk}
 use Rattle.std.specs.declared.result.Result.{Result}
 use Rattle.std.specs.declared.result.Result.TheVariants as results
 use Rattle.wasm_validator_core.specs.declared.error.Error.{Error}
@@ -77,6 +80,25 @@ module _ {A : Type 0} (features : WasmFeatures) (list : Listing A) where
   shown-valid id s m old types e o v same =
       subst (λ (w : Standing). AreValid (features_of w.features) types) e (subst (AreValid (features_of features)) (sym same) (read-valid s m o v))
 
+-- what is kept of the list for constant expressions
+module _ {A : Type 0} (list : Listing A) (types : List (SubType A)) where
+  pub open-first : (s : State A) (m : Spaces) → open_of s ≡ Some m → AreFirstIn list types s → AreFirstByIds list.groups types
+  open-first (Module n) m o v = v
+  open-first (Code n) m o v = absurd (cc)
+  open-first Unparsed m o v = absurd (cc)
+  open-first End m o v = absurd (cc)
+  open-first Failed m o v = absurd (cc)
+
+  pub read-first : (s : State A) (m : Spaces) → read_of s ≡ Some m → AreFirstIn list types s → AreFirstByIds list.groups types
+  read-first (Module n) m o v = v
+  read-first (Code n) m o v = v
+  read-first Unparsed m o v = absurd (cc)
+  read-first End m o v = absurd (cc)
+  read-first Failed m o v = absurd (cc)
+
+  pub unparsed-first : (s : State A) → s ≡ Unparsed → AreFirstIn list types s → AreFirstByIds list.groups types
+  unparsed-first s e v = subst (AreFirstIn list types) e v
+
 -- the ids of a module that is being read
 module _ {A : Type 0} where
   pub open-ids : (list : Listing A) (s : State A) (m : Spaces) → open_of s ≡ Some m → AreIdsIn list s → AreIdsOf list m.types
@@ -113,6 +135,19 @@ module _ {T A : Type 0} (list : Listing A) (m : ModuleState A) where
   pub kept-ids : (r : Result T (Error A)) → AreIdsOf list m.«module».types → AreIdsIn list (state_kept r m)
   kept-ids (results.Ok x) a = a
   kept-ids (results.Err e) a = tt
+
+  -- the same where it was added to the list
+  pub added-ids : (r : Result T (Error A)) → OnOk r (AreIdsOf list m.«module».types) → AreIdsIn list (state_kept r m)
+  added-ids (results.Ok x) a = a
+  added-ids (results.Err e) a = tt
+
+  pub added-valid : (features : WasmFeatures) (r : Result T (Error A)) → OnOk r (AreValid (features_of features) (types_of_list list)) → AreValidIn features list (state_kept r m)
+  added-valid features (results.Ok x) v = v
+  added-valid features (results.Err e) v = tt
+
+  pub kept-first : (types : List (SubType A)) (r : Result T (Error A)) → AreFirstByIds list.groups types → AreFirstIn list types (state_kept r m)
+  kept-first types (results.Ok x) v = v
+  kept-first types (results.Err e) v = tt
 
   pub kept-valid : (features : WasmFeatures) (r : Result T (Error A)) → AreValid (features_of features) (types_of_list list) → AreValidIn features list (state_kept r m)
   kept-valid features (results.Ok x) v = v

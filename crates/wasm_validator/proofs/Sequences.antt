@@ -15,7 +15,7 @@ use Rattle.wasm_validator_types.specs.Shown.{shown_of}
 use Rattle.wasm_validator_types.specs.declared.shown.Types as shown
 use Rattle.wasm_validator_core.specs.Answers.{TypesSoFar}
 use Rattle.wasm_validator.specs.Standing.{unparsed, Standing, after_reset}
-use Rattle.wasm_validator.specs.Verdict.{Expressions, AcceptsModule}
+use Rattle.wasm_validator.specs.Verdict.{AcceptsModule}
 use Rattle.wasm_validator.specs.Sequences.{KeepsTypes, Takes, TakesEach, its_types, all_types, OneIdForOneType}
 
 -- the id is of this type in the list
@@ -69,21 +69,21 @@ refused_stands : (old new : Standing) (a : KeepsTypes old new) (later : List (�
 refused_stands old new a later (inl none) = inl none
 refused_stands old new a later (inr s) = inr (record { list = s.list; more = a.more ++ s.more; front = s.front ∙ append_assoc a.before a.more s.more; once = s.once; stand = s.stand })
 
-module _ {A : Type 0} (expression_at : Expressions) where
+module _ {A : Type 0} where
   -- what an accepted module leaves, after `reset`
-  next_stage : (bytes : List ℕ) (old new : Standing) (t : shown.Types A) → AcceptsModule expression_at bytes old new t → (after_reset new).stage ≡ unparsed (types_of_list (shown_of t).list)
+  next_stage : (bytes : List ℕ) (old new : Standing) (t : shown.Types A) → AcceptsModule bytes old new t → (after_reset new).stage ≡ unparsed (types_of_list (shown_of t).list)
   next_stage bytes old new t a = ap (λ (s : Standing). (after_reset s).stage) a.after
 
-  one_stands : (bytes : List ℕ) (old new : Standing) (t : shown.Types A) (m : AcceptsModule expression_at bytes old new t) → canonical (features_of old.features) ≡ true
+  one_stands : (bytes : List ℕ) (old new : Standing) (t : shown.Types A) (m : AcceptsModule bytes old new t) → canonical (features_of old.features) ≡ true
       → All (Stands (types_of_list (shown_of t).list)) (zip (shown_of t).spaces.types m.module_valid.well_formed.types.types)
   one_stands bytes old new t m c = zipped (types_of_list (shown_of t).list) (shown_of t).spaces.types m.module_valid.well_formed.types.types (subst (λ b. AllZip (StandsFor b (types_of_list (shown_of t).list)) (shown_of t).spaces.types m.module_valid.well_formed.types.types) c m.shows.types)
 
   -- its types with those of later modules
-  module_stands : (bytes : List ℕ) (old new : Standing) (t : shown.Types A) (a : AcceptsModule expression_at bytes old new t) (later : List (ℕ × DefType)) → canonical (features_of old.features) ≡ true
-      → AllStand (types_of_list (shown_of t).list) later → AllStand a.before (its_types expression_at bytes (Some t) old new a ++ later)
+  module_stands : (bytes : List ℕ) (old new : Standing) (t : shown.Types A) (a : AcceptsModule bytes old new t) (later : List (ℕ × DefType)) → canonical (features_of old.features) ≡ true
+      → AllStand (types_of_list (shown_of t).list) later → AllStand a.before (its_types bytes (Some t) old new a ++ later)
   module_stands bytes old new t a later c rest =
       let here = types_of_list (shown_of t).list in
-      let its = its_types expression_at bytes (Some t) old new a in
+      let its = its_types bytes (Some t) old new a in
       record {
         list = rest.list;
         more = a.more ++ rest.more;
@@ -93,31 +93,31 @@ module _ {A : Type 0} (expression_at : Expressions) where
       }
 
   -- its own list, where no later module is accepted
-  nothing_later : (bytes : List ℕ) (old new : Standing) (t : shown.Types A) (a : AcceptsModule expression_at bytes old new t) (later : List (ℕ × DefType)) → canonical (features_of old.features) ≡ true
+  nothing_later : (bytes : List ℕ) (old new : Standing) (t : shown.Types A) (a : AcceptsModule bytes old new t) (later : List (ℕ × DefType)) → canonical (features_of old.features) ≡ true
       → MayStand (types_of_list (shown_of t).list) later → AllStand (types_of_list (shown_of t).list) later
   nothing_later bytes old new t a later c (inl none) =
       let here = types_of_list (shown_of t).list in
       record { list = here; more = []; front = sym (append-nil here); once = a.shows.one_id c; stand = subst (All (Stands here)) (sym none) (All-nil (Stands here)) }
   nothing_later bytes old new t a later c (inr s) = s
 
-  took : (bytes : List ℕ) (answer : Option (shown.Types A)) (old new : Standing) (a : Takes expression_at bytes answer old new) (before : TypesSoFar) (later : List (ℕ × DefType)) → canonical (features_of old.features) ≡ true → old.stage ≡ unparsed before
-      → ((next : TypesSoFar) → (after_reset new).features ≡ old.features → (after_reset new).stage ≡ unparsed next → MayStand next later) → MayStand before (its_types expression_at bytes answer old new a ++ later)
+  took : (bytes : List ℕ) (answer : Option (shown.Types A)) (old new : Standing) (a : Takes bytes answer old new) (before : TypesSoFar) (later : List (ℕ × DefType)) → canonical (features_of old.features) ≡ true → old.stage ≡ unparsed before
+      → ((next : TypesSoFar) → (after_reset new).features ≡ old.features → (after_reset new).stage ≡ unparsed next → MayStand next later) → MayStand before (its_types bytes answer old new a ++ later)
   took bytes (Some t) old new a before later c w rest =
       let here = types_of_list (shown_of t).list in
       let stood = nothing_later bytes old new t a later c (rest here (ap (λ (s : Standing). (after_reset s).features) a.after) (next_stage bytes old new t a)) in
-      inr (subst (λ us. AllStand us (its_types expression_at bytes (Some t) old new a ++ later)) (stages_apart a.before before (sym a.began ∙ w)) (module_stands bytes old new t a later c stood))
+      inr (subst (λ us. AllStand us (its_types bytes (Some t) old new a ++ later)) (stages_apart a.before before (sym a.began ∙ w)) (module_stands bytes old new t a later c stood))
   took bytes None old new a before later c w rest =
       subst (λ us. MayStand us later) (stages_apart a.before before (sym a.began ∙ w))
       (refused_stands old new a later (rest (a.before ++ a.more) (ap (λ (s : Standing). s.features) a.after) (ap (λ (s : Standing). s.stage) a.after)))
 
-  all_stand : (ms : List (List ℕ × Option (shown.Types A))) (old : Standing) (before : TypesSoFar) (a : TakesEach expression_at old ms) → canonical (features_of old.features) ≡ true → old.stage ≡ unparsed before
-      → MayStand before (all_types expression_at old ms a)
+  all_stand : (ms : List (List ℕ × Option (shown.Types A))) (old : Standing) (before : TypesSoFar) (a : TakesEach old ms) → canonical (features_of old.features) ≡ true → old.stage ≡ unparsed before
+      → MayStand before (all_types old ms a)
   all_stand [] old before a c w = inl refl
   all_stand (m ∷ ms) old before a c w =
-      took m.0 m.1 old a.0 a.1 before (all_types expression_at (after_reset a.0) ms a.2) c w
+      took m.0 m.1 old a.0 a.1 before (all_types (after_reset a.0) ms a.2) c w
       (λ next f s. all_stand ms (after_reset a.0) next a.2 (ap (λ g. canonical (features_of g)) f ∙ c) s)
 
-  began_with : (bytes : List ℕ) (answer : Option (shown.Types A)) (old new : Standing) → Takes expression_at bytes answer old new → (before : TypesSoFar) × (old.stage ≡ unparsed before)
+  began_with : (bytes : List ℕ) (answer : Option (shown.Types A)) (old new : Standing) → Takes bytes answer old new → (before : TypesSoFar) × (old.stage ≡ unparsed before)
   began_with bytes (Some t) old new a = (a.before, a.began)
   began_with bytes None old new a = (a.before, a.began)
 
@@ -128,7 +128,7 @@ two_ids before all (inr s) j k p q x y =
     one_id_for_one_type s.list [] (subst HasNoRepetition (sym (append-nil s.list)) s.once) p.0 q.0 p.1 q.1 (member s.list all j p s.stand x) (subst (λ us. Stands us q) (sym (append-nil s.list)) (member s.list all k q s.stand y))
 
 pub one_id_for_all : {A : Type 0} → OneIdForOneType A
-one_id_for_all expression_at old [] a c j k p q x y = absurd cc
-one_id_for_all expression_at old (m ∷ ms) a c j k p q x y =
-    let b = began_with expression_at m.0 m.1 old a.0 a.1 in
-    two_ids b.0 (all_types expression_at old (m ∷ ms) a) (all_stand expression_at (m ∷ ms) old b.0 a c b.1) j k p q x y
+one_id_for_all old [] a c j k p q x y = absurd cc
+one_id_for_all old (m ∷ ms) a c j k p q x y =
+    let b = began_with m.0 m.1 old a.0 a.1 in
+    two_ids b.0 (all_types old (m ∷ ms) a) (all_stand (m ∷ ms) old b.0 a c b.1) j k p q x y

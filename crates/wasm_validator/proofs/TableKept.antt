@@ -1,5 +1,5 @@
 -- The machine keeps the state table.
-use Rattle.std.proofs.Common.{◌≡◌, refl, sym, ap, subst, ◌∙◌, inl, inr, ℕ, zero, suc, Bool, true, false, not, ◌&&◌, ◌||◌, cond, eqb, List, length, Option, Some, None}
+use Rattle.std.proofs.Common.{◌≡◌, refl, sym, ap, subst, ◌∙◌, inl, inr, ℕ, zero, suc, ◌+◌, Bool, true, false, not, ◌&&◌, ◌||◌, cond, eqb, leb, List, length, Option, Some, None}
 use Rattle.std.specs.Option.{option_and_then}
 use Rattle.std.proofs.lemmas.Bool.{eqb-true, ne_eqb, not-true}
 use Rattle.std.proofs.lemmas.Option.{same_Some}
@@ -12,14 +12,22 @@ use Rattle.wasm_validator_module_state.specs.Bodies.{expected_bodies}
 use Rattle.wasm_rules.specs.FeatureFlags.{features_of}
 use Rattle.wasm_readers_errors.specs.declared.features.WasmFeatures.{WasmFeatures}
 use Rattle.wasm_validator_types.specs.Spaces.{Spaces, no_spaces}
-use Rattle.wasm_validator_core.specs.declared.limits.TheConstants.{MAX_TAGS}
+use Rattle.wasm_validator_core.specs.declared.limits.TheConstants.{MAX_TAGS, MAX_DATA_SEGMENTS}
 use Rattle.wasm_validator_core.specs.Items.{add_tag}
 use Rattle.wasm_validator_canonical.proofs.Canonical.{and_left, and_right}
 use Rattle.wasm_spec.specs.BinaryTypes.{tag_at}
+use Rattle.wasm_spec.specs.BinarySections.{Data, data_at}
+use Rattle.wasm_spec.specs.Features.{Features}
+use Rattle.wasm_rules.specs.Parts.{Expression}
 use Rattle.wasm_validator_core.specs.Answers.{TypesSoFar}
 use Rattle.wasm_validator.specs.Standing.{Stage, unparsed, in_module, in_code, ended, failed, Standing, refused_at, read_refused_at, body_refused_at, ended_at, within, within_all, at_stage}
 use Rattle.wasm_validator.specs.States.{begun, code_started, module_ended, after_piece, is_barred}
-use Rattle.wasm_validator.specs.Machine.{no_items, read_section, section_items, start_item, data_count_item, beside}
+use Rattle.wasm_validator_items.specs.Sections.{read_each, read_section}
+use Rattle.wasm_validator_items.specs.Entries.{may_be_stored, add_data}
+use Rattle.wasm_context_laws.specs.ListedTypes.{types_declare}
+use Rattle.wasm_module_validity.specs.Expressions.{expression_at}
+use Rattle.wasm_validator.specs.Machine.{data_items, section_items, start_item, data_count_item, beside}
+use Rattle.wasm_validator.proofs.ItemSteps.{read_back}
 use Rattle.wasm_validator.specs.Table.{phase_of, bodies_at, call_of, AcceptedByTable, RefusedByTable}
 
 stays : (s t : Standing) (o : Option (TypesSoFar × Spaces)) → at_stage s (option_and_then (λ (p : TypesSoFar × Spaces). Some (in_module p.0 p.1)) o) ≡ Some t → phase_of t.stage ≡ table.in_module
@@ -42,15 +50,20 @@ within_stays s t failed f e = absurd cc
 section_accepted : (s t : Standing) (g : Stage) (f : TypesSoFar × Spaces → Option (TypesSoFar × Spaces)) → at_stage s (within f g) ≡ Some t → accepted_to section (phase_of g) ≡ Some (phase_of t.stage)
 section_accepted s t g f e = let h = within_stays s t g f e in ap (accepted_to section) h.0 ∙ ap Some (sym h.1)
 
--- a data section has no items, and changes nothing
-no_items_stay : (n : ℕ) (bytes : List ℕ) (p q : TypesSoFar × Spaces) → beside (λ us. no_items n bytes) p ≡ Some q → p ≡ q
-no_items_stay n bytes p q e =
-    let a = then_some (λ (s : Spaces). Some (p.0, s)) (no_items n bytes p.1) q e in
-    let b = guarded (eqb n 0 && eqb (length bytes) 0) (Some p.1) a.0 a.1 in
-    (λ i. (p.0, same_Some p.1 a.0 b.1 i)) ∙ same_Some (p.0, a.0) q a.2
+-- a data segment changes nothing, and so doesn't a section of them
+segment_stays : (F : Features) (us : TypesSoFar) (s t : Spaces) (d : Data Expression) → add_data F (types_declare us us) s d ≡ Some t → s ≡ t
+segment_stays F us s t d e = same_Some s t (guarded (may_be_stored F (types_declare us us) s d.mode) (Some s) t e).1
+
+segments_stay : (F : Features) (n : ℕ) (bytes : List ℕ) (p q : TypesSoFar × Spaces) → beside (λ us. data_items F us n bytes) p ≡ Some q → p ≡ q
+segments_stay F n bytes p q e =
+    let declares = types_declare p.0 p.0 in
+    let a = then_some (λ (s : Spaces). Some (p.0, s)) (data_items F p.0 n bytes p.1) q e in
+    let b = guarded (leb (0 + n) MAX_DATA_SEGMENTS) (read_each (data_at expression_at) (add_data F declares) n bytes p.1) a.0 a.1 in
+    let same : p.1 ≡ a.0 = read_back (data_at expression_at) (add_data F declares) (λ (u : Spaces). u ≡ a.0) (λ s t d g h. segment_stays F p.0 s t d g ∙ h) n bytes p.1 a.0 b.1 refl in
+    (λ i. (p.0, same i)) ∙ same_Some (p.0, a.0) q a.2
 
 data_stays : (features : WasmFeatures) (id n : ℕ) (bytes : List ℕ) (p q : TypesSoFar × Spaces) → id ≡ 11 → section_items features id n bytes p ≡ Some q → p ≡ q
-data_stays features id n bytes p q h e = no_items_stay n bytes p q (subst (λ k. section_items features k n bytes p ≡ Some q) h e)
+data_stays features id n bytes p q h e = segments_stay (features_of features) n bytes p q (subst (λ k. section_items features k n bytes p ≡ Some q) h e)
 
 -- a step that changes nothing, before the start of the code or behind it
 within_all_stays : (s t : Standing) (g : Stage) (f : TypesSoFar × Spaces → Option (TypesSoFar × Spaces)) → ((p q : TypesSoFar × Spaces) → f p ≡ Some q → p ≡ q) → at_stage s (within_all f g) ≡ Some t → accepted_to data_section (phase_of g) ≡ Some (phase_of t.stage)

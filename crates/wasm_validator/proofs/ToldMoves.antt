@@ -1,27 +1,21 @@
 -- What a section tells, by where the validator stands.
-use Rattle.std.proofs.Common.{◌≡◌, sym, ap, subst, ◌∙◌, ℕ, ◌≤◌, Bool, true, false, cond, eqb, Option, Some, None, arith}
+use Rattle.std.proofs.Common.{◌≡◌, sym, ap, subst, ◌∙◌, ℕ, Option, Some, None}
 use Rattle.std.specs.Prelude.{IfErr, is_ok}
-use Rattle.std.specs.Result.{IsErrAnd}
 use Rattle.std.specs.declared.result.Result.{Result}
 use Rattle.std.specs.declared.result.Result.TheVariants as results
 use Rattle.wasm_readers_errors.specs.Refusals.{plain, refused}
-use Rattle.wasm_readers_errors.specs.declared.error.Fault.{Fault}
 use Rattle.wasm_readers_errors.specs.declared.error.Fault.TheVariants as fault
-use Rattle.wasm_readers_errors.specs.declared.error.Malformed.TheVariants.{SectionSize}
 use Rattle.wasm_readers_errors.specs.declared.error.Refusal.{Refusal}
-use Rattle.wasm_readers_errors.specs.declared.error.Unserved.{Unserved}
 use Rattle.wasm_readers_errors.specs.declared.features.WasmFeatures.{WasmFeatures}
-use Rattle.wasm_readers.specs.SectionsSeen.{count_of, section_start, section_end, first_item_at}
-use Rattle.wasm_readers.specs.declared.section_limited.SectionLimited.{SectionLimited}
 use Rattle.wasm_validator_types.specs.Spaces.{Spaces}
 use Rattle.wasm_validator_core.specs.declared.error.Error.{Error}
 use Rattle.wasm_validator_core.specs.declared.error.Error.TheVariants.{Refused}
 use Rattle.wasm_validator_core.specs.Answers.{TypesSoFar}
 use Rattle.wasm_validator.specs.declared.validator.State.{State}
 use Rattle.wasm_validator.specs.declared.validator.State.TheVariants.{Unparsed, Module, Code, End, Failed}
-use Rattle.wasm_validator.specs.Standing.{Stage, unparsed, in_module, in_code, ended, failed, Standing}
+use Rattle.wasm_validator.specs.Standing.{in_module, Standing}
 use Rattle.wasm_validator.specs.States.{open_of, stage_of, order_at}
-use Rattle.wasm_validator.specs.SectionsTold.{OfContent, StandsBetween, TellsAt, TellsWithin, TellsUnserved, refusal_of_items, order_told}
+use Rattle.wasm_validator.specs.SectionsTold.{OfContent, TellsAt, TellsWithin}
 
 -- a module is being read, before the start of its code
 open_stage : {A : Type 0} (types : TypesSoFar) (s : State A) (m : Spaces) → open_of s ≡ Some m → stage_of types s ≡ in_module types m
@@ -83,48 +77,3 @@ module _ {A : Type 0} where
   checked_told answer (results.Ok x) told place same is tells at = tt
   checked_told (results.Ok y) (results.Err e) told place same is tells at = absurd (cc)
   checked_told (results.Err r) (results.Err e) told place same is tells at = subst (TellsAt place told) (sym is) (sym tells, at)
-
-  -- what is told within a module, for another reason
-  within_map : (tells tells' : TypesSoFar → Spaces → Error A → Type 0) (place : ℕ) (g : Stage) (e : Error A) → ((us : TypesSoFar) (m : Spaces) → tells us m e → tells' us m e) → TellsWithin tells place g e → TellsWithin tells' place g e
-  within_map tells tells' place (unparsed us) e f h = h
-  within_map tells tells' place (in_module us m) e f h = f us m h
-  within_map tells tells' place (in_code us m) e f h = h
-  within_map tells tells' place (ended us) e f h = h
-  within_map tells tells' place failed e f h = h
-
-  unserved_is : {T : Type 0} (answer : Result T Refusal) (x : Refusal) (e : Error A) → IfErr answer (λ r. r ≡ x) → IsErrAnd answer (λ r. e ≡ Refused r) → e ≡ Refused x
-  unserved_is (results.Ok y) x e is h = absurd h
-  unserved_is (results.Err r) x e is h = h ∙ ap Refused is
-
-  module _ {T B : Type 0} (section : SectionLimited T B) (what : Unserved) (place : ℕ) (g : Stage) where
-    -- a section that isn't served
-    pub unserved_told : {U V : Type 0} (answer : Result U Refusal) (result : Result V (Error A)) → IfErr answer (λ r. r ≡ refusal_of_items section what)
-        → IfErr result (TellsWithin (λ us m e. IsErrAnd answer (λ r. e ≡ Refused r)) place g) → IfErr result (TellsWithin (TellsUnserved section what) place g)
-    unserved_told answer (results.Ok x) is h = tt
-    unserved_told answer (results.Err e) is h =
-        within_map (λ us m w. IsErrAnd answer (λ r. w ≡ Refused r)) (TellsUnserved section what) place g e (λ us m w. unserved_is answer (refusal_of_items section what) e is w) h
-
--- where one of two refusals stands
-either_between : {A : Type 0} (e : Error A) (from to first start : ℕ) (a b : Fault) (is : Bool) → e ≡ Refused (cond is (plain a first) (plain b start)) → from ≤ first → first ≤ to → from ≤ start → start ≤ to → StandsBetween from to e
-either_between e from to first start a b true is h i j k = subst (StandsBetween from to) (sym is) (h, i)
-either_between e from to first start a b false is h i j k = subst (StandsBetween from to) (sym is) (j, k)
-
-module _ {A T B : Type 0} (section : SectionLimited T B) (what : Unserved) (inside : first_item_at section ≤ section_end section) where
-  abbrev Between : Error A → Type 0
-  Between e = StandsBetween (section_start section) (section_end section) e
-
-  at_start : (e : Error A) (f : Fault) → e ≡ Refused (plain f (section_start section)) → Between e
-  at_start e f is = subst (StandsBetween (section_start section) (section_end section)) (sym is) (omega arith, omega (arith, inside))
-
-  place_of_told : (g : Stage) (e : Error A) → TellsWithin (TellsUnserved section what) (section_start section) g e → Between e
-  place_of_told (unparsed us) e h = at_start e (fault.OutOfOrder (order_told (unparsed us))) h
-  place_of_told (in_module us m) e h =
-      either_between e (section_start section) (section_end section) (first_item_at section) (section_start section) (fault.Malformed SectionSize) (fault.NotServed what) (eqb (count_of section) 0) h (omega arith) inside (omega arith) (omega (arith, inside))
-  place_of_told (in_code us m) e h = at_start e (fault.OutOfOrder (order_told (in_code us m))) h
-  place_of_told (ended us) e h = at_start e (fault.OutOfOrder (order_told (ended us))) h
-  place_of_told failed e h = at_start e (fault.OutOfOrder (order_told failed)) h
-
-  -- where the refusal of a section stands that isn't served
-  pub unserved_place : {V : Type 0} (g : Stage) (result : Result V (Error A)) → IfErr result (TellsWithin (TellsUnserved section what) (section_start section) g) → IfErr result (λ e. StandsBetween (section_start section) (section_end section) e)
-  unserved_place g (results.Ok x) h = tt
-  unserved_place g (results.Err e) h = place_of_told g e h

@@ -12,11 +12,9 @@ use Rattle.wasm_spec.specs.Features.{Features, canonical}
 use Rattle.wasm_spec.specs.Trees.{DefType}
 use Rattle.wasm_spec.specs.TypeLaws.{HasNoRepetition}
 use Rattle.wasm_rules.specs.FeatureFlags.{features_of}
-use Rattle.wasm_rules.specs.Parts.{Parts}
 use Rattle.wasm_rules.specs.IndexSpaces.{IndexSpaces, index_spaces}
-use Rattle.wasm_rules.specs.Sections.{each, ranks}
+use Rattle.wasm_rules.specs.Sections.{each}
 use Rattle.wasm_rules.proofs.FramedOrder.{IsInner, AreInner, others_inner, others_follow}
-use Rattle.wasm_rules.proofs.Ordered.{Follows}
 use Rattle.wasm_rules.proofs.Tests.{then_some}
 use Rattle.wasm_readers_errors.specs.declared.features.WasmFeatures.{WasmFeatures}
 use Rattle.wasm_validator_types.specs.Spaces.{Spaces, no_spaces}
@@ -27,18 +25,17 @@ use Rattle.wasm_validator_core.specs.declared.error.Error.{Error}
 use Rattle.wasm_validator_core.specs.declared.error.Error.TheVariants.{Refused, DuplicateExport, OutOfMemory}
 use Rattle.wasm_validator_canonical.specs.Groups.{AreValid}
 use Rattle.wasm_validator_core.specs.Answers.{TypesSoFar, HasValidTypes}
-use Rattle.wasm_validator.specs.Served.{is_served_piece}
-use Rattle.wasm_validator.specs.Standing.{Stage, Standing, unparsed, in_module, in_code, ended, failed, fresh, shown_at, AreValidAt, HoldsValid}
+use Rattle.wasm_distinct_type_laws.specs.Apart.{AreApart}
+use Rattle.wasm_validator.specs.Standing.{Stage, Standing, unparsed, in_module, in_code, ended, failed, fresh, shown_at, HoldsAt, AreValidAt, HoldsValid}
 use Rattle.wasm_validator.specs.States.{after_piece, after_version, IsBeforeEnd}
 use Rattle.wasm_validator.specs.Payloads.{Show, after_all, Accepts, Rejects, Validates}
 use Rattle.wasm_validator.specs.Shows.{ShowModule}
-use Rattle.wasm_validator.specs.Verdict.{Expressions, IsServedModule, AcceptsModule, RefusesModule, DecidesModule, DecidesAlone}
+use Rattle.wasm_validator.specs.Verdict.{StandsApart, IsServedModule, AcceptsModule, RefusesModule, DecidesModule, DecidesAlone}
 use Rattle.wasm_validator.proofs.AddedTypes.{section, type_space, list_after}
-use Rattle.wasm_validator.proofs.ModuleRun.{step, AreParts, run_allowed, no_zero, restrict, served_ranks}
-use Rattle.wasm_validator.proofs.EmptyPieces.{with_items, run_with_items, served_parts, follow_with_items}
+use Rattle.wasm_validator.proofs.ModuleRun.{step, is_part, are_parts, run_allowed}
 use Rattle.wasm_validator.proofs.CodeOrder.{ranks_in_order}
 use Rattle.wasm_validator.proofs.PieceRuns.{at, shown_in, ends_in, went, goes}
-use Rattle.wasm_validator.proofs.ServedLists.{parts_of}
+use Rattle.wasm_validator.proofs.UsedLaws.{UsedLaws}
 use Rattle.wasm_validator.proofs.RunOfParts.{Accepted, end_of, ran, runs}
 use Rattle.wasm_validator.proofs.ServedModules.{accepted_valid, valid_accepted}
 
@@ -95,9 +92,6 @@ begin_case old number kind s failed w e = absurd cc
 begins : (old : Standing) (number kind : ℕ) (s : Standing) → after_piece old (Version number kind) ≡ Some s → Begins old number kind s
 begins old number kind s e = begin_case old number kind s old.stage refl e
 
-no_rank_is_zero : no_zero ranks
-no_rank_is_zero = ((λ e. cc), ((λ e. cc), ((λ e. cc), ((λ e. cc), ((λ e. cc), ((λ e. cc), ((λ e. cc), ((λ e. cc), ((λ e. cc), ((λ e. cc), ((λ e. cc), ((λ e. cc), ((λ e. cc), ((λ e. cc), tt))))))))))))))
-
 -- the header and what is inside are before the end
 front_is : (header : Piece) (xs front behind : List Piece) → AreInner xs → header ∷ (xs ++ parts.End ∷ []) ≡ front ++ parts.End ∷ behind → IsBeforeEnd header → front ≡ header ∷ xs
 front_is header xs [] behind i e b = absurd (let same : header ≡ parts.End = cc in subst IsBeforeEnd same b)
@@ -105,10 +99,6 @@ front_is header xs (y ∷ front) behind i e b =
     let same : header ≡ y = cc in
     let rest : xs ++ parts.End ∷ [] ≡ front ++ parts.End ∷ behind = cc in
     λ j. sym same j ∷ unique_end xs front behind i rest j
-
--- parts in the order of the ranks of the sections that are served
-parts_follow : (bytes : List ℕ) (pieces : List Piece) (f : IsFramed bytes pieces) → AreParts (with_items f.others) → Follows served_ranks (with_items f.others)
-parts_follow bytes pieces f a = restrict ranks (with_items f.others) no_rank_is_zero a (follow_with_items ranks f.others (others_follow bytes pieces f))
 
 the_same : {X : Type 0} (x y : X) → Some x ≡ Some y → x ≡ y
 the_same x y e = cc
@@ -119,8 +109,8 @@ record RunsInside {A : Type 0} (bytes : List ℕ) (old new : Standing) (t : show
   was : old.stage ≡ unparsed before
   header : Version f.number f.kind ≡ Version 1 0
   q : TypesSoFar × Spaces
-  inside : each (step old.features) (before, no_spaces) (with_items f.others) ≡ Some q
-  served : list_all is_served_piece f.others ≡ true
+  inside : each (step old.features) (before, no_spaces) f.others ≡ Some q
+  known : list_all is_part f.others ≡ true
   valid : HasValidTypes old.features q
   after : new ≡ record old { stage = ended q.0 }
   list : q.0 ≡ types_of_list (shown_of t).list
@@ -163,8 +153,8 @@ runs_inside bytes old new t a =
       was = b.was;
       header = b.header;
       q = q;
-      inside = sym (run_with_items old.features f.others start) ∙ m.ran;
-      served = m.served;
+      inside = m.ran;
+      known = m.known;
       valid = subst (AreValid (features_of old.features)) (sym (λ i. (pair i).0)) (subst (λ (s : Standing). AreValid (features_of s.features) (types_of_list (shown_of t).list)) (sym at_end) a.shown.valid);
       after = sym stood;
       list = λ i. (pair i).0;
@@ -174,22 +164,19 @@ runs_inside bytes old new t a =
     }
 
 -- what the lists at the end show
-module _ (expression_at : Expressions) (features : WasmFeatures) (T : TypesSoFar) (ps : List Piece) (a : Accepted expression_at features T ps) where
+module _ (features : WasmFeatures) (T : TypesSoFar) (ps : List Piece) (a : Accepted features T ps) where
   abbrev F : Features
   F = features_of features
 
-  abbrev pub end_parts : Parts
-  end_parts = parts_of a.lists
-
   abbrev pub end_space : List DefType
-  end_space = type_space features T a.lists.groups a.types
+  end_space = type_space features T a.parts.groups a.types
 
   abbrev pub end_spaces : IndexSpaces
-  end_spaces = index_spaces end_space end_parts
+  end_spaces = index_spaces end_space a.parts
 
-  pub ends_shown : (canonical F ≡ true → HasNoRepetition (list_after features T a.lists.groups a.types)) → ShowModule F (end_of expression_at features T ps a).0 (end_of expression_at features T ps a).1 end_spaces end_parts
+  pub ends_shown : (canonical F ≡ true → HasNoRepetition (list_after features T a.parts.groups a.types)) → ShowModule F (end_of features T ps a).0 (end_of features T ps a).1 end_spaces a.parts
   ends_shown once = record {
-    types = (section features T a.lists.groups a.types).stand;
+    types = (section features T a.parts.groups a.types).stand;
     one_id = once;
     functions = refl;
     tables = refl;
@@ -198,28 +185,28 @@ module _ (expression_at : Expressions) (features : WasmFeatures) (T : TypesSoFar
     tags = refl;
     imports = refl;
     exports = refl;
-    no_elements = refl;
+    elements = refl;
   }
 
 -- what is accepted is a valid module, and its types show it
-pub accepts_valid : {A : Type 0} (bytes : List ℕ) (old new : Standing) (t : shown.Types A) → Accepts bytes old new t → (expression_at : Expressions) → AcceptsModule expression_at bytes old new t
-accepts_valid bytes old new t a expression_at =
+pub accepts_valid : {A : Type 0} → UsedLaws → (bytes : List ℕ) (old new : Standing) (t : shown.Types A) → StandsApart old → Accepts bytes old new t → AcceptsModule bytes old new t
+accepts_valid laws bytes old new t apart a =
     let f = a.framed in
     let r = runs_inside bytes old new t a in
-    let ps = with_items f.others in
-    let parts = served_parts f.others r.served (others_inner bytes a.pieces f) in
-    let allowed = run_allowed old.features ps (r.before, no_spaces) r.q parts r.inside in
-    let run = ran expression_at old.features r.before ps parts (parts_follow bytes a.pieces f parts) allowed r.q r.valid r.inside in
-    let acc = run.accepted in
     let F = features_of old.features in
-    let C = end_spaces expression_at old.features r.before ps acc in
-    let its = end_parts expression_at old.features r.before ps acc in
-    let there : end_of expression_at old.features r.before ps acc ≡ (types_of_list (shown_of t).list, (shown_of t).spaces) = run.ends ∙ (λ i. (r.list i, r.spaces i)) in
-    let once : canonical F ≡ true → HasNoRepetition (end_of expression_at old.features r.before ps acc).0 = λ e. subst HasNoRepetition (sym (λ i. (there i).0)) (r.once e) in
-    let held = section old.features r.before acc.lists.groups acc.types in
+    let ps = f.others in
+    let parts = are_parts ps r.known (others_inner bytes a.pieces f) in
+    let allowed = run_allowed old.features ps (r.before, no_spaces) r.q parts r.inside in
+    let begun_apart : AreApart (canonical F) r.before = subst (HoldsAt (AreApart (canonical F))) r.was apart in
+    let run = ran laws old.features r.before ps parts (others_follow bytes a.pieces f) allowed begun_apart r.q r.valid r.inside in
+    let acc = run.accepted in
+    let C = end_spaces old.features r.before ps acc in
+    let there : end_of old.features r.before ps acc ≡ (types_of_list (shown_of t).list, (shown_of t).spaces) = run.ends ∙ (λ i. (r.list i, r.spaces i)) in
+    let once : canonical F ≡ true → HasNoRepetition (end_of old.features r.before ps acc).0 = λ e. subst HasNoRepetition (sym (λ i. (there i).0)) (r.once e) in
+    let held = section old.features r.before acc.parts.groups acc.types in
     record {
-      module_valid = accepted_valid expression_at old.features r.before bytes a.pieces f r.header parts allowed acc;
-      shows = subst (λ (x : TypesSoFar × Spaces). ShowModule F x.0 x.1 C its) there (ends_shown expression_at old.features r.before ps acc once);
+      module_valid = accepted_valid old.features r.before bytes a.pieces f r.header parts allowed acc;
+      shows = subst (λ (x : TypesSoFar × Spaces). ShowModule F x.0 x.1 C acc.parts) there (ends_shown old.features r.before ps acc once);
       same_id = r.same_id;
       before = r.before;
       began = r.was;
@@ -234,15 +221,15 @@ accepts_valid bytes old new t a expression_at =
 begins_at : (old : Standing) (T : TypesSoFar) (number kind : ℕ) → old.stage ≡ unparsed T → Version number kind ≡ Version 1 0 → after_piece old (Version number kind) ≡ Some (at old.id old.features false (T, no_spaces))
 begins_at old T number kind w e = ap (after_piece old) e ∙ ap (λ (g : Stage). after_version (record old { stage = g }) 1 true) w
 
-pub rejects_refuses : (bytes : List ℕ) (old : Standing) → HoldsValid old → Rejects bytes old → RefusesModule bytes old
-rejects_refuses bytes old valid rejects expression_at T w m room =
+pub rejects_refuses : UsedLaws → (bytes : List ℕ) (old : Standing) → HoldsValid old → StandsApart old → Rejects bytes old → RefusesModule bytes old
+rejects_refuses laws bytes old valid apart rejects T w m room =
+    let F = features_of old.features in
     let v = m.module_valid.well_formed in
     let f = v.framed in
-    let a = valid_accepted expression_at old.features T bytes (subst (AreValidAt old.features) w valid) v m.served room in
+    let a = valid_accepted old.features T bytes (subst (AreValidAt old.features) w valid) m.module_valid m.served room in
     let start : TypesSoFar × Spaces = (T, no_spaces) in
-    let ps = with_items f.others in
-    let q = end_of expression_at old.features T ps a.accepted in
-    let inside = run_with_items old.features f.others start ∙ runs expression_at old.features T ps a.parts (parts_follow bytes v.pieces f a.parts) a.allowed a.accepted in
+    let q = end_of old.features T f.others a.accepted in
+    let inside = runs laws old.features T f.others a.parts (others_follow bytes v.pieces f) a.allowed (subst (HoldsAt (AreApart (canonical F))) w apart) a.accepted in
     let inner = others_inner bytes v.pieces f in
     let through = goes old.id old.features f.others start q inner (ranks_in_order f.others (others_follow bytes v.pieces f)) inside in
     let ended_there : after_all old v.pieces ≡ Some (record old { stage = ended q.0 }) =
@@ -254,16 +241,16 @@ rejects_refuses bytes old valid rejects expression_at T w m room =
     rejects v.pieces f (record old { stage = ended q.0 }) ended_there a.accepted.types.valid
 
 -- no module has more types than a list may hold
-room_alone : (features : WasmFeatures) (id : ℕ) (bytes : List ℕ) → RefusesModule bytes (fresh id features) → (expression_at : Expressions) → IsServedModule expression_at features bytes → ⊥
-room_alone features id bytes h expression_at m = let few = m.module_valid.well_formed.rules.limits.types in h expression_at [] refl m (omega (arith, few))
+room_alone : (features : WasmFeatures) (id : ℕ) (bytes : List ℕ) → RefusesModule bytes (fresh id features) → IsServedModule features bytes → ⊥
+room_alone features id bytes h m = let few = m.module_valid.well_formed.rules.limits.types in h [] refl m (omega (arith, few))
 
 -- the answers
 module _ {A : Type 0} where
-  pub decides : (bytes : List ℕ) (old new : Standing) (r : Result (shown.Types A) (Error A)) → HoldsValid old → Validates r bytes old new → DecidesModule r bytes old new
-  decides bytes old new (results.Ok t) valid v = accepts_valid bytes old new t v
-  decides bytes old new (results.Err (Refused e)) valid v = (rejects_refuses bytes old valid v.0, v.1)
-  decides bytes old new (results.Err (DuplicateExport name offset)) valid v = (rejects_refuses bytes old valid v.0, v.1)
-  decides bytes old new (results.Err OutOfMemory) valid v = v
+  pub decides : UsedLaws → (bytes : List ℕ) (old new : Standing) (r : Result (shown.Types A) (Error A)) → HoldsValid old → StandsApart old → Validates r bytes old new → DecidesModule r bytes old new
+  decides laws bytes old new (results.Ok t) valid apart v = accepts_valid laws bytes old new t apart v
+  decides laws bytes old new (results.Err (Refused e)) valid apart v = (rejects_refuses laws bytes old valid apart v.0, v.1)
+  decides laws bytes old new (results.Err (DuplicateExport name offset)) valid apart v = (rejects_refuses laws bytes old valid apart v.0, v.1)
+  decides laws bytes old new (results.Err OutOfMemory) valid apart v = v
 
   -- the list has each id of a module that was accepted
   pub accepts-ids : (bytes : List ℕ) (old new : Standing) (r : Result (shown.Types A) (Error A)) → Validates r bytes old new → IfOk r (λ t. HoldsIds (shown_of t))
@@ -271,7 +258,7 @@ module _ {A : Type 0} where
   accepts-ids bytes old new (results.Err e) v = tt
 
   pub decides_alone : (bytes : List ℕ) (id : ℕ) (features : WasmFeatures) (new : Standing) (r : Result (shown.Types A) (Error A)) → DecidesModule r bytes (fresh id features) new → DecidesAlone r bytes id features
-  decides_alone bytes id features new (results.Ok t) v = λ e. (new, v e)
+  decides_alone bytes id features new (results.Ok t) v = (new, v)
   decides_alone bytes id features new (results.Err (Refused e)) v = (room_alone features id bytes v.0, (new, v.1))
   decides_alone bytes id features new (results.Err (DuplicateExport name offset)) v = (room_alone features id bytes v.0, (new, v.1))
   decides_alone bytes id features new (results.Err OutOfMemory) v = tt

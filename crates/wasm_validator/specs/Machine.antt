@@ -1,29 +1,24 @@
 -- What one section changes: the machine that the validator is, over that of a module's state.
-use Rattle.std.specs.Prelude.{ℕ, zero, suc, ◌+◌, ◌==◌, ◌&&◌, nat_le, if◌then◌else◌, List, length, Option, Some, None}
+use Rattle.std.specs.Prelude.{ℕ, ◌==◌, if◌then◌else◌, List, length, Option, Some, None}
 use Rattle.std.specs.Option.{option_and_then}
 use Rattle.wasm_spec.specs.Values.{u32_at}
 use Rattle.wasm_spec.specs.BinaryModules.{import_at, export_at}
 use Rattle.wasm_spec.specs.BinaryTypes.{rec_at, memory_at, tag_at}
+use Rattle.wasm_spec.specs.BinarySections.{table_entry_at, global_entry_at, element_at, data_at}
 use Rattle.wasm_spec.specs.Features.{Features}
 use Rattle.wasm_rules.specs.FeatureFlags.{features_of}
 use Rattle.wasm_rules.specs.Limits.{most_tables, most_memories}
-use Rattle.wasm_readers.specs.Tables.{Head, table_head_at}
 use Rattle.wasm_readers.specs.Written.{written}
 use Rattle.wasm_readers_errors.specs.declared.features.WasmFeatures.{WasmFeatures}
 use Rattle.wasm_validator_types.specs.Spaces.{Spaces}
-use Rattle.wasm_validator_core.specs.declared.limits.TheConstants.{MAX_TYPES, MAX_IMPORTS, MAX_FUNCTIONS, MAX_TAGS, MAX_EXPORTS}
+use Rattle.wasm_validator_core.specs.declared.limits.TheConstants.{MAX_TYPES, MAX_IMPORTS, MAX_FUNCTIONS, MAX_GLOBALS, MAX_TAGS, MAX_EXPORTS, MAX_ELEMENT_SEGMENTS, MAX_DATA_SEGMENTS}
 use Rattle.wasm_validator_core.specs.Machine.{add_group}
-use Rattle.wasm_validator_core.specs.Items.{is_startable, is_data_count, add_import, add_function, add_table, add_memory, add_tag, add_export}
+use Rattle.wasm_validator_core.specs.Items.{is_startable, is_data_count, add_import, add_function, add_memory, add_tag, add_export}
 use Rattle.wasm_validator_core.specs.Answers.{TypesSoFar}
-
--- so many items, one after another, and nothing behind them
-abbrev pub read_each : {S V : Type 0} → (List ℕ → Option (V × List ℕ)) → (S → V → Option S) → ℕ → List ℕ → S → Option S
-read_each encoded add zero bytes s = if length bytes == 0 then Some s else None
-read_each encoded add (suc n) bytes s = option_and_then (λ x. option_and_then (λ t. read_each encoded add n x.1 t) (add s x.0)) (encoded bytes)
-
--- a section: a count that keeps to the limit with what is there, and that many items
-abbrev pub read_section : {S V : Type 0} → (List ℕ → Option (V × List ℕ)) → (S → V → Option S) → ℕ → ℕ → ℕ → List ℕ → S → Option S
-read_section encoded add there most count bytes s = if nat_le (there + count) most then read_each encoded add count bytes s else None
+use Rattle.wasm_context_laws.specs.ListedTypes.{types_declare}
+use Rattle.wasm_module_validity.specs.Expressions.{expression_at}
+use Rattle.wasm_validator_items.specs.Sections.{read_section}
+use Rattle.wasm_validator_items.specs.Entries.{add_table_entry, add_global_entry, add_element, add_data}
 
 abbrev pub type_items : WasmFeatures → ℕ → List ℕ → TypesSoFar × Spaces → Option (TypesSoFar × Spaces)
 type_items features count bytes p = read_section (rec_at written) (add_group features) (length p.1.types) MAX_TYPES count bytes p
@@ -34,12 +29,22 @@ import_items F us count bytes s = read_section (import_at written) (add_import F
 abbrev pub function_items : TypesSoFar → ℕ → List ℕ → Spaces → Option Spaces
 function_items us count bytes s = read_section u32_at (add_function us) (length s.functions) MAX_FUNCTIONS count bytes s
 
--- a table by its first part; one with an initializer isn't served yet
-unfoldable pub add_table_head : Features → TypesSoFar → Spaces → Head → Option Spaces
-add_table_head F us s h = if h.has_init then None else add_table F us s h.ty
-
+-- constant expressions are typed over what the ids of all types so far declare
 abbrev pub table_items : Features → TypesSoFar → ℕ → List ℕ → Spaces → Option Spaces
-table_items F us count bytes s = read_section table_head_at (add_table_head F us) (length s.tables) (most_tables F) count bytes s
+table_items F us count bytes s =
+    read_section (table_entry_at expression_at written) (add_table_entry F (types_declare us us) us) (length s.tables) (most_tables F) count bytes s
+
+abbrev pub global_items : Features → TypesSoFar → ℕ → List ℕ → Spaces → Option Spaces
+global_items F us count bytes s =
+    read_section (global_entry_at expression_at written) (add_global_entry F (types_declare us us) us) (length s.globals) MAX_GLOBALS count bytes s
+
+abbrev pub element_items : Features → TypesSoFar → ℕ → List ℕ → Spaces → Option Spaces
+element_items F us count bytes s =
+    read_section (element_at expression_at written) (add_element F (types_declare us us)) (length s.elements) MAX_ELEMENT_SEGMENTS count bytes s
+
+-- data segments aren't kept, so that a section's count is asked for alone
+abbrev pub data_items : Features → TypesSoFar → ℕ → List ℕ → Spaces → Option Spaces
+data_items F us count bytes s = read_section (data_at expression_at) (add_data F (types_declare us us)) 0 MAX_DATA_SEGMENTS count bytes s
 
 abbrev pub memory_items : Features → ℕ → List ℕ → Spaces → Option Spaces
 memory_items F count bytes s = read_section memory_at (add_memory F) (length s.memories) (most_memories F) count bytes s
@@ -51,10 +56,6 @@ export_items F us count bytes s = read_section export_at (add_export F us) (leng
 abbrev pub tag_items : Features → TypesSoFar → ℕ → List ℕ → Spaces → Option Spaces
 tag_items F us count bytes s = if F.exceptions then read_section tag_at (add_tag F us) (length s.tags) MAX_TAGS count bytes s else None
 
--- globals, element segments and data segments need constant expressions, which aren't served yet: none of them
-abbrev pub no_items : ℕ → List ℕ → Spaces → Option Spaces
-no_items count bytes s = if count == 0 && length bytes == 0 then Some s else None
-
 -- a section by its id, where the types of all modules so far are these
 abbrev pub other_items : Features → TypesSoFar → ℕ → ℕ → List ℕ → Spaces → Option Spaces
 other_items F us id count bytes s =
@@ -62,10 +63,10 @@ other_items F us id count bytes s =
     else (if id == 3 then function_items us count bytes s
     else (if id == 4 then table_items F us count bytes s
     else (if id == 5 then memory_items F count bytes s
-    else (if id == 6 then no_items count bytes s
+    else (if id == 6 then global_items F us count bytes s
     else (if id == 7 then export_items F us count bytes s
-    else (if id == 9 then no_items count bytes s
-    else (if id == 11 then no_items count bytes s
+    else (if id == 9 then element_items F us count bytes s
+    else (if id == 11 then data_items F us count bytes s
     else (if id == 13 then tag_items F us count bytes s
     else None))))))))
 

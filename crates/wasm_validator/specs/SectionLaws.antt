@@ -1,35 +1,38 @@
 -- What each section adds to a module, in the words of the definition: behind any lists that the module has so far a
 -- section is accepted exactly where its bytes are items that keep their rules on these lists and the limit, and then the
 -- list has these items behind. Core Specification 3.0, Validation, Modules.
-use Rattle.std.specs.Prelude.{ℕ, ◌≡◌, ◌↔◌, ◌≤◌, ◌+◌, ◌++◌, List, [], ◌∷◌, map, length, Option, Some, IsTrue}
+use Rattle.std.specs.Prelude.{ℕ, ◌≡◌, ◌↔◌, ◌≤◌, ◌+◌, ◌++◌, List, [], ◌∷◌, length, Option, Some, IsTrue}
 use Rattle.std.specs.List.{All}
-use Rattle.wasm_spec.specs.Syntax.{Rec}
+use Rattle.wasm_spec.specs.Syntax.{Rec, reference, map_ref, map_val}
 use Rattle.wasm_spec.specs.Values.{u32_at, items_at}
 use Rattle.wasm_spec.specs.BinaryModules.{import_at, export_at}
 use Rattle.wasm_spec.specs.BinaryTypes.{rec_at, memory_at, tag_at}
-use Rattle.wasm_spec.specs.BinarySections.{table_entry_at}
+use Rattle.wasm_spec.specs.BinarySections.{TableEntry, GlobalEntry, Element, Data, table_entry_at, global_entry_at, element_at, data_at}
 use Rattle.wasm_spec.specs.Closing.{closed, positions}
 use Rattle.wasm_spec.specs.Features.{Features, canonical}
 use Rattle.wasm_spec.specs.GroupRules.{IsValidType}
 use Rattle.wasm_spec.specs.Trees.{RecTree, DefType, declared}
 use Rattle.wasm_rules.specs.FeatureFlags.{features_of}
-use Rattle.wasm_rules.specs.Parts.{index}
-use Rattle.wasm_rules.specs.IndexSpaces.{IndexSpaces, IsFunctionType, table_type}
-use Rattle.wasm_rules.specs.ItemRules.{IsValidTableEntry, IsValidMemory, IsValidTag}
+use Rattle.wasm_rules.specs.Parts.{Expression, index}
+use Rattle.wasm_rules.specs.IndexSpaces.{IndexSpaces, IsFunctionType}
+use Rattle.wasm_rules.specs.ItemRules.{IsValidTableEntry, IsValidMemory, IsValidTag, IsValidGlobal}
 use Rattle.wasm_rules.specs.LinkRules.{IsValidExport}
 use Rattle.wasm_rules.specs.Limits.{most_tables, most_memories}
 use Rattle.wasm_readers_types.specs.declared.indices.TheConstants.{MAX_IDS}
+use Rattle.wasm_readers.specs.Written.{written}
 use Rattle.wasm_validator_canonical.specs.Groups.{placed, held}
 use Rattle.wasm_item_checks.specs.Laws.{Stand}
 use Rattle.wasm_validator_types.specs.Spaces.{Spaces}
 use Rattle.wasm_validator_core.specs.Answers.{TypesSoFar}
 use Rattle.wasm_validator_core_laws.specs.Exports.{HasSpaces, FitExports, with_exports}
 use Rattle.wasm_validator_core_laws.specs.Imports.{KeepsLimits, FitsImport, with_entry}
-use Rattle.wasm_validator_core_laws.specs.Lists.{has_no_init}
-use Rattle.wasm_validator_core_laws.specs.Shown.{listed_table}
+use Rattle.wasm_validator_core_laws.specs.Shown.{listed, listed_table, listed_global, listed_element}
+use Rattle.wasm_context_laws.specs.ListedTypes.{types_declare}
+use Rattle.wasm_module_validity.specs.Expressions.{expression_at}
+use Rattle.wasm_validator_items.specs.Entries.{is_constant_of, is_constant_or_none, are_items, may_be_placed, may_be_stored}
+use Rattle.wasm_validator_items_laws.specs.Maps.{map_items}
 use Rattle.wasm_validator.specs.Standing.{Standing, in_module, HoldsValid}
 use Rattle.wasm_validator.specs.States.{after_section}
-use Rattle.wasm_validator.specs.Verdict.{Expressions}
 
 -- A module is being read, before the start of its code: the types of all modules, its lists, and its own types, which
 -- stand in the list of types under the ids of its list.
@@ -51,14 +54,6 @@ FunctionsAdd =
     (old new : Standing) (us : TypesSoFar) (m : Spaces) (types : List DefType) (count : ℕ) (bytes : List ℕ) → IsReading old us m types
     → (after_section old 3 count bytes ≡ Some new)
     ↔ HasAdded u32_at (IsFunctionType types) (length m.functions) 1000000 (λ xs. record m { functions = m.functions ++ xs }) old new us count bytes
-
--- tables, of which those with initializers aren't served yet
-abbrev pub TablesAdd : Type 0
-TablesAdd =
-    (expression_at : Expressions) (old new : Standing) (us : TypesSoFar) (m : Spaces) (types : List DefType) (count : ℕ) (bytes : List ℕ) → IsReading old us m types
-    → (after_section old 4 count bytes ≡ Some new)
-    ↔ HasAdded (table_entry_at expression_at index) (λ t. has_no_init t × IsValidTableEntry (features_of old.features) types t) (length m.tables) (most_tables (features_of old.features))
-    (λ ts. record m { tables = m.tables ++ map (listed_table m.types) (map table_type ts) }) old new us count bytes
 
 abbrev pub MemoriesAdd : Type 0
 MemoriesAdd =
@@ -88,6 +83,47 @@ pub record HasAddedEach {V : Type 0} (reads : List ℕ → Option (V × List ℕ
   pub lists : Spaces
   pub added : AddsEach rule next m items lists
   pub after : new ≡ record old { stage = in_module us lists }
+
+-- Items with constant expressions, each typed in the module as far as it has been read, over what the ids of all types declare.
+abbrev pub FitsTable : Features → TypesSoFar → List DefType → Spaces → TableEntry Expression ℕ → Type 0
+FitsTable F us types m t = IsValidTableEntry F types t × IsTrue (is_constant_or_none F (types_declare us us) m (reference (map_ref (listed m.types) t.ty.element)) t.init)
+
+abbrev pub FitsGlobal : Features → TypesSoFar → List DefType → Spaces → GlobalEntry Expression ℕ → Type 0
+FitsGlobal F us types m g = IsValidGlobal F types g.ty × IsTrue (is_constant_of F (types_declare us us) m (map_val (listed m.types) g.ty.content) g.init)
+
+abbrev pub FitsElement : Features → TypesSoFar → Spaces → Element Expression ℕ → Type 0
+FitsElement F us m e = IsTrue (are_items F (types_declare us us) m (map_items written e.items)) × IsTrue (may_be_placed F (types_declare us us) m (listed_element m.types e) e.mode)
+
+abbrev pub FitsData : Features → TypesSoFar → Spaces → Data Expression → Type 0
+FitsData F us m d = IsTrue (may_be_stored F (types_declare us us) m d.mode)
+
+abbrev pub TablesAdd : Type 0
+TablesAdd =
+    (old new : Standing) (us : TypesSoFar) (m : Spaces) (types : List DefType) (count : ℕ) (bytes : List ℕ) → IsReading old us m types
+    → (after_section old 4 count bytes ≡ Some new)
+    ↔ HasAddedEach (table_entry_at expression_at index) (FitsTable (features_of old.features) us types) (λ s t. record s { tables = s.tables ++ listed_table s.types t.ty ∷ [] })
+    (length m.tables) (most_tables (features_of old.features)) old new us m count bytes
+
+abbrev pub GlobalsAdd : Type 0
+GlobalsAdd =
+    (old new : Standing) (us : TypesSoFar) (m : Spaces) (types : List DefType) (count : ℕ) (bytes : List ℕ) → IsReading old us m types
+    → (after_section old 6 count bytes ≡ Some new)
+    ↔ HasAddedEach (global_entry_at expression_at index) (FitsGlobal (features_of old.features) us types) (λ s g. record s { globals = s.globals ++ listed_global s.types g.ty ∷ [] })
+    (length m.globals) 1000000 old new us m count bytes
+
+abbrev pub ElementsAdd : Type 0
+ElementsAdd =
+    (old new : Standing) (us : TypesSoFar) (m : Spaces) (types : List DefType) (count : ℕ) (bytes : List ℕ) → IsReading old us m types
+    → (after_section old 9 count bytes ≡ Some new)
+    ↔ HasAddedEach (element_at expression_at index) (FitsElement (features_of old.features) us) (λ s e. record s { elements = s.elements ++ listed_element s.types e ∷ [] })
+    (length m.elements) 100000 old new us m count bytes
+
+-- data segments leave the lists as they are
+abbrev pub SegmentsAdd : Type 0
+SegmentsAdd =
+    (old new : Standing) (us : TypesSoFar) (m : Spaces) (types : List DefType) (count : ℕ) (bytes : List ℕ) → IsReading old us m types
+    → (after_section old 11 count bytes ≡ Some new)
+    ↔ HasAddedEach (data_at expression_at) (FitsData (features_of old.features) us) (λ s d. s) 0 100000 old new us m count bytes
 
 -- imports, behind lists that keep their limits
 abbrev pub ImportsAdd : Type 0

@@ -14,20 +14,17 @@ use Rattle.wasm_readers_errors.specs.declared.error.Counted.{Counted}
 use Rattle.wasm_readers_errors.specs.declared.error.Counted.TheVariants as counted
 use Rattle.wasm_readers_errors.specs.declared.error.Fault.{Fault}
 use Rattle.wasm_readers_errors.specs.declared.error.Fault.TheVariants as fault
-use Rattle.wasm_readers_errors.specs.declared.error.Malformed.TheVariants.{SectionSize}
 use Rattle.wasm_readers_errors.specs.declared.error.OutOfOrder.{OutOfOrder}
 use Rattle.wasm_readers_errors.specs.declared.error.OutOfOrder.TheVariants.{SectionBeforeHeader, SectionAfterEnd, Header, EndBeforeHeader, EndAfterEnd, SectionAfterFailure, SectionAfterCodeStart, CodeEntryBeforeCodeStart, CodeEntryWithoutFunction}
 use Rattle.wasm_readers_errors.specs.declared.error.Refusal.{Refusal}
 use Rattle.wasm_readers_errors.specs.declared.error.Rule.TheVariants.{ComponentModelLeftOut, Exceptions}
-use Rattle.wasm_readers_errors.specs.declared.error.Unserved.{Unserved}
-use Rattle.wasm_readers_errors.specs.declared.error.Unserved.TheVariants.{TableInitializer, FunctionBody}
+use Rattle.wasm_readers_errors.specs.declared.error.Unserved.TheVariants.{FunctionBody}
 use Rattle.wasm_readers_errors.specs.declared.features.WasmFeatures.{WasmFeatures}
 use Rattle.wasm_readers_errors.specs.declared.features.TheConstants.WasmFeatures.{COMPONENT_MODEL, EXCEPTIONS}
 use Rattle.wasm_readers_types.specs.SeenExterns.{kind_of}
 use Rattle.wasm_readers_types.specs.declared.externs.ExternalKind.{ExternalKind}
 use Rattle.wasm_readers_types.specs.declared.indices.UnpackedIndex.{UnpackedIndex}
-use Rattle.wasm_readers.specs.SectionsSeen.{count_of, bytes_of, section_start, section_end, first_item_at}
-use Rattle.wasm_readers.specs.Tables.{Head, table_head_at}
+use Rattle.wasm_readers.specs.SectionsSeen.{count_of, bytes_of, section_start, section_end}
 use Rattle.wasm_readers.specs.Written.{written}
 use Rattle.wasm_readers.specs.declared.section_limited.SectionLimited.{SectionLimited}
 use Rattle.wasm_validator_type_list.specs.Listing.{Listing}
@@ -35,14 +32,13 @@ use Rattle.wasm_validator_type_list.specs.DefTypes.{types_of_list}
 use Rattle.wasm_validator_types.specs.Spaces.{Spaces, is_exported}
 use Rattle.wasm_validator_core.specs.declared.error.Error.{Error}
 use Rattle.wasm_validator_core.specs.declared.error.Error.TheVariants.{Refused, DuplicateExport, OutOfMemory}
-use Rattle.wasm_validator_core.specs.declared.limits.TheConstants.{MAX_TYPES, MAX_IMPORTS, MAX_FUNCTIONS, MAX_TAGS, MAX_EXPORTS}
+use Rattle.wasm_validator_core.specs.declared.limits.TheConstants.{MAX_TYPES, MAX_IMPORTS, MAX_FUNCTIONS, MAX_GLOBALS, MAX_TAGS, MAX_EXPORTS, MAX_ELEMENT_SEGMENTS, MAX_DATA_SEGMENTS}
 use Rattle.wasm_validator_core.specs.Answers.{TypesSoFar, IsNowhere, HasValidTypes}
 use Rattle.wasm_validator_core.specs.Errors.{IsAt, IfContent}
 use Rattle.wasm_validator_core.specs.Items.{add_import, add_function, add_memory, add_tag, add_export, exported_entity}
 use Rattle.wasm_validator_core.specs.Machine.{add_group}
-use Rattle.wasm_validator_core.specs.Told.{told_of_import, told_of_added_function, told_of_added_table, told_of_added_memory, told_of_added_tag, ToldOfAddedGroup, told_of_entity, told_of_start, told_of_data_count}
+use Rattle.wasm_validator_core.specs.Told.{told_of_import, told_of_added_function, told_of_added_memory, told_of_added_tag, ToldOfAddedGroup, told_of_entity, told_of_start, told_of_data_count}
 use Rattle.wasm_validator_module_state.specs.Bodies.{expected_bodies}
-use Rattle.wasm_validator.specs.Machine.{add_table_head}
 use Rattle.wasm_validator.specs.Standing.{Stage, unparsed, in_module, in_code, ended, failed}
 
 -- nothing
@@ -63,14 +59,6 @@ Read P Q (Some x) = Q x
 abbrev pub Added : {S : Type 0} → (S → Type 0) → Option S → Type 0
 Added P None = ⊥
 Added P (Some s) = P s
-
--- what is told of a table; one with an initializer isn't served yet
-abbrev pub told_of_head : WasmFeatures → TypesSoFar → ℕ → Spaces → Head → Option Refusal
-told_of_head features us place s h = if h.has_init then Some (plain (fault.NotServed TableInitializer) place) else told_of_added_table features place us s h.ty
-
--- a section whose items aren't served: bytes behind none of them, or that there are any
-abbrev pub refusal_of_items : {T B : Type 0} → SectionLimited T B → Unserved → Refusal
-refusal_of_items section what = if count_of section == 0 then plain (fault.Malformed SectionSize) (first_item_at section) else plain (fault.NotServed what) (section_start section)
 
 module _ {A : Type 0} where
   -- this is told of the content; want of memory says nothing of it
@@ -128,9 +116,6 @@ module _ {A : Type 0} where
     abbrev pub tells_import : ℕ → Spaces → Import UnpackedIndex → Error A → Type 0
     tells_import place s i e = TellsAt place (told_of_import features place us s i) e
 
-    abbrev pub tells_table : ℕ → Spaces → Head → Error A → Type 0
-    tells_table place s h e = TellsAt place (told_of_head features us place s h) e
-
     abbrev pub tells_tag : ℕ → Spaces → ℕ → Error A → Type 0
     tells_tag place s x e = TellsAt place (told_of_added_tag features place us s x) e
 
@@ -163,10 +148,6 @@ module _ {A : Type 0} where
     abbrev pub TellsImports : Type 0
     TellsImports = TellsSection section e (import_at written) (add_import (features_of features) us) IsNone (tells_import features us) counted.Imports (length m.imports) MAX_IMPORTS m
 
-    abbrev pub TellsTables : Type 0
-    TellsTables =
-        TellsSection section e table_head_at (add_table_head (features_of features) us) IsNone (tells_table features us) counted.Tables (length m.tables) (most_tables (features_of features)) m
-
     abbrev pub TellsTags : Type 0
     TellsTags = TellsSection section e tag_at (add_tag (features_of features) us) IsNone (tells_tag features us) counted.Tags (length m.tags) MAX_TAGS m
 
@@ -182,8 +163,22 @@ module _ {A : Type 0} where
     TellsMemories features m e =
         TellsSection section e memory_at (add_memory (features_of features)) IsNone (tells_memory features) counted.Memories (length m.memories) (most_memories (features_of features)) m
 
-    abbrev pub TellsUnserved : Unserved → TypesSoFar → Spaces → Error A → Type 0
-    TellsUnserved what us m e = e ≡ Refused (refusal_of_items section what)
+    -- Of items with constant expressions a count that is over its limit is told at the section's start. Of anything else nothing more is
+    -- promised than where it stands.
+    abbrev pub TellsCountAlone : Counted → ℕ → ℕ → Error A → Type 0
+    TellsCountAlone what there most e = TellsCount what there most (section_start section) (count_of section) e ⊤
+
+    abbrev pub TellsTables : WasmFeatures → Spaces → Error A → Type 0
+    TellsTables features m e = TellsCountAlone counted.Tables (length m.tables) (most_tables (features_of features)) e
+
+    abbrev pub TellsGlobals : Spaces → Error A → Type 0
+    TellsGlobals m e = TellsCountAlone counted.Globals (length m.globals) MAX_GLOBALS e
+
+    abbrev pub TellsElements : Spaces → Error A → Type 0
+    TellsElements m e = TellsCountAlone counted.ElementSegments (length m.elements) MAX_ELEMENT_SEGMENTS e
+
+    abbrev pub TellsData : Error A → Type 0
+    TellsData e = TellsCountAlone counted.DataSegments 0 MAX_DATA_SEGMENTS e
 
 -- what is told of the order where a section may not come
 abbrev pub order_told : Stage → OutOfOrder

@@ -1,16 +1,16 @@
 -- What the answer on whole bytes says of the module that they are. Core Specification 3.0, Validation, Modules.
-use Rattle.std.specs.Prelude.{ℕ, ◌≡◌, ◌≤◌, ◌+◌, ◌++◌, false, List, length, Option, Some, None, ⊤}
+use Rattle.std.specs.Prelude.{ℕ, ◌≡◌, ◌≤◌, ◌+◌, ◌++◌, false, List, length, Some, None, ⊤}
 use Rattle.std.specs.declared.result.Result.{Result}
 use Rattle.std.specs.declared.result.Result.TheVariants as results
 use Rattle.wasm_readers_types.specs.declared.indices.TheConstants.{MAX_IDS}
 use Rattle.wasm_readers_errors.specs.declared.features.WasmFeatures.{WasmFeatures}
 use Rattle.wasm_spec.specs.Features.{canonical}
 use Rattle.wasm_rules.specs.FeatureFlags.{features_of}
-use Rattle.wasm_rules.specs.Parts.{Expression}
 use Rattle.wasm_rules.specs.IndexSpaces.{index_spaces}
-use Rattle.wasm_rules.specs.Modules.{IsValid}
+use Rattle.wasm_module_validity.specs.Modules.{IsValidModule}
 use Rattle.wasm_grouped_list.specs.Elements.{numbers_from}
 use Rattle.wasm_validator_type_list.specs.DefTypes.{types_of_list}
+use Rattle.wasm_distinct_type_laws.specs.Apart.{AreApart}
 use Rattle.wasm_validator_types.specs.Shown.{shown_of}
 use Rattle.wasm_validator_types.specs.declared.shown.Types as shown
 use Rattle.wasm_validator_core.specs.declared.error.Error.{Error}
@@ -18,22 +18,22 @@ use Rattle.wasm_validator_core.specs.declared.error.Error.TheVariants.{Refused, 
 use Rattle.wasm_validator.specs.Served.{AreServed}
 use Rattle.wasm_validator.specs.Shows.{ShowModule}
 use Rattle.wasm_validator_core.specs.Answers.{TypesSoFar}
-use Rattle.wasm_validator.specs.Standing.{Standing, unparsed, ended, fresh}
+use Rattle.wasm_validator.specs.Standing.{Standing, unparsed, ended, fresh, HoldsAt}
 use Rattle.wasm_validator.specs.Payloads.{IsLeft, IsOutOfMemory}
 
--- How a constant expression is read. No module that is served has one, so what is said here holds however they are read.
-abbrev pub Expressions : Type 0
-Expressions = List ℕ → Option (Expression × List ℕ)
+-- the types that a validator holds are told apart, as its features ask
+abbrev pub StandsApart : Standing → Type 0
+StandsApart s = HoldsAt (AreApart (canonical (features_of s.features))) s.stage
 
 -- the bytes are a valid module, of the forms that are served
-pub record IsServedModule (expression_at : Expressions) (features : WasmFeatures) (bytes : List ℕ) : Type 0 where
-  pub module_valid : IsValid expression_at (features_of features) bytes
-  pub served : AreServed module_valid.well_formed.pieces module_valid.well_formed.parts
+pub record IsServedModule (features : WasmFeatures) (bytes : List ℕ) : Type 0 where
+  pub module_valid : IsValidModule (features_of features) bytes
+  pub served : AreServed module_valid.well_formed.parts
 
 -- The bytes are a valid module. The types show its index spaces, in a list that begins with the types that the
 -- validator had, and this list is what it has from now on.
-pub record AcceptsModule {A : Type 0} (expression_at : Expressions) (bytes : List ℕ) (old new : Standing) (t : shown.Types A) : Type 0 where
-  pub module_valid : IsValid expression_at (features_of old.features) bytes
+pub record AcceptsModule {A : Type 0} (bytes : List ℕ) (old new : Standing) (t : shown.Types A) : Type 0 where
+  pub module_valid : IsValidModule (features_of old.features) bytes
   pub shows :
       ShowModule (features_of old.features) (types_of_list (shown_of t).list) (shown_of t).spaces
       (index_spaces module_valid.well_formed.types.types module_valid.well_formed.parts) module_valid.well_formed.parts
@@ -51,27 +51,27 @@ pub record AcceptsModule {A : Type 0} (expression_at : Expressions) (bytes : Lis
 -- pass its limit with the module's types.
 abbrev pub RefusesModule : List ℕ → Standing → Type 0
 RefusesModule bytes old =
-    (expression_at : Expressions) (before : TypesSoFar) → old.stage ≡ unparsed before
-    → (m : IsServedModule expression_at old.features bytes) → length before + length m.module_valid.well_formed.types.types ≤ MAX_IDS → ⊥
+    (before : TypesSoFar) → old.stage ≡ unparsed before
+    → (m : IsServedModule old.features bytes) → length before + length m.module_valid.well_formed.types.types ≤ MAX_IDS → ⊥
 
 -- what the answer on whole bytes says: of acceptance with no premise, of a refusal unless memory was refused
 abbrev pub DecidesModule : {A : Type 0} → Result (shown.Types A) (Error A) → List ℕ → Standing → Standing → Type 0
-DecidesModule (results.Ok t) bytes old new = (expression_at : Expressions) → AcceptsModule expression_at bytes old new t
+DecidesModule (results.Ok t) bytes old new = AcceptsModule bytes old new t
 DecidesModule (results.Err (Refused r)) bytes old new = RefusesModule bytes old × IsLeft (Some r) bytes old new
 DecidesModule (results.Err (DuplicateExport name offset)) bytes old new = RefusesModule bytes old × IsLeft None bytes old new
 DecidesModule (results.Err OutOfMemory) bytes old new = IsOutOfMemory bytes old new
 
 -- the bytes are a valid module
 abbrev pub AreModule : WasmFeatures → List ℕ → Type 0
-AreModule features bytes = (expression_at : Expressions) → IsValid expression_at (features_of features) bytes
+AreModule features bytes = IsValidModule (features_of features) bytes
 
 -- they are no valid module of the forms that are served
 abbrev pub AreNoServedModule : WasmFeatures → List ℕ → Type 0
-AreNoServedModule features bytes = (expression_at : Expressions) → IsServedModule expression_at features bytes → ⊥
+AreNoServedModule features bytes = IsServedModule features bytes → ⊥
 
 -- The same of a validator that is made for these bytes: no module has as many types as its list may hold.
 abbrev pub DecidesAlone : {A : Type 0} → Result (shown.Types A) (Error A) → List ℕ → ℕ → WasmFeatures → Type 0
-DecidesAlone (results.Ok t) bytes id features = (expression_at : Expressions) → (new : Standing) × AcceptsModule expression_at bytes (fresh id features) new t
+DecidesAlone (results.Ok t) bytes id features = (new : Standing) × AcceptsModule bytes (fresh id features) new t
 DecidesAlone (results.Err (Refused r)) bytes id features = AreNoServedModule features bytes × ((new : Standing) × IsLeft (Some r) bytes (fresh id features) new)
 DecidesAlone (results.Err (DuplicateExport name offset)) bytes id features = AreNoServedModule features bytes × ((new : Standing) × IsLeft None bytes (fresh id features) new)
 DecidesAlone (results.Err OutOfMemory) bytes id features = ⊤

@@ -2,9 +2,10 @@
 #![tactic(auto)]
 
 ghost use Rattle.wasm_validator.specs.Sequences.{OneIdForOneType, OwnIdForEachType, RefusedKeepTypes};
-ghost use Rattle.wasm_validator.specs.SectionLaws.{TypesAdd, ImportsAdd, FunctionsAdd, TablesAdd, MemoriesAdd, TagsAdd, ExportsAdd};
+ghost use Rattle.wasm_validator.specs.SectionLaws.{TypesAdd, ImportsAdd, FunctionsAdd, TablesAdd, MemoriesAdd, TagsAdd, GlobalsAdd, ExportsAdd, ElementsAdd, SegmentsAdd};
 ghost use Rattle.wasm_validator.specs.Table.{AcceptedByTable, RefusedByTable};
 
+mod constants;
 mod module_sections;
 pub mod payload;
 pub mod validator;
@@ -67,7 +68,8 @@ pub fn refused_modules_keep_types()
 /// items that keep their rules on these lists and the limit, and then the list has these items
 /// behind (Core Specification 3.0, Validation, Modules). Of types each recursion group is valid on
 /// the types before it; of exports each names something that is there, no name comes twice, and the
-/// effective size stays below its limit.
+/// effective size stays below its limit. Constant expressions are typed in the module as far as it
+/// has been read.
 pub fn sections_add_their_items()
     ensures types { TypesAdd }
     ensures imports { ImportsAdd }
@@ -75,5 +77,8 @@ pub fn sections_add_their_items()
     ensures tables { TablesAdd }
     ensures memories { MemoriesAdd }
     ensures tags { TagsAdd }
+    ensures globals { GlobalsAdd }
     ensures exports { ExportsAdd }
+    ensures elements { ElementsAdd }
+    ensures segments { SegmentsAdd }
 {}

@@ -1,27 +1,28 @@
 //! The items of a module's sections, one by one.
 
-ghost use Rattle.std.specs.Prelude.{◌≡◌, ◌==◌, ◌&&◌, OnOk, IfErr, IsTrue, is_ok, length};
+ghost use Rattle.std.specs.Prelude.{◌≡◌, OnOk, IfErr, IsTrue};
 ghost use Rattle.wasm_rules.specs.FeatureFlags.{features_of};
 ghost use Rattle.wasm_readers.specs.SectionsSeen.{count_of, bytes_of, section_start, section_end};
 ghost use Rattle.wasm_validator_type_list.specs.DefTypes.{types_of_list};
 ghost use Rattle.wasm_validator_canonical.specs.Groups.{AreValid};
 ghost use Rattle.wasm_validator_core.specs.Answers.{Adds, AddsWhere, HasValidTypes};
 ghost use Rattle.wasm_validator_core.specs.Ready.{IsOpenFor, AreHeld, AreIdsOf};
-ghost use Rattle.wasm_validator.specs.Machine.{type_items, import_items, function_items, add_table_head, table_items, memory_items, tag_items, export_items};
-ghost use Rattle.wasm_readers.specs.Tables.{head_of};
-ghost use Rattle.wasm_validator_core.specs.Errors.{IsAt};
-ghost use Rattle.wasm_validator_core.specs.Told.{Tells};
-ghost use Rattle.wasm_validator.specs.SectionsTold.{OfContent, StandsBetween, TellsTypes, TellsImports, TellsFunctions, TellsTables, TellsMemories, TellsTags, TellsExports, told_of_head, refusal_of_items};
+ghost use Rattle.wasm_validator_core_resources.specs.ById.{AreFirstByIds};
+ghost use Rattle.wasm_validator.specs.Machine.{type_items, import_items, function_items, table_items, memory_items, tag_items, global_items, export_items, element_items, data_items};
+ghost use Rattle.wasm_validator.specs.Ready.{forgotten};
+ghost use Rattle.wasm_validator.specs.SectionsTold.{OfContent, StandsBetween, TellsTypes, TellsImports, TellsFunctions, TellsTables, TellsMemories, TellsTags, TellsGlobals, TellsExports, TellsElements, TellsData};
 
+use crate::constants::{Constants, tells_types_apart};
 use std::alloc::Allocator;
+use wasm_constant_items::OperatorValidatorAllocations;
 use wasm_readers::{
-    Counted, Export, Fault, Import, Malformed, MemoryType, RecGroup, Refusal, SectionLimited,
-    Table, TableHead, TagType, Unserved, WasmFeatures,
+    Counted, Data, Element, Export, Global, Import, MemoryType, RecGroup, SectionLimited, Table,
+    TagType, WasmFeatures,
 };
 use wasm_validator_core::{
-    Error, MAX_EXPORTS, MAX_FUNCTIONS, MAX_IMPORTS, MAX_TAGS, MAX_TYPES, Module, check_max,
+    Error, MAX_DATA_SEGMENTS, MAX_ELEMENT_SEGMENTS, MAX_EXPORTS, MAX_FUNCTIONS, MAX_GLOBALS,
+    MAX_IMPORTS, MAX_TAGS, MAX_TYPES, Module, check_max,
 };
-use wasm_validator_module_state::ModuleState;
 use wasm_validator_types::TypeList;
 
 /// Adds the types of a type section.
@@ -122,60 +123,60 @@ pub fn add_functions<A: Allocator + Copy>(
     Ok(())
 }
 
-/// Adds the tables of a table section, which have no initializers: those with one are not served
-/// yet.
+/// Puts the memory back where items were added.
+fn kept_in<A: Allocator + Copy>(
+    constants: &mut Constants<A>,
+    added: Result<OperatorValidatorAllocations<A>, Error<A>>,
+) -> Result<(), Error<A>>
+    ensures same { result ≡ forgotten added }
+    ensures types { constants.new.types ≡ constants.old.types }
+{
+    match added {
+        Ok(allocations) => {
+            constants.keep(allocations);
+            Ok(())
+        }
+        Err(error) => Err(error),
+    }
+}
+
+/// Adds the tables of a table section, with what their entries begin with.
 pub fn add_tables<'a, A: Allocator + Copy>(
     features: WasmFeatures,
     list: &TypeList<A>,
-    opened: &mut ModuleState<A>,
+    constants: &mut Constants<A>,
+    opened: &mut Module<A>,
     section: &SectionLimited<'a, Table<'a>, A>,
 ) -> Result<(), Error<A>>
-    requires { AreHeld list.now opened.old.«module».types }
+    requires held { AreHeld list.now opened.old.types }
+    requires first { AreFirstByIds list.now.groups constants.old.types }
     ensures added { Adds result (table_items (features_of features) (types_of_list list.now)
-        (count_of section.now) (bytes_of section.now) opened.old.«module») opened.new.«module» }
-    ensures types { opened.new.«module».types ≡ opened.old.«module».types }
+        (count_of section.now) (bytes_of section.now) opened.old) opened.new }
+    ensures types { opened.new.types ≡ opened.old.types }
+    ensures first { AreFirstByIds list.now.groups constants.new.types }
     ensures place { IfErr result (StandsBetween (section_start section.now)
         (section_end section.now)) }
-    ensures told { IfErr result (OfContent (TellsTables features section.now
-        (types_of_list list.now) opened.old.«module»)) }
+    ensures told { IfErr result (OfContent (TellsTables section.now features opened.old)) }
 {
     check_max(
-        opened.module.spaces().table_count() as usize,
+        opened.spaces().table_count() as usize,
         section.count() as usize,
-        opened.module.max_tables(features),
+        opened.max_tables(features),
         Counted::Tables,
         section.range().start,
     )?;
-    let heads = section.heads();
-    let mut tables = heads.items();
-    'tables: while let Some((offset, head)) = tables.read_next()? {
-        add_table_head(features, list, opened, head, offset)?;
-    }
-    Ok(())
-}
-
-/// Adds the table that this is the first part of, where it has no initializer.
-#[tactic(auto, unfolding(crate::specs::Machine::add_table_head))]
-fn add_table_head<A: Allocator + Copy>(
-    features: WasmFeatures,
-    list: &TypeList<A>,
-    opened: &mut ModuleState<A>,
-    head: TableHead,
-    offset: u64,
-) -> Result<(), Error<A>>
-    requires { AreHeld list.now opened.old.«module».types }
-    ensures added { Adds result (add_table_head (features_of features) (types_of_list list.now)
-        opened.old.«module» (head_of head)) opened.new.«module» }
-    ensures types { opened.new.«module».types ≡ opened.old.«module».types }
-    ensures place { IfErr result (IsAt offset) }
-    ensures told { Tells result (told_of_head features (types_of_list list.now) offset
-        opened.old.«module» (head_of head)) }
-{
-    if head.has_init {
-        let fault = Fault::NotServed(Unserved::TableInitializer);
-        return Err(Error::Refused(Refusal::new(fault, offset)));
-    }
-    opened.add_table(features, list, head.ty, offset)
+    tells_types_apart(list);
+    let allocations = constants.taken(list)?;
+    let added = wasm_validator_items::add_tables(
+        features,
+        list,
+        &constants.types,
+        allocations,
+        opened,
+        section.count(),
+        section.reader(),
+    );
+    kept_in(constants, added)
 }
 
 /// Adds the memories of a memory section.
@@ -236,6 +237,84 @@ pub fn add_tags<A: Allocator + Copy>(
     Ok(())
 }
 
+/// Adds the globals of a global section, with their initializers.
+pub fn add_globals<'a, A: Allocator + Copy>(
+    features: WasmFeatures,
+    list: &TypeList<A>,
+    constants: &mut Constants<A>,
+    opened: &mut Module<A>,
+    section: &SectionLimited<'a, Global<'a>, A>,
+) -> Result<(), Error<A>>
+    requires held { AreHeld list.now opened.old.types }
+    requires first { AreFirstByIds list.now.groups constants.old.types }
+    ensures added { Adds result (global_items (features_of features) (types_of_list list.now)
+        (count_of section.now) (bytes_of section.now) opened.old) opened.new }
+    ensures types { opened.new.types ≡ opened.old.types }
+    ensures first { AreFirstByIds list.now.groups constants.new.types }
+    ensures place { IfErr result (StandsBetween (section_start section.now)
+        (section_end section.now)) }
+    ensures told { IfErr result (OfContent (TellsGlobals section.now opened.old)) }
+{
+    check_max(
+        opened.spaces().global_count() as usize,
+        section.count() as usize,
+        MAX_GLOBALS,
+        Counted::Globals,
+        section.range().start,
+    )?;
+    tells_types_apart(list);
+    let allocations = constants.taken(list)?;
+    let added = wasm_validator_items::add_globals(
+        features,
+        list,
+        &constants.types,
+        allocations,
+        opened,
+        section.count(),
+        section.reader(),
+    );
+    kept_in(constants, added)
+}
+
+/// Adds the element segments of an element section.
+pub fn add_elements<'a, A: Allocator + Copy>(
+    features: WasmFeatures,
+    list: &TypeList<A>,
+    constants: &mut Constants<A>,
+    opened: &mut Module<A>,
+    section: &SectionLimited<'a, Element<'a>, A>,
+) -> Result<(), Error<A>>
+    requires held { AreHeld list.now opened.old.types }
+    requires first { AreFirstByIds list.now.groups constants.old.types }
+    ensures added { Adds result (element_items (features_of features) (types_of_list list.now)
+        (count_of section.now) (bytes_of section.now) opened.old) opened.new }
+    ensures types { opened.new.types ≡ opened.old.types }
+    ensures first { AreFirstByIds list.now.groups constants.new.types }
+    ensures place { IfErr result (StandsBetween (section_start section.now)
+        (section_end section.now)) }
+    ensures told { IfErr result (OfContent (TellsElements section.now opened.old)) }
+{
+    check_max(
+        opened.spaces().element_count() as usize,
+        section.count() as usize,
+        MAX_ELEMENT_SEGMENTS,
+        Counted::ElementSegments,
+        section.range().start,
+    )?;
+    tells_types_apart(list);
+    let allocations = constants.taken(list)?;
+    let added = wasm_validator_items::add_elements(
+        features,
+        list,
+        &constants.types,
+        allocations,
+        opened,
+        section.count(),
+        section.reader(),
+    );
+    kept_in(constants, added)
+}
+
 /// Adds the exports of an export section.
 pub fn add_exports<'a, A: Allocator + Copy>(
     features: WasmFeatures,
@@ -266,21 +345,40 @@ pub fn add_exports<'a, A: Allocator + Copy>(
     Ok(())
 }
 
-/// Accepts a section without items. One that has items of this kind is not served yet.
-pub fn check_empty<T, A: Allocator + Copy>(
-    section: &SectionLimited<'_, T, A>,
-    what: Unserved,
-) -> Result<(), Refusal>
-    ensures accepted { is_ok result ≡ (count_of section.now == 0
-        && length (bytes_of section.now) == 0) }
-    ensures refusal { IfErr result (λ r. r ≡ refusal_of_items section.now what) }
+/// Checks the data segments of a data section, which change nothing in the module.
+pub fn check_data_segments<'a, A: Allocator + Copy>(
+    features: WasmFeatures,
+    list: &TypeList<A>,
+    constants: &mut Constants<A>,
+    opened: &Module<A>,
+    section: &SectionLimited<'a, Data<'a>, A>,
+) -> Result<(), Error<A>>
+    requires held { AreHeld list.now opened.now.types }
+    requires first { AreFirstByIds list.now.groups constants.old.types }
+    ensures added { Adds result (data_items (features_of features) (types_of_list list.now)
+        (count_of section.now) (bytes_of section.now) opened.now) opened.now }
+    ensures first { AreFirstByIds list.now.groups constants.new.types }
+    ensures place { IfErr result (StandsBetween (section_start section.now)
+        (section_end section.now)) }
+    ensures told { IfErr result (OfContent (TellsData section.now)) }
 {
-    if section.is_empty() {
-        return Ok(());
-    }
-    if section.count() == 0 {
-        let fault = Fault::Malformed(Malformed::SectionSize);
-        return Err(Refusal::new(fault, section.original_position()));
-    }
-    Err(Refusal::new(Fault::NotServed(what), section.range().start))
+    check_max(
+        0,
+        section.count() as usize,
+        MAX_DATA_SEGMENTS,
+        Counted::DataSegments,
+        section.range().start,
+    )?;
+    tells_types_apart(list);
+    let allocations = constants.taken(list)?;
+    let added = wasm_validator_items::add_data_segments(
+        features,
+        list,
+        &constants.types,
+        allocations,
+        opened,
+        section.count(),
+        section.reader(),
+    );
+    kept_in(constants, added)
 }

@@ -112,8 +112,9 @@ impl<A: Allocator + Copy> Validator<A> {
         ensures place { IfErr result (StandsBetween 0 (length bytes.now)) }
         ensures held { IfOk result (λ t. HoldsIds (shown_of t)) }
     {
-        // Asked for what it promises: the types that are held are valid.
+        // Asked for what they promise: the types that are held are valid, and told apart.
         let _has_failed = self.has_failed();
+        self.types_stand_apart();
         self.run(bytes)
     }
 

@@ -1,7 +1,6 @@
 ghost use Rattle.wasm_readers_errors.specs.declared.features.TheConstants.WasmFeatures.{STANDARD};
-ghost use Rattle.std.specs.Prelude.{◌≡◌, IfOk, IfErr, IfSome, IsSome, IsErr, OnOk, OnErr, Some, None, true, is_ok, if◌then◌else◌, ◌↔◌, ◌+◌};
+ghost use Rattle.std.specs.Prelude.{◌≡◌, IfOk, IfErr, IfSome, IfNone, IsSome, IsErr, OnOk, OnErr, Some, None, true, is_ok, ◌↔◌, ◌+◌};
 ghost use Rattle.wasm_validator_core.specs.Errors.{IsContent, offset_of};
-ghost use Rattle.std.specs.Result.{IsErrAnd};
 ghost use Rattle.wasm_binary_reader.specs.Reader.{original, position_in};
 ghost use Rattle.wasm_readers_errors.specs.Refusals.{plain};
 ghost use Rattle.wasm_readers.specs.SectionsSeen.{count_of, bytes_of, section_start, section_end};
@@ -11,13 +10,15 @@ ghost use Rattle.wasm_validator_type_list.specs.Listing.{committed};
 ghost use Rattle.wasm_validator_type_list.specs.DefTypes.{types_of_list};
 ghost use Rattle.wasm_validator_types.specs.Shown.{shown_of, shown_by, HoldsIds};
 ghost use Rattle.wasm_validator.specs.Payloads.{Show};
-ghost use Rattle.wasm_validator.specs.Standing.{HoldsValid, Leaves, Moves, at_stage, within, read_refused_at, body_refused_at, ended_at, fresh, is_failed, may_reset, after_reset, shown_at};
-ghost use Rattle.wasm_validator.specs.SectionsTold.{OfContent, StandsBetween, TellsWithin, TellsReading, TellsOrder, TellsTypes, TellsImports, TellsExports, TellsFunctions, TellsTables, TellsMemories, TellsTagSection, TellsUnserved, TellsStart, TellsDataCount, header_told, body_told, end_order_told};
+ghost use Rattle.wasm_validator.specs.Standing.{HoldsValid, Leaves, Moves, read_refused_at, body_refused_at, ended_at, fresh, is_failed, may_reset, after_reset, shown_at};
+ghost use Rattle.wasm_validator.specs.Verdict.{StandsApart};
+ghost use Rattle.wasm_validator.specs.SectionsTold.{OfContent, StandsBetween, TellsWithin, TellsReading, TellsOrder, TellsTypes, TellsImports, TellsExports, TellsFunctions, TellsTables, TellsMemories, TellsTagSection, TellsGlobals, TellsElements, TellsData, TellsStart, TellsDataCount, header_told, body_told, end_order_told};
 ghost use Rattle.wasm_validator.specs.States.{open_of, read_of, order_at, end_order_at, state_kept, is_module, after_version, after_section, section_refused_at, after_start, after_data_count, after_code_start, after_end};
 
+use crate::constants::{Constants, tells_types_apart};
 use crate::module_sections::{
-    add_exports, add_functions, add_imports, add_memories, add_tables, add_tags, add_types,
-    check_empty,
+    add_elements, add_exports, add_functions, add_globals, add_imports, add_memories, add_tables,
+    add_tags, add_types, check_data_segments,
 };
 use bitflags::Flags;
 use std::alloc::{AllocError, Allocator, Global};
@@ -25,13 +26,14 @@ use std::marker::Model;
 use std::mem;
 use std::ops::Range;
 use std::rc::Rc;
+use wasm_distinct_type_laws::types_are_apart;
 use wasm_parser::{Encoding, FunctionBody};
 use wasm_readers::{
     Data, Element, Export, Fault, Global as GlobalItem, Import, MemoryType, OutOfOrder, RecGroup,
     Refusal, Rule, SectionLimited, Table, TagType, Unserved, WasmFeatures,
 };
 use wasm_validator_canonical::needs_type_canonicalization;
-use wasm_validator_core::{Error, check_data_count};
+use wasm_validator_core::{Error, Module, check_data_count};
 use wasm_validator_module_state::ModuleState;
 use wasm_validator_types::{TypeList, Types, TypesRef, ValidatorId};
 
@@ -52,6 +54,7 @@ pub struct Validator<A: Allocator = Global> {
     id: ValidatorId,
     features: WasmFeatures,
     types: TypeList<A>,
+    constants: Constants<A>,
     state: State<A>,
     alloc: A,
 }
@@ -137,6 +140,17 @@ fn closing<A: Allocator>(state: &mut State<A>) -> Result<ModuleState<A>, OutOfOr
     }
 }
 
+/// The module that is being read, where one is.
+fn reading<A: Allocator>(state: &State<A>) -> Option<&Module<A>>
+    ensures some { IfSome result (λ m. read_of state.now ≡ Some m.now) }
+    ensures none { IfNone result (read_of state.now ≡ None) }
+{
+    match state {
+        State::Module(state) | State::Code(state) => Some(&state.module),
+        _ => None,
+    }
+}
+
 /// Puts the module back where a section was added to it. Where one was refused, the validator has
 /// failed.
 fn kept<A: Allocator>(
@@ -203,6 +217,7 @@ impl<A: Allocator + Copy> Validator<A> {
             id,
             features,
             types: TypeList::new(alloc, needs_type_canonicalization(features)),
+            constants: Constants::new(alloc),
             state: State::Unparsed,
             alloc,
         }
@@ -234,6 +249,13 @@ impl<A: Allocator + Copy> Validator<A> {
         ensures valid { HoldsValid self.now }
     {
         matches!(self.state, State::Failed)
+    }
+
+    /// The types that the validator holds are told apart.
+    pub(crate) fn types_stand_apart(&self)
+        ensures { StandsApart self.now }
+    {
+        types_are_apart(&self.types);
     }
 
     /// Whether `reset` may be called: no module is being read, and none was refused by a section.
@@ -351,6 +373,8 @@ impl<A: Allocator + Copy> Validator<A> {
     {
         match opened(&mut self.state, section.range().start) {
             Ok(mut state) => {
+                // What is kept of the list stays the first of it, since it tells types apart.
+                tells_types_apart(&self.types);
                 let added = add_types(
                     self.features,
                     self.alloc,
@@ -358,6 +382,7 @@ impl<A: Allocator + Copy> Validator<A> {
                     &mut state.module,
                     section,
                 );
+                tells_types_apart(&self.types);
                 kept(&mut self.state, state, added)
             }
             Err(refusal) => Err(Error::Refused(refusal)),
@@ -428,29 +453,6 @@ impl<A: Allocator + Copy> Validator<A> {
         }
     }
 
-    /// What a check that needs nothing of the module says of a section: where it refuses while a
-    /// module is being read, the validator has failed.
-    fn answered(&mut self, offset: u64, answer: Result<(), Refusal>) -> Result<(), Error<A>>
-        ensures moves { Moves result (at_stage self.old
-            (within (λ p. if is_ok answer then Some p else None) self.old.stage)) self.old
-            self.new }
-        ensures content { IfErr result IsContent }
-        ensures order { IfErr result (TellsWithin
-            (λ us m e. IsErrAnd answer (λ r. e ≡ Error.Refused r)) offset self.old.stage) }
-    {
-        if !matches!(self.state, State::Module(_)) {
-            let order = out_of_order(&self.state);
-            return Err(Error::Refused(Refusal::new(Fault::OutOfOrder(order), offset)));
-        }
-        match answer {
-            Ok(()) => Ok(()),
-            Err(refusal) => {
-                self.state = State::Failed;
-                Err(Error::Refused(refusal))
-            }
-        }
-    }
-
     /// The functions of a module, by their type indices (Core Specification 3.0, Validation,
     /// Modules, Functions).
     ///
@@ -477,15 +479,16 @@ impl<A: Allocator + Copy> Validator<A> {
         }
     }
 
-    /// The tables of a module (Core Specification 3.0, Validation, Modules, Tables). Those with
-    /// initializers are not served yet.
+    /// The tables of a module, with what their entries begin with (Core Specification 3.0,
+    /// Validation, Modules, Tables).
     ///
     /// # Errors
     ///
     /// Refused, at the section's start, where no module is being read or its code has started,
     /// which changes nothing. In a module refused, at the section's start, where a module would
-    /// have too many tables; at the first table that can't be read, keeps no rule or has an
-    /// initializer; and where memory is. The validator has then failed.
+    /// have too many tables; in the first table that can't be read or keeps no rule, or whose
+    /// initializer is no constant expression of its type; and where memory is. The validator has
+    /// then failed.
     pub fn table_section<'a>(
         &mut self,
         section: &SectionLimited<'a, Table<'a>, A>,
@@ -495,12 +498,18 @@ impl<A: Allocator + Copy> Validator<A> {
         ensures place { IfErr result (StandsBetween (section_start section.now)
             (section_end section.now)) }
         ensures told { IfErr result (OfContent (TellsWithin
-            (TellsTables self.old.features section.now)
+            (λ us. TellsTables section.now self.old.features)
             (section_start section.now) self.old.stage)) }
     {
         match opened(&mut self.state, section.range().start) {
             Ok(mut state) => {
-                let added = add_tables(self.features, &self.types, &mut state, section);
+                let added = add_tables(
+                    self.features,
+                    &self.types,
+                    &mut self.constants,
+                    &mut state.module,
+                    section,
+                );
                 kept(&mut self.state, state, added)
             }
             Err(refusal) => Err(Error::Refused(refusal)),
@@ -575,15 +584,16 @@ impl<A: Allocator + Copy> Validator<A> {
         }
     }
 
-    /// The globals of a module (Core Specification 3.0, Validation, Modules, Globals). A section
-    /// that has any is not served yet.
+    /// The globals of a module, with their initializers, which may read the imported globals (Core
+    /// Specification 3.0, Validation, Modules, Globals).
     ///
     /// # Errors
     ///
     /// Refused, at the section's start, where no module is being read or its code has started,
-    /// which changes nothing. In a module refused, at the section's start, where it has any, and
-    /// behind the count where it has none and bytes follow; the validator has then failed. It takes
-    /// no memory.
+    /// which changes nothing. In a module refused, at the section's start, where a module would
+    /// have too many globals; in the first global that can't be read or keeps no rule, or whose
+    /// initializer is no constant expression of its type; and where memory is. The validator has
+    /// then failed.
     pub fn global_section<'a>(
         &mut self,
         section: &SectionLimited<'a, GlobalItem<'a>, A>,
@@ -592,14 +602,22 @@ impl<A: Allocator + Copy> Validator<A> {
             (bytes_of section.now)) self.old self.new }
         ensures place { IfErr result (StandsBetween (section_start section.now)
             (section_end section.now)) }
-        ensures content { IfErr result IsContent }
-        ensures told { IfErr result (TellsWithin (TellsUnserved section.now Unserved.GlobalSection)
-            (section_start section.now) self.old.stage) }
+        ensures told { IfErr result (OfContent (TellsWithin (λ us. TellsGlobals section.now)
+            (section_start section.now) self.old.stage)) }
     {
-        self.answered(
-            section.range().start,
-            check_empty(section, Unserved::GlobalSection),
-        )
+        match opened(&mut self.state, section.range().start) {
+            Ok(mut state) => {
+                let added = add_globals(
+                    self.features,
+                    &self.types,
+                    &mut self.constants,
+                    &mut state.module,
+                    section,
+                );
+                kept(&mut self.state, state, added)
+            }
+            Err(refusal) => Err(Error::Refused(refusal)),
+        }
     }
 
     /// The function that starts a module, by its index (Core Specification 3.0, Validation,
@@ -628,14 +646,15 @@ impl<A: Allocator + Copy> Validator<A> {
     }
 
     /// The element segments of a module (Core Specification 3.0, Validation, Modules, Element
-    /// Segments). A section that has any is not served yet.
+    /// Segments).
     ///
     /// # Errors
     ///
     /// Refused, at the section's start, where no module is being read or its code has started,
-    /// which changes nothing. In a module refused, at the section's start, where it has any, and
-    /// behind the count where it has none and bytes follow; the validator has then failed. It takes
-    /// no memory.
+    /// which changes nothing. In a module refused, at the section's start, where it would have too
+    /// many element segments; in the first segment that can't be read or keeps no rule, or whose
+    /// offset or items are no constant expressions of their types; and where memory is. The
+    /// validator has then failed.
     pub fn element_section<'a>(
         &mut self,
         section: &SectionLimited<'a, Element<'a>, A>,
@@ -644,14 +663,22 @@ impl<A: Allocator + Copy> Validator<A> {
             (bytes_of section.now)) self.old self.new }
         ensures place { IfErr result (StandsBetween (section_start section.now)
             (section_end section.now)) }
-        ensures content { IfErr result IsContent }
-        ensures told { IfErr result (TellsWithin (TellsUnserved section.now Unserved.ElementSection)
-            (section_start section.now) self.old.stage) }
+        ensures told { IfErr result (OfContent (TellsWithin (λ us. TellsElements section.now)
+            (section_start section.now) self.old.stage)) }
     {
-        self.answered(
-            section.range().start,
-            check_empty(section, Unserved::ElementSection),
-        )
+        match opened(&mut self.state, section.range().start) {
+            Ok(mut state) => {
+                let added = add_elements(
+                    self.features,
+                    &self.types,
+                    &mut self.constants,
+                    &mut state.module,
+                    section,
+                );
+                kept(&mut self.state, state, added)
+            }
+            Err(refusal) => Err(Error::Refused(refusal)),
+        }
     }
 
     /// The number of data segments that the data section is to have (Core Specification 3.0, Binary
@@ -736,13 +763,13 @@ impl<A: Allocator + Copy> Validator<A> {
     }
 
     /// The data segments of a module (Core Specification 3.0, Validation, Modules, Data Segments).
-    /// A section that has any is not served yet.
     ///
     /// # Errors
     ///
     /// Refused, at the section's start, where no module is being read, which changes nothing. In a
-    /// module refused, at the section's start, where it has any, and behind the count where it has
-    /// none and bytes follow; the validator has then failed. It takes no memory.
+    /// module refused, at the section's start, where it would have too many data segments; in the
+    /// first segment that can't be read or keeps no rule, or whose offset is no constant expression
+    /// of its type; and where memory is. The validator has then failed.
     pub fn data_section<'a>(
         &mut self,
         section: &SectionLimited<'a, Data<'a>, A>,
@@ -751,19 +778,27 @@ impl<A: Allocator + Copy> Validator<A> {
             (bytes_of section.now)) (read_refused_at self.old.stage) self.old self.new }
         ensures place { IfErr result (StandsBetween (section_start section.now)
             (section_end section.now)) }
-        ensures content { IfErr result IsContent }
-        ensures told { IfErr result (TellsReading (TellsUnserved section.now Unserved.DataSection)
-            (section_start section.now) self.old.stage) }
+        ensures told { IfErr result (OfContent (TellsReading (λ us m. TellsData section.now)
+            (section_start section.now) self.old.stage)) }
     {
-        if !matches!(self.state, State::Module(_) | State::Code(_)) {
-            let fault = Fault::OutOfOrder(out_of_order(&self.state));
-            return Err(Error::Refused(Refusal::new(fault, section.range().start)));
-        }
-        match check_empty(section, Unserved::DataSection) {
+        let checked = match reading(&self.state) {
+            Some(module) => check_data_segments(
+                self.features,
+                &self.types,
+                &mut self.constants,
+                module,
+                section,
+            ),
+            None => {
+                let fault = Fault::OutOfOrder(out_of_order(&self.state));
+                return Err(Error::Refused(Refusal::new(fault, section.range().start)));
+            }
+        };
+        match checked {
             Ok(()) => Ok(()),
-            Err(refusal) => {
+            Err(error) => {
                 self.state = State::Failed;
-                Err(Error::Refused(refusal))
+                Err(error)
             }
         }
     }

@@ -25,7 +25,7 @@ no_module OutOfMemory bytes id content d = absurd (content tt)
 pub returns-in-Ok-clause-accepted : goal.returns-in-Ok-clause-accepted
 returns-in-Ok-clause-accepted g c = λ status.
     read_as c.args.file.now.bytes c.in-Some.bytes (λ v. AreAccepted v.items) c.in-Some.is
-    (subst AreAccepted c.as_slice.ensures.value (λ x. let a = c.in-Ok.ensures.decided x in a.1.module_valid))
+    (subst AreAccepted c.as_slice.ensures.value c.in-Ok.ensures.decided.1.module_valid)
 
 pub returns-else-is_out_of_memory-clause-refused : goal.returns-else-is_out_of_memory-clause-refused
 returns-else-is_out_of_memory-clause-refused g c = λ status.

@@ -13,7 +13,8 @@ use Rattle.wasm_validator_types.specs.Spaces.{Spaces}
 use Rattle.wasm_validator_core.specs.declared.error.Error.{Error}
 use Rattle.wasm_validator_core.specs.declared.error.Error.TheVariants.{Refused}
 use Rattle.wasm_validator_core.specs.Errors.{lifted}
-use Rattle.wasm_validator.specs.Machine.{read_each, export_items}
+use Rattle.wasm_validator_items.specs.Sections.{read_each}
+use Rattle.wasm_validator.specs.Machine.{export_items}
 use Rattle.wasm_validator.specs.SectionsTold.{TellsEach, TellsCount, IsNone, OfContent, TellsOfExport, TellsNamedAt}
 use Rattle.wasm_validator.proofs.ItemSteps.{read_each-step, read_each-refused, adds_refused, adds_as, if_none}
 use Rattle.wasm_validator.proofs.SectionsTold.{told_onward, unread_told, refused_told, over_told, err_as, items_here, same_end, export_told, of_content}

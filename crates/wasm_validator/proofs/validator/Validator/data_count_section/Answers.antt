@@ -1,6 +1,6 @@
 use Rattle.std.proofs.Common.{sym, subst}
-use Rattle.wasm_validator.specs.Ready.{AreIdsIn, AreValidIn}
-use Rattle.wasm_validator.proofs.Sections.{open-ids, open-valid, kept-ids, kept-valid}
+use Rattle.wasm_validator.specs.Ready.{AreIdsIn, AreValidIn, AreFirstIn}
+use Rattle.wasm_validator.proofs.Sections.{open-ids, open-valid, open-first, kept-ids, kept-valid, kept-first}
 use Rattle.wasm_validator.proofs.validator.Validator.data_count_section.Goals as goal
 
 pub invariant_of-self : goal.invariant_of-self
@@ -8,8 +8,10 @@ invariant_of-self g c =
     let list = c.self.inside.types in
     let features = c.self.inside.features in
     let before = c.in-Ok.state in
+    let types = c.self.inside.constants.types in
     record {
       list = c.self.invariant.list;
       ids = subst (AreIdsIn list) (sym c.kept.ensures.kept) (kept-ids list before _ (open-ids list c.self.inside.state before.«module» c.in-Ok.ensures.ok c.self.invariant.ids));
       valid = subst (AreValidIn features list) (sym c.kept.ensures.kept) (kept-valid list before features _ (open-valid features list c.self.inside.state before.«module» c.in-Ok.ensures.ok c.self.invariant.valid));
+      first = subst (AreFirstIn list types) (sym c.kept.ensures.kept) (kept-first list before types _ (open-first list types c.self.inside.state before.«module» c.in-Ok.ensures.ok c.self.invariant.first));
     }

@@ -6,8 +6,9 @@ use Rattle.wasm_validator_canonical.specs.Groups.{AreValid}
 use Rattle.wasm_validator_type_list.specs.DefTypes.{types_of_list}
 use Rattle.wasm_validator_types.specs.Shown.{shown_of}
 use Rattle.wasm_validator_core.specs.Ready.{IsOpenFor}
+use Rattle.wasm_validator_core_resources.specs.ById.{AreFirstByIds}
 use Rattle.wasm_validator.specs.Standing.{Standing}
-use Rattle.wasm_validator.proofs.Sections.{ended_from_open, shown_from_open, read-valid, shown-valid, shown-ids}
+use Rattle.wasm_validator.proofs.Sections.{ended_from_open, shown_from_open, read-valid, read-first, shown-valid, shown-ids}
 use Rattle.wasm_validator.proofs.validator.Validator.end.Goals as goal
 
 pub invariant_of-self : goal.invariant_of-self
@@ -18,6 +19,7 @@ invariant_of-self g c =
       list = subst (IsOpenFor features) same c.self.invariant.list;
       ids = tt;
       valid = subst (λ l. AreValid (features_of features) (types_of_list l)) same (read-valid features c.self.inside.types c.self.inside.state c.in-Ok.state.«module» c.in-Ok.ensures.ok c.self.invariant.valid);
+      first = subst (λ l. AreFirstByIds l.groups c.self.inside.constants.types) same (read-first c.self.inside.types c.self.inside.constants.types c.self.inside.state c.in-Ok.state.«module» c.in-Ok.ensures.ok c.self.invariant.first);
     }
 
 pub returns-in-Ok-finished-clause-moves : goal.returns-in-Ok-finished-clause-moves

@@ -19,11 +19,11 @@ use Rattle.wasm_validator_core.specs.Answers.{HasValidTypes}
 use Rattle.wasm_validator_core.specs.Ready.{AreIdsOf}
 use Rattle.wasm_rules.specs.FeatureFlags.{features_of}
 use Rattle.wasm_validator.specs.Machine.{other_items, section_items}
-use Rattle.wasm_validator.specs.Ready.{AreIdsIn, AreValidIn}
+use Rattle.wasm_validator.specs.Ready.{AreIdsIn, AreValidIn, AreFirstIn}
 use Rattle.wasm_validator.specs.Standing.{Standing, Leaves, Moves}
 use Rattle.wasm_validator.specs.States.{stage_of, after_section}
 use Rattle.wasm_validator.proofs.SectionMoves.{adds_beside, section_moves, tags_refused}
-use Rattle.wasm_validator.proofs.Sections.{open-ids, open-valid, kept-ids, kept-valid}
+use Rattle.wasm_validator.proofs.Sections.{open-ids, open-valid, open-first, kept-ids, kept-valid, kept-first}
 use Rattle.wasm_validator.proofs.validator.Validator.tag_section.Goals as goal
 
 pub add_tags-added-requires-clause-held : goal.add_tags-added-requires-clause-held
@@ -37,10 +37,13 @@ invariant_of-self-in-Ok g c =
     let before = c.in-Ok.state.«module» in
     let ids = open-ids list c.self.inside.state before c.in-Ok.ensures.ok c.self.invariant.ids in
     let valid = open-valid features list c.self.inside.state before c.in-Ok.ensures.ok c.self.invariant.valid in
+    let types = c.self.inside.constants.types in
+    let first = open-first list types c.self.inside.state before c.in-Ok.ensures.ok c.self.invariant.first in
     record {
       list = c.self.invariant.list;
       ids = subst (AreIdsIn list) (sym c.kept.ensures.kept) (kept-ids list (record { «module» = added.new.opened }) added.result (subst (AreIdsOf list) (sym added.ensures.types) ids));
       valid = subst (AreValidIn features list) (sym c.kept.ensures.kept) (kept-valid list (record { «module» = added.new.opened }) features added.result valid);
+      first = subst (AreFirstIn list types) (sym c.kept.ensures.kept) (kept-first list (record { «module» = added.new.opened }) types added.result first);
     }
 
 pub returns-in-Ok-clause-moves : goal.returns-in-Ok-clause-moves

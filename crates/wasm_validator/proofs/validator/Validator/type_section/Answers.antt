@@ -4,9 +4,13 @@ use Rattle.wasm_validator_type_list.specs.DefTypes.{types_of_list}
 use Rattle.wasm_validator.specs.Machine.{section_items}
 use Rattle.wasm_validator.specs.Standing.{Standing, Moves}
 use Rattle.wasm_validator.specs.States.{stage_of, after_section}
-use Rattle.wasm_validator.proofs.Sections.{open-ids, open-valid}
+use Rattle.wasm_validator.proofs.Sections.{open-ids, open-valid, open-first, added-ids, added-valid}
 use Rattle.wasm_validator.proofs.SectionMoves.{section_moves}
-use Rattle.wasm_readers.specs.SectionsSeen.{section_start}
+use Rattle.wasm_readers.specs.SectionsSeen.{section_start, section_end}
+use Rattle.std.specs.Prelude.{IfErr}
+use Rattle.wasm_validator_module_state.specs.declared.module_state.ModuleState.{ModuleState}
+use Rattle.wasm_validator.specs.Ready.{AreIdsIn, AreValidIn, AreFirstIn}
+use Rattle.wasm_validator.proofs.KeptTypes.{grown-first}
 use Rattle.wasm_readers_errors.specs.declared.features.WasmFeatures.{WasmFeatures}
 use Rattle.wasm_validator_types.specs.Spaces.{Spaces}
 use Rattle.wasm_validator_core.specs.declared.error.Error.{Error}
@@ -14,7 +18,7 @@ use Rattle.wasm_validator_core.specs.Answers.{TypesSoFar}
 use Rattle.wasm_readers_errors.specs.Refusals.{plain}
 use Rattle.wasm_readers_errors.specs.declared.error.Fault.TheVariants as fault
 use Rattle.wasm_validator.specs.States.{order_at}
-use Rattle.wasm_validator.specs.SectionsTold.{TellsTypes}
+use Rattle.wasm_validator.specs.SectionsTold.{StandsBetween, TellsTypes}
 use Rattle.wasm_validator.proofs.ToldMoves.{told_within, order_within}
 use Rattle.wasm_validator.proofs.validator.Validator.type_section.Goals as goal
 
@@ -23,6 +27,27 @@ add_types-added-requires-clause-ids g c = open-ids c.self.inside.types c.self.in
 
 pub add_types-added-requires-clause-valid : goal.add_types-added-requires-clause-valid
 add_types-added-requires-clause-valid g c = open-valid c.self.inside.features c.self.inside.types c.self.inside.state c.in-Ok.state.«module» c.in-Ok.ensures.ok c.self.invariant.valid
+
+pub invariant_of-self : goal.invariant_of-self
+invariant_of-self g c =
+    let features = c.self.inside.features in
+    let old = c.self.inside.types in
+    let added = c.add_types-added in
+    let new = added.new.list in
+    let before = c.in-Ok.state.«module» in
+    let after : ModuleState g.row.A.Denot = record { «module» = added.new.opened } in
+    let types = c.self.inside.constants.types in
+    record {
+      list = added.ensures.open;
+      ids = subst (AreIdsIn new) (sym c.kept.ensures.kept) (added-ids new after added.result added.ensures.ids);
+      valid = subst (AreValidIn features new) (sym c.kept.ensures.kept) (added-valid new after features added.result added.ensures.valid);
+      first = subst (AreFirstIn new types) (sym c.kept.ensures.kept)
+          (grown-first features old new types before after (count_of c.args.section.now) (bytes_of c.args.section.now) added.result c.tells_types_apart.ensures.listable c.tells_types_apart-in-Ok.ensures.listable c.tells_types_apart-in-Ok.ensures.apart
+          (added.ensures.open.mode ∙ sym c.self.invariant.list.mode) added.ensures.added (open-first old types c.self.inside.state before c.in-Ok.ensures.ok c.self.invariant.first));
+    }
+
+pub returns-in-Ok-clause-place : goal.returns-in-Ok-clause-place
+returns-in-Ok-clause-place g c = subst (λ r. IfErr r (StandsBetween (section_start c.args.section.now) (section_end c.args.section.now))) (sym c.kept.ensures.same) c.add_types-added.ensures.place
 
 pub returns-in-Ok-clause-moves : goal.returns-in-Ok-clause-moves
 returns-in-Ok-clause-moves g c =
