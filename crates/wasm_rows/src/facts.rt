@@ -1,6 +1,6 @@
 use crate::features::name_of;
 use crate::row::Trouble;
-use crate::text::{push_entity, push_global, push_memory, push_table};
+use crate::text::{push_entity, push_global, push_memory, push_reference, push_table};
 use std::alloc::AllocError;
 use std::fmt::Write;
 use wasm_validator::{Error, Types, Validator};
@@ -204,12 +204,11 @@ fn push_tags(text: &mut String, types: &Types) -> Result<(), AllocError> {
     Ok(())
 }
 
-/// Adds nothing where there are no element segments, and else how many there are.
 fn push_elements(text: &mut String, types: &Types) -> Result<(), AllocError> {
     let shown = types.as_ref();
-    let count = shown.element_count();
-    if count == 0 {
-        return Ok(());
+    for index in 0..shown.element_count() {
+        push_separator(text, index == 0)?;
+        push_reference(text, shown.element_at(index))?;
     }
-    write!(text, " {count}")
+    Ok(())
 }

@@ -80,7 +80,7 @@ fn push_value(text: &mut String, ty: ValType) -> Result<(), AllocError> {
 
 /// Adds a reference type in the long one of its text forms (Core Specification 3.0, Text Format,
 /// Types, Reference Types).
-fn push_reference(text: &mut String, ty: RefType) -> Result<(), AllocError> {
+pub fn push_reference(text: &mut String, ty: RefType) -> Result<(), AllocError> {
     text.push_str("(ref ")?;
     push_where(text, ty.is_nullable(), "null ")?;
     push_heap(text, ty.heap_type())?;
