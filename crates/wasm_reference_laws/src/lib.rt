@@ -1,0 +1,17 @@
+//! The functions of a module that count as referenced, as its pieces name them: those of its exports,
+//! its element segments and its constant expressions (Core Specification 3.0, Validation, Modules).
+#![tactic(auto)]
+
+ghost use Rattle.wasm_reference_laws.specs.Naming.{NumbersNameNoFunctions, PiecesNameWhatIsReferenced};
+
+/// A constant expression that gives an address names no functions: once a reference is among its
+/// operands, one always is.
+pub fn numbers_name_no_functions<R>()
+    ensures names { NumbersNameNoFunctions R }
+{}
+
+/// The functions that the pieces of a module name, in however many sections, are those that count as
+/// referenced.
+pub fn pieces_name_what_is_referenced()
+    ensures names { PiecesNameWhatIsReferenced }
+{}

@@ -1,0 +1,4 @@
+pub mod References
+pub mod Marks
+pub mod Marking
+pub mod Operators
