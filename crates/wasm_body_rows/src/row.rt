@@ -1,15 +1,10 @@
-ghost use Rattle.std.specs.Prelude.{◌≡◌, true, IsSome};
-ghost use Rattle.wasm_operator_control.specs.Blocks.{function_in};
-
 use crate::features::{name_of, parse_features};
 use crate::sample::Sample;
 use std::alloc::{AllocError, AllocFailed, Global};
 use std::fmt::Write;
-use wasm_module_resources::WasmModuleResources;
 use wasm_parser::FunctionBody;
 use wasm_readers::{BinaryReader, Error};
 use wasm_readers_errors::WasmFeatures;
-use wasm_readers_types::CompositeInnerType;
 use wasm_sample_resources::SampleResources;
 use wasm_validator_func::{FuncToValidate, FuncValidatorAllocations};
 
@@ -128,19 +123,6 @@ fn parse_bytes(alloc: Global, text: &str) -> Result<Vec<u8>, Trouble> {
     }
 }
 
-/// Whether the type with this index is a function's.
-fn is_function<T: WasmModuleResources>(resources: &T, type_index: u32) -> bool
-    ensures { result ≡ true → IsSome (function_in (T.context resources.now) type_index) }
-{
-    match resources.sub_type_at(type_index) {
-        Some(ty) => match &ty.composite_type.inner {
-            CompositeInnerType::Func(_) => true,
-            _ => false,
-        },
-        None => false,
-    }
-}
-
 /// The index of the function whose body a row has: it stands behind those of the sample.
 const VALIDATED: u32 = 8;
 
@@ -155,9 +137,6 @@ fn validate(
     let Some(resources) = SampleResources::new(sample.parts()) else {
         return Err(Trouble::Malformed("a sample with too many types"));
     };
-    if !is_function(&resources, type_index) {
-        return Err(Trouble::Malformed("a type index of what is no function type"));
-    }
     let body = FunctionBody::new(BinaryReader::new(bytes, 0));
     let function = FuncToValidate {
         resources: &resources,

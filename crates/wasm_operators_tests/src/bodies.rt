@@ -1,18 +1,15 @@
 //! Bodies that are validated operator by operator, over look-ups of a user's own.
 
-ghost use Rattle.std.specs.Prelude.{◌≡◌, true, IsSome};
 ghost use Rattle.wasm_operators.specs.SeenOperators.{operator_of};
-ghost use Rattle.wasm_operator_control.specs.Blocks.{function_in};
 ghost use Rattle.wasm_validator_func.specs.Stepped.{IsWrittenInstruction};
 
 use std::alloc::Global;
 use std::test::Fail;
-use wasm_module_resources::WasmModuleResources;
 use wasm_operators::{
     BlockType, ConstantOperator, ControlOperator, NumericOperator, Operator, ParametricOperator,
 };
 use wasm_readers_errors::WasmFeatures;
-use wasm_readers_types::{CompositeInnerType, FuncType, SubType, ValType};
+use wasm_readers_types::{FuncType, SubType, ValType};
 use wasm_sample_resources::{SampleParts, SampleResources};
 use wasm_validator_func::{FuncToValidate, FuncValidator, FuncValidatorAllocations};
 
@@ -45,27 +42,11 @@ fn parts(types: &[SubType]) -> SampleParts<'_, Global> {
     }
 }
 
-/// Whether type 0 is a function's.
-fn is_function<T: WasmModuleResources>(resources: &T) -> bool
-    ensures { result ≡ true → IsSome (function_in (T.context resources.now) 0) }
-{
-    match resources.sub_type_at(0) {
-        Some(ty) => match &ty.composite_type.inner {
-            CompositeInnerType::Func(_) => true,
-            _ => false,
-        },
-        None => false,
-    }
-}
-
 /// The validator of a body of type 0, at its start.
 fn begun<'a>(
     alloc: Global,
     resources: &'a SampleResources<'a, Global>,
 ) -> Option<FuncValidator<&'a SampleResources<'a, Global>>> {
-    if !is_function(resources) {
-        return None;
-    }
     let function = FuncToValidate {
         resources,
         index: 0,

@@ -1,10 +1,12 @@
 -- The body of a function, from its start.
-use Rattle.std.proofs.Common.{◌≡◌, ◌≤◌, ◌<◌, ◌+◌, ◌∙◌, refl, sym, ap, subst, ℕ, Bool, List, length, map, Option, Some, None, Err, length-append, arith}
+use Rattle.std.proofs.Common.{◌≡◌, inl, inr, ◌≤◌, ◌<◌, ◌+◌, ◌∙◌, refl, sym, ap, subst, ℕ, Bool, false, true≢false, List, length, map, Option, Some, None, Err, length-append, arith}
 use Rattle.std.proofs.lemmas.List.{length-map}
+use Rattle.std.specs.Prelude.{is_some}
 use Rattle.std.specs.Option.{option_map}
 use Rattle.wasm_spec.specs.Features.{Features}
 use Rattle.wasm_rules.specs.Contexts.{Context}
 use Rattle.wasm_rules.specs.FeatureFlags.{features_of}
+use Rattle.wasm_binary_reader.specs.declared.binary_reader.BinaryReader.{BinaryReader}
 use Rattle.wasm_readers_errors.specs.declared.error.Error.{Error}
 use Rattle.wasm_readers_errors.specs.declared.error.Error.TheVariants.{Refused, OutOfMemory}
 use Rattle.wasm_readers_errors.specs.declared.error.Refusal.{Refusal}
@@ -19,10 +21,13 @@ use Rattle.wasm_operator_stacks.specs.Seen.{surroundings}
 use Rattle.wasm_operator_control.specs.Blocks.{function_in}
 use Rattle.wasm_operator_validator.specs.Typed.{typed_state, locals_in, parameter, BeginsBody}
 use Rattle.wasm_operator_validator.specs.declared.validator.OperatorValidator.{OperatorValidator}
-use Rattle.wasm_operator_validator.specs.Checked.{within}
+use Rattle.wasm_operator_checks.specs.Told.{TellsError}
+use Rattle.wasm_operator_checks.specs.declared.faults.OperatorError.{OperatorError}
+use Rattle.wasm_operator_checks.specs.declared.faults.OperatorError.TheVariants as operator_error
+use Rattle.wasm_operator_validator.specs.Checked.{within, IsRefusedAt, StandsIn}
 use Rattle.wasm_validator_func.specs.Bodies.{body_from}
 use Rattle.wasm_operator_steps.specs.FunctionBodies.{IsBody}
-use Rattle.wasm_validator_func.specs.Functions.{IsFunctionBody, Refuses, HasMore}
+use Rattle.wasm_validator_func.specs.Functions.{IsFunctionBody, Refuses, HasMore, StandsFirst, StandsInOrFirst}
 use Rattle.wasm_validator_func.specs.Validated.{body_in, Validates}
 use Rattle.wasm_validator_func.proofs.Finding.{finds, are_found}
 
@@ -76,10 +81,10 @@ module _ {A : Type 0} (v : OperatorValidator A) (F : Features) (C : Context Unpa
   refused : features_of v.stacks.features ≡ F → BeginsBody v C n → body_in v C bytes ≡ None → IsFunctionBody F C n bytes → ⊥
   refused e b f x = something (x.locals, x.last) (sym (found e b x) ∙ f)
 
--- a function of too many parameters has no body
+-- where there is no function type, and where one has too many parameters, nothing is a body
 module _ (F : Features) (C : Context UnpackedIndex) (n : ℕ) (bytes : List ℕ) where
-  too_many : (X : Type 0) (r : Refusal) → HasMore {X = X} (Err (Refused r)) (function_in C n) → IsFunctionBody F C n bytes → ⊥
-  too_many X r h x =
+  none_or_too_many : (X : Type 0) (r : Refusal) → HasMore {X = X} (Err (Refused r)) (function_in C n) → IsFunctionBody F C n bytes → ⊥
+  none_or_too_many X r h x =
       let many : 50000 < length x.signature.takes = subst (λ o. HasMore {X = X} (Err (Refused r)) o) x.is_function h in
       let all : length x.locals ≡ length (parameters x.signature) + length x.body.locals = ap length x.body.all ∙ length-append (parameters x.signature) x.body.locals in
       let mapped : length (parameters x.signature) ≡ length x.signature.takes = length-map x.signature.takes parameter in
@@ -88,7 +93,7 @@ module _ (F : Features) (C : Context UnpackedIndex) (n : ℕ) (bytes : List ℕ)
 
   -- the answer where the start is refused
   pub begins_not : (X : Type 0) (e : Error) → HasMore {X = X} (Err e) (function_in C n) → Refuses (IsFunctionBody F C n bytes) e
-  begins_not X (Refused r) h = too_many X r h
+  begins_not X (Refused r) h = none_or_too_many X r h
   begins_not X OutOfMemory h = tt
 
 module _ {A : Type 0} (v : OperatorValidator A) (F : Features) (C : Context UnpackedIndex) (n : ℕ) (bytes : List ℕ) where
@@ -98,4 +103,30 @@ module _ {A : Type 0} (v : OperatorValidator A) (F : Features) (C : Context Unpa
   body_refused (Refused r) ls t e b f = refused v F C n bytes e b f
   body_refused OutOfMemory ls t e b f = tt
 
-pub ruleset functions = (begins_not)
+-- there is no function type
+pub none_there : (X : Type 0) (e : Error) (o : Option (Signature UnpackedIndex)) → false ≡ is_some o → HasMore {X = X} (Err e) o
+none_there X (Refused r) None h = tt
+none_there X (Refused r) (Some g) h = absurd (true≢false (sym h))
+none_there X OutOfMemory o h = tt
+
+-- a refusal of operators that is told at 0, and one at 0
+pub first_told : (f : OperatorError) (e : Error) → TellsError f 0 e → StandsFirst e
+first_told (operator_error.Refused f) (Refused r) h = h.0
+first_told (operator_error.Refused f) OutOfMemory h = tt
+first_told operator_error.OutOfMemory (Refused r) h = absurd h
+first_told operator_error.OutOfMemory OutOfMemory h = tt
+
+pub first_refused : (e : Error) → IsRefusedAt 0 e → StandsFirst e
+first_refused (Refused r) h = h
+first_refused OutOfMemory h = tt
+
+pub ruleset starts = (none_there, first_told, first_refused)
+
+-- where a refusal stands
+pub at_first : (body : BinaryReader) (e : Error) → StandsFirst e → StandsInOrFirst body e
+at_first body e h = inl h
+
+pub inside : (body : BinaryReader) (e : Error) → StandsIn body e → StandsInOrFirst body e
+inside body e h = inr h
+
+pub ruleset functions = (begins_not, at_first, inside)

@@ -1,6 +1,6 @@
 //! The validator of one function body.
 
-ghost use Rattle.std.specs.Prelude.{◌≡◌, ◌≤◌, ◌<◌, ◌^◌, ◌||◌, true, false, not, is_ok, length, slice_get, IfOk, IfErr, OnErr, IsSome};
+ghost use Rattle.std.specs.Prelude.{◌≡◌, ◌≤◌, ◌<◌, ◌^◌, ◌||◌, true, false, not, is_ok, is_some, length, slice_get, IfOk, IfErr, OnErr};
 ghost use Rattle.std.specs.Option.{option_map};
 ghost use Rattle.wasm_binary_reader.specs.Reader.{SameInput, position_in, rest};
 ghost use Rattle.wasm_rules.specs.FeatureFlags.{features_of};
@@ -15,7 +15,7 @@ ghost use Rattle.wasm_operator_validator.specs.Visited.{StepsAt};
 ghost use Rattle.wasm_operator_validator.specs.Typed.{typed_state, locals_in, BeginsBody};
 ghost use Rattle.wasm_operator_validator.specs.Shown.{known_type, shown_frame};
 ghost use Rattle.wasm_operator_validator.specs.Checked.{StandsIn};
-ghost use Rattle.wasm_validator_func.specs.Functions.{IsFunctionBody, Decides, HasMore};
+ghost use Rattle.wasm_validator_func.specs.Functions.{IsFunctionBody, Decides, HasMore, StandsFirst, StandsInOrFirst};
 ghost use Rattle.wasm_validator_func.specs.Validated.{declaration_of, declared_in, listed_in, body_in, Goes, DeclaredAt, Declares, Validates};
 
 use crate::bodies::{check_body, refused};
@@ -27,8 +27,8 @@ use wasm_operator_validator::{Frame, OperatorValidator, OperatorValidatorAllocat
 use wasm_operators::Operator;
 use wasm_parser::FunctionBody;
 use wasm_readers::BinaryReader;
-use wasm_readers_errors::{Error, OperatorRule, WasmFeatures};
-use wasm_readers_types::ValType;
+use wasm_readers_errors::{Error, Fault, OperatorRule, Refusal, WasmFeatures};
+use wasm_readers_types::{CompositeInnerType, ValType};
 
 /// A function whose body is to be validated: what is looked up of its module, its index, its type's
 /// index, and the features.
@@ -63,18 +63,36 @@ impl<A: Allocator + Copy> FuncValidatorAllocations<A> {
     }
 }
 
+/// Accepts the index of a function type.
+///
+/// # Errors
+///
+/// Refuses any other, at 0.
+fn check_function_type<T: WasmModuleResources>(resources: &T, ty: u32) -> Result<(), Error>
+    ensures known { is_ok result ≡ is_some (function_in (T.context resources.now) ty) }
+    ensures first { IfErr result StandsFirst }
+{
+    match resources.sub_type_at(ty) {
+        Some(sub) => match &sub.composite_type.inner {
+            CompositeInnerType::Func(_) => Ok(()),
+            _ => Err(Error::Refused(Refusal::new(Fault::NotAFunctionType(ty), 0))),
+        },
+        None => Err(Error::Refused(Refusal::new(Fault::UnknownType(ty), 0))),
+    }
+}
+
 impl<T: WasmModuleResources + Drop> FuncToValidate<T> {
-    /// The validator of the function's body, at its start, in memory that was used before. The
-    /// type's index names a function type.
+    /// The validator of the function's body, at its start, in memory that was used before.
     ///
     /// # Errors
     ///
-    /// Refuses more than 50,000 parameters, at 0, and answers want of memory.
+    /// Refuses, at 0, a type's index that names no function type, and more than 50,000 parameters;
+    /// answers want of memory.
+    #[tactic(auto, using(crate::proofs::Functions::starts))]
     pub fn into_validator<A: Allocator>(
         self,
         allocations: FuncValidatorAllocations<A>,
     ) -> Result<FuncValidator<T, A>, Error>
-        requires { IsSome (function_in (T.context self.resources) self.ty) }
         ensures begins { IfOk result (λ v. BeginsBody v.validator (T.context self.resources)
             self.ty) }
         ensures few { IfOk result (λ v. length (locals_in v.validator) ≤ 50000) }
@@ -82,6 +100,7 @@ impl<T: WasmModuleResources + Drop> FuncToValidate<T> {
         ensures resources { IfOk result (λ v. v.resources ≡ self.resources) }
         ensures index { IfOk result (λ v. v.index ≡ self.index) }
         ensures many { HasMore result (function_in (T.context self.resources) self.ty) }
+        ensures first { IfErr result StandsFirst }
     {
         let FuncToValidate {
             resources,
@@ -89,6 +108,10 @@ impl<T: WasmModuleResources + Drop> FuncToValidate<T> {
             ty,
             features,
         } = self;
+        match check_function_type(&resources, ty) {
+            Ok(()) => {}
+            Err(error) => return Err(error),
+        }
         let begun = OperatorValidator::new_func(ty, features, &resources, allocations.0);
         let validator = match begun {
             Ok(validator) => validator,
@@ -105,21 +128,21 @@ impl<T: WasmModuleResources + Drop> FuncToValidate<T> {
     }
 
     /// Validates the function's body, in memory that was used before, and gives the memory back.
-    /// The type's index names a function type.
     ///
     /// # Errors
     ///
     /// Refused exactly where it isn't the body of a function of this type (Core Specification 3.0,
-    /// Validation, Modules, Functions), and where memory is.
+    /// Validation, Modules, Functions), and where memory is. Where the type's index names no
+    /// function type, nothing is.
     #[tactic(auto, using(crate::proofs::Functions::functions))]
     pub fn validate<A: Allocator>(
         self,
         body: &FunctionBody<'_>,
         allocations: FuncValidatorAllocations<A>,
     ) -> Result<FuncValidatorAllocations<A>, Error>
-        requires { IsSome (function_in (T.context self.resources) self.ty) }
-        ensures { Decides (IsFunctionBody (features_of self.features)
+        ensures decides { Decides (IsFunctionBody (features_of self.features)
             (T.context self.resources) self.ty (body_of body.now)) result }
+        ensures place { IfErr result (StandsInOrFirst (body_reader body.now)) }
     {
         let mut validator = match self.into_validator(allocations) {
             Ok(validator) => validator,

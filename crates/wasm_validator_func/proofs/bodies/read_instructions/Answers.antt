@@ -1,4 +1,4 @@
-use Rattle.std.proofs.Common.{◌≡◌, ◌<◌, ◌≤◌, ◌∙◌, ◌||◌, ap, subst, Some, Ok, Err, false, length, arith, rules}
+use Rattle.std.proofs.Common.{◌≡◌, ◌<◌, ◌∙◌, ◌||◌, ap, subst, Some, Ok, Err, false, length, arith, rules}
 use Rattle.wasm_binary_reader.specs.Reader.{position_in, rest}
 use Rattle.wasm_operators.proofs.Skipping.{shorter}
 use Rattle.wasm_operator_steps.specs.Steps.{is_finished}

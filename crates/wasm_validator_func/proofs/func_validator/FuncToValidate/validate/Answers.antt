@@ -6,8 +6,8 @@ use Rattle.wasm_validator_func.specs.Validated.{body_in, Validates}
 use Rattle.wasm_validator_func.proofs.Functions.{accepted, body_refused}
 use Rattle.wasm_validator_func.proofs.func_validator.FuncToValidate.validate.Goals as goal
 
-pub returns-in-Ok-validate : goal.returns-in-Ok-validate
-returns-in-Ok-validate g c =
+pub returns-in-Ok-validate-clause-decides : goal.returns-in-Ok-validate-clause-decides
+returns-in-Ok-validate-clause-decides g c =
     let context = g.T.WasmModuleResources.context in
     let v = c.in-Ok.validator.validator in
     let w = c.validate.new.self.validator in
@@ -16,8 +16,8 @@ returns-in-Ok-validate g c =
     accepted v (features_of c.args.self.features) (context c.args.self.resources) c.args.self.ty bytes (locals_in w) (typed_state w) (ap features_of c.in-Ok.ensures.features) c.in-Ok.ensures.few
     c.in-Ok.ensures.begins (subst (λ r. body_in v (context r) bytes ≡ Some (locals_in w, typed_state w)) c.in-Ok.ensures.resources took)
 
-pub returns-in-Err-validate : goal.returns-in-Err-validate
-returns-in-Err-validate g c =
+pub returns-in-Err-validate-clause-decides : goal.returns-in-Err-validate-clause-decides
+returns-in-Err-validate-clause-decides g c =
     let context = g.T.WasmModuleResources.context in
     let v = c.in-Ok.validator.validator in
     let w = c.validate.new.self.validator in
