@@ -31,6 +31,14 @@ fn has_data<T: WasmModuleResources>(resources: &T, data_index: u32) -> bool
     }
 }
 
+/// What is told of a data segment that isn't there.
+fn missing_data<T: WasmModuleResources>(resources: &T, data_index: u32) -> OperatorFault {
+    match resources.data_count() {
+        Some(_) => OperatorFault::at(OperatorRule::UnknownData, data_index),
+        None => OperatorFault::new(OperatorRule::MissingDataCount),
+    }
+}
+
 /// `memory.size`.
 #[tactic(auto, using(wasm_operator_checks::proofs::Acting::acts, wasm_operator_checks::proofs::Typing::memories, wasm_operator_checks::proofs::Typing::types))]
 fn memory_size<A: Allocator, T: WasmModuleResources>(
@@ -122,10 +130,7 @@ fn memory_init<A: Allocator, T: WasmModuleResources>(
         return Err(OperatorError::Refused(OperatorFault::new(OperatorRule::BulkMemory)));
     }
     if !has_data(resources, data_index) {
-        return Err(OperatorError::Refused(OperatorFault::at(
-            OperatorRule::UnknownData,
-            data_index,
-        )));
+        return Err(OperatorError::Refused(missing_data(resources, data_index)));
     }
     match resources.memory_at(mem) {
         Some(memory) => {
@@ -156,10 +161,7 @@ fn data_drop<A: Allocator, T: WasmModuleResources>(
         return Err(OperatorError::Refused(OperatorFault::new(OperatorRule::BulkMemory)));
     }
     if !has_data(resources, data_index) {
-        return Err(OperatorError::Refused(OperatorFault::at(
-            OperatorRule::UnknownData,
-            data_index,
-        )));
+        return Err(OperatorError::Refused(missing_data(resources, data_index)));
     }
     plain(stacks, resources, Takes::None, ValTypes::None)
 }
