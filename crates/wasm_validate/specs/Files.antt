@@ -2,15 +2,15 @@
 use Rattle.wasm_readers_errors.specs.declared.features.TheConstants.WasmFeatures.{STANDARD}
 use Rattle.std.specs.Prelude.{ℕ, List, IsSome, IfSome}
 use Rattle.std.specs.List.{All}
-use Rattle.wasm_validator.specs.Verdict.{AreModule, AreNoServedModule}
+use Rattle.wasm_validator.specs.Verdict.{AreModule, AreNoModule}
 use Rattle.wasm_validate.specs.declared.run.Input.{Input}
 
--- with the default features the bytes are a valid module, or no valid module of the forms that are served
+-- with the default features the bytes are a valid module, or no valid module
 abbrev pub AreAccepted : List ℕ → Type 0
 AreAccepted bytes = AreModule STANDARD bytes
 
 abbrev pub AreRefused : List ℕ → Type 0
-AreRefused bytes = AreNoServedModule STANDARD bytes
+AreRefused bytes = AreNoModule STANDARD bytes
 
 -- a file that could be read, and of whose bytes this holds
 abbrev pub IsReadAs : {A : Type 0} → (List ℕ → Type 0) → Input A → Type 0

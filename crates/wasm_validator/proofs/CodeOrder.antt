@@ -1,5 +1,5 @@
 -- Behind the start of the code come bodies, data sections and custom sections alone.
-use Rattle.std.proofs.Common.{◌≡◌, refl, sym, subst, ◌∙◌, ◌⊎◌, inl, inr, ℕ, Bool, true, false, List, [], ◌∷◌}
+use Rattle.std.proofs.Common.{◌≡◌, refl, sym, subst, ◌∙◌, ◌⊎◌, inl, inr, ℕ, Bool, true, false, List, [], ◌∷◌, ◌++◌}
 use Rattle.wasm_spec.specs.Framing.{Piece, Version, Custom, Counted, Start, DataCount, CodeStart, CodeEntry, Unknown, End}
 use Rattle.wasm_rules.specs.Sections.{rank, ranks}
 use Rattle.wasm_rules.proofs.Ordered.{Follows, done, free, here, body, later}
@@ -24,6 +24,31 @@ abbrev pub InOrder : Bool → List Piece → Type 0
 InOrder code [] = Unit {0}
 InOrder true (p ∷ ps) = IsLate (rank p) × InOrder true ps
 InOrder false (p ∷ ps) = InOrder (is_code_start p) ps
+
+-- bodies come behind a start of the code, which may have been before
+abbrev pub HasStarted : Bool → List Piece → Type 0
+HasStarted started [] = Unit {0}
+HasStarted started (CodeEntry bytes ∷ ps) = (started ≡ true) × HasStarted started ps
+HasStarted started (CodeStart n size ∷ ps) = HasStarted true ps
+HasStarted started (Version number kind ∷ ps) = HasStarted started ps
+HasStarted started (Custom name bytes ∷ ps) = HasStarted started ps
+HasStarted started (Counted id n bytes ∷ ps) = HasStarted started ps
+HasStarted started (Start x ∷ ps) = HasStarted started ps
+HasStarted started (DataCount n ∷ ps) = HasStarted started ps
+HasStarted started (Unknown id bytes ∷ ps) = HasStarted started ps
+HasStarted started (End ∷ ps) = HasStarted started ps
+
+pub started-append : (started : Bool) (ps qs : List Piece) → HasStarted started ps → ((b : Bool) → HasStarted b qs) → HasStarted started (ps ++ qs)
+started-append started [] qs h k = k started
+started-append started (CodeEntry bytes ∷ ps) qs h k = (h.0, started-append started ps qs h.1 k)
+started-append started (CodeStart n size ∷ ps) qs h k = started-append true ps qs h k
+started-append started (Version number kind ∷ ps) qs h k = started-append started ps qs h k
+started-append started (Custom name bytes ∷ ps) qs h k = started-append started ps qs h k
+started-append started (Counted id n bytes ∷ ps) qs h k = started-append started ps qs h k
+started-append started (Start x ∷ ps) qs h k = started-append started ps qs h k
+started-append started (DataCount n ∷ ps) qs h k = started-append started ps qs h k
+started-append started (Unknown id bytes ∷ ps) qs h k = started-append started ps qs h k
+started-append started (End ∷ ps) qs h k = started-append started ps qs h k
 
 -- ranks that are all late
 abbrev AreLate : List ℕ → Type 0

@@ -34,7 +34,8 @@ use Rattle.wasm_validator_items.specs.Sections.{read_section}
 use Rattle.wasm_validator_items.specs.Entries.{is_constant_of, is_constant_or_none, are_items, may_be_placed, may_be_stored, listed_items_type, add_table_entry, add_global_entry, add_element, add_data}
 use Rattle.wasm_validator_items_laws.specs.Maps.{map_table_entry, map_global_entry, map_items, map_element}
 use Rattle.wasm_validator_items_laws.specs.Reading.{EntriesAreRenamed}
-use Rattle.wasm_validator.specs.Standing.{Standing}
+use Rattle.wasm_validator.specs.Standing.{Noted, naming, Standing}
+use Rattle.wasm_referenced_functions.specs.References.{names_of_tables, names_of_globals, names_of_elements}
 use Rattle.wasm_validator.specs.States.{after_section}
 use Rattle.wasm_validator.specs.SectionLaws.{AddsEach, HasAddedEach, FitsTable, FitsGlobal, FitsElement, FitsData, TablesAdd, GlobalsAdd, ElementsAdd, SegmentsAdd}
 use Rattle.wasm_validator.proofs.SectionLists.{Renames, limited, section_entries, renames_nothing, same_item}
@@ -68,16 +69,16 @@ module _ {V W : Type 0} {f : V → W} {add : Spaces → W → Option Spaces} {ru
       ∙ fits_each vs (next s v) t (a.keeps s v (length vs) k) h.1
 
   module _ (reads : List ℕ → Option (V × List ℕ)) (renamed : List ℕ → Option (W × List ℕ)) (renames : Renames f reads renamed) (there most : ℕ)
-      (old new : Standing) (us : TypesSoFar) (m : Spaces) (count : ℕ) (bytes : List ℕ) (room : (n : ℕ) → there + n ≤ most → Keeps m n) where
+      (old new : Standing) (us : TypesSoFar) (m : Spaces) (n : Noted) (count : ℕ) (bytes : List ℕ) (room : (k : ℕ) → there + k ≤ most → Keeps m k) where
     abbrev section : Option Spaces
     section = read_section renamed add there most count bytes m
 
     entries : section ≡ option_and_then (limited add f there most m) (items_at reads count bytes)
     entries = section_entries add f there most m reads renamed renames count bytes
 
-    from_section : moved old new us section ≡ Some new → HasAddedEach reads rule next there most old new us m count bytes
+    from_section : moved old new us n section ≡ Some new → HasAddedEach reads rule next there most old new us m n count bytes
     from_section e =
-        let x = moved_from old new us section e in
+        let x = moved_from old new us n section e in
         let b = then_some (limited add f there most m) (items_at reads count bytes) x.0 (sym entries ∙ x.1) in
         let c = guarded (leb (there + length b.0) most) (each add m (map f b.0)) x.0 b.2 in
         let few = leb-true (there + length b.0) most c.0 in
@@ -90,9 +91,9 @@ module _ {V W : Type 0} {f : V → W} {add : Spaces → W → Option Spaces} {ru
           after = x.2;
         }
 
-    to_section : HasAddedEach reads rule next there most old new us m count bytes → moved old new us section ≡ Some new
+    to_section : HasAddedEach reads rule next there most old new us m n count bytes → moved old new us n section ≡ Some new
     to_section h =
-        moved_to old new us section h.lists
+        moved_to old new us n section h.lists
         (entries
         ∙ ap (option_and_then (limited add f there most m)) h.read
         ∙ ap (λ b. cond b (each add m (map f h.items)) None) (le-leb (there + length h.items) most h.few)
@@ -100,7 +101,7 @@ module _ {V W : Type 0} {f : V → W} {add : Spaces → W → Option Spaces} {ru
         ∙ fits_each h.items m h.lists (room (length h.items) h.few) h.added)
         h.after
 
-    pub added_section : (id : ℕ) → after_section old id count bytes ≡ moved old new us section → (after_section old id count bytes ≡ Some new) ↔ HasAddedEach reads rule next there most old new us m count bytes
+    pub added_section : (id : ℕ) → after_section old id count bytes ≡ moved old new us n section → (after_section old id count bytes ≡ Some new) ↔ HasAddedEach reads rule next there most old new us m n count bytes
     added_section id is = (λ e. from_section (sym is ∙ e), λ h. is ∙ to_section h)
 
 -- one more at the end of a list, which leaves room for one less
@@ -206,25 +207,25 @@ module _ (F : Features) (us : TypesSoFar) where
   }
 
 pub tables_add : EntriesAreRenamed → TablesAdd
-tables_add renamed old new us m types count bytes r =
+tables_add renamed old new us m n types count bytes r =
     let F = features_of old.features in
-    added_section (adding_tables F us m.types types r.stand) (table_entry_at expression_at index) (table_entry_at expression_at written) renamed.tables (length m.tables) (most_tables F) old new us m count bytes (λ n few. (refl, few)) 4
-    (at_module old us m 4 count bytes r.stage)
+    added_section (adding_tables F us m.types types r.stand) (table_entry_at expression_at index) (table_entry_at expression_at written) renamed.tables (length m.tables) (most_tables F) old new us m (naming (names_of_tables count bytes) n) count bytes (λ n few. (refl, few)) 4
+    (at_module old us m n 4 count bytes r.stage)
 
 pub globals_add : EntriesAreRenamed → GlobalsAdd
-globals_add renamed old new us m types count bytes r =
+globals_add renamed old new us m n types count bytes r =
     let F = features_of old.features in
-    added_section (adding_globals F us m.types types r.stand) (global_entry_at expression_at index) (global_entry_at expression_at written) renamed.globals (length m.globals) 1000000 old new us m count bytes (λ n few. (refl, few)) 6
-    (at_module old us m 6 count bytes r.stage)
+    added_section (adding_globals F us m.types types r.stand) (global_entry_at expression_at index) (global_entry_at expression_at written) renamed.globals (length m.globals) 1000000 old new us m (naming (names_of_globals count bytes) n) count bytes (λ n few. (refl, few)) 6
+    (at_module old us m n 6 count bytes r.stage)
 
 pub elements_add : EntriesAreRenamed → ElementsAdd
-elements_add renamed old new us m types count bytes r =
+elements_add renamed old new us m n types count bytes r =
     let F = features_of old.features in
-    added_section (adding_elements F us) (element_at expression_at index) (element_at expression_at written) renamed.elements (length m.elements) 100000 old new us m count bytes (λ n few. tt) 9
-    (at_module old us m 9 count bytes r.stage)
+    added_section (adding_elements F us) (element_at expression_at index) (element_at expression_at written) renamed.elements (length m.elements) 100000 old new us m (naming (names_of_elements count bytes) n) count bytes (λ n few. tt) 9
+    (at_module old us m n 9 count bytes r.stage)
 
 pub segments_add : EntriesAreRenamed → SegmentsAdd
-segments_add _ old new us m types count bytes r =
+segments_add _ old new us m n types count bytes r =
     let F = features_of old.features in
-    added_section (adding_segments F us) (data_at expression_at) (data_at expression_at) (renames_nothing (data_at expression_at)) 0 100000 old new us m count bytes (λ n few. tt) 11
-    (at_module old us m 11 count bytes r.stage)
+    added_section (adding_segments F us) (data_at expression_at) (data_at expression_at) (renames_nothing (data_at expression_at)) 0 100000 old new us m n count bytes (λ n few. tt) 11
+    (at_module old us m n 11 count bytes r.stage)

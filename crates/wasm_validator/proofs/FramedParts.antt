@@ -11,7 +11,7 @@ use Rattle.wasm_spec.specs.Framing.{Piece, Version, End}
 use Rattle.wasm_rules.specs.Parts.{Parts, HasParts, index, starts_of, data_counts_of, bodies_of}
 use Rattle.wasm_rules.specs.Modules.{IsAllowedPiece}
 use Rattle.wasm_module_validity.specs.Expressions.{expression_at}
-use Rattle.wasm_validator.proofs.ModuleRun.{PartForm, custom, types, imports, functions, tables, memories, globals, exports, elements, segments, tags, start, data_count, code_start, form_of, AreParts, framed_items}
+use Rattle.wasm_validator.proofs.ModuleRun.{framed_items}
 
 -- the pieces of a module: its header, what is between, and the end
 abbrev pub whole : ℕ → ℕ → List Piece → List Piece
@@ -64,24 +64,3 @@ module _ (number kind : ℕ) (ps : List Piece) (parts : Parts) where
     data_counts = sym (before_end data_counts_of refl ps) ∙ h.data_counts;
     tags = sym (framed_items 13 tag_at number kind ps) ∙ h.tags;
   }
-
--- parts hold no bodies
-no_bodies : (p : Piece) → PartForm p → bodies_of p ≡ []
-no_bodies p custom = refl
-no_bodies p types = refl
-no_bodies p imports = refl
-no_bodies p functions = refl
-no_bodies p tables = refl
-no_bodies p memories = refl
-no_bodies p globals = refl
-no_bodies p exports = refl
-no_bodies p elements = refl
-no_bodies p segments = refl
-no_bodies p tags = refl
-no_bodies p start = refl
-no_bodies p data_count = refl
-no_bodies p code_start = refl
-
-pub none_inside : (ps : List Piece) → AreParts ps → flat_map bodies_of ps ≡ []
-none_inside [] a = refl
-none_inside (p ∷ ps) a = λ i. no_bodies p (form_of p a.0) i ++ none_inside ps a.1 i

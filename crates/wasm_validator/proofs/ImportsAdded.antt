@@ -73,12 +73,12 @@ module _ (F : Features) (us : TypesSoFar) (ids : List ℕ) (types : List DefType
       ∙ fits_each is (next s i) t same (keeps s i h.0) h.1
 
 pub imports_add : ImportsAdd
-imports_add old new us m types count bytes r few =
+imports_add old new us m n types count bytes r few =
     let F = features_of old.features in
     let reads = import_at index in
     let section = read_section (import_at written) (add_import F us) (length m.imports) 1000000 count bytes m in
     let entries = section_entries (add_import F us) (map_import written) (length m.imports) 1000000 m reads (import_at written) (import_renames written index) count bytes in (
-      λ e. let a = moved_from old new us section (sym (at_module old us m 2 count bytes r.stage) ∙ e) in
+      λ e. let a = moved_from old new us n section (sym (at_module old us m n 2 count bytes r.stage) ∙ e) in
           let b = then_some (limited (add_import F us) (map_import written) (length m.imports) 1000000 m) (items_at reads count bytes) a.0 (sym entries ∙ a.1) in
           let c = guarded (leb (length m.imports + length b.0) 1000000) (each (add_import F us) m (map (map_import written) b.0)) a.0 b.2 in
           record {
@@ -89,8 +89,8 @@ imports_add old new us m types count bytes r few =
             added = each_fits F us m.types types r.stand b.0 m a.0 refl few (sym (each_changed (add_import F us) (map_import written) m b.0) ∙ c.1);
             after = a.2;
           },
-      λ h. at_module old us m 2 count bytes r.stage
-          ∙ moved_to old new us section h.lists
+      λ h. at_module old us m n 2 count bytes r.stage
+          ∙ moved_to old new us n section h.lists
           (entries
           ∙ ap (option_and_then (limited (add_import F us) (map_import written) (length m.imports) 1000000 m)) h.read
           ∙ ap (λ b. cond b (each (add_import F us) m (map (map_import written) h.items)) None) (le-leb (length m.imports + length h.items) 1000000 h.few)

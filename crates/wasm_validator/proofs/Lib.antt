@@ -8,7 +8,9 @@ pub mod Forms
 pub mod Growing
 pub mod ValidTypes
 pub mod SectionMoves
+pub mod NotedNames
 pub mod Runs
+pub mod Bodies
 pub mod GoingOn
 pub mod Reading
 pub mod AddedTypes
@@ -21,7 +23,8 @@ pub mod UsedLaws
 pub mod RunOfParts
 pub mod CodeOrder
 pub mod PieceRuns
-pub mod ServedModules
+pub mod TypedBodies
+pub mod ValidModules
 pub mod WholeModules
 pub mod HeldApart
 pub mod Sequences

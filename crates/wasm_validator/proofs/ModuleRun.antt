@@ -33,7 +33,7 @@ step features p (Counted id n bytes) = section_items features id n bytes p
 step features p (Start x) = beside (λ us s. start_item us s x) p
 step features p (DataCount n) = beside (λ us s. data_count_item (features_of features) s n) p
 step features p (CodeStart n size) = Some p
-step features p (CodeEntry bytes) = None
+step features p (CodeEntry bytes) = Some p
 step features p (Unknown id bytes) = None
 step features p End = None
 
@@ -41,7 +41,7 @@ step features p End = None
 abbrev pub is_known_section : ℕ → Bool
 is_known_section id = (id == 1) || ((id == 2) || ((id == 3) || ((id == 4) || ((id == 5) || ((id == 6) || ((id == 7) || ((id == 9) || ((id == 11) || (id == 13)))))))))
 
--- what a run may have: these sections, the start function, the data count, the start of the code, and custom sections
+-- what a run may have: these sections, the start function, the data count, the start of the code, bodies, and custom sections
 abbrev pub is_part : Piece → Bool
 is_part (Version number kind) = true
 is_part (Custom name bytes) = true
@@ -49,7 +49,7 @@ is_part (Counted id n bytes) = is_known_section id
 is_part (Start x) = true
 is_part (DataCount n) = true
 is_part (CodeStart n size) = true
-is_part (CodeEntry bytes) = false
+is_part (CodeEntry bytes) = true
 is_part (Unknown id bytes) = false
 is_part End = true
 
@@ -81,6 +81,7 @@ pub data PartForm : Piece → Type 0 where
   start : {x : ℕ} → PartForm (Start x)
   data_count : {n : ℕ} → PartForm (DataCount n)
   code_start : {n size : ℕ} → PartForm (CodeStart n size)
+  body : {bytes : List ℕ} → PartForm (CodeEntry bytes)
 
 -- one of two tests is passed
 pub either : (a b : Bool) → (a || b) ≡ true → (a ≡ true) ⊎ (b ≡ true)
@@ -129,7 +130,7 @@ form_of (Counted id n bytes) h = counted_form id n bytes h.0
 form_of (Start x) h = start
 form_of (DataCount n) h = data_count
 form_of (CodeStart n size) h = code_start
-form_of (CodeEntry bytes) h = absurd (let e = h.0 in cc)
+form_of (CodeEntry bytes) h = body
 form_of (Unknown id bytes) h = absurd (let e = h.0 in cc)
 form_of End h = absurd h.1
 
@@ -141,7 +142,7 @@ step_back features p q (Counted id n bytes) e v = section_back features id n byt
 step_back features p q (Start x) e v = beside_back features (λ us s. start_item us s x) p q e v
 step_back features p q (DataCount n) e v = beside_back features (λ us s. data_count_item (features_of features) s n) p q e v
 step_back features p q (CodeStart n size) e v = subst (HasValidTypes features) (sym (same_Some p q e)) v
-step_back features p q (CodeEntry bytes) e v = absurd cc
+step_back features p q (CodeEntry bytes) e v = subst (HasValidTypes features) (sym (same_Some p q e)) v
 step_back features p q (Unknown id bytes) e v = absurd cc
 step_back features p q End e v = absurd cc
 
@@ -161,6 +162,7 @@ form_accepted features p q x elements e = λ h. absurd cc
 form_accepted features p q x segments e = λ h. absurd cc
 form_accepted features p q x start e = tt
 form_accepted features p q x code_start e = tt
+form_accepted features p q x body e = tt
 form_accepted features p q x (data_count {n}) e =
     let a = then_some (λ (s : Spaces). Some (p.0, s)) (data_count_item (features_of features) p.1 n) q e in
     let b = guarded (is_data_count (features_of features) n) (Some p.1) a.0 a.1 in
@@ -184,27 +186,35 @@ IsOfItems k = (0 ≢ k) × (9 ≢ k) × (11 ≢ k) × (12 ≢ k)
 abbrev id_of_rank : ℕ → ℕ
 id_of_rank k = cond (eqb k 6) 13 (cond (eqb k 7) 6 (cond (eqb k 8) 7 (cond (eqb k 10) 9 (cond (eqb k 14) 11 k))))
 
--- no part is a body
-no_body : (p : Piece) → PartForm p → rank p ≢ 13
+-- bodies change nothing
+body_passes : (features : WasmFeatures) (p : Piece) → PartForm p → rank p ≡ 13 → (s : TypesSoFar × Spaces) → step features s p ≡ Some s
 unfolding place
-no_body p custom = λ e. cc
-no_body p types = λ e. cc
-no_body p imports = λ e. cc
-no_body p functions = λ e. cc
-no_body p tables = λ e. cc
-no_body p memories = λ e. cc
-no_body p globals = λ e. cc
-no_body p exports = λ e. cc
-no_body p elements = λ e. cc
-no_body p segments = λ e. cc
-no_body p tags = λ e. cc
-no_body p start = λ e. cc
-no_body p data_count = λ e. cc
-no_body p code_start = λ e. cc
+body_passes features p custom r s = absurd cc
+body_passes features p types r s = absurd cc
+body_passes features p imports r s = absurd cc
+body_passes features p functions r s = absurd cc
+body_passes features p tables r s = absurd cc
+body_passes features p memories r s = absurd cc
+body_passes features p globals r s = absurd cc
+body_passes features p exports r s = absurd cc
+body_passes features p elements r s = absurd cc
+body_passes features p segments r s = absurd cc
+body_passes features p tags r s = absurd cc
+body_passes features p start r s = absurd cc
+body_passes features p data_count r s = absurd cc
+body_passes features p code_start r s = absurd cc
+body_passes features p body r s = refl
 
-pub no_bodies_there : (ps : List Piece) → AreParts ps → at_rank 13 ps ≡ []
-no_bodies_there [] a = refl
-no_bodies_there (p ∷ ps) a = unless (eqb (rank p) 13) (p ∷ at_rank 13 ps) (at_rank 13 ps) (ne_eqb (rank p) 13 (no_body p (form_of p a.0))) ∙ no_bodies_there ps a.1
+pub bodies_pass : (features : WasmFeatures) (ps : List Piece) → AreParts ps → (s : TypesSoFar × Spaces) → each (step features) s (at_rank 13 ps) ≡ Some s
+bodies_pass features [] a s = refl
+bodies_pass features (p ∷ ps) a s =
+    elim (truth (eqb (rank p) 13)) [
+      | inl e ↦
+          ap (each (step features) s) (when (eqb (rank p) 13) (p ∷ at_rank 13 ps) (at_rank 13 ps) e)
+          ∙ ap (option_and_then (λ t. each (step features) t (at_rank 13 ps))) (body_passes features p (form_of p a.0) (eqb-true (rank p) 13 e) s)
+          ∙ bodies_pass features ps a.1 s
+      | inr e ↦ ap (each (step features) s) (unless (eqb (rank p) 13) (p ∷ at_rank 13 ps) (at_rank 13 ps) e) ∙ bodies_pass features ps a.1 s
+    ]
 
 -- a custom section changes nothing
 part_free : (features : WasmFeatures) (p : Piece) → PartForm p → rank p ≡ 0 → (s : TypesSoFar × Spaces) → step features s p ≡ Some s
@@ -223,6 +233,7 @@ part_free features p tags r s = absurd cc
 part_free features p start r s = absurd cc
 part_free features p data_count r s = absurd cc
 part_free features p code_start r s = absurd cc
+part_free features p body r s = absurd cc
 
 leaves_free : (features : WasmFeatures) (ps : List Piece) → AreParts ps → LeavesFree (step features) ps
 leaves_free features [] a = tt
@@ -257,28 +268,29 @@ first_of : (k : ℕ) (ps : List Piece) (p : Piece) → AreParts ps → at_rank k
 first_of k [] p a e = absurd cc
 first_of k (q ∷ ps) p a e = first_case k q ps p (truth (eqb (rank q) k)) a e (λ b f. first_of k ps p b f)
 
-rank_form : (p : Piece) → PartForm p → IsOfItems (rank p) → IsSection (id_of_rank (rank p)) (p ∷ [])
+rank_form : (p : Piece) → PartForm p → IsOfItems (rank p) → rank p ≢ 13 → IsSection (id_of_rank (rank p)) (p ∷ [])
 unfolding place
-rank_form p custom z = absurd (z.0 refl)
-rank_form p (types {n} {bytes}) z = record { count = n; contents = bytes; is = refl }
-rank_form p (imports {n} {bytes}) z = record { count = n; contents = bytes; is = refl }
-rank_form p (functions {n} {bytes}) z = record { count = n; contents = bytes; is = refl }
-rank_form p (tables {n} {bytes}) z = record { count = n; contents = bytes; is = refl }
-rank_form p (memories {n} {bytes}) z = record { count = n; contents = bytes; is = refl }
-rank_form p (globals {n} {bytes}) z = record { count = n; contents = bytes; is = refl }
-rank_form p (exports {n} {bytes}) z = record { count = n; contents = bytes; is = refl }
-rank_form p (elements {n} {bytes}) z = record { count = n; contents = bytes; is = refl }
-rank_form p (segments {n} {bytes}) z = record { count = n; contents = bytes; is = refl }
-rank_form p (tags {n} {bytes}) z = record { count = n; contents = bytes; is = refl }
-rank_form p start z = absurd (z.1 refl)
-rank_form p data_count z = absurd (z.2 refl)
-rank_form p code_start z = absurd (z.3 refl)
+rank_form p custom z b = absurd (z.0 refl)
+rank_form p (types {n} {bytes}) z b = record { count = n; contents = bytes; is = refl }
+rank_form p (imports {n} {bytes}) z b = record { count = n; contents = bytes; is = refl }
+rank_form p (functions {n} {bytes}) z b = record { count = n; contents = bytes; is = refl }
+rank_form p (tables {n} {bytes}) z b = record { count = n; contents = bytes; is = refl }
+rank_form p (memories {n} {bytes}) z b = record { count = n; contents = bytes; is = refl }
+rank_form p (globals {n} {bytes}) z b = record { count = n; contents = bytes; is = refl }
+rank_form p (exports {n} {bytes}) z b = record { count = n; contents = bytes; is = refl }
+rank_form p (elements {n} {bytes}) z b = record { count = n; contents = bytes; is = refl }
+rank_form p (segments {n} {bytes}) z b = record { count = n; contents = bytes; is = refl }
+rank_form p (tags {n} {bytes}) z b = record { count = n; contents = bytes; is = refl }
+rank_form p start z b = absurd (z.1 refl)
+rank_form p data_count z b = absurd (z.2 refl)
+rank_form p code_start z b = absurd (z.3 refl)
+rank_form p body z b = absurd (b refl)
 
-section_from : (k : ℕ) (ps : List Piece) → AreParts ps → IsOfItems k → (at_rank k ps ≡ []) ⊎ IsOne (at_rank k ps) → SectionOf (id_of_rank k) (at_rank k ps)
-section_from k ps a z (inl e) = inl e
-section_from k ps a z (inr o) =
+section_from : (k : ℕ) (ps : List Piece) → AreParts ps → IsOfItems k → k ≢ 13 → (at_rank k ps ≡ []) ⊎ IsOne (at_rank k ps) → SectionOf (id_of_rank k) (at_rank k ps)
+section_from k ps a z b (inl e) = inl e
+section_from k ps a z b (inr o) =
     let f = first_of k ps o.piece a o.is in
-    let here = rank_form o.piece (form_of o.piece f.1) (subst IsOfItems (sym f.0) z) in
+    let here = rank_form o.piece (form_of o.piece f.1) (subst IsOfItems (sym f.0) z) (subst (λ j. j ≢ 13) (sym f.0) b) in
     inr (subst (λ (x : ℕ × List Piece). IsSection (id_of_rank x.0) x.1) (λ i. (f.0 i, sym o.is i)) here)
 
 -- the start function, the data count, and the start of the code, if they are there
@@ -307,6 +319,7 @@ start_form p tags e = absurd cc
 start_form p (start {x}) e = (x, refl)
 start_form p data_count e = absurd cc
 start_form p code_start e = absurd cc
+start_form p body e = absurd cc
 
 data_count_form : (p : Piece) → PartForm p → rank p ≡ 11 → (n : ℕ) × (p ∷ [] ≡ DataCount n ∷ [])
 unfolding place
@@ -324,6 +337,7 @@ data_count_form p tags e = absurd cc
 data_count_form p start e = absurd cc
 data_count_form p (data_count {n}) e = (n, refl)
 data_count_form p code_start e = absurd cc
+data_count_form p body e = absurd cc
 
 code_start_form : (p : Piece) → PartForm p → rank p ≡ 12 → (n : ℕ) × (size : ℕ) × (p ∷ [] ≡ CodeStart n size ∷ [])
 unfolding place
@@ -341,6 +355,7 @@ code_start_form p tags e = absurd cc
 code_start_form p start e = absurd cc
 code_start_form p data_count e = absurd cc
 code_start_form p (code_start {n} {size}) e = (n, size, refl)
+code_start_form p body e = absurd cc
 
 start_from : (ps : List Piece) → AreParts ps → (at_rank 9 ps ≡ []) ⊎ IsOne (at_rank 9 ps) → StartOf (at_rank 9 ps)
 start_from ps a (inl e) = inl e
@@ -366,7 +381,7 @@ code_start_from ps a (inr o) =
 -- the sections
 module _ (ps : List Piece) (a : AreParts ps) (f : Follows ranks ps) where
   pub section_at : (k : ℕ) → IsOfItems k → k ≢ 13 → SectionOf (id_of_rank k) (at_rank k ps)
-  section_at k z b = section_from k ps a z (one_at_most ranks ps k f are_ranks z.0 b)
+  section_at k z b = section_from k ps a z b (one_at_most ranks ps k f are_ranks z.0 b)
 
   pub start_at : StartOf (at_rank 9 ps)
   start_at = start_from ps a (one_at_most ranks ps 9 f are_ranks (λ e. cc) (λ e. cc))

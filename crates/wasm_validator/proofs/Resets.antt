@@ -6,8 +6,7 @@ use Rattle.wasm_parser.specs.Machine.{State, next_of}
 use Rattle.wasm_readers_errors.specs.declared.error.Refusal.{Refusal}
 use Rattle.wasm_validator_types.specs.Spaces.{Spaces}
 use Rattle.wasm_validator_core.specs.Answers.{TypesSoFar}
-use Rattle.wasm_validator_module_state.specs.Bodies.{expected_bodies}
-use Rattle.wasm_validator.specs.Standing.{Stage, unparsed, in_module, in_code, ended, failed, Standing, HoldsAt, can_reset_at, may_reset, reset_at, after_reset, refused_at, read_refused_at, body_refused_at, ended_at}
+use Rattle.wasm_validator.specs.Standing.{Started, bodies_left, Stage, unparsed, in_module, in_code, ended, failed, Standing, HoldsAt, can_reset_at, may_reset, reset_at, after_reset, refused_at, read_refused_at, body_refused_at, ended_at}
 use Rattle.wasm_validator.specs.States.{is_barred, left_by}
 use Rattle.wasm_validator.specs.Payloads.{after_all, HasRefused, IsToldOfFormat}
 use Rattle.wasm_validator.specs.Sequences.{KeepsTypes, RefusedKeepTypes}
@@ -17,15 +16,15 @@ use Rattle.wasm_validator.proofs.Growing.{all_only, all_back}
 module _ (V : TypesSoFar → Type 0) where
   section_kept : (g : Stage) → can_reset_at (refused_at g) ≡ true → HoldsAt V (refused_at g) → HoldsAt V g
   section_kept (unparsed types) r h = h
-  section_kept (in_module types spaces) r h = absurd cc
-  section_kept (in_code types spaces) r h = absurd cc
+  section_kept (in_module types spaces more) r h = absurd cc
+  section_kept (in_code types spaces more) r h = absurd cc
   section_kept (ended types) r h = h
   section_kept failed r h = tt
 
   read_kept : (g : Stage) → can_reset_at (read_refused_at g) ≡ true → HoldsAt V (read_refused_at g) → HoldsAt V g
   read_kept (unparsed types) r h = h
-  read_kept (in_module types spaces) r h = absurd cc
-  read_kept (in_code types spaces) r h = absurd cc
+  read_kept (in_module types spaces more) r h = absurd cc
+  read_kept (in_code types spaces more) r h = absurd cc
   read_kept (ended types) r h = h
   read_kept failed r h = tt
 
@@ -33,21 +32,21 @@ module _ (V : TypesSoFar → Type 0) where
   either_kept true g r h = read_kept g r h
   either_kept false g r h = section_kept g r h
 
-  turn_kept : (b : Bool) (types : TypesSoFar) (spaces : Spaces) → can_reset_at (cond b (in_code types spaces) failed) ≡ true → V types
-  turn_kept true types spaces r = absurd cc
-  turn_kept false types spaces r = absurd cc
+  turn_kept : (b : Bool) (types : TypesSoFar) (spaces : Spaces) (more : Started) → can_reset_at (cond b (in_code types spaces more) failed) ≡ true → V types
+  turn_kept true types spaces more r = absurd cc
+  turn_kept false types spaces more r = absurd cc
 
   body_kept : (g : Stage) → can_reset_at (body_refused_at g) ≡ true → HoldsAt V (body_refused_at g) → HoldsAt V g
   body_kept (unparsed types) r h = h
-  body_kept (in_module types spaces) r h = absurd cc
-  body_kept (in_code types spaces) r h = turn_kept (expected_bodies spaces == 0) types spaces r
+  body_kept (in_module types spaces more) r h = absurd cc
+  body_kept (in_code types spaces more) r h = turn_kept (bodies_left spaces more == 0) types spaces more r
   body_kept (ended types) r h = h
   body_kept failed r h = tt
 
   end_kept : (g : Stage) → can_reset_at (ended_at g) ≡ true → HoldsAt V (ended_at g) → HoldsAt V g
   end_kept (unparsed types) r h = h
-  end_kept (in_module types spaces) r h = absurd cc
-  end_kept (in_code types spaces) r h = absurd cc
+  end_kept (in_module types spaces more) r h = absurd cc
+  end_kept (in_code types spaces more) r h = absurd cc
   end_kept (ended types) r h = h
   end_kept failed r h = tt
 
@@ -86,15 +85,16 @@ from_list old new reached before whole pieces w run h is to can f =
 list_kept : (old new reached : Standing) (before : TypesSoFar) (pieces : List Piece) → old.stage ≡ unparsed before → after_all old pieces ≡ Some reached → (h : Stage) → new ≡ record reached { stage = h } → can_reset_at h ≡ true
     → ((V : TypesSoFar → Type 0) → HoldsAt V h → HoldsAt V reached.stage) → KeepsTypes old new
 list_kept old new reached before pieces w run (unparsed types) is may kept = from_list old new reached before types pieces w run (unparsed types) is refl refl (kept (IsFrontOf types) ([], append-nil types))
-list_kept old new reached before pieces w run (in_module types spaces) is may kept = absurd cc
-list_kept old new reached before pieces w run (in_code types spaces) is may kept = absurd cc
+list_kept old new reached before pieces w run (in_module types spaces more) is may kept = absurd cc
+list_kept old new reached before pieces w run (in_code types spaces more) is may kept = absurd cc
 list_kept old new reached before pieces w run (ended types) is may kept = from_list old new reached before types pieces w run (ended types) is refl refl (kept (IsFrontOf types) ([], append-nil types))
 list_kept old new reached before pieces w run failed is may kept = absurd cc
 
 left_so : (told : Option Refusal) (old new reached : Standing) (before : TypesSoFar) (pieces : List Piece) (behind : State) → old.stage ≡ unparsed before → after_all old pieces ≡ Some reached → may_reset new ≡ true
-    → ((next_of behind ≡ None) × IsToldOfFormat told × (new ≡ reached)) ⊎ HasRefused behind reached new → KeepsTypes old new
+    → ((next_of behind ≡ None) × IsToldOfFormat told × (new ≡ reached)) ⊎ (HasRefused behind reached new ⊎ ((next_of behind ≡ Some None) × (new ≡ reached))) → KeepsTypes old new
 left_so told old new reached before pieces behind w run may (inl h) = list_kept old new reached before pieces w run reached.stage h.2 (ap (λ (s : Standing). can_reset_at s.stage) (sym h.2) ∙ may) (λ V k. k)
-left_so told old new reached before pieces behind w run may (inr h) =
+left_so told old new reached before pieces behind w run may (inr (inr h)) = list_kept old new reached before pieces w run reached.stage h.1 (ap (λ (s : Standing). can_reset_at s.stage) (sym h.1) ∙ may) (λ V k. k)
+left_so told old new reached before pieces behind w run may (inr (inl h)) =
     list_kept old new reached before pieces w run (left_by reached h.next) h.left (ap (λ (s : Standing). can_reset_at s.stage) (sym h.left) ∙ may)
     (λ V k. left_kept V reached h.next (ap (λ (s : Standing). can_reset_at s.stage) (sym h.left) ∙ may) k)
 

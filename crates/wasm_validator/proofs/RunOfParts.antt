@@ -20,7 +20,7 @@ use Rattle.wasm_spec.specs.Framing.{Piece, Counted, Start, DataCount, place}
 use Rattle.wasm_rules.specs.FeatureFlags.{features_of}
 use Rattle.wasm_rules.specs.Limits.{most_tables, most_memories}
 use Rattle.wasm_rules.specs.Sections.{each, rank, ranks, at_rank, by_rank}
-use Rattle.wasm_rules.specs.Parts.{Parts, HasParts, index, all_items, starts_of, data_counts_of}
+use Rattle.wasm_rules.specs.Parts.{Parts, HasParts, index, all_items, starts_of, data_counts_of, bodies_of}
 use Rattle.wasm_rules.specs.IndexSpaces.{index_spaces, imported, functions_in, tables_in, memories_in, globals_in, tags_in, table_type, global_type}
 use Rattle.wasm_rules.specs.LinkRules.{IsValidStart}
 use Rattle.wasm_rules.specs.Modules.{IsAllowedPiece}
@@ -54,11 +54,10 @@ use Rattle.wasm_module_list_laws.specs.Laws.{AreTypedConstants}
 use Rattle.wasm_validator.specs.Machine.{start_item, data_count_item, beside}
 use Rattle.wasm_validator.proofs.AddedTypes.{TypesAdded, section, type_space, list_after, ids, as_many_types, runs_to, ends_at}
 use Rattle.wasm_validator.proofs.ItemSteps.{each_back}
-use Rattle.wasm_validator.proofs.FramedParts.{none_inside}
-use Rattle.wasm_validator.proofs.ModuleRun.{step, step_back, AreParts, by_sections, SectionOf, section_at, StartOf, start_at, DataCountOf, data_count_at, CodeStartOf, code_start_at, no_bodies_there, ranked_items, ranked_starts, ranked_data_counts}
+use Rattle.wasm_validator.proofs.ModuleRun.{step, step_back, AreParts, by_sections, SectionOf, section_at, StartOf, start_at, DataCountOf, data_count_at, CodeStartOf, code_start_at, bodies_pass, ranked_items, ranked_starts, ranked_data_counts}
 use Rattle.wasm_validator.proofs.SectionLists.{same_item, map_same, Renames, renames_nothing, ReadAdded, step_read, read_step, each_beside, beside_each, section_beside}
 use Rattle.wasm_validator.proofs.UsedLaws.{UsedLaws}
-use Rattle.wasm_validator.proofs.ValidRules.{KeepsOthers}
+use Rattle.wasm_validator.proofs.ValidRules.{AreSmall, KeepsOthers}
 
 -- What there is to know of pieces that the machine accepts: their parts, which keep to the limits, and are valid and typed.
 pub record Accepted (features : WasmFeatures) (T : TypesSoFar) (ps : List Piece) : Type 0 where
@@ -308,9 +307,9 @@ module _ (entries : EntriesAreRenamed) (features : WasmFeatures) (ps : List Piec
   code_starts : (s : TypesSoFar × Spaces) → each (step features) s (at_rank 12 ps) ≡ Some s
   code_starts s = code_passed (at_rank 12 ps) (code_start_at ps parts follows) s
 
-  -- there are no bodies
+  -- bodies
   bodies_passed : (s : TypesSoFar × Spaces) → each (step features) s (at_rank 13 ps) ≡ Some s
-  bodies_passed s = ap (each (step features) s) (no_bodies_there ps parts)
+  bodies_passed s = bodies_pass features ps parts s
 
 front_fits : {X : Type 0} (xs ys : List X) {most : ℕ} → length (xs ++ ys) ≤ most → length (xs ++ []) + length ys ≤ most
 front_fits xs ys {most} h =
@@ -382,10 +381,10 @@ module _ (laws : UsedLaws) (features : WasmFeatures) (T : TypesSoFar) (ps : List
 
   -- the law of all lists, behind the types of these groups
   module _ (gs : List (Rec ℕ)) (types : TypesAdded features T gs) where
-    distinct : HasNoRepetition (list_after features T gs types)
+    pub distinct : HasNoRepetition (list_after features T gs types)
     distinct = laws.are_distinct (canonical G) (list_after features T gs types) (laws.stay_apart G T gs types.end apart types.ran)
 
-    own_ids : HasOwnIds G (ids features T gs types)
+    pub own_ids : HasOwnIds G (ids features T gs types)
     own_ids own = (length T, (section features T gs types).own_ids own ∙ ap (numbers_from (length T)) (sym (as_many_types features T gs types)))
 
     all_lists : (n : Numbering (type_space features T gs types)) (p : Parts) (t : Spaces)
@@ -446,7 +445,7 @@ module _ (laws : UsedLaws) (features : WasmFeatures) (T : TypesSoFar) (ps : List
         segments = k.items;
         starts = flat_map starts_of ps;
         data_counts = flat_map data_counts_of ps;
-        bodies = [];
+        bodies = flat_map bodies_of ps;
       } in
       let r2 = a.ran in
       let r3 = (unmapped (add_function us) a.after b.after b.items b.ran) in
@@ -472,7 +471,7 @@ module _ (laws : UsedLaws) (features : WasmFeatures) (T : TypesSoFar) (ps : List
           segments = k.are;
           starts = refl;
           data_counts = refl;
-          bodies = none_inside ps parts;
+          bodies = refl;
         };
         few_imports = a.few;
         few_exports = g.few;
@@ -492,9 +491,9 @@ module _ (laws : UsedLaws) (features : WasmFeatures) (T : TypesSoFar) (ps : List
     pub ends : end_of features T ps accepted ≡ q
 
   -- what the lists behind the types say
-  ran_lists : (t : TypesSoFar × Spaces) (r : TypesRead t) (p q : TypesSoFar × Spaces) (l : Added (list_after features T r.gs r.types) (only_types (ids features T r.gs r.types)) p q r.gs)
+  ran_lists : AreSmall (flat_map bodies_of ps) → (t : TypesSoFar × Spaces) (r : TypesRead t) (p q : TypesSoFar × Spaces) (l : Added (list_after features T r.gs r.types) (only_types (ids features T r.gs r.types)) p q r.gs)
       → All (λ x. is_startable p.0 p.1 x ≡ true) (flat_map starts_of ps) → All (λ n. n ≤ MAX_DATA_SEGMENTS) (flat_map data_counts_of ps) → Ran q
-  ran_lists t r p q l startable few =
+  ran_lists small t r p q l startable few =
       let us = list_after features T r.gs r.types in
       let is = ids features T r.gs r.types in
       let space = type_space features T r.gs r.types in
@@ -523,6 +522,7 @@ module _ (laws : UsedLaws) (features : WasmFeatures) (T : TypesSoFar) (ps : List
             elements = l.few_elements;
             segments = l.few_segments;
             data_counts = subst (λ (ns : List ℕ). All (λ n. n ≤ MAX_DATA_SEGMENTS) ns) (l.has).data_counts few;
+            bodies = subst AreSmall (l.has).bodies small;
             starts = for_each (λ x. is_startable us (spaces_of G space is (up_to_exports its)) x ≡ true) (IsValidStart (index_spaces space its)) its.starts (λ x e. (starts_are_decided G us is space stand (up_to_exports its) x).0 e) here;
           };
         };
@@ -530,7 +530,7 @@ module _ (laws : UsedLaws) (features : WasmFeatures) (T : TypesSoFar) (ps : List
       }
 
   -- types that are valid at the end are valid behind the type section
-  ran_sections : (p1 p2 p3 p4 p5 p6 p7 p8 p10 q : TypesSoFar × Spaces) → HasValidTypes features q → each (step features) start (at_rank 1 ps) ≡ Some p1
+  ran_sections : AreSmall (flat_map bodies_of ps) → (p1 p2 p3 p4 p5 p6 p7 p8 p10 q : TypesSoFar × Spaces) → HasValidTypes features q → each (step features) start (at_rank 1 ps) ≡ Some p1
       → each (step features) p1 (at_rank 2 ps) ≡ Some p2
       → each (step features) p2 (at_rank 3 ps) ≡ Some p3
       → each (step features) p3 (at_rank 4 ps) ≡ Some p4
@@ -541,12 +541,12 @@ module _ (laws : UsedLaws) (features : WasmFeatures) (T : TypesSoFar) (ps : List
       → each (step features) p8 (at_rank 10 ps) ≡ Some p10
       → each (step features) p10 (at_rank 14 ps) ≡ Some q
       → All (λ x. is_startable p8.0 p8.1 x ≡ true) (flat_map starts_of ps) → All (λ n. n ≤ MAX_DATA_SEGMENTS) (flat_map data_counts_of ps) → Ran q
-  ran_sections p1 p2 p3 p4 p5 p6 p7 p8 p10 q v e1 e2 e3 e4 e5 e6 e7 e8 e10 e14 startable few =
+  ran_sections small p1 p2 p3 p4 p5 p6 p7 p8 p10 q v e1 e2 e3 e4 e5 e6 e7 e8 e10 e14 startable few =
       let valid = back (at_rank 2 ps) p1 p2 e2 (back (at_rank 3 ps) p2 p3 e3 (back (at_rank 4 ps) p3 p4 e4 (back (at_rank 5 ps) p4 p5 e5 (back (at_rank 6 ps) p5 p6 e6 (back (at_rank 7 ps) p6 p7 e7 (back (at_rank 8 ps) p7 p8 e8 (back (at_rank 10 ps) p8 p10 e10 (back (at_rank 14 ps) p10 q e14 v)))))))) in
       let t = types_read p1 valid e1 in
       let us = list_after features T t.gs t.types in
       let is = ids features T t.gs t.types in
-      ran_lists p1 t p8 q (lists_added us (only_types is) t.gs t.read p1 p2 p3 p4 p5 p6 p7 p8 p10 q t.gives e2 e3 e4 e5 e6 e7 e8 e10 e14) startable few
+      ran_lists small p1 t p8 q (lists_added us (only_types is) t.gs t.read p1 p2 p3 p4 p5 p6 p7 p8 p10 q t.gives e2 e3 e4 e5 e6 e7 e8 e10 e14) startable few
 
   -- the sections behind the exports: the start function, the data count and the start of the code leave what they are given
   record Behind (s q : TypesSoFar × Spaces) : Type 0 where
@@ -576,8 +576,8 @@ module _ (laws : UsedLaws) (features : WasmFeatures) (T : TypesSoFar) (ps : List
         few = counted.1;
       }
 
-  pub ran : (q : TypesSoFar × Spaces) → HasValidTypes features q → each (step features) start ps ≡ Some q → Ran q
-  ran q valid run =
+  pub ran : AreSmall (flat_map bodies_of ps) → (q : TypesSoFar × Spaces) → HasValidTypes features q → each (step features) start ps ≡ Some q → Ran q
+  ran small q valid run =
       let x1 = then_some (λ t. by_rank (step features) (2 ∷ 3 ∷ 4 ∷ 5 ∷ 6 ∷ 7 ∷ 8 ∷ 9 ∷ 10 ∷ 11 ∷ 12 ∷ 13 ∷ 14 ∷ []) t ps) (each (step features) start (at_rank 1 ps)) q (sym (by_sections features ps start parts follows) ∙ run) in
       let x2 = then_some (λ t. by_rank (step features) (3 ∷ 4 ∷ 5 ∷ 6 ∷ 7 ∷ 8 ∷ 9 ∷ 10 ∷ 11 ∷ 12 ∷ 13 ∷ 14 ∷ []) t ps) (each (step features) x1.0 (at_rank 2 ps)) q x1.2 in
       let x3 = then_some (λ t. by_rank (step features) (4 ∷ 5 ∷ 6 ∷ 7 ∷ 8 ∷ 9 ∷ 10 ∷ 11 ∷ 12 ∷ 13 ∷ 14 ∷ []) t ps) (each (step features) x2.0 (at_rank 3 ps)) q x2.2 in
@@ -587,7 +587,7 @@ module _ (laws : UsedLaws) (features : WasmFeatures) (T : TypesSoFar) (ps : List
       let x7 = then_some (λ t. by_rank (step features) (8 ∷ 9 ∷ 10 ∷ 11 ∷ 12 ∷ 13 ∷ 14 ∷ []) t ps) (each (step features) x6.0 (at_rank 7 ps)) q x6.2 in
       let x8 = then_some (λ t. by_rank (step features) (9 ∷ 10 ∷ 11 ∷ 12 ∷ 13 ∷ 14 ∷ []) t ps) (each (step features) x7.0 (at_rank 8 ps)) q x7.2 in
       let b = behind x8.0 q x8.2 in
-      ran_sections x1.0 x2.0 x3.0 x4.0 x5.0 x6.0 x7.0 x8.0 b.middle q valid x1.1 x2.1 x3.1 x4.1 x5.1 x6.1 x7.1 x8.1 b.elements b.segments b.startable b.few
+      ran_sections small x1.0 x2.0 x3.0 x4.0 x5.0 x6.0 x7.0 x8.0 b.middle q valid x1.1 x2.1 x3.1 x4.1 x5.1 x6.1 x7.1 x8.1 b.elements b.segments b.startable b.few
 
   -- and the other way round
   pub runs : (a : Accepted features T ps) → each (step features) start ps ≡ Some (end_of features T ps a)

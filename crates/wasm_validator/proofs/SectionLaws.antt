@@ -26,8 +26,9 @@ use Rattle.wasm_validator_core.specs.Items.{add_function, add_memory, add_tag}
 use Rattle.wasm_validator_core_laws.proofs.AddedItems.{of_each, each_changed, IsStep, step_of, items_verdict}
 use Rattle.wasm_validator_items.specs.Sections.{read_section}
 use Rattle.wasm_validator.specs.Machine.{section_items}
-use Rattle.wasm_validator.specs.Standing.{Stage, Standing, in_module, at_stage}
+use Rattle.wasm_validator.specs.Standing.{Noted, Stage, Standing, in_module, at_stage}
 use Rattle.wasm_validator.specs.States.{within_by, after_section}
+use Rattle.wasm_referenced_functions.specs.References.{section_names}
 use Rattle.wasm_validator.specs.SectionLaws.{HasAdded, FunctionsAdd, MemoriesAdd, TagsAdd}
 use Rattle.wasm_validator.proofs.SectionLists.{Renames, limited, section_entries, renames_nothing, same_item}
 
@@ -66,15 +67,15 @@ module _ {V W : Type 0} (f : V → W) (reads : List ℕ → Option (V × List �
       ∙ ap Some h.is
 
 -- a section within a module, by what its items make of the lists
-module _ (s new : Standing) (us : TypesSoFar) where
+module _ (s new : Standing) (us : TypesSoFar) (n : Noted) where
   abbrev pub moved : Option Spaces → Option Standing
-  moved o = option_and_then (λ (g : Stage). Some (record s { stage = g })) (option_and_then (λ (p : TypesSoFar × Spaces). Some (in_module p.0 p.1)) (option_and_then (λ (t : Spaces). Some (us, t)) o))
+  moved o = option_and_then (λ (g : Stage). Some (record s { stage = g })) (option_and_then (λ (p : TypesSoFar × Spaces). Some (in_module p.0 p.1 n)) (option_and_then (λ (t : Spaces). Some (us, t)) o))
 
-  pub moved_from : (o : Option Spaces) → moved o ≡ Some new → (t : Spaces) × (o ≡ Some t) × (new ≡ record s { stage = in_module us t })
+  pub moved_from : (o : Option Spaces) → moved o ≡ Some new → (t : Spaces) × (o ≡ Some t) × (new ≡ record s { stage = in_module us t n })
   moved_from None e = absurd (none-some new e)
-  moved_from (Some t) e = (t, refl, sym (same_Some (record s { stage = in_module us t }) new e))
+  moved_from (Some t) e = (t, refl, sym (same_Some (record s { stage = in_module us t n }) new e))
 
-  pub moved_to : (o : Option Spaces) (t : Spaces) → o ≡ Some t → new ≡ record s { stage = in_module us t } → moved o ≡ Some new
+  pub moved_to : (o : Option Spaces) (t : Spaces) → o ≡ Some t → new ≡ record s { stage = in_module us t n } → moved o ≡ Some new
   moved_to o t e is = ap moved e ∙ ap Some (sym is)
 
   module _ {V W : Type 0} (f : V → W) (reads : List ℕ → Option (V × List ℕ)) (renamed : List ℕ → Option (W × List ℕ)) (renames : Renames f reads renamed)
@@ -82,21 +83,22 @@ module _ (s new : Standing) (us : TypesSoFar) where
     abbrev section : Spaces → Option Spaces
     section t = read_section renamed add there most count bytes t
 
-    pub added_from : moved (section m) ≡ Some new → HasAdded reads P there most at s new us count bytes
+    pub added_from : moved (section m) ≡ Some new → HasAdded reads P there most at s new us n count bytes
     added_from e =
         let a = moved_from (section m) e in
         let i = items_from f reads renamed renames add P at there most steps count bytes a.0 (ap section none ∙ a.1) in
-        record { items = i.items; read = i.read; rules = i.rules; few = i.few; after = a.2 ∙ (λ k. record s { stage = in_module us (sym i.is k) }) }
+        record { items = i.items; read = i.read; rules = i.rules; few = i.few; after = a.2 ∙ (λ k. record s { stage = in_module us (sym i.is k) n }) }
 
-    pub added_to : HasAdded reads P there most at s new us count bytes → moved (section m) ≡ Some new
+    pub added_to : HasAdded reads P there most at s new us n count bytes → moved (section m) ≡ Some new
     added_to h =
         moved_to (section m) (at h.items)
         (ap section (sym none) ∙ items_to f reads renamed renames add P at there most steps count bytes (at h.items) (record { items = h.items; read = h.read; rules = h.rules; few = h.few; is = refl }))
         h.after
 
 -- the section of a standing
-pub at_module : (old : Standing) (us : TypesSoFar) (m : Spaces) (id count : ℕ) (bytes : List ℕ) → old.stage ≡ in_module us m → after_section old id count bytes ≡ at_stage old (within_by id (section_items old.features id count bytes) (in_module us m))
-at_module old us m id count bytes e = ap (λ g. at_stage old (within_by id (section_items old.features id count bytes) g)) e
+pub at_module : (old : Standing) (us : TypesSoFar) (m : Spaces) (n : Noted) (id count : ℕ) (bytes : List ℕ) → old.stage ≡ in_module us m n
+    → after_section old id count bytes ≡ at_stage old (within_by id (section_names id count bytes) (section_items old.features id count bytes) (in_module us m n))
+at_module old us m n id count bytes e = ap (λ g. at_stage old (within_by id (section_names id count bytes) (section_items old.features id count bytes) g)) e
 
 -- functions
 module _ (F : Features) (us : TypesSoFar) (m : Spaces) (types : List DefType) (stand : Stand (canonical F) us m.types types) where
@@ -137,36 +139,36 @@ module _ (F : Features) (us : TypesSoFar) (m : Spaces) (types : List DefType) (s
   no_tags = λ i. record m { tags = append-nil m.tags i }
 
 pub functions_add : FunctionsAdd
-functions_add old new us m types count bytes r =
+functions_add old new us m n types count bytes r =
     let F = features_of old.features in
     let steps = function_step F us m types r.stand in
     let none = no_functions F us m types r.stand in (
-      λ e. added_from old new us same_item u32_at u32_at (renames_nothing u32_at) (add_function us) (IsFunctionType types) (λ xs. record m { functions = m.functions ++ xs }) (length m.functions) 1000000 steps m none count bytes (sym (at_module old us m 3 count bytes r.stage) ∙ e),
-      λ h. at_module old us m 3 count bytes r.stage ∙ added_to old new us same_item u32_at u32_at (renames_nothing u32_at) (add_function us) (IsFunctionType types) (λ xs. record m { functions = m.functions ++ xs }) (length m.functions) 1000000 steps m none count bytes h,
+      λ e. added_from old new us n same_item u32_at u32_at (renames_nothing u32_at) (add_function us) (IsFunctionType types) (λ xs. record m { functions = m.functions ++ xs }) (length m.functions) 1000000 steps m none count bytes (sym (at_module old us m n 3 count bytes r.stage) ∙ e),
+      λ h. at_module old us m n 3 count bytes r.stage ∙ added_to old new us n same_item u32_at u32_at (renames_nothing u32_at) (add_function us) (IsFunctionType types) (λ xs. record m { functions = m.functions ++ xs }) (length m.functions) 1000000 steps m none count bytes h,
     )
 
 pub memories_add : MemoriesAdd
-memories_add old new us m types count bytes r =
+memories_add old new us m n types count bytes r =
     let F = features_of old.features in
     let steps = memory_step F us m types r.stand in
     let none = no_memories F us m types r.stand in (
-      λ e. added_from old new us same_item memory_at memory_at (renames_nothing memory_at) (add_memory F) (IsValidMemory F) (λ ms. record m { memories = m.memories ++ ms }) (length m.memories) (most_memories F) steps m none count bytes (sym (at_module old us m 5 count bytes r.stage) ∙ e),
-      λ h. at_module old us m 5 count bytes r.stage ∙ added_to old new us same_item memory_at memory_at (renames_nothing memory_at) (add_memory F) (IsValidMemory F) (λ ms. record m { memories = m.memories ++ ms }) (length m.memories) (most_memories F) steps m none count bytes h,
+      λ e. added_from old new us n same_item memory_at memory_at (renames_nothing memory_at) (add_memory F) (IsValidMemory F) (λ ms. record m { memories = m.memories ++ ms }) (length m.memories) (most_memories F) steps m none count bytes (sym (at_module old us m n 5 count bytes r.stage) ∙ e),
+      λ h. at_module old us m n 5 count bytes r.stage ∙ added_to old new us n same_item memory_at memory_at (renames_nothing memory_at) (add_memory F) (IsValidMemory F) (λ ms. record m { memories = m.memories ++ ms }) (length m.memories) (most_memories F) steps m none count bytes h,
     )
 
 -- a section under a test
-tested : (old new : Standing) (us : TypesSoFar) (b : Bool) (o : Option Spaces) → moved old new us (cond b o None) ≡ Some new → (b ≡ true) × (moved old new us o ≡ Some new)
-tested old new us true o e = (refl, e)
-tested old new us false o e = absurd (none-some new e)
+tested : (old new : Standing) (us : TypesSoFar) (n : Noted) (b : Bool) (o : Option Spaces) → moved old new us n (cond b o None) ≡ Some new → (b ≡ true) × (moved old new us n o ≡ Some new)
+tested old new us n true o e = (refl, e)
+tested old new us n false o e = absurd (none-some new e)
 
 pub tags_add : TagsAdd
-tags_add old new us m types count bytes r =
+tags_add old new us m n types count bytes r =
     let F = features_of old.features in
     let steps = tag_step F us m types r.stand in
     let none = no_tags F us m types r.stand in
     let o = read_section tag_at (add_tag F us) (length m.tags) 1000000 count bytes m in (
-      λ e. let a = tested old new us F.exceptions o (sym (at_module old us m 13 count bytes r.stage) ∙ e) in
-          (a.0, added_from old new us same_item tag_at tag_at (renames_nothing tag_at) (add_tag F us) (IsValidTag F types) (λ xs. record m { tags = m.tags ++ xs }) (length m.tags) 1000000 steps m none count bytes a.1),
-      λ h. at_module old us m 13 count bytes r.stage ∙ ap (λ b. moved old new us (cond b o None)) h.0
-          ∙ added_to old new us same_item tag_at tag_at (renames_nothing tag_at) (add_tag F us) (IsValidTag F types) (λ xs. record m { tags = m.tags ++ xs }) (length m.tags) 1000000 steps m none count bytes h.1,
+      λ e. let a = tested old new us n F.exceptions o (sym (at_module old us m n 13 count bytes r.stage) ∙ e) in
+          (a.0, added_from old new us n same_item tag_at tag_at (renames_nothing tag_at) (add_tag F us) (IsValidTag F types) (λ xs. record m { tags = m.tags ++ xs }) (length m.tags) 1000000 steps m none count bytes a.1),
+      λ h. at_module old us m n 13 count bytes r.stage ∙ ap (λ b. moved old new us n (cond b o None)) h.0
+          ∙ added_to old new us n same_item tag_at tag_at (renames_nothing tag_at) (add_tag F us) (IsValidTag F types) (λ xs. record m { tags = m.tags ++ xs }) (length m.tags) 1000000 steps m none count bytes h.1,
     )

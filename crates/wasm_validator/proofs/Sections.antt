@@ -1,5 +1,5 @@
 -- How a section moves a validator.
-use Rattle.std.proofs.Common.{◌≡◌, refl, sym, ap, subst, ◌∙◌, ◌⊎◌, inl, inr, ℕ, ◌<◌, List, Some}
+use Rattle.std.proofs.Common.{◌≡◌, refl, sym, ap, subst, ◌∙◌, ℕ, ◌<◌, List, Some, None}
 use Rattle.wasm_readers_errors.specs.declared.features.WasmFeatures.{WasmFeatures}
 use Rattle.wasm_readers_types.specs.declared.types.SubType.{SubType}
 use Rattle.wasm_validator_core_resources.specs.ById.{AreFirstByIds}
@@ -36,10 +36,17 @@ module _ {A : Type 0} where
 
   pub open-shows : (types : TypesSoFar) (s : State A) (m : Spaces) → read_of s ≡ Some m → shown_at (stage_of types s) ≡ Some (types, m)
   open-shows types (Module n) m o = let same : n.«module» ≡ m = cc in ap (λ x. Some (types, x)) same
-  open-shows types (Code n) m o = let same : n.«module» ≡ m = cc in ap (λ x. Some (types, x)) same
+  open-shows types (Code n) m o = let same : n.spaces.value ≡ m = cc in ap (λ x. Some (types, x)) same
   open-shows types Unparsed m o = absurd (cc)
   open-shows types End m o = absurd (cc)
   open-shows types Failed m o = absurd (cc)
+
+  pub none-shows : (types : TypesSoFar) (s : State A) → read_of s ≡ None → shown_at (stage_of types s) ≡ None
+  none-shows types (Module n) o = absurd (cc)
+  none-shows types (Code n) o = absurd (cc)
+  none-shows types Unparsed o = refl
+  none-shows types End o = refl
+  none-shows types Failed o = refl
 
   -- the same of a validator
   module _ (id : ℕ) (features : WasmFeatures) (types : TypesSoFar) (s : State A) (m : Spaces) (old : Standing) where
@@ -110,15 +117,10 @@ module _ {A : Type 0} where
 
   read-ids : (list : Listing A) (s : State A) (m : Spaces) → read_of s ≡ Some m → AreIdsIn list s → AreIdsOf list m.types
   read-ids list (Module n) m o a = let same : n.«module» ≡ m = cc in subst (λ (x : Spaces). AreIdsOf list x.types) same a
-  read-ids list (Code n) m o a = let same : n.«module» ≡ m = cc in subst (λ (x : Spaces). AreIdsOf list x.types) same a
+  read-ids list (Code n) m o a = let same : n.spaces.value ≡ m = cc in subst (λ (x : Spaces). AreIdsOf list x.types) same a
   read-ids list Unparsed m o a = absurd (cc)
   read-ids list End m o a = absurd (cc)
   read-ids list Failed m o a = absurd (cc)
-
-  -- a module is being read, before the start of its code or behind it
-  pub one-read : (s : State A) (m : ModuleState A) → (s ≡ Module m) ⊎ (s ≡ Code m) → read_of s ≡ Some m.«module»
-  one-read s m (inl e) = ap read_of e
-  one-read s m (inr e) = ap read_of e
 
   -- and what shows them
   list-ids : (id : ℕ) (list : Listing A) (m : Spaces) → AreIdsOf list m.types → HoldsIds (record { id = id; list = list; spaces = m })

@@ -13,13 +13,13 @@ use Rattle.wasm_validator_core.specs.declared.error.Error.TheVariants.{Refused}
 use Rattle.wasm_validator_core.specs.Answers.{TypesSoFar}
 use Rattle.wasm_validator.specs.declared.validator.State.{State}
 use Rattle.wasm_validator.specs.declared.validator.State.TheVariants.{Unparsed, Module, Code, End, Failed}
-use Rattle.wasm_validator.specs.Standing.{in_module, Standing}
-use Rattle.wasm_validator.specs.States.{open_of, stage_of, order_at}
+use Rattle.wasm_validator.specs.Standing.{Noted, in_module, Standing}
+use Rattle.wasm_validator.specs.States.{open_of, noted_of, stage_of, order_at}
 use Rattle.wasm_validator.specs.SectionsTold.{OfContent, TellsAt, TellsWithin}
 
 -- a module is being read, before the start of its code
-open_stage : {A : Type 0} (types : TypesSoFar) (s : State A) (m : Spaces) → open_of s ≡ Some m → stage_of types s ≡ in_module types m
-open_stage types (Module n) m o = let same : n.«module» ≡ m = cc in ap (λ x. in_module types x) same
+open_stage : {A : Type 0} (types : TypesSoFar) (s : State A) (m : Spaces) → open_of s ≡ Some m → (k : Noted) × (stage_of types s ≡ in_module types m k)
+open_stage types (Module n) m o = let same : n.«module» ≡ m = cc in (noted_of n, ap (λ x. in_module types x (noted_of n)) same)
 open_stage types (Code n) m o = absurd (cc)
 open_stage types Unparsed m o = absurd (cc)
 open_stage types End m o = absurd (cc)
@@ -41,9 +41,9 @@ module _ {A : Type 0} (id : ℕ) (features : WasmFeatures) (types : TypesSoFar) 
   error_told : (m : Spaces) (tells : WasmFeatures → TypesSoFar → Spaces → Error A → Type 0) (place : ℕ) (old : Standing) (e : Error A) → open_of s ≡ Some m → here ≡ old
       → OfContent (tells features types m) e → OfContent (TellsWithin (tells old.features) place old.stage) e
   error_told m tells place old e o was h =
-      let opened : stage_of types s ≡ in_module types m = open_stage types s m o in
-      let start : Standing = record { id = id; features = features; stage = in_module types m } in
-      let same : start ≡ old = (λ i. record { id = id; features = features; stage = sym opened i }) ∙ was in
+      let opened = open_stage types s m o in
+      let start : Standing = record { id = id; features = features; stage = in_module types m opened.0 } in
+      let same : start ≡ old = (λ i. record { id = id; features = features; stage = sym opened.1 i }) ∙ was in
       subst (λ (w : Standing). OfContent (TellsWithin (tells w.features) place w.stage) e) same h
 
   pub told_within : {T : Type 0} (m : Spaces) (tells : WasmFeatures → TypesSoFar → Spaces → Error A → Type 0) (place : ℕ) (old : Standing) (r q : Result T (Error A)) → open_of s ≡ Some m → here ≡ old → q ≡ r
@@ -60,9 +60,9 @@ module _ {A : Type 0} (id : ℕ) (features : WasmFeatures) (types : TypesSoFar) 
   any_told : (m : Spaces) (tells : WasmFeatures → TypesSoFar → Spaces → Error A → Type 0) (place : ℕ) (old : Standing) (e : Error A) → open_of s ≡ Some m → here ≡ old
       → tells features types m e → TellsWithin (tells old.features) place old.stage e
   any_told m tells place old e o was h =
-      let opened : stage_of types s ≡ in_module types m = open_stage types s m o in
-      let start : Standing = record { id = id; features = features; stage = in_module types m } in
-      let same : start ≡ old = (λ i. record { id = id; features = features; stage = sym opened i }) ∙ was in
+      let opened = open_stage types s m o in
+      let start : Standing = record { id = id; features = features; stage = in_module types m opened.0 } in
+      let same : start ≡ old = (λ i. record { id = id; features = features; stage = sym opened.1 i }) ∙ was in
       subst (λ (w : Standing). TellsWithin (tells w.features) place w.stage e) same h
 
   pub all_told_within : {T : Type 0} (m : Spaces) (tells : WasmFeatures → TypesSoFar → Spaces → Error A → Type 0) (place : ℕ) (old : Standing) (r q : Result T (Error A)) → open_of s ≡ Some m → here ≡ old → q ≡ r

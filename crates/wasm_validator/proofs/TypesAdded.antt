@@ -30,7 +30,7 @@ use Rattle.wasm_validator_core.specs.Answers.{TypesSoFar}
 use Rattle.wasm_validator_core.specs.Machine.{with_ids, add_group}
 use Rattle.wasm_validator_core_laws.proofs.AddedItems.{each_changed}
 use Rattle.wasm_validator.specs.Machine.{type_items}
-use Rattle.wasm_validator.specs.Standing.{Stage, Standing, in_module, HoldsAt, HoldsValid, within, at_stage}
+use Rattle.wasm_validator.specs.Standing.{Noted, naming, Stage, Standing, in_module, HoldsAt, HoldsValid, within, at_stage}
 use Rattle.wasm_validator.specs.SectionLaws.{TypesHeld, FitsGroup, held_with, with_group, AddsGroups, TypesAdd}
 use Rattle.wasm_validator.proofs.AddedTypes.{as_many_zipped, one_group, one_ends}
 use Rattle.wasm_validator.proofs.Growing.{within_some}
@@ -117,19 +117,19 @@ module _ (features : WasmFeatures) (m : Spaces) where
       (ap (option_and_then (λ t. each add t gs)) (group_to h s g a.0) ∙ r.0, r.1)
 
 -- a step within a module that gives something
-within_to : (old new : Standing) (us : TypesSoFar) (m : Spaces) (f : TypesSoFar × Spaces → Option (TypesSoFar × Spaces)) (p : TypesSoFar × Spaces)
-    → f (us, m) ≡ Some p → new ≡ record old { stage = in_module p.0 p.1 } → at_stage old (within f (in_module us m)) ≡ Some new
-within_to old new us m f p e is = ap (λ o. at_stage old (option_and_then (λ (q : TypesSoFar × Spaces). Some (in_module q.0 q.1)) o)) e ∙ ap Some (sym is)
+within_to : (old new : Standing) (us : TypesSoFar) (m : Spaces) (n : Noted) (f : TypesSoFar × Spaces → Option (TypesSoFar × Spaces)) (p : TypesSoFar × Spaces)
+    → f (us, m) ≡ Some p → new ≡ record old { stage = in_module p.0 p.1 n } → at_stage old (within (naming []) f (in_module us m n)) ≡ Some new
+within_to old new us m n f p e is = ap (λ o. at_stage old (option_and_then (λ (q : TypesSoFar × Spaces). Some (in_module q.0 q.1 n)) o)) e ∙ ap Some (sym is)
 
 pub types_add : TypesAdd
-types_add old new us m types count bytes r v =
+types_add old new us m n types count bytes r v =
     let F = features_of old.features in
     let h : TypesHeld = record { all = us; ids = m.types; types = types } in
     let sound : IsSound old.features m h = record { stand = r.stand; valid = subst (λ (g : Stage). HoldsAt (AreValid F) g) r.stage v } in
     let add = add_group old.features in
     let there = length m.types in
     let entries = section_entries add (map_rec written) there 1000000 (us, m) (rec_at index) (rec_at written) (rec_renames written index) count bytes in (
-      λ e. let a = within_some old new us m (λ p. type_items old.features count bytes p) (sym (at_module old us m 1 count bytes r.stage) ∙ e.0) in
+      λ e. let a = within_some old new us m n (naming []) (λ p. type_items old.features count bytes p) (sym (at_module old us m n 1 count bytes r.stage) ∙ e.0) in
           let b = then_some (limited add (map_rec written) there 1000000 (us, m)) (items_at (rec_at index) count bytes) a.0 (sym entries ∙ a.1) in
           let c = guarded (leb (there + length b.0) 1000000) (each add (us, m) (map (map_rec written) b.0)) a.0 b.2 in
           let valid : AreValid F a.0.0 = subst HoldsValid (sym a.2) e.1 in
@@ -140,12 +140,12 @@ types_add old new us m types count bytes r v =
             few = leb-true (there + length b.0) 1000000 c.0;
             held = d.held;
             added = d.added;
-            after = sym a.2 ∙ (λ i. record old { stage = in_module (sym d.is i).0 (sym d.is i).1 });
+            after = sym a.2 ∙ (λ i. record old { stage = in_module (sym d.is i).0 (sym d.is i).1 n });
             stand = d.stand;
           },
       λ k. let ran = groups_to old.features m k.groups h k.held sound k.added in (
-        at_module old us m 1 count bytes r.stage
-            ∙ within_to old new us m (λ p. type_items old.features count bytes p) (at old.features m k.held)
+        at_module old us m n 1 count bytes r.stage
+            ∙ within_to old new us m n (λ p. type_items old.features count bytes p) (at old.features m k.held)
             (entries
             ∙ ap (option_and_then (limited add (map_rec written) there 1000000 (us, m))) k.read
             ∙ ap (λ b. cond b (each add (us, m) (map (map_rec written) k.groups)) None) (le-leb (there + length k.groups) 1000000 k.few)

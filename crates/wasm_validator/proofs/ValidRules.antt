@@ -1,13 +1,17 @@
 -- The rules of a module's parts are those of its lists, of its start functions, and its limits.
-use Rattle.std.proofs.Common.{◌≡◌, sym, subst, ℕ, ◌≤◌, List, [], length}
+use Rattle.std.proofs.Common.{ℕ, ◌≤◌, List, length}
 use Rattle.std.specs.List.{All}
-use Rattle.std.proofs.lemmas.List.Elements.{All-nil}
 use Rattle.wasm_spec.specs.Features.{Features}
 use Rattle.wasm_rules.specs.Parts.{Parts}
 use Rattle.wasm_rules.specs.IndexSpaces.{IndexSpaces}
 use Rattle.wasm_rules.specs.LinkRules.{IsValidStart}
 use Rattle.wasm_rules.specs.Modules.{AreValidParts}
 use Rattle.wasm_module_list_laws.specs.Lists.{AreValidModuleLists}
+use Rattle.wasm_validator_module_state.specs.declared.code_state.TheConstants.{MAX_FUNCTION_SIZE}
+
+-- no body is too long
+abbrev pub AreSmall : List (List ℕ) → Type 0
+AreSmall bs = All (λ (b : List ℕ). length b ≤ MAX_FUNCTION_SIZE) bs
 
 -- what is asked of a module's parts beside the rules of its lists
 pub record KeepsOthers (C : IndexSpaces) (p : Parts) : Type 0 where
@@ -19,12 +23,10 @@ pub record KeepsOthers (C : IndexSpaces) (p : Parts) : Type 0 where
   pub segments : length p.segments ≤ 100000
   pub data_counts : All (λ n. n ≤ 100000) p.data_counts
   pub starts : All (IsValidStart C) p.starts
+  pub bodies : AreSmall p.bodies
 
-no_bodies_long : (bs : List (List ℕ)) → bs ≡ [] → All (λ (b : List ℕ). length b ≤ 7654321) bs
-no_bodies_long bs e = subst (λ (xs : List (List ℕ)). All (λ (b : List ℕ). length b ≤ 7654321) xs) (sym e) (All-nil (λ (b : List ℕ). length b ≤ 7654321))
-
-pub parts_valid : (F : Features) (C : IndexSpaces) (p : Parts) → p.bodies ≡ [] → AreValidModuleLists F C p → KeepsOthers C p → AreValidParts F C p
-parts_valid F C p none v o = record {
+pub parts_valid : (F : Features) (C : IndexSpaces) (p : Parts) → AreValidModuleLists F C p → KeepsOthers C p → AreValidParts F C p
+parts_valid F C p v o = record {
   imports = v.imports;
   functions = v.functions;
   tables = v.tables;
@@ -50,7 +52,7 @@ parts_valid F C p none v o = record {
     elements = o.elements;
     segments = o.segments;
     data_counts = o.data_counts;
-    bodies = no_bodies_long p.bodies none;
+    bodies = o.bodies;
   };
 }
 
@@ -84,4 +86,5 @@ keeps_others F C p v = record {
   segments = v.limits.segments;
   data_counts = v.limits.data_counts;
   starts = v.starts;
+  bodies = v.limits.bodies;
 }

@@ -1,6 +1,5 @@
 pub mod Standing
 pub mod Codes
-pub mod Served
 pub mod Machine
 pub mod Shows
 pub mod Ready
@@ -8,6 +7,7 @@ pub mod SectionsTold
 pub mod States
 pub mod Payloads
 pub mod Verdict
+pub mod Driven
 pub mod Sequences
 pub mod Table
 pub mod SectionLaws

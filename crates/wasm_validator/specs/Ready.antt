@@ -18,7 +18,7 @@ module _ {A : Type 0} where
   -- the ids of the module that is being read, if there is one, are of the list
   abbrev pub AreIdsIn : Listing A → State A → Type 0
   AreIdsIn list (Module m) = AreIdsOf list m.«module».types
-  AreIdsIn list (Code m) = AreIdsOf list m.«module».types
+  AreIdsIn list (Code c) = AreIdsOf list c.spaces.value.types
   AreIdsIn list Unparsed = ⊤
   AreIdsIn list End = ⊤
   AreIdsIn list Failed = ⊤
@@ -26,7 +26,7 @@ module _ {A : Type 0} where
   -- the types of the list are valid, unless one was refused
   abbrev pub AreValidIn : WasmFeatures → Listing A → State A → Type 0
   AreValidIn features list (Module m) = AreValid (features_of features) (types_of_list list)
-  AreValidIn features list (Code m) = AreValid (features_of features) (types_of_list list)
+  AreValidIn features list (Code c) = AreValid (features_of features) (types_of_list list)
   AreValidIn features list Unparsed = AreValid (features_of features) (types_of_list list)
   AreValidIn features list End = AreValid (features_of features) (types_of_list list)
   AreValidIn features list Failed = ⊤
@@ -34,7 +34,7 @@ module _ {A : Type 0} where
   -- what is kept of the list for constant expressions are its first types by their ids, unless one was refused
   abbrev pub AreFirstIn : Listing A → List (SubType A) → State A → Type 0
   AreFirstIn list types (Module m) = AreFirstByIds list.groups types
-  AreFirstIn list types (Code m) = AreFirstByIds list.groups types
+  AreFirstIn list types (Code c) = AreFirstByIds list.groups types
   AreFirstIn list types Unparsed = AreFirstByIds list.groups types
   AreFirstIn list types End = AreFirstByIds list.groups types
   AreFirstIn list types Failed = ⊤

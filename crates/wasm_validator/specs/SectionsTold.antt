@@ -18,7 +18,6 @@ use Rattle.wasm_readers_errors.specs.declared.error.OutOfOrder.{OutOfOrder}
 use Rattle.wasm_readers_errors.specs.declared.error.OutOfOrder.TheVariants.{SectionBeforeHeader, SectionAfterEnd, Header, EndBeforeHeader, EndAfterEnd, SectionAfterFailure, SectionAfterCodeStart, CodeEntryBeforeCodeStart, CodeEntryWithoutFunction}
 use Rattle.wasm_readers_errors.specs.declared.error.Refusal.{Refusal}
 use Rattle.wasm_readers_errors.specs.declared.error.Rule.TheVariants.{ComponentModelLeftOut, Exceptions}
-use Rattle.wasm_readers_errors.specs.declared.error.Unserved.TheVariants.{FunctionBody}
 use Rattle.wasm_readers_errors.specs.declared.features.WasmFeatures.{WasmFeatures}
 use Rattle.wasm_readers_errors.specs.declared.features.TheConstants.WasmFeatures.{COMPONENT_MODEL, EXCEPTIONS}
 use Rattle.wasm_readers_types.specs.SeenExterns.{kind_of}
@@ -38,8 +37,8 @@ use Rattle.wasm_validator_core.specs.Errors.{IsAt, IfContent}
 use Rattle.wasm_validator_core.specs.Items.{add_import, add_function, add_memory, add_tag, add_export, exported_entity}
 use Rattle.wasm_validator_core.specs.Machine.{add_group}
 use Rattle.wasm_validator_core.specs.Told.{told_of_import, told_of_added_function, told_of_added_memory, told_of_added_tag, ToldOfAddedGroup, told_of_entity, told_of_start, told_of_data_count}
-use Rattle.wasm_validator_module_state.specs.Bodies.{expected_bodies}
-use Rattle.wasm_validator.specs.Standing.{Stage, unparsed, in_module, in_code, ended, failed}
+use Rattle.wasm_validator_module_state.specs.declared.code_state.TheConstants.{MAX_FUNCTION_SIZE}
+use Rattle.wasm_validator.specs.Standing.{bodies_left, Stage, unparsed, in_module, in_code, ended, failed}
 
 -- nothing
 abbrev pub IsNone : {X : Type 0} → Option X → Type 0
@@ -183,16 +182,16 @@ module _ {A : Type 0} where
 -- what is told of the order where a section may not come
 abbrev pub order_told : Stage → OutOfOrder
 order_told (unparsed types) = SectionBeforeHeader
-order_told (in_module types spaces) = SectionAfterFailure
-order_told (in_code types spaces) = SectionAfterCodeStart
+order_told (in_module types spaces more) = SectionAfterFailure
+order_told (in_code types spaces more) = SectionAfterCodeStart
 order_told (ended types) = SectionAfterEnd
 order_told failed = SectionAfterFailure
 
 -- and where the end may not come
 abbrev pub end_order_told : Stage → OutOfOrder
 end_order_told (unparsed types) = EndBeforeHeader
-end_order_told (in_module types spaces) = SectionAfterFailure
-end_order_told (in_code types spaces) = SectionAfterFailure
+end_order_told (in_module types spaces more) = SectionAfterFailure
+end_order_told (in_code types spaces more) = SectionAfterFailure
 end_order_told (ended types) = EndAfterEnd
 end_order_told failed = SectionAfterFailure
 
@@ -201,16 +200,16 @@ abbrev pub header_told : WasmFeatures → ℕ → Bool → ℕ → Stage → Ref
 header_told features number is_module place (unparsed types) =
     if is_module then plain (fault.UnknownBinaryVersion number) place
     else (if (features_of features).component_model then plain (fault.Rule ComponentModelLeftOut) place else lacking COMPONENT_MODEL (fault.ComponentHeader number) place)
-header_told features number is_module place (in_module types spaces) = plain (fault.OutOfOrder Header) place
-header_told features number is_module place (in_code types spaces) = plain (fault.OutOfOrder Header) place
+header_told features number is_module place (in_module types spaces more) = plain (fault.OutOfOrder Header) place
+header_told features number is_module place (in_code types spaces more) = plain (fault.OutOfOrder Header) place
 header_told features number is_module place (ended types) = plain (fault.OutOfOrder Header) place
 header_told features number is_module place failed = plain (fault.OutOfOrder Header) place
 
--- what is told of a body: where it may come that it isn't served
+-- what is told of a body: where it may come, that it is too long
 abbrev pub body_told : Stage → Fault
 body_told (unparsed types) = fault.OutOfOrder SectionBeforeHeader
-body_told (in_module types spaces) = fault.OutOfOrder CodeEntryBeforeCodeStart
-body_told (in_code types spaces) = if expected_bodies spaces == 0 then fault.OutOfOrder CodeEntryWithoutFunction else fault.NotServed FunctionBody
+body_told (in_module types spaces more) = fault.OutOfOrder CodeEntryBeforeCodeStart
+body_told (in_code types spaces more) = if bodies_left spaces more == 0 then fault.OutOfOrder CodeEntryWithoutFunction else fault.Limit counted.FunctionBodySize MAX_FUNCTION_SIZE
 body_told (ended types) = fault.OutOfOrder SectionAfterEnd
 body_told failed = fault.OutOfOrder SectionAfterFailure
 
@@ -222,16 +221,16 @@ module _ {A : Type 0} where
   -- what is told of a section by the lists of the module that is being read, before the start of its code
   abbrev pub TellsWithin : (TypesSoFar → Spaces → Error A → Type 0) → ℕ → Stage → Error A → Type 0
   TellsWithin tells place (unparsed us) e = TellsOrder place (unparsed us) e
-  TellsWithin tells place (in_module us m) e = tells us m e
-  TellsWithin tells place (in_code us m) e = TellsOrder place (in_code us m) e
+  TellsWithin tells place (in_module us m k) e = tells us m e
+  TellsWithin tells place (in_code us m k) e = TellsOrder place (in_code us m k) e
   TellsWithin tells place (ended us) e = TellsOrder place (ended us) e
   TellsWithin tells place failed e = TellsOrder place failed e
 
   -- and of one that may come behind it as well
   abbrev pub TellsReading : (TypesSoFar → Spaces → Error A → Type 0) → ℕ → Stage → Error A → Type 0
   TellsReading tells place (unparsed us) e = TellsOrder place (unparsed us) e
-  TellsReading tells place (in_module us m) e = tells us m e
-  TellsReading tells place (in_code us m) e = tells us m e
+  TellsReading tells place (in_module us m k) e = tells us m e
+  TellsReading tells place (in_code us m k) e = tells us m e
   TellsReading tells place (ended us) e = TellsOrder place (ended us) e
   TellsReading tells place failed e = TellsOrder place failed e
 

@@ -4,23 +4,22 @@ use Rattle.wasm_spec.specs.Framing as parts
 use Rattle.wasm_spec.specs.Framing.{Piece, Version, Custom, Counted, Start, DataCount, CodeStart, CodeEntry, Unknown}
 use Rattle.wasm_rules.specs.StateTable as table
 use Rattle.wasm_rules.specs.StateTable.{Phase, Call, header, section, barred_section, code_start, code_entry, data_section, custom, unknown, accepted_to, refused_to}
-use Rattle.wasm_validator_module_state.specs.Bodies.{expected_bodies}
-use Rattle.wasm_validator.specs.Standing.{Stage, unparsed, in_module, in_code, ended, failed, Standing}
+use Rattle.wasm_validator.specs.Standing.{starting, bodies_left, Stage, unparsed, in_module, in_code, ended, failed, Standing}
 use Rattle.wasm_validator.specs.States.{after_piece, is_barred, left_by}
 
--- no body is taken yet
+-- so many bodies are to come
 abbrev pub phase_of : Stage → Phase
 phase_of (unparsed types) = table.unparsed
-phase_of (in_module types spaces) = table.in_module
-phase_of (in_code types spaces) = table.in_code (expected_bodies spaces)
+phase_of (in_module types spaces more) = table.in_module
+phase_of (in_code types spaces more) = table.in_code (bodies_left spaces more)
 phase_of (ended types) = table.ended
 phase_of failed = table.failed
 
 -- as many bodies as functions are defined
 abbrev pub bodies_at : Stage → ℕ
 bodies_at (unparsed types) = 0
-bodies_at (in_module types spaces) = expected_bodies spaces
-bodies_at (in_code types spaces) = expected_bodies spaces
+bodies_at (in_module types spaces more) = bodies_left spaces (starting types spaces more)
+bodies_at (in_code types spaces more) = bodies_left spaces more
 bodies_at (ended types) = 0
 bodies_at failed = 0
 

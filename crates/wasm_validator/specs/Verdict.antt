@@ -15,7 +15,6 @@ use Rattle.wasm_validator_types.specs.Shown.{shown_of}
 use Rattle.wasm_validator_types.specs.declared.shown.Types as shown
 use Rattle.wasm_validator_core.specs.declared.error.Error.{Error}
 use Rattle.wasm_validator_core.specs.declared.error.Error.TheVariants.{Refused, DuplicateExport, OutOfMemory}
-use Rattle.wasm_validator.specs.Served.{AreServed}
 use Rattle.wasm_validator.specs.Shows.{ShowModule}
 use Rattle.wasm_validator_core.specs.Answers.{TypesSoFar}
 use Rattle.wasm_validator.specs.Standing.{Standing, unparsed, ended, fresh, HoldsAt}
@@ -24,11 +23,6 @@ use Rattle.wasm_validator.specs.Payloads.{IsLeft, IsOutOfMemory}
 -- the types that a validator holds are told apart, as its features ask
 abbrev pub StandsApart : Standing → Type 0
 StandsApart s = HoldsAt (AreApart (canonical (features_of s.features))) s.stage
-
--- the bytes are a valid module, of the forms that are served
-pub record IsServedModule (features : WasmFeatures) (bytes : List ℕ) : Type 0 where
-  pub module_valid : IsValidModule (features_of features) bytes
-  pub served : AreServed module_valid.well_formed.parts
 
 -- The bytes are a valid module. The types show its index spaces, in a list that begins with the types that the
 -- validator had, and this list is what it has from now on.
@@ -47,12 +41,11 @@ pub record AcceptsModule {A : Type 0} (bytes : List ℕ) (old new : Standing) (t
   pub own_types : canonical (features_of old.features) ≡ false → length (types_of_list (shown_of t).list) ≡ length before + length module_valid.well_formed.types.types
   pub after : new ≡ record old { stage = ended (types_of_list (shown_of t).list) }
 
--- Where no header had been read, the bytes are no valid module of the forms that are served, unless the list would
--- pass its limit with the module's types.
+-- Where no header had been read, the bytes are no valid module, unless the list would pass its limit with the module's types.
 abbrev pub RefusesModule : List ℕ → Standing → Type 0
 RefusesModule bytes old =
     (before : TypesSoFar) → old.stage ≡ unparsed before
-    → (m : IsServedModule old.features bytes) → length before + length m.module_valid.well_formed.types.types ≤ MAX_IDS → ⊥
+    → (m : IsValidModule (features_of old.features) bytes) → length before + length m.well_formed.types.types ≤ MAX_IDS → ⊥
 
 -- what the answer on whole bytes says: of acceptance with no premise, of a refusal unless memory was refused
 abbrev pub DecidesModule : {A : Type 0} → Result (shown.Types A) (Error A) → List ℕ → Standing → Standing → Type 0
@@ -65,13 +58,13 @@ DecidesModule (results.Err OutOfMemory) bytes old new = IsOutOfMemory bytes old 
 abbrev pub AreModule : WasmFeatures → List ℕ → Type 0
 AreModule features bytes = IsValidModule (features_of features) bytes
 
--- they are no valid module of the forms that are served
-abbrev pub AreNoServedModule : WasmFeatures → List ℕ → Type 0
-AreNoServedModule features bytes = IsServedModule features bytes → ⊥
+-- they are none
+abbrev pub AreNoModule : WasmFeatures → List ℕ → Type 0
+AreNoModule features bytes = AreModule features bytes → ⊥
 
 -- The same of a validator that is made for these bytes: no module has as many types as its list may hold.
 abbrev pub DecidesAlone : {A : Type 0} → Result (shown.Types A) (Error A) → List ℕ → ℕ → WasmFeatures → Type 0
 DecidesAlone (results.Ok t) bytes id features = (new : Standing) × AcceptsModule bytes (fresh id features) new t
-DecidesAlone (results.Err (Refused r)) bytes id features = AreNoServedModule features bytes × ((new : Standing) × IsLeft (Some r) bytes (fresh id features) new)
-DecidesAlone (results.Err (DuplicateExport name offset)) bytes id features = AreNoServedModule features bytes × ((new : Standing) × IsLeft None bytes (fresh id features) new)
+DecidesAlone (results.Err (Refused r)) bytes id features = AreNoModule features bytes × ((new : Standing) × IsLeft (Some r) bytes (fresh id features) new)
+DecidesAlone (results.Err (DuplicateExport name offset)) bytes id features = AreNoModule features bytes × ((new : Standing) × IsLeft None bytes (fresh id features) new)
 DecidesAlone (results.Err OutOfMemory) bytes id features = ⊤

@@ -1,6 +1,7 @@
 //! Validation of WebAssembly modules: states, one method for each payload, and whole modules.
 #![tactic(auto)]
 
+ghost use Rattle.wasm_validator.specs.Driven.{PayloadsDecide};
 ghost use Rattle.wasm_validator.specs.Sequences.{OneIdForOneType, OwnIdForEachType, RefusedKeepTypes};
 ghost use Rattle.wasm_validator.specs.SectionLaws.{TypesAdd, ImportsAdd, FunctionsAdd, TablesAdd, MemoriesAdd, TagsAdd, GlobalsAdd, ExportsAdd, ElementsAdd, SegmentsAdd};
 ghost use Rattle.wasm_validator.specs.Table.{AcceptedByTable, RefusedByTable};
@@ -22,14 +23,16 @@ pub use wasm_readers::{
     GroupRule, HeapType, Import, ItemKind, ItemRule, Items, MAX_IDS, Malformed, MemoryType,
     OutOfOrder, PackedIndex, RecGroup, RefType, Refusal, Rule, SectionItems, SectionLimited,
     StorageType, StructType, SubType, Table, TableInit, TableType, TagKind, TagType, TypeRef,
-    UnpackedIndex, Unserved, ValType, ValueTypeRule, WasmFeatures,
+    UnpackedIndex, ValType, ValueTypeRule, WasmFeatures,
 };
 pub use wasm_validator_canonical::{
     InternRecGroup, TypeCanonicalizer, canonicalize_and_intern_rec_group, intern_rec_group_of,
 };
 pub use wasm_validator_core::{Error, Module};
+pub use wasm_validator_func::{FuncToValidate, FuncValidator, FuncValidatorAllocations};
 pub use wasm_validator_matches::{Matches, WithRecGroup, func_signature_matches};
-pub use wasm_validator_module_state::{MaybeOwned, ModuleState};
+pub use wasm_validator_module_state::{CodeState, MAX_FUNCTION_SIZE, MaybeOwned, ModuleState};
+pub use wasm_validator_resources::ValidatorResources;
 pub use wasm_validator_type_list::LinkCount;
 pub use wasm_validator_types::{
     CoreExports, CoreImports, EntityType, RecGroupElements, RecGroupId, SnapshotList, TypeAlloc,
@@ -42,6 +45,13 @@ pub use wasm_validator_types::{
 pub fn state_table()
     ensures accepted { AcceptedByTable }
     ensures refused { RefusedByTable }
+{}
+
+/// Who gives payloads and validates the bodies that they hand out decides the same: where each
+/// payload is accepted up to the end, and each body is valid, the bytes are a valid module, and a
+/// valid module's payloads and bodies are accepted (Core Specification 3.0, Validation, Modules).
+pub fn payloads_decide()
+    ensures { PayloadsDecide }
 {}
 
 /// Where equal types are one, two types of any modules that one validator has accepted, one after

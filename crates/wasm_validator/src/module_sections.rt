@@ -3,6 +3,9 @@
 ghost use Rattle.std.specs.Prelude.{◌≡◌, OnOk, IfErr, IsTrue};
 ghost use Rattle.wasm_rules.specs.FeatureFlags.{features_of};
 ghost use Rattle.wasm_readers.specs.SectionsSeen.{count_of, bytes_of, section_start, section_end};
+ghost use Rattle.wasm_referenced_functions.specs.References.{names_of_tables, names_of_globals, names_of_exports, names_of_elements};
+ghost use Rattle.wasm_validator.specs.Standing.{naming};
+ghost use Rattle.wasm_validator.specs.States.{noted_of};
 ghost use Rattle.wasm_validator_type_list.specs.DefTypes.{types_of_list};
 ghost use Rattle.wasm_validator_canonical.specs.Groups.{AreValid};
 ghost use Rattle.wasm_validator_core.specs.Answers.{Adds, AddsWhere, HasValidTypes};
@@ -19,11 +22,13 @@ use wasm_readers::{
     Counted, Data, Element, Export, Global, Import, MemoryType, RecGroup, SectionLimited, Table,
     TagType, WasmFeatures,
 };
+use wasm_referenced_functions::{mark_elements, mark_exports, mark_globals, mark_tables};
 use wasm_validator_core::{
     Error, MAX_DATA_SEGMENTS, MAX_ELEMENT_SEGMENTS, MAX_EXPORTS, MAX_FUNCTIONS, MAX_GLOBALS,
     MAX_IMPORTS, MAX_TAGS, MAX_TYPES, Module, check_max,
 };
-use wasm_validator_types::TypeList;
+use wasm_validator_module_state::ModuleState;
+use wasm_validator_types::{IndexSpaces, TypeList};
 
 /// Adds the types of a type section.
 pub fn add_types<'a, A: Allocator + Copy>(
@@ -141,7 +146,7 @@ fn kept_in<A: Allocator + Copy>(
 }
 
 /// Adds the tables of a table section, with what their entries begin with.
-pub fn add_tables<'a, A: Allocator + Copy>(
+fn add_tables<'a, A: Allocator + Copy>(
     features: WasmFeatures,
     list: &TypeList<A>,
     constants: &mut Constants<A>,
@@ -238,7 +243,7 @@ pub fn add_tags<A: Allocator + Copy>(
 }
 
 /// Adds the globals of a global section, with their initializers.
-pub fn add_globals<'a, A: Allocator + Copy>(
+fn add_globals<'a, A: Allocator + Copy>(
     features: WasmFeatures,
     list: &TypeList<A>,
     constants: &mut Constants<A>,
@@ -277,7 +282,7 @@ pub fn add_globals<'a, A: Allocator + Copy>(
 }
 
 /// Adds the element segments of an element section.
-pub fn add_elements<'a, A: Allocator + Copy>(
+fn add_elements<'a, A: Allocator + Copy>(
     features: WasmFeatures,
     list: &TypeList<A>,
     constants: &mut Constants<A>,
@@ -316,7 +321,7 @@ pub fn add_elements<'a, A: Allocator + Copy>(
 }
 
 /// Adds the exports of an export section.
-pub fn add_exports<'a, A: Allocator + Copy>(
+fn add_exports<'a, A: Allocator + Copy>(
     features: WasmFeatures,
     alloc: A,
     list: &TypeList<A>,
@@ -350,13 +355,13 @@ pub fn check_data_segments<'a, A: Allocator + Copy>(
     features: WasmFeatures,
     list: &TypeList<A>,
     constants: &mut Constants<A>,
-    opened: &Module<A>,
+    spaces: &IndexSpaces<A>,
     section: &SectionLimited<'a, Data<'a>, A>,
 ) -> Result<(), Error<A>>
-    requires held { AreHeld list.now opened.now.types }
+    requires held { AreHeld list.now spaces.now.types }
     requires first { AreFirstByIds list.now.groups constants.old.types }
     ensures added { Adds result (data_items (features_of features) (types_of_list list.now)
-        (count_of section.now) (bytes_of section.now) opened.now) opened.now }
+        (count_of section.now) (bytes_of section.now) spaces.now) spaces.now }
     ensures first { AreFirstByIds list.now.groups constants.new.types }
     ensures place { IfErr result (StandsBetween (section_start section.now)
         (section_end section.now)) }
@@ -376,9 +381,127 @@ pub fn check_data_segments<'a, A: Allocator + Copy>(
         list,
         &constants.types,
         allocations,
-        opened,
+        spaces,
         section.count(),
         section.reader(),
     );
     kept_in(constants, added)
+}
+
+/// Adds the tables of a table section, and notes the functions that they name.
+pub fn take_tables<'a, A: Allocator + Copy>(
+    features: WasmFeatures,
+    list: &TypeList<A>,
+    constants: &mut Constants<A>,
+    state: &mut ModuleState<A>,
+    section: &SectionLimited<'a, Table<'a>, A>,
+) -> Result<(), Error<A>>
+    requires held { AreHeld list.now state.old.«module».types }
+    requires first { AreFirstByIds list.now.groups constants.old.types }
+    ensures added { Adds result (table_items (features_of features) (types_of_list list.now)
+        (count_of section.now) (bytes_of section.now) state.old.«module»)
+        state.new.«module» }
+    ensures noted { OnOk result (noted_of state.new ≡ naming (names_of_tables
+        (count_of section.now) (bytes_of section.now)) (noted_of state.old)) }
+    ensures types { state.new.«module».types ≡ state.old.«module».types }
+    ensures first { AreFirstByIds list.now.groups constants.new.types }
+    ensures place { IfErr result (StandsBetween (section_start section.now)
+        (section_end section.now)) }
+    ensures told { IfErr result (OfContent (TellsTables section.now features state.old.«module»)) }
+{
+    match add_tables(features, list, constants, &mut state.module, section) {
+        Ok(()) => {
+            mark_tables(&mut state.referenced, section)?;
+            Ok(())
+        }
+        Err(error) => Err(error),
+    }
+}
+
+/// Adds the globals of a global section, and notes the functions that they name.
+pub fn take_globals<'a, A: Allocator + Copy>(
+    features: WasmFeatures,
+    list: &TypeList<A>,
+    constants: &mut Constants<A>,
+    state: &mut ModuleState<A>,
+    section: &SectionLimited<'a, Global<'a>, A>,
+) -> Result<(), Error<A>>
+    requires held { AreHeld list.now state.old.«module».types }
+    requires first { AreFirstByIds list.now.groups constants.old.types }
+    ensures added { Adds result (global_items (features_of features) (types_of_list list.now)
+        (count_of section.now) (bytes_of section.now) state.old.«module»)
+        state.new.«module» }
+    ensures noted { OnOk result (noted_of state.new ≡ naming (names_of_globals
+        (count_of section.now) (bytes_of section.now)) (noted_of state.old)) }
+    ensures types { state.new.«module».types ≡ state.old.«module».types }
+    ensures first { AreFirstByIds list.now.groups constants.new.types }
+    ensures place { IfErr result (StandsBetween (section_start section.now)
+        (section_end section.now)) }
+    ensures told { IfErr result (OfContent (TellsGlobals section.now state.old.«module»)) }
+{
+    match add_globals(features, list, constants, &mut state.module, section) {
+        Ok(()) => {
+            mark_globals(&mut state.referenced, section)?;
+            Ok(())
+        }
+        Err(error) => Err(error),
+    }
+}
+
+/// Adds the element segments of an element section, and notes the functions that they name.
+pub fn take_elements<'a, A: Allocator + Copy>(
+    features: WasmFeatures,
+    list: &TypeList<A>,
+    constants: &mut Constants<A>,
+    state: &mut ModuleState<A>,
+    section: &SectionLimited<'a, Element<'a>, A>,
+) -> Result<(), Error<A>>
+    requires held { AreHeld list.now state.old.«module».types }
+    requires first { AreFirstByIds list.now.groups constants.old.types }
+    ensures added { Adds result (element_items (features_of features) (types_of_list list.now)
+        (count_of section.now) (bytes_of section.now) state.old.«module»)
+        state.new.«module» }
+    ensures noted { OnOk result (noted_of state.new ≡ naming (names_of_elements
+        (count_of section.now) (bytes_of section.now)) (noted_of state.old)) }
+    ensures types { state.new.«module».types ≡ state.old.«module».types }
+    ensures first { AreFirstByIds list.now.groups constants.new.types }
+    ensures place { IfErr result (StandsBetween (section_start section.now)
+        (section_end section.now)) }
+    ensures told { IfErr result (OfContent (TellsElements section.now state.old.«module»)) }
+{
+    match add_elements(features, list, constants, &mut state.module, section) {
+        Ok(()) => {
+            mark_elements(&mut state.referenced, section)?;
+            Ok(())
+        }
+        Err(error) => Err(error),
+    }
+}
+
+/// Adds the exports of an export section, and notes the functions that they name.
+pub fn take_exports<'a, A: Allocator + Copy>(
+    features: WasmFeatures,
+    alloc: A,
+    list: &TypeList<A>,
+    state: &mut ModuleState<A>,
+    section: &SectionLimited<'a, Export<'a>, A>,
+) -> Result<(), Error<A>>
+    ensures added { Adds result (export_items (features_of features) (types_of_list list.now)
+        (count_of section.now) (bytes_of section.now) state.old.«module»)
+        state.new.«module» }
+    ensures noted { OnOk result (noted_of state.new ≡ naming (names_of_exports
+        (count_of section.now) (bytes_of section.now)) (noted_of state.old)) }
+    ensures types { state.new.«module».types ≡ state.old.«module».types }
+    ensures place { IfErr result (StandsBetween (section_start section.now)
+        (section_end section.now)) }
+    ensures told { IfErr result (OfContent (TellsExports features section.now
+        (types_of_list list.now) state.old.«module»)) }
+{
+    match add_exports(features, alloc, list, &mut state.module, section) {
+        Ok(()) => {
+            mark_exports(&mut state.referenced, section)?;
+            Ok(())
+        }
+        Err(error) => Err(error),
+    }
 }

@@ -1,5 +1,6 @@
 ghost use Rattle.wasm_readers_errors.specs.declared.features.TheConstants.WasmFeatures.{STANDARD};
-ghost use Rattle.std.specs.Prelude.{◌≡◌, ◌≤◌, IfOk, IfErr, OnErr, IfSome, Some, None, length};
+ghost use Rattle.std.specs.Prelude.{ℕ, ◌≡◌, ◌≤◌, ◌++◌, [], IfOk, IfErr, OnOk, OnErr, IfSome, Some, None, length};
+ghost use Rattle.std.specs.List.{All};
 ghost use Rattle.std.specs.Option.{option_map};
 ghost use Rattle.wasm_parser.specs.Machine.{next_of};
 ghost use Rattle.wasm_parser.specs.Places.{starts_at, ends_at, input_end, refused_with, ReadsInput};
@@ -7,37 +8,49 @@ ghost use Rattle.wasm_parser.specs.Seen.{seen, state};
 ghost use Rattle.wasm_validator.specs.SectionsTold.{StandsBetween};
 ghost use Rattle.wasm_validator_types.specs.Shown.{shown_of, HoldsIds};
 ghost use Rattle.wasm_validator.specs.Standing.{Leaves};
-ghost use Rattle.wasm_validator.specs.States.{after_piece, left_by, IsBeforeEnd};
-ghost use Rattle.wasm_validator.specs.Payloads.{ShowsModule, HoldsIdsAtEnd, latest_of, TellsFormat, Validates};
+ghost use Rattle.wasm_validator_func.specs.Functions.{Decides};
+ghost use Rattle.wasm_validator.specs.States.{after_piece, handed, left_by, IsSection};
+ghost use Rattle.wasm_validator.specs.Payloads.{ShowsModule, HoldsIdsAtEnd, IsFunction, latest_of, bodies_given, bodies_seen, AllEndBy, GivenEndBy, StandsBy, IsBodyOfIts, TellsFormat, Validates};
 ghost use Rattle.wasm_validator.specs.Verdict.{DecidesModule, DecidesAlone};
 
 use crate::validator::Validator;
-use std::alloc::{Allocator, Global};
-use wasm_parser::{ParseAll, Parser, Payload};
+use std::alloc::{AllocError, Allocator, Global};
+use wasm_parser::{FunctionBody, ParseAll, Parser, Payload};
 use wasm_validator_core::Error;
+use wasm_validator_func::{FuncToValidate, FuncValidatorAllocations};
+use wasm_validator_resources::ValidatorResources;
 use wasm_validator_types::{Types, ValidatorId};
+
+/// Functions whose bodies are to be validated.
+pub(crate) type Bodies<'a, A> = Vec<(FuncToValidate<ValidatorResources<A>>, FunctionBody<'a>), A>;
 
 /// What a payload that is accepted gives.
 #[derive(Drop)]
-pub enum ValidPayload<A: Allocator = Global> {
+pub enum ValidPayload<'a, A: Allocator = Global> {
     /// Nothing more is to be done for it.
     Ok,
+    /// A function, whose body is to be validated.
+    Func(FuncToValidate<ValidatorResources<A>>, FunctionBody<'a>),
     /// The module has ended, and these are its types.
     End(Types<A>),
 }
 
 impl<A: Allocator + Copy> Validator<A> {
     /// Checks one payload of a module, as the parser gives it (Core Specification 3.0, Validation,
-    /// Modules). The end gives the types.
+    /// Modules). A function's body is handed out to be validated, by
+    /// [`FuncToValidate::validate`]; and the end gives the types.
     ///
     /// # Errors
     ///
     /// Refused as by the method of its section, at an offset from the payload's first byte to the
     /// one behind it, and where memory is.
-    pub fn payload<'a>(&mut self, payload: &Payload<'a, A>) -> Result<ValidPayload<A>, Error<A>>
+    pub fn payload<'a>(&mut self, payload: &Payload<'a, A>) -> Result<ValidPayload<'a, A>, Error<A>>
         ensures moves { Leaves result (after_piece self.old (seen payload.now))
             (left_by self.old (seen payload.now)) self.old self.new }
         ensures shown { IfOk result (ShowsModule self.old (seen payload.now)) }
+        ensures given { IfOk result (λ v. handed self.old (seen payload.now)
+            ≡ bodies_given v) }
+        ensures within { IfOk result (GivenEndBy (ends_at payload.now)) }
         ensures held { IfOk result HoldsIdsAtEnd }
         ensures place { starts_at payload.now ≤ ends_at payload.now
             → IfErr result (StandsBetween (starts_at payload.now) (ends_at payload.now)) }
@@ -47,6 +60,10 @@ impl<A: Allocator + Copy> Validator<A> {
                 Ok(types) => Ok(ValidPayload::End(types)),
                 Err(error) => Err(error),
             },
+            Payload::CodeSectionEntry(body) => match self.code_section_entry(body) {
+                Ok(function) => Ok(ValidPayload::Func(function, *body)),
+                Err(error) => Err(error),
+            },
             other => match self.section(other) {
                 Ok(()) => Ok(ValidPayload::Ok),
                 Err(error) => Err(error),
@@ -54,9 +71,9 @@ impl<A: Allocator + Copy> Validator<A> {
         }
     }
 
-    /// Checks a payload that is not the end.
+    /// Checks a payload that is neither a body nor the end.
     fn section<'a>(&mut self, payload: &Payload<'a, A>) -> Result<(), Error<A>>
-        requires { IsBeforeEnd (seen payload.now) }
+        requires { IsSection (seen payload.now) }
         ensures moves { Leaves result (after_piece self.old (seen payload.now))
             (left_by self.old (seen payload.now)) self.old self.new }
         ensures place { starts_at payload.now ≤ ends_at payload.now
@@ -84,7 +101,7 @@ impl<A: Allocator + Copy> Validator<A> {
                 range,
                 size: _,
             } => self.code_section_start(range),
-            Payload::CodeSectionEntry(body) => self.code_section_entry(body),
+            Payload::CodeSectionEntry(_) => unreachable!(),
             Payload::DataSection(section) => self.data_section(section),
             Payload::CustomSection(_) => Ok(()),
             Payload::UnknownSection {
@@ -98,14 +115,15 @@ impl<A: Allocator + Copy> Validator<A> {
 
     /// Checks the module that these bytes are, and gives its types, which show its index spaces. It
     /// is accepted exactly where it is valid (Core Specification 3.0, Validation, Modules), as far
-    /// as its forms are served and the list of types has room for its own.
+    /// as the list of types has room for its own.
     ///
     /// The validator has to be fresh or reset: elsewhere the header is refused.
     ///
     /// # Errors
     ///
     /// Refused where the parser refuses the bytes, as it does; as by [`Validator::payload`] where
-    /// that refuses a payload; and where memory is. The offset is that of a byte of the input, or
+    /// that refuses a payload; behind the end, where a function's body isn't valid, and then the
+    /// validator may be reset; and where memory is. The offset is that of a byte of the input, or
     /// behind its last.
     pub fn validate_all(&mut self, bytes: &[u8]) -> Result<Types<A>, Error<A>>
         ensures decided { DecidesModule result bytes.now self.old self.new }
@@ -115,31 +133,99 @@ impl<A: Allocator + Copy> Validator<A> {
         // Asked for what they promise: the types that are held are valid, and told apart.
         let _has_failed = self.has_failed();
         self.types_stand_apart();
-        self.run(bytes)
+        let (types, bodies) = match self.run(bytes) {
+            Ok(ended) => ended,
+            Err(error) => return Err(error),
+        };
+        match validate_bodies(self.allocator(), bodies) {
+            Ok(()) => Ok(types),
+            Err(error) => Err(Error::from(error)),
+        }
     }
 
-    /// Goes over the payloads of these bytes, up to the first that is refused.
-    fn run(&mut self, bytes: &[u8]) -> Result<Types<A>, Error<A>>
-        ensures validates { Validates result bytes.now self.old self.new }
+    /// Goes over the payloads of these bytes, up to the first that is refused, and collects the
+    /// bodies.
+    fn run<'a>(&mut self, bytes: &'a [u8]) -> Result<(Types<A>, Bodies<'a, A>), Error<A>>
+        ensures validates { Validates (λ b. bodies_seen b.items) result bytes.now self.old self.new }
+        ensures within { IfOk result (λ x. AllEndBy (length bytes.now) x.1.items) }
         ensures place { IfErr result (StandsBetween 0 (length bytes.now)) }
     {
-        let mut payloads = Parser::new(self.allocator(), 0).parse_all(bytes);
-        let mut ended = None;
+        let alloc = self.allocator();
+        let mut payloads = Parser::new(alloc, 0).parse_all(bytes);
+        let mut gathered = Gathered::new(alloc);
         'payloads: loop {
             match next_of_input(&mut payloads) {
                 Ok(Some(payload)) => match self.payload(&payload) {
-                    Ok(valid) => ended = latest(ended, valid),
+                    Ok(valid) => gathered.take(valid)?,
                     Err(error) => return Err(error),
                 },
                 Ok(None) => break,
                 Err(refused) => return Err(refused),
             }
         }
+        let Gathered { ended, bodies } = gathered;
         match ended {
-            Some(types) => Ok(types),
+            Some(types) => Ok((types, bodies)),
             None => unreachable!(),
         }
     }
+}
+
+/// What payloads gave so far.
+#[derive(Drop)]
+struct Gathered<'a, A: Allocator> {
+    ended: Option<Types<A>>,
+    bodies: Bodies<'a, A>,
+}
+
+impl<'a, A: Allocator + Copy> Gathered<'a, A> {
+    /// Nothing.
+    fn new(alloc: A) -> Gathered<'a, A>
+        ensures ended { result.ended ≡ None }
+        ensures bodies { bodies_seen result.bodies.items ≡ [] }
+    {
+        Gathered {
+            ended: None,
+            bodies: Vec::new(alloc),
+        }
+    }
+
+    /// Keeps the types of the module that has ended last, and each body.
+    fn take(&mut self, valid: ValidPayload<'a, A>) -> Result<(), AllocError>
+        ensures ended { OnOk result (self.new.ended ≡ latest_of self.old.ended valid.entry) }
+        ensures bodies { OnOk result (bodies_seen self.new.bodies.items
+            ≡ bodies_seen self.old.bodies.items ++ bodies_given valid.entry) }
+        ensures within { (end : ℕ) → AllEndBy end self.old.bodies.items → GivenEndBy end valid.entry
+            → OnOk result (AllEndBy end self.new.bodies.items) }
+        ensures memory { OnErr result (IsFunction valid.entry) }
+    {
+        match valid {
+            ValidPayload::Ok => Ok(()),
+            ValidPayload::Func(function, body) => Ok(self.bodies.push((function, body))?),
+            ValidPayload::End(types) => {
+                self.ended = Some(types);
+                Ok(())
+            }
+        }
+    }
+}
+
+/// Validates bodies one after another, in the same memory.
+fn validate_bodies<'a, A: Allocator + Copy>(
+    alloc: A,
+    bodies: Bodies<'a, A>,
+) -> Result<(), wasm_readers::Error>
+    ensures decided { Decides (All IsBodyOfIts (bodies_seen bodies.entry.items)) result }
+    ensures place { (end : ℕ) → AllEndBy end bodies.entry.items → IfErr result (StandsBy end) }
+{
+    let mut allocations = FuncValidatorAllocations::new(alloc);
+    'bodies: for (function, body) in bodies {
+        match function.validate(&body, allocations) {
+            Ok(more) => allocations = more,
+            Err(error) => return Err(error),
+        }
+    }
+    Ok(())
 }
 
 /// The next payload of the input. What the parser refuses is handed on as it is.
@@ -166,20 +252,9 @@ fn next_of_input<'a, A: Allocator + Copy>(
     }
 }
 
-/// The types of the module that has ended last.
-fn latest<A: Allocator>(before: Option<Types<A>>, valid: ValidPayload<A>) -> Option<Types<A>>
-    ensures { result ≡ latest_of before valid }
-{
-    match valid {
-        ValidPayload::Ok => before,
-        ValidPayload::End(types) => Some(types),
-    }
-}
-
 /// Checks with the default features the module that these bytes are, and gives its types, which
 /// show its index spaces. It is accepted exactly where it is valid (Core Specification 3.0,
-/// Validation, Modules), as far as its forms are served. The id is that of the validator that does
-/// it.
+/// Validation, Modules). The id is that of the validator that does it.
 ///
 /// # Errors
 ///

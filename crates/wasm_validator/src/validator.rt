@@ -1,24 +1,30 @@
 ghost use Rattle.wasm_readers_errors.specs.declared.features.TheConstants.WasmFeatures.{STANDARD};
-ghost use Rattle.std.specs.Prelude.{◌≡◌, IfOk, IfErr, IfSome, IfNone, IsSome, IsErr, OnOk, OnErr, Some, None, true, is_ok, ◌↔◌, ◌+◌};
+ghost use Rattle.std.specs.Prelude.{◌≡◌, List, ◌∷◌, ◌-◌, ◌==◌, not, nat_le, length, false, [], IfOk, IfErr, IfSome, IfNone, IsSome, IsErr, OnOk, OnErr, Some, None, true, is_ok, ◌↔◌, ◌+◌};
 ghost use Rattle.wasm_validator_core.specs.Errors.{IsContent, offset_of};
 ghost use Rattle.wasm_binary_reader.specs.Reader.{original, position_in};
 ghost use Rattle.wasm_readers_errors.specs.Refusals.{plain};
 ghost use Rattle.wasm_readers.specs.SectionsSeen.{count_of, bytes_of, section_start, section_end};
-ghost use Rattle.wasm_parser.specs.Seen.{body_reader};
+ghost use Rattle.wasm_parser.specs.Seen.{body_of, body_reader};
+ghost use Rattle.wasm_validator_core.specs.Answers.{TypesSoFar};
+ghost use Rattle.wasm_validator_core.specs.Ready.{AreHeld};
+ghost use Rattle.wasm_validator_module_state.specs.Bodies.{expected_bodies};
+ghost use Rattle.wasm_validator_module_state.specs.declared.code_state.TheConstants.{MAX_FUNCTION_SIZE};
 ghost use Rattle.wasm_validator_type_list.specs.Interned.{AreOnce};
-ghost use Rattle.wasm_validator_type_list.specs.Listing.{committed};
+ghost use Rattle.wasm_validator_type_list.specs.Listing.{Listing, committed};
+ghost use Rattle.wasm_readers_types.specs.declared.types.SubType.{SubType};
+ghost use Rattle.wasm_validator.specs.Ready.{AreIdsIn, AreValidIn, AreFirstIn};
 ghost use Rattle.wasm_validator_type_list.specs.DefTypes.{types_of_list};
 ghost use Rattle.wasm_validator_types.specs.Shown.{shown_of, shown_by, HoldsIds};
-ghost use Rattle.wasm_validator.specs.Payloads.{Show};
-ghost use Rattle.wasm_validator.specs.Standing.{HoldsValid, Leaves, Moves, read_refused_at, body_refused_at, ended_at, fresh, is_failed, may_reset, after_reset, shown_at};
+ghost use Rattle.wasm_validator.specs.Payloads.{Show, body_seen, TakesBody};
+ghost use Rattle.wasm_validator.specs.Standing.{starting, taking, HoldsValid, Leaves, Moves, read_refused_at, body_refused_at, ended_at, fresh, is_failed, may_reset, after_reset, shown_at};
 ghost use Rattle.wasm_validator.specs.Verdict.{StandsApart};
 ghost use Rattle.wasm_validator.specs.SectionsTold.{OfContent, StandsBetween, TellsWithin, TellsReading, TellsOrder, TellsTypes, TellsImports, TellsExports, TellsFunctions, TellsTables, TellsMemories, TellsTagSection, TellsGlobals, TellsElements, TellsData, TellsStart, TellsDataCount, header_told, body_told, end_order_told};
-ghost use Rattle.wasm_validator.specs.States.{open_of, read_of, order_at, end_order_at, state_kept, is_module, after_version, after_section, section_refused_at, after_start, after_data_count, after_code_start, after_end};
+ghost use Rattle.wasm_validator.specs.States.{open_of, noted_of, started_of, read_of, ended_spaces, stage_of, order_at, end_order_at, body_order_at, state_kept, is_module, after_version, after_section, section_refused_at, after_start, after_data_count, after_code_start, body_at, after_body, after_end};
 
 use crate::constants::{Constants, tells_types_apart};
 use crate::module_sections::{
-    add_elements, add_exports, add_functions, add_globals, add_imports, add_memories, add_tables,
-    add_tags, add_types, check_data_segments,
+    add_functions, add_imports, add_memories, add_tags, add_types, check_data_segments,
+    take_elements, take_exports, take_globals, take_tables,
 };
 use bitflags::Flags;
 use std::alloc::{AllocError, Allocator, Global};
@@ -29,13 +35,16 @@ use std::rc::Rc;
 use wasm_distinct_type_laws::types_are_apart;
 use wasm_parser::{Encoding, FunctionBody};
 use wasm_readers::{
-    Data, Element, Export, Fault, Global as GlobalItem, Import, MemoryType, OutOfOrder, RecGroup,
-    Refusal, Rule, SectionLimited, Table, TagType, Unserved, WasmFeatures,
+    Counted, Data, Element, Export, Fault, Global as GlobalItem, Import, MemoryType, OutOfOrder,
+    RecGroup, Refusal, Rule, SectionLimited, Table, TagType, WasmFeatures,
 };
 use wasm_validator_canonical::needs_type_canonicalization;
-use wasm_validator_core::{Error, Module, check_data_count};
-use wasm_validator_module_state::ModuleState;
-use wasm_validator_types::{TypeList, Types, TypesRef, ValidatorId};
+use wasm_validator_core::{Error, Module, check_data_count, check_max};
+use wasm_validator_core_resources::TypesByIds;
+use wasm_validator_func::FuncToValidate;
+use wasm_validator_module_state::{CodeState, MAX_FUNCTION_SIZE, ModuleState};
+use wasm_validator_resources::ValidatorResources;
+use wasm_validator_types::{IndexSpaces, TypeList, Types, TypesRef, ValidatorId};
 
 /// What a validator is doing.
 #[derive(Drop)]
@@ -43,7 +52,7 @@ pub enum State<A: Allocator> {
     Unparsed,
     Module(ModuleState<A>),
     /// The code section has started.
-    Code(ModuleState<A>),
+    Code(CodeState<A>),
     End,
     Failed,
 }
@@ -104,6 +113,7 @@ fn end_out_of_order<A: Allocator>(state: &State<A>) -> OutOfOrder
 /// its place.
 fn opened<A: Allocator>(state: &mut State<A>, offset: u64) -> Result<ModuleState<A>, Refusal>
     ensures ok { IfOk result (λ m. open_of state.old ≡ Some m.«module») }
+    ensures was { IfOk result (λ m. state.old ≡ State.Module m) }
     ensures left { OnOk result (state.new ≡ State.Failed) }
     ensures none { OnErr result (open_of state.old ≡ None) }
     ensures place { IfErr result (λ r. r.offset ≡ offset) }
@@ -121,17 +131,24 @@ fn opened<A: Allocator>(state: &mut State<A>, offset: u64) -> Result<ModuleState
     }
 }
 
+/// The index spaces of a module that ends.
+#[derive(Drop)]
+enum EndedSpaces<A: Allocator> {
+    Owned(Module<A>),
+    Shared(Rc<IndexSpaces<A>, A>),
+}
+
 /// Takes the module out, where one is being read, and leaves `Failed` in its place.
-fn closing<A: Allocator>(state: &mut State<A>) -> Result<ModuleState<A>, OutOfOrder>
-    ensures ok { IfOk result (λ m. read_of state.old ≡ Some m.«module») }
+fn closing<A: Allocator>(state: &mut State<A>) -> Result<EndedSpaces<A>, OutOfOrder>
+    ensures ok { IfOk result (λ m. read_of state.old ≡ Some (ended_spaces m)) }
     ensures left { OnOk result (state.new ≡ State.Failed) }
     ensures none { OnErr result (read_of state.old ≡ None) }
     ensures order { IfErr result (λ order. order ≡ end_order_at state.old) }
     ensures unchanged { OnErr result (state.new ≡ state.old) }
 {
     match mem::replace(state, State::Failed) {
-        State::Module(module) => Ok(module),
-        State::Code(module) => Ok(module),
+        State::Module(state) => Ok(EndedSpaces::Owned(state.module)),
+        State::Code(state) => Ok(EndedSpaces::Shared(state.spaces)),
         other => {
             let order = end_out_of_order(&other);
             *state = other;
@@ -140,14 +157,104 @@ fn closing<A: Allocator>(state: &mut State<A>) -> Result<ModuleState<A>, OutOfOr
     }
 }
 
-/// The module that is being read, where one is.
-fn reading<A: Allocator>(state: &State<A>) -> Option<&Module<A>>
+/// The index spaces of the module that is being read, where one is.
+fn reading<A: Allocator + Copy>(state: &State<A>) -> Option<&IndexSpaces<A>>
     ensures some { IfSome result (λ m. read_of state.now ≡ Some m.now) }
     ensures none { IfNone result (read_of state.now ≡ None) }
 {
     match state {
-        State::Module(state) | State::Code(state) => Some(&state.module),
+        State::Module(state) => Some(state.module.spaces()),
+        State::Code(state) => Some(state.spaces.as_ref()),
         _ => None,
+    }
+}
+
+/// Why a body may not come now.
+fn body_out_of_order<A: Allocator>(state: &State<A>) -> OutOfOrder
+    ensures { result ≡ body_order_at state.now }
+{
+    match state {
+        State::Unparsed => OutOfOrder::SectionBeforeHeader,
+        State::Module(_) => OutOfOrder::CodeEntryBeforeCodeStart,
+        State::Code(_) => OutOfOrder::CodeEntryWithoutFunction,
+        State::End => OutOfOrder::SectionAfterEnd,
+        State::Failed => OutOfOrder::SectionAfterFailure,
+    }
+}
+
+/// Hands out the next function of a module, whose body these bytes are, and takes the body.
+fn handed_out<A: Allocator + Copy>(
+    code: CodeState<A>,
+    index: u32,
+    ty: u32,
+    features: WasmFeatures,
+    body: &FunctionBody<'_>,
+) -> Result<(CodeState<A>, FuncToValidate<ValidatorResources<A>>), Error<A>>
+    requires { not (expected_bodies code.spaces.value - code.taken == 0) ≡ true }
+    ensures small { IfOk result (λ x. nat_le (length (body_of body.now)) MAX_FUNCTION_SIZE
+        ≡ true) }
+    ensures spaces { IfOk result (λ x. x.0.spaces ≡ code.spaces) }
+    ensures started { IfOk result (λ x. started_of x.0 ≡ taking (started_of code)) }
+    ensures function { IfOk result (λ x. x.1 ≡ record {
+      resources = code.resources;
+      index = index;
+      ty = ty;
+      features = features;
+    }) }
+    ensures refused { IfErr result (OfContent (λ e.
+        (nat_le (length (body_of body.now)) MAX_FUNCTION_SIZE ≡ false) × (e ≡ Error.Refused
+        (plain (Fault.Limit Counted.FunctionBodySize MAX_FUNCTION_SIZE)
+        (original (body_reader body.now) + position_in (body_reader body.now)))))) }
+{
+    check_max(
+        0,
+        body.as_bytes().len(),
+        MAX_FUNCTION_SIZE,
+        Counted::FunctionBodySize,
+        body.range().start,
+    )?;
+    let function = FuncToValidate {
+        resources: code.resources.clone()?,
+        index,
+        ty,
+        features,
+    };
+    Ok((code.with_body(), function))
+}
+
+/// Takes one body more, where one is to come. Where it is too long, or memory is refused, the
+/// validator has failed.
+fn taken<A: Allocator + Copy>(
+    state: &mut State<A>,
+    features: WasmFeatures,
+    body: &FunctionBody<'_>,
+) -> Result<FuncToValidate<ValidatorResources<A>>, Error<A>>
+    ensures takes { (types : TypesSoFar) → TakesBody result features body.now
+        (stage_of types state.old) (stage_of types state.new) }
+    ensures ids { (list : Listing A) → AreIdsIn list state.old → AreIdsIn list state.new }
+    ensures valid { (list : Listing A) → AreValidIn features list state.old
+        → AreValidIn features list state.new }
+    ensures first { (list : Listing A) (types : List (SubType A)) → AreFirstIn list types state.old
+        → AreFirstIn list types state.new }
+{
+    match mem::replace(state, State::Failed) {
+        State::Code(code) => match code.next_code_index_and_type() {
+            Some((index, ty)) => {
+                let (code, function) = handed_out(code, index, ty, features, body)?;
+                *state = State::Code(code);
+                Ok(function)
+            }
+            None => {
+                *state = State::Code(code);
+                let fault = Fault::OutOfOrder(OutOfOrder::CodeEntryWithoutFunction);
+                Err(Error::Refused(Refusal::new(fault, body.range().start)))
+            }
+        },
+        other => {
+            let fault = Fault::OutOfOrder(body_out_of_order(&other));
+            *state = other;
+            Err(Error::Refused(Refusal::new(fault, body.range().start)))
+        }
     }
 }
 
@@ -182,23 +289,69 @@ fn checked<A: Allocator>(answer: Result<(), Refusal>) -> Result<(), Error<A>>
     }
 }
 
+/// The index spaces of a module that has ended, to be shared.
+fn shared<A: Allocator + Copy>(
+    alloc: A,
+    ended: EndedSpaces<A>,
+) -> Result<Rc<IndexSpaces<A>, A>, AllocError>
+    ensures { IfOk result (λ spaces. spaces.value ≡ ended_spaces ended) }
+{
+    match ended {
+        EndedSpaces::Owned(module) => Ok(Rc::new(alloc, module.into_spaces())?),
+        EndedSpaces::Shared(spaces) => Ok(spaces),
+    }
+}
+
 /// The types of a module that has ended.
 fn finished<A: Allocator + Copy>(
     id: ValidatorId,
     alloc: A,
     types: &mut TypeList<A>,
-    state: ModuleState<A>,
+    ended: EndedSpaces<A>,
 ) -> Result<Types<A>, AllocError>
     ensures same { types.new ≡ types.old }
     ensures shown { IfOk result (λ t. shown_of t
-        ≡ record { id = id; list = committed types.old; spaces = state.«module» }) }
+        ≡ record { id = id; list = committed types.old; spaces = ended_spaces ended }) }
     ensures once { types.old.is_canonical ≡ true → AreOnce types.old.groups }
 {
     // Asked for what it promises: where equal types are one, no type has two ids.
     let _is_canonical = types.is_canonical();
     let list = types.commit()?;
-    let spaces = Rc::new(alloc, state.module.into_spaces())?;
+    let spaces = shared(alloc, ended)?;
     Ok(Types::new(id, list, spaces))
+}
+
+/// The start of the code of a module: its lists are shared from now on, and what bodies look up is
+/// made of them.
+fn started<A: Allocator + Copy>(
+    alloc: A,
+    types: &mut TypeList<A>,
+    state: ModuleState<A>,
+) -> Result<CodeState<A>, AllocError>
+    requires { AreHeld types.old state.«module».types }
+    ensures same { types.new ≡ types.old }
+    ensures spaces { IfOk result (λ c. c.spaces.value ≡ state.«module») }
+    ensures begun { IfOk result (λ c. started_of c
+        ≡ starting (types_of_list types.old) state.«module» (noted_of state)) }
+{
+    tells_types_apart(types);
+    let listed = types.commit()?;
+    let by_ids = TypesByIds::of_list(alloc, &listed)?;
+    let ModuleState {
+        module,
+        data_count,
+        referenced,
+    } = state;
+    let spaces = Rc::new(alloc, module.into_spaces())?;
+    let resources = ValidatorResources::new(
+        alloc,
+        spaces.clone()?,
+        listed,
+        by_ids,
+        data_count,
+        referenced.into_flags(),
+    )?;
+    Ok(CodeState::new(spaces, resources))
 }
 
 impl<A: Allocator + Copy> Validator<A> {
@@ -285,13 +438,9 @@ impl<A: Allocator + Copy> Validator<A> {
         if level != 0 {
             return None;
         }
-        match &self.state {
-            State::Module(state) | State::Code(state) => Some(TypesRef::new(
-                self.id,
-                &self.types,
-                state.module.spaces(),
-            )),
-            _ => None,
+        match reading(&self.state) {
+            Some(spaces) => Some(TypesRef::new(self.id, &self.types, spaces)),
+            None => None,
         }
     }
 
@@ -440,11 +589,11 @@ impl<A: Allocator + Copy> Validator<A> {
     {
         match opened(&mut self.state, section.range().start) {
             Ok(mut state) => {
-                let added = add_exports(
+                let added = take_exports(
                     self.features,
                     self.alloc,
                     &self.types,
-                    &mut state.module,
+                    &mut state,
                     section,
                 );
                 kept(&mut self.state, state, added)
@@ -503,11 +652,11 @@ impl<A: Allocator + Copy> Validator<A> {
     {
         match opened(&mut self.state, section.range().start) {
             Ok(mut state) => {
-                let added = add_tables(
+                let added = take_tables(
                     self.features,
                     &self.types,
                     &mut self.constants,
-                    &mut state.module,
+                    &mut state,
                     section,
                 );
                 kept(&mut self.state, state, added)
@@ -607,11 +756,11 @@ impl<A: Allocator + Copy> Validator<A> {
     {
         match opened(&mut self.state, section.range().start) {
             Ok(mut state) => {
-                let added = add_globals(
+                let added = take_globals(
                     self.features,
                     &self.types,
                     &mut self.constants,
-                    &mut state.module,
+                    &mut state,
                     section,
                 );
                 kept(&mut self.state, state, added)
@@ -668,11 +817,11 @@ impl<A: Allocator + Copy> Validator<A> {
     {
         match opened(&mut self.state, section.range().start) {
             Ok(mut state) => {
-                let added = add_elements(
+                let added = take_elements(
                     self.features,
                     &self.types,
                     &mut self.constants,
-                    &mut state.module,
+                    &mut state,
                     section,
                 );
                 kept(&mut self.state, state, added)
@@ -699,8 +848,9 @@ impl<A: Allocator + Copy> Validator<A> {
             range.now.start self.old.stage) }
     {
         match opened(&mut self.state, range.start) {
-            Ok(state) => {
+            Ok(mut state) => {
                 let accepted = checked(check_data_count(self.features, count, range.start));
+                state.data_count = Some(count);
                 kept(&mut self.state, state, accepted)
             }
             Err(refusal) => Err(Error::Refused(refusal)),
@@ -714,52 +864,44 @@ impl<A: Allocator + Copy> Validator<A> {
     /// # Errors
     ///
     /// Refused, at the section's start, where no module is being read or its code has started,
-    /// which changes nothing. It takes no memory.
+    /// which changes nothing; and where memory is, and the validator has then failed.
     pub fn code_section_start(&mut self, range: &Range<u64>) -> Result<(), Error<A>>
         ensures moves { Moves result (after_code_start self.old) self.old self.new }
-        ensures place { IfErr result (λ e. offset_of e ≡ range.now.start) }
-        ensures content { IfErr result IsContent }
-        ensures told { IfErr result (TellsOrder range.now.start self.old.stage) }
+        ensures place { IfErr result (λ e. IsContent e → offset_of e ≡ range.now.start) }
+        ensures told { IfErr result (OfContent (TellsOrder range.now.start self.old.stage)) }
     {
         match opened(&mut self.state, range.start) {
-            Ok(state) => {
-                self.state = State::Code(state);
-                Ok(())
-            }
+            Ok(state) => match started(self.alloc, &mut self.types, state) {
+                Ok(code) => {
+                    self.state = State::Code(code);
+                    Ok(())
+                }
+                Err(_) => Err(Error::OutOfMemory),
+            },
             Err(refusal) => Err(Error::Refused(refusal)),
         }
     }
 
-    /// The body of a function (Core Specification 3.0, Validation, Modules, Functions). Bodies are
-    /// not served yet.
+    /// The body of a function, which is handed out to be validated: bodies come in the order of the
+    /// functions that are defined (Core Specification 3.0, Validation, Modules, Functions).
     ///
     /// # Errors
     ///
-    /// Refused always, at the body's first byte: where none may come for that, which changes
-    /// nothing, and else as not served, and the validator has then failed. It takes no memory.
-    pub fn code_section_entry(&mut self, body: &FunctionBody<'_>) -> Result<(), Error<A>>
-        ensures moves { Leaves result None (body_refused_at self.old.stage) self.old self.new }
-        ensures content { IfErr result IsContent }
-        ensures refused { IsErr result }
-        ensures told { IfErr result (λ e. e ≡ Error.Refused
+    /// Refused, at the body's first byte: where none may come, which changes nothing; and where the
+    /// body is longer than 7,654,321 bytes, or memory is refused, and the validator has then failed.
+    pub fn code_section_entry(
+        &mut self,
+        body: &FunctionBody<'_>,
+    ) -> Result<FuncToValidate<ValidatorResources<A>>, Error<A>>
+        ensures moves { Leaves result (after_body self.old (body_of body.now))
+            (body_refused_at self.old.stage) self.old self.new }
+        ensures given { IfOk result (λ f. body_at self.old.features (body_of body.now)
+            self.old.stage ≡ body_seen f body.now ∷ []) }
+        ensures told { IfErr result (OfContent (λ e. e ≡ Error.Refused
             (plain (body_told self.old.stage)
-            (original (body_reader body.now) + position_in (body_reader body.now)))) }
+            (original (body_reader body.now) + position_in (body_reader body.now))))) }
     {
-        let fault = match &self.state {
-            State::Module(_) => Fault::OutOfOrder(OutOfOrder::CodeEntryBeforeCodeStart),
-            State::Code(state) => {
-                if state.expected_bodies() == 0 {
-                    Fault::OutOfOrder(OutOfOrder::CodeEntryWithoutFunction)
-                } else {
-                    Fault::NotServed(Unserved::FunctionBody)
-                }
-            }
-            other => Fault::OutOfOrder(out_of_order(other)),
-        };
-        if matches!(fault, Fault::NotServed(_)) {
-            self.state = State::Failed;
-        }
-        Err(Error::Refused(Refusal::new(fault, body.range().start)))
+        taken(&mut self.state, self.features, body)
     }
 
     /// The data segments of a module (Core Specification 3.0, Validation, Modules, Data Segments).
@@ -782,11 +924,11 @@ impl<A: Allocator + Copy> Validator<A> {
             (section_start section.now) self.old.stage)) }
     {
         let checked = match reading(&self.state) {
-            Some(module) => check_data_segments(
+            Some(spaces) => check_data_segments(
                 self.features,
                 &self.types,
                 &mut self.constants,
-                module,
+                spaces,
                 section,
             ),
             None => {

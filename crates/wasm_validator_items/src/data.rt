@@ -16,9 +16,9 @@ use std::alloc::Allocator;
 use wasm_constant_items::{OperatorValidatorAllocations, check_data};
 use wasm_readers::BinaryReader;
 use wasm_readers_errors::{Counted, Fault, Malformed, Refusal, WasmFeatures};
-use wasm_validator_core::{Error, MAX_DATA_SEGMENTS, Module, check_max};
+use wasm_validator_core::{Error, MAX_DATA_SEGMENTS, check_max};
 use wasm_validator_core_resources::{ModuleResources, TypesByIds};
-use wasm_validator_types::TypeList;
+use wasm_validator_types::{IndexSpaces, TypeList};
 
 /// Reads and types a data segment in the module as far as it has been read.
 #[tactic(auto, unfolding(crate::specs::Machine::data_step))]
@@ -27,21 +27,20 @@ fn check_next_data<'a, A: Allocator + Copy>(
     list: &TypeList<A>,
     types: &TypesByIds<A>,
     allocations: OperatorValidatorAllocations<A>,
-    opened: &Module<A>,
+    spaces: &IndexSpaces<A>,
     reader: &mut BinaryReader<'a>,
 ) -> Result<OperatorValidatorAllocations<A>, Error<A>>
-    requires held { AreHeld list.now opened.now.types }
+    requires held { AreHeld list.now spaces.now.types }
     requires types { AreByIds list.now.groups types.now }
     ensures ok { IfOk result (λ _. data_step (features_of features)
-        (list_declares id_of list.now.groups) opened.now (rest reader.old)
-        ≡ Some (opened.now, rest reader.new)) }
+        (list_declares id_of list.now.groups) spaces.now (rest reader.old)
+        ≡ Some (spaces.now, rest reader.new)) }
     ensures err { IfErr result (λ e. Refuses e (data_step (features_of features)
-        (list_declares id_of list.now.groups) opened.now (rest reader.old))) }
+        (list_declares id_of list.now.groups) spaces.now (rest reader.old))) }
     ensures input { SameInput reader.old reader.new }
     ensures onward { position_in reader.old ≤ position_in reader.new }
     ensures place { IfErr result (StandsBehind reader.old) }
 {
-    let spaces = opened.spaces();
     let imported_globals = spaces.imported_global_count();
     let resources = ModuleResources::new(spaces, list, types, &[], None);
     let allocations = check_data(allocations, features, &resources, imported_globals, reader)?;
@@ -54,21 +53,21 @@ fn check_each_data<'a, A: Allocator + Copy>(
     list: &TypeList<A>,
     types: &TypesByIds<A>,
     allocations: OperatorValidatorAllocations<A>,
-    opened: &Module<A>,
+    spaces: &IndexSpaces<A>,
     count: u32,
     reader: BinaryReader<'a>,
 ) -> Result<OperatorValidatorAllocations<A>, Error<A>>
-    requires held { AreHeld list.now opened.now.types }
+    requires held { AreHeld list.now spaces.now.types }
     requires types { AreByIds list.now.groups types.now }
     ensures added { Adds result (items_from (data_step (features_of features)
-        (list_declares id_of list.now.groups)) count (rest reader.entry) opened.now) opened.now }
+        (list_declares id_of list.now.groups)) count (rest reader.entry) spaces.now) spaces.now }
     ensures place { IfErr result (StandsBehind reader.entry) }
 {
     let mut allocations = allocations;
     let mut reader = reader;
     let mut left = count;
     'segments: while left > 0 {
-        allocations = check_next_data(features, list, types, allocations, opened, &mut reader)?;
+        allocations = check_next_data(features, list, types, allocations, spaces, &mut reader)?;
         left -= 1;
     }
     if reader.is_empty() {
@@ -96,14 +95,14 @@ pub fn add_data_segments<'a, A: Allocator + Copy>(
     list: &TypeList<A>,
     types: &TypesByIds<A>,
     allocations: OperatorValidatorAllocations<A>,
-    opened: &Module<A>,
+    spaces: &IndexSpaces<A>,
     count: u32,
     reader: BinaryReader<'a>,
 ) -> Result<OperatorValidatorAllocations<A>, Error<A>>
-    requires held { AreHeld list.now opened.now.types }
+    requires held { AreHeld list.now spaces.now.types }
     requires types { AreByIds list.now.groups types.now }
     ensures added { Adds result (data_items (features_of features)
-        (list_declares id_of list.now.groups) count (rest reader.entry) opened.now) opened.now }
+        (list_declares id_of list.now.groups) count (rest reader.entry) spaces.now) spaces.now }
     ensures place { IfErr result (StandsBetween (original reader.entry)
         (original reader.entry + length (input reader.entry))) }
 {
@@ -115,5 +114,5 @@ pub fn add_data_segments<'a, A: Allocator + Copy>(
         Counted::DataSegments,
         reader.range().start,
     )?;
-    check_each_data(features, list, types, allocations, opened, count, reader)
+    check_each_data(features, list, types, allocations, spaces, count, reader)
 }

@@ -1,6 +1,6 @@
 //! What is kept of a module while its sections are read.
 
-ghost use Rattle.std.specs.Prelude.{◌≡◌, IfErr};
+ghost use Rattle.std.specs.Prelude.{◌≡◌, [], None, IfErr};
 ghost use Rattle.wasm_rules.specs.FeatureFlags.{features_of};
 ghost use Rattle.wasm_readers_types.specs.SeenExterns.{table_of};
 ghost use Rattle.wasm_validator_type_list.specs.DefTypes.{types_of_list};
@@ -9,11 +9,11 @@ ghost use Rattle.wasm_validator_core.specs.Errors.{IsAt};
 ghost use Rattle.wasm_validator_core.specs.Answers.{Adds};
 ghost use Rattle.wasm_validator_core.specs.Ready.{AreHeld};
 ghost use Rattle.wasm_validator_core.specs.Told.{Tells, told_of_added_table};
-ghost use Rattle.wasm_validator_module_state.specs.Bodies.{expected_bodies};
 ghost use Rattle.wasm_validator_core.specs.Items.{add_table};
 
 use std::alloc::{Allocator, Global};
 use wasm_readers::{TableType, WasmFeatures};
+use wasm_referenced_functions::ReferencedFunctions;
 use wasm_validator_core::{Error, Module};
 use wasm_validator_types::TypeList;
 
@@ -22,15 +22,23 @@ use wasm_validator_types::TypeList;
 pub struct ModuleState<A: Allocator = Global> {
     /// The module as far as it has been read.
     pub module: Module<A>,
+    /// The number of data segments that it is to have, where its data count section says it.
+    pub data_count: Option<u32>,
+    /// Which of its functions count as referenced, outside of bodies.
+    pub referenced: ReferencedFunctions<A>,
 }
 
 impl<A: Allocator + Copy> ModuleState<A> {
     /// A module of which no section has been read. It takes no memory yet.
     pub fn new(alloc: A) -> ModuleState<A>
-        ensures { result.module ≡ no_spaces }
+        ensures lists { result.module ≡ no_spaces }
+        ensures count { result.data_count ≡ None }
+        ensures referenced { result.referenced ≡ [] }
     {
         ModuleState {
             module: Module::new(alloc),
+            data_count: None,
+            referenced: ReferencedFunctions::new(alloc),
         }
     }
 
@@ -54,25 +62,12 @@ impl<A: Allocator + Copy> ModuleState<A> {
         ensures added { Adds result (add_table (features_of features) (types_of_list list.now)
             self.old.module (table_of ty)) self.new.module }
         ensures types { self.new.module.types ≡ self.old.module.types }
+        ensures same { (self.new.data_count ≡ self.old.data_count)
+            × (self.new.referenced ≡ self.old.referenced) }
         ensures place { IfErr result (IsAt offset) }
         ensures told { Tells result (told_of_added_table features offset (types_of_list list.now)
             self.old.module (table_of ty)) }
     {
         self.module.add_table(features, list, ty, offset)
-    }
-
-    /// How many bodies are to come in the code section: one for each function that is defined. None
-    /// is taken yet, so they stay as many.
-    pub fn expected_bodies(&self) -> usize
-        ensures { result ≡ expected_bodies self.now.module }
-    {
-        let spaces = self.module.spaces();
-        let functions = spaces.function_count() as usize;
-        let imported = spaces.imported_function_count();
-        if imported < functions {
-            functions - imported
-        } else {
-            0
-        }
     }
 }

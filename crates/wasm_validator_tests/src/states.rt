@@ -4,8 +4,8 @@ use crate::says;
 use std::alloc::Global;
 use std::test::Fail;
 use wasm_validator::{
-    BinaryReader, Encoding, EntityType, Error, Flags, FunctionBody, SectionLimited, Types,
-    Validator, ValidatorId, WasmFeatures,
+    BinaryReader, Encoding, EntityType, Error, Flags, FuncValidatorAllocations, FunctionBody,
+    SectionLimited, Types, Validator, ValidatorId, WasmFeatures,
 };
 
 /// A validator with these features that has read a header.
@@ -224,14 +224,19 @@ fn a_body_comes_where_a_function_is_left(rt: HostRuntime) -> Result<(), Fail> {
 }
 
 #[test]
-fn bodies_are_not_served_yet(rt: HostRuntime) -> Result<(), Fail> {
+fn bodies_are_handed_out(rt: HostRuntime) -> Result<(), Fail> {
     let alloc = rt.alloc();
     let mut validator = begun(alloc, WasmFeatures::default())?;
     give_types(alloc, &mut validator, b"\x01\x60\0\0")?;
     give_functions(alloc, &mut validator, b"\x01\0")?;
     validator.code_section_start(&(18..19))?;
-    assert!(rt; body_says(alloc, &mut validator, "not served yet: function body"));
-    assert!(rt; validator.has_failed());
+    let body = FunctionBody::new(BinaryReader::new(b"\0\x0b", 20));
+    let function = validator.code_section_entry(&body)?;
+    assert!(rt; function.index == 0 && function.ty == 0);
+    let message = "code section entry without a function";
+    assert!(rt; body_says(alloc, &mut validator, message));
+    let allocations = FuncValidatorAllocations::new(alloc);
+    assert!(rt; function.validate(&body, allocations).is_ok());
     Ok(())
 }
 

@@ -14,11 +14,11 @@ use Rattle.wasm_validator_items.proofs.data.check_each_data.Goals as goal
 pub returns-in_err-allocations-clause-added : goal.returns-in_err-allocations-clause-added
 returns-in_err-allocations-clause-added g c =
     let step = data_step (features_of c.args.features) (list_declares id_of c.args.list.now.groups) in
-    let all = items_from step c.args.count (rest c.args.reader) c.args.opened.now in
-    adds_nothing c.from_residual.result all c.args.opened.now
+    let all = items_from step c.args.count (rest c.args.reader) c.args.spaces.now in
+    adds_nothing c.from_residual.result all c.args.spaces.now
     (error_as c.from_residual.result c.in_err-allocations.field-0.0 (λ (e : Error g.row.A.Denot). Refuses e all) c.from_residual.ensures.1
-    (refuses_whole c.in_err-allocations.field-0.0 (step c.args.opened.now (rest c.segments.reader)) all
-    (none_here step c.segments.left (rest c.segments.reader) c.args.opened.now all (omega arith) c.segments.invariant.so_far)
+    (refuses_whole c.in_err-allocations.field-0.0 (step c.args.spaces.now (rest c.segments.reader)) all
+    (none_here step c.segments.left (rest c.segments.reader) c.args.spaces.now all (omega arith) c.segments.invariant.so_far)
     c.in_err-allocations.ensures.err))
 
 pub returns-in_err-allocations-clause-place : goal.returns-in_err-allocations-clause-place
@@ -35,18 +35,18 @@ segments-preserved g c =
       same = (c.check_next_data.ensures.input.0 ∙ c.segments.invariant.same.0, c.check_next_data.ensures.input.1 ∙ c.segments.invariant.same.1);
       onward = omega (arith, onward, before);
       so_far =
-          one_less step c.segments.left (rest c.segments.reader) (rest c.check_next_data.new.reader) c.args.opened.now c.args.opened.now (items_from step c.args.count (rest c.args.reader) c.args.opened.now)
+          one_less step c.segments.left (rest c.segments.reader) (rest c.check_next_data.new.reader) c.args.spaces.now c.args.spaces.now (items_from step c.args.count (rest c.args.reader) c.args.spaces.now)
           (omega arith) c.in_ok-allocations.ensures.ok c.segments.invariant.so_far;
     }
 
 pub returns-then-is_empty-clause-added : goal.returns-then-is_empty-clause-added
 returns-then-is_empty-clause-added g c =
     let step = data_step (features_of c.args.features) (list_declares id_of c.args.list.now.groups) in
-    all_added step c.segments.left (rest c.segments.reader) c.args.opened.now (items_from step c.args.count (rest c.args.reader) c.args.opened.now)
+    all_added step c.segments.left (rest c.segments.reader) c.args.spaces.now (items_from step c.args.count (rest c.args.reader) c.args.spaces.now)
     (omega arith) (sym c.is_empty.ensures ∙ c.if-is_empty.true) c.segments.invariant.so_far
 
 pub returns-clause-added : goal.returns-clause-added
 returns-clause-added g c =
     let step = data_step (features_of c.args.features) (list_declares id_of c.args.list.now.groups) in
-    left_over step c.segments.left (rest c.segments.reader) c.args.opened.now (items_from step c.args.count (rest c.args.reader) c.args.opened.now)
+    left_over step c.segments.left (rest c.segments.reader) c.args.spaces.now (items_from step c.args.count (rest c.args.reader) c.args.spaces.now)
     (omega arith) (sym c.is_empty.ensures ∙ c.if-is_empty.false) c.segments.invariant.so_far

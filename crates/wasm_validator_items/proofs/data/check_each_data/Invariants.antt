@@ -10,8 +10,8 @@ abbrev pub invariant-segments : goal.invariant-segments
 invariant-segments g l = record {
   same : SameInput l.fn.reader l.reader;
   onward : position_in l.fn.reader ≤ position_in l.reader;
-  so_far : items_from (data_step (features_of l.features) (list_declares id_of l.list.groups)) l.left (rest l.reader) l.opened
-      ≡ items_from (data_step (features_of l.features) (list_declares id_of l.list.groups)) l.count (rest l.fn.reader) l.opened;
+  so_far : items_from (data_step (features_of l.features) (list_declares id_of l.list.groups)) l.left (rest l.reader) l.spaces
+      ≡ items_from (data_step (features_of l.features) (list_declares id_of l.list.groups)) l.count (rest l.fn.reader) l.spaces;
 }
 
 abbrev pub decreases-segments : goal.decreases-segments

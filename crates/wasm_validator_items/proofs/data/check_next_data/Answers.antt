@@ -1,3 +1,4 @@
+use Rattle.std.proofs.Common.{refl}
 use Rattle.wasm_rules.specs.FeatureFlags.{features_of}
 use Rattle.wasm_binary_reader.specs.Reader.{rest}
 use Rattle.wasm_operator_worlds.specs.IndexContexts.{id_of}
@@ -16,13 +17,13 @@ pub returns-in_err-allocations-clause-err : goal.returns-in_err-allocations-clau
 returns-in_err-allocations-clause-err g c =
     let F = features_of c.args.features in
     let declares = list_declares id_of c.args.list.now.groups in
-    let s = c.args.opened.now in
+    let s = c.args.spaces.now in
     let bytes = rest c.args.reader.now in
     let here = behind_data c.new-resources.result F c.imported_global_count-imported_globals.result bytes in
     err_as c.from_residual.result (lifted c.in_err-allocations.field-0.0) (λ (e : Error g.row.A.Denot). Refuses e (data_step F declares s bytes)) c.from_residual.ensures.1
     (refuses_whole {A = g.row.A.Denot} (lifted c.in_err-allocations.field-0.0) here (data_step F declares s bytes)
-    (no_data F declares s c.spaces-spaces.result.now c.new-resources.result c.imported_global_count-imported_globals.result bytes
-    c.spaces-spaces.ensures c.new-resources.ensures c.imported_global_count-imported_globals.ensures)
+    (no_data F declares s c.args.spaces.now c.new-resources.result c.imported_global_count-imported_globals.result bytes
+    refl c.new-resources.ensures c.imported_global_count-imported_globals.ensures)
     (lifted_refuses g.row.A.Denot c.in_err-allocations.field-0.0 here c.in_err-allocations.ensures.past))
 
 pub returns-in_err-allocations-clause-place : goal.returns-in_err-allocations-clause-place

@@ -1,4 +1,4 @@
-use Rattle.std.proofs.Common.{◌≡◌, ap, sym, subst, ◌∙◌, Bool, true}
+use Rattle.std.proofs.Common.{refl, ◌≡◌, ap, sym, subst, ◌∙◌, Bool, true}
 use Rattle.std.specs.Prelude.{IfErr}
 use Rattle.wasm_readers.specs.SectionsSeen.{section_start}
 use Rattle.wasm_readers_errors.specs.Refusals.{plain, lacking}
@@ -20,9 +20,10 @@ use Rattle.wasm_validator_core.specs.Ready.{AreIdsOf}
 use Rattle.wasm_rules.specs.FeatureFlags.{features_of}
 use Rattle.wasm_validator.specs.Machine.{other_items, section_items}
 use Rattle.wasm_validator.specs.Ready.{AreIdsIn, AreValidIn, AreFirstIn}
-use Rattle.wasm_validator.specs.Standing.{Standing, Leaves, Moves}
+use Rattle.wasm_referenced_functions.specs.References.{section_names}
+use Rattle.wasm_validator.specs.Standing.{naming, Standing, Leaves, Moves}
 use Rattle.wasm_validator.specs.States.{stage_of, after_section}
-use Rattle.wasm_validator.proofs.SectionMoves.{adds_beside, section_moves, tags_refused}
+use Rattle.wasm_validator.proofs.SectionMoves.{adds_beside, section_moves, tags_refused, nothing_more}
 use Rattle.wasm_validator.proofs.Sections.{open-ids, open-valid, open-first, kept-ids, kept-valid, kept-first}
 use Rattle.wasm_validator.proofs.validator.Validator.tag_section.Goals as goal
 
@@ -41,9 +42,9 @@ invariant_of-self-in-Ok g c =
     let first = open-first list types c.self.inside.state before c.in-Ok.ensures.ok c.self.invariant.first in
     record {
       list = c.self.invariant.list;
-      ids = subst (AreIdsIn list) (sym c.kept.ensures.kept) (kept-ids list (record { «module» = added.new.opened }) added.result (subst (AreIdsOf list) (sym added.ensures.types) ids));
-      valid = subst (AreValidIn features list) (sym c.kept.ensures.kept) (kept-valid list (record { «module» = added.new.opened }) features added.result valid);
-      first = subst (AreFirstIn list types) (sym c.kept.ensures.kept) (kept-first list (record { «module» = added.new.opened }) types added.result first);
+      ids = subst (AreIdsIn list) (sym c.kept.ensures.kept) (kept-ids list (record c.in-Ok.state { «module» = added.new.opened }) added.result (subst (AreIdsOf list) (sym added.ensures.types) ids));
+      valid = subst (AreValidIn features list) (sym c.kept.ensures.kept) (kept-valid list (record c.in-Ok.state { «module» = added.new.opened }) features added.result valid);
+      first = subst (AreFirstIn list types) (sym c.kept.ensures.kept) (kept-first list (record c.in-Ok.state { «module» = added.new.opened }) types added.result first);
     }
 
 pub returns-in-Ok-clause-moves : goal.returns-in-Ok-clause-moves
@@ -59,9 +60,9 @@ returns-in-Ok-clause-moves g c =
     let on : (features_of features).exceptions ≡ true = sym (c.contains.ensures tt) ∙ c.if-not-contains.false in
     subst (λ h. Leaves c.kept.result (after_section c.args.self.now 13 count bytes) h c.args.self.now new) (tags_refused c.args.self.now.features c.args.self.now.stage (ap (λ (s : Standing). (features_of s.features).exceptions) (sym c.self.view_is) ∙ on))
     (subst (λ r. Moves r (after_section c.args.self.now 13 count bytes) c.args.self.now new) (sym c.kept.ensures.same)
-    (section_moves id features types before (λ g. section_items g 13 count bytes) c.self.inside.state added.result types (record { «module» = added.new.opened }) c.args.self.now new
-    c.in-Ok.ensures.ok c.self.view_is (λ i. record { id = id; features = features; stage = stage_of types (sym c.kept.ensures.kept i) })
-    (adds_beside (HasValidTypes features) types added.result (other_items (features_of features) types 13 count bytes before) added.new.opened added.ensures.added)))
+    (section_moves id features types c.in-Ok.state (naming (section_names 13 count bytes)) (λ g. section_items g 13 count bytes) c.self.inside.state added.result types (record c.in-Ok.state { «module» = added.new.opened }) c.args.self.now new
+    c.in-Ok.ensures.was c.self.view_is (λ i. record { id = id; features = features; stage = stage_of types (sym c.kept.ensures.kept i) })
+    (adds_beside (HasValidTypes features) types added.result (other_items (features_of features) types 13 count bytes before) added.new.opened added.ensures.added) (nothing_more added.result (record c.in-Ok.state { «module» = added.new.opened }) c.in-Ok.state refl)))
 
 pub returns-in-Ok-clause-told : goal.returns-in-Ok-clause-told
 returns-in-Ok-clause-told g c =

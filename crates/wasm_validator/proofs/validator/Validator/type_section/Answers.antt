@@ -1,11 +1,12 @@
-use Rattle.std.proofs.Common.{ap, ◌∙◌, sym, subst}
+use Rattle.std.proofs.Common.{refl, ap, ◌∙◌, sym, subst}
 use Rattle.wasm_readers.specs.SectionsSeen.{count_of, bytes_of}
 use Rattle.wasm_validator_type_list.specs.DefTypes.{types_of_list}
 use Rattle.wasm_validator.specs.Machine.{section_items}
-use Rattle.wasm_validator.specs.Standing.{Standing, Moves}
+use Rattle.wasm_referenced_functions.specs.References.{section_names}
+use Rattle.wasm_validator.specs.Standing.{naming, Standing, Moves}
 use Rattle.wasm_validator.specs.States.{stage_of, after_section}
 use Rattle.wasm_validator.proofs.Sections.{open-ids, open-valid, open-first, added-ids, added-valid}
-use Rattle.wasm_validator.proofs.SectionMoves.{section_moves}
+use Rattle.wasm_validator.proofs.SectionMoves.{section_moves, nothing_more}
 use Rattle.wasm_readers.specs.SectionsSeen.{section_start, section_end}
 use Rattle.std.specs.Prelude.{IfErr}
 use Rattle.wasm_validator_module_state.specs.declared.module_state.ModuleState.{ModuleState}
@@ -35,7 +36,7 @@ invariant_of-self g c =
     let added = c.add_types-added in
     let new = added.new.list in
     let before = c.in-Ok.state.«module» in
-    let after : ModuleState g.row.A.Denot = record { «module» = added.new.opened } in
+    let after : ModuleState g.row.A.Denot = record c.in-Ok.state { «module» = added.new.opened } in
     let types = c.self.inside.constants.types in
     record {
       list = added.ensures.open;
@@ -59,8 +60,8 @@ returns-in-Ok-clause-moves g c =
     let types = types_of_list added.new.list in
     let new : Standing = record { id = id; features = features; stage = stage_of types c.kept.new.state } in
     subst (λ r. Moves r (after_section c.args.self.now 1 count bytes) c.args.self.now new) (sym c.kept.ensures.same)
-    (section_moves id features (types_of_list c.self.inside.types) c.in-Ok.state.«module» (λ g. section_items g 1 count bytes) c.self.inside.state added.result types (record { «module» = added.new.opened }) c.args.self.now new
-    c.in-Ok.ensures.ok c.self.view_is (λ i. record { id = id; features = features; stage = stage_of types (sym c.kept.ensures.kept i) }) added.ensures.added)
+    (section_moves id features (types_of_list c.self.inside.types) c.in-Ok.state (naming (section_names 1 count bytes)) (λ g. section_items g 1 count bytes) c.self.inside.state added.result types (record c.in-Ok.state { «module» = added.new.opened }) c.args.self.now new
+    c.in-Ok.ensures.was c.self.view_is (λ i. record { id = id; features = features; stage = stage_of types (sym c.kept.ensures.kept i) }) added.ensures.added (nothing_more added.result (record c.in-Ok.state { «module» = added.new.opened }) c.in-Ok.state refl))
 
 pub returns-in-Ok-clause-told : goal.returns-in-Ok-clause-told
 returns-in-Ok-clause-told g c =

@@ -12,7 +12,7 @@ invariant_of-self g c =
     let list = c.self.inside.types in
     record {
       list = c.self.invariant.list;
-      ids = subst (λ (s : Spaces). AreIdsOf list s.types) (sym c.new-2.ensures) (record { known = All-nil (λ id. id < length (types_of_list list)); few = omega arith });
+      ids = subst (λ (s : Spaces). AreIdsOf list s.types) (sym c.new-2.ensures.lists) (record { known = All-nil (λ id. id < length (types_of_list list)); few = omega arith });
       valid = elim c.match-matches.branch [
         | in-Unparsed w ↦ unparsed-valid c.self.inside.features list c.self.inside.state w.in-Unparsed.is c.self.invariant.valid
         | in_default w ↦ absurd (true≢false (sym c.if-not-matches.false ∙ w.matches-is))

@@ -1,9 +1,9 @@
--- Framed bytes whose parts are of the forms that are served are a valid module exactly where the machine accepts them.
+-- Framed bytes are a valid module exactly where the machine accepts them and their bodies are typed.
 use Rattle.std.proofs.Common.{◌≡◌, sym, ap, subst, ◌∙◌, ℕ, ◌+◌, ◌≤◌, List, [], ◌∷◌, ◌++◌, length, slice_get, Some}
 use Rattle.std.specs.Prelude.{nat_eq}
 use Rattle.std.specs.List.{All}
 use Rattle.std.proofs.lemmas.List.Elements.{All-cons, All-tail}
-use Rattle.std.proofs.lemmas.Option.{none-some, same_Some}
+use Rattle.std.proofs.lemmas.Option.{same_Some}
 use Rattle.wasm_spec.specs.Syntax.{Rec}
 use Rattle.wasm_spec.specs.Features.{Features, canonical}
 use Rattle.wasm_spec.specs.Trees.{DefType}
@@ -23,9 +23,8 @@ use Rattle.wasm_validator_canonical.proofs.Sections.{added_sections_are_valid, v
 use Rattle.wasm_validator_canonical.specs.Groups.{AreValid}
 use Rattle.wasm_validator_core.specs.declared.limits.TheConstants.{MAX_TYPES}
 use Rattle.wasm_validator_core.specs.Answers.{TypesSoFar}
-use Rattle.wasm_validator.specs.Served.{AreServed}
 use Rattle.wasm_validator.proofs.AddedTypes.{TypesAdded, section, type_space, as_many_zipped}
-use Rattle.wasm_validator.proofs.FramedParts.{allowed_to_end, allowed_before_end, whole_has, inside_has, none_inside}
+use Rattle.wasm_validator.proofs.FramedParts.{allowed_to_end, allowed_before_end, whole_has, inside_has}
 use Rattle.wasm_validator.proofs.KnownSections.{framed_parts}
 use Rattle.wasm_validator.proofs.ModuleRun.{AreParts}
 use Rattle.wasm_validator.proofs.RunOfParts.{Accepted}
@@ -40,13 +39,6 @@ module _ (features : WasmFeatures) (T : TypesSoFar) (bytes : List ℕ) where
     abbrev pub accepted_spaces : IndexSpaces
     accepted_spaces = index_spaces (type_space features T a.parts.groups a.types) a.parts
 
-    pub no_bodies : a.parts.bodies ≡ []
-    no_bodies = sym a.has.bodies ∙ none_inside f.others parts
-
-    -- a module without bodies has typed ones
-    pub typed_bodies : HasTypedBodies nat_eq F (context_of accepted_spaces a.numbering a.parts) a.parts
-    typed_bodies i x body here there = absurd (none-some body (sym (ap (λ (bs : List (List ℕ)). slice_get bs i) no_bodies) ∙ there))
-
     abbrev pub accepted_formed : IsWellFormed expression_at F bytes
     accepted_formed = record {
       pieces = pieces;
@@ -56,18 +48,19 @@ module _ (features : WasmFeatures) (T : TypesSoFar) (bytes : List ℕ) where
       parts = a.parts;
       has_parts = subst (λ (ps : List Piece). HasParts expression_at ps a.parts) (sym f.all) (whole_has f.number f.kind f.others a.parts a.has);
       types = (section features T a.parts.groups a.types).section;
-      rules = parts_valid F accepted_spaces a.parts no_bodies a.valid a.others;
+      rules = parts_valid F accepted_spaces a.parts a.valid a.others;
     }
 
-    abbrev pub accepted_valid : IsValidModule F bytes
-    accepted_valid = record { well_formed = accepted_formed; typed = record { numbering = a.numbering; constants = a.typed; bodies = typed_bodies } }
+    abbrev pub accepted_valid : HasTypedBodies nat_eq F (context_of accepted_spaces a.numbering a.parts) a.parts → IsValidModule F bytes
+    accepted_valid bodies = record { well_formed = accepted_formed; typed = record { numbering = a.numbering; constants = a.typed; bodies = bodies } }
 
-  -- a valid module of the forms that are served is accepted, where there is room for its types
+  -- a valid module is accepted, where there is room for its types
   pub record WouldBeAccepted (pieces : List Piece) (f : IsFramed bytes pieces) : Type 0 where
     pub header : Version f.number f.kind ≡ Version 1 0
     pub parts : AreParts f.others
     pub allowed : All (IsAllowedPiece F) f.others
     pub accepted : Accepted features T f.others
+    pub bodies : HasTypedBodies nat_eq F (context_of (accepted_spaces pieces f header parts allowed accepted) accepted.numbering accepted.parts) accepted.parts
 
   -- its types can be added
   record SectionAdded (gs : List (Rec ℕ)) (types : List DefType) : Type 0 where
@@ -82,8 +75,8 @@ module _ (features : WasmFeatures) (T : TypesSoFar) (bytes : List ℕ) where
       let many = as_many_zipped (StandsFor (canonical F) a.held.0) a.held.1 h.section.types h.stand ∙ ap length same in
       record { added = record { end = a.held; ran = a.added; few = subst (λ n. n ≤ MAX_TYPES) (sym many) few; valid = a.valid }; same = same }
 
-  pub valid_accepted : AreValid F T → (m : IsValidModule F bytes) → AreServed m.well_formed.parts → length T + length m.well_formed.types.types ≤ MAX_IDS → WouldBeAccepted m.well_formed.pieces m.well_formed.framed
-  valid_accepted before m served room =
+  pub valid_accepted : AreValid F T → (m : IsValidModule F bytes) → length T + length m.well_formed.types.types ≤ MAX_IDS → WouldBeAccepted m.well_formed.pieces m.well_formed.framed
+  valid_accepted before m room =
       let w = m.well_formed in
       let f = w.framed in
       let p = w.parts in
@@ -97,7 +90,7 @@ module _ (features : WasmFeatures) (T : TypesSoFar) (bytes : List ℕ) where
       let typed : IsTyped F (index_spaces space p) p = subst (λ (x : List DefType). IsTyped F (index_spaces x p) p) (sym types.same) m.typed in
       record {
         header = header;
-        parts = framed_parts F bytes w.pieces f allowed (has.bodies ∙ served);
+        parts = framed_parts F bytes w.pieces f allowed;
         allowed = allowed;
         accepted = record {
           parts = p;
@@ -108,4 +101,5 @@ module _ (features : WasmFeatures) (T : TypesSoFar) (bytes : List ℕ) where
           typed = typed.constants;
           others = keeps_others F (index_spaces space p) p rules;
         };
+        bodies = typed.bodies;
       }
