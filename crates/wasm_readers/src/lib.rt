@@ -21,7 +21,7 @@ pub use section_limited::{FromReader, SectionItems, SectionLimited};
 pub use wasm_binary_reader::BinaryReader;
 pub use wasm_readers_errors::{
     Counted, DescriptorRule, Error, Fault, GroupRule, ItemKind, ItemRule, Malformed, OutOfOrder,
-    Refusal, Rule, Unserved, ValueTypeRule, WasmFeatures,
+    Refusal, Rule, ValueTypeRule, WasmFeatures,
 };
 pub use wasm_readers_types::{
     AbstractHeapType, ArrayType, CompositeInnerType, CompositeType, ContType, CoreTypeId,

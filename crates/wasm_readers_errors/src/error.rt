@@ -242,33 +242,6 @@ impl ItemKind {
     }
 }
 
-/// What this version reads and doesn't validate yet.
-#[derive(Clone, Copy, PartialEq, Eq, Debug)]
-pub enum Unserved {
-    /// A table with an initializer.
-    TableInitializer,
-    /// A global section that has globals.
-    GlobalSection,
-    /// An element section that has segments.
-    ElementSection,
-    /// A function body.
-    FunctionBody,
-    /// A data section that has segments.
-    DataSection,
-}
-
-impl Unserved {
-    fn text<'a>(self) -> &'a str {
-        match self {
-            Unserved::TableInitializer => "table initializer",
-            Unserved::GlobalSection => "global section",
-            Unserved::ElementSection => "element section",
-            Unserved::FunctionBody => "function body",
-            Unserved::DataSection => "data section",
-        }
-    }
-}
-
 /// Why content is refused.
 #[derive(Clone, Copy, PartialEq, Eq, Debug)]
 pub enum Fault {
@@ -318,8 +291,6 @@ pub enum Fault {
     UnknownBinaryVersion(u16),
     /// A component header of this number, without the component model.
     ComponentHeader(u16),
-    /// What this version does not validate yet.
-    NotServed(Unserved),
 }
 
 impl fmt::Display for Fault {
@@ -358,10 +329,6 @@ impl fmt::Display for Fault {
             Fault::UnknownSection(id) => write!(f, "malformed section id: {id}"),
             Fault::UnknownBinaryVersion(number) => write!(f, "unknown binary version: {number:#x}"),
             Fault::ComponentHeader(number) => write_component_header(f, *number),
-            Fault::NotServed(what) => {
-                let what = what.text();
-                write!(f, "not served yet: {what}")
-            }
         }
     }
 }

@@ -8,7 +8,7 @@ pub mod operator_rules;
 pub mod refusals;
 pub mod type_rules;
 
-pub use error::{Counted, Error, Fault, ItemKind, Malformed, OutOfOrder, Refusal, Rule, Unserved};
+pub use error::{Counted, Error, Fault, ItemKind, Malformed, OutOfOrder, Refusal, Rule};
 pub use features::WasmFeatures;
 pub use item_rules::ItemRule;
 pub use operator_rules::{GatedConstant, OperatorRule};
