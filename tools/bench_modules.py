@@ -6,9 +6,10 @@ usage: tools/bench_modules.py [--beside PROGRAM] FILE..   validates each file, a
        tools/bench_modules.py --of HEX OUT                writes the module that a file of hexadecimal digits stands for
 
 Of each file it prints its bytes and operators; the time (the best of five runs, start-up included) and the speed; the instructions of an
-operator, by valgrind's callgrind, without what an empty module takes; and the most memory that the program held at once, without the
-input's bytes. With --beside it tells the same of another program, which takes a file's name too. Operators are counted here, in code as
-compilers write it: where another one comes, the count is left out. `bin/wasm-validate` has to have built its program before.
+operator, by valgrind's callgrind, without what an empty module takes; and the most memory that the program held at once, by GNU time,
+without the input's bytes and what an empty module takes. With --beside it tells the same of another program, which takes a file's name
+too. Operators are counted here, in code as compilers write it: where another one comes, the count is left out. `bin/wasm-validate` has
+to have built its program before.
 """
 import os
 import re
@@ -144,13 +145,17 @@ def grown(data, size):
 
 
 def run(program, path):
-    """The seconds and the peak of memory, in bytes, of a run, which has to accept."""
+    """The seconds of a run, which has to accept."""
     start = time.perf_counter()
-    child = subprocess.Popen([program, path], stdout=subprocess.DEVNULL)
-    _, status, usage = os.wait4(child.pid, 0)
-    if status != 0:
+    if subprocess.run([program, path], stdout=subprocess.DEVNULL).returncode != 0:
         raise SystemExit(f"{program} refuses {path}")
-    return time.perf_counter() - start, usage.ru_maxrss * 1024
+    return time.perf_counter() - start
+
+
+def most_memory(program, path):
+    """The most memory that a run holds at once, in bytes. A child counts what its parent holds when it starts it, so a small program stands between."""
+    said = subprocess.run(["/usr/bin/time", "-f", "%M", program, path], stdout=subprocess.DEVNULL, stderr=subprocess.PIPE, text=True).stderr
+    return int(said.split()[-1]) * 1024
 
 
 def instructions(program, path):
@@ -161,9 +166,8 @@ def instructions(program, path):
 
 
 def measure(program, path, data, count, empty):
-    runs = [run(program, path) for _ in range(RUNS)]
-    seconds = min(r[0] for r in runs)
-    memory = max(r[1] for r in runs) - run(program, empty)[1] - len(data)
+    seconds = min(run(program, path) for _ in range(RUNS))
+    memory = most_memory(program, path) - most_memory(program, empty) - len(data)
     print(f"  {os.path.basename(program)}: {seconds:.3f} s, {len(data) / seconds / 1e6:.1f} MB/s", end="")
     if count:
         spent = instructions(program, path) - instructions(program, empty)
