@@ -156,3 +156,20 @@ fn all_is_refused_behind_a_refused_operator(rt: HostRuntime) -> Result<(), Fail>
     assert!(rt; validator.try_op(1, &ONE).is_err());
     Ok(())
 }
+
+#[test]
+fn a_visitor_leads_its_validator_on(rt: HostRuntime) -> Result<(), Fail> {
+    let types = types(rt.alloc())?;
+    let Some(resources) = SampleResources::new(parts(types.as_slice())) else {
+        return Err(Fail::new("the sample has too many types"));
+    };
+    let Some(mut validator) = begun(rt.alloc(), &resources) else {
+        return Err(Fail::new("the body doesn't begin"));
+    };
+    let mut visitor = validator.visitor();
+    assert!(rt; visitor.visit_operator(0, &ONE).is_ok());
+    assert!(rt; validator.operand_stack_height() == 1);
+    assert!(rt; validator.simd_visitor().visit_operator(2, &ADD).is_err());
+    assert!(rt; validator.has_failed());
+    Ok(())
+}

@@ -10,6 +10,7 @@ mod copies;
 mod func_validator;
 mod laws;
 mod locals;
+mod visitors;
 
 pub use func_validator::{FuncToValidate, FuncValidator, FuncValidatorAllocations};
 pub use laws::bodies_are_declarations_and_instructions;
