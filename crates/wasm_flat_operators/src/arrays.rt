@@ -1,7 +1,7 @@
 //! Operators on arrays.
 
 ghost use Rattle.std.specs.Prelude.{◌≡◌, ◌≤◌, ◌+◌, Some, None, IfOk, IfErr, OnErr};
-ghost use Rattle.wasm_binary_reader.specs.Reader.{SameInput, position_in, original, rest};
+ghost use Rattle.wasm_readers.specs.Reader.{SameInput, position_in, original, rest};
 ghost use Rattle.wasm_flat_operators.specs.Refusals.{RefusedBetween};
 ghost use Rattle.wasm_flat_operators.specs.Arrays.{array_from};
 

@@ -1,7 +1,7 @@
 //! Constants.
 
 ghost use Rattle.std.specs.Prelude.{◌≡◌, ◌≤◌, ◌<◌, ◌+◌, Some, None, IfOk, IfErr, OnErr};
-ghost use Rattle.wasm_binary_reader.specs.Reader.{SameInput, position_in, original, rest, RefusedFrom};
+ghost use Rattle.wasm_readers.specs.Reader.{SameInput, position_in, original, rest, RefusedFrom};
 ghost use Rattle.wasm_flat_operators.specs.Refusals.{RefusedBetween};
 ghost use Rattle.wasm_flat_operators.specs.Constants.{bits_32_at, bits_64_at, bits_128_at, constant_from, vector_from};
 

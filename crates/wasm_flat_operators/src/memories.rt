@@ -1,7 +1,7 @@
 //! Operators on memories.
 
 ghost use Rattle.std.specs.Prelude.{◌≡◌, ◌≢◌, ◌≤◌, ◌<◌, ◌+◌, Some, None, IfSome, IfNone, IfOk, IfErr, OnOk, OnErr};
-ghost use Rattle.wasm_binary_reader.specs.Reader.{SameInput, position_in, original, rest, RefusedFrom};
+ghost use Rattle.wasm_readers.specs.Reader.{SameInput, position_in, original, rest, RefusedFrom};
 ghost use Rattle.wasm_flat_operators.specs.Refusals.{RefusedBetween};
 ghost use Rattle.wasm_flat_operators.specs.Memories.{max_align_of, access_opcode, access_from, memarg_at, memory_size_from, memory_from};
 ghost use Rattle.wasm_flat_operators.specs.declared.memories.MemoryOperator.{MemoryOperator};

@@ -33,7 +33,19 @@ pub record IsTyped (F : Features) (C : IndexSpaces) (parts : Parts) : Type 0 whe
   pub constants : HasTypedConstants nat_eq F (context_of C numbering parts) (imported_globals parts) (number_at numbering) parts
   pub bodies : HasTypedBodies nat_eq F (context_of C numbering parts) parts
 
+-- The bytes are a valid module up to its bodies: all but these keep their rules.
+pub record IsValidUpToBodies (F : Features) (bytes : List ℕ) : Type 0 where
+  pub well_formed : IsWellFormed expression_at F bytes
+  pub numbering : Numbering (index_spaces well_formed.types.types well_formed.parts).types
+  pub constants :
+      HasTypedConstants nat_eq F (context_of (index_spaces well_formed.types.types well_formed.parts) numbering well_formed.parts)
+      (imported_globals well_formed.parts) (number_at numbering) well_formed.parts
+
 -- The bytes are a valid module.
 pub record IsValidModule (F : Features) (bytes : List ℕ) : Type 0 where
   pub well_formed : IsWellFormed expression_at F bytes
   pub typed : IsTyped F (index_spaces well_formed.types.types well_formed.parts) well_formed.parts
+
+-- A valid module is valid up to its bodies.
+abbrev pub up_to_bodies : {F : Features} {bytes : List ℕ} → IsValidModule F bytes → IsValidUpToBodies F bytes
+up_to_bodies m = record { well_formed = m.well_formed; numbering = m.typed.numbering; constants = m.typed.constants }

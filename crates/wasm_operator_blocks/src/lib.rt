@@ -19,3 +19,6 @@ pub use dispatch::{step_control, step_parametric, step_variable};
 pub use exceptions::{throw, throw_ref};
 pub use tables::branch_by_table;
 pub use tries::open_try_table;
+
+// Blocks stand on calls, so who steps through blocks finds these here.
+pub use wasm_operator_calls::step_call;

@@ -8,7 +8,7 @@ use Rattle.wasm_rules.specs.Contexts.{Context}
 use Rattle.wasm_readers_types.specs.declared.indices.UnpackedIndex.{UnpackedIndex}
 use Rattle.wasm_readers_types.specs.declared.indices.UnpackedIndex.TheVariants.{Module, RecGroup, Id}
 use Rattle.wasm_rules.specs.Worlds.{is_below}
-use Rattle.wasm_operator_steps.specs.Machine.{Operand, known, open_reference, matches_operand}
+use Rattle.wasm_operator_stacks.specs.Machine.{Operand, known, open_reference, matches_operand}
 use Rattle.wasm_module_resources.specs.Answers.{same_index, world}
 use Rattle.wasm_spec.specs.Matching.{is_shared_heap}
 use Rattle.wasm_spec.specs.ValueTypes.{implies}

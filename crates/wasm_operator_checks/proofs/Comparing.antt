@@ -5,7 +5,7 @@ use Rattle.wasm_spec.specs.MatchingTests.{World, matches_val}
 use Rattle.wasm_readers_types.specs.SeenValues.{val_of}
 use Rattle.wasm_readers_types.specs.declared.indices.UnpackedIndex.{UnpackedIndex}
 use Rattle.wasm_readers_types.specs.declared.values.ValType.{ValType}
-use Rattle.wasm_operator_steps.specs.Matching.{matches_vals}
+use Rattle.wasm_operator_stacks.specs.Matching.{matches_vals}
 
 past_all : {X : Type 0} (n : ℕ) (xs : List X) → length xs ≤ n → drop n xs ≡ []
 past_all zero [] h = refl

@@ -7,7 +7,7 @@ use Rattle.wasm_spec.specs.Syntax.{Val}
 use Rattle.wasm_readers_types.specs.SeenValues.{val_of}
 use Rattle.wasm_readers_types.specs.declared.indices.UnpackedIndex.{UnpackedIndex}
 use Rattle.wasm_readers_types.specs.declared.values.ValType.{ValType}
-use Rattle.wasm_operator_steps.specs.Machine.{State, pop_val, pop_vals}
+use Rattle.wasm_operator_stacks.specs.Machine.{State, pop_val, pop_vals}
 use Rattle.wasm_operator_checks.proofs.Looking.{from_on}
 
 -- one type more from the end, that matches or doesn't

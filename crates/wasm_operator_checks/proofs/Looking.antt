@@ -8,7 +8,7 @@ use Rattle.std.proofs.lemmas.Option.{slice_get-map, slice_get_within}
 use Rattle.wasm_readers_types.specs.declared.indices.UnpackedIndex.{UnpackedIndex}
 use Rattle.wasm_spec.specs.MatchingTests.{World}
 use Rattle.wasm_spec.specs.Syntax.{Val}
-use Rattle.wasm_operator_steps.specs.Machine.{Operand, State, pop_any, pop_val, popped, bottom, matches_operand}
+use Rattle.wasm_operator_stacks.specs.Machine.{Operand, State, pop_any, pop_val, popped, bottom, matches_operand}
 use Rattle.wasm_operator_stacks.specs.SeenOperands.{operand_of}
 use Rattle.wasm_operator_stacks.specs.SeenBlocks.{frames_seen}
 use Rattle.wasm_operator_stacks.specs.Seen.{below}

@@ -4,8 +4,8 @@ use Rattle.std.specs.Prelude.{Some, None}
 use Rattle.wasm_spec.specs.MatchingTests.{World}
 use Rattle.wasm_spec.specs.Syntax.{Val}
 use Rattle.wasm_readers_types.specs.declared.indices.UnpackedIndex.{UnpackedIndex}
-use Rattle.wasm_operator_steps.specs.Machine.{State, become_unreachable, pop_val, pop_vals, push_vals}
-use Rattle.wasm_operator_steps.proofs.TakenInTurn.{pop_vals-append}
+use Rattle.wasm_operator_stacks.specs.Machine.{State, become_unreachable, pop_val, pop_vals, push_vals}
+use Rattle.wasm_operator_stacks.proofs.TakenInTurn.{pop_vals-append}
 use Rattle.wasm_operator_stacks.specs.Seen.{state_of, below}
 use Rattle.wasm_operator_stacks.specs.declared.stacks.Stacks.{Stacks}
 use Rattle.wasm_operator_checks.specs.SeenTypes.{exchanged, halted}

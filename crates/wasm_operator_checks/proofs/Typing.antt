@@ -13,11 +13,11 @@ use Rattle.wasm_flat_operators.specs.Memories.{max_align_of}
 use Rattle.wasm_flat_operators.specs.declared.memories.MemoryOperator.{MemoryOperator}
 use Rattle.wasm_flat_operators.specs.declared.memories.MemArg.{MemArg}
 use Rattle.wasm_type_words.specs.Seen.{number_val}
-use Rattle.wasm_operator_steps.specs.Actions.{OperandTypes, Check, these, memory_address, lesser_memory_address, joined, is_aligned, data_is_there}
+use Rattle.wasm_operator_stacks.specs.Actions.{OperandTypes, Check, these, memory_address, lesser_memory_address, joined, is_aligned, data_is_there}
 use Rattle.wasm_rules.specs.Attempts.{◌>>=◌, passes}
 use Rattle.wasm_rules.specs.Signatures.{resolve_val}
-use Rattle.wasm_operator_steps.specs.Meanings.{types_at, holds, address}
-use Rattle.wasm_operator_steps.specs.Shapes.{number_type}
+use Rattle.wasm_operator_stacks.specs.Meanings.{types_at, holds, address}
+use Rattle.wasm_operator_stacks.specs.Shapes.{number_type}
 use Rattle.wasm_module_resources.specs.Answers.{world}
 use Rattle.wasm_operator_stacks.specs.Seen.{state_of, around}
 use Rattle.wasm_operator_stacks.specs.declared.stacks.Stacks.{Stacks}

@@ -3,12 +3,12 @@ use Rattle.std.specs.Prelude.{◌≡◌, ◌≤◌, ℕ, Bool, List, length, Opt
 use Rattle.wasm_spec.specs.Syntax.{Val}
 use Rattle.wasm_rules.specs.Contexts.{Context}
 use Rattle.wasm_readers_types.specs.declared.indices.UnpackedIndex.{UnpackedIndex}
-use Rattle.wasm_operator_steps.specs.Actions.{Action, Check, OperandTypes}
-use Rattle.wasm_operator_steps.specs.Meanings.{run, holds, types_at}
-use Rattle.wasm_operator_steps.specs.Shapes.{Shape}
-use Rattle.wasm_operator_steps.specs.Steps.{actions_of}
-use Rattle.wasm_operator_steps.specs.Machine as machine
-use Rattle.wasm_operator_steps.specs.Machine.{State}
+use Rattle.wasm_operator_stacks.specs.Actions.{Action, Check, OperandTypes}
+use Rattle.wasm_operator_stacks.specs.Meanings.{run, holds, types_at}
+use Rattle.wasm_operator_stacks.specs.Shapes.{Shape}
+use Rattle.wasm_operator_stacks.specs.Steps.{actions_of}
+use Rattle.wasm_operator_stacks.specs.Machine as machine
+use Rattle.wasm_operator_stacks.specs.Machine.{State}
 use Rattle.wasm_module_resources.specs.Answers.{world}
 use Rattle.wasm_operator_stacks.specs.SeenOperands.{operand_of}
 use Rattle.wasm_operator_stacks.specs.Seen.{state_of, around, below}

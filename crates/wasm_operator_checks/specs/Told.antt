@@ -13,8 +13,8 @@ use Rattle.wasm_readers_errors.specs.Lifting.{lifting}
 use Rattle.wasm_readers_errors.specs.declared.operator_rules.OperatorRule.{OperatorRule}
 use Rattle.wasm_readers_errors.specs.declared.operator_rules.OperatorRule.TheVariants as rule
 use Rattle.wasm_type_words.specs.Seen.{val_in}
-use Rattle.wasm_operator_steps.specs.Machine as machine
-use Rattle.wasm_operator_steps.specs.Machine.{known}
+use Rattle.wasm_operator_stacks.specs.Machine as machine
+use Rattle.wasm_operator_stacks.specs.Machine.{known}
 use Rattle.wasm_operator_stacks.specs.SeenOperands.{operand_of}
 use Rattle.wasm_operator_checks.specs.declared.faults.OperatorFault.{OperatorFault}
 use Rattle.wasm_operator_checks.specs.declared.faults.OperatorError.{OperatorError}

@@ -2,7 +2,7 @@
 
 ghost use Rattle.std.specs.Prelude.{◌≡◌, map};
 ghost use Rattle.wasm_readers_types.specs.SeenValues.{val_of};
-ghost use Rattle.wasm_operator_steps.specs.Matching.{matches_vals};
+ghost use Rattle.wasm_operator_stacks.specs.Matching.{matches_vals};
 ghost use Rattle.wasm_module_resources.specs.Answers.{world};
 
 use wasm_module_resources::WasmModuleResources;

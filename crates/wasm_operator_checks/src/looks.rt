@@ -3,7 +3,7 @@
 ghost use Rattle.std.specs.Prelude.{◌≡◌, ◌≤◌, length, map};
 ghost use Rattle.wasm_readers_types.specs.SeenValues.{val_of};
 ghost use Rattle.wasm_type_words.specs.Seen.{val_in};
-ghost use Rattle.wasm_operator_steps.specs.Machine.{pop_any, pop_val, pop_vals};
+ghost use Rattle.wasm_operator_stacks.specs.Machine.{pop_any, pop_val, pop_vals};
 ghost use Rattle.wasm_module_resources.specs.Answers.{world};
 ghost use Rattle.wasm_operator_stacks.specs.Seen.{state_of, below};
 ghost use Rattle.wasm_operator_checks.specs.Steps.{Looked, Checked};

@@ -3,7 +3,7 @@
 ghost use Rattle.std.specs.Prelude.{◌≡◌};
 ghost use Rattle.wasm_type_words.specs.Seen.{val_in};
 ghost use Rattle.wasm_readers_types.specs.SeenValues.{val_of, abstract_heap_of};
-ghost use Rattle.wasm_operator_steps.specs.Machine.{matches_operand, open_reference};
+ghost use Rattle.wasm_operator_stacks.specs.Machine.{matches_operand, open_reference};
 ghost use Rattle.wasm_operator_stacks.specs.SeenOperands.{operand_of, operand_seen};
 ghost use Rattle.wasm_module_resources.specs.Answers.{world};
 

@@ -5,7 +5,7 @@ ghost use Rattle.wasm_spec.specs.ValueTypes.{implies};
 ghost use Rattle.wasm_readers_errors.specs.On.{has_flag};
 ghost use Rattle.wasm_readers_types.specs.declared.indices.UnpackedIndex.{UnpackedIndex};
 ghost use Rattle.wasm_type_words.specs.Seen.{val_in};
-ghost use Rattle.wasm_operator_steps.specs.Meanings.{address as address_by};
+ghost use Rattle.wasm_operator_stacks.specs.Meanings.{address as address_by};
 
 use bitflags::Flags;
 use std::alloc::Allocator;

@@ -2,7 +2,7 @@
 
 ghost use Rattle.std.specs.Prelude.{◌≡◌, ◌≤◌, ◌∷◌, [], length, map, OnOk, OnErr};
 ghost use Rattle.wasm_type_words.specs.Seen.{val_in};
-ghost use Rattle.wasm_operator_steps.specs.Machine.{pop_vals, push_vals};
+ghost use Rattle.wasm_operator_stacks.specs.Machine.{pop_vals, push_vals};
 ghost use Rattle.wasm_module_resources.specs.Answers.{world};
 ghost use Rattle.wasm_operator_stacks.specs.Seen.{state_of, below, Kept};
 ghost use Rattle.wasm_operator_checks.specs.Steps.{Checked};

@@ -1,3 +1,4 @@
+pub use Rattle.wasm_operator_steps.proofs.TakenInTurn
 pub mod Reversing
 pub mod Marking
 pub mod Localizing

@@ -7,7 +7,7 @@ use Rattle.wasm_readers_types.specs.declared.indices.UnpackedIndex.{UnpackedInde
 use Rattle.wasm_readers_types.specs.declared.indices.TheConstants.{MAX_IDS}
 use Rattle.wasm_type_words.specs.Words.{abstract_at, val_at, val_number}
 use Rattle.wasm_operator_steps.specs.Machine.{bottom, bottom_reference, open_reference, known}
-use Rattle.wasm_operators.specs.Control.{empty_block, value_block, func_block}
+use Rattle.wasm_operator_steps.specs.Control.{empty_block, value_block, func_block}
 use Rattle.wasm_operator_stacks.specs.Words.{special_at, operand_at, operand_number, block_at, block_number}
 
 below : (m n : ℕ) → m < n → nat_lt m n ≡ true

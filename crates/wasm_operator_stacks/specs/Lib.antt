@@ -1,3 +1,10 @@
+pub use Rattle.wasm_operator_steps.specs.Actions
+pub use Rattle.wasm_operator_steps.specs.Bodies
+pub use Rattle.wasm_operator_steps.specs.Machine
+pub use Rattle.wasm_operator_steps.specs.Matching
+pub use Rattle.wasm_operator_steps.specs.Meanings
+pub use Rattle.wasm_operator_steps.specs.Shapes
+pub use Rattle.wasm_operator_steps.specs.Steps
 pub mod Marked
 pub mod Locals
 pub mod Words

@@ -4,7 +4,7 @@ use Rattle.wasm_spec.specs.Features.{Features}
 use Rattle.wasm_rules.specs.Contexts.{Context}
 use Rattle.wasm_rules.specs.FeatureFlags.{features_of}
 use Rattle.wasm_readers_types.specs.declared.indices.UnpackedIndex.{UnpackedIndex}
-use Rattle.wasm_operators.specs.Control.{Block}
+use Rattle.wasm_operator_steps.specs.Control.{Block}
 use Rattle.wasm_operator_steps.specs.Bodies.{Local, Surroundings}
 use Rattle.wasm_operator_steps.specs.Machine.{Kind, State}
 use Rattle.wasm_operator_stacks.specs.SeenOperands.{operand_of}

@@ -2,10 +2,10 @@
 use Rattle.std.specs.Prelude.{Bool, true, false, List, [], ◌∷◌, map}
 use Rattle.wasm_readers_types.specs.declared.indices.UnpackedIndex.{UnpackedIndex}
 use Rattle.wasm_type_words.specs.Seen.{val_in}
-use Rattle.wasm_operators.specs.Control as syntax
-use Rattle.wasm_operators.specs.Control.{empty_block, value_block, func_block}
-use Rattle.wasm_operators.specs.declared.control.FrameKind.{FrameKind}
-use Rattle.wasm_operators.specs.declared.control.FrameKind.TheVariants as frame_kind
+use Rattle.wasm_operator_steps.specs.Control as syntax
+use Rattle.wasm_operator_steps.specs.Control.{empty_block, value_block, func_block}
+use Rattle.wasm_operator_steps.specs.FrameKind.{FrameKind}
+use Rattle.wasm_operator_steps.specs.FrameKind.TheVariants as frame_kind
 use Rattle.wasm_operator_steps.specs.Machine as machine
 use Rattle.wasm_operator_steps.specs.Machine.{Kind, block_kind, loop_kind, if_kind, else_kind, try_table_kind}
 use Rattle.wasm_operator_stacks.specs.Words.{block_at}

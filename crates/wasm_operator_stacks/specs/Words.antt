@@ -2,7 +2,7 @@
 use Rattle.std.specs.Prelude.{ℕ, zero, suc, ◌==◌, ◌/◌, ◌%◌, nat_lt, if◌then◌else◌}
 use Rattle.wasm_readers_types.specs.declared.indices.UnpackedIndex.{UnpackedIndex}
 use Rattle.wasm_type_words.specs.Words.{abstract_at, val_at, val_number}
-use Rattle.wasm_operators.specs.Control.{Block, empty_block, value_block, func_block}
+use Rattle.wasm_operator_steps.specs.Control.{Block, empty_block, value_block, func_block}
 use Rattle.wasm_operator_steps.specs.Machine.{Operand, bottom, bottom_reference, open_reference, known}
 
 abbrev pub special_at : ℕ → Operand UnpackedIndex

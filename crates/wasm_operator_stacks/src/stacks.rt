@@ -5,7 +5,7 @@ use crate::locals::Locals;
 use crate::stack::Stack;
 use crate::word::Word;
 use std::alloc::{Allocator, Global};
-use wasm_operators::FrameKind;
+use wasm_operator_steps::FrameKind;
 use wasm_readers_errors::WasmFeatures;
 
 /// A frame: what opened it, its block type, how many operands stood below and how many locals were

@@ -13,7 +13,7 @@ use crate::stack::Stack;
 use crate::stacks::{Frame, Stacks};
 use crate::word::Word;
 use std::alloc::{AllocError, Allocator};
-use wasm_operators::FrameKind;
+use wasm_operator_steps::FrameKind;
 use wasm_readers_errors::WasmFeatures;
 use wasm_readers_types::ValType;
 use wasm_type_words::TypeWord;

@@ -3,8 +3,8 @@
 use Rattle.std.specs.Prelude.{ℕ, Bool, List}
 use Rattle.wasm_spec.specs.Syntax.{AbstractHeap, Ref, Val}
 use Rattle.wasm_operators.specs.Control.{Block}
-use Rattle.wasm_flat_operators.specs.declared.memories.MemoryOperator.{MemoryOperator}
-use Rattle.wasm_flat_operators.specs.declared.memories.MemArg.{MemArg}
+use Rattle.wasm_operators.specs.MemoryOperator.{MemoryOperator}
+use Rattle.wasm_operators.specs.MemArg.{MemArg}
 use Rattle.wasm_operator_steps.specs.Machine.{Kind}
 
 -- what has a signature, by its index

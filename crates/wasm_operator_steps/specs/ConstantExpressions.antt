@@ -9,13 +9,13 @@ use Rattle.wasm_operators.specs.Control.{end_}
 use Rattle.wasm_operators.specs.References.{ref_null, ref_func}
 use Rattle.wasm_operators.specs.Instructions as instruction
 use Rattle.wasm_operators.specs.Instructions.{Instruction, control, variable, constant, numeric, conversion, structure, array}
-use Rattle.wasm_flat_operators.specs.declared.variables.VariableOperator.TheVariants.{GlobalGet}
-use Rattle.wasm_flat_operators.specs.declared.conversions.ConversionOperator.{ConversionOperator}
-use Rattle.wasm_flat_operators.specs.declared.conversions.ConversionOperator.TheVariants.{AnyConvertExtern, ExternConvertAny, RefI31, RefI31Shared}
-use Rattle.wasm_flat_operators.specs.declared.structs.StructOperator.{StructOperator}
-use Rattle.wasm_flat_operators.specs.declared.structs.StructOperator.TheVariants.{StructNew, StructNewDefault, StructNewDesc, StructNewDefaultDesc}
-use Rattle.wasm_flat_operators.specs.declared.arrays.ArrayOperator.{ArrayOperator}
-use Rattle.wasm_flat_operators.specs.declared.arrays.ArrayOperator.TheVariants.{ArrayNew, ArrayNewDefault, ArrayNewFixed}
+use Rattle.wasm_operators.specs.VariableOperator.TheVariants.{GlobalGet}
+use Rattle.wasm_operators.specs.ConversionOperator.{ConversionOperator}
+use Rattle.wasm_operators.specs.ConversionOperator.TheVariants.{AnyConvertExtern, ExternConvertAny, RefI31, RefI31Shared}
+use Rattle.wasm_operators.specs.StructOperator.{StructOperator}
+use Rattle.wasm_operators.specs.StructOperator.TheVariants.{StructNew, StructNewDefault, StructNewDesc, StructNewDefaultDesc}
+use Rattle.wasm_operators.specs.ArrayOperator.{ArrayOperator}
+use Rattle.wasm_operators.specs.ArrayOperator.TheVariants.{ArrayNew, ArrayNewDefault, ArrayNewFixed}
 use Rattle.wasm_operator_steps.specs.Machine.{Operand, bottom, known}
 
 -- the arithmetic of extended constant expressions

@@ -6,7 +6,7 @@ use Rattle.wasm_spec.specs.Syntax.{Global}
 use Rattle.wasm_spec.specs.Features.{Features}
 use Rattle.wasm_spec.specs.MatchingTests.{World}
 use Rattle.wasm_operators.specs.Instructions.{Instruction, variable}
-use Rattle.wasm_flat_operators.specs.declared.variables.VariableOperator.TheVariants.{GlobalGet}
+use Rattle.wasm_operators.specs.VariableOperator.TheVariants.{GlobalGet}
 use Rattle.wasm_operator_steps.specs.Bodies.{Surroundings}
 use Rattle.wasm_operator_steps.specs.Machine.{State}
 use Rattle.wasm_operator_steps.specs.ConstantExpressions.{is_constant}

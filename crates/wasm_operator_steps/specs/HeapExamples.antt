@@ -8,15 +8,15 @@ use Rattle.wasm_operators.specs.Control.{empty_block, value_block}
 use Rattle.wasm_operators.specs.References.{ref_is_null, ref_eq, ref_as_non_null, ref_func, br_on_null, br_on_non_null, ref_test, ref_cast, br_on_cast, br_on_cast_fail}
 use Rattle.wasm_operators.specs.References as references
 use Rattle.wasm_operators.specs.Instructions.{Instruction, variable, table, access, memory, constant, reference, cast, conversion, structure, array}
-use Rattle.wasm_flat_operators.specs.declared.variables.VariableOperator.TheVariants.{LocalGet, LocalSet}
-use Rattle.wasm_flat_operators.specs.declared.tables.TableOperator.TheVariants.{TableGet, TableSet, TableInit, ElemDrop, TableCopy, TableGrow, TableSize, TableFill}
-use Rattle.wasm_flat_operators.specs.declared.memories.MemoryOperator.{MemoryOperator}
-use Rattle.wasm_flat_operators.specs.declared.memories.MemoryOperator.TheVariants.{I32Load, I32Load8S, F32Load, I32Store, I64Store, F64Store}
-use Rattle.wasm_flat_operators.specs.declared.memories.BulkMemoryOperator.TheVariants.{MemorySize, MemoryGrow, MemoryInit, DataDrop, MemoryCopy, MemoryFill}
-use Rattle.wasm_flat_operators.specs.declared.constants.ConstantOperator.TheVariants.{V128Const}
-use Rattle.wasm_flat_operators.specs.declared.conversions.ConversionOperator.TheVariants.{AnyConvertExtern, ExternConvertAny, RefI31, I31GetS, I31GetU, RefI31Shared}
-use Rattle.wasm_flat_operators.specs.declared.structs.StructOperator.TheVariants.{StructNew, StructNewDefault, StructGet, StructGetS, StructGetU, StructSet, StructNewDesc, StructNewDefaultDesc}
-use Rattle.wasm_flat_operators.specs.declared.arrays.ArrayOperator.TheVariants.{ArrayNew, ArrayNewDefault, ArrayNewFixed, ArrayNewData, ArrayNewElem, ArrayGet, ArrayGetS, ArrayGetU, ArraySet, ArrayLen, ArrayFill, ArrayCopy, ArrayInitData, ArrayInitElem}
+use Rattle.wasm_operators.specs.VariableOperator.TheVariants.{LocalGet, LocalSet}
+use Rattle.wasm_operators.specs.TableOperator.TheVariants.{TableGet, TableSet, TableInit, ElemDrop, TableCopy, TableGrow, TableSize, TableFill}
+use Rattle.wasm_operators.specs.MemoryOperator.{MemoryOperator}
+use Rattle.wasm_operators.specs.MemoryOperator.TheVariants.{I32Load, I32Load8S, F32Load, I32Store, I64Store, F64Store}
+use Rattle.wasm_operators.specs.BulkMemoryOperator.TheVariants.{MemorySize, MemoryGrow, MemoryInit, DataDrop, MemoryCopy, MemoryFill}
+use Rattle.wasm_operators.specs.ConstantOperator.TheVariants.{V128Const}
+use Rattle.wasm_operators.specs.ConversionOperator.TheVariants.{AnyConvertExtern, ExternConvertAny, RefI31, I31GetS, I31GetU, RefI31Shared}
+use Rattle.wasm_operators.specs.StructOperator.TheVariants.{StructNew, StructNewDefault, StructGet, StructGetS, StructGetU, StructSet, StructNewDesc, StructNewDefaultDesc}
+use Rattle.wasm_operators.specs.ArrayOperator.TheVariants.{ArrayNew, ArrayNewDefault, ArrayNewFixed, ArrayNewData, ArrayNewElem, ArrayGet, ArrayGetS, ArrayGetU, ArraySet, ArrayLen, ArrayFill, ArrayCopy, ArrayInitData, ArrayInitElem}
 use Rattle.wasm_operator_steps.specs.Samples.{ref, ref_null, ref_of, plain_heap, body, runs, gives_i32, an_i32, an_i64, dropped, trap, an_end, in_block, all_pass, none_pass}
 
 -- with every feature, descriptors too

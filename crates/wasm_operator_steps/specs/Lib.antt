@@ -1,3 +1,6 @@
+pub use Rattle.wasm_operators.specs.Control
+pub use Rattle.wasm_operators.specs.SeenControl
+pub use Rattle.wasm_operators.specs.declared.control.FrameKind
 pub mod Matching
 pub mod Bodies
 pub mod Machine

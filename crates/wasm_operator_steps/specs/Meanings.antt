@@ -10,9 +10,9 @@ use Rattle.wasm_spec.specs.MatchingTests.{same_flag, same_abstract}
 use Rattle.wasm_spec.specs.MatchingTests.{World}
 use Rattle.wasm_spec.specs.MatchingTests.{matches_heap, matches_ref}
 use Rattle.wasm_operators.specs.Control.{Block, empty_block, value_block, func_block}
-use Rattle.wasm_flat_operators.specs.Memories.{max_align_of}
-use Rattle.wasm_flat_operators.specs.declared.memories.MemoryOperator.{MemoryOperator}
-use Rattle.wasm_flat_operators.specs.declared.memories.MemArg.{MemArg}
+use Rattle.wasm_operators.specs.Memories.{max_align_of}
+use Rattle.wasm_operators.specs.MemoryOperator.{MemoryOperator}
+use Rattle.wasm_operators.specs.MemArg.{MemArg}
 use Rattle.wasm_rules.specs.Attempts.{◌>>=◌, guard, passes, among, last_of, front_of, list_of}
 use Rattle.wasm_rules.specs.Signatures.{Signature, signature_of, resolve_heap, resolve_ref, resolve_val, resolve_vals}
 use Rattle.wasm_operator_steps.specs.Matching.{matches_vals, matches_storage}

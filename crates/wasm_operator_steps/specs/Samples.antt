@@ -7,7 +7,7 @@ use Rattle.wasm_rules.specs.Contexts.{Context}
 use Rattle.wasm_operators.specs.Control as control
 use Rattle.wasm_operators.specs.Instructions as instruction
 use Rattle.wasm_operators.specs.Instructions.{Instruction}
-use Rattle.wasm_flat_operators.specs.declared.constants.ConstantOperator.TheVariants.{I32Const, I64Const, F32Const}
+use Rattle.wasm_operators.specs.ConstantOperator.TheVariants.{I32Const, I64Const, F32Const}
 use Rattle.wasm_operator_steps.specs.Bodies.{Local, Surroundings}
 use Rattle.wasm_operator_steps.specs.Steps.{locals_of, is_typed_body, is_typed_constant}
 

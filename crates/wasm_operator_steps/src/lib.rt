@@ -9,6 +9,9 @@ ghost use Rattle.wasm_operator_steps.specs.ControlExamples.{Blocks, NoBlocks, Br
 ghost use Rattle.wasm_operator_steps.specs.HeapExamples.{Memories, NoMemories, Tables, NoTables, References, NoReferences, Casts, NoCasts, Conversions, NoConversions, Structures, NoStructures, Arrays, NoArrays, Descriptors, NoDescriptors, MemoriesNeedFeatures, ReferencesNeedFeatures, AggregatesNeedFeatures};
 ghost use Rattle.wasm_operator_steps.specs.SharedExamples.{ReachesGlobalsAndTables, ReachesFunctions, ReachesStructures, ReachesArrays, ReachesTheRest};
 
+// What the definitions here speak of, for the crates that stand on them.
+pub use wasm_operators::{BlockType, FrameKind};
+
 /// Steps over other identities of types are the same steps with each identity renamed, where the
 /// renaming keeps which are the same.
 #[tactic(auto, using(crate::proofs::StepsRenamed::steps_rename))]

@@ -9,7 +9,7 @@ use Rattle.wasm_operator_steps.specs.Steps.{step_in}
 use Rattle.wasm_module_resources.specs.Answers.{world, written_index}
 use Rattle.wasm_operator_stacks.specs.Seen.{state_of, around}
 use Rattle.wasm_operator_stacks.specs.declared.stacks.Stacks.{Stacks}
-use Rattle.wasm_operator_references.specs.Written.{IsWrittenReference}
+use Rattle.wasm_operator_casts.specs.WrittenReferences.{IsWrittenReference}
 use Rattle.wasm_operator_casts.specs.Written.{IsWrittenCast}
 use Rattle.wasm_operator_checks.specs.Steps.{Took}
 use Rattle.wasm_operator_checks.specs.declared.faults.OperatorError.{OperatorError}

@@ -1,3 +1,13 @@
+pub use Rattle.wasm_flat_operators.specs.declared.arrays.ArrayOperator
+pub use Rattle.wasm_flat_operators.specs.declared.calls.CallOperator
+pub use Rattle.wasm_flat_operators.specs.declared.constants.ConstantOperator
+pub use Rattle.wasm_flat_operators.specs.declared.conversions.ConversionOperator
+pub use Rattle.wasm_flat_operators.specs.declared.memories.BulkMemoryOperator
+pub use Rattle.wasm_flat_operators.specs.declared.memories.MemArg
+pub use Rattle.wasm_flat_operators.specs.declared.memories.MemoryOperator
+pub use Rattle.wasm_flat_operators.specs.declared.structs.StructOperator
+pub use Rattle.wasm_flat_operators.specs.declared.tables.TableOperator
+pub use Rattle.wasm_flat_operators.specs.declared.variables.VariableOperator
 pub use Rattle.wasm_flat_operators.specs.Immediates
 pub use Rattle.wasm_flat_operators.specs.Refusals
 pub use Rattle.wasm_flat_operators.specs.Calls

@@ -1,7 +1,7 @@
 //! Expressions as their bytes.
 
 ghost use Rattle.std.specs.Prelude.{◌≡◌, ◌≤◌, ◌<◌, ◌+◌, ◌^◌, Some, None, IfOk, IfErr, OnOk, OnErr, length};
-ghost use Rattle.wasm_binary_reader.specs.Reader.{SameInput, input, position_in, original, rest, RefusedFrom};
+ghost use Rattle.wasm_readers.specs.Reader.{SameInput, input, position_in, original, rest, RefusedFrom};
 ghost use Rattle.wasm_readers.specs.Written.{written};
 ghost use Rattle.wasm_operators.specs.Expressions.{nesting_of, depth_after, behind_expression, expression_at};
 ghost use Rattle.wasm_operators.specs.SeenOperators.{operator_of};

@@ -1,7 +1,7 @@
 //! The operators that bodies are mostly made of, without refusals.
 
 ghost use Rattle.std.specs.Prelude.{◌≡◌, ◌≤◌, ◌<◌, Some, None, IfSome, OnSome};
-ghost use Rattle.wasm_binary_reader.specs.Reader.{SameInput, position_in, rest};
+ghost use Rattle.wasm_readers.specs.Reader.{SameInput, position_in, rest};
 ghost use Rattle.wasm_readers.specs.Written.{written};
 ghost use Rattle.wasm_flat_operators.specs.Memories.{memarg_at};
 ghost use Rattle.wasm_operators.specs.Control.{block_at};

@@ -2,7 +2,7 @@
 
 ghost use Rattle.std.specs.Prelude.{◌≡◌, ◌≤◌, ◌<◌, ℕ, List, Option, Some, None, IfOk, IfErr, OnOk, OnErr, length};
 ghost use Rattle.wasm_spec.specs.Values.{list_at, many_at, u32_at};
-ghost use Rattle.wasm_binary_reader.specs.Reader.{SameInput, position_in, rest, RefusedFrom};
+ghost use Rattle.wasm_readers.specs.Reader.{SameInput, position_in, rest, RefusedFrom};
 ghost use Rattle.wasm_operators.specs.SeenLists.{listed, items_left, behind};
 
 use std::marker::PhantomData;

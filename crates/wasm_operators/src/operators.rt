@@ -1,7 +1,7 @@
 //! Operators and their reading.
 
 ghost use Rattle.std.specs.Prelude.{◌≡◌, ◌≤◌, ◌<◌, ◌+◌, Some, None, IfOk, IfErr, OnOk, OnErr};
-ghost use Rattle.wasm_binary_reader.specs.Reader.{SameInput, position_in, original, rest, RefusedFrom};
+ghost use Rattle.wasm_readers.specs.Reader.{SameInput, position_in, original, rest, RefusedFrom};
 ghost use Rattle.wasm_readers.specs.Written.{written};
 ghost use Rattle.wasm_flat_operators.specs.Refusals.{RefusedBetween};
 ghost use Rattle.wasm_operators.specs.Instructions.{aggregate_from, bulk_from, prefixed_from, plain_from, instruction_at};

@@ -1,3 +1,5 @@
+pub use Rattle.wasm_binary_reader.specs.Reader
+pub use Rattle.wasm_binary_reader.specs.declared.binary_reader.BinaryReader
 pub mod Refusals
 pub mod Sections
 pub mod SectionsSeen

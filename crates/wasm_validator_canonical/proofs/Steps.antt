@@ -19,7 +19,7 @@ use Rattle.wasm_validator_canonical.specs.Groups.{types_at, placed, held, AreVal
 use Rattle.wasm_validator_canonical.specs.Indices.{is_written, is_written_sub, number_in}
 use Rattle.wasm_validator_canonical.specs.Sections.{written, with_all_written}
 use Rattle.wasm_validator_canonical.proofs.Held.{positions-map, length-positions}
-use Rattle.wasm_validator_canonical.proofs.Kept.{AreBelow, length_held, held_front, new_ids, held_known}
+use Rattle.wasm_validator_canonical.proofs.Kept.{AreBelow, length_held, held_at_most, held_front, new_ids, held_known}
 use Rattle.wasm_validator_canonical.proofs.StoodFor.{Stand, held_with, same_closed, closed_alone, placed_valid, placed_members, standing_valid}
 use Rattle.wasm_validator_canonical.proofs.ValidAlone.{refs_sub-map}
 
@@ -127,6 +127,23 @@ module _ (F : Features) (us : List DefType) (ids : List ℕ) (g : Rec UnpackedIn
       let h = is_held r e in
       let f = held_front us ids (positions (placed (canonical F) (length us) h.tree) 0 g.types) (canonical F) in
       (f.0, ap (λ (p : List DefType × List ℕ). p.0) (sym h.is) ∙ f.1)
+
+  -- by no more than the ids do
+  pub written_at_most : (r : List DefType × List ℕ) → with_written F us ids g ≡ Some r → length r.0 + length ids ≤ length us + length r.1
+  written_at_most r e =
+      let h = is_held r e in
+      let ds = positions (placed (canonical F) (length us) h.tree) 0 g.types in
+      let listed = held_at_most us ids ds (canonical F) in
+      let numbered = length_held us ids ds (canonical F) in
+      subst (λ (p : List DefType × List ℕ). length p.0 + length ids ≤ length us + length p.1) h.is (omega (arith, listed, numbered))
+
+pub all_written_at_most : (F : Features) (gs : List (Rec ℕ)) (us : List DefType) (ids : List ℕ) (r : List DefType × List ℕ) → with_all_written F us ids gs ≡ Some r → length r.0 + length ids ≤ length us + length r.1
+all_written_at_most F [] us ids r e = subst (λ (p : List DefType × List ℕ). length p.0 + length ids ≤ length us + length p.1) (same_Some (us, ids) r e) (omega arith)
+all_written_at_most F (g ∷ gs) us ids r e =
+    let x = then_some (λ (p : List DefType × List ℕ). with_all_written F p.0 p.1 gs) (with_written F us ids (map_rec written g)) r e in
+    let here = written_at_most F us ids (map_rec written g) x.0 x.1 in
+    let later = all_written_at_most F gs x.0.0 x.0.1 r x.2 in
+    omega (arith, here, later)
 
 -- with all groups of a section too
 pub all_written_front : (F : Features) (gs : List (Rec ℕ)) (us : List DefType) (ids : List ℕ) (r : List DefType × List ℕ) → with_all_written F us ids gs ≡ Some r → (more : List DefType) × (r.0 ≡ us ++ more)

@@ -1,3 +1,4 @@
+pub use Rattle.wasm_constant_items.proofs.Finding
 mod Loops
 mod Places
 mod Refusals

@@ -1,3 +1,9 @@
+pub use Rattle.wasm_constant_items.specs.Globals
+pub use Rattle.wasm_constant_items.specs.Data
+pub use Rattle.wasm_constant_items.specs.Elements
+pub use Rattle.wasm_constant_items.specs.Lists
+pub use Rattle.wasm_constant_items.specs.Offsets
+pub use Rattle.wasm_constant_items.specs.Expressions
 pub mod Machine
 pub mod Answers
 pub mod Sections

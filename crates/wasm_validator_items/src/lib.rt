@@ -14,3 +14,4 @@ pub use data::add_data_segments;
 pub use elements::add_elements;
 pub use globals::add_globals;
 pub use tables::add_tables;
+pub use wasm_constant_items::OperatorValidatorAllocations;

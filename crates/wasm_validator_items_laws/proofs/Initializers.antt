@@ -10,10 +10,10 @@ use Rattle.wasm_rules.specs.Parts.{Expression}
 use Rattle.wasm_readers_types.specs.declared.indices.UnpackedIndex.{UnpackedIndex}
 use Rattle.wasm_validator_types.specs.Spaces.{Spaces}
 use Rattle.wasm_module_validity.specs.Expressions.{expression_at}
-use Rattle.wasm_constant_items.specs.Expressions.{behind_expression}
-use Rattle.wasm_constant_items.proofs.Finding.{are_found}
-use Rattle.wasm_constant_laws.specs.Items.{IsConstantIn, IsTypedExpressionAt}
-use Rattle.wasm_constant_laws.proofs.Items.{expressions}
+use Rattle.wasm_validator_items.specs.Expressions.{behind_expression}
+use Rattle.wasm_validator_items.proofs.Finding.{are_found}
+use Rattle.wasm_validator_items_laws.specs.Items.{IsConstantIn, IsTypedExpressionAt}
+use Rattle.wasm_validator_items_laws.proofs.Items.{expressions}
 use Rattle.wasm_validator_items.specs.Machine.{context_of, behind_initializer}
 use Rattle.wasm_validator_items.specs.Entries.{is_whole, is_constant_of}
 use Rattle.wasm_validator_items_laws.proofs.Attempts.{behind_where}

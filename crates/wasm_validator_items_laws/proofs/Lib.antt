@@ -1,3 +1,4 @@
+pub mod Items
 pub mod Attempts
 pub mod Initializers
 pub mod Steps

@@ -1,2 +1,5 @@
+pub use Rattle.wasm_validator_items.specs.Entries
+pub use Rattle.wasm_validator_items.specs.Machine
+pub mod Items
 pub mod Maps
 pub mod Reading

@@ -1,6 +1,6 @@
 use Rattle.std.proofs.Common.{◌≡◌, ◌≤◌, ◌<◌, ◌+◌, Some, None, arith, rules}
 use Rattle.std.proofs.lemmas.Grind.{common_steps}
-use Rattle.wasm_binary_reader.specs.Reader.{position_in, rest}
+use Rattle.wasm_readers.specs.Reader.{position_in, rest}
 use Rattle.wasm_readers.specs.Written.{written}
 use Rattle.wasm_operators.specs.Expressions.{nesting_of, depth_after, behind_expression}
 use Rattle.wasm_operators.specs.SeenOperators.{operator_of}

@@ -1,5 +1,5 @@
 use Rattle.std.proofs.Common.{◌≡◌, ◌≤◌, ℕ, length}
-use Rattle.wasm_binary_reader.specs.Reader.{SameInput, position_in, rest}
+use Rattle.wasm_readers.specs.Reader.{SameInput, position_in, rest}
 use Rattle.wasm_readers.specs.Written.{written}
 use Rattle.wasm_operators.specs.Expressions.{behind_from, behind_expression}
 use Rattle.wasm_operators.proofs.expressions.skip_expression.Given as goal

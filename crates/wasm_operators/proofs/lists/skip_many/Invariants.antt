@@ -1,5 +1,5 @@
 use Rattle.std.proofs.Common.{◌≡◌, ◌≤◌}
-use Rattle.wasm_binary_reader.specs.Reader.{SameInput, position_in, rest}
+use Rattle.wasm_readers.specs.Reader.{SameInput, position_in, rest}
 use Rattle.wasm_spec.specs.Values.{many_at}
 use Rattle.wasm_operators.specs.SeenLists.{behind}
 use Rattle.wasm_operators.proofs.lists.skip_many.Given as goal

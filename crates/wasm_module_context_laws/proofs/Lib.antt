@@ -1,0 +1,13 @@
+pub mod Entries
+pub mod Depths
+pub mod Numbers
+pub mod Renamed
+pub mod Standing
+pub mod Indices
+pub mod Constants
+pub mod SectionTypes
+pub mod References
+pub mod MatchingOverIds
+pub mod InRange
+pub mod Exactness
+pub mod Bodies

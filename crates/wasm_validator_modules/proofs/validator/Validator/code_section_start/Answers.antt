@@ -1,0 +1,26 @@
+use Rattle.std.proofs.Common.{sym, subst}
+use Rattle.wasm_rules.specs.FeatureFlags.{features_of}
+use Rattle.wasm_validator_type_list.specs.DefTypes.{types_of_list}
+use Rattle.wasm_validator_types.specs.Spaces.{Spaces}
+use Rattle.wasm_validator_canonical.specs.Groups.{AreValid}
+use Rattle.wasm_validator_core.specs.Ready.{IsOpenFor, AreIdsOf}
+use Rattle.wasm_validator_core_resources.specs.ById.{AreFirstByIds}
+use Rattle.wasm_validator_modules.proofs.Sections.{open-ids, open-valid, open-first}
+use Rattle.wasm_validator_modules.proofs.validator.Validator.code_section_start.Goals as goal
+
+pub started-requires : goal.started-requires
+started-requires g c = let ids = open-ids c.self.inside.types c.self.inside.state c.in-Ok.state.«module» c.in-Ok.ensures.ok c.self.invariant.ids in ids.known
+
+pub invariant_of-self : goal.invariant_of-self
+invariant_of-self g c =
+    let list = c.self.inside.types in
+    let features = c.self.inside.features in
+    let before = c.in-Ok.state.«module» in
+    let same = sym c.started.ensures.same in
+    let ids = open-ids list c.self.inside.state before c.in-Ok.ensures.ok c.self.invariant.ids in
+    record {
+      list = subst (IsOpenFor features) same c.self.invariant.list;
+      ids = subst (λ l. AreIdsOf l c.in-Ok-started.code.spaces.value.types) same (subst (λ (m : Spaces). AreIdsOf list m.types) (sym c.in-Ok-started.ensures.spaces) ids);
+      valid = subst (λ l. AreValid (features_of features) (types_of_list l)) same (open-valid features list c.self.inside.state before c.in-Ok.ensures.ok c.self.invariant.valid);
+      first = subst (λ l. AreFirstByIds l.groups c.self.inside.constants.types) same (open-first list c.self.inside.constants.types c.self.inside.state before c.in-Ok.ensures.ok c.self.invariant.first);
+    }

@@ -1,0 +1,13 @@
+pub mod Standing
+pub mod Codes
+pub mod Machine
+pub mod Shows
+pub mod Ready
+pub mod SectionsTold
+pub mod States
+pub mod Payloads
+pub mod Verdict
+pub mod Driven
+pub mod Sequences
+pub mod Table
+pub mod SectionLaws

@@ -1,0 +1,221 @@
+-- What a payload that is accepted gives.
+use Rattle.std.specs.Prelude.{ℕ, ◌≡◌, ◌≤◌, ◌⊎◌, ◌+◌, ◌++◌, true, List, [], ◌∷◌, map, Option, Some, None, ⊤}
+use Rattle.wasm_rules.specs.Contexts.{Context}
+use Rattle.wasm_readers_types.specs.declared.indices.UnpackedIndex.{UnpackedIndex}
+use Rattle.std.specs.Option.{option_and_then}
+use Rattle.std.specs.declared.result.Result.{Result}
+use Rattle.std.specs.declared.result.Result.TheVariants as results
+use Rattle.wasm_spec.specs.Framing as parts
+use Rattle.wasm_spec.specs.Framing.{Piece, IsFramed}
+use Rattle.wasm_parser.specs.Machine.{State, start, next_of, Given}
+use Rattle.wasm_parser.specs.Places.{IsFormat}
+use Rattle.wasm_readers_errors.specs.declared.error.Refusal.{Refusal}
+use Rattle.wasm_spec.specs.Features.{canonical}
+use Rattle.wasm_rules.specs.FeatureFlags.{features_of}
+use Rattle.wasm_validator_type_list.specs.Interned.{AreOnce}
+use Rattle.wasm_validator_type_list.specs.DefTypes.{types_of_list}
+use Rattle.wasm_validator_types.specs.Shown.{shown_of, HoldsIds}
+use Rattle.wasm_validator_types.specs.declared.shown.Types.{Types}
+use Rattle.wasm_validator_core.specs.declared.error.Error.{Error}
+use Rattle.wasm_validator_core.specs.declared.error.Error.TheVariants.{Refused, DuplicateExport, OutOfMemory}
+use Rattle.wasm_validator_modules.specs.declared.payload.ValidPayload.{ValidPayload}
+use Rattle.wasm_validator_modules.specs.declared.payload.ValidPayload.TheVariants.{Ok, Func, End}
+use Rattle.wasm_parser.specs.declared.function_body.FunctionBody.{FunctionBody}
+use Rattle.wasm_parser.specs.Seen.{body_of, body_reader}
+use Rattle.wasm_binary_reader.specs.Reader.{original, position_in}
+use Rattle.wasm_parser.specs.Places.{reader_end}
+use Rattle.wasm_readers_errors.specs.declared.error.Error as reading
+use Rattle.wasm_readers_errors.specs.declared.error.Error.TheVariants as reading_error
+use Rattle.std.specs.List.{All}
+use Rattle.wasm_readers_errors.specs.Refusals.{plain}
+use Rattle.wasm_validator_func.specs.declared.func_validator.FuncToValidate.{FuncToValidate}
+use Rattle.wasm_validator_func.specs.Functions.{IsFunctionBody}
+use Rattle.wasm_validator_canonical.specs.Groups.{AreValid}
+use Rattle.wasm_validator_core.specs.Answers.{IsNowhere}
+use Rattle.wasm_validator_modules.specs.Standing.{Stage, unparsed, in_module, in_code, ended, Standing, shown_at, failed, body_refused_at, HoldsValid}
+use Rattle.wasm_validator_modules.specs.States.{IsBeforeEnd, body_taken, BodyToValidate, body_at, handed, after_piece, left_by}
+use Rattle.wasm_validator_modules.specs.SectionsTold.{body_told}
+use Rattle.wasm_readers_errors.specs.declared.features.WasmFeatures.{WasmFeatures}
+
+-- The types show what the validator held, in a list where equal types are one if the features ask for it; then no
+-- group is in it twice, and no type has two ids. The types of the list are valid, and it has each id of the module.
+pub record Show {A : Type 0} (s : Standing) (t : Types A) : Type 0 where
+  pub held : shown_at s.stage ≡ Some (types_of_list (shown_of t).list, (shown_of t).spaces)
+  pub same_id : (shown_of t).id ≡ s.id
+  pub mode : (shown_of t).list.is_canonical ≡ canonical (features_of s.features)
+  pub once : (shown_of t).list.is_canonical ≡ true → AreOnce (shown_of t).list.groups
+  pub valid : AreValid (features_of s.features) (types_of_list (shown_of t).list)
+  pub ids : HoldsIds (shown_of t)
+
+-- the end gives the types of the module that was being read, and any other payload gives nothing
+abbrev pub ShowsModule : {A : Type 0} → Standing → Piece → ValidPayload A → Type 0
+ShowsModule s p Ok = IsBeforeEnd p
+ShowsModule s p (Func f b) = IsBeforeEnd p
+ShowsModule s p (End t) = (p ≡ parts.End) × Show s t
+
+-- the list has each id of the module that has ended
+abbrev pub HoldsIdsAtEnd : {A : Type 0} → ValidPayload A → Type 0
+HoldsIdsAtEnd Ok = ⊤
+HoldsIdsAtEnd (Func f b) = ⊤
+HoldsIdsAtEnd (End t) = HoldsIds (shown_of t)
+
+-- a function and its body, as they are handed out
+abbrev pub body_seen : FuncToValidate (Context UnpackedIndex) → FunctionBody → BodyToValidate
+body_seen f b = record { index = f.index; ty = f.ty; features = f.features; context = f.resources; bytes = body_of b }
+
+abbrev pub bodies_given : {A : Type 0} → ValidPayload A → List BodyToValidate
+bodies_given Ok = []
+bodies_given (Func f b) = body_seen f b ∷ []
+bodies_given (End t) = []
+
+-- A body is taken, and handed out with its function; or it is refused, and that is told of it, at its first byte. Memory is refused only where
+-- it was a body's turn.
+abbrev pub TakesBody : {A : Type 0} → Result (FuncToValidate (Context UnpackedIndex)) (Error A) → WasmFeatures → FunctionBody → Stage → Stage → Type 0
+TakesBody (results.Ok f) features b g h = (body_taken (body_of b) g ≡ Some h) × (body_at features (body_of b) g ≡ body_seen f b ∷ [])
+TakesBody (results.Err (Refused r)) features b g h =
+    (body_taken (body_of b) g ≡ None) × (h ≡ body_refused_at g) × (r ≡ plain (body_told g) (original (body_reader b) + position_in (body_reader b)))
+TakesBody (results.Err (DuplicateExport name offset)) features b g h = ⊥
+TakesBody (results.Err OutOfMemory) features b g h = (body_refused_at g ≡ failed) × (h ≡ failed)
+
+-- a payload gave a function
+abbrev pub IsFunction : {A : Type 0} → ValidPayload A → Type 0
+IsFunction Ok = ⊥
+IsFunction (Func f b) = ⊤
+IsFunction (End t) = ⊥
+
+-- functions with their bodies
+abbrev pub bodies_seen : List (FuncToValidate (Context UnpackedIndex) × FunctionBody) → List BodyToValidate
+bodies_seen bodies = map (λ (p : FuncToValidate (Context UnpackedIndex) × FunctionBody). body_seen p.0 p.1) bodies
+
+-- a body ends by this offset, and each of some does
+abbrev pub EndsBy : ℕ → FunctionBody → Type 0
+EndsBy end b = reader_end (body_reader b) ≤ end
+
+abbrev pub AllEndBy : ℕ → List (FuncToValidate (Context UnpackedIndex) × FunctionBody) → Type 0
+AllEndBy end bodies = All (λ (p : FuncToValidate (Context UnpackedIndex) × FunctionBody). EndsBy end p.1) bodies
+
+abbrev pub GivenEndBy : {A : Type 0} → ℕ → ValidPayload A → Type 0
+GivenEndBy end Ok = ⊤
+GivenEndBy end (Func f b) = EndsBy end b
+GivenEndBy end (End t) = ⊤
+
+-- a refusal stands before this offset, or there
+abbrev pub StandsBy : ℕ → reading.Error → Type 0
+StandsBy end (reading_error.Refused r) = r.offset ≤ end
+StandsBy end reading_error.OutOfMemory = ⊤
+
+-- The bytes are the body of the function that they are handed out for.
+abbrev pub IsBodyOfIts : BodyToValidate → Type 0
+IsBodyOfIts b = IsFunctionBody (features_of b.features) b.context b.ty b.bytes
+
+-- the types of the module that has ended last
+abbrev pub latest_of : {A : Type 0} → Option (Types A) → ValidPayload A → Option (Types A)
+latest_of before Ok = before
+latest_of before (Func f b) = before
+latest_of before (End t) = Some t
+
+-- one payload after another
+abbrev pub after_all : Standing → List Piece → Option Standing
+after_all s [] = Some s
+after_all s (p ∷ ps) = option_and_then (λ t. after_all t ps) (after_piece s p)
+
+-- what they hand out, one after another
+abbrev pub handed_behind : (Standing → List BodyToValidate) → Option Standing → List BodyToValidate
+handed_behind more None = []
+handed_behind more (Some t) = more t
+
+abbrev pub all_handed : Standing → List Piece → List BodyToValidate
+all_handed s [] = []
+all_handed s (p ∷ ps) = handed s p ++ handed_behind (λ t. all_handed t ps) (after_piece s p)
+
+-- The bytes are framed as these pieces, each is accepted after those before it, and the types show what
+-- the validator held before the end.
+pub record Accepts {A : Type 0} (bytes : List ℕ) (old new : Standing) (t : Types A) : Type 0 where
+  pub pieces : List Piece
+  pub framed : IsFramed bytes pieces
+  pub accepted : after_all old pieces ≡ Some new
+  pub front : List Piece
+  pub behind : List Piece
+  pub split : pieces ≡ front ++ parts.End ∷ behind
+  pub before_end : Standing
+  pub reached : after_all old front ≡ Some before_end
+  pub shown : Show before_end t
+
+-- the bytes have no framing whose pieces are all accepted, so that the types that are held then are valid
+abbrev pub Rejects : List ℕ → Standing → Type 0
+Rejects bytes old = (pieces : List Piece) → IsFramed bytes pieces → IsNowhere HoldsValid (after_all old pieces)
+
+-- The validator has taken some payloads, one after another, and these are the first that the bytes are made of.
+pub record HasTaken (bytes : List ℕ) (old reached : Standing) (behind : State) : Type 0 where
+  pub pieces : List Piece
+  pub given : Given (start bytes) pieces behind
+  pub run : after_all old pieces ≡ Some reached
+
+-- These are all.
+pub record HasTakenAll (bytes : List ℕ) (old reached : Standing) : Type 0 where
+  pub behind : State
+  pub taken : HasTaken bytes old reached behind
+  pub none : next_of behind ≡ Some None
+
+-- The bytes have this payload next, and the validator refused it and stands where that leaves it.
+pub record HasRefused (behind : State) (reached new : Standing) : Type 0 where
+  pub next : Piece
+  pub rest : State
+  pub comes : next_of behind ≡ Some (Some (next, rest))
+  pub nowhere : IsNowhere HoldsValid (after_piece reached next)
+  pub left : new ≡ record reached { stage = left_by reached next }
+
+-- this is told, for the format
+abbrev pub IsToldOfFormat : Option Refusal → Type 0
+IsToldOfFormat None = ⊥
+IsToldOfFormat (Some r) = IsFormat r
+
+-- After the first payloads either the parser refuses what follows, which is what is told, and the validator stands where
+-- these have brought it; or the next payload was refused; or they are all, and a body was refused.
+pub record IsLeft (told : Option Refusal) (bytes : List ℕ) (old new : Standing) : Type 0 where
+  pub behind : State
+  pub reached : Standing
+  pub taken : HasTaken bytes old reached behind
+  pub left : ((next_of behind ≡ None) × IsToldOfFormat told × (new ≡ reached)) ⊎ (HasRefused behind reached new ⊎ ((next_of behind ≡ Some None) × (new ≡ reached)))
+
+-- Memory was refused to the next payload. That is so only where a refusal fails the validator.
+pub record HasNoMemory (behind : State) (reached new : Standing) : Type 0 where
+  pub next : Piece
+  pub rest : State
+  pub comes : next_of behind ≡ Some (Some (next, rest))
+  pub fails : left_by reached next ≡ failed
+  pub left : new ≡ record reached { stage = failed }
+
+-- its code section has started, or it has ended
+abbrev pub IsBehindCode : Stage → Type 0
+IsBehindCode (unparsed types) = ⊥
+IsBehindCode (in_module types spaces more) = ⊥
+IsBehindCode (in_code types spaces more) = ⊤
+IsBehindCode (ended types) = ⊤
+IsBehindCode failed = ⊥
+
+-- After the first payloads memory was refused: to the next one; or for bodies, and the validator stands where these payloads have brought it.
+pub record IsOutOfMemory (bytes : List ℕ) (old new : Standing) : Type 0 where
+  pub behind : State
+  pub reached : Standing
+  pub taken : HasTaken bytes old reached behind
+  pub left : HasNoMemory behind reached new ⊎ (IsBehindCode reached.stage × (new ≡ reached))
+
+-- the parser's refusal, as an error
+abbrev pub TellsFormat : {A : Type 0} → Error A → Type 0
+TellsFormat (Refused r) = IsFormat r
+TellsFormat (DuplicateExport name offset) = ⊥
+TellsFormat OutOfMemory = ⊥
+
+-- The payloads of whole bytes are accepted, with these types, and hand out these bodies.
+pub record Runs {A : Type 0} (bytes : List ℕ) (old new : Standing) (t : Types A) (bodies : List BodyToValidate) : Type 0 where
+  pub accepts : Accepts bytes old new t
+  pub hands_out : all_handed old accepts.pieces ≡ bodies
+  pub ended : HasTakenAll bytes old new
+
+-- what the answer on the payloads of whole bytes says, where `bodies` are those that they hand out
+abbrev pub Validates : {A B : Type 0} → (B → List BodyToValidate) → Result (Types A × B) (Error A) → List ℕ → Standing → Standing → Type 0
+Validates bodies (results.Ok x) bytes old new = Runs bytes old new x.0 (bodies x.1)
+Validates bodies (results.Err (Refused r)) bytes old new = Rejects bytes old × IsLeft (Some r) bytes old new
+Validates bodies (results.Err (DuplicateExport name offset)) bytes old new = Rejects bytes old × IsLeft None bytes old new
+Validates bodies (results.Err OutOfMemory) bytes old new = IsOutOfMemory bytes old new

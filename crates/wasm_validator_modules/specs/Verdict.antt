@@ -1,0 +1,93 @@
+-- What the answer on whole bytes says of the module that they are. Core Specification 3.0, Validation, Modules.
+use Rattle.std.specs.Prelude.{ℕ, ◌≡◌, ◌≤◌, ◌+◌, ◌++◌, false, List, length, Some, None, ⊤}
+use Rattle.std.specs.declared.result.Result.{Result}
+use Rattle.std.specs.declared.result.Result.TheVariants as results
+use Rattle.wasm_readers_types.specs.declared.indices.TheConstants.{MAX_IDS}
+use Rattle.wasm_readers_errors.specs.declared.features.WasmFeatures.{WasmFeatures}
+use Rattle.wasm_spec.specs.Features.{canonical}
+use Rattle.wasm_rules.specs.FeatureFlags.{features_of}
+use Rattle.wasm_rules.specs.IndexSpaces.{index_spaces}
+use Rattle.wasm_module_validity.specs.Modules.{IsValidModule, IsValidUpToBodies}
+use Rattle.wasm_grouped_list.specs.Elements.{numbers_from}
+use Rattle.wasm_validator_type_list.specs.DefTypes.{types_of_list}
+use Rattle.wasm_distinct_type_laws.specs.Apart.{AreApart}
+use Rattle.wasm_validator_types.specs.Shown.{shown_of}
+use Rattle.wasm_validator_types.specs.declared.shown.Types as shown
+use Rattle.wasm_validator_core.specs.declared.error.Error.{Error}
+use Rattle.wasm_validator_core.specs.declared.error.Error.TheVariants.{Refused, DuplicateExport, OutOfMemory}
+use Rattle.wasm_validator_modules.specs.Shows.{ShowModule}
+use Rattle.wasm_validator_core.specs.Answers.{TypesSoFar}
+use Rattle.wasm_validator_modules.specs.Standing.{Standing, unparsed, ended, fresh, HoldsAt}
+use Rattle.wasm_validator_modules.specs.Payloads.{IsLeft, IsOutOfMemory}
+
+-- the types that a validator holds are told apart, as its features ask
+abbrev pub StandsApart : Standing → Type 0
+StandsApart s = HoldsAt (AreApart (canonical (features_of s.features))) s.stage
+
+-- The bytes are a valid module. The types show its index spaces, in a list that begins with the types that the
+-- validator had, and this list is what it has from now on.
+pub record AcceptsModule {A : Type 0} (bytes : List ℕ) (old new : Standing) (t : shown.Types A) : Type 0 where
+  pub module_valid : IsValidModule (features_of old.features) bytes
+  pub shows :
+      ShowModule (features_of old.features) (types_of_list (shown_of t).list) (shown_of t).spaces
+      (index_spaces module_valid.well_formed.types.types module_valid.well_formed.parts) module_valid.well_formed.parts
+  pub same_id : (shown_of t).id ≡ old.id
+  pub before : TypesSoFar
+  pub began : old.stage ≡ unparsed before
+  pub more : TypesSoFar
+  pub kept : types_of_list (shown_of t).list ≡ before ++ more
+  -- where equal types aren't one, each type of the module has the next id behind those before it
+  pub own_ids : canonical (features_of old.features) ≡ false → (shown_of t).spaces.types ≡ numbers_from (length before) (length module_valid.well_formed.types.types)
+  pub own_types : canonical (features_of old.features) ≡ false → length (types_of_list (shown_of t).list) ≡ length before + length module_valid.well_formed.types.types
+  pub after : new ≡ record old { stage = ended (types_of_list (shown_of t).list) }
+
+-- Where no header had been read, the bytes are no valid module, unless the list would pass its limit with the module's types.
+abbrev pub RefusesModule : List ℕ → Standing → Type 0
+RefusesModule bytes old =
+    (before : TypesSoFar) → old.stage ≡ unparsed before
+    → (m : IsValidModule (features_of old.features) bytes) → length before + length m.well_formed.types.types ≤ MAX_IDS → ⊥
+
+-- what the answer on whole bytes says: of acceptance with no premise, of a refusal unless memory was refused
+abbrev pub DecidesModule : {A : Type 0} → Result (shown.Types A) (Error A) → List ℕ → Standing → Standing → Type 0
+DecidesModule (results.Ok t) bytes old new = AcceptsModule bytes old new t
+DecidesModule (results.Err (Refused r)) bytes old new = RefusesModule bytes old × IsLeft (Some r) bytes old new
+DecidesModule (results.Err (DuplicateExport name offset)) bytes old new = RefusesModule bytes old × IsLeft None bytes old new
+DecidesModule (results.Err OutOfMemory) bytes old new = IsOutOfMemory bytes old new
+
+-- The same of a module up to its bodies.
+abbrev pub RefusesUpToBodies : List ℕ → Standing → Type 0
+RefusesUpToBodies bytes old =
+    (before : TypesSoFar) → old.stage ≡ unparsed before
+    → (m : IsValidUpToBodies (features_of old.features) bytes) → length before + length m.well_formed.types.types ≤ MAX_IDS → ⊥
+
+-- All payloads were accepted: the bytes are a valid module up to its bodies, and the validator stands at its end, with no more types
+-- than the module's behind those that it had.
+pub record EndsModule (bytes : List ℕ) (old new : Standing) : Type 0 where
+  pub module_valid : IsValidUpToBodies (features_of old.features) bytes
+  pub before : TypesSoFar
+  pub began : old.stage ≡ unparsed before
+  pub more : TypesSoFar
+  pub at_most : length more ≤ length module_valid.well_formed.types.types
+  pub after : new ≡ record old { stage = ended (before ++ more) }
+
+-- A payload, or what follows some, was refused: the bytes are no valid module up to its bodies, unless memory was refused.
+abbrev pub StopsModule : {A : Type 0} → Result (shown.Types A) (Error A) → List ℕ → Standing → Type 0
+StopsModule (results.Ok t) bytes old = ⊥
+StopsModule (results.Err (Refused r)) bytes old = RefusesUpToBodies bytes old
+StopsModule (results.Err (DuplicateExport name offset)) bytes old = RefusesUpToBodies bytes old
+StopsModule (results.Err OutOfMemory) bytes old = ⊤
+
+-- the bytes are a valid module
+abbrev pub AreModule : WasmFeatures → List ℕ → Type 0
+AreModule features bytes = IsValidModule (features_of features) bytes
+
+-- they are none
+abbrev pub AreNoModule : WasmFeatures → List ℕ → Type 0
+AreNoModule features bytes = AreModule features bytes → ⊥
+
+-- The same of a validator that is made for these bytes: no module has as many types as its list may hold.
+abbrev pub DecidesAlone : {A : Type 0} → Result (shown.Types A) (Error A) → List ℕ → ℕ → WasmFeatures → Type 0
+DecidesAlone (results.Ok t) bytes id features = (new : Standing) × AcceptsModule bytes (fresh id features) new t
+DecidesAlone (results.Err (Refused r)) bytes id features = AreNoModule features bytes × ((new : Standing) × IsLeft (Some r) bytes (fresh id features) new)
+DecidesAlone (results.Err (DuplicateExport name offset)) bytes id features = AreNoModule features bytes × ((new : Standing) × IsLeft None bytes (fresh id features) new)
+DecidesAlone (results.Err OutOfMemory) bytes id features = ⊤

@@ -1,0 +1,67 @@
+//! What the typing of constant expressions uses from one section to the next.
+
+ghost use Rattle.std.specs.Prelude.{◌≡◌, [], IfErr, OnOk};
+ghost use Rattle.wasm_spec.specs.TypeLaws.{HasNoRepetition};
+ghost use Rattle.wasm_validator_type_list.specs.DefTypes.{types_of_list};
+ghost use Rattle.wasm_validator_type_list.specs.Listable.{AreListable};
+ghost use Rattle.wasm_validator_core_resources.specs.ById.{AreFirstByIds};
+ghost use Rattle.wasm_validator_core_resources.specs.ModuleContexts.{AreByIds};
+
+use std::alloc::{Allocator, Global};
+use std::mem;
+use wasm_validator_core::Error;
+use wasm_validator_core_resources::TypesByIds;
+use wasm_validator_items::OperatorValidatorAllocations;
+use wasm_validator_types::TypeList;
+
+/// The types of a list with ids in the place of positions in their groups, which follow the list as
+/// it grows, and the memory that constant expressions are typed in.
+#[derive(Drop)]
+pub struct Constants<A: Allocator = Global> {
+    pub types: TypesByIds<A>,
+    allocations: OperatorValidatorAllocations<A>,
+    alloc: A,
+}
+
+impl<A: Allocator + Copy> Constants<A> {
+    /// Those of no type. They take no memory yet.
+    pub fn new(alloc: A) -> Constants<A>
+        ensures { result.types ≡ [] }
+    {
+        Constants {
+            types: TypesByIds::new(alloc),
+            allocations: OperatorValidatorAllocations::new(alloc),
+            alloc,
+        }
+    }
+
+    /// Makes the types those of the list, and hands the memory out.
+    pub fn taken(&mut self, list: &TypeList<A>) -> Result<OperatorValidatorAllocations<A>, Error<A>>
+        requires { AreFirstByIds list.now.groups self.old.types }
+        ensures all { OnOk result (AreByIds list.now.groups self.new.types) }
+        ensures first { AreFirstByIds list.now.groups self.new.types }
+        ensures memory { IfErr result (λ e. e ≡ Error.OutOfMemory) }
+    {
+        self.types.update(list)?;
+        Ok(mem::replace(
+            &mut self.allocations,
+            OperatorValidatorAllocations::new(self.alloc),
+        ))
+    }
+
+    /// Puts the memory back.
+    pub fn keep(&mut self, allocations: OperatorValidatorAllocations<A>)
+        ensures { self.new.types ≡ self.old.types }
+    {
+        self.allocations = allocations;
+    }
+}
+
+/// Asks the list for what it promises: its groups may stand one behind another, and no two ids
+/// stand for one type. So its ids declare what its types do.
+pub fn tells_types_apart<A: Allocator + Copy>(list: &TypeList<A>)
+    ensures listable { AreListable list.now.groups }
+    ensures apart { HasNoRepetition (types_of_list list.now) }
+{
+    let _count = list.len();
+}

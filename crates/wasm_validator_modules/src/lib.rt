@@ -1,0 +1,94 @@
+//! Validation of WebAssembly modules: states, one method for each payload, and whole modules.
+#![tactic(auto)]
+
+ghost use Rattle.wasm_validator_modules.specs.Driven.{PayloadsDecide};
+ghost use Rattle.wasm_validator_modules.specs.Sequences.{OneIdForOneType, OwnIdForEachType, RefusedKeepTypes};
+ghost use Rattle.wasm_validator_modules.specs.SectionLaws.{TypesAdd, ImportsAdd, FunctionsAdd, TablesAdd, MemoriesAdd, TagsAdd, GlobalsAdd, ExportsAdd, ElementsAdd, SegmentsAdd};
+ghost use Rattle.wasm_validator_modules.specs.Table.{AcceptedByTable, RefusedByTable};
+
+mod constants;
+mod module_sections;
+pub mod payload;
+pub mod validator;
+
+pub use bitflags::Flags;
+pub use payload::{ValidPayload, validate};
+pub use validator::Validator;
+pub use wasm_group_checks::{check_composite_type, check_descriptors, check_subtype};
+pub use wasm_parser::{CustomSectionReader, Encoding, FunctionBody, ParseAll, Parser, Payload};
+pub use wasm_readers::{
+    AbstractHeapType, ArrayType, BinaryReader, CompositeInnerType, CompositeType, ConstExpr,
+    ContType, CoreTypeId, Counted, Data, DataKind, DescriptorRule, Element, ElementItems,
+    ElementKind, Export, ExternalKind, Fault, FieldType, FromReader, FuncType, Global, GlobalType,
+    GroupRule, HeapType, Import, ItemKind, ItemRule, Items, MAX_IDS, Malformed, MemoryType,
+    OutOfOrder, PackedIndex, RecGroup, RefType, Refusal, Rule, SectionItems, SectionLimited,
+    StorageType, StructType, SubType, Table, TableInit, TableType, TagKind, TagType, TypeRef,
+    UnpackedIndex, ValType, ValueTypeRule, WasmFeatures,
+};
+pub use wasm_validator_canonical::{
+    InternRecGroup, TypeCanonicalizer, canonicalize_and_intern_rec_group, intern_rec_group_of,
+};
+pub use wasm_validator_core::{Error, Module};
+pub use wasm_validator_func::{FuncToValidate, FuncValidator, FuncValidatorAllocations};
+pub use wasm_validator_matches::{Matches, WithRecGroup, func_signature_matches};
+pub use wasm_validator_module_state::{CodeState, MAX_FUNCTION_SIZE, MaybeOwned, ModuleState};
+pub use wasm_validator_resources::ValidatorResources;
+pub use wasm_validator_type_list::LinkCount;
+pub use wasm_validator_types::{
+    CoreExports, CoreImports, EntityType, RecGroupElements, RecGroupId, SnapshotList, TypeAlloc,
+    TypeData, TypeIdentifier, TypeInfo, TypeList, Types, TypesRef, ValidatorId,
+};
+
+/// A payload that is accepted leads a validator where the state table says, and one that is
+/// refused, for its content or for want of memory, leaves it where the table says.
+#[tactic(auto, using(crate::proofs::TableKept::table_laws))]
+pub fn state_table()
+    ensures accepted { AcceptedByTable }
+    ensures refused { RefusedByTable }
+{}
+
+/// Who gives payloads and validates the bodies that they hand out decides the same: where each
+/// payload is accepted up to the end, and each body is valid, the bytes are a valid module, and a
+/// valid module's payloads and bodies are accepted (Core Specification 3.0, Validation, Modules).
+pub fn payloads_decide()
+    ensures { PayloadsDecide }
+{}
+
+/// Where equal types are one, two types of any modules that one validator has accepted, one after
+/// another with `reset` between two of them, have the same id exactly where they are equal: the
+/// same place of equal recursive types (Core Specification 3.0, Validation, Types, Recursive
+/// Types). Others may stand between them that were refused so that the validator could be reset.
+pub fn one_id_for_one_type<A>()
+    ensures { OneIdForOneType A }
+{}
+
+/// Where equal types aren't one, each type of each of these modules has an id of its own.
+pub fn own_id_for_each_type<A>()
+    ensures { OwnIdForEachType A }
+{}
+
+/// A module that is refused so that the validator may be reset leaves a list that begins with the
+/// types before it: so the modules of `one_id_for_one_type` may be any that `validate_all` was
+/// handed, as long as `reset` is allowed.
+pub fn refused_modules_keep_types()
+    ensures { RefusedKeepTypes }
+{}
+
+/// Behind any lists that a module has so far a section is accepted exactly where its bytes are
+/// items that keep their rules on these lists and the limit, and then the list has these items
+/// behind (Core Specification 3.0, Validation, Modules). Of types each recursion group is valid on
+/// the types before it; of exports each names something that is there, no name comes twice, and the
+/// effective size stays below its limit. Constant expressions are typed in the module as far as it
+/// has been read.
+pub fn sections_add_their_items()
+    ensures types { TypesAdd }
+    ensures imports { ImportsAdd }
+    ensures functions { FunctionsAdd }
+    ensures tables { TablesAdd }
+    ensures memories { MemoriesAdd }
+    ensures tags { TagsAdd }
+    ensures globals { GlobalsAdd }
+    ensures exports { ExportsAdd }
+    ensures elements { ElementsAdd }
+    ensures segments { SegmentsAdd }
+{}

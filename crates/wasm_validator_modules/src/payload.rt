@@ -1,0 +1,306 @@
+ghost use Rattle.wasm_readers_errors.specs.declared.features.TheConstants.WasmFeatures.{STANDARD};
+ghost use Rattle.std.specs.Prelude.{ℕ, true, false, ◌≡◌, ◌≤◌, ◌++◌, [], IfOk, IfErr, OnOk, OnErr, IfSome, Some, None, length};
+ghost use Rattle.std.specs.List.{All};
+ghost use Rattle.std.specs.Option.{option_map};
+ghost use Rattle.wasm_parser.specs.Machine.{next_of};
+ghost use Rattle.wasm_parser.specs.Places.{starts_at, ends_at, input_end, refused_with, ReadsInput};
+ghost use Rattle.wasm_parser.specs.Seen.{seen, state};
+ghost use Rattle.wasm_validator_modules.specs.SectionsTold.{StandsBetween};
+ghost use Rattle.wasm_validator_types.specs.Shown.{shown_of, HoldsIds};
+ghost use Rattle.wasm_validator_modules.specs.Standing.{Leaves};
+ghost use Rattle.wasm_validator_func.specs.Functions.{Decides};
+ghost use Rattle.wasm_validator_modules.specs.States.{after_piece, handed, left_by, IsSection};
+ghost use Rattle.wasm_validator_modules.specs.Payloads.{ShowsModule, HoldsIdsAtEnd, IsFunction, latest_of, bodies_given, bodies_seen, AllEndBy, GivenEndBy, StandsBy, IsBodyOfIts, TellsFormat, Validates};
+ghost use Rattle.wasm_validator_modules.specs.Verdict.{DecidesModule, DecidesAlone, EndsModule, StopsModule};
+
+use crate::validator::Validator;
+use std::alloc::{AllocError, Allocator, Global};
+use wasm_parser::{FunctionBody, ParseAll, Parser, Payload};
+use wasm_validator_core::Error;
+use wasm_validator_func::{FuncToValidate, FuncValidatorAllocations};
+use wasm_validator_resources::ValidatorResources;
+use wasm_validator_types::{Types, ValidatorId};
+
+/// Functions whose bodies are to be validated.
+pub(crate) type Bodies<'a, A> = Vec<(FuncToValidate<ValidatorResources<A>>, FunctionBody<'a>), A>;
+
+/// What a payload that is accepted gives.
+#[derive(Drop)]
+pub enum ValidPayload<'a, A: Allocator = Global> {
+    /// Nothing more is to be done for it.
+    Ok,
+    /// A function, whose body is to be validated.
+    Func(FuncToValidate<ValidatorResources<A>>, FunctionBody<'a>),
+    /// The module has ended, and these are its types.
+    End(Types<A>),
+}
+
+impl<A: Allocator + Copy> Validator<A> {
+    /// Checks one payload of a module, as the parser gives it (Core Specification 3.0, Validation,
+    /// Modules). A function's body is handed out to be validated, by
+    /// [`FuncToValidate::validate`]; and the end gives the types.
+    ///
+    /// # Errors
+    ///
+    /// Refused as by the method of its section, at an offset from the payload's first byte to the
+    /// one behind it, and where memory is.
+    pub fn payload<'a>(&mut self, payload: &Payload<'a, A>) -> Result<ValidPayload<'a, A>, Error<A>>
+        ensures moves { Leaves result (after_piece self.old (seen payload.now))
+            (left_by self.old (seen payload.now)) self.old self.new }
+        ensures shown { IfOk result (ShowsModule self.old (seen payload.now)) }
+        ensures given { IfOk result (λ v. handed self.old (seen payload.now)
+            ≡ bodies_given v) }
+        ensures within { IfOk result (GivenEndBy (ends_at payload.now)) }
+        ensures held { IfOk result HoldsIdsAtEnd }
+        ensures place { starts_at payload.now ≤ ends_at payload.now
+            → IfErr result (StandsBetween (starts_at payload.now) (ends_at payload.now)) }
+    {
+        match payload {
+            Payload::End(offset) => match self.end(*offset) {
+                Ok(types) => Ok(ValidPayload::End(types)),
+                Err(error) => Err(error),
+            },
+            Payload::CodeSectionEntry(body) => match self.code_section_entry(body) {
+                Ok(function) => Ok(ValidPayload::Func(function, *body)),
+                Err(error) => Err(error),
+            },
+            other => match self.section(other) {
+                Ok(()) => Ok(ValidPayload::Ok),
+                Err(error) => Err(error),
+            },
+        }
+    }
+
+    /// Checks a payload that is neither a body nor the end.
+    fn section<'a>(&mut self, payload: &Payload<'a, A>) -> Result<(), Error<A>>
+        requires { IsSection (seen payload.now) }
+        ensures moves { Leaves result (after_piece self.old (seen payload.now))
+            (left_by self.old (seen payload.now)) self.old self.new }
+        ensures place { starts_at payload.now ≤ ends_at payload.now
+            → IfErr result (StandsBetween (starts_at payload.now) (ends_at payload.now)) }
+    {
+        match payload {
+            Payload::Version {
+                num,
+                encoding,
+                range,
+            } => self.version(*num, *encoding, range),
+            Payload::TypeSection(section) => self.type_section(section),
+            Payload::ImportSection(section) => self.import_section(section),
+            Payload::FunctionSection(section) => self.function_section(section),
+            Payload::TableSection(section) => self.table_section(section),
+            Payload::MemorySection(section) => self.memory_section(section),
+            Payload::TagSection(section) => self.tag_section(section),
+            Payload::GlobalSection(section) => self.global_section(section),
+            Payload::ExportSection(section) => self.export_section(section),
+            Payload::StartSection { func, range } => self.start_section(*func, range),
+            Payload::ElementSection(section) => self.element_section(section),
+            Payload::DataCountSection { count, range } => self.data_count_section(*count, range),
+            Payload::CodeSectionStart {
+                count: _,
+                range,
+                size: _,
+            } => self.code_section_start(range),
+            Payload::CodeSectionEntry(_) => unreachable!(),
+            Payload::DataSection(section) => self.data_section(section),
+            Payload::CustomSection(_) => Ok(()),
+            Payload::UnknownSection {
+                id,
+                contents: _,
+                range,
+            } => self.unknown_section(*id, range),
+            Payload::End(_) => unreachable!(),
+        }
+    }
+
+    /// Checks the module that these bytes are, and gives its types, which show its index spaces. It
+    /// is accepted exactly where it is valid (Core Specification 3.0, Validation, Modules), as far
+    /// as the list of types has room for its own.
+    ///
+    /// The validator has to be fresh or reset: elsewhere the header is refused.
+    ///
+    /// # Errors
+    ///
+    /// Refused where the parser refuses the bytes, as it does; as by [`Validator::payload`] where
+    /// that refuses a payload; behind the end, where a function's body isn't valid, and then the
+    /// validator may be reset; and where memory is. The offset is that of a byte of the input, or
+    /// behind its last.
+    pub fn validate_all(&mut self, bytes: &[u8]) -> Result<Types<A>, Error<A>>
+        ensures decided { DecidesModule result bytes.now self.old self.new }
+        ensures place { IfErr result (StandsBetween 0 (length bytes.now)) }
+        ensures held { IfOk result (λ t. HoldsIds (shown_of t)) }
+    {
+        answer_all(self, bytes).answer
+    }
+
+    /// Goes over the payloads of these bytes, up to the first that is refused, and collects the
+    /// bodies.
+    fn run<'a>(&mut self, bytes: &'a [u8]) -> Result<(Types<A>, Bodies<'a, A>), Error<A>>
+        ensures validates { Validates (λ b. bodies_seen b.items) result bytes.now self.old self.new }
+        ensures within { IfOk result (λ x. AllEndBy (length bytes.now) x.1.items) }
+        ensures place { IfErr result (StandsBetween 0 (length bytes.now)) }
+    {
+        let alloc = self.allocator();
+        let mut payloads = Parser::new(alloc, 0).parse_all(bytes);
+        let mut gathered = Gathered::new(alloc);
+        'payloads: loop {
+            match next_of_input(&mut payloads) {
+                Ok(Some(payload)) => match self.payload(&payload) {
+                    Ok(valid) => gathered.take(valid)?,
+                    Err(error) => return Err(error),
+                },
+                Ok(None) => break,
+                Err(refused) => return Err(refused),
+            }
+        }
+        let Gathered { ended, bodies } = gathered;
+        match ended {
+            Some(types) => Ok((types, bodies)),
+            None => unreachable!(),
+        }
+    }
+}
+
+/// What became of whole bytes.
+#[derive(Drop)]
+pub struct Answered<A: Allocator = Global> {
+    /// The types of the module, or why it was refused.
+    pub answer: Result<Types<A>, Error<A>>,
+    /// Whether all payloads were accepted, so that the validator stands at the module's end: if it was
+    /// refused, then for a body.
+    pub has_ended: bool,
+}
+
+/// Checks the module that these bytes are as [`Validator::validate_all`] does, and says besides
+/// whether it came to its end.
+pub fn answer_all<A: Allocator + Copy>(validator: &mut Validator<A>, bytes: &[u8]) -> Answered<A>
+    ensures decided { DecidesModule result.answer bytes.now validator.old validator.new }
+    ensures ended { result.has_ended ≡ true → EndsModule bytes.now validator.old validator.new }
+    ensures stopped { result.has_ended ≡ false
+        → StopsModule result.answer bytes.now validator.old }
+    ensures place { IfErr result.answer (StandsBetween 0 (length bytes.now)) }
+    ensures held { IfOk result.answer (λ t. HoldsIds (shown_of t)) }
+{
+    // Asked for what they promise: the types that are held are valid, and told apart.
+    let _has_failed = validator.has_failed();
+    validator.types_stand_apart();
+    let (types, bodies) = match validator.run(bytes) {
+        Ok(ended) => ended,
+        Err(error) => {
+            return Answered {
+                answer: Err(error),
+                has_ended: false,
+            };
+        }
+    };
+    match validate_bodies(validator.allocator(), bodies) {
+        Ok(()) => Answered {
+            answer: Ok(types),
+            has_ended: true,
+        },
+        Err(error) => Answered {
+            answer: Err(Error::from(error)),
+            has_ended: true,
+        },
+    }
+}
+
+/// What payloads gave so far.
+#[derive(Drop)]
+struct Gathered<'a, A: Allocator> {
+    ended: Option<Types<A>>,
+    bodies: Bodies<'a, A>,
+}
+
+impl<'a, A: Allocator + Copy> Gathered<'a, A> {
+    /// Nothing.
+    fn new(alloc: A) -> Gathered<'a, A>
+        ensures ended { result.ended ≡ None }
+        ensures bodies { bodies_seen result.bodies.items ≡ [] }
+    {
+        Gathered {
+            ended: None,
+            bodies: Vec::new(alloc),
+        }
+    }
+
+    /// Keeps the types of the module that has ended last, and each body.
+    fn take(&mut self, valid: ValidPayload<'a, A>) -> Result<(), AllocError>
+        ensures ended { OnOk result (self.new.ended ≡ latest_of self.old.ended valid.entry) }
+        ensures bodies { OnOk result (bodies_seen self.new.bodies.items
+            ≡ bodies_seen self.old.bodies.items ++ bodies_given valid.entry) }
+        ensures within { (end : ℕ) → AllEndBy end self.old.bodies.items → GivenEndBy end valid.entry
+            → OnOk result (AllEndBy end self.new.bodies.items) }
+        ensures memory { OnErr result (IsFunction valid.entry) }
+    {
+        match valid {
+            ValidPayload::Ok => Ok(()),
+            ValidPayload::Func(function, body) => Ok(self.bodies.push((function, body))?),
+            ValidPayload::End(types) => {
+                self.ended = Some(types);
+                Ok(())
+            }
+        }
+    }
+}
+
+/// Validates bodies one after another, in the same memory.
+fn validate_bodies<'a, A: Allocator + Copy>(
+    alloc: A,
+    bodies: Bodies<'a, A>,
+) -> Result<(), wasm_readers::Error>
+    ensures decided { Decides (All IsBodyOfIts (bodies_seen bodies.entry.items)) result }
+    ensures place { (end : ℕ) → AllEndBy end bodies.entry.items → IfErr result (StandsBy end) }
+{
+    let mut allocations = FuncValidatorAllocations::new(alloc);
+    'bodies: for (function, body) in bodies {
+        match function.validate(&body, allocations) {
+            Ok(more) => allocations = more,
+            Err(error) => return Err(error),
+        }
+    }
+    Ok(())
+}
+
+/// The next payload of the input. What the parser refuses is handed on as it is.
+fn next_of_input<'a, A: Allocator + Copy>(
+    payloads: &mut ParseAll<'a, A>,
+) -> Result<Option<Payload<'a, A>>, Error<A>>
+    ensures ok { IfOk result (λ p. next_of (state payloads.old)
+        ≡ Some (option_map (λ q. (seen q, state payloads.new)) p)) }
+    ensures err { OnErr result (next_of (state payloads.old) ≡ None) }
+    ensures handed { IfErr result (λ e. option_map Error.Refused
+        (refused_with payloads.new) ≡ Some e) }
+    ensures format { refused_with payloads.old ≡ None → IfErr result TellsFormat }
+    ensures place { ReadsInput payloads.old → IfErr result
+        (StandsBetween 0 (input_end payloads.old)) }
+    ensures within { ReadsInput payloads.old → IfOk result
+        (λ p. IfSome p (λ q. ends_at q ≤ input_end payloads.old)) }
+    ensures order { IfOk result (λ p. IfSome p (λ q. starts_at q ≤ ends_at q)) }
+    ensures reads { ReadsInput payloads.old → ReadsInput payloads.new }
+    ensures whole { input_end payloads.new ≡ input_end payloads.old }
+{
+    match payloads.next_payload() {
+        Ok(payload) => Ok(payload),
+        Err(refusal) => Err(Error::Refused(refusal)),
+    }
+}
+
+/// Checks with the default features the module that these bytes are, and gives its types, which
+/// show its index spaces. It is accepted exactly where it is valid (Core Specification 3.0,
+/// Validation, Modules). The id is that of the validator that does it.
+///
+/// # Errors
+///
+/// Refused as by [`Validator::validate_all`].
+pub fn validate<A: Allocator + Copy>(
+    alloc: A,
+    bytes: &[u8],
+    id: ValidatorId,
+) -> Result<Types<A>, Error<A>>
+    ensures decided { DecidesAlone result bytes.now id STANDARD }
+    ensures place { IfErr result (StandsBetween 0 (length bytes.now)) }
+    ensures held { IfOk result (λ t. HoldsIds (shown_of t)) }
+{
+    Validator::new(alloc, id).validate_all(bytes)
+}

@@ -1,0 +1,1003 @@
+ghost use Rattle.wasm_readers_errors.specs.declared.features.TheConstants.WasmFeatures.{STANDARD};
+ghost use Rattle.std.specs.Prelude.{◌≡◌, List, ◌∷◌, ◌-◌, ◌==◌, not, nat_le, length, false, [], IfOk, IfErr, IfSome, IfNone, IsSome, IsErr, OnOk, OnErr, Some, None, true, is_ok, ◌↔◌, ◌+◌};
+ghost use Rattle.wasm_validator_core.specs.Errors.{IsContent, offset_of};
+ghost use Rattle.wasm_binary_reader.specs.Reader.{original, position_in};
+ghost use Rattle.wasm_readers_errors.specs.Refusals.{plain};
+ghost use Rattle.wasm_readers.specs.SectionsSeen.{count_of, bytes_of, section_start, section_end};
+ghost use Rattle.wasm_parser.specs.Seen.{body_of, body_reader};
+ghost use Rattle.wasm_validator_core.specs.Answers.{TypesSoFar};
+ghost use Rattle.wasm_validator_core.specs.Ready.{AreHeld};
+ghost use Rattle.wasm_validator_module_state.specs.Bodies.{expected_bodies};
+ghost use Rattle.wasm_validator_module_state.specs.declared.code_state.TheConstants.{MAX_FUNCTION_SIZE};
+ghost use Rattle.wasm_validator_type_list.specs.Interned.{AreOnce};
+ghost use Rattle.wasm_validator_type_list.specs.Listing.{Listing, committed};
+ghost use Rattle.wasm_readers_types.specs.declared.types.SubType.{SubType};
+ghost use Rattle.wasm_validator_modules.specs.Ready.{AreIdsIn, AreValidIn, AreFirstIn};
+ghost use Rattle.wasm_validator_type_list.specs.DefTypes.{types_of_list};
+ghost use Rattle.wasm_validator_types.specs.Shown.{shown_of, shown_by, HoldsIds};
+ghost use Rattle.wasm_validator_modules.specs.Payloads.{Show, body_seen, TakesBody};
+ghost use Rattle.wasm_validator_modules.specs.Standing.{starting, taking, HoldsValid, Leaves, Moves, read_refused_at, body_refused_at, ended_at, fresh, is_failed, may_reset, after_reset, shown_at};
+ghost use Rattle.wasm_validator_modules.specs.Verdict.{StandsApart};
+ghost use Rattle.wasm_validator_modules.specs.SectionsTold.{OfContent, StandsBetween, TellsWithin, TellsReading, TellsOrder, TellsTypes, TellsImports, TellsExports, TellsFunctions, TellsTables, TellsMemories, TellsTagSection, TellsGlobals, TellsElements, TellsData, TellsStart, TellsDataCount, header_told, body_told, end_order_told};
+ghost use Rattle.wasm_validator_modules.specs.States.{open_of, noted_of, started_of, read_of, ended_spaces, stage_of, order_at, end_order_at, body_order_at, state_kept, is_module, after_version, after_section, section_refused_at, after_start, after_data_count, after_code_start, body_at, after_body, after_end};
+
+use crate::constants::{Constants, tells_types_apart};
+use crate::module_sections::{
+    add_functions, add_imports, add_memories, add_tags, add_types, check_data_segments,
+    take_elements, take_exports, take_globals, take_tables,
+};
+use bitflags::Flags;
+use std::alloc::{AllocError, Allocator, Global};
+use std::marker::Model;
+use std::mem;
+use std::ops::Range;
+use std::rc::Rc;
+use wasm_distinct_type_laws::types_are_apart;
+use wasm_parser::{Encoding, FunctionBody};
+use wasm_readers::{
+    Counted, Data, Element, Export, Fault, Global as GlobalItem, Import, MemoryType, OutOfOrder,
+    RecGroup, Refusal, Rule, SectionLimited, Table, TagType, WasmFeatures,
+};
+use wasm_validator_canonical::needs_type_canonicalization;
+use wasm_validator_core::{Error, Module, check_data_count, check_max};
+use wasm_validator_core_resources::TypesByIds;
+use wasm_validator_func::FuncToValidate;
+use wasm_validator_module_state::{CodeState, MAX_FUNCTION_SIZE, ModuleState};
+use wasm_validator_resources::ValidatorResources;
+use wasm_validator_types::{IndexSpaces, TypeList, Types, TypesRef, ValidatorId};
+
+/// What a validator is doing.
+#[derive(Drop)]
+pub enum State<A: Allocator> {
+    Unparsed,
+    Module(ModuleState<A>),
+    /// The code section has started.
+    Code(CodeState<A>),
+    End,
+    Failed,
+}
+
+/// Checks modules, section by section, and keeps the types of all that it has seen.
+#[derive(Drop)]
+pub struct Validator<A: Allocator = Global> {
+    id: ValidatorId,
+    features: WasmFeatures,
+    types: TypeList<A>,
+    constants: Constants<A>,
+    state: State<A>,
+    alloc: A,
+}
+
+impl<A: Allocator> Model for Validator<A> {
+    ghost use Rattle.wasm_validator_modules.specs.Standing.{Standing};
+
+    ghost Value = { Standing };
+
+    ghost use Rattle.wasm_validator_modules.specs.Codes.{coded_standing};
+
+    ghost coded = { coded_standing };
+
+    ghost use Rattle.wasm_validator_modules.specs.States.{standing_of};
+
+    ghost view = { standing_of };
+
+    ghost use Rattle.wasm_validator_modules.specs.Ready.{IsSound};
+
+    ghost invariant = { IsSound };
+}
+
+/// Why a section may not come now, where it may not.
+fn out_of_order<A: Allocator>(state: &State<A>) -> OutOfOrder
+    ensures { result ≡ order_at state.now }
+{
+    match state {
+        State::Unparsed => OutOfOrder::SectionBeforeHeader,
+        State::Code(_) => OutOfOrder::SectionAfterCodeStart,
+        State::End => OutOfOrder::SectionAfterEnd,
+        State::Module(_) | State::Failed => OutOfOrder::SectionAfterFailure,
+    }
+}
+
+/// Why `end` may not come now, where it may not.
+fn end_out_of_order<A: Allocator>(state: &State<A>) -> OutOfOrder
+    ensures { result ≡ end_order_at state.now }
+{
+    match state {
+        State::Unparsed => OutOfOrder::EndBeforeHeader,
+        State::End => OutOfOrder::EndAfterEnd,
+        State::Module(_) | State::Code(_) | State::Failed => OutOfOrder::SectionAfterFailure,
+    }
+}
+
+/// Takes the module out, where one is being read whose code has not started, and leaves `Failed` in
+/// its place.
+fn opened<A: Allocator>(state: &mut State<A>, offset: u64) -> Result<ModuleState<A>, Refusal>
+    ensures ok { IfOk result (λ m. open_of state.old ≡ Some m.«module») }
+    ensures was { IfOk result (λ m. state.old ≡ State.Module m) }
+    ensures left { OnOk result (state.new ≡ State.Failed) }
+    ensures none { OnErr result (open_of state.old ≡ None) }
+    ensures place { IfErr result (λ r. r.offset ≡ offset) }
+    ensures refusal { IfErr result (λ r. r ≡ record
+        { fault = Fault.OutOfOrder (order_at state.old); offset = offset; missing = None }) }
+    ensures unchanged { OnErr result (state.new ≡ state.old) }
+{
+    match mem::replace(state, State::Failed) {
+        State::Module(module) => Ok(module),
+        other => {
+            let order = out_of_order(&other);
+            *state = other;
+            Err(Refusal::new(Fault::OutOfOrder(order), offset))
+        }
+    }
+}
+
+/// The index spaces of a module that ends.
+#[derive(Drop)]
+enum EndedSpaces<A: Allocator> {
+    Owned(Module<A>),
+    Shared(Rc<IndexSpaces<A>, A>),
+}
+
+/// Takes the module out, where one is being read, and leaves `Failed` in its place.
+fn closing<A: Allocator>(state: &mut State<A>) -> Result<EndedSpaces<A>, OutOfOrder>
+    ensures ok { IfOk result (λ m. read_of state.old ≡ Some (ended_spaces m)) }
+    ensures left { OnOk result (state.new ≡ State.Failed) }
+    ensures none { OnErr result (read_of state.old ≡ None) }
+    ensures order { IfErr result (λ order. order ≡ end_order_at state.old) }
+    ensures unchanged { OnErr result (state.new ≡ state.old) }
+{
+    match mem::replace(state, State::Failed) {
+        State::Module(state) => Ok(EndedSpaces::Owned(state.module)),
+        State::Code(state) => Ok(EndedSpaces::Shared(state.spaces)),
+        other => {
+            let order = end_out_of_order(&other);
+            *state = other;
+            Err(order)
+        }
+    }
+}
+
+/// The index spaces of the module that is being read, where one is.
+fn reading<A: Allocator + Copy>(state: &State<A>) -> Option<&IndexSpaces<A>>
+    ensures some { IfSome result (λ m. read_of state.now ≡ Some m.now) }
+    ensures none { IfNone result (read_of state.now ≡ None) }
+{
+    match state {
+        State::Module(state) => Some(state.module.spaces()),
+        State::Code(state) => Some(state.spaces.as_ref()),
+        _ => None,
+    }
+}
+
+/// Why a body may not come now.
+fn body_out_of_order<A: Allocator>(state: &State<A>) -> OutOfOrder
+    ensures { result ≡ body_order_at state.now }
+{
+    match state {
+        State::Unparsed => OutOfOrder::SectionBeforeHeader,
+        State::Module(_) => OutOfOrder::CodeEntryBeforeCodeStart,
+        State::Code(_) => OutOfOrder::CodeEntryWithoutFunction,
+        State::End => OutOfOrder::SectionAfterEnd,
+        State::Failed => OutOfOrder::SectionAfterFailure,
+    }
+}
+
+/// Hands out the next function of a module, whose body these bytes are, and takes the body.
+fn handed_out<A: Allocator + Copy>(
+    code: CodeState<A>,
+    index: u32,
+    ty: u32,
+    features: WasmFeatures,
+    body: &FunctionBody<'_>,
+) -> Result<(CodeState<A>, FuncToValidate<ValidatorResources<A>>), Error<A>>
+    requires { not (expected_bodies code.spaces.value - code.taken == 0) ≡ true }
+    ensures small { IfOk result (λ x. nat_le (length (body_of body.now)) MAX_FUNCTION_SIZE
+        ≡ true) }
+    ensures spaces { IfOk result (λ x. x.0.spaces ≡ code.spaces) }
+    ensures started { IfOk result (λ x. started_of x.0 ≡ taking (started_of code)) }
+    ensures function { IfOk result (λ x. x.1 ≡ record {
+      resources = code.resources;
+      index = index;
+      ty = ty;
+      features = features;
+    }) }
+    ensures refused { IfErr result (OfContent (λ e.
+        (nat_le (length (body_of body.now)) MAX_FUNCTION_SIZE ≡ false) × (e ≡ Error.Refused
+        (plain (Fault.Limit Counted.FunctionBodySize MAX_FUNCTION_SIZE)
+        (original (body_reader body.now) + position_in (body_reader body.now)))))) }
+{
+    check_max(
+        0,
+        body.as_bytes().len(),
+        MAX_FUNCTION_SIZE,
+        Counted::FunctionBodySize,
+        body.range().start,
+    )?;
+    let function = FuncToValidate {
+        resources: code.resources.clone()?,
+        index,
+        ty,
+        features,
+    };
+    Ok((code.with_body(), function))
+}
+
+/// Takes one body more, where one is to come. Where it is too long, or memory is refused, the
+/// validator has failed.
+fn taken<A: Allocator + Copy>(
+    state: &mut State<A>,
+    features: WasmFeatures,
+    body: &FunctionBody<'_>,
+) -> Result<FuncToValidate<ValidatorResources<A>>, Error<A>>
+    ensures takes { (types : TypesSoFar) → TakesBody result features body.now
+        (stage_of types state.old) (stage_of types state.new) }
+    ensures ids { (list : Listing A) → AreIdsIn list state.old → AreIdsIn list state.new }
+    ensures valid { (list : Listing A) → AreValidIn features list state.old
+        → AreValidIn features list state.new }
+    ensures first { (list : Listing A) (types : List (SubType A)) → AreFirstIn list types state.old
+        → AreFirstIn list types state.new }
+{
+    match mem::replace(state, State::Failed) {
+        State::Code(code) => match code.next_code_index_and_type() {
+            Some((index, ty)) => {
+                let (code, function) = handed_out(code, index, ty, features, body)?;
+                *state = State::Code(code);
+                Ok(function)
+            }
+            None => {
+                *state = State::Code(code);
+                let fault = Fault::OutOfOrder(OutOfOrder::CodeEntryWithoutFunction);
+                Err(Error::Refused(Refusal::new(fault, body.range().start)))
+            }
+        },
+        other => {
+            let fault = Fault::OutOfOrder(body_out_of_order(&other));
+            *state = other;
+            Err(Error::Refused(Refusal::new(fault, body.range().start)))
+        }
+    }
+}
+
+/// Puts the module back where a section was added to it. Where one was refused, the validator has
+/// failed.
+fn kept<A: Allocator>(
+    state: &mut State<A>,
+    read: ModuleState<A>,
+    added: Result<(), Error<A>>,
+) -> Result<(), Error<A>>
+    requires { state.old ≡ State.Failed }
+    ensures same { result ≡ added }
+    ensures kept { state.new ≡ state_kept added read }
+{
+    match added {
+        Ok(()) => {
+            *state = State::Module(read);
+            Ok(())
+        }
+        Err(error) => Err(error),
+    }
+}
+
+/// What a check of a module says, as the answer of a section.
+fn checked<A: Allocator>(answer: Result<(), Refusal>) -> Result<(), Error<A>>
+    ensures same { is_ok result ≡ is_ok answer }
+    ensures refusal { IfErr answer (λ r. IfErr result (λ e. e ≡ Error.Refused r)) }
+{
+    match answer {
+        Ok(()) => Ok(()),
+        Err(refusal) => Err(Error::Refused(refusal)),
+    }
+}
+
+/// The index spaces of a module that has ended, to be shared.
+fn shared<A: Allocator + Copy>(
+    alloc: A,
+    ended: EndedSpaces<A>,
+) -> Result<Rc<IndexSpaces<A>, A>, AllocError>
+    ensures { IfOk result (λ spaces. spaces.value ≡ ended_spaces ended) }
+{
+    match ended {
+        EndedSpaces::Owned(module) => Ok(Rc::new(alloc, module.into_spaces())?),
+        EndedSpaces::Shared(spaces) => Ok(spaces),
+    }
+}
+
+/// The types of a module that has ended.
+fn finished<A: Allocator + Copy>(
+    id: ValidatorId,
+    alloc: A,
+    types: &mut TypeList<A>,
+    ended: EndedSpaces<A>,
+) -> Result<Types<A>, AllocError>
+    ensures same { types.new ≡ types.old }
+    ensures shown { IfOk result (λ t. shown_of t
+        ≡ record { id = id; list = committed types.old; spaces = ended_spaces ended }) }
+    ensures once { types.old.is_canonical ≡ true → AreOnce types.old.groups }
+{
+    // Asked for what it promises: where equal types are one, no type has two ids.
+    let _is_canonical = types.is_canonical();
+    let list = types.commit()?;
+    let spaces = shared(alloc, ended)?;
+    Ok(Types::new(id, list, spaces))
+}
+
+/// The start of the code of a module: its lists are shared from now on, and what bodies look up is
+/// made of them.
+fn started<A: Allocator + Copy>(
+    alloc: A,
+    types: &mut TypeList<A>,
+    state: ModuleState<A>,
+) -> Result<CodeState<A>, AllocError>
+    requires { AreHeld types.old state.«module».types }
+    ensures same { types.new ≡ types.old }
+    ensures spaces { IfOk result (λ c. c.spaces.value ≡ state.«module») }
+    ensures begun { IfOk result (λ c. started_of c
+        ≡ starting (types_of_list types.old) state.«module» (noted_of state)) }
+{
+    tells_types_apart(types);
+    let listed = types.commit()?;
+    let by_ids = TypesByIds::of_list(alloc, &listed)?;
+    let ModuleState {
+        module,
+        data_count,
+        referenced,
+    } = state;
+    let spaces = Rc::new(alloc, module.into_spaces())?;
+    let resources = ValidatorResources::new(
+        alloc,
+        spaces.clone()?,
+        listed,
+        by_ids,
+        data_count,
+        referenced.into_flags(),
+    )?;
+    Ok(CodeState::new(spaces, resources))
+}
+
+impl<A: Allocator + Copy> Validator<A> {
+    /// A validator with the default features that has seen no module.
+    pub fn new(alloc: A, id: ValidatorId) -> Validator<A>
+        ensures { result ≡ fresh id STANDARD }
+    {
+        Validator::new_with_features(alloc, WasmFeatures::default(), id)
+    }
+
+    /// A validator with these features that has seen no module.
+    pub fn new_with_features(alloc: A, features: WasmFeatures, id: ValidatorId) -> Validator<A>
+        ensures { result ≡ fresh id features }
+    {
+        Validator {
+            id,
+            features,
+            types: TypeList::new(alloc, needs_type_canonicalization(features)),
+            constants: Constants::new(alloc),
+            state: State::Unparsed,
+            alloc,
+        }
+    }
+
+    /// The features that modules may use.
+    pub fn features(&self) -> &WasmFeatures
+        ensures { result.now ≡ self.now.features }
+    {
+        &self.features
+    }
+
+    /// Where the validator takes memory from.
+    pub fn allocator(&self) -> A {
+        self.alloc
+    }
+
+    /// The number of this validator.
+    pub fn id(&self) -> ValidatorId
+        ensures { result ≡ self.now.id }
+    {
+        self.id
+    }
+
+    /// Whether a section was refused while a module was being read: then every further section and
+    /// `end` are refused. Elsewhere each type that the validator holds is valid.
+    pub fn has_failed(&self) -> bool
+        ensures failed { result ≡ is_failed self.now }
+        ensures valid { HoldsValid self.now }
+    {
+        matches!(self.state, State::Failed)
+    }
+
+    /// The types that the validator holds are told apart.
+    pub(crate) fn types_stand_apart(&self)
+        ensures { StandsApart self.now }
+    {
+        types_are_apart(&self.types);
+    }
+
+    /// Whether `reset` may be called: no module is being read, and none was refused by a section.
+    pub fn can_reset(&self) -> bool
+        ensures { result ≡ may_reset self.now }
+    {
+        matches!(self.state, State::Unparsed | State::End)
+    }
+
+    /// Makes ready for another module. Types, features and id stay. It may be called where
+    /// `can_reset` says so.
+    pub fn reset(&mut self)
+        requires { may_reset self.old ≡ true }
+        ensures { self.new ≡ after_reset self.old }
+    {
+        self.state = State::Unparsed;
+    }
+
+    /// The types of the module that is being read: at level 0, and while one is.
+    pub fn types(&self, level: usize) -> Option<TypesRef<'_, A>>
+        ensures some { IsSome result ↔ (level ≡ 0) × IsSome (shown_at self.now.stage) }
+        ensures shown { IfSome result (λ t. shown_at self.now.stage
+            ≡ Some (types_of_list (shown_by t).list, (shown_by t).spaces)) }
+        ensures id { IfSome result (λ t. (shown_by t).id ≡ self.now.id) }
+        ensures held { IfSome result (λ t. HoldsIds (shown_by t)) }
+    {
+        if level != 0 {
+            return None;
+        }
+        match reading(&self.state) {
+            Some(spaces) => Some(TypesRef::new(self.id, &self.types, spaces)),
+            None => None,
+        }
+    }
+
+    /// The header, with the version that it has, the encoding, and the offsets of its first byte
+    /// and of the one behind it, in bytes from the start of the input (Core Specification 3.0,
+    /// Binary Format, Modules).
+    ///
+    /// # Errors
+    ///
+    /// Refused, at its first byte, where a header came before, for a module of another version than
+    /// 1, and for a component. The validator stays as it was. It takes no memory.
+    pub fn version(
+        &mut self,
+        number: u16,
+        encoding: Encoding,
+        range: &Range<u64>,
+    ) -> Result<(), Error<A>>
+        ensures moves { Leaves result (after_version self.old number (is_module encoding))
+            self.old.stage self.old self.new }
+        ensures content { IfErr result IsContent }
+        ensures place { IfErr result (λ e. offset_of e ≡ range.now.start) }
+        ensures told { IfErr result (λ e. e ≡ Error.Refused
+            (header_told self.old.features number (is_module encoding)
+            range.now.start self.old.stage)) }
+    {
+        if !matches!(self.state, State::Unparsed) {
+            return Err(Error::Refused(Refusal::new(
+                Fault::OutOfOrder(OutOfOrder::Header),
+                range.start,
+            )));
+        }
+        match encoding {
+            Encoding::Module => {
+                if number != 1 {
+                    return Err(Error::Refused(Refusal::new(
+                        Fault::UnknownBinaryVersion(number),
+                        range.start,
+                    )));
+                }
+            }
+            Encoding::Component => {
+                if !self.features.contains(WasmFeatures::COMPONENT_MODEL) {
+                    let fault = Fault::ComponentHeader(number);
+                    return Err(Error::Refused(Refusal::missing(
+                        fault,
+                        range.start,
+                        WasmFeatures::COMPONENT_MODEL,
+                    )));
+                }
+                return Err(Error::Refused(Refusal::new(
+                    Fault::Rule(Rule::ComponentModelLeftOut),
+                    range.start,
+                )));
+            }
+        }
+        self.state = State::Module(ModuleState::new(self.alloc));
+        Ok(())
+    }
+
+    /// The types of a module (Core Specification 3.0, Validation, Modules, Types).
+    ///
+    /// # Errors
+    ///
+    /// Refused, at the section's start, where no module is being read or its code has started,
+    /// which changes nothing. In a module refused, at the section's start, where a module would
+    /// have too many types; at the first recursion group that can't be read or added, or has a type
+    /// that isn't valid; and where memory is. The validator has then failed.
+    pub fn type_section(
+        &mut self,
+        section: &SectionLimited<'_, RecGroup<A>, A>,
+    ) -> Result<(), Error<A>>
+        ensures moves { Moves result (after_section self.old 1 (count_of section.now)
+            (bytes_of section.now)) self.old self.new }
+        ensures place { IfErr result (StandsBetween (section_start section.now)
+            (section_end section.now)) }
+        ensures told { IfErr result (OfContent (TellsWithin
+            (TellsTypes self.old.features section.now)
+            (section_start section.now) self.old.stage)) }
+    {
+        match opened(&mut self.state, section.range().start) {
+            Ok(mut state) => {
+                // What is kept of the list stays the first of it, since it tells types apart.
+                tells_types_apart(&self.types);
+                let added = add_types(
+                    self.features,
+                    self.alloc,
+                    &mut self.types,
+                    &mut state.module,
+                    section,
+                );
+                tells_types_apart(&self.types);
+                kept(&mut self.state, state, added)
+            }
+            Err(refusal) => Err(Error::Refused(refusal)),
+        }
+    }
+
+    /// The imports of a module (Core Specification 3.0, Validation, Modules, Imports).
+    ///
+    /// # Errors
+    ///
+    /// Refused, at the section's start, where no module is being read or its code has started,
+    /// which changes nothing. In a module refused, at the section's start, where a module would
+    /// have too many imports; at the first import that can't be read or keeps no rule; and where
+    /// memory is. The validator has then failed.
+    pub fn import_section<'a>(
+        &mut self,
+        section: &SectionLimited<'a, Import<'a>, A>,
+    ) -> Result<(), Error<A>>
+        ensures moves { Moves result (after_section self.old 2 (count_of section.now)
+            (bytes_of section.now)) self.old self.new }
+        ensures place { IfErr result (StandsBetween (section_start section.now)
+            (section_end section.now)) }
+        ensures told { IfErr result (OfContent (TellsWithin
+            (TellsImports self.old.features section.now)
+            (section_start section.now) self.old.stage)) }
+    {
+        match opened(&mut self.state, section.range().start) {
+            Ok(mut state) => {
+                let added = add_imports(self.features, &self.types, &mut state.module, section);
+                kept(&mut self.state, state, added)
+            }
+            Err(refusal) => Err(Error::Refused(refusal)),
+        }
+    }
+
+    /// The exports of a module (Core Specification 3.0, Validation, Modules, Exports).
+    ///
+    /// # Errors
+    ///
+    /// Refused, at the section's start, where no module is being read or its code has started,
+    /// which changes nothing. In a module refused, at the section's start, where a module would
+    /// have too many exports; at the first export that can't be read or keeps no rule, or whose
+    /// name is taken; and where memory is. The validator has then failed.
+    pub fn export_section<'a>(
+        &mut self,
+        section: &SectionLimited<'a, Export<'a>, A>,
+    ) -> Result<(), Error<A>>
+        ensures moves { Moves result (after_section self.old 7 (count_of section.now)
+            (bytes_of section.now)) self.old self.new }
+        ensures place { IfErr result (StandsBetween (section_start section.now)
+            (section_end section.now)) }
+        ensures told { IfErr result (OfContent (TellsWithin
+            (TellsExports self.old.features section.now)
+            (section_start section.now) self.old.stage)) }
+    {
+        match opened(&mut self.state, section.range().start) {
+            Ok(mut state) => {
+                let added = take_exports(
+                    self.features,
+                    self.alloc,
+                    &self.types,
+                    &mut state,
+                    section,
+                );
+                kept(&mut self.state, state, added)
+            }
+            Err(refusal) => Err(Error::Refused(refusal)),
+        }
+    }
+
+    /// The functions of a module, by their type indices (Core Specification 3.0, Validation,
+    /// Modules, Functions).
+    ///
+    /// # Errors
+    ///
+    /// Refused, at the section's start, where no module is being read or its code has started,
+    /// which changes nothing. In a module refused, at the section's start, where a module would
+    /// have too many functions; at the first one that can't be read or is no function type's; and
+    /// where memory is. The validator has then failed.
+    pub fn function_section(&mut self, section: &SectionLimited<'_, u32, A>) -> Result<(), Error<A>>
+        ensures moves { Moves result (after_section self.old 3 (count_of section.now)
+            (bytes_of section.now)) self.old self.new }
+        ensures place { IfErr result (StandsBetween (section_start section.now)
+            (section_end section.now)) }
+        ensures told { IfErr result (OfContent (TellsWithin (TellsFunctions section.now)
+            (section_start section.now) self.old.stage)) }
+    {
+        match opened(&mut self.state, section.range().start) {
+            Ok(mut state) => {
+                let added = add_functions(&self.types, &mut state.module, section);
+                kept(&mut self.state, state, added)
+            }
+            Err(refusal) => Err(Error::Refused(refusal)),
+        }
+    }
+
+    /// The tables of a module, with what their entries begin with (Core Specification 3.0,
+    /// Validation, Modules, Tables).
+    ///
+    /// # Errors
+    ///
+    /// Refused, at the section's start, where no module is being read or its code has started,
+    /// which changes nothing. In a module refused, at the section's start, where a module would
+    /// have too many tables; in the first table that can't be read or keeps no rule, or whose
+    /// initializer is no constant expression of its type; and where memory is. The validator has
+    /// then failed.
+    pub fn table_section<'a>(
+        &mut self,
+        section: &SectionLimited<'a, Table<'a>, A>,
+    ) -> Result<(), Error<A>>
+        ensures moves { Moves result (after_section self.old 4 (count_of section.now)
+            (bytes_of section.now)) self.old self.new }
+        ensures place { IfErr result (StandsBetween (section_start section.now)
+            (section_end section.now)) }
+        ensures told { IfErr result (OfContent (TellsWithin
+            (λ us. TellsTables section.now self.old.features)
+            (section_start section.now) self.old.stage)) }
+    {
+        match opened(&mut self.state, section.range().start) {
+            Ok(mut state) => {
+                let added = take_tables(
+                    self.features,
+                    &self.types,
+                    &mut self.constants,
+                    &mut state,
+                    section,
+                );
+                kept(&mut self.state, state, added)
+            }
+            Err(refusal) => Err(Error::Refused(refusal)),
+        }
+    }
+
+    /// The memories of a module (Core Specification 3.0, Validation, Modules, Memories).
+    ///
+    /// # Errors
+    ///
+    /// Refused, at the section's start, where no module is being read or its code has started,
+    /// which changes nothing. In a module refused, at the section's start, where a module would
+    /// have too many memories; at the first memory that can't be read or keeps no rule; and where
+    /// memory is. The validator has then failed.
+    pub fn memory_section(
+        &mut self,
+        section: &SectionLimited<'_, MemoryType, A>,
+    ) -> Result<(), Error<A>>
+        ensures moves { Moves result (after_section self.old 5 (count_of section.now)
+            (bytes_of section.now)) self.old self.new }
+        ensures place { IfErr result (StandsBetween (section_start section.now)
+            (section_end section.now)) }
+        ensures told { IfErr result (OfContent (TellsWithin
+            (λ us. TellsMemories section.now self.old.features)
+            (section_start section.now) self.old.stage)) }
+    {
+        match opened(&mut self.state, section.range().start) {
+            Ok(mut state) => {
+                let added = add_memories(self.features, &mut state.module, section);
+                kept(&mut self.state, state, added)
+            }
+            Err(refusal) => Err(Error::Refused(refusal)),
+        }
+    }
+
+    /// The tags of a module (Core Specification 3.0, Validation, Modules, Tags). Without the
+    /// exceptions proposal it is refused for that, at the section's start, before anything else,
+    /// which fails the validator wherever a module is being read.
+    ///
+    /// # Errors
+    ///
+    /// Refused, at the section's start, where no module is being read or its code has started,
+    /// which changes nothing. In a module refused, at the section's start, where a module would
+    /// have too many tags; at the first tag that can't be read or keeps no rule; and where memory
+    /// is. The validator has then failed.
+    pub fn tag_section(&mut self, section: &SectionLimited<'_, TagType, A>) -> Result<(), Error<A>>
+        ensures moves { Leaves result (after_section self.old 13 (count_of section.now)
+            (bytes_of section.now)) (section_refused_at self.old.features 13
+            self.old.stage) self.old self.new }
+        ensures place { IfErr result (StandsBetween (section_start section.now)
+            (section_end section.now)) }
+        ensures told { IfErr result (OfContent (TellsTagSection self.old.features
+            section.now self.old.stage)) }
+    {
+        let offset = section.range().start;
+        if !self.features.contains(WasmFeatures::EXCEPTIONS) {
+            if matches!(self.state, State::Module(_) | State::Code(_)) {
+                self.state = State::Failed;
+            }
+            return Err(Error::Refused(Refusal::missing(
+                Fault::Rule(Rule::Exceptions),
+                offset,
+                WasmFeatures::EXCEPTIONS,
+            )));
+        }
+        match opened(&mut self.state, offset) {
+            Ok(mut state) => {
+                let added = add_tags(self.features, &self.types, &mut state.module, section);
+                kept(&mut self.state, state, added)
+            }
+            Err(refusal) => Err(Error::Refused(refusal)),
+        }
+    }
+
+    /// The globals of a module, with their initializers, which may read the imported globals (Core
+    /// Specification 3.0, Validation, Modules, Globals).
+    ///
+    /// # Errors
+    ///
+    /// Refused, at the section's start, where no module is being read or its code has started,
+    /// which changes nothing. In a module refused, at the section's start, where a module would
+    /// have too many globals; in the first global that can't be read or keeps no rule, or whose
+    /// initializer is no constant expression of its type; and where memory is. The validator has
+    /// then failed.
+    pub fn global_section<'a>(
+        &mut self,
+        section: &SectionLimited<'a, GlobalItem<'a>, A>,
+    ) -> Result<(), Error<A>>
+        ensures moves { Moves result (after_section self.old 6 (count_of section.now)
+            (bytes_of section.now)) self.old self.new }
+        ensures place { IfErr result (StandsBetween (section_start section.now)
+            (section_end section.now)) }
+        ensures told { IfErr result (OfContent (TellsWithin (λ us. TellsGlobals section.now)
+            (section_start section.now) self.old.stage)) }
+    {
+        match opened(&mut self.state, section.range().start) {
+            Ok(mut state) => {
+                let added = take_globals(
+                    self.features,
+                    &self.types,
+                    &mut self.constants,
+                    &mut state,
+                    section,
+                );
+                kept(&mut self.state, state, added)
+            }
+            Err(refusal) => Err(Error::Refused(refusal)),
+        }
+    }
+
+    /// The function that starts a module, by its index (Core Specification 3.0, Validation,
+    /// Modules, Start Function). The range has the offsets of the section's first byte and of the
+    /// one behind it, in bytes from the start of the input.
+    ///
+    /// # Errors
+    ///
+    /// Refused, at the section's start, where no module is being read or its code has started,
+    /// which changes nothing; and where there is no such function or it takes or gives something,
+    /// and the validator has then failed. It takes no memory.
+    pub fn start_section(&mut self, function: u32, range: &Range<u64>) -> Result<(), Error<A>>
+        ensures moves { Moves result (after_start self.old function) self.old self.new }
+        ensures place { IfErr result (λ e. offset_of e ≡ range.now.start) }
+        ensures content { IfErr result IsContent }
+        ensures told { IfErr result (TellsWithin (TellsStart range.now.start function)
+            range.now.start self.old.stage) }
+    {
+        match opened(&mut self.state, range.start) {
+            Ok(state) => {
+                let answer = state.module.check_start(&self.types, function, range.start);
+                kept(&mut self.state, state, checked(answer))
+            }
+            Err(refusal) => Err(Error::Refused(refusal)),
+        }
+    }
+
+    /// The element segments of a module (Core Specification 3.0, Validation, Modules, Element
+    /// Segments).
+    ///
+    /// # Errors
+    ///
+    /// Refused, at the section's start, where no module is being read or its code has started,
+    /// which changes nothing. In a module refused, at the section's start, where it would have too
+    /// many element segments; in the first segment that can't be read or keeps no rule, or whose
+    /// offset or items are no constant expressions of their types; and where memory is. The
+    /// validator has then failed.
+    pub fn element_section<'a>(
+        &mut self,
+        section: &SectionLimited<'a, Element<'a>, A>,
+    ) -> Result<(), Error<A>>
+        ensures moves { Moves result (after_section self.old 9 (count_of section.now)
+            (bytes_of section.now)) self.old self.new }
+        ensures place { IfErr result (StandsBetween (section_start section.now)
+            (section_end section.now)) }
+        ensures told { IfErr result (OfContent (TellsWithin (λ us. TellsElements section.now)
+            (section_start section.now) self.old.stage)) }
+    {
+        match opened(&mut self.state, section.range().start) {
+            Ok(mut state) => {
+                let added = take_elements(
+                    self.features,
+                    &self.types,
+                    &mut self.constants,
+                    &mut state,
+                    section,
+                );
+                kept(&mut self.state, state, added)
+            }
+            Err(refusal) => Err(Error::Refused(refusal)),
+        }
+    }
+
+    /// The number of data segments that the data section is to have (Core Specification 3.0, Binary
+    /// Format, Modules, Data Count Section). The range has the offsets of the section's first byte
+    /// and of the one behind it, in bytes from the start of the input.
+    ///
+    /// # Errors
+    ///
+    /// Refused, at the section's start, where no module is being read or its code has started,
+    /// which changes nothing; and without `BULK_MEMORY` and where there would be too many, and the
+    /// validator has then failed. It takes no memory.
+    pub fn data_count_section(&mut self, count: u32, range: &Range<u64>) -> Result<(), Error<A>>
+        ensures moves { Moves result (after_data_count self.old count) self.old self.new }
+        ensures place { IfErr result (λ e. offset_of e ≡ range.now.start) }
+        ensures content { IfErr result IsContent }
+        ensures told { IfErr result (TellsWithin
+            (TellsDataCount self.old.features range.now.start count)
+            range.now.start self.old.stage) }
+    {
+        match opened(&mut self.state, range.start) {
+            Ok(mut state) => {
+                let accepted = checked(check_data_count(self.features, count, range.start));
+                state.data_count = Some(count);
+                kept(&mut self.state, state, accepted)
+            }
+            Err(refusal) => Err(Error::Refused(refusal)),
+        }
+    }
+
+    /// The start of the code section, with the offsets of its first byte and of the one behind it,
+    /// in bytes from the start of the input (Core Specification 3.0, Binary Format, Modules, Code
+    /// Section).
+    ///
+    /// # Errors
+    ///
+    /// Refused, at the section's start, where no module is being read or its code has started,
+    /// which changes nothing; and where memory is, and the validator has then failed.
+    pub fn code_section_start(&mut self, range: &Range<u64>) -> Result<(), Error<A>>
+        ensures moves { Moves result (after_code_start self.old) self.old self.new }
+        ensures place { IfErr result (λ e. IsContent e → offset_of e ≡ range.now.start) }
+        ensures told { IfErr result (OfContent (TellsOrder range.now.start self.old.stage)) }
+    {
+        match opened(&mut self.state, range.start) {
+            Ok(state) => match started(self.alloc, &mut self.types, state) {
+                Ok(code) => {
+                    self.state = State::Code(code);
+                    Ok(())
+                }
+                Err(_) => Err(Error::OutOfMemory),
+            },
+            Err(refusal) => Err(Error::Refused(refusal)),
+        }
+    }
+
+    /// The body of a function, which is handed out to be validated: bodies come in the order of the
+    /// functions that are defined (Core Specification 3.0, Validation, Modules, Functions).
+    ///
+    /// # Errors
+    ///
+    /// Refused, at the body's first byte: where none may come, which changes nothing; and where the
+    /// body is longer than 7,654,321 bytes, or memory is refused, and the validator has then failed.
+    pub fn code_section_entry(
+        &mut self,
+        body: &FunctionBody<'_>,
+    ) -> Result<FuncToValidate<ValidatorResources<A>>, Error<A>>
+        ensures moves { Leaves result (after_body self.old (body_of body.now))
+            (body_refused_at self.old.stage) self.old self.new }
+        ensures given { IfOk result (λ f. body_at self.old.features (body_of body.now)
+            self.old.stage ≡ body_seen f body.now ∷ []) }
+        ensures told { IfErr result (OfContent (λ e. e ≡ Error.Refused
+            (plain (body_told self.old.stage)
+            (original (body_reader body.now) + position_in (body_reader body.now))))) }
+    {
+        taken(&mut self.state, self.features, body)
+    }
+
+    /// The data segments of a module (Core Specification 3.0, Validation, Modules, Data Segments).
+    ///
+    /// # Errors
+    ///
+    /// Refused, at the section's start, where no module is being read, which changes nothing. In a
+    /// module refused, at the section's start, where it would have too many data segments; in the
+    /// first segment that can't be read or keeps no rule, or whose offset is no constant expression
+    /// of its type; and where memory is. The validator has then failed.
+    pub fn data_section<'a>(
+        &mut self,
+        section: &SectionLimited<'a, Data<'a>, A>,
+    ) -> Result<(), Error<A>>
+        ensures moves { Leaves result (after_section self.old 11 (count_of section.now)
+            (bytes_of section.now)) (read_refused_at self.old.stage) self.old self.new }
+        ensures place { IfErr result (StandsBetween (section_start section.now)
+            (section_end section.now)) }
+        ensures told { IfErr result (OfContent (TellsReading (λ us m. TellsData section.now)
+            (section_start section.now) self.old.stage)) }
+    {
+        let checked = match reading(&self.state) {
+            Some(spaces) => check_data_segments(
+                self.features,
+                &self.types,
+                &mut self.constants,
+                spaces,
+                section,
+            ),
+            None => {
+                let fault = Fault::OutOfOrder(out_of_order(&self.state));
+                return Err(Error::Refused(Refusal::new(fault, section.range().start)));
+            }
+        };
+        match checked {
+            Ok(()) => Ok(()),
+            Err(error) => {
+                self.state = State::Failed;
+                Err(error)
+            }
+        }
+    }
+
+    /// A section of an id that the standard does not know, with the offsets of its first byte and
+    /// of the one behind it, in bytes from the start of the input (Core Specification 3.0, Binary
+    /// Format, Modules, Sections).
+    ///
+    /// # Errors
+    ///
+    /// Refused always, at its start, which changes nothing.
+    pub fn unknown_section(&mut self, id: u8, range: &Range<u64>) -> Result<(), Error<A>>
+        ensures moves { Leaves result None self.old.stage self.old self.new }
+        ensures refusal { IfErr result (λ e. e ≡ Error.Refused
+            (record {
+              fault = Fault.UnknownSection id;
+              offset = range.now.start;
+              missing = None;
+            })) }
+        ensures refused { IsErr result }
+    {
+        Err(Error::Refused(Refusal::new(Fault::UnknownSection(id), range.start)))
+    }
+
+    /// The end of a module at this offset, in bytes from the start of the input, with its types
+    /// (Core Specification 3.0, Validation, Modules).
+    ///
+    /// # Errors
+    ///
+    /// Refused, at the offset, where no module is being read: before a header, behind an end, and
+    /// behind a refusal. Before a header this leaves the validator as behind an end, and elsewhere
+    /// as it was. While a module is being read only memory can be refused, and that fails the
+    /// validator.
+    pub fn end(&mut self, offset: u64) -> Result<Types<A>, Error<A>>
+        ensures moves { Leaves result (after_end self.old)
+            (ended_at self.old.stage) self.old self.new }
+        ensures place { IfErr result (λ e. IsContent e → offset_of e ≡ offset) }
+        ensures shown { IfOk result (Show self.old) }
+        ensures held { IfOk result (λ t. HoldsIds (shown_of t)) }
+        ensures content { shown_at self.old.stage ≡ None → IfErr result IsContent }
+        ensures told { IfErr result (OfContent (λ e. e
+            ≡ Error.Refused (plain (Fault.OutOfOrder (end_order_told self.old.stage)) offset))) }
+    {
+        match closing(&mut self.state) {
+            Ok(state) => match finished(self.id, self.alloc, &mut self.types, state) {
+                Ok(types) => {
+                    self.state = State::End;
+                    Ok(types)
+                }
+                Err(_) => Err(Error::OutOfMemory),
+            },
+            Err(order) => {
+                if !matches!(self.state, State::Failed) {
+                    self.state = State::End;
+                }
+                Err(Error::Refused(Refusal::new(Fault::OutOfOrder(order), offset)))
+            }
+        }
+    }
+}
