@@ -1,94 +1,111 @@
-//! Validation of WebAssembly modules: states, one method for each payload, and whole modules.
+//! Validation of WebAssembly modules: states, one method for each payload, whole modules, and lists
+//! of modules.
 #![tactic(auto)]
 
-ghost use Rattle.wasm_validator.specs.Driven.{PayloadsDecide};
-ghost use Rattle.wasm_validator.specs.Sequences.{OneIdForOneType, OwnIdForEachType, RefusedKeepTypes};
-ghost use Rattle.wasm_validator.specs.SectionLaws.{TypesAdd, ImportsAdd, FunctionsAdd, TablesAdd, MemoriesAdd, TagsAdd, GlobalsAdd, ExportsAdd, ElementsAdd, SegmentsAdd};
-ghost use Rattle.wasm_validator.specs.Table.{AcceptedByTable, RefusedByTable};
+pub mod list;
 
-mod constants;
-mod module_sections;
-pub mod payload;
-pub mod validator;
-
-pub use bitflags::Flags;
-pub use payload::{ValidPayload, validate};
-pub use validator::Validator;
-pub use wasm_group_checks::{check_composite_type, check_descriptors, check_subtype};
-pub use wasm_parser::{CustomSectionReader, Encoding, FunctionBody, ParseAll, Parser, Payload};
-pub use wasm_readers::{
-    AbstractHeapType, ArrayType, BinaryReader, CompositeInnerType, CompositeType, ConstExpr,
-    ContType, CoreTypeId, Counted, Data, DataKind, DescriptorRule, Element, ElementItems,
-    ElementKind, Export, ExternalKind, Fault, FieldType, FromReader, FuncType, Global, GlobalType,
-    GroupRule, HeapType, Import, ItemKind, ItemRule, Items, MAX_IDS, Malformed, MemoryType,
-    OutOfOrder, PackedIndex, RecGroup, RefType, Refusal, Rule, SectionItems, SectionLimited,
-    StorageType, StructType, SubType, Table, TableInit, TableType, TagKind, TagType, TypeRef,
-    UnpackedIndex, ValType, ValueTypeRule, WasmFeatures,
-};
-pub use wasm_validator_canonical::{
-    InternRecGroup, TypeCanonicalizer, canonicalize_and_intern_rec_group, intern_rec_group_of,
-};
-pub use wasm_validator_core::{Error, Module};
-pub use wasm_validator_func::{FuncToValidate, FuncValidator, FuncValidatorAllocations};
-pub use wasm_validator_matches::{Matches, WithRecGroup, func_signature_matches};
-pub use wasm_validator_module_state::{CodeState, MAX_FUNCTION_SIZE, MaybeOwned, ModuleState};
-pub use wasm_validator_resources::ValidatorResources;
-pub use wasm_validator_type_list::LinkCount;
-pub use wasm_validator_types::{
-    CoreExports, CoreImports, EntityType, RecGroupElements, RecGroupId, SnapshotList, TypeAlloc,
-    TypeData, TypeIdentifier, TypeInfo, TypeList, Types, TypesRef, ValidatorId,
-};
-
-/// A payload that is accepted leads a validator where the state table says, and one that is
-/// refused, for its content or for want of memory, leaves it where the table says.
-#[tactic(auto, using(crate::proofs::TableKept::table_laws))]
-pub fn state_table()
-    ensures accepted { AcceptedByTable }
-    ensures refused { RefusedByTable }
-{}
-
-/// Who gives payloads and validates the bodies that they hand out decides the same: where each
-/// payload is accepted up to the end, and each body is valid, the bytes are a valid module, and a
-/// valid module's payloads and bodies are accepted (Core Specification 3.0, Validation, Modules).
-pub fn payloads_decide()
-    ensures { PayloadsDecide }
-{}
-
-/// Where equal types are one, two types of any modules that one validator has accepted, one after
-/// another with `reset` between two of them, have the same id exactly where they are equal: the
-/// same place of equal recursive types (Core Specification 3.0, Validation, Types, Recursive
-/// Types). Others may stand between them that were refused so that the validator could be reset.
-pub fn one_id_for_one_type<A>()
-    ensures { OneIdForOneType A }
-{}
-
-/// Where equal types aren't one, each type of each of these modules has an id of its own.
-pub fn own_id_for_each_type<A>()
-    ensures { OwnIdForEachType A }
-{}
-
-/// A module that is refused so that the validator may be reset leaves a list that begins with the
-/// types before it: so the modules of `one_id_for_one_type` may be any that `validate_all` was
-/// handed, as long as `reset` is allowed.
-pub fn refused_modules_keep_types()
-    ensures { RefusedKeepTypes }
-{}
-
-/// Behind any lists that a module has so far a section is accepted exactly where its bytes are
-/// items that keep their rules on these lists and the limit, and then the list has these items
-/// behind (Core Specification 3.0, Validation, Modules). Of types each recursion group is valid on
-/// the types before it; of exports each names something that is there, no name comes twice, and the
-/// effective size stays below its limit. Constant expressions are typed in the module as far as it
-/// has been read.
-pub fn sections_add_their_items()
-    ensures types { TypesAdd }
-    ensures imports { ImportsAdd }
-    ensures functions { FunctionsAdd }
-    ensures tables { TablesAdd }
-    ensures memories { MemoriesAdd }
-    ensures tags { TagsAdd }
-    ensures globals { GlobalsAdd }
-    ensures exports { ExportsAdd }
-    ensures elements { ElementsAdd }
-    ensures segments { SegmentsAdd }
-{}
+pub use list::validate_list;
+pub use wasm_validator_modules::AbstractHeapType;
+pub use wasm_validator_modules::ArrayType;
+pub use wasm_validator_modules::BinaryReader;
+pub use wasm_validator_modules::CodeState;
+pub use wasm_validator_modules::CompositeInnerType;
+pub use wasm_validator_modules::CompositeType;
+pub use wasm_validator_modules::ConstExpr;
+pub use wasm_validator_modules::ContType;
+pub use wasm_validator_modules::CoreExports;
+pub use wasm_validator_modules::CoreImports;
+pub use wasm_validator_modules::CoreTypeId;
+pub use wasm_validator_modules::Counted;
+pub use wasm_validator_modules::CustomSectionReader;
+pub use wasm_validator_modules::Data;
+pub use wasm_validator_modules::DataKind;
+pub use wasm_validator_modules::DescriptorRule;
+pub use wasm_validator_modules::Element;
+pub use wasm_validator_modules::ElementItems;
+pub use wasm_validator_modules::ElementKind;
+pub use wasm_validator_modules::Encoding;
+pub use wasm_validator_modules::EntityType;
+pub use wasm_validator_modules::Error;
+pub use wasm_validator_modules::Export;
+pub use wasm_validator_modules::ExternalKind;
+pub use wasm_validator_modules::Fault;
+pub use wasm_validator_modules::FieldType;
+pub use wasm_validator_modules::Flags;
+pub use wasm_validator_modules::FromReader;
+pub use wasm_validator_modules::FuncToValidate;
+pub use wasm_validator_modules::FuncType;
+pub use wasm_validator_modules::FuncValidator;
+pub use wasm_validator_modules::FuncValidatorAllocations;
+pub use wasm_validator_modules::FunctionBody;
+pub use wasm_validator_modules::Global;
+pub use wasm_validator_modules::GlobalType;
+pub use wasm_validator_modules::GroupRule;
+pub use wasm_validator_modules::HeapType;
+pub use wasm_validator_modules::Import;
+pub use wasm_validator_modules::InternRecGroup;
+pub use wasm_validator_modules::ItemKind;
+pub use wasm_validator_modules::ItemRule;
+pub use wasm_validator_modules::Items;
+pub use wasm_validator_modules::LinkCount;
+pub use wasm_validator_modules::MAX_FUNCTION_SIZE;
+pub use wasm_validator_modules::MAX_IDS;
+pub use wasm_validator_modules::Malformed;
+pub use wasm_validator_modules::Matches;
+pub use wasm_validator_modules::MaybeOwned;
+pub use wasm_validator_modules::MemoryType;
+pub use wasm_validator_modules::Module;
+pub use wasm_validator_modules::ModuleState;
+pub use wasm_validator_modules::OutOfOrder;
+pub use wasm_validator_modules::PackedIndex;
+pub use wasm_validator_modules::ParseAll;
+pub use wasm_validator_modules::Parser;
+pub use wasm_validator_modules::Payload;
+pub use wasm_validator_modules::RecGroup;
+pub use wasm_validator_modules::RecGroupElements;
+pub use wasm_validator_modules::RecGroupId;
+pub use wasm_validator_modules::RefType;
+pub use wasm_validator_modules::Refusal;
+pub use wasm_validator_modules::Rule;
+pub use wasm_validator_modules::SectionItems;
+pub use wasm_validator_modules::SectionLimited;
+pub use wasm_validator_modules::SnapshotList;
+pub use wasm_validator_modules::StorageType;
+pub use wasm_validator_modules::StructType;
+pub use wasm_validator_modules::SubType;
+pub use wasm_validator_modules::Table;
+pub use wasm_validator_modules::TableInit;
+pub use wasm_validator_modules::TableType;
+pub use wasm_validator_modules::TagKind;
+pub use wasm_validator_modules::TagType;
+pub use wasm_validator_modules::TypeAlloc;
+pub use wasm_validator_modules::TypeCanonicalizer;
+pub use wasm_validator_modules::TypeData;
+pub use wasm_validator_modules::TypeIdentifier;
+pub use wasm_validator_modules::TypeInfo;
+pub use wasm_validator_modules::TypeList;
+pub use wasm_validator_modules::TypeRef;
+pub use wasm_validator_modules::Types;
+pub use wasm_validator_modules::TypesRef;
+pub use wasm_validator_modules::UnpackedIndex;
+pub use wasm_validator_modules::ValType;
+pub use wasm_validator_modules::ValidPayload;
+pub use wasm_validator_modules::Validator;
+pub use wasm_validator_modules::ValidatorId;
+pub use wasm_validator_modules::ValidatorResources;
+pub use wasm_validator_modules::ValueTypeRule;
+pub use wasm_validator_modules::WasmFeatures;
+pub use wasm_validator_modules::WithRecGroup;
+pub use wasm_validator_modules::canonicalize_and_intern_rec_group;
+pub use wasm_validator_modules::check_composite_type;
+pub use wasm_validator_modules::check_descriptors;
+pub use wasm_validator_modules::check_subtype;
+pub use wasm_validator_modules::func_signature_matches;
+pub use wasm_validator_modules::intern_rec_group_of;
+pub use wasm_validator_modules::one_id_for_one_type;
+pub use wasm_validator_modules::own_id_for_each_type;
+pub use wasm_validator_modules::payloads_decide;
+pub use wasm_validator_modules::refused_modules_keep_types;
+pub use wasm_validator_modules::sections_add_their_items;
+pub use wasm_validator_modules::state_table;
+pub use wasm_validator_modules::validate;

@@ -1,9 +1,0 @@
-use Rattle.wasm_validator.proofs.validator.Validator.code_section_entry.Goals as goal
-
-pub invariant_of-self : goal.invariant_of-self
-invariant_of-self g c = record {
-  list = c.self.invariant.list;
-  ids = c.taken.ensures.ids c.self.inside.types c.self.invariant.ids;
-  valid = c.taken.ensures.valid c.self.inside.types c.self.invariant.valid;
-  first = c.taken.ensures.first c.self.inside.types c.self.inside.constants.types c.self.invariant.first;
-}

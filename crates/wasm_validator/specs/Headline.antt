@@ -1,0 +1,113 @@
+-- What the answers on a list of modules say of all of them. Core Specification 3.0, Validation, Modules, and Validation, Types and Matching.
+use Rattle.std.specs.Prelude.{ℕ, suc, ◌≡◌, ◌≤◌, ◌<◌, ◌+◌, ◌++◌, ◌↔◌, true, false, List, [], length, take, slice_get, sum, Some}
+use Rattle.std.specs.List.{AllZip}
+use Rattle.std.specs.declared.result.Result.{Result}
+use Rattle.std.specs.declared.result.Result.TheVariants.{Ok, Err}
+use Rattle.wasm_spec.specs.Syntax.{Sub}
+use Rattle.wasm_spec.specs.Features.{Features, canonical}
+use Rattle.wasm_spec.specs.Trees.{DefType, declared}
+use Rattle.wasm_spec.specs.TypeLaws.{HasNoRepetition}
+use Rattle.wasm_spec.specs.Declared.{IsAncestor}
+use Rattle.wasm_spec.specs.Matching.{MatchesSub}
+use Rattle.wasm_rules.specs.IndexSpaces.{index_spaces}
+use Rattle.wasm_rules.specs.Modules.{IsWellFormed}
+use Rattle.wasm_module_validity.specs.Expressions.{expression_at}
+use Rattle.wasm_module_validity.specs.Modules.{IsValidUpToBodies, IsValidModule}
+use Rattle.wasm_readers_types.specs.declared.indices.TheConstants.{MAX_IDS}
+use Rattle.wasm_validator_type_list.specs.Listing.{Listing}
+use Rattle.wasm_validator_type_list.specs.Listable.{AreListable}
+use Rattle.wasm_validator_type_list.specs.Declares.{declares}
+use Rattle.wasm_validator_type_list.specs.DefTypes.{types_of_list}
+use Rattle.wasm_validator_types.specs.Shown.{shown_of}
+use Rattle.wasm_validator_types.specs.declared.shown.Types as shown
+use Rattle.wasm_validator_core.specs.declared.error.Error.{Error}
+use Rattle.wasm_validator_core.specs.declared.error.Error.TheVariants.{OutOfMemory}
+use Rattle.wasm_validator_core.specs.Answers.{TypesSoFar}
+use Rattle.wasm_validator_modules.specs.Shows.{ShowModule}
+use Rattle.wasm_validator_modules.specs.Standing.{Stage, unparsed, in_module, in_code, ended, failed}
+
+-- the types that a validator holds
+abbrev pub types_held : Stage → TypesSoFar
+types_held (unparsed types) = types
+types_held (in_module types spaces more) = types
+types_held (in_code types spaces more) = types
+types_held (ended types) = types
+types_held failed = []
+
+-- the list begins with these types
+pub record Begins (front list : TypesSoFar) : Type 0 where
+  pub more : TypesSoFar
+  pub is : list ≡ front ++ more
+
+-- In well formed bytes at most so many types are written.
+abbrev pub WritesAtMost : Features → List ℕ → ℕ → Type 0
+WritesAtMost F bytes n = (m : IsWellFormed expression_at F bytes) → length m.types.types ≤ n
+
+module _ {A : Type 0} (F : Features) (modules : List (List ℕ)) (answers : List (Result (shown.Types A) (Error A))) where
+  -- The module at this place was looked at, with this answer.
+  pub record IsAnswered (k : ℕ) (bytes : List ℕ) (answer : Result (shown.Types A) (Error A)) : Type 0 where
+    pub given : slice_get modules k ≡ Some bytes
+    pub answered : slice_get answers k ≡ Some answer
+
+  -- No answer is that memory was refused.
+  abbrev pub NoneLacksMemory : Type 0
+  NoneLacksMemory = (k : ℕ) → slice_get answers k ≡ Some (Err OutOfMemory) → ⊥
+
+  -- There is room for so many types and those of all modules that were looked at.
+  pub record HasRoom (held : ℕ) : Type 0 where
+    pub counts : List ℕ
+    pub each : AllZip (WritesAtMost F) (take (length answers) modules) counts
+    pub fit : held + sum counts ≤ MAX_IDS
+
+  -- The bytes are a valid module, and the types show exactly its index spaces.
+  pub record IsShown (bytes : List ℕ) (t : shown.Types A) : Type 0 where
+    pub module_valid : IsValidModule F bytes
+    pub shows :
+        ShowModule F (types_of_list (shown_of t).list) (shown_of t).spaces
+        (index_spaces module_valid.well_formed.types.types module_valid.well_formed.parts) module_valid.well_formed.parts
+
+  -- The type with this index of the accepted module at this place of the list is d, and its types show it under this id.
+  pub record IsTypeOf (k : ℕ) (t : shown.Types A) (index id : ℕ) (d : DefType) : Type 0 where
+    pub bytes : List ℕ
+    pub accepted : IsAnswered k bytes (Ok t)
+    pub shown : IsShown bytes t
+    pub its_id : slice_get (shown_of t).spaces.types index ≡ Some id
+    pub its_type : slice_get shown.module_valid.well_formed.types.types index ≡ Some d
+
+  -- the list of types of an accepted module begins this list
+  abbrev pub BeginsWith : Listing A → shown.Types A → Type 0
+  BeginsWith l t = Begins (types_of_list (shown_of t).list) (types_of_list l)
+
+  -- What the answers say of all modules, where the validator held these types before.
+  pub record Headline (before : TypesSoFar) : Type 0 where
+    -- What is accepted is a valid module, and its types show exactly its index spaces.
+    pub accepted : (k : ℕ) (bytes : List ℕ) (t : shown.Types A) → IsAnswered k bytes (Ok t) → IsShown bytes t
+    -- What is refused is no valid module, where there is memory and room.
+    pub refused : NoneLacksMemory → HasRoom (length before) → (k : ℕ) (bytes : List ℕ) (e : Error A) → IsAnswered k bytes (Err e) → IsValidModule F bytes → ⊥
+    -- It goes on behind a module exactly where that is valid up to its bodies.
+    pub goes_on : (k : ℕ) (bytes : List ℕ) (r : Result (shown.Types A) (Error A)) → IsAnswered k bytes r → suc k < length answers → IsValidUpToBodies F bytes
+    pub stops :
+        NoneLacksMemory → HasRoom (length before)
+        → (k : ℕ) (bytes : List ℕ) (r : Result (shown.Types A) (Error A)) → IsAnswered k bytes r → suc k ≡ length answers → length answers < length modules → IsValidUpToBodies F bytes → ⊥
+    pub at_most : length answers ≤ length modules
+    pub first : 0 < length modules → 0 < length answers
+    -- Where equal types are one, two types of any accepted modules have one id exactly where they are equal: the same place of equal recursive types.
+    pub one_id :
+        canonical F ≡ true → (j k : ℕ) (t u : shown.Types A) (h i x y : ℕ) (d e : DefType)
+        → IsTypeOf j t h x d → IsTypeOf k u i y e → (x ≡ y) ↔ (d ≡ e)
+    -- Where they aren't, each type that is written has its own.
+    pub own_id :
+        canonical F ≡ false → (j k : ℕ) (t u : shown.Types A) (h i x y : ℕ) (d e : DefType)
+        → IsTypeOf j t h x d → IsTypeOf k u i y e → (x ≡ y) ↔ ((j ≡ k) × (h ≡ i))
+    -- In any list that begins with those of their modules, ids are ordered as the types are declared.
+    pub ordered :
+        canonical F ≡ true → (l : Listing A) → AreListable l.groups → HasNoRepetition (types_of_list l)
+        → (j k : ℕ) (t u : shown.Types A) (h i x y : ℕ) (d e : DefType) → BeginsWith l t → BeginsWith l u
+        → IsTypeOf j t h x d → IsTypeOf k u i y e → IsAncestor (declares l.groups) x y ↔ IsAncestor declared d e
+    -- Each type matches each of its declared ancestors.
+    pub ancestors_match :
+        (k : ℕ) (t : shown.Types A) (i x : ℕ) (d e : DefType) (s u : Sub DefType)
+        → IsTypeOf k t i x d → IsAncestor declared d e → declared d ≡ Some s → declared e ≡ Some u → MatchesSub declared s u
+    -- Ids keep their data: the list of types of a module is the beginning of that of each later one, and the types from before that of all.
+    pub kept : (j k : ℕ) (b c : List ℕ) (t u : shown.Types A) → j ≤ k → IsAnswered j b (Ok t) → IsAnswered k c (Ok u) → BeginsWith (shown_of u).list t
+    pub kept_before : (k : ℕ) (bytes : List ℕ) (t : shown.Types A) → IsAnswered k bytes (Ok t) → Begins before (types_of_list (shown_of t).list)
