@@ -1,3 +1,0 @@
-pub mod InRange
-pub mod Exactness
-pub mod Bodies
