@@ -1,4 +1,5 @@
 use crate::row::Trouble;
+use crate::words::split_word;
 use std::alloc::{AllocError, Global};
 
 /// The bytes that this text stands for: hexadecimal digits, `H` for the header of a module,
@@ -9,7 +10,7 @@ pub fn parse_bytes(alloc: Global, text: &str) -> Result<Vec<u8>, Trouble> {
         return Ok(bytes);
     }
     let mut is_first = true;
-    for piece in text.split('(') {
+    'pieces: for piece in text.split('(') {
         if is_first {
             push_words(alloc, &mut bytes, piece)?;
         } else {
@@ -26,10 +27,7 @@ fn push_repeated(alloc: Global, bytes: &mut Vec<u8>, piece: &str) -> Result<(), 
     let Some((inner, rest)) = piece.split_once(")*") else {
         return Err(Trouble::Malformed("a parenthesis without a number of times"));
     };
-    let (number, more) = match rest.split_once(' ') {
-        Some(parts) => parts,
-        None => (rest, ""),
-    };
+    let (number, more) = split_word(rest);
     let Ok(count) = number.parse::<u32>() else {
         return Err(Trouble::Malformed("a number of times that isn't one"));
     };
@@ -40,7 +38,7 @@ fn push_repeated(alloc: Global, bytes: &mut Vec<u8>, piece: &str) -> Result<(), 
 }
 
 fn push_times(bytes: &mut Vec<u8>, repeated: &[u8], count: u32) -> Result<(), AllocError> {
-    for _ in 0..count {
+    'times: for _ in 0..count {
         bytes.extend_from_slice(repeated)?;
     }
     Ok(())
@@ -48,7 +46,7 @@ fn push_times(bytes: &mut Vec<u8>, repeated: &[u8], count: u32) -> Result<(), Al
 
 /// Adds the bytes of these words, each of hexadecimal digits that may follow `H`.
 fn push_words(alloc: Global, bytes: &mut Vec<u8>, text: &str) -> Result<(), Trouble> {
-    for word in text.split_whitespace() {
+    'words: for word in text.split_whitespace() {
         match word.strip_prefix('H') {
             Some(digits) => {
                 bytes.extend_from_slice(b"\0asm\x01\0\0\0")?;

@@ -1,13 +1,17 @@
-//! `wasm-rows FILE..` runs rows, each a module with the answer that is wanted of it, and tells the
-//! wrong ones.
+//! `wasm-rows FILE..` runs rows, each modules or calls with the answers that are wanted of them, and
+//! tells the wrong ones.
 #![tactic(auto)]
 
+mod answer;
 mod bytes;
+mod call;
 mod facts;
 mod features;
 mod row;
 mod run;
+mod shown;
 mod text;
+mod words;
 
 use run::{Input, print_error, run};
 use std::alloc::Global;

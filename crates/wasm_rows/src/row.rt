@@ -1,4 +1,6 @@
+use crate::answer::Answer;
 use crate::bytes::parse_bytes;
+use crate::call::answer_call;
 use crate::facts::push_answer;
 use crate::features::parse_features;
 use std::alloc::{AllocError, Global};
@@ -27,23 +29,62 @@ impl Trouble {
     }
 }
 
-/// A row: features, and modules with what is wanted of each.
+/// What the parts of a row are, each of which stands before what is wanted of it.
+#[derive(Clone, Copy)]
+enum Form {
+    /// Modules, with `reset` between two where it may be called.
+    Modules,
+    /// Calls, with nothing between.
+    Calls,
+}
+
+impl Form {
+    /// Why a row is none that has no parts.
+    fn without_parts(self) -> &'static str {
+        match self {
+            Form::Modules => "a row without bytes",
+            Form::Calls => "a row without calls",
+        }
+    }
+
+    /// Why a row is none whose last part stands before nothing.
+    fn without_answer(self) -> &'static str {
+        match self {
+            Form::Modules => "bytes without a wanted answer",
+            Form::Calls => "a call without a wanted answer",
+        }
+    }
+}
+
+/// What stands before a row of calls.
+const CALLS: &str = "calls | ";
+
+/// A row: features, and modules or calls with what is wanted of each.
 #[derive(Clone, Copy)]
 pub struct Row<'a> {
+    form: Form,
     features: &'a str,
-    modules: &'a str,
+    parts: &'a str,
 }
 
 impl<'a> Row<'a> {
     /// The row that this line is.
     pub fn of(line: &'a str) -> Result<Row<'a>, Trouble> {
+        let (form, line) = match line.strip_prefix(CALLS) {
+            Some(rest) => (Form::Calls, rest),
+            None => (Form::Modules, line),
+        };
         let Some((_name, rest)) = line.split_once(" | ") else {
             return Err(Trouble::Malformed("a row without features"));
         };
-        let Some((features, modules)) = rest.split_once(" | ") else {
-            return Err(Trouble::Malformed("a row without bytes"));
+        let Some((features, parts)) = rest.split_once(" | ") else {
+            return Err(Trouble::Malformed(form.without_parts()));
         };
-        Ok(Row { features, modules })
+        Ok(Row {
+            form,
+            features,
+            parts,
+        })
     }
 }
 
@@ -95,40 +136,42 @@ fn reason(alloc: Global, line: &str) -> Result<&'static str, AllocError> {
     }
 }
 
-/// Gives the modules of a row to one validator, up to the first whose answer isn't right.
+/// Gives the parts of a row to one validator, up to the first whose answer isn't right.
 fn first_difference<'a>(alloc: Global, row: Row<'a>) -> Result<Option<Difference<'a>>, Trouble> {
     let features = parse_features(row.features.trim())?;
     let mut validator = Validator::new_with_features(alloc, features, ValidatorId::from_number(0));
-    let mut bytes: Option<&'a str> = None;
-    for part in row.modules.split(" | ") {
-        match bytes {
-            None => bytes = Some(part.trim()),
-            Some(module) => {
-                let difference = difference_among(alloc, &mut validator, module, part.trim())?;
+    let mut before: Option<&'a str> = None;
+    'parts: for text in row.parts.split(" | ") {
+        match before {
+            None => before = Some(text.trim()),
+            Some(part) => {
+                let wanted = text.trim();
+                let difference = difference_among(alloc, &mut validator, row.form, part, wanted)?;
                 if difference.is_some() {
                     return Ok(difference);
                 }
-                bytes = None;
+                before = None;
             }
         }
     }
-    match bytes {
+    match before {
         None => Ok(None),
-        Some(_) => Err(Trouble::Malformed("bytes without a wanted answer")),
+        Some(_) => Err(Trouble::Malformed(row.form.without_answer())),
     }
 }
 
-/// Gives a module to the validator as often as it is to be, up to the first time that its answer
+/// Gives a part to the validator as often as it is to be, up to the first time that its answer
 /// isn't right.
 fn difference_among<'a>(
     alloc: Global,
     validator: &mut Validator,
-    module: &'a str,
+    form: Form,
+    part: &'a str,
     wanted: &'a str,
 ) -> Result<Option<Difference<'a>>, Trouble> {
-    let (times, bytes) = times_of(module)?;
-    for _ in 0..times {
-        let given = answer(alloc, validator, bytes, named(wanted))?;
+    let (times, once) = times_of(part)?;
+    'times: for _ in 0..times {
+        let given = answer(alloc, validator, form, once, named(wanted))?;
         if !is_right(wanted, given.as_str()) {
             return Ok(Some(Difference { wanted, given }));
         }
@@ -136,13 +179,13 @@ fn difference_among<'a>(
     Ok(None)
 }
 
-/// How often a module is to be given, and its bytes: `N times BYTES`, or `BYTES` for once.
-fn times_of(module: &str) -> Result<(u32, &str), Trouble> {
-    let Some((number, bytes)) = module.split_once(" times ") else {
-        return Ok((1, module));
+/// How often a part is to be given, and the part itself: `N times PART`, or `PART` for once.
+fn times_of(part: &str) -> Result<(u32, &str), Trouble> {
+    let Some((number, once)) = part.split_once(" times ") else {
+        return Ok((1, part));
     };
     match number.parse::<u32>() {
-        Ok(times) => Ok((times, bytes)),
+        Ok(times) => Ok((times, once)),
         Err(_) => Err(Trouble::Malformed("a number of times that isn't one")),
     }
 }
@@ -163,19 +206,28 @@ fn is_right(wanted: &str, given: &str) -> bool {
     }
 }
 
-/// What the validator says of these bytes: its verdict, and the facts that are wanted, as text.
+/// What the validator says of this part: its verdict, and the facts that are wanted, as text.
 fn answer(
     alloc: Global,
     validator: &mut Validator,
-    bytes: &str,
+    form: Form,
+    part: &str,
     wanted: &str,
 ) -> Result<String, Trouble> {
+    let answer = match form {
+        Form::Modules => answer_module(alloc, validator, part)?,
+        Form::Calls => answer_call(alloc, validator, part)?,
+    };
+    let mut text = String::new(alloc);
+    push_answer(&mut text, &answer, validator, wanted)?;
+    Ok(text)
+}
+
+/// What the validator says of the module that these bytes are.
+fn answer_module(alloc: Global, validator: &mut Validator, bytes: &str) -> Result<Answer, Trouble> {
     let bytes = parse_bytes(alloc, bytes)?;
     if validator.can_reset() {
         validator.reset();
     }
-    let answer = validator.validate_all(bytes.as_slice());
-    let mut text = String::new(alloc);
-    push_answer(&mut text, &answer, validator, wanted)?;
-    Ok(text)
+    Ok(Answer::of_end(validator.validate_all(bytes.as_slice())))
 }

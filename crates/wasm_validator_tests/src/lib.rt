@@ -6,8 +6,6 @@ mod items;
 #[cfg(test)]
 mod owned;
 #[cfg(test)]
-mod states;
-#[cfg(test)]
 mod types;
 
 use std::alloc::Global;

@@ -1,0 +1,43 @@
+use wasm_validator::{Error, Types};
+
+/// What a validator answers to a module or to a call.
+#[derive(Drop)]
+pub enum Answer {
+    /// It is accepted, and gives nothing.
+    Accepted,
+    /// The module has ended, and these are its types.
+    Ended(Types),
+    /// It gives a function.
+    HandedOut(HandedOut),
+    Refused(Error),
+    /// There is nothing, and this text says so.
+    Nothing(&'static str),
+}
+
+/// A function that was handed out.
+#[derive(Drop)]
+pub struct HandedOut {
+    pub index: u32,
+    /// The index of its type.
+    pub type_index: u32,
+    /// Why its body was refused, where it was.
+    pub refusal: Option<Error>,
+}
+
+impl Answer {
+    /// The answer of a section.
+    pub fn of_section(given: Result<(), Error>) -> Answer {
+        match given {
+            Ok(()) => Answer::Accepted,
+            Err(error) => Answer::Refused(error),
+        }
+    }
+
+    /// The answer of the end, or of a whole module.
+    pub fn of_end(given: Result<Types, Error>) -> Answer {
+        match given {
+            Ok(types) => Answer::Ended(types),
+            Err(error) => Answer::Refused(error),
+        }
+    }
+}
