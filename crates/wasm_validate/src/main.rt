@@ -1,80 +1,76 @@
-//! `wasm-validate FILE` says whether a WebAssembly module is valid.
+//! `wasm-validate FILE...` says of each file whether it is a valid WebAssembly module.
 #![tactic(auto)]
 
+ghost use Rattle.std.specs.Prelude.{◌≡◌, ◌≤◌, IfOk};
+ghost use Rattle.wasm_validate.specs.Files.{IsUnread};
+ghost use Rattle.wasm_validate.specs.Words.{IsNoText, name_of};
+
+mod lines;
 mod run;
+mod words;
 
 use run::{Input, print_error, run};
 use std::alloc::AllocError;
-use std::env::{self, Env};
+use std::env::Env;
 use std::fs;
 use std::io::{self, Write};
 use std::process::ExitCode;
 use std::rt::Files;
+use words::{Word, read_words};
 
 fn main(rt: HostRuntime) -> ExitCode {
     ExitCode::from(validate_arguments(&rt, &mut rt.stdout(), &mut rt.stderr()))
 }
 
-/// How many arguments there are besides the program's name.
-fn argument_count(rt: &impl Env) -> usize {
-    let mut count = 0;
-    for i in 1..usize::MAX {
-        if let Err(env::FillError::NotPresent) = rt.arg(i, &mut []) {
-            break;
-        }
-        count = i;
-    }
-    count
-}
-
-/// Reads the file that the one argument names, and validates it. The answer is the exit status.
+/// Reads the files that the arguments name, and validates them. The answer is the exit status.
 fn validate_arguments<R: Env + Files + AllocGlobal, W: Write, E: Write>(
     rt: &R,
     out: &mut W,
     err: &mut E,
-) -> u8 {
-    if argument_count(rt) != 1 {
-        return run(rt.alloc(), &[], out, err);
-    }
-    match read_argument(rt) {
-        Ok(file) => run(rt.alloc(), &[file], out, err),
+) -> u8
+    ensures { result ≤ 2 }
+{
+    match read_arguments(rt) {
+        Ok(files) => run(rt.alloc(), files.as_slice(), out, err),
         Err(_) => print_error(err, "out of memory"),
     }
 }
 
-/// The one argument, with what the file at that path holds. Only memory can be refused.
-fn read_argument<R: Env + Files + AllocGlobal>(rt: &R) -> Result<Input, AllocError> {
-    let mut words = match env::args(rt) {
-        Ok(words) => words,
-        Err(error) => {
-            if error.kind() == io::ErrorKind::OutOfMemory {
-                return Err(AllocError);
-            }
-            // A path that isn't text can't be read.
-            let name = String::from_str(rt.alloc(), "argument 1")?;
-            return Ok(Input { name, bytes: None });
+/// The files that the arguments name, up to the first that can't be read: that one ends everything.
+/// Only memory can be refused. All words are read before the first file.
+fn read_arguments<R: Env + Files + AllocGlobal>(rt: &R) -> Result<Vec<Input>, AllocError> {
+    let words = read_words(rt)?;
+    let mut files = Vec::with_capacity(rt.alloc(), words.len())?;
+    'words: for word in words {
+        let file = read_file(rt, word)?;
+        let is_read = file.bytes.is_some();
+        files.push(file)?;
+        if !is_read {
+            break;
         }
-    };
-    let _program = words.next();
-    let name = match words.next() {
-        Some(name) => name,
-        None => String::new(rt.alloc()),
-    };
-    let bytes = read_file(rt, name.as_str())?;
-    Ok(Input { name, bytes })
+    }
+    Ok(files)
 }
 
-/// What the file at this path holds, and nothing where it can't be read. Only memory can be
+/// The file that this word names, with what it holds where it can be read. Only memory can be
 /// refused.
-fn read_file<R: Files + AllocGlobal>(rt: &R, path: &str) -> Result<Option<Vec<u8>>, AllocError> {
-    match fs::read(rt, path) {
-        Ok(bytes) => Ok(Some(bytes)),
-        Err(error) => {
-            if error.kind() == io::ErrorKind::OutOfMemory {
-                Err(AllocError)
-            } else {
-                Ok(None)
+fn read_file<R: Files + AllocGlobal>(rt: &R, word: Word) -> Result<Input, AllocError>
+    ensures named { IfOk result (λ file. file.name ≡ name_of word) }
+    ensures no_text { IsNoText word → IfOk result IsUnread }
+{
+    match word {
+        Word::NoText(name) => Ok(Input { name, bytes: None }),
+        Word::Path(name) => match fs::read(rt, name.as_str()) {
+            Ok(bytes) => Ok(Input {
+                name,
+                bytes: Some(bytes),
+            }),
+            Err(error) => {
+                if error.kind() == io::ErrorKind::OutOfMemory {
+                    return Err(AllocError);
+                }
+                Ok(Input { name, bytes: None })
             }
-        }
+        },
     }
 }

@@ -1,9 +1,12 @@
-ghost use Rattle.std.specs.Prelude.{◌≡◌, ◌≤◌, length, ◌∷◌, [], None, OnOk, OnErr};
-ghost use Rattle.wasm_validate.specs.Files.{AreRefused, IsReadAs, AreAccepted, AreAllAccepted, AreAllRefused};
+ghost use Rattle.std.specs.Prelude.{◌≡◌, ◌≤◌, [], map, Any, find, IfOk, IsTrue, ◌↔◌, true, false};
+ghost use Rattle.std.specs.Option.{option_map};
+ghost use Rattle.wasm_validate.specs.Files.{AreAllAccepted, HasRoomForAll, IsUnread, bytes_held, is_unread};
+ghost use Rattle.wasm_validate.specs.Answers.{Tells, LacksMemory};
 
-use std::alloc::{Allocator, Global};
+use crate::lines::{Answer, print_lines};
+use std::alloc::{AllocError, Allocator, Global};
 use std::io::{self, Write};
-use wasm_validator::{CoreExports, CoreImports, Error, Types, ValidatorId, validate};
+use wasm_validator::{Validator, ValidatorId, validate_list};
 
 /// The exit status where all files are valid modules.
 pub const STATUS_OK: u8 = 0;
@@ -20,8 +23,9 @@ pub struct Input<A: Allocator = Global> {
     pub bytes: Option<Vec<u8, A>>,
 }
 
-/// Validates one file, prints one line on it, and answers the exit status. That is `STATUS_OK` only
-/// where every file is a valid module, and `STATUS_REFUSED` only where the one file is refused.
+/// Validates files one after another by one validator, prints one line on each, and answers the
+/// exit status. That is `STATUS_OK` only where every file is a valid module, and `STATUS_REFUSED`
+/// only where not all are.
 pub fn run<A: Allocator + Copy, W: Write, E: Write>(
     alloc: A,
     files: &[Input<A>],
@@ -30,114 +34,114 @@ pub fn run<A: Allocator + Copy, W: Write, E: Write>(
 ) -> u8
     ensures known { result ≤ 2 }
     ensures accepted { result ≡ STATUS_OK → AreAllAccepted files.now }
-    ensures refused { result ≡ STATUS_REFUSED → AreAllRefused files.now }
+    ensures refused { result ≡ STATUS_REFUSED → HasRoomForAll files.now → AreAllAccepted files.now → ⊥ }
     ensures quiet { (result ≡ STATUS_TROUBLE → ⊥) → err.new ≡ err.old }
-    ensures one_file { (length files.now ≡ 1 → ⊥)
-        → (result ≡ STATUS_TROUBLE) × (out.new ≡ out.old) }
-    ensures unread { (file : _) → files.now ≡ file ∷ [] → file.bytes ≡ None
-        → (result ≡ STATUS_TROUBLE) × (out.new ≡ out.old) }
+    ensures no_files { files.now ≡ [] → (result ≡ STATUS_TROUBLE) × (out.new ≡ out.old) }
+    ensures unread { Any IsUnread files.now → (result ≡ STATUS_TROUBLE) × (out.new ≡ out.old) }
 {
-    match files {
-        [file] => run_one(alloc, file, out, err),
-        _ => {
-            let _printed = writeln!(err, "usage: wasm-validate FILE...");
-            STATUS_TROUBLE
-        }
+    if files.is_empty() {
+        let _printed = writeln!(err, "usage: wasm-validate FILE...");
+        return STATUS_TROUBLE;
+    }
+    if let Some(file) = first_unread(files) {
+        let name = file.name.as_str();
+        let _printed = writeln!(err, "wasm-validate: cannot read {name}");
+        return STATUS_TROUBLE;
+    }
+    match answer_files(alloc, files) {
+        Ok(answers) => status_of(print_lines(files, answers.as_slice(), out)),
+        Err(_) => print_error(err, "out of memory"),
     }
 }
 
 /// Prints what the program could not do, and answers the status that says so.
 pub fn print_error<E: Write>(err: &mut E, message: &str) -> u8
-    ensures { result ≡ 2 }
+    ensures { result ≡ STATUS_TROUBLE }
 {
     let _printed = writeln!(err, "wasm-validate: {message}");
     STATUS_TROUBLE
 }
 
-fn run_one<A: Allocator + Copy, W: Write, E: Write>(
-    alloc: A,
-    file: &Input<A>,
-    out: &mut W,
-    err: &mut E,
-) -> u8
-    ensures known { result ≤ 2 }
-    ensures accepted { result ≡ STATUS_OK → IsReadAs AreAccepted file.now }
-    ensures refused { result ≡ STATUS_REFUSED → IsReadAs AreRefused file.now }
-    ensures quiet { (result ≡ STATUS_TROUBLE → ⊥) → err.new ≡ err.old }
-    ensures unread { file.now.bytes ≡ None → (result ≡ STATUS_TROUBLE) × (out.new ≡ out.old) }
+/// The first file that could not be read.
+fn first_unread<A: Allocator>(files: &[Input<A>]) -> Option<&Input<A>>
+    ensures { option_map (λ file. file.now) result ≡ find is_unread files.now }
 {
-    let name = file.name.as_str();
-    let Some(bytes) = &file.bytes else {
-        let _printed = writeln!(err, "wasm-validate: cannot read {name}");
-        return STATUS_TROUBLE;
-    };
-    match validate(alloc, bytes.as_slice(), ValidatorId::from_number(0)) {
-        Ok(types) => status_of(print_ok(name, &types, out), STATUS_OK),
-        Err(error) => {
-            if error.is_out_of_memory() {
-                return print_error(err, "out of memory");
+    files.iter().find(|file| file.bytes.is_none())
+}
+
+/// What one new validator answers on files one after another. Only memory can be refused.
+fn answer_files<A: Allocator + Copy>(
+    alloc: A,
+    files: &[Input<A>],
+) -> Result<Vec<Answer<A>, A>, AllocError>
+    ensures { IfOk result (λ answers. Tells files.now answers.items) }
+{
+    let modules = lend_bytes(alloc, files)?;
+    let mut validator = Validator::new(alloc, ValidatorId::from_number(0));
+    match validate_list(&mut validator, modules.as_slice()) {
+        Ok(answers) => {
+            if lacks_memory(answers.as_slice()) {
+                return Err(AllocError);
             }
-            status_of(print_refused(name, &error, out), STATUS_REFUSED)
+            Ok(answers)
+        }
+        Err(_) => Err(AllocError),
+    }
+}
+
+/// The bytes of files, and none of one that could not be read.
+fn lend_bytes<A: Allocator>(alloc: A, files: &[Input<A>]) -> Result<Vec<&[u8], A>, AllocError>
+    ensures { IfOk result (λ modules. map (λ bytes. bytes.now) modules.items ≡ map bytes_held files.now) }
+{
+    let mut modules = Vec::with_capacity(alloc, files.len())?;
+    'files: for file in files {
+        modules.push_reserved(bytes_of(file));
+    }
+    Ok(modules)
+}
+
+fn bytes_of<A: Allocator>(file: &Input<A>) -> &[u8]
+    ensures { result.now ≡ bytes_held file.now }
+{
+    match &file.bytes {
+        Some(bytes) => bytes.as_slice(),
+        None => &[],
+    }
+}
+
+/// Whether an answer is that memory was refused.
+fn lacks_memory<A: Allocator>(answers: &[Answer<A>]) -> bool
+    ensures { IsTrue result ↔ Any LacksMemory answers.now }
+{
+    'answers: for answer in answers {
+        if is_memory_refusal(answer) {
+            return true;
         }
     }
+    false
 }
 
-/// The status of a line that was printed, or of one that could not be.
-fn status_of(printed: io::Result<()>, status: u8) -> u8
-    ensures printed { OnOk printed (result ≡ status) }
-    ensures trouble { OnErr printed (result ≡ STATUS_TROUBLE) }
+fn is_memory_refusal<A: Allocator>(answer: &Answer<A>) -> bool
+    ensures { IsTrue result ↔ LacksMemory answer.now }
+{
+    match answer {
+        Ok(_) => false,
+        Err(error) => error.is_out_of_memory(),
+    }
+}
+
+/// The status where all lines were printed, of which each may be of an accepted file, or where one
+/// could not be.
+fn status_of(printed: io::Result<bool>) -> u8
+    ensures known { result ≤ 2 }
+    ensures accepted { (result ≡ STATUS_OK) ↔ (printed ≡ Ok true) }
+    ensures refused { (result ≡ STATUS_REFUSED) ↔ (printed ≡ Ok false) }
 {
     match printed {
-        Ok(()) => status,
+        Ok(true) => STATUS_OK,
+        Ok(false) => STATUS_REFUSED,
         Err(_) => STATUS_TROUBLE,
     }
-}
-
-fn print_ok<A: Allocator + Copy, W: Write>(
-    name: &str,
-    types: &Types<A>,
-    out: &mut W,
-) -> io::Result<()> {
-    let shown = types.as_ref();
-    let type_count = shown.core_type_count_in_module();
-    let function_count = shown.function_count();
-    let import_count = match shown.core_imports() {
-        Some(imports) => count_imports(imports),
-        None => 0,
-    };
-    let export_count = match shown.core_exports() {
-        Some(exports) => count_exports(exports),
-        None => 0,
-    };
-    writeln!(
-        out,
-        "{name}: ok types {type_count} functions {function_count} imports {import_count} exports {export_count}"
-    )
-}
-
-fn print_refused<A: Allocator, W: Write>(
-    name: &str,
-    error: &Error<A>,
-    out: &mut W,
-) -> io::Result<()> {
-    let offset = error.offset();
-    writeln!(out, "{name}: refused at {offset}: {error}")
-}
-
-fn count_imports<A: Allocator>(imports: CoreImports<'_, A>) -> u64 {
-    let mut count = 0u64;
-    for _import in imports {
-        count = count.saturating_add(1);
-    }
-    count
-}
-
-fn count_exports<A: Allocator>(exports: CoreExports<'_, A>) -> u64 {
-    let mut count = 0u64;
-    for _export in exports {
-        count = count.saturating_add(1);
-    }
-    count
 }
 
 #[cfg(test)]
