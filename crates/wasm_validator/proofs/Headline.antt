@@ -1,5 +1,5 @@
 -- What the answers on a list of modules say of all of them.
-use Rattle.std.proofs.Common.{◌≡◌, refl, sym, ap, subst, ◌∙◌, ◌⊎◌, inl, inr, ◌↔◌, ℕ, zero, suc, ◌+◌, ◌<◌, ◌≤◌, true, false, List, [], ◌∷◌, ◌++◌, length, slice_get, Some, None, append-nil, arith, length-append}
+use Rattle.std.proofs.Common.{◌≡◌, refl, sym, ap, subst, ◌∙◌, ◌⊎◌, inl, inr, ◌↔◌, ℕ, zero, suc, ◌+◌, ◌<◌, ◌≤◌, true, false, List, [], ◌∷◌, ◌++◌, length, slice_get, Some, append-nil, arith, length-append}
 use Rattle.std.specs.List.{AllZip, Contains}
 use Rattle.std.specs.declared.result.Result.{Result}
 use Rattle.std.specs.declared.result.Result.TheVariants.{Ok, Err}
@@ -33,9 +33,9 @@ use Rattle.wasm_validator_core.specs.declared.error.Error.{Error}
 use Rattle.wasm_validator_core.specs.declared.error.Error.TheVariants.{Refused, DuplicateExport, OutOfMemory}
 use Rattle.wasm_validator_core.specs.Answers.{TypesSoFar}
 use Rattle.wasm_validator_modules.specs.Standing.{Stage, unparsed, in_module, in_code, ended, failed, Standing, may_reset, after_reset}
-use Rattle.wasm_validator_modules.specs.Verdict.{AcceptsModule, RefusesModule, RefusesUpToBodies, DecidesModule, EndsModule, StopsModule}
+use Rattle.wasm_validator_modules.specs.Verdict.{RefusesModule, RefusesUpToBodies, StopsModule}
 use Rattle.wasm_validator.specs.Lists.{DecidesEach}
-use Rattle.wasm_validator.specs.Headline.{types_held, Begins, NoneLacksMemory, HasRoom, IsAnswered, IsShown, IsTypeOf, BeginsWith, Headline}
+use Rattle.wasm_validator.specs.Headline.{types_held, Begins, NoneLacksMemory, IsAnswered, IsShown, IsTypeOf, BeginsWith, Headline}
 use Rattle.wasm_validator.proofs.Lists.{begins_all, Room, Placed, Stood, stood, later, few_answers, first_answer}
 
 -- elements at one place of two lists

@@ -3,7 +3,7 @@ use Rattle.std.proofs.Common.{◌≡◌, refl, sym, ap, subst, ◌∙◌, ◌⊎
 use Rattle.std.specs.Prelude.{fold, sum}
 use Rattle.std.specs.List.{AllZip}
 use Rattle.std.specs.declared.result.Result.{Result}
-use Rattle.std.specs.declared.result.Result.TheVariants.{Ok, Err}
+use Rattle.std.specs.declared.result.Result.TheVariants.{Ok}
 use Rattle.std.proofs.lemmas.Option.{same_Some, none-some}
 use Rattle.wasm_rules.specs.FeatureFlags.{features_of}
 use Rattle.wasm_readers_types.specs.declared.indices.TheConstants.{MAX_IDS}
@@ -13,7 +13,7 @@ use Rattle.wasm_validator_types.specs.Shown.{shown_of}
 use Rattle.wasm_validator_types.specs.declared.shown.Types as shown
 use Rattle.wasm_validator_core.specs.declared.error.Error.{Error}
 use Rattle.wasm_validator_core.specs.Answers.{TypesSoFar}
-use Rattle.wasm_validator_modules.specs.Standing.{Stage, unparsed, ended, Standing, after_reset}
+use Rattle.wasm_validator_modules.specs.Standing.{unparsed, ended, Standing, after_reset}
 use Rattle.wasm_validator_modules.specs.Verdict.{DecidesModule, EndsModule, StopsModule}
 use Rattle.wasm_validator.specs.Lists.{DecidesEach}
 use Rattle.wasm_validator.specs.Headline.{Begins, WritesAtMost, HasRoom}

@@ -1,4 +1,4 @@
-use Rattle.std.proofs.Common.{◌≡◌, refl, sym, subst, ◌+◌, ◌∙◌, ◌++◌, ◌∷◌, true, false, length, arith}
+use Rattle.std.proofs.Common.{refl, sym, subst, ◌+◌, arith}
 use Rattle.wasm_validator.proofs.Going.{SoFar, begin, next, stop, finish}
 use Rattle.wasm_validator.proofs.Headline.{headline}
 use Rattle.wasm_validator.specs.Lists.{DecidesEach, lent}
