@@ -2,9 +2,11 @@
 
 use std::rc::Rc;
 use std::test::Fail;
-use wasm_readers_types::{CoreTypeId, RefType, TableType};
+use wasm_readers::{Export, Import};
+use wasm_readers_errors::WasmFeatures;
+use wasm_readers_types::{CoreTypeId, ExternalKind, RefType, TableType, TypeRef};
 use wasm_validator_type_list::TypeList;
-use wasm_validator_types::{IndexSpaces, SnapshotList, Types, ValidatorId};
+use wasm_validator_types::{EntityType, IndexSpaces, SnapshotList, Types, ValidatorId};
 
 #[test]
 fn a_snapshot_keeps_its_items(rt: HostRuntime) -> Result<(), Fail> {
@@ -36,7 +38,8 @@ fn a_module_shows_what_was_added(rt: HostRuntime) -> Result<(), Fail> {
     assert!(rt; spaces.is_exact_function(1));
     let spaces = Rc::new(rt.alloc(), spaces)?;
     let number = ValidatorId::from_number(1);
-    let types = Types::new(number, TypeList::new(rt.alloc(), true), spaces);
+    let features = WasmFeatures::default();
+    let types = Types::new(number, features, TypeList::new(rt.alloc(), true), spaces);
     let shown = types.as_ref();
     assert!(rt; shown.id() == number && number != ValidatorId::from_number(8));
     assert!(rt; shown.core_type_count_in_module() == 1);
@@ -44,5 +47,45 @@ fn a_module_shows_what_was_added(rt: HostRuntime) -> Result<(), Fail> {
     assert!(rt; shown.core_function_at(1) == id);
     assert!(rt; shown.table_count() == 1);
     assert!(rt; shown.table_at(0) == table);
+    Ok(())
+}
+
+/// An export of this kind with this index.
+fn export_of(kind: ExternalKind, index: u32) -> Export<'static> {
+    Export {
+        name: "a",
+        kind,
+        index,
+    }
+}
+
+/// An import that asks for this.
+fn import_of(ty: TypeRef) -> Import<'static> {
+    Import {
+        module: "m",
+        name: "a",
+        ty,
+    }
+}
+
+#[test]
+fn imports_and_exports_are_entities(rt: HostRuntime) -> Result<(), Fail> {
+    let id = CoreTypeId::from_index(4);
+    let mut spaces = IndexSpaces::new(rt.alloc());
+    spaces.push_type(id)?;
+    spaces.push_function(0)?;
+    let spaces = Rc::new(rt.alloc(), spaces)?;
+    let number = ValidatorId::from_number(1);
+    let features = WasmFeatures::default();
+    let types = Types::new(number, features, TypeList::new(rt.alloc(), true), spaces);
+    let shown = types.as_ref();
+    let exported = shown.entity_type_from_export(&export_of(ExternalKind::Func, 0));
+    assert!(rt; exported == Some(EntityType::Func(id)));
+    let behind = shown.entity_type_from_export(&export_of(ExternalKind::Func, 1));
+    assert!(rt; behind == None);
+    let asked = shown.entity_type_from_import(&import_of(TypeRef::FuncExact(0)));
+    assert!(rt; asked == Some(EntityType::FuncExact(id)));
+    let unknown = shown.entity_type_from_import(&import_of(TypeRef::Func(1)));
+    assert!(rt; unknown == None);
     Ok(())
 }

@@ -7,6 +7,7 @@ use Rattle.wasm_validator_types.specs.Spaces.{Spaces}
 use Rattle.wasm_validator_modules.specs.declared.validator.State.{State}
 use Rattle.wasm_validator_modules.specs.declared.validator.State.TheVariants.{Unparsed, Module, Code, End, Failed}
 use Rattle.wasm_validator_core.specs.Answers.{TypesSoFar}
+use Rattle.wasm_spec.specs.Features.{Features}
 use Rattle.wasm_rules.specs.FeatureFlags.{features_of}
 use Rattle.wasm_validator_canonical.specs.Groups.{AreValid}
 use Rattle.wasm_validator_type_list.specs.DefTypes.{types_of_list}
@@ -123,14 +124,14 @@ module _ {A : Type 0} where
   read-ids list Failed m o a = absurd (cc)
 
   -- and what shows them
-  list-ids : (id : ℕ) (list : Listing A) (m : Spaces) → AreIdsOf list m.types → HoldsIds (record { id = id; list = list; spaces = m })
-  list-ids id list m a = subst (λ n. All (λ i. i < n) m.types) (length-def_types list.is_canonical list.groups) a.known
+  list-ids : (id : ℕ) (F : Features) (list : Listing A) (m : Spaces) → AreIdsOf list m.types → HoldsIds (record { id = id; features = F; list = list; spaces = m })
+  list-ids id F list m a = subst (λ n. All (λ i. i < n) m.types) (length-def_types list.is_canonical list.groups) a.known
 
-  pub shown-ids : (id : ℕ) (list : Listing A) (s : State A) (m : Spaces) (w : Shown A) → read_of s ≡ Some m → AreIdsIn list s → w ≡ record { id = id; list = lists.committed list; spaces = m } → HoldsIds w
-  shown-ids id list s m w o a e = subst HoldsIds (sym e) (list-ids id list m (read-ids list s m o a))
+  pub shown-ids : (id : ℕ) (F : Features) (list : Listing A) (s : State A) (m : Spaces) (w : Shown A) → read_of s ≡ Some m → AreIdsIn list s → w ≡ record { id = id; features = F; list = lists.committed list; spaces = m } → HoldsIds w
+  shown-ids id F list s m w o a e = subst HoldsIds (sym e) (list-ids id F list m (read-ids list s m o a))
 
-  pub lent-ids : (id : ℕ) (list : Listing A) (s : State A) (m n : Spaces) (w : Shown A) → read_of s ≡ Some m → AreIdsIn list s → n ≡ m → w ≡ record { id = id; list = list; spaces = n } → HoldsIds w
-  lent-ids id list s m n w o a same e = subst HoldsIds (sym e) (subst (λ x. HoldsIds (record { id = id; list = list; spaces = x })) (sym same) (list-ids id list m (read-ids list s m o a)))
+  pub lent-ids : (id : ℕ) (F : Features) (list : Listing A) (s : State A) (m n : Spaces) (w : Shown A) → read_of s ≡ Some m → AreIdsIn list s → n ≡ m → w ≡ record { id = id; features = F; list = list; spaces = n } → HoldsIds w
+  lent-ids id F list s m n w o a same e = subst HoldsIds (sym e) (subst (λ x. HoldsIds (record { id = id; features = F; list = list; spaces = x })) (sym same) (list-ids id F list m (read-ids list s m o a)))
 
 -- what is left of it where a section was added that leaves the list
 module _ {T A : Type 0} (list : Listing A) (m : ModuleState A) where

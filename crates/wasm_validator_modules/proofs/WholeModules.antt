@@ -208,6 +208,7 @@ record RunsInside {A : Type 0} (old : Standing) (t : shown.Types A) (q : TypesSo
   list : q.0 ≡ types_of_list (shown_of t).list
   spaces : q.1 ≡ (shown_of t).spaces
   same_id : (shown_of t).id ≡ old.id
+  same_features : (shown_of t).features ≡ features_of old.features
   once : canonical (features_of old.features) ≡ true → HasNoRepetition (types_of_list (shown_of t).list)
 
 -- no type has two ids in what is shown
@@ -233,6 +234,7 @@ runs_inside bytes old new t a r =
       list = λ i. (pair i).0;
       spaces = λ i. (pair i).1;
       same_id = a.shown.same_id ∙ sym (ap (λ (s : Standing). s.id) at_end);
+      same_features = a.shown.same_features ∙ sym (ap (λ (s : Standing). features_of s.features) at_end);
       once = λ e. same_once t old a.before_end (ap (λ (s : Standing). s.features) at_end) a.shown e;
     }
 
@@ -252,6 +254,7 @@ module _ (features : WasmFeatures) (T : TypesSoFar) (ps : List Piece) (a : Accep
     types = (section features T a.parts.groups a.types).stand;
     one_id = once;
     functions = refl;
+    exactly = refl;
     tables = refl;
     memories = refl;
     globals = refl;
@@ -284,6 +287,7 @@ accepts_valid laws bytes old new t apart a bodies =
       module_valid = accepted_valid old.features r.before bytes a.pieces f r.header parts allowed acc (valid_typed laws old.features r.before ps parts (others_follow bytes a.pieces f) allowed begun_apart acc given);
       shows = subst (λ (x : TypesSoFar × Spaces). ShowModule F x.0 x.1 C acc.parts) there (ends_shown old.features r.before ps acc once);
       same_id = seen.same_id;
+      same_features = seen.same_features;
       before = r.before;
       began = r.was;
       more = held.more;

@@ -42,6 +42,7 @@ use Rattle.wasm_readers_errors.specs.declared.features.WasmFeatures.{WasmFeature
 pub record Show {A : Type 0} (s : Standing) (t : Types A) : Type 0 where
   pub held : shown_at s.stage ≡ Some (types_of_list (shown_of t).list, (shown_of t).spaces)
   pub same_id : (shown_of t).id ≡ s.id
+  pub same_features : (shown_of t).features ≡ features_of s.features
   pub mode : (shown_of t).list.is_canonical ≡ canonical (features_of s.features)
   pub once : (shown_of t).list.is_canonical ≡ true → AreOnce (shown_of t).list.groups
   pub valid : AreValid (features_of s.features) (types_of_list (shown_of t).list)

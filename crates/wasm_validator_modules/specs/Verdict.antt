@@ -32,6 +32,7 @@ pub record AcceptsModule {A : Type 0} (bytes : List ℕ) (old new : Standing) (t
       ShowModule (features_of old.features) (types_of_list (shown_of t).list) (shown_of t).spaces
       (index_spaces module_valid.well_formed.types.types module_valid.well_formed.parts) module_valid.well_formed.parts
   pub same_id : (shown_of t).id ≡ old.id
+  pub same_features : (shown_of t).features ≡ features_of old.features
   pub before : TypesSoFar
   pub began : old.stage ≡ unparsed before
   pub more : TypesSoFar

@@ -3,6 +3,7 @@ ghost use Rattle.std.specs.Prelude.{◌≡◌, List, ◌∷◌, ◌-◌, ◌==�
 ghost use Rattle.wasm_validator_core.specs.Errors.{IsContent, offset_of};
 ghost use Rattle.wasm_binary_reader.specs.Reader.{original, position_in};
 ghost use Rattle.wasm_readers_errors.specs.Refusals.{plain};
+ghost use Rattle.wasm_rules.specs.FeatureFlags.{features_of};
 ghost use Rattle.wasm_readers.specs.SectionsSeen.{count_of, bytes_of, section_start, section_end};
 ghost use Rattle.wasm_parser.specs.Seen.{body_of, body_reader};
 ghost use Rattle.wasm_validator_core.specs.Answers.{TypesSoFar};
@@ -305,20 +306,25 @@ fn shared<A: Allocator + Copy>(
 /// The types of a module that has ended.
 fn finished<A: Allocator + Copy>(
     id: ValidatorId,
+    features: WasmFeatures,
     alloc: A,
     types: &mut TypeList<A>,
     ended: EndedSpaces<A>,
 ) -> Result<Types<A>, AllocError>
     ensures same { types.new ≡ types.old }
-    ensures shown { IfOk result (λ t. shown_of t
-        ≡ record { id = id; list = committed types.old; spaces = ended_spaces ended }) }
+    ensures shown { IfOk result (λ t. shown_of t ≡ record {
+      id = id;
+      features = features_of features;
+      list = committed types.old;
+      spaces = ended_spaces ended;
+    }) }
     ensures once { types.old.is_canonical ≡ true → AreOnce types.old.groups }
 {
     // Asked for what it promises: where equal types are one, no type has two ids.
     let _is_canonical = types.is_canonical();
     let list = types.commit()?;
     let spaces = shared(alloc, ended)?;
-    Ok(Types::new(id, list, spaces))
+    Ok(Types::new(id, features, list, spaces))
 }
 
 /// The start of the code of a module: its lists are shared from now on, and what bodies look up is
@@ -433,13 +439,18 @@ impl<A: Allocator + Copy> Validator<A> {
         ensures shown { IfSome result (λ t. shown_at self.now.stage
             ≡ Some (types_of_list (shown_by t).list, (shown_by t).spaces)) }
         ensures id { IfSome result (λ t. (shown_by t).id ≡ self.now.id) }
+        ensures features { IfSome result (λ t. (shown_by t).features
+            ≡ features_of self.now.features) }
         ensures held { IfSome result (λ t. HoldsIds (shown_by t)) }
     {
         if level != 0 {
             return None;
         }
         match reading(&self.state) {
-            Some(spaces) => Some(TypesRef::new(self.id, &self.types, spaces)),
+            Some(spaces) => {
+                let list = &self.types;
+                Some(TypesRef::new(self.id, self.features, list, spaces))
+            }
             None => None,
         }
     }
@@ -985,7 +996,13 @@ impl<A: Allocator + Copy> Validator<A> {
             ≡ Error.Refused (plain (Fault.OutOfOrder (end_order_told self.old.stage)) offset))) }
     {
         match closing(&mut self.state) {
-            Ok(state) => match finished(self.id, self.alloc, &mut self.types, state) {
+            Ok(state) => match finished(
+                self.id,
+                self.features,
+                self.alloc,
+                &mut self.types,
+                state,
+            ) {
                 Ok(types) => {
                     self.state = State::End;
                     Ok(types)

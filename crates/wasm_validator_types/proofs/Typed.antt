@@ -1,7 +1,7 @@
 -- The types of functions and tags that are imported or exported, as the lists of these grow.
 use Rattle.std.proofs.Common.{◌≡◌, sym, subst, ap, ◌∙◌, ℕ, ◌<◌, Bool, true, false, ◌&&◌, if◌then◌else◌, List, [], ◌∷◌, ◌++◌, map, refl}
 use Rattle.std.specs.List.{All}
-use Rattle.std.specs.Prelude.{OnOk, OnErr}
+use Rattle.std.specs.Prelude.{OnOk, OnErr, IfSome, Option, None, Some}
 use Rattle.std.specs.declared.result.Result.{Result}
 use Rattle.std.specs.declared.result.Result.TheVariants.{Ok, Err}
 use Rattle.std.specs.declared.string.String.{String}
@@ -102,3 +102,8 @@ imports_typed ids types imports rows same e h =
 
 pub exports_typed : (ids types : List ℕ) (exports rows : List (List ℕ × Entity)) → ids ≡ types → rows ≡ exports → AreExportsAmong ids exports → AreExportsAmong types rows
 exports_typed ids types exports rows same e h = subst (λ ts. AreExportsAmong ts rows) same (All-same (λ (x : List ℕ × Entity). IsAmong ids x.1) rows exports e h)
+
+-- what is found among the types of a module has an id below what these are below
+pub found_below : (ids : List ℕ) (n : ℕ) (o : Option EntityType) → IfSome o (λ e. IsAmong ids (entity_of e)) → All (λ id. id < n) ids → IfSome o (λ e. HasIdBelow n (entity_of e))
+found_below ids n None among below = tt
+found_below ids n (Some e) among below = among n below

@@ -3,4 +3,5 @@ pub mod Spaces
 pub mod SpacesSeen
 pub mod Rows
 pub mod Left
+pub mod Named
 pub mod Shown

@@ -1,6 +1,8 @@
 -- What the types of a validated module show.
 use Rattle.std.specs.Prelude.{ℕ, ◌<◌, List, length}
 use Rattle.std.specs.List.{All}
+use Rattle.wasm_spec.specs.Features.{Features}
+use Rattle.wasm_rules.specs.FeatureFlags.{features_of}
 use Rattle.wasm_validator_type_list.specs.Listing.{Listing, types_in}
 use Rattle.wasm_validator_types.specs.declared.shown.Types.{Types}
 use Rattle.wasm_validator_types.specs.declared.shown.TypesRef.{TypesRef}
@@ -10,18 +12,19 @@ use Rattle.wasm_validator_types.specs.Entities.{Entity, HasIdBelow}
 use Rattle.wasm_validator_types.specs.Left.{imports_left, exports_left}
 use Rattle.wasm_validator_types.specs.Spaces.{Spaces}
 
--- the validator that made them, the list of all its types, and the index spaces of the module
+-- the validator that made them and its features, the list of all its types, and the index spaces of the module
 pub record Shown (A : Type 0) : Type 0 where
   pub id : ℕ
+  pub features : Features
   pub list : Listing A
   pub spaces : Spaces
 
 module _ {A : Type 0} where
   abbrev pub shown_of : Types A → Shown A
-  shown_of t = record { id = t.id; list = t.types; spaces = t.spaces.value }
+  shown_of t = record { id = t.id; features = features_of t.features; list = t.types; spaces = t.spaces.value }
 
   abbrev pub shown_by : TypesRef A → Shown A
-  shown_by t = record { id = t.id; list = t.list.now; spaces = t.spaces.now }
+  shown_by t = record { id = t.id; features = features_of t.features; list = t.list.now; spaces = t.spaces.now }
 
   -- each type of the module has the id of a type of the list
   abbrev pub HoldsIds : Shown A → Type 0

@@ -6,6 +6,7 @@ mod entity_type;
 mod id;
 mod imports_exports;
 pub mod index_spaces;
+mod named;
 mod shown;
 mod snapshot_list;
 

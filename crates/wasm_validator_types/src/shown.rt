@@ -1,21 +1,31 @@
 ghost use Rattle.std.specs.Prelude.{◌≡◌, ◌+◌, ◌<◌, length, slice_get, slice_index, slice_index_or, IfSome, IsSome, ◌↔◌};
+ghost use Rattle.std.specs.Option.{option_map};
 ghost use Rattle.std.specs.declared.option.Option.TheVariants.{Some};
-ghost use Rattle.wasm_readers_types.specs.SeenExterns.{table_of, memory_of, global_of};
+ghost use Rattle.wasm_readers_types.specs.SeenExterns.{extern_of, table_of, memory_of, global_of};
 ghost use Rattle.wasm_readers_types.specs.SeenValues.{ref_of};
 ghost use Rattle.wasm_grouped_list.specs.Groups.{IsInGroup};
 ghost use Rattle.wasm_grouped_list.specs.Elements.{ids_left, ids_of_group};
 ghost use Rattle.wasm_validator_type_list.specs.Listing.{types_in};
 ghost use Rattle.wasm_validator_type_list.specs.Lookups.{IsSupertypeAt, group_span};
+ghost use Rattle.wasm_readers.specs.Items.{export_of};
+ghost use Rattle.wasm_rules.specs.FeatureFlags.{features_of};
+ghost use Rattle.wasm_validator_types.specs.Entities.{entity_of, HasIdBelow};
+ghost use Rattle.wasm_validator_types.specs.Named.{imported_entity, named_entity};
 ghost use Rattle.wasm_validator_types.specs.Left.{imports_left, exports_left};
 ghost use Rattle.wasm_validator_types.specs.Rows.{all_imports};
 ghost use Rattle.wasm_validator_types.specs.Shown.{shown_of, shown_by, HoldsIds, HoldsImports, HoldsExports};
 
+use crate::entity_type::EntityType;
 use crate::id::ValidatorId;
 use crate::imports_exports::{CoreExports, CoreImports};
 use crate::index_spaces::IndexSpaces;
+use crate::named::{imported_entity, named_entity};
+use bitflags::Flags;
 use std::alloc::{Allocator, Global};
 use std::ops::{Index, Range};
 use std::rc::Rc;
+use wasm_readers::{Export, Import};
+use wasm_readers_errors::WasmFeatures;
 use wasm_readers_types::{CoreTypeId, GlobalType, MemoryType, RefType, SubType, TableType};
 use wasm_validator_type_list::{RecGroupElements, RecGroupId, TypeList};
 
@@ -23,6 +33,7 @@ use wasm_validator_type_list::{RecGroupElements, RecGroupId, TypeList};
 #[derive(Drop)]
 pub struct Types<A: Allocator = Global> {
     id: ValidatorId,
+    features: WasmFeatures,
     types: TypeList<A>,
     spaces: Rc<IndexSpaces<A>, A>,
 }
@@ -30,10 +41,25 @@ pub struct Types<A: Allocator = Global> {
 impl<A: Allocator + Copy> Types<A> {
     /// Of the parts that the validator hands over. It is not for users.
     #[doc(hidden)]
-    pub fn new(id: ValidatorId, types: TypeList<A>, spaces: Rc<IndexSpaces<A>, A>) -> Types<A>
-        ensures { shown_of result ≡ record { id = id; list = types; spaces = spaces.value } }
+    pub fn new(
+        id: ValidatorId,
+        features: WasmFeatures,
+        types: TypeList<A>,
+        spaces: Rc<IndexSpaces<A>, A>,
+    ) -> Types<A>
+        ensures { shown_of result ≡ record {
+          id = id;
+          features = features_of features;
+          list = types;
+          spaces = spaces.value;
+        } }
     {
-        Types { id, types, spaces }
+        Types {
+            id,
+            features,
+            types,
+            spaces,
+        }
     }
 
     /// What they show, lent.
@@ -42,6 +68,7 @@ impl<A: Allocator + Copy> Types<A> {
     {
         TypesRef {
             id: self.id,
+            features: self.features,
             list: &self.types,
             spaces: self.spaces.as_ref(),
         }
@@ -86,6 +113,7 @@ impl<A: Allocator + Copy> Index<RecGroupId> for Types<A> {
 #[derive_where(Clone, Copy)]
 pub struct TypesRef<'a, A: Allocator = Global> {
     id: ValidatorId,
+    features: WasmFeatures,
     list: &'a TypeList<A>,
     spaces: &'a IndexSpaces<A>,
 }
@@ -95,12 +123,23 @@ impl<'a, A: Allocator + Copy> TypesRef<'a, A> {
     #[doc(hidden)]
     pub fn new(
         id: ValidatorId,
+        features: WasmFeatures,
         list: &'a TypeList<A>,
         spaces: &'a IndexSpaces<A>,
     ) -> TypesRef<'a, A>
-        ensures { shown_by result ≡ record { id = id; list = list.now; spaces = spaces.now } }
+        ensures { shown_by result ≡ record {
+          id = id;
+          features = features_of features;
+          list = list.now;
+          spaces = spaces.now;
+        } }
     {
-        TypesRef { id, list, spaces }
+        TypesRef {
+            id,
+            features,
+            list,
+            spaces,
+        }
     }
 
     /// The id of the validator that made them.
@@ -276,6 +315,35 @@ impl<'a, A: Allocator + Copy> TypesRef<'a, A> {
         ensures { slice_get (shown_by self.now).spaces.elements index ≡ Some (ref_of result) }
     {
         self.spaces.element_at(index)
+    }
+
+    /// What this import asks for, as an import of this module: a function or a tag by the id of its
+    /// type, of which the list has one, where it has those of all types of the module. The types of
+    /// tables, memories and globals are those that the import writes. Nothing where the module has
+    /// no type with the index of the function's or the tag's (Core Specification 3.0, Validation,
+    /// Modules, Imports).
+    pub fn entity_type_from_import(&self, import: &Import<'_>) -> Option<EntityType>
+        ensures value { option_map entity_of result
+            ≡ imported_entity (shown_by self.now).spaces (extern_of import.now.ty) }
+        ensures held { HoldsIds (shown_by self.now) → IfSome result (λ e. HasIdBelow
+            (length (types_in (shown_by self.now).list)) (entity_of e)) }
+    {
+        imported_entity(self.spaces, import.ty)
+    }
+
+    /// What this export names, as an export of this module: a function or a tag by the id of its
+    /// type, of which the list has one, where it has those of all types of the module. With custom
+    /// descriptors a function that the module defines, or imports exactly, has exactly its type.
+    /// Nothing where the module has nothing of this kind with this index (Core Specification 3.0,
+    /// Validation, Modules, Exports).
+    pub fn entity_type_from_export(&self, export: &Export<'_>) -> Option<EntityType>
+        ensures value { let shown = shown_by self.now in option_map entity_of result
+            ≡ named_entity shown.features.custom_descriptors shown.spaces (export_of export.now) }
+        ensures held { HoldsIds (shown_by self.now) → IfSome result (λ e. HasIdBelow
+            (length (types_in (shown_by self.now).list)) (entity_of e)) }
+    {
+        let descriptors = self.features.contains(WasmFeatures::CUSTOM_DESCRIPTORS);
+        named_entity(self.spaces, descriptors, export)
     }
 
     /// The imports of the module. There are always some, be they none. The list has the type of

@@ -32,12 +32,13 @@ returns-in-Ok-finished-clause-shown g c =
     record {
       held = shown_from_open c.self.inside.id c.self.inside.features (types_of_list c.self.inside.types) c.self.inside.state (ended_spaces c.in-Ok.state) c.args.self.now (types_of_list c.in-Ok-finished.types.types) c.in-Ok-finished.types.spaces.value c.self.view_is c.in-Ok.ensures.ok (ap (λ w. types_of_list w.list) shown) (ap (λ w. w.spaces) shown);
       same_id = ap (λ w. w.id) shown ∙ ap (λ (s : Standing). s.id) c.self.view_is;
+      same_features = ap (λ w. w.features) shown ∙ ap (λ (s : Standing). features_of s.features) c.self.view_is;
       mode = ap (λ w. w.list.is_canonical) shown ∙ c.self.invariant.list.mode ∙ ap (λ (s : Standing). canonical (features_of s.features)) c.self.view_is;
       valid = shown-valid c.self.inside.features c.self.inside.types c.self.inside.id c.self.inside.state (ended_spaces c.in-Ok.state) c.args.self.now (types_of_list c.in-Ok-finished.types.types) c.self.view_is c.in-Ok.ensures.ok c.self.invariant.valid (ap (λ w. types_of_list w.list) shown);
-      ids = shown-ids c.self.inside.id c.self.inside.types c.self.inside.state (ended_spaces c.in-Ok.state) (shown_of c.in-Ok-finished.types) c.in-Ok.ensures.ok c.self.invariant.ids shown;
+      ids = shown-ids c.self.inside.id (features_of c.self.inside.features) c.self.inside.types c.self.inside.state (ended_spaces c.in-Ok.state) (shown_of c.in-Ok-finished.types) c.in-Ok.ensures.ok c.self.invariant.ids shown;
       once = λ e. subst AreOnce (sym (ap (λ w. w.list.groups) shown)) (c.finished.ensures.once (sym (ap (λ w. w.list.is_canonical) shown) ∙ e));
     }
 
 pub returns-in-Ok-finished-clause-held : goal.returns-in-Ok-finished-clause-held
 returns-in-Ok-finished-clause-held g c =
-    shown-ids c.self.inside.id c.self.inside.types c.self.inside.state (ended_spaces c.in-Ok.state) (shown_of c.in-Ok-finished.types) c.in-Ok.ensures.ok c.self.invariant.ids c.in-Ok-finished.ensures.shown
+    shown-ids c.self.inside.id (features_of c.self.inside.features) c.self.inside.types c.self.inside.state (ended_spaces c.in-Ok.state) (shown_of c.in-Ok-finished.types) c.in-Ok.ensures.ok c.self.invariant.ids c.in-Ok-finished.ensures.shown

@@ -1,5 +1,6 @@
 use Rattle.std.proofs.Common.{◌≡◌, true, false, None, refl, sym, ap, subst, ◌∙◌, rules}
 use Rattle.std.specs.Prelude.{IsSome}
+use Rattle.wasm_rules.specs.FeatureFlags.{features_of}
 use Rattle.wasm_validator_type_list.specs.DefTypes.{types_of_list}
 use Rattle.wasm_validator_types.specs.Shown.{shown_by}
 use Rattle.wasm_validator_modules.proofs.Sections.{lent-ids, shown_from_open, none-shows}
@@ -8,7 +9,7 @@ use Rattle.wasm_validator_modules.proofs.validator.Validator.types.Goals as goal
 
 pub returns-in-Some-clause-held : goal.returns-in-Some-clause-held
 returns-in-Some-clause-held g c =
-    lent-ids c.self.inside.id c.self.inside.types c.self.inside.state c.in-Some.spaces.now c.in-Some.spaces.now (shown_by c.new.result) c.in-Some.ensures.some c.self.invariant.ids refl c.new.ensures
+    lent-ids c.self.inside.id (features_of c.self.inside.features) c.self.inside.types c.self.inside.state c.in-Some.spaces.now c.in-Some.spaces.now (shown_by c.new.result) c.in-Some.ensures.some c.self.invariant.ids refl c.new.ensures
 
 pub returns-in-Some-clause-shown : goal.returns-in-Some-clause-shown
 returns-in-Some-clause-shown g c =
@@ -17,6 +18,9 @@ returns-in-Some-clause-shown g c =
 
 pub returns-in-Some-clause-some : goal.returns-in-Some-clause-some
 returns-in-Some-clause-some g c = (λ e. (search rules, subst IsSome (sym (returns-in-Some-clause-shown g c)) refl), λ h. refl)
+
+pub returns-in-Some-clause-features : goal.returns-in-Some-clause-features
+returns-in-Some-clause-features g c = ap (λ w. w.features) c.new.ensures ∙ ap (λ (s : Standing). features_of s.features) c.self.view_is
 
 pub returns-in-Some-clause-id : goal.returns-in-Some-clause-id
 returns-in-Some-clause-id g c = ap (λ w. w.id) c.new.ensures ∙ ap (λ (s : Standing). s.id) c.self.view_is
