@@ -146,7 +146,7 @@ impl<A: Allocator + Copy> Validator<A> {
         'payloads: loop {
             match next_of_input(&mut payloads) {
                 Ok(Some(payload)) => match self.payload(&payload) {
-                    Ok(valid) => gathered.take(valid)?,
+                    Ok(valid) => gathered.take(&payload, valid)?,
                     Err(error) => return Err(error),
                 },
                 Ok(None) => break,
@@ -224,8 +224,29 @@ impl<'a, A: Allocator + Copy> Gathered<'a, A> {
         }
     }
 
+    /// Keeps what a payload gave. Where a code section starts, room is made for all its bodies at
+    /// once: the parser has found as many functions.
+    fn take(
+        &mut self,
+        payload: &Payload<'a, A>,
+        valid: ValidPayload<'a, A>,
+    ) -> Result<(), AllocError>
+        ensures ended { OnOk result (self.new.ended ≡ latest_of self.old.ended valid.entry) }
+        ensures bodies { OnOk result (bodies_seen self.new.bodies.items
+            ≡ bodies_seen self.old.bodies.items ++ bodies_given valid.entry) }
+        ensures within { (end : ℕ) → AllEndBy end self.old.bodies.items → GivenEndBy end valid.entry
+            → OnOk result (AllEndBy end self.new.bodies.items) }
+        ensures memory { OnErr result (IsFunction valid.entry) }
+    {
+        if let Payload::CodeSectionStart { count, .. } = payload {
+            // Where it is refused, each body takes its own.
+            let _made = self.bodies.reserve_exact(*count as usize);
+        }
+        self.keep(valid)
+    }
+
     /// Keeps the types of the module that has ended last, and each body.
-    fn take(&mut self, valid: ValidPayload<'a, A>) -> Result<(), AllocError>
+    fn keep(&mut self, valid: ValidPayload<'a, A>) -> Result<(), AllocError>
         ensures ended { OnOk result (self.new.ended ≡ latest_of self.old.ended valid.entry) }
         ensures bodies { OnOk result (bodies_seen self.new.bodies.items
             ≡ bodies_seen self.old.bodies.items ++ bodies_given valid.entry) }

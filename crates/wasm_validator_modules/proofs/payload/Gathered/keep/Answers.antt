@@ -5,7 +5,7 @@ use Rattle.wasm_readers_types.specs.declared.indices.UnpackedIndex.{UnpackedInde
 use Rattle.wasm_parser.specs.declared.function_body.FunctionBody.{FunctionBody}
 use Rattle.wasm_validator_func.specs.declared.func_validator.FuncToValidate.{FuncToValidate}
 use Rattle.wasm_validator_modules.specs.Payloads.{EndsBy, AllEndBy, GivenEndBy}
-use Rattle.wasm_validator_modules.proofs.payload.Gathered.take.Goals as goal
+use Rattle.wasm_validator_modules.proofs.payload.Gathered.keep.Goals as goal
 
 pub returns-in_ok-push-in-Func-clause-within : goal.returns-in_ok-push-in-Func-clause-within
 returns-in_ok-push-in-Func-clause-within g c = λ end all given.
