@@ -1,6 +1,6 @@
 //! Loads and stores.
 
-ghost use Rattle.std.specs.Prelude.{◌≡◌, ◌&&◌, ◌||◌, ◌^◌, nat_le, nat_lt};
+ghost use Rattle.std.specs.Prelude.{◌≡◌, ◌&&◌, ◌||◌, ◌^◌, nat_le, nat_lt, cond};
 ghost use Rattle.wasm_flat_operators.specs.Memories.{max_align_of};
 ghost use Rattle.wasm_flat_operators.specs.declared.memories.MemArg.{MemArg};
 ghost use Rattle.wasm_operator_steps.specs.Shapes.{access_shape, loading, storing, number_type};
@@ -67,6 +67,19 @@ fn fits(memory: MemoryType, op: MemoryOperator, arg: MemArg) -> bool
     arg.align <= max_align(op) && (memory.memory64 || arg.offset < 4_294_967_296)
 }
 
+/// The rule that an access breaks which doesn't fit its memory: that of the alignment first.
+#[inline(never)]
+fn misfit(op: MemoryOperator, arg: MemArg) -> OperatorRule
+    ensures { result ≡ cond (nat_le arg.align (max_align_of op))
+        OperatorRule.Offset OperatorRule.Alignment }
+{
+    if arg.align <= max_align(op) {
+        OperatorRule::Offset
+    } else {
+        OperatorRule::Alignment
+    }
+}
+
 /// A load of a number of this type.
 #[tactic(auto, using(wasm_operator_checks::proofs::Acting::acts, wasm_operator_checks::proofs::Typing::memories))]
 fn load<A: Allocator, T: WasmModuleResources>(
@@ -86,7 +99,7 @@ fn load<A: Allocator, T: WasmModuleResources>(
     match resources.memory_at(arg.memory) {
         Some(memory) => {
             if !fits(memory, op, arg) {
-                return Err(OperatorError::Refused(OperatorFault::new(OperatorRule::Alignment)));
+                return Err(OperatorError::Refused(OperatorFault::new(misfit(op, arg))));
             }
             plain(
                 stacks,
@@ -120,7 +133,7 @@ fn store<A: Allocator, T: WasmModuleResources>(
     match resources.memory_at(arg.memory) {
         Some(memory) => {
             if !fits(memory, op, arg) {
-                return Err(OperatorError::Refused(OperatorFault::new(OperatorRule::Alignment)));
+                return Err(OperatorError::Refused(OperatorFault::new(misfit(op, arg))));
             }
             plain(
                 stacks,
