@@ -27,7 +27,7 @@ pub record AreParted {X : Type 0} (xs : List X) (ps : List (Range CoreTypeId)) (
 
 module _ {T A : Type 0} where
   abbrev pub groups_of : Inside T A → List (List T)
-  groups_of a = cut a.items.items a.spans.items
+  groups_of a = cut a.items a.spans
 
   abbrev pub IsParted : Inside T A → Type 0
-  IsParted a = AreParted a.items.items a.spans.items a.owners.items
+  IsParted a = AreParted a.items a.spans a.owners

@@ -2,19 +2,19 @@ ghost use Rattle.std.specs.Prelude.{◌≡◌, ◌+◌, ◌<◌, ◌^◌, ◌++�
 ghost use Rattle.wasm_grouped_list.specs.Groups.{all_in, first_of, IsInGroup};
 ghost use Rattle.wasm_grouped_list.specs.Spans.{span, spans_of};
 
-use crate::copies::copy_of;
+use crate::snapshot_list::SnapshotList;
 use std::alloc::{AllocError, Allocator, Global};
 use std::marker::Model;
 use std::ops::Range;
-use wasm_readers_types::{CoreTypeId, Faithful};
+use wasm_readers_types::CoreTypeId;
 
 /// Groups of items, one behind another, in one flat list. A contract sees the list of groups; the
 /// place of an item is counted over all groups.
 #[derive(Drop)]
 pub struct GroupedList<T, A: Allocator = Global> {
-    items: Vec<T, A>,
-    spans: Vec<Range<CoreTypeId>, A>,
-    owners: Vec<u32, A>,
+    items: SnapshotList<T, A>,
+    spans: SnapshotList<Range<CoreTypeId>, A>,
+    owners: SnapshotList<u32, A>,
     alloc: A,
 }
 
@@ -36,9 +36,9 @@ impl<T, A: Allocator + Copy> GroupedList<T, A> {
         ensures { result ≡ [] }
     {
         GroupedList {
-            items: Vec::new(alloc),
-            spans: Vec::new(alloc),
-            owners: Vec::new(alloc),
+            items: SnapshotList::new(alloc),
+            spans: SnapshotList::new(alloc),
+            owners: SnapshotList::new(alloc),
             alloc,
         }
     }
@@ -58,17 +58,17 @@ impl<T, A: Allocator + Copy> GroupedList<T, A> {
     }
 
     /// The items of all groups.
-    pub fn items(&self) -> &[T]
+    pub fn items(&self) -> &SnapshotList<T, A>
         ensures { result.now ≡ all_in self.now }
     {
-        self.items.as_slice()
+        &self.items
     }
 
     /// The ids of the members of each group.
-    pub fn spans(&self) -> &[Range<CoreTypeId>]
+    pub fn spans(&self) -> &SnapshotList<Range<CoreTypeId>, A>
         ensures { result.now ≡ spans_of self.now }
     {
-        self.spans.as_slice()
+        &self.spans
     }
 
     /// The item at the place, if there is one.
@@ -122,65 +122,52 @@ impl<T, A: Allocator + Copy> GroupedList<T, A> {
         )?;
         Ok(())
     }
-}
 
-/// Puts a group behind those that are there: all of it, or where memory is refused nothing.
-fn push_flat<T: Drop, A: Allocator + Copy>(
-    alloc: A,
-    items: &mut Vec<T, A>,
-    spans: &mut Vec<Range<CoreTypeId>, A>,
-    owners: &mut Vec<u32, A>,
-    group: Vec<T, A>,
-) -> Result<(), AllocError>
-    requires room { length items.old.items + length group.items < 2 ^ 32 }
-    requires group_room { length spans.old.items < 2 ^ 32 }
-    ensures items { OnOk result (items.new.items ≡ items.old.items ++ group.items) }
-    ensures spans { OnOk result (spans.new.items ≡ spans.old.items
-        ++ span (length items.old.items) (length items.old.items + length group.items) ∷ []) }
-    ensures owners { OnOk result (owners.new.items ≡ owners.old.items
-        ++ replicate (length group.items) (length spans.old.items)) }
-    ensures same_items { OnErr result (items.new.items ≡ items.old.items) }
-    ensures same_spans { OnErr result (spans.new.items ≡ spans.old.items) }
-    ensures same_owners { OnErr result (owners.new.items ≡ owners.old.items) }
-{
-    let start = items.len() as u32;
-    let mut group = group;
-    let count = group.len();
-    let ids = CoreTypeId::from_index(start)..CoreTypeId::from_index(start + count as u32);
-    let mut numbers = vec![in alloc; spans.len() as u32; count]?;
-    items.reserve(count)?;
-    owners.reserve(count)?;
-    spans.push(ids)?;
-    items.append(&mut group).unwrap();
-    owners.append(&mut numbers).unwrap();
-    Ok(())
-}
-
-impl<T: Faithful + Drop, A: Allocator + Copy> GroupedList<T, A> {
-    /// A list of its own with the groups of this one, which stays as it was.
+    /// A list of its own with the groups of this one, which stays as it was. No item is copied: both
+    /// lists hold the same ones.
     pub fn commit(&mut self) -> Result<GroupedList<T, A>, AllocError>
+    where
+        T: Drop,
         ensures same { self.new ≡ self.old }
         ensures copy { IfOk result (λ copy. copy ≡ self.old) }
     {
         Ok(GroupedList {
-            items: copy_of(self.alloc, self.items.as_slice())?,
-            spans: copy_of_spans(self.alloc, self.spans.as_slice())?,
-            owners: copy_of(self.alloc, self.owners.as_slice())?,
+            items: self.items.commit()?,
+            spans: self.spans.commit()?,
+            owners: self.owners.commit()?,
             alloc: self.alloc,
         })
     }
 }
 
-/// A list of the same ranges.
-fn copy_of_spans<A: Allocator>(
+/// Puts a group behind those that are there: all of it, or where memory is refused nothing.
+fn push_flat<T: Drop, A: Allocator + Copy>(
     alloc: A,
-    spans: &[Range<CoreTypeId>],
-) -> Result<Vec<Range<CoreTypeId>, A>, AllocError>
-    ensures { IfOk result (λ copy. copy.items ≡ spans.now) }
+    items: &mut SnapshotList<T, A>,
+    spans: &mut SnapshotList<Range<CoreTypeId>, A>,
+    owners: &mut SnapshotList<u32, A>,
+    group: Vec<T, A>,
+) -> Result<(), AllocError>
+    requires room { length items.old + length group.items < 2 ^ 32 }
+    requires group_room { length spans.old < 2 ^ 32 }
+    ensures items { OnOk result (items.new ≡ items.old ++ group.items) }
+    ensures spans { OnOk result (spans.new ≡ spans.old
+        ++ span (length items.old) (length items.old + length group.items) ∷ []) }
+    ensures owners { OnOk result (owners.new ≡ owners.old
+        ++ replicate (length group.items) (length spans.old)) }
+    ensures same_items { OnErr result (items.new ≡ items.old) }
+    ensures same_spans { OnErr result (spans.new ≡ spans.old) }
+    ensures same_owners { OnErr result (owners.new ≡ owners.old) }
 {
-    let mut copy = Vec::new(alloc);
-    'spans: for ids in spans {
-        copy.push(ids.start..ids.end)?;
-    }
-    Ok(copy)
+    let start = items.len() as u32;
+    let count = group.len();
+    let ids = CoreTypeId::from_index(start)..CoreTypeId::from_index(start + count as u32);
+    let mut group = group;
+    let mut numbers = vec![in alloc; spans.len() as u32; count]?;
+    items.tail.reserve(count)?;
+    owners.tail.reserve(count)?;
+    spans.push(ids)?;
+    items.tail.append(&mut group).unwrap();
+    owners.tail.append(&mut numbers).unwrap();
+    Ok(())
 }

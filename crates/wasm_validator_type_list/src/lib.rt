@@ -19,4 +19,4 @@ pub use link_count::LinkCount;
 pub use type_alloc::TypeAlloc;
 pub use type_info::{TypeData, TypeIdentifier, TypeInfo};
 pub use type_list::TypeList;
-pub use wasm_grouped_list::{RecGroupElements, RecGroupId};
+pub use wasm_grouped_list::{RecGroupElements, RecGroupId, SnapshotList};

@@ -5,7 +5,7 @@ use crate::type_list::TypeList;
 use std::alloc::Allocator;
 use std::fmt::Debug;
 use std::ops::Range;
-use wasm_grouped_list::RecGroupId;
+use wasm_grouped_list::{RecGroupId, SnapshotList};
 use wasm_readers_types::{CompositeInnerType, CoreTypeId, SubType};
 
 /// What is known of a type before it is looked at: how large it is.
@@ -67,7 +67,7 @@ pub trait TypeIdentifier<A: Allocator>: Debug + Copy + Eq + Sized {
         ensures { number result ≡ index };
 
     /// What the ids of the list stand for, in order.
-    fn list(types: &TypeList<A>) -> &[Self::Data]
+    fn list(types: &TypeList<A>) -> &SnapshotList<Self::Data, A>
         ensures { result.now ≡ all types.now };
 
     /// The number of the id.
@@ -119,7 +119,7 @@ impl<A: Allocator + Copy> TypeIdentifier<A> for CoreTypeId {
         CoreTypeId::from_index(index)
     }
 
-    fn list(types: &TypeList<A>) -> &[SubType<A>] {
+    fn list(types: &TypeList<A>) -> &SnapshotList<SubType<A>, A> {
         types.types()
     }
 
@@ -157,7 +157,7 @@ impl<A: Allocator + Copy> TypeIdentifier<A> for RecGroupId {
         RecGroupId::from_index(index)
     }
 
-    fn list(types: &TypeList<A>) -> &[Range<CoreTypeId>] {
+    fn list(types: &TypeList<A>) -> &SnapshotList<Range<CoreTypeId>, A> {
         types.rec_groups()
     }
 

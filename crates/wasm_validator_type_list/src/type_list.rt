@@ -13,7 +13,7 @@ use std::collections::HashMap;
 use std::hash::{BuildHasherDefault, FoldHasher};
 use std::marker::Model;
 use std::ops::{Index, Range};
-use wasm_grouped_list::{GroupedList, RecGroupElements, RecGroupId};
+use wasm_grouped_list::{GroupedList, RecGroupElements, RecGroupId, SnapshotList};
 use wasm_readers_errors::{Fault, Refusal};
 use wasm_readers_types::{CoreTypeId, PackedIndex, RecGroup, SubType, UnpackedIndex};
 
@@ -143,14 +143,14 @@ impl<A: Allocator + Copy> TypeList<A> {
     }
 
     /// All types, in the order of their ids.
-    pub fn types(&self) -> &[SubType<A>]
+    pub fn types(&self) -> &SnapshotList<SubType<A>, A>
         ensures { result.now ≡ types_in self.now }
     {
         self.groups.items()
     }
 
     /// The ids of the types of each group, in the order of the groups' ids.
-    pub fn rec_groups(&self) -> &[Range<CoreTypeId>]
+    pub fn rec_groups(&self) -> &SnapshotList<Range<CoreTypeId>, A>
         ensures { result.now ≡ spans_of self.now.groups }
     {
         self.groups.spans()
@@ -259,7 +259,7 @@ impl<A: Allocator + Copy> TypeList<A> {
     }
 
     /// A list of its own with the groups of this one, to which none may be added, and which keeps
-    /// no depths. This one stays as it was.
+    /// no depths. This one stays as it was. No type is copied: both lists hold the same ones.
     ///
     /// # Errors
     ///

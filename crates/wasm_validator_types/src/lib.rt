@@ -8,14 +8,13 @@ mod imports_exports;
 pub mod index_spaces;
 mod named;
 mod shown;
-mod snapshot_list;
 
 pub use entity_type::EntityType;
 pub use id::ValidatorId;
 pub use imports_exports::{CoreExports, CoreImports};
 pub use index_spaces::IndexSpaces;
 pub use shown::{Types, TypesRef};
-pub use snapshot_list::SnapshotList;
 pub use wasm_validator_type_list::{
-    RecGroupElements, RecGroupId, TypeAlloc, TypeData, TypeIdentifier, TypeInfo, TypeList,
+    RecGroupElements, RecGroupId, SnapshotList, TypeAlloc, TypeData, TypeIdentifier, TypeInfo,
+    TypeList,
 };

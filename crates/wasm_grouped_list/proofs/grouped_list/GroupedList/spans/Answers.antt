@@ -6,4 +6,4 @@ use Rattle.wasm_grouped_list.proofs.grouped_list.GroupedList.spans.Goals as goal
 pub returns : goal.returns
 returns g c =
     let a = c.self.inside in
-    c.as_slice.ensures.value ∙ spans_are a.items.items a.spans.items a.owners.items c.self.invariant ∙ ap spans_of c.self.view_is
+    spans_are a.items a.spans a.owners c.self.invariant ∙ ap spans_of c.self.view_is

@@ -92,3 +92,8 @@ pub returns-in_err-push-clause-err : goal.returns-in_err-push-clause-err
 returns-in_err-push-clause-err g c =
     let a = c.self.inside in
     on_err c.from_residual.result (shown_same a (record { groups = c.push.new.self; known = a.known; depths = a.depths; is_canonical = a.is_canonical; is_open = a.is_open; alloc = a.alloc }) c.args.self.now c.self.view_is c.in_err-push.ensures.err refl refl refl)
+
+pub returns-in_err-put_known-clause-err : goal.returns-in_err-put_known-clause-err
+returns-in_err-put_known-clause-err g c =
+    let a = c.self.inside in
+    on_err c.from_residual-in_err-put_known.result (shown_same a (record { groups = c.put_known.new.groups; known = c.put_known.new.known; depths = a.depths; is_canonical = a.is_canonical; is_open = a.is_open; alloc = a.alloc }) c.args.self.now c.self.view_is c.in_err-put_known.ensures.same_groups refl refl refl)

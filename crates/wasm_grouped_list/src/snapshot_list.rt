@@ -1,15 +1,21 @@
 ghost use Rattle.std.specs.Prelude.{◌≡◌, ◌<◌, ◌++◌, ◌∷◌, [], length, slice_index_or, IfOk, IfErr, IfSome, OnOk, OnErr, IsSome, IsTrue, ◌↔◌};
 
+use crate::group_id::RecGroupId;
+use crate::parts::{Part, close, item_at, share};
 use std::alloc::{AllocError, AllocFailed, Allocator, Global};
 use std::marker::Model;
 use std::ops::{Index, Range};
-use wasm_grouped_list::{RecGroupId, copy_of};
-use wasm_readers_types::{CoreTypeId, Faithful, SubType};
+use wasm_readers_types::{CoreTypeId, SubType};
 
 /// A list that grows at its end, and of which snapshots are taken. A contract sees the list alone.
+///
+/// A snapshot and its list share what they hold: parts that grow no more, and behind them each list
+/// has an open end of its own.
 #[derive(Drop)]
 pub struct SnapshotList<T, A: Allocator = Global> {
-    items: Vec<T, A>,
+    parts: Vec<Part<T, A>, A>,
+    before: usize,
+    pub(crate) tail: Vec<T, A>,
     alloc: A,
 }
 
@@ -18,7 +24,11 @@ impl<T, A: Allocator> Model for SnapshotList<T, A> {
 
     ghost Value = { List T };
 
-    ghost view = { λ a. a.items.items };
+    ghost use Rattle.wasm_grouped_list.specs.Snapshots.{listed, IsSnapshotList};
+
+    ghost view = { listed };
+
+    ghost invariant = { IsSnapshotList };
 }
 
 impl<T, A: Allocator + Copy> SnapshotList<T, A> {
@@ -27,7 +37,9 @@ impl<T, A: Allocator + Copy> SnapshotList<T, A> {
         ensures { result ≡ [] }
     {
         SnapshotList {
-            items: Vec::new(alloc),
+            parts: Vec::new(alloc),
+            before: 0,
+            tail: Vec::new(alloc),
             alloc,
         }
     }
@@ -42,21 +54,21 @@ impl<T, A: Allocator + Copy> SnapshotList<T, A> {
         ensures err { OnErr result (self.new ≡ self.old) }
         ensures returned { IfErr result (λ e. e.value ≡ item) }
     {
-        self.items.push(item)
+        self.tail.push(item)
     }
 
     /// The number of items.
     pub fn len(&self) -> usize
         ensures { result ≡ length self.now }
     {
-        self.items.len()
+        self.before + self.tail.len()
     }
 
     /// Whether there is no item.
     pub fn is_empty(&self) -> bool
         ensures { IsTrue result ↔ (length self.now ≡ 0) }
     {
-        self.items.is_empty()
+        self.len() == 0
     }
 
     /// The item at `index`, if there is one.
@@ -64,23 +76,31 @@ impl<T, A: Allocator + Copy> SnapshotList<T, A> {
         ensures found { IfSome result (λ item. item.now ≡ slice_index_or self.now index item.now) }
         ensures when { IsSome result ↔ (index < length self.now) }
     {
-        self.items.get(index)
+        if index < self.before {
+            Some(item_at(&self.parts, self.before, index))
+        } else {
+            self.tail.get(index - self.before)
+        }
     }
-}
 
-impl<T: Faithful + Drop, A: Allocator + Copy> SnapshotList<T, A> {
-    /// A list of its own with the items of this one, which stays as it was.
+    /// A list of its own with the items of this one, which stays as it was. No item is copied: both
+    /// lists hold the same ones.
     ///
     /// # Errors
     ///
     /// Fails where memory is refused.
     pub fn commit(&mut self) -> Result<SnapshotList<T, A>, AllocError>
+    where
+        T: Drop,
         ensures same { self.new ≡ self.old }
         ensures copy { IfOk result (λ copy. copy ≡ self.old) }
     {
-        let items = copy_of(self.alloc, self.items.as_slice())?;
+        self.before = close(self.alloc, &mut self.parts, self.before, &mut self.tail)?;
+        let parts = share(self.alloc, &self.parts)?;
         Ok(SnapshotList {
-            items,
+            parts,
+            before: self.before,
+            tail: Vec::new(self.alloc),
             alloc: self.alloc,
         })
     }
@@ -96,7 +116,11 @@ impl<T, A: Allocator> Index<usize> for SnapshotList<T, A> {
     ghost index_gives = { λ list index item. item ≡ slice_index_or list index item };
 
     fn index(&self, index: usize) -> &T {
-        &self.items[index]
+        if index < self.before {
+            item_at(&self.parts, self.before, index)
+        } else {
+            &self.tail[index - self.before]
+        }
     }
 }
 
@@ -110,7 +134,7 @@ impl<A: Allocator> Index<CoreTypeId> for SnapshotList<SubType<A>, A> {
     ghost index_gives = { λ list id ty. ty ≡ slice_index_or list id.index ty };
 
     fn index(&self, id: CoreTypeId) -> &SubType<A> {
-        &self.items[id.index()]
+        &self[id.index()]
     }
 }
 
@@ -124,6 +148,6 @@ impl<A: Allocator> Index<RecGroupId> for SnapshotList<Range<CoreTypeId>, A> {
     ghost index_gives = { λ list group ids. ids ≡ slice_index_or list group.index ids };
 
     fn index(&self, group: RecGroupId) -> &Range<CoreTypeId> {
-        &self.items[group.index()]
+        &self[group.index()]
     }
 }
