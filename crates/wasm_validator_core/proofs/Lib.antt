@@ -1,3 +1,1 @@
 pub mod AddedGroups
-pub mod Arities
-pub mod Checked

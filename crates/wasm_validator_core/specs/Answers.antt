@@ -1,17 +1,13 @@
 -- What the answer of a call says that adds an item to a module.
-use Rattle.std.specs.Prelude.{◌≡◌, List, Option, Some, None, ⊤}
+use Rattle.std.specs.Prelude.{◌≡◌, Option, Some, None, ⊤}
 use Rattle.std.specs.declared.result.Result.{Result}
 use Rattle.std.specs.declared.result.Result.TheVariants.{Ok, Err}
-use Rattle.wasm_spec.specs.Trees.{DefType}
 use Rattle.wasm_rules.specs.FeatureFlags.{features_of}
 use Rattle.wasm_readers_errors.specs.declared.features.WasmFeatures.{WasmFeatures}
 use Rattle.wasm_validator_canonical.specs.Groups.{AreValid}
 use Rattle.wasm_validator_core.specs.declared.error.Error.{Error}
 use Rattle.wasm_validator_core.specs.declared.error.Error.TheVariants.{Refused, DuplicateExport, OutOfMemory}
-
--- the types of all modules so far, as what their ids stand for
-abbrev pub TypesSoFar : Type 0
-TypesSoFar = List DefType
+pub use Rattle.wasm_validator_entities.specs.Sizes.{TypesSoFar}
 
 -- A call that changes what it is given moves to where the machine moves; where it refuses the content so does the
 -- machine, and nothing is said of what is left.

@@ -1,8 +1,8 @@
 -- What one item of a section changes, but for types: the machine that a module's state is. `us` are the types of all
 -- modules so far. Core Specification 3.0, Validation, Modules.
-use Rattle.std.specs.Prelude.{ℕ, ◌+◌, ◌==◌, nat_lt, nat_le, Bool, true, false, ◌&&◌, if◌then◌else◌, List, [], ◌∷◌, ◌++◌, length, slice_get, slice_index, Option, Some, None}
+use Rattle.std.specs.Prelude.{ℕ, ◌+◌, ◌==◌, nat_le, Bool, true, false, ◌&&◌, if◌then◌else◌, List, [], ◌∷◌, ◌++◌, length, slice_get, slice_index, Option, Some, None}
 use Rattle.std.specs.Option.{option_map, option_and_then}
-use Rattle.wasm_spec.specs.Syntax.{Table, Memory, Global, Extern, func_extern, func_exact_extern, table_extern, memory_extern, global_extern, tag_extern, map_table, map_extern}
+use Rattle.wasm_spec.specs.Syntax.{Table, Memory, Global, Extern, func_extern, func_exact_extern, table_extern, memory_extern, global_extern, tag_extern, map_table}
 use Rattle.wasm_spec.specs.BinaryModules.{Import, Export}
 use Rattle.wasm_spec.specs.Features.{Features}
 use Rattle.wasm_spec.specs.Trees.{DefType}
@@ -11,11 +11,13 @@ use Rattle.wasm_readers_types.specs.declared.indices.UnpackedIndex.{UnpackedInde
 use Rattle.wasm_validator_canonical.specs.Arities.{arity_at}
 use Rattle.wasm_validator_canonical.specs.Groups.{types_at}
 use Rattle.wasm_validator_canonical.specs.Indices.{canonical_index}
-use Rattle.wasm_item_checks.specs.Items.{is_function, is_valid_defined_table, is_valid_memory, is_valid_tag, is_importable, is_movable}
+use Rattle.wasm_validator_entities.specs.Items.{is_function, is_valid_defined_table, is_valid_memory, is_valid_tag, is_importable, is_movable}
 use Rattle.wasm_validator_types.specs.Entities.{Entity}
 use Rattle.wasm_validator_types.specs.Spaces.{Spaces, with_import, is_exported, is_exact}
-use Rattle.wasm_validator_core.specs.declared.limits.TheConstants.{MAX_FUNCTIONS, MAX_GLOBALS, MAX_TAGS, MAX_DATA_SEGMENTS, MAX_EFFECTIVE_SIZE}
+use Rattle.wasm_validator_core.specs.declared.limits.TheConstants.{MAX_FUNCTIONS, MAX_GLOBALS, MAX_TAGS, MAX_DATA_SEGMENTS}
 use Rattle.wasm_validator_core.specs.Answers.{TypesSoFar}
+pub use Rattle.wasm_validator_entities.specs.Listed.{listed, entity}
+pub use Rattle.wasm_validator_entities.specs.Sizes.{function_size, entity_size, grown}
 
 -- the module's types, in the order of their indices
 abbrev pub types_of_module : TypesSoFar → Spaces → List DefType
@@ -57,37 +59,6 @@ add_memory F s m = if is_valid_memory F m then with_memory F s m else None
 
 abbrev pub add_tag : Features → TypesSoFar → Spaces → ℕ → Option Spaces
 add_tag F us s x = if is_valid_tag F (types_of_module us s) x then with_tag s x else None
-
--- an external type of the module, with its references as the list of types has them
-abbrev pub listed : Spaces → Extern UnpackedIndex → Extern UnpackedIndex
-listed s x = map_extern (canonical_index s.types) x
-
--- the same as an entity: functions and tags by the ids of their types
-abbrev pub entity : Spaces → Extern UnpackedIndex → Entity
-entity s (func_extern x) = func_extern (slice_index s.types x)
-entity s (func_exact_extern x) = func_exact_extern (slice_index s.types x)
-entity s (table_extern t) = table_extern t
-entity s (memory_extern m) = memory_extern m
-entity s (global_extern g) = global_extern g
-entity s (tag_extern x) = tag_extern (slice_index s.types x)
-
--- how many types an entity counts as: functions and tags as many as they have parameters and results, and two,
--- anything else as one
-abbrev pub function_size : Option (ℕ × ℕ) → ℕ
-function_size None = 2
-function_size (Some arity) = 2 + (arity.0 + arity.1)
-
-abbrev pub entity_size : TypesSoFar → Entity → ℕ
-entity_size us (func_extern id) = function_size (arity_at us id)
-entity_size us (func_exact_extern id) = function_size (arity_at us id)
-entity_size us (table_extern t) = 1
-entity_size us (memory_extern m) = 1
-entity_size us (global_extern g) = 1
-entity_size us (tag_extern id) = function_size (arity_at us id)
-
--- the effective size with so many more types, which stays below the limit
-abbrev pub grown : ℕ → ℕ → Option ℕ
-grown size more = if nat_lt (size + more) MAX_EFFECTIVE_SIZE then Some (size + more) else None
 
 -- an import at the end of its index space, where functions are noted as imported
 abbrev pub noted_function : Bool → Spaces → Spaces

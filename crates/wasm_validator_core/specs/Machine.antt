@@ -1,7 +1,7 @@
 -- What one item of a section changes: the machine that a module's state is.
-use Rattle.std.specs.Prelude.{ℕ, ◌+◌, nat_le, if◌then◌else◌, List, length, slice_get, Option, Some, None}
-use Rattle.std.specs.Option.{option_map, option_and_then}
-use Rattle.wasm_spec.specs.Syntax.{Comp, func, array, struct, cont, Sub, Rec}
+use Rattle.std.specs.Prelude.{ℕ, ◌+◌, nat_le, if◌then◌else◌, List, length, Option, None}
+use Rattle.std.specs.Option.{option_map}
+use Rattle.wasm_spec.specs.Syntax.{Rec}
 use Rattle.wasm_rules.specs.FeatureFlags.{features_of}
 use Rattle.wasm_readers_types.specs.declared.indices.UnpackedIndex.{UnpackedIndex}
 use Rattle.wasm_readers_errors.specs.declared.features.WasmFeatures.{WasmFeatures}
@@ -20,13 +20,3 @@ add_group features p g =
     if nat_le (length p.1.types + length g.types) MAX_TYPES
     then option_map (with_ids p.1) (with_written (features_of features) p.0 p.1.types g)
     else None
-
--- how many parameters and results a function type has, as it is written
-abbrev pub written_arity : {R : Type 0} → Comp R → Option (ℕ × ℕ)
-written_arity (func ps rs) = Some (length ps, length rs)
-written_arity (array x) = None
-written_arity (struct xs) = None
-written_arity (cont r) = None
-
-abbrev pub written_arity_at : List (Sub UnpackedIndex) → ℕ → Option (ℕ × ℕ)
-written_arity_at types id = option_and_then (λ (t : Sub UnpackedIndex). written_arity t.comp) (slice_get types id)

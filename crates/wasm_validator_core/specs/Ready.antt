@@ -1,39 +1,19 @@
 -- When the types of a module may be added to the list of a validator.
-use Rattle.std.specs.Prelude.{ℕ, ◌≡◌, ◌<◌, ◌≤◌, List, length, IsTrue, ⊤}
+use Rattle.std.specs.Prelude.{ℕ, ◌≡◌, ◌<◌, ◌≤◌, List, length, IsTrue}
 use Rattle.std.specs.List.{All}
-use Rattle.wasm_spec.specs.Syntax.{Extern, func_extern, func_exact_extern, table_extern, memory_extern, global_extern, tag_extern}
 use Rattle.wasm_spec.specs.Features.{canonical}
 use Rattle.wasm_rules.specs.FeatureFlags.{features_of}
-use Rattle.wasm_readers_types.specs.declared.indices.CoreTypeId.{CoreTypeId}
-use Rattle.wasm_readers_types.specs.declared.indices.UnpackedIndex.{UnpackedIndex}
-use Rattle.wasm_readers_types.specs.declared.indices.TheConstants.{MAX_IDS}
 use Rattle.wasm_readers_errors.specs.declared.features.WasmFeatures.{WasmFeatures}
 use Rattle.wasm_validator_type_list.specs.Listing.{Listing}
 use Rattle.wasm_validator_type_list.specs.DefTypes.{types_of_list}
 use Rattle.wasm_validator_core.specs.declared.limits.TheConstants.{MAX_TYPES}
-
--- ids that fit a packed index
-abbrev pub AreSmall : List CoreTypeId → Type 0
-AreSmall ids = All (λ (id : CoreTypeId). id.index < MAX_IDS) ids
-
--- the type index of a function or tag is that of one of so many types
-abbrev pub IsTyped : ℕ → Extern UnpackedIndex → Type 0
-IsTyped count (func_extern x) = x < count
-IsTyped count (func_exact_extern x) = x < count
-IsTyped count (table_extern t) = ⊤
-IsTyped count (memory_extern m) = ⊤
-IsTyped count (global_extern g) = ⊤
-IsTyped count (tag_extern x) = x < count
+pub use Rattle.wasm_validator_entities.specs.Held.{AreSmall, IsTyped, AreHeld}
 
 module _ {A : Type 0} where
   -- groups may be added to the list, and equal types are one there where the features ask for it
   pub record IsOpenFor (features : WasmFeatures) (list : Listing A) : Type 0 where
     pub is_open : IsTrue list.is_open
     pub mode : list.is_canonical ≡ canonical (features_of features)
-
-  -- the list has a type under each of the ids
-  abbrev pub AreHeld : Listing A → List ℕ → Type 0
-  AreHeld list ids = All (λ id. id < length (types_of_list list)) ids
 
   -- the ids of a module's types are of the list, and no more than a module may have
   pub record AreIdsOf (list : Listing A) (ids : List ℕ) : Type 0 where

@@ -9,7 +9,7 @@ use Rattle.wasm_validator_canonical.specs.Arities.{type_arity}
 use Rattle.wasm_validator_canonical.proofs.Canonical.{and_left, and_right}
 use Rattle.wasm_item_checks.specs.ModuleTypes.{arity_at}
 use Rattle.wasm_item_checks.specs.Items.{is_ref_in_range, is_val_in_range, is_function, is_valid_table, is_valid_defined_table, is_valid_tag, is_valid_global, is_valid_extern, allows_tag}
-use Rattle.wasm_validator_core.specs.Ready.{IsTyped}
+use Rattle.wasm_validator_entities.specs.Held.{IsTyped}
 use Rattle.std.specs.Option.{option_and_then}
 
 -- of tests that hold together

@@ -4,9 +4,9 @@ use Rattle.wasm_readers_types.specs.SeenExterns.{table_of, global_of, extern_of}
 use Rattle.wasm_item_checks.specs.ModuleTypes.{module_types}
 use Rattle.wasm_item_checks.specs.Items.{is_ref_in_range, is_val_in_range, is_valid_extern}
 use Rattle.wasm_item_checks.proofs.Listed.{length_module_types}
-use Rattle.wasm_validator_core.specs.Ready.{IsTyped}
-use Rattle.wasm_validator_core.proofs.Checked.{table_inside, global_inside, extern_typed}
-use Rattle.wasm_validator_core.proofs.entities.listed_type_ref.Goals as goal
+use Rattle.wasm_validator_entities.specs.Held.{IsTyped}
+use Rattle.wasm_validator_entities.proofs.Checked.{table_inside, global_inside, extern_typed}
+use Rattle.wasm_validator_entities.proofs.entities.listed_type_ref.Goals as goal
 
 pub listed_table-requires-clause-in_range : goal.listed_table-requires-clause-in_range
 listed_table-requires-clause-in_range g c =

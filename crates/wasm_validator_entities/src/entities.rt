@@ -15,12 +15,12 @@ ghost use Rattle.wasm_item_checks.specs.ModuleTypes.{AreKnown, module_types};
 ghost use Rattle.wasm_item_checks.specs.Items.{is_in_range, is_ref_in_range, is_val_in_range, is_valid_extern};
 ghost use Rattle.wasm_validator_types.specs.Entities.{entity_of, IsAmong};
 ghost use Rattle.wasm_validator_type_list.specs.DefTypes.{types_of_list};
-ghost use Rattle.wasm_validator_core.specs.Items.{entity, entity_size, grown};
-ghost use Rattle.wasm_validator_core.specs.Ready.{AreHeld, AreSmall, IsTyped};
+ghost use Rattle.wasm_validator_entities.specs.Held.{AreHeld, AreSmall, IsTyped};
+ghost use Rattle.wasm_validator_entities.specs.Listed.{entity};
+ghost use Rattle.wasm_validator_entities.specs.Sizes.{entity_size, grown};
 ghost use Rattle.wasm_readers_errors.specs.Refusals.{refused};
 ghost use Rattle.wasm_item_checks.specs.Told.{told_of_extern};
 
-use crate::limits::MAX_EFFECTIVE_SIZE;
 use crate::signatures::function_arity;
 use std::alloc::Allocator;
 use wasm_item_checks::check_type_ref;
@@ -30,8 +30,11 @@ use wasm_readers::{
 };
 use wasm_validator_types::{EntityType, IndexSpaces, TypeList};
 
+/// The effective size of a module's type stays below this.
+pub const MAX_EFFECTIVE_SIZE: u32 = 1_000_000;
+
 /// The ids of the module's types, which the list has.
-pub(crate) fn known_ids<'a, A: Allocator + Copy>(
+pub fn known_ids<'a, A: Allocator + Copy>(
     list: &TypeList<A>,
     spaces: &'a IndexSpaces<A>,
 ) -> &'a [CoreTypeId]
@@ -77,7 +80,7 @@ fn listed_ref(ids: &[CoreTypeId], ty: RefType) -> RefType
 }
 
 /// A table type with its type index as the list has it.
-pub(crate) fn listed_table(ids: &[CoreTypeId], ty: TableType) -> TableType
+pub fn listed_table(ids: &[CoreTypeId], ty: TableType) -> TableType
     requires small { AreSmall ids.now }
     requires in_range { IsTrue (is_ref_in_range (length ids.now) (table_of ty).element) }
     ensures { table_of result ≡ map_table (canonical_index (numbers ids.now)) (table_of ty) }
@@ -102,8 +105,12 @@ fn listed_global(ids: &[CoreTypeId], ty: GlobalType) -> GlobalType
 }
 
 /// Accepts what an import asks for, and gives it with its type index as the list has it. The
-/// indices of the types of functions and tags stay.
-pub(crate) fn listed_type_ref<A: Allocator + Copy>(
+/// indices of the types of functions and tags stay. The list must have types under the ids.
+///
+/// # Errors
+///
+/// Refused, at `offset`, where the type keeps no rule on the types of these ids.
+pub fn listed_type_ref<A: Allocator + Copy>(
     features: WasmFeatures,
     list: &TypeList<A>,
     ids: &[CoreTypeId],
@@ -133,7 +140,7 @@ pub(crate) fn listed_type_ref<A: Allocator + Copy>(
 }
 
 /// The entity of an external type whose type index is as the list has it.
-pub(crate) fn entity_type<A: Allocator + Copy>(spaces: &IndexSpaces<A>, ty: TypeRef) -> EntityType
+pub fn entity_type<A: Allocator + Copy>(spaces: &IndexSpaces<A>, ty: TypeRef) -> EntityType
     requires { IsTyped (length spaces.now.types) (extern_of ty) }
     ensures value { entity_of result ≡ entity spaces.now (extern_of ty) }
     ensures typed { IsAmong spaces.now.types (entity_of result) }
@@ -178,7 +185,7 @@ fn size_with_one(size: u32) -> Option<u32>
 }
 
 /// The effective size with one more import or export: none where it would reach the limit.
-pub(crate) fn size_with<A: Allocator + Copy>(
+pub fn size_with<A: Allocator + Copy>(
     list: &TypeList<A>,
     size: u32,
     entity: EntityType,

@@ -17,7 +17,7 @@ use Rattle.wasm_validator_type_list.specs.DefTypes.{def_types}
 use Rattle.wasm_validator_type_list.proofs.Joined.{types_declare_what_ids_declare}
 use Rattle.wasm_validator_type_list.proofs.DefTypes.{length-def_types}
 use Rattle.wasm_validator_canonical.specs.Arities.{arity, type_arity, arity_at}
-use Rattle.wasm_validator_core.specs.Machine.{written_arity, written_arity_at}
+use Rattle.wasm_validator_entities.specs.Arities.{written_arity, written_arity_at}
 
 -- what is written in the list is what its types have
 mapped_arity : {R : Type 0} (f : R → DefType) (c : Comp R) → option_map arity (signature (map_comp f c)) ≡ written_arity c

@@ -3,7 +3,7 @@ use Rattle.wasm_validator_type_list.proofs.DefTypes.{length-def_types}
 use Rattle.wasm_readers_types.specs.declared.indices.TheConstants.{MAX_IDS}
 use Rattle.wasm_validator_canonical.proofs.NewIds as new
 use Rattle.wasm_validator_type_list.specs.DefTypes.{types_of_list}
-use Rattle.wasm_validator_core.proofs.entities.known_ids.Goals as goal
+use Rattle.wasm_validator_entities.proofs.entities.known_ids.Goals as goal
 
 pub returns-clause-known : goal.returns-clause-known
 returns-clause-known g c =

@@ -5,14 +5,14 @@ ghost use Rattle.wasm_readers_types.specs.SeenTypes.{sub_of};
 ghost use Rattle.wasm_validator_type_list.specs.Listing.{types_in};
 ghost use Rattle.wasm_validator_canonical.specs.Arities.{arity_at};
 ghost use Rattle.wasm_validator_type_list.specs.DefTypes.{types_of_list};
-ghost use Rattle.wasm_validator_core.specs.Machine.{written_arity_at};
+ghost use Rattle.wasm_validator_entities.specs.Arities.{written_arity_at};
 
 use std::alloc::Allocator;
 use wasm_readers::{CompositeInnerType, CoreTypeId};
 use wasm_validator_types::TypeList;
 
 /// How many parameters and results the type with this id has, if it is a function type.
-pub(crate) fn function_arity<A: Allocator + Copy>(
+pub fn function_arity<A: Allocator + Copy>(
     list: &TypeList<A>,
     id: CoreTypeId,
 ) -> Option<(usize, usize)>
