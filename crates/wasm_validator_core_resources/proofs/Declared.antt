@@ -1,7 +1,6 @@
 -- What the context of a module says of types.
 use Rattle.std.proofs.Common.{◌≡◌, ◌⊎◌, ⊎_elim, refl, sym, ap, ◌∙◌, ℕ, zero, suc, ◌<◌, Bool, true, false, true≢false, ◌||◌, List, [], ◌∷◌, length, map, Option, Some, None, option_map, slice_get, arith, Bor}
-use Rattle.std.specs.Prelude.{nat_lt, is_some, IfSome, slice_index_or}
-use Rattle.std.proofs.lemmas.Bool.Decides.{Decides-ltb}
+use Rattle.std.specs.Prelude.{IsSome, IfSome, ◌↔◌, slice_index_or}
 use Rattle.std.proofs.lemmas.Option.{slice_get-map, slice_get_read, slice_get_past}
 use Rattle.wasm_spec.specs.Syntax.{Sub, map_sub}
 use Rattle.wasm_spec.specs.Declared.{supertype}
@@ -34,14 +33,11 @@ module _ {A : Type 0} where
   as_read None = refl
   as_read (Some t) = refl
 
-  read : (ts : List (SubType A)) (i : ℕ) (r : Option (Bor (SubType A))) → is_some r ≡ nat_lt i (length ts) → IfSome r (λ t. t.now ≡ slice_index_or ts i t.now) → option_map (λ (t : Bor (SubType A)). t.now) r ≡ slice_get ts i
-  read ts i None e h =
-      let d = Decides-ltb i (length ts) in
-      let other : i < length ts → ⊥ = λ l. true≢false (sym (d.1 l) ∙ sym e) in
+  read : (ts : List (SubType A)) (i : ℕ) (r : Option (Bor (SubType A))) → IsSome r ↔ (i < length ts) → IfSome r (λ t. t.now ≡ slice_index_or ts i t.now) → option_map (λ (t : Bor (SubType A)). t.now) r ≡ slice_get ts i
+  read ts i None w h =
+      let other : i < length ts → ⊥ = λ l. true≢false (sym (w.1 l)) in
       sym (slice_get_past ts i (omega (arith, other)))
-  read ts i (Some t) e h =
-      let l : i < length ts = (Decides-ltb i (length ts)).0 (sym e) in
-      sym (slice_get_read ts (length ts) i t.now refl l h)
+  read ts i (Some t) w h = sym (slice_get_read ts (length ts) i t.now refl (w.0 refl) h)
 
   module _ (a : Inside A) (C : Context UnpackedIndex) (e : shown a ≡ C) (sound : IsSound a) where
     pub seen : IsSeen same_index id_of a.list.now.groups C
@@ -56,10 +52,10 @@ module _ {A : Type 0} where
 
     -- what is read under an id is what it declares
     pub type_read :
-        (id : CoreTypeId) (i : ℕ) (r : Option (Bor (SubType A))) → i ≡ id.index → is_some r ≡ nat_lt i (length a.types.now)
+        (id : CoreTypeId) (i : ℕ) (r : Option (Bor (SubType A))) → i ≡ id.index → IsSome r ↔ (i < length a.types.now)
         → IfSome r (λ t. t.now ≡ slice_index_or a.types.now i t.now) → option_map (λ t. sub_of t.now) r ≡ (world C).declared (Id id)
-    type_read id i r n some value =
-        as_read r ∙ ap (option_map sub_of) (read a.types.now i r some value) ∙ ap (λ k. option_map sub_of (slice_get a.types.now k)) n
+    type_read id i r n when value =
+        as_read r ∙ ap (option_map sub_of) (read a.types.now i r when value) ∙ ap (λ k. option_map sub_of (slice_get a.types.now k)) n
         ∙ by_ids id.index ∙ sym (seen.renames.declared id.index)
 
     -- and what is no id declares nothing, and is below itself alone

@@ -27,7 +27,7 @@ use wasm_readers_types::{
     AbstractHeapType, CompositeInnerType, CoreTypeId, FuncType, GlobalType, HeapType, MemoryType,
     RefType, SubType, TableType, UnpackedIndex, ValType,
 };
-use wasm_validator_type_list::TypeList;
+use wasm_validator_type_list::{SnapshotList, TypeList};
 use wasm_validator_types::IndexSpaces;
 
 /// The look-ups of a module as far as it has been read, by reference. A contract sees the context
@@ -36,7 +36,7 @@ use wasm_validator_types::IndexSpaces;
 pub struct ModuleResources<'a, A: Allocator> {
     spaces: &'a IndexSpaces<A>,
     list: &'a TypeList<A>,
-    types: &'a [SubType<A>],
+    types: &'a SnapshotList<SubType<A>, A>,
     elements: &'a [RefType],
     data_count: Option<u32>,
     referenced: Option<&'a [bool]>,
@@ -80,7 +80,7 @@ impl<'a, A: Allocator + Copy> ModuleResources<'a, A> {
         ModuleResources {
             spaces,
             list,
-            types: types.as_slice(),
+            types: types.types(),
             elements,
             data_count,
             referenced: None,

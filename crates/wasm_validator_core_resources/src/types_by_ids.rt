@@ -14,14 +14,14 @@ use crate::by_ids::sub_type;
 use std::alloc::{AllocError, Allocator, Global};
 use std::marker::Model;
 use wasm_readers_types::{CoreTypeId, SubType};
-use wasm_validator_type_list::TypeList;
+use wasm_validator_type_list::{SnapshotList, TypeList};
 
 /// Copies of the types of a list, each under its id, with ids in the place of positions in their
 /// groups, as operators compare them. They follow a list that grows: `update` copies the types that
 /// were added since. A contract sees the types.
 #[derive(Drop)]
 pub struct TypesByIds<A: Allocator = Global> {
-    types: Vec<SubType<A>, A>,
+    types: SnapshotList<SubType<A>, A>,
     alloc: A,
 }
 
@@ -31,7 +31,7 @@ impl<A: Allocator> Model for TypesByIds<A> {
 
     ghost Value = { List (SubType A) };
 
-    ghost view = { λ a. a.types.items };
+    ghost view = { λ a. a.types };
 }
 
 impl<A: Allocator + Copy> TypesByIds<A> {
@@ -40,7 +40,7 @@ impl<A: Allocator + Copy> TypesByIds<A> {
         ensures { result ≡ [] }
     {
         TypesByIds {
-            types: Vec::new(alloc),
+            types: SnapshotList::new(alloc),
             alloc,
         }
     }
@@ -59,10 +59,10 @@ impl<A: Allocator + Copy> TypesByIds<A> {
     }
 
     /// The types, in the order of their ids.
-    pub fn as_slice(&self) -> &[SubType<A>]
+    pub fn types(&self) -> &SnapshotList<SubType<A>, A>
         ensures { result.now ≡ self.now }
     {
-        self.types.as_slice()
+        &self.types
     }
 
     /// Copies the types of the list that aren't there yet. What is there must be the first types of
@@ -82,6 +82,22 @@ impl<A: Allocator + Copy> TypesByIds<A> {
             self.types.push(ty)?;
         }
         Ok(())
+    }
+
+    /// Types of their own that are these, which stay as they were. No type is copied: both hold the
+    /// same ones.
+    ///
+    /// # Errors
+    ///
+    /// Fails where memory is refused.
+    pub fn commit(&mut self) -> Result<TypesByIds<A>, AllocError>
+        ensures same { self.new ≡ self.old }
+        ensures copy { IfOk result (λ copy. copy ≡ self.old) }
+    {
+        Ok(TypesByIds {
+            types: self.types.commit()?,
+            alloc: self.alloc,
+        })
     }
 }
 

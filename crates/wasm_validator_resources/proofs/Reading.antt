@@ -1,6 +1,6 @@
 -- What is read of the types of a module whose code section has started.
-use Rattle.std.proofs.Common.{◌≡◌, refl, sym, ap, subst, ◌∙◌, ℕ, [], List, length, Option, None, option_map, arith, Bor}
-use Rattle.std.specs.Prelude.{nat_lt, is_some, IfSome, slice_index_or}
+use Rattle.std.proofs.Common.{◌≡◌, refl, sym, ap, subst, ◌∙◌, ℕ, ◌<◌, [], List, length, Option, None, option_map, arith, Bor}
+use Rattle.std.specs.Prelude.{IsSome, IfSome, ◌↔◌, slice_index_or}
 use Rattle.wasm_rules.specs.Contexts.{Context}
 use Rattle.wasm_readers_types.specs.SeenTypes.{sub_of}
 use Rattle.wasm_readers_types.specs.declared.indices.CoreTypeId.{CoreTypeId}
@@ -40,8 +40,8 @@ module _ {A : Type 0} (a : Inside A) (C : Context UnpackedIndex) (e : shown a �
 
   -- what is read under an id is what it declares
   pub type_read :
-      (id : CoreTypeId) (i : ℕ) (types : List (SubType A)) (r : Option (Bor (SubType A))) → i ≡ id.index → types ≡ a.types → is_some r ≡ nat_lt i (length types)
+      (id : CoreTypeId) (i : ℕ) (types : List (SubType A)) (r : Option (Bor (SubType A))) → i ≡ id.index → types ≡ a.types → IsSome r ↔ (i < length types)
       → IfSome r (λ t. t.now ≡ slice_index_or types i t.now) → option_map (λ t. sub_of t.now) r ≡ (world C).declared (Id id)
-  type_read id i types r n same some value =
-      subst (λ ts. is_some r ≡ nat_lt i (length ts) → IfSome r (λ t. t.now ≡ slice_index_or ts i t.now) → option_map (λ t. sub_of t.now) r ≡ (world C).declared (Id id)) (sym same)
-      (λ s v. declared.type_read over_the_list (lookups_shown.shown over_the_list) refl is_sound id i r n s v ∙ ap (λ (D : Context UnpackedIndex). (world D).declared (Id id)) e) some value
+  type_read id i types r n same when value =
+      subst (λ ts. IsSome r ↔ (i < length ts) → IfSome r (λ t. t.now ≡ slice_index_or ts i t.now) → option_map (λ t. sub_of t.now) r ≡ (world C).declared (Id id)) (sym same)
+      (λ s v. declared.type_read over_the_list (lookups_shown.shown over_the_list) refl is_sound id i r n s v ∙ ap (λ (D : Context UnpackedIndex). (world D).declared (Id id)) e) when value

@@ -83,7 +83,7 @@ impl<A: Allocator + Copy> CodeModule<A> {
     fn type_of(&self, id: CoreTypeId) -> Option<&SubType<A>>
         ensures { option_map (λ t. sub_of t.now) result ≡ (world self.now).declared (Id id) }
     {
-        self.types.as_slice().get(id.index())
+        self.types.types().get(id.index())
     }
 
     /// The type of this type index, if there is one.

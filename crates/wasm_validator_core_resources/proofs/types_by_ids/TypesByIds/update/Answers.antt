@@ -6,9 +6,9 @@ use Rattle.wasm_validator_core_resources.proofs.types_by_ids.TypesByIds.update.G
 pub loop-place-preserved : goal.loop-place-preserved
 loop-place-preserved g c =
     let at = c.loop-place in
-    let ts = at.self-inside.types.items in
-    let pushed = c.in_ok-push.ensures.items in
-    let more = c.push.new.self.items in
+    let ts = at.self-inside.types in
+    let pushed = c.in_ok-push.ensures.ok in
+    let more = c.push.new.self in
     record {
       first = one_more_is_first c.args.list.now.groups ts more c.in_ok-ty.ty at.place pushed (sym at.invariant.count) c.in_ok-ty.ensures at.invariant.first;
       kept = kept_with_one_more c.args.self.now ts more c.in_ok-ty.ty pushed at.invariant.kept;
@@ -18,6 +18,6 @@ loop-place-preserved g c =
 pub returns-clause-all : goal.returns-clause-all
 returns-clause-all g c =
     let at = c.loop-place in
-    let ts = at.self-inside.types.items in
+    let ts = at.self-inside.types in
     let all : length (types_in c.args.list.now) ≤ length ts = omega (arith, at.invariant.count, c.len-place-end.ensures.count, c.loop-place-test.false) in
     all_are_by_ids c.args.list.now.groups ts all at.invariant.first

@@ -4,7 +4,7 @@ use Rattle.wasm_validator_core_resources.proofs.types_by_ids.TypesByIds.update.G
 
 abbrev pub invariant-loop-place : goal.invariant-loop-place
 invariant-loop-place g l = record {
-  first : AreFirstByIds l.list.groups l.self-inside.types.items;
-  kept : take (length l.fn.self) l.self-inside.types.items ≡ l.fn.self;
-  count : length l.self-inside.types.items ≡ l.place;
+  first : AreFirstByIds l.list.groups l.self-inside.types;
+  kept : take (length l.fn.self) l.self-inside.types ≡ l.fn.self;
+  count : length l.self-inside.types ≡ l.place;
 }

@@ -3,4 +3,4 @@ use Rattle.wasm_validator_resources.proofs.resources.CodeModule.type_of.Goals as
 
 pub returns : goal.returns
 returns g c =
-    type_read c.self.inside c.args.self.now c.self.view_is c.self.invariant c.args.id c.index.result c.as_slice.result.now c.get.result c.index.ensures c.as_slice.ensures c.get.ensures.lookup.0 c.get.ensures.lookup.1
+    type_read c.self.inside c.args.self.now c.self.view_is c.self.invariant c.args.id c.index.result c.types.result.now c.get.result c.index.ensures c.types.ensures c.get.ensures.when c.get.ensures.found
