@@ -1,5 +1,6 @@
 -- Instructions that are read and stepped at once.
 use Rattle.std.proofs.Common.{◌≡◌, ◌≤◌, ◌<◌, ◌==◌, ℕ, ℤ, Bool, true, false, List, [], ◌∷◌, refl, sym, arith, ◌∙◌, ap, subst}
+use Rattle.std.specs.Option.{option_map}
 use Rattle.std.specs.Prelude.{Some, None, Option, Result, Ok, Err, nat_lt}
 use Rattle.std.proofs.lemmas.Bool.Decides.{nat_tests}
 use Rattle.wasm_spec.specs.Values.{u32_at, signed_at}
@@ -21,13 +22,13 @@ use Rattle.wasm_numeric_operators.specs.declared.numeric.NumericOperator.{Numeri
 use Rattle.wasm_numeric_operators.specs.declared.signatures.NumberType.{NumberType}
 use Rattle.wasm_numeric_operators.specs.declared.signatures.NumberType.TheVariants as number
 use Rattle.wasm_numeric_operators.specs.declared.signatures.Signature.{Signature}
-use Rattle.wasm_operators.specs.Control.{Block, block_at, parametric_from, drop_, control_from, block, loop, if_, end_, br, br_if, return_}
+use Rattle.wasm_operators.specs.Control.{Block, block_at, parametric_from, drop_, select, control_from, block, loop, if_, end_, br, br_if, return_}
 use Rattle.wasm_operators.specs.References.{reference_from}
 use Rattle.wasm_operators.specs.Instructions.{Instruction, instruction_at, plain_from, variable, constant, numeric, parametric, control, call, access}
 use Rattle.wasm_operators.specs.Maps.{map_block, map_instruction}
 use Rattle.wasm_operator_steps.specs.Actions.{allows}
 use Rattle.wasm_operator_steps.specs.Machine.{State}
-use Rattle.wasm_operator_steps.specs.Shapes.{Shape, shape_of, call_shape, variable_shape, computing, dropping, access_shape, control_shape, plain, one, nothing, closing, number_type}
+use Rattle.wasm_operator_steps.specs.Shapes.{Shape, shape_of, call_shape, variable_shape, computing, dropping, choosing, access_shape, control_shape, plain, one, nothing, closing, number_type}
 use Rattle.wasm_rules.specs.Attempts.{◌>>=◌}
 use Rattle.wasm_operator_steps.specs.Steps.{is_open, step_in, actions_of}
 use Rattle.wasm_module_resources.specs.Answers.{world, written_index}
@@ -37,6 +38,7 @@ use Rattle.wasm_operator_checks.specs.Steps.{acted}
 use Rattle.wasm_operator_fast.specs.Blocks.{block_giving, block_named}
 use Rattle.wasm_operator_fast.specs.Fast.{Fast}
 use Rattle.wasm_operator_fast.specs.Fused.{Fused, performed, performed_from, step_at}
+use Rattle.wasm_operator_fast.specs.Passed.{behind_signed}
 use Rattle.wasm_operator_fast.specs.declared.not_taken.NotTaken.{NotTaken}
 
 below : (b m : ℕ) → b < m → nat_lt b m ≡ true
@@ -113,6 +115,10 @@ module _ {A : Type 0} (v : Stacks A) (C : Context UnpackedIndex) (r : Result (Un
   fuse (Ok x) i e h = rw (e, h) refl
   fuse (Err y) i e h = h
 
+  -- a number with these bytes behind
+  number_before : (n : ℤ × List ℕ) → Some n.1 ≡ Some rest → Some n ≡ Some (n.0, rest)
+  number_before n e = let f : n.1 ≡ rest = cc in rw (← f) refl
+
   read_get : (n : ℕ) → b ≡ 0x20 → u32_at bytes ≡ Some (n, rest) → plain_from written b bytes ≡ Some (variable (LocalGet n), rest)
   unfolding plain_from variable_from
   read_get n e f = rw (e, f) refl
@@ -156,11 +162,22 @@ module _ {A : Type 0} (v : Stacks A) (C : Context UnpackedIndex) (r : Result (Un
   pub at_put : (n : ℕ) → b ≡ 0x24 → u32_at bytes ≡ Some (n, rest) → Steps (variable_shape (GlobalSet n)) → Goes
   at_put n e f h = fuse r (variable (GlobalSet n)) (read_put n e f) h
 
-  pub at_i32 : (n : ℤ) → b ≡ 0x41 → signed_at 32 bytes ≡ Some (n, rest) → Steps (plain (allows (number_type number.I32) ∷ []) nothing (one (number_type number.I32))) → Goes
-  at_i32 n e f h = fuse r (constant (I32Const n)) (read_i32 n e f) h
+  -- a constant, of which only the type counts
+  some_i32 : (o : Option (ℤ × List ℕ)) → b ≡ 0x41 → signed_at 32 bytes ≡ o → option_map (λ n. n.1) o ≡ Some rest → Steps (plain (allows (number_type number.I32) ∷ []) nothing (one (number_type number.I32))) → Goes
+  some_i32 None e f g h = cc
+  some_i32 (Some n) e f g h = fuse r (constant (I32Const n.0)) (read_i32 n.0 e (f ∙ number_before n g)) h
 
-  pub at_i64 : (n : ℤ) → b ≡ 0x42 → signed_at 64 bytes ≡ Some (n, rest) → Steps (plain (allows (number_type number.I64) ∷ []) nothing (one (number_type number.I64))) → Goes
-  at_i64 n e f h = fuse r (constant (I64Const n)) (read_i64 n e f) h
+  some_i64 : (o : Option (ℤ × List ℕ)) → b ≡ 0x42 → signed_at 64 bytes ≡ o → option_map (λ n. n.1) o ≡ Some rest → Steps (plain (allows (number_type number.I64) ∷ []) nothing (one (number_type number.I64))) → Goes
+  some_i64 None e f g h = cc
+  some_i64 (Some n) e f g h = fuse r (constant (I64Const n.0)) (read_i64 n.0 e (f ∙ number_before n g)) h
+
+  pub at_i32 : b ≡ 0x41 → behind_signed 32 bytes ≡ Some rest → Steps (plain (allows (number_type number.I32) ∷ []) nothing (one (number_type number.I32))) → Goes
+  unfolding behind_signed
+  at_i32 e f h = some_i32 (signed_at 32 bytes) e refl f h
+
+  pub at_i64 : b ≡ 0x42 → behind_signed 64 bytes ≡ Some rest → Steps (plain (allows (number_type number.I64) ∷ []) nothing (one (number_type number.I64))) → Goes
+  unfolding behind_signed
+  at_i64 e f h = some_i64 (signed_at 64 bytes) e refl f h
 
   read_block : (x : Block UnpackedIndex) → b ≡ 0x02 → block_at written bytes ≡ Some (x, rest) → plain_from written b bytes ≡ Some (control (block x), rest)
   unfolding plain_from control_from
@@ -216,6 +233,10 @@ module _ {A : Type 0} (v : Stacks A) (C : Context UnpackedIndex) (r : Result (Un
   unfolding plain_from parametric_from
   read_drop e = rw e refl
 
+  read_select : b ≡ 0x1b → plain_from written b bytes ≡ Some (parametric select, bytes)
+  unfolding plain_from parametric_from
+  read_select e = rw e refl
+
   read_return : b ≡ 0x0f → plain_from written b bytes ≡ Some (control return_, bytes)
   unfolding plain_from control_from
   read_return e = rw e refl
@@ -229,12 +250,15 @@ module _ {A : Type 0} (v : Stacks A) (C : Context UnpackedIndex) (r : Result (Un
   pub at_drop : b ≡ 0x1a → Fast r (acted v C (actions_of dropping)) old new → Fused r (performed_from v C b bytes) old new bytes
   at_drop e h = fuse v C r b bytes bytes old new r (parametric drop_) (read_drop e) h
 
+  pub at_select : b ≡ 0x1b → Fast r (acted v C (actions_of choosing)) old new → Fused r (performed_from v C b bytes) old new bytes
+  at_select e h = fuse v C r b bytes bytes old new r (parametric select) (read_select e) h
+
   pub at_numeric : (op : NumericOperator) (g : Signature) → 0x45 ≤ b → b < 0xd0 → Some op ≡ numeric_from b → g ≡ signature_of op → Fast r (acted v C (actions_of (computing g))) old new → Fused r (performed_from v C b bytes) old new bytes
   at_numeric op g l h f s k = fuse v C r b bytes bytes old new r (numeric op) (read_numeric b op bytes l h (sym f)) (subst (λ (x : Signature). Fast r (acted v C (actions_of (computing x))) old new) s k)
 
 pub ruleset variables = (fused_left, at_get, at_set, at_tee, at_global, at_put)
 
-pub ruleset structures = (fused_left, at_block, at_loop, at_if, at_end, at_br, at_br_if, at_return, at_call, at_drop, at_i32, at_i64)
+pub ruleset structures = (fused_left, at_block, at_loop, at_if, at_end, at_br, at_br_if, at_return, at_call, at_drop, at_select, at_i32, at_i64)
 
 pub ruleset tables = (fused_left, at_numeric, at_access)
 

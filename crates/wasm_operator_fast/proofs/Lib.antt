@@ -5,3 +5,5 @@ pub mod Ended
 pub mod Fusing
 mod Entered
 mod BlockTypes
+mod Passing
+mod Selecting

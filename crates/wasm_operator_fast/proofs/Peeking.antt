@@ -7,7 +7,7 @@ use Rattle.wasm_spec.specs.MatchingTests.{World}
 use Rattle.wasm_spec.specs.Syntax.{Val}
 use Rattle.wasm_rules.specs.Contexts.{Context}
 use Rattle.wasm_readers_types.specs.declared.indices.UnpackedIndex.{UnpackedIndex}
-use Rattle.wasm_operator_steps.specs.Machine.{State, known, pop_val, pop_vals, push_operand}
+use Rattle.wasm_operator_steps.specs.Machine.{State, known, pop_any, pop_val, pop_vals, push_operand}
 use Rattle.wasm_module_resources.specs.Answers.{world}
 use Rattle.wasm_operator_stacks.specs.Seen.{state_of, below}
 use Rattle.wasm_operator_stacks.specs.SeenOperands.{operand_of}
@@ -24,6 +24,10 @@ module _ {A : Type 0} (v : Stacks A) (C : Context UnpackedIndex) (k : ℕ) (o : 
   peeked e u h l =
       one_popped (world C) x (below k (state_of v)) (below (k + 1) (state_of v)) (operand_of o)
       (look_within v.operands v.is_open v.frame v.outer v.locals.inits k o e (higher (length v.operands - k) v.frame.height l) u) (known_matches C (operand_of o) x h)
+
+  pub found_there : v.is_open ≡ true → slice_get v.operands k ≡ Some o → operand_of o ≡ known x → v.frame.height < length v.operands - k → pop_any (below k (state_of v)) ≡ Some (known x, below (k + 1) (state_of v))
+  found_there e u h l =
+      look_within v.operands v.is_open v.frame v.outer v.locals.inits k o e (higher (length v.operands - k) v.frame.height l) u ∙ ap (λ y. Some (y, below (k + 1) (state_of v))) h
 
   pub given_again : slice_get v.operands k ≡ Some o → operand_of o ≡ known x → push_operand (known x) (below (k + 1) (state_of v)) ≡ below k (state_of v)
   given_again u h =

@@ -1,3 +1,4 @@
 pub mod Fast
 pub mod Fused
 pub mod Blocks
+pub mod Passed

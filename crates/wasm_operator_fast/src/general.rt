@@ -3,34 +3,17 @@
 ghost use Rattle.wasm_flat_operators.specs.declared.calls.CallOperator.TheVariants.{Call};
 ghost use Rattle.wasm_flat_operators.specs.declared.variables.VariableOperator.TheVariants.{GlobalGet, GlobalSet};
 ghost use Rattle.wasm_operators.specs.Control.{br, br_if, return_};
-ghost use Rattle.wasm_operator_steps.specs.Shapes.{access_shape, call_shape, control_shape, dropping, variable_shape};
+ghost use Rattle.wasm_operator_steps.specs.Shapes.{call_shape, control_shape, dropping, variable_shape};
 ghost use Rattle.wasm_operator_stacks.specs.Seen.{Kept};
 ghost use Rattle.wasm_operator_fast.specs.Fast.{Performs};
 
 use crate::not_taken::NotTaken;
 use crate::plain::as_fast;
 use std::alloc::Allocator;
-use wasm_flat_operators::{MemArg, MemoryOperator};
 use wasm_module_resources::WasmModuleResources;
 use wasm_operator_calls::call;
 use wasm_operator_control::{branch, branch_if, drop_any, give_back, global_get, global_set};
-use wasm_operator_numbers::access_memory;
 use wasm_operator_stacks::Stacks;
-
-/// A load or a store.
-#[inline(always)]
-pub(crate) fn access<A: Allocator, T: WasmModuleResources>(
-    stacks: &mut Stacks<A>,
-    resources: &T,
-    op: MemoryOperator,
-    arg: MemArg,
-) -> Result<(), NotTaken>
-    ensures took { Performs result (T.context resources.now) (access_shape op arg)
-        stacks.old stacks.new }
-    ensures same { Kept stacks.old stacks.new }
-{
-    as_fast(access_memory(stacks, resources, op, arg))
-}
 
 /// `global.get`.
 #[inline(always)]

@@ -2,11 +2,12 @@
 
 ghost use Rattle.std.specs.Prelude.{◌≡◌, ◌≤◌, ◌<◌, ◌∷◌, Some, IfOk, OnOk};
 ghost use Rattle.wasm_binary_reader.specs.Reader.{SameInput, position_in, rest};
-ghost use Rattle.wasm_spec.specs.Values.{u32_at, signed_at};
+ghost use Rattle.wasm_spec.specs.Values.{u32_at, u64_at};
 ghost use Rattle.wasm_flat_operators.specs.Memories.{memarg_at};
 ghost use Rattle.wasm_readers.specs.Written.{written};
 ghost use Rattle.wasm_operators.specs.Control.{block_at};
 ghost use Rattle.wasm_operator_fast.specs.Blocks.{block_named};
+ghost use Rattle.wasm_operator_fast.specs.Passed.{behind_signed, Passed};
 
 use crate::not_taken::NotTaken;
 use wasm_flat_operators::MemArg;
@@ -27,6 +28,25 @@ pub(crate) fn next_byte(reader: &mut BinaryReader) -> Result<u8, NotTaken>
     }
 }
 
+/// The next number, where it has one byte or two.
+#[inline(always)]
+fn next_short(reader: &mut BinaryReader) -> Result<u32, NotTaken>
+    ensures same { SameInput reader.old reader.new }
+    ensures onward { position_in reader.old ≤ position_in reader.new }
+    ensures narrow { IfOk result (λ n. u32_at (rest reader.old) ≡ Some (n, rest reader.new)) }
+    ensures wide { IfOk result (λ n. u64_at (rest reader.old) ≡ Some (n, rest reader.new)) }
+{
+    let first = next_byte(reader)?;
+    if first < 128 {
+        return Ok(u32::from(first));
+    }
+    let second = next_byte(reader)?;
+    if second < 128 {
+        return Ok(u32::from(first - 128) + (u32::from(second) << 7));
+    }
+    Err(NotTaken::Left)
+}
+
 /// The next index.
 #[inline(always)]
 pub(crate) fn next_index(reader: &mut BinaryReader) -> Result<u32, NotTaken>
@@ -34,36 +54,131 @@ pub(crate) fn next_index(reader: &mut BinaryReader) -> Result<u32, NotTaken>
     ensures onward { position_in reader.old ≤ position_in reader.new }
     ensures ok { IfOk result (λ n. u32_at (rest reader.old) ≡ Some (n, rest reader.new)) }
 {
-    match reader.next_var_u32() {
-        Some(index) => Ok(index),
-        None => Err(NotTaken::Left),
+    let mut ahead = *reader;
+    match next_short(&mut ahead) {
+        Ok(index) => {
+            reader.go_on_from(&ahead);
+            Ok(index)
+        }
+        Err(_) => match reader.next_var_u32() {
+            Some(index) => Ok(index),
+            None => Err(NotTaken::Left),
+        },
     }
 }
 
-/// The next number of 32 bits.
+/// The next offset.
 #[inline(always)]
-pub(crate) fn next_i32(reader: &mut BinaryReader) -> Result<i32, NotTaken>
+fn next_offset(reader: &mut BinaryReader) -> Result<u64, NotTaken>
     ensures same { SameInput reader.old reader.new }
     ensures onward { position_in reader.old ≤ position_in reader.new }
-    ensures ok { IfOk result (λ n. signed_at 32 (rest reader.old) ≡ Some (n, rest reader.new)) }
+    ensures ok { IfOk result (λ n. u64_at (rest reader.old) ≡ Some (n, rest reader.new)) }
 {
-    match reader.next_var_i32() {
-        Some(value) => Ok(value),
-        None => Err(NotTaken::Left),
+    let mut ahead = *reader;
+    match next_short(&mut ahead) {
+        Ok(offset) => {
+            reader.go_on_from(&ahead);
+            Ok(u64::from(offset))
+        }
+        Err(_) => match reader.next_var_u64() {
+            Some(offset) => Ok(offset),
+            None => Err(NotTaken::Left),
+        },
     }
 }
 
-/// The next number of 64 bits.
+/// Passes up to four bytes of a signed number of more than 28 bits, and tells whether it ends with
+/// them. Whatever they hold, there is room for it.
 #[inline(always)]
-pub(crate) fn next_i64(reader: &mut BinaryReader) -> Result<i64, NotTaken>
+#[tactic(auto, using(crate::proofs::Passing::passes))]
+fn pass_four(reader: &mut BinaryReader) -> Result<bool, NotTaken>
     ensures same { SameInput reader.old reader.new }
     ensures onward { position_in reader.old ≤ position_in reader.new }
-    ensures ok { IfOk result (λ n. signed_at 64 (rest reader.old) ≡ Some (n, rest reader.new)) }
+    ensures ok { IfOk result (λ ended. Passed ended (rest reader.old) (rest reader.new)) }
 {
-    match reader.next_var_i64() {
-        Some(value) => Ok(value),
-        None => Err(NotTaken::Left),
+    if next_byte(reader)? < 128 {
+        return Ok(true);
     }
+    if next_byte(reader)? < 128 {
+        return Ok(true);
+    }
+    if next_byte(reader)? < 128 {
+        return Ok(true);
+    }
+    if next_byte(reader)? < 128 {
+        return Ok(true);
+    }
+    Ok(false)
+}
+
+/// Passes a signed number of four bits, as the fifth byte of one of 32 bits is.
+#[inline(always)]
+#[tactic(auto, using(crate::proofs::Passing::lasts))]
+fn pass_four_bits(reader: &mut BinaryReader) -> Result<(), NotTaken>
+    ensures same { SameInput reader.old reader.new }
+    ensures onward { position_in reader.old ≤ position_in reader.new }
+    ensures ok { OnOk result (behind_signed 4 (rest reader.old) ≡ Some (rest reader.new)) }
+{
+    let byte = next_byte(reader)?;
+    if byte < 8 {
+        return Ok(());
+    }
+    if 120 <= byte && byte < 128 {
+        return Ok(());
+    }
+    Err(NotTaken::Left)
+}
+
+/// Passes a signed number of eight bits, as the ninth and tenth byte of one of 64 bits are.
+#[inline(always)]
+#[tactic(auto, using(crate::proofs::Passing::lasts))]
+fn pass_eight_bits(reader: &mut BinaryReader) -> Result<(), NotTaken>
+    ensures same { SameInput reader.old reader.new }
+    ensures onward { position_in reader.old ≤ position_in reader.new }
+    ensures ok { OnOk result (behind_signed 8 (rest reader.old) ≡ Some (rest reader.new)) }
+{
+    if next_byte(reader)? < 128 {
+        return Ok(());
+    }
+    let sign = next_byte(reader)?;
+    if sign == 0 {
+        return Ok(());
+    }
+    if sign == 127 {
+        return Ok(());
+    }
+    Err(NotTaken::Left)
+}
+
+/// Passes a signed number of 32 bits.
+#[inline(always)]
+#[tactic(auto, using(crate::proofs::Passing::wholes))]
+pub(crate) fn pass_i32(reader: &mut BinaryReader) -> Result<(), NotTaken>
+    ensures same { SameInput reader.old reader.new }
+    ensures onward { position_in reader.old ≤ position_in reader.new }
+    ensures ok { OnOk result (behind_signed 32 (rest reader.old) ≡ Some (rest reader.new)) }
+{
+    if pass_four(reader)? {
+        return Ok(());
+    }
+    pass_four_bits(reader)
+}
+
+/// Passes a signed number of 64 bits.
+#[inline(always)]
+#[tactic(auto, using(crate::proofs::Passing::wholes))]
+pub(crate) fn pass_i64(reader: &mut BinaryReader) -> Result<(), NotTaken>
+    ensures same { SameInput reader.old reader.new }
+    ensures onward { position_in reader.old ≤ position_in reader.new }
+    ensures ok { OnOk result (behind_signed 64 (rest reader.old) ≡ Some (rest reader.new)) }
+{
+    if pass_four(reader)? {
+        return Ok(());
+    }
+    if pass_four(reader)? {
+        return Ok(());
+    }
+    pass_eight_bits(reader)
 }
 
 /// The next memory argument, where it is of the first memory.
@@ -78,14 +193,12 @@ pub(crate) fn next_memarg(reader: &mut BinaryReader) -> Result<MemArg, NotTaken>
     if flags >= 64 {
         return Err(NotTaken::Left);
     }
-    match reader.next_var_u64() {
-        Some(offset) => Ok(MemArg {
-            align: flags as u8,
-            memory: 0,
-            offset,
-        }),
-        None => Err(NotTaken::Left),
-    }
+    let offset = next_offset(reader)?;
+    Ok(MemArg {
+        align: flags as u8,
+        memory: 0,
+        offset,
+    })
 }
 
 /// What the next block type gives, where it takes nothing and gives nothing or a number.

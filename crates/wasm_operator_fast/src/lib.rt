@@ -1,7 +1,9 @@
 //! Frequent operators, read and typed at once.
 #![tactic(auto)]
 
+mod accesses;
 mod blocks;
+mod choices;
 mod ends;
 mod general;
 mod immediates;
@@ -10,6 +12,7 @@ mod not_taken;
 mod numbers;
 mod peeks;
 mod plain;
+mod signatures;
 mod steps;
 
 pub use not_taken::NotTaken;

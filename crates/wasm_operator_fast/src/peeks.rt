@@ -2,7 +2,7 @@
 
 ghost use Rattle.std.specs.Prelude.{◌≡◌, ◌≤◌, ◌+◌, Some, length, OnOk};
 ghost use Rattle.wasm_type_words.specs.Seen.{val_in};
-ghost use Rattle.wasm_operator_steps.specs.Machine.{known, pop_val, pop_vals, push_operand};
+ghost use Rattle.wasm_operator_steps.specs.Machine.{known, pop_any, pop_val, pop_vals, push_operand};
 ghost use Rattle.wasm_module_resources.specs.Answers.{world};
 ghost use Rattle.wasm_operator_stacks.specs.Seen.{state_of, below};
 ghost use Rattle.wasm_operator_checks.specs.SeenTypes.{takes_seen};
@@ -25,6 +25,8 @@ pub(crate) fn peek<A: Allocator, T: WasmModuleResources>(
     depth: usize,
     ty: TypeWord,
 ) -> Result<(), NotTaken>
+    ensures found { OnOk result (pop_any (below depth (state_of stacks.now))
+        ≡ Some (known (val_in ty), below (depth + 1) (state_of stacks.now))) }
     ensures popped { OnOk result (pop_val (world (T.context _resources.now)) (val_in ty)
         (below depth (state_of stacks.now)) ≡ Some (below (depth + 1) (state_of stacks.now))) }
     ensures there { OnOk result (push_operand (known (val_in ty))

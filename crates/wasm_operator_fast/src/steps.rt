@@ -6,20 +6,22 @@ ghost use Rattle.wasm_module_resources.specs.Answers.{world};
 ghost use Rattle.wasm_operator_stacks.specs.Seen.{state_of, around, Kept};
 ghost use Rattle.wasm_operator_fast.specs.Fused.{Fuses, step_at};
 
+use crate::accesses::access;
 use crate::blocks::{open_block, open_if, open_loop};
+use crate::choices::select_integer;
 use crate::ends::end;
 use crate::general::{
-    access, branch_away, branch_perhaps, call_function, drop_one, get_global, return_all,
-    set_global,
+    branch_away, branch_perhaps, call_function, drop_one, get_global, return_all, set_global,
 };
-use crate::immediates::{next_block, next_byte, next_i32, next_i64, next_index, next_memarg};
+use crate::immediates::{next_block, next_byte, next_index, next_memarg, pass_i32, pass_i64};
 use crate::locals::{local_get, local_set, local_tee};
 use crate::not_taken::NotTaken;
 use crate::numbers::{compute, constant};
+use crate::signatures::signature;
 use std::alloc::Allocator;
 use wasm_flat_operators::access_from_opcode;
 use wasm_module_resources::WasmModuleResources;
-use wasm_numeric_operators::{NumberType, numeric_from_opcode, numeric_signature};
+use wasm_numeric_operators::{NumberType, numeric_from_opcode};
 use wasm_operator_stacks::Stacks;
 use wasm_readers::BinaryReader;
 
@@ -38,21 +40,25 @@ fn step_by_table<A: Allocator, T: WasmModuleResources>(
         stacks.old reader.new stacks.new }
     ensures same { Kept stacks.old stacks.new }
 {
-    if 0x45 <= opcode && opcode < 0xd0 {
-        match numeric_from_opcode(opcode) {
-            Some(op) => compute(stacks, resources, numeric_signature(op)),
-            None => Err(NotTaken::Left),
+    match numeric_from_opcode(opcode) {
+        Some(op) => {
+            if 0x45 <= opcode && opcode < 0xd0 {
+                compute(stacks, resources, signature(op))
+            } else {
+                Err(NotTaken::Left)
+            }
         }
-    } else if 0x28 <= opcode && opcode < 0x3f {
-        match access_from_opcode(opcode) {
+        None => match access_from_opcode(opcode) {
             Some(op) => {
-                let arg = next_memarg(reader)?;
-                access(stacks, resources, op, arg)
+                if 0x28 <= opcode && opcode < 0x3f {
+                    let arg = next_memarg(reader)?;
+                    access(stacks, resources, op, arg)
+                } else {
+                    Err(NotTaken::Left)
+                }
             }
             None => Err(NotTaken::Left),
-        }
-    } else {
-        Err(NotTaken::Left)
+        },
     }
 }
 
@@ -99,12 +105,13 @@ fn step_structural<A: Allocator, T: WasmModuleResources>(
             call_function(stacks, resources, index)
         }
         0x1a => drop_one(stacks, resources),
+        0x1b => select_integer(stacks, resources),
         0x41 => {
-            let _value = next_i32(reader)?;
+            pass_i32(reader)?;
             constant(stacks, resources, NumberType::I32)
         }
         0x42 => {
-            let _value = next_i64(reader)?;
+            pass_i64(reader)?;
             constant(stacks, resources, NumberType::I64)
         }
         _ => step_by_table(reader, stacks, resources, opcode),

@@ -1,0 +1,10 @@
+use Rattle.std.proofs.Common.{rules}
+use Rattle.wasm_operator_checks.proofs.Typing.{memory_typed, number_typed, aligned_held}
+use Rattle.wasm_operator_fast.proofs.Fasting.{needed, plainly, allows_held}
+use Rattle.wasm_operator_fast.proofs.accesses.load.Goals as goal
+
+pub returns-else-not-fits-clause-took : goal.returns-else-not-fits-clause-took
+returns-else-not-fits-clause-took g c =
+    needed _ _ _ _ _ _ _ (allows_held _ _ _ _ (search rules))
+    (needed _ _ _ _ _ _ _ (aligned_held _ _ _ _ _ _ c.in-Some.ensures (c.fits.ensures c.if-not-fits.false))
+    (plainly _ _ _ _ _ _ _ _ _ c.plain.ensures.took (memory_typed _ _ _ _ _ c.in-Some.ensures c.address.ensures) (number_typed _ _ _ _ c.number.ensures)))

@@ -1,0 +1,21 @@
+-- Signed numbers that are passed: what stands behind them, and not what they are.
+use Rattle.std.specs.Prelude.{◌≡◌, ◌<◌, ◌-◌, ℕ, Bool, true, false, List, Option, Some}
+use Rattle.std.specs.Option.{option_map}
+use Rattle.wasm_spec.specs.Values.{signed_at}
+
+-- the bytes behind a signed number of so many bits, if one stands there
+unfoldable pub behind_signed : ℕ → List ℕ → Option (List ℕ)
+behind_signed bits bytes = option_map (λ n. n.1) (signed_at bits bytes)
+
+-- a signed number that four bytes hold, whatever more bits it may have
+unfoldable pub PassesShort : List ℕ → List ℕ → Type 0
+PassesShort bytes more = (bits : ℕ) → 28 < bits → behind_signed bits bytes ≡ Some more
+
+-- four bytes of a signed number, of which more come
+unfoldable pub Precedes : List ℕ → List ℕ → Type 0
+Precedes bytes more = (bits : ℕ) (rest : List ℕ) → 28 < bits → behind_signed (bits - 28) more ≡ Some rest → behind_signed bits bytes ≡ Some rest
+
+-- up to four bytes of a signed number, whether it ends with them or not
+abbrev pub Passed : Bool → List ℕ → List ℕ → Type 0
+Passed true bytes more = PassesShort bytes more
+Passed false bytes more = Precedes bytes more

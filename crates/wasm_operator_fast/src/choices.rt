@@ -1,0 +1,46 @@
+//! `select` between numbers.
+
+ghost use Rattle.wasm_operator_steps.specs.Shapes.{choosing};
+ghost use Rattle.wasm_operator_stacks.specs.Seen.{Kept};
+ghost use Rattle.wasm_operator_fast.specs.Fast.{Performs};
+
+use crate::not_taken::NotTaken;
+use crate::peeks::peek;
+use std::alloc::Allocator;
+use wasm_module_resources::WasmModuleResources;
+use wasm_numeric_operators::NumberType;
+use wasm_operator_stacks::Stacks;
+use wasm_type_words::TypeWord;
+
+/// `select` between two numbers of this type, of which the lower one stays.
+#[inline(always)]
+#[tactic(auto, using(crate::proofs::Fasting::acts))]
+fn select_number<A: Allocator, T: WasmModuleResources>(
+    stacks: &mut Stacks<A>,
+    resources: &T,
+    ty: NumberType,
+) -> Result<(), NotTaken>
+    ensures took { Performs result (T.context resources.now) choosing stacks.old stacks.new }
+    ensures same { Kept stacks.old stacks.new }
+{
+    peek(stacks, resources, 0, TypeWord::number(NumberType::I32))?;
+    peek(stacks, resources, 1, TypeWord::number(ty))?;
+    peek(stacks, resources, 2, TypeWord::number(ty))?;
+    stacks.take(2);
+    Ok(())
+}
+
+/// `select` between two integers.
+#[inline(always)]
+pub(crate) fn select_integer<A: Allocator, T: WasmModuleResources>(
+    stacks: &mut Stacks<A>,
+    resources: &T,
+) -> Result<(), NotTaken>
+    ensures took { Performs result (T.context resources.now) choosing stacks.old stacks.new }
+    ensures same { Kept stacks.old stacks.new }
+{
+    match peek(stacks, resources, 1, TypeWord::number(NumberType::I32)) {
+        Ok(()) => select_number(stacks, resources, NumberType::I32),
+        Err(_) => select_number(stacks, resources, NumberType::I64),
+    }
+}
