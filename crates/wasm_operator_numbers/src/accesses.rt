@@ -1,6 +1,6 @@
 //! Loads and stores.
 
-ghost use Rattle.std.specs.Prelude.{◌≡◌, ◌&&◌, ◌||◌, ◌^◌, nat_le, nat_lt, cond};
+ghost use Rattle.std.specs.Prelude.{◌≡◌, ◌&&◌, ◌||◌, ◌^◌, nat_le, nat_lt};
 ghost use Rattle.wasm_flat_operators.specs.Memories.{max_align_of};
 ghost use Rattle.wasm_flat_operators.specs.declared.memories.MemArg.{MemArg};
 ghost use Rattle.wasm_operator_steps.specs.Shapes.{access_shape, loading, storing, number_type};
@@ -69,10 +69,7 @@ fn fits(memory: MemoryType, op: MemoryOperator, arg: MemArg) -> bool
 
 /// The rule that an access breaks which doesn't fit its memory: that of the alignment first.
 #[inline(never)]
-fn misfit(op: MemoryOperator, arg: MemArg) -> OperatorRule
-    ensures { result ≡ cond (nat_le arg.align (max_align_of op))
-        OperatorRule.Offset OperatorRule.Alignment }
-{
+fn misfit(op: MemoryOperator, arg: MemArg) -> OperatorRule {
     if arg.align <= max_align(op) {
         OperatorRule::Offset
     } else {
