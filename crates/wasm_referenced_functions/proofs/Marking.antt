@@ -17,7 +17,7 @@ use Rattle.wasm_readers.proofs.Tables.{heads_begin_tables}
 use Rattle.wasm_readers_types.specs.declared.indices.UnpackedIndex.{UnpackedIndex}
 use Rattle.wasm_module_validity.specs.Expressions.{expression_at, named}
 use Rattle.wasm_referenced_functions.specs.References.{mark, marked, mode_names, table_names, global_names, element_names}
-use Rattle.wasm_referenced_functions.specs.Marks.{MarksNames}
+use Rattle.wasm_referenced_functions.specs.Marks.{MarksNames, MarksName}
 use Rattle.wasm_referenced_functions.specs.Marking.{Marking, EndsWith, mark_many, mark_list, mark_read, mark_function, mark_functions, mark_expression, mark_expressions, mark_global, mark_behind, mark_table, mark_kind, mark_export, mark_kind_and_functions, mark_type_and_expressions, mark_element_from, mark_element}
 
 the_same : {X : Type 0} (x y : X) → Some x ≡ Some y → x ≡ y
@@ -158,6 +158,11 @@ module _ {V : Type 0} (names : V → List ℕ) (reads : List ℕ → Option (V �
   section_marked n m bytes more result old new e f h =
       subst (λ (k : ℕ). MarksNames reads names k more result old new) e (subst (λ (b : List ℕ). MarksNames reads names n b result old new) f (promised n bytes result old new h))
 
+  -- one item alone
+  pub item_marked : (bytes : List ℕ) {X E : Type 0} (result : Result X E) (old new : List Bool) → EndsWith result (marks old bytes) new → MarksName reads names bytes result old new
+  item_marked bytes (Ok x) old new h item more e = h (marked (names item) old, more) ((all old bytes).is item more e)
+  item_marked bytes (Err x) old new h item more e = tt
+
 -- functions by their indices
 each_alone : (xs : List ℕ) → flat_map (λ x. x ∷ []) xs ≡ xs
 each_alone [] = refl
@@ -265,3 +270,13 @@ module _ (flags : List Bool) (bytes : List ℕ) where
 pub element_goes : GoesAlong element_names (element_at expression_at written) mark_element
 unfolding element_at
 element_goes flags bytes = goes_behind (u32_at bytes) _ _ (λ f. from_goes flags f.1 f.0)
+
+-- single items
+pub table_marked : (bytes : List ℕ) {X E : Type 0} (result : Result X E) (old new : List Bool) → EndsWith result (mark_table old bytes) new → MarksName (table_entry_at expression_at written) table_names bytes result old new
+table_marked = item_marked table_names (table_entry_at expression_at written) mark_table table_goes
+
+pub global_marked : (bytes : List ℕ) {X E : Type 0} (result : Result X E) (old new : List Bool) → EndsWith result (mark_global old bytes) new → MarksName (global_entry_at expression_at written) global_names bytes result old new
+global_marked = item_marked global_names (global_entry_at expression_at written) mark_global global_goes
+
+pub element_marked : (bytes : List ℕ) {X E : Type 0} (result : Result X E) (old new : List Bool) → EndsWith result (mark_element old bytes) new → MarksName (element_at expression_at written) element_names bytes result old new
+element_marked = item_marked element_names (element_at expression_at written) mark_element element_goes

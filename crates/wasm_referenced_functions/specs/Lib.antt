@@ -1,3 +1,4 @@
+pub use Rattle.wasm_module_validity.specs.Expressions
 pub mod References
 pub mod Marks
 pub mod Marking

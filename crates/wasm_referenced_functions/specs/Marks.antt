@@ -13,3 +13,7 @@ MarkedFlagsSayNames = (xs : List ℕ) (flags : List Bool) (i : ℕ) → get_or (
 abbrev pub MarksNames : {V X E : Type 0} → (List ℕ → Option (V × List ℕ)) → (V → List ℕ) → ℕ → List ℕ → Result X E → List Bool → List Bool → Type 0
 MarksNames {V} reads names count bytes result old new =
     (items : List V) → items_at reads count bytes ≡ Some items → OnOk result (new ≡ marked (flat_map names items) old)
+
+-- The same of one item: as soon as the bytes begin with it, the functions that it names are marked, unless memory is refused.
+abbrev pub MarksName : {V X E : Type 0} → (List ℕ → Option (V × List ℕ)) → (V → List ℕ) → List ℕ → Result X E → List Bool → List Bool → Type 0
+MarksName {V} reads names bytes result old new = (item : V) (more : List ℕ) → reads bytes ≡ Some (item, more) → OnOk result (new ≡ marked (names item) old)

@@ -67,6 +67,14 @@ names_of_exports count bytes = names_in export_at exported_functions count bytes
 abbrev pub names_of_elements : ℕ → List ℕ → List ℕ
 names_of_elements count bytes = names_in (element_at expression_at written) element_names count bytes
 
+-- the functions that the item names which the bytes begin with, if they begin with one
+abbrev pub names_if : {V : Type 0} → (V → List ℕ) → Option (V × List ℕ) → List ℕ
+names_if names None = []
+names_if names (Some x) = names x.0
+
+abbrev pub names_at : {V : Type 0} → (List ℕ → Option (V × List ℕ)) → (V → List ℕ) → List ℕ → List ℕ
+names_at reads names bytes = names_if names (reads bytes)
+
 -- those that a section names, by its id. The offset of a data segment is a number, and names none.
 abbrev pub section_names : ℕ → ℕ → List ℕ → List ℕ
 section_names id count bytes =

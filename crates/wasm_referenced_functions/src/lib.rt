@@ -9,7 +9,9 @@ mod flags;
 mod items;
 mod laws;
 mod sections;
+mod singles;
 
 pub use flags::ReferencedFunctions;
 pub use laws::marked_flags_say_names;
 pub use sections::{mark_elements, mark_exports, mark_globals, mark_tables};
+pub use singles::{mark_element, mark_global, mark_table};

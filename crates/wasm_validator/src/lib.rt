@@ -12,6 +12,7 @@ pub use wasm_validator_modules::CodeState;
 pub use wasm_validator_modules::CompositeInnerType;
 pub use wasm_validator_modules::CompositeType;
 pub use wasm_validator_modules::ConstExpr;
+pub use wasm_validator_modules::Constants;
 pub use wasm_validator_modules::ContType;
 pub use wasm_validator_modules::CoreExports;
 pub use wasm_validator_modules::CoreImports;

@@ -20,9 +20,19 @@ use wasm_validator_core::{Error, MAX_DATA_SEGMENTS, check_max};
 use wasm_validator_core_resources::{ModuleResources, TypesByIds};
 use wasm_validator_types::{IndexSpaces, TypeList};
 
-/// Reads and types a data segment in the module as far as it has been read.
+/// Reads and types the data segment that the bytes begin with, in the module as far as it has been
+/// read, which it leaves as it is. Its offset may read the imported globals, and is typed in memory
+/// that was used before, which is handed on. The reader goes behind it.
+///
+/// The list must have the types of the module; and `types` are all that it has, with ids in the
+/// place of positions in their groups.
+///
+/// # Errors
+///
+/// Refused where the bytes don't begin with a valid data segment (Core Specification 3.0,
+/// Validation, Modules, Data Segments), and where memory is.
 #[tactic(auto, unfolding(crate::specs::Machine::data_step))]
-fn check_next_data<'a, A: Allocator + Copy>(
+pub fn check_next_data<'a, A: Allocator + Copy>(
     features: WasmFeatures,
     list: &TypeList<A>,
     types: &TypesByIds<A>,

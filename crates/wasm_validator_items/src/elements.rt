@@ -67,9 +67,20 @@ fn add_segment<A: Allocator + Copy>(opened: &mut Module<A>, ty: ValType) -> Resu
     }
 }
 
-/// Reads an element segment in the module as far as it has been read, and adds it.
+/// Reads the element segment that the bytes begin with, in the module as far as it has been read,
+/// and adds it. Its expressions may read the imported globals, and are typed in memory that was
+/// used before, which is handed on. The reader goes behind it.
+///
+/// The list must have the types of the module; and `types` are all that it has, with ids in the
+/// place of positions in their groups. The number of element segments must fit 32 bits then.
+///
+/// # Errors
+///
+/// Refused where the bytes don't begin with a valid element segment (Core Specification 3.0,
+/// Validation, Modules, Element Segments), and where memory is. The module is then only to be
+/// dropped.
 #[tactic(auto, unfolding(crate::specs::Machine::element_step))]
-fn add_next_element<'a, A: Allocator + Copy>(
+pub fn add_next_element<'a, A: Allocator + Copy>(
     features: WasmFeatures,
     list: &TypeList<A>,
     types: &TypesByIds<A>,

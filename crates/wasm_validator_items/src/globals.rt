@@ -51,9 +51,20 @@ fn listed_global<A: Allocator + Copy>(
     }
 }
 
-/// Reads a global in the module as far as it has been read, and adds it.
+/// Reads the global that the bytes begin with, in the module as far as it has been read, and adds
+/// it. Its initializer may read the imported globals, and is typed in memory that was used before,
+/// which is handed on. The reader goes behind it.
+///
+/// The list must have the types of the module; and `types` are all that it has, with ids in the
+/// place of positions in their groups.
+///
+/// # Errors
+///
+/// Refused where the bytes don't begin with a global of a type that keeps every rule, with a
+/// constant expression of what it holds, where there would be too many globals (Core Specification
+/// 3.0, Validation, Modules, Globals), and where memory is. The module is then only to be dropped.
 #[tactic(auto, unfolding(crate::specs::Machine::global_step))]
-fn add_next_global<'a, A: Allocator + Copy>(
+pub fn add_next_global<'a, A: Allocator + Copy>(
     features: WasmFeatures,
     list: &TypeList<A>,
     types: &TypesByIds<A>,

@@ -4,14 +4,16 @@
 //! Each `offset` counts bytes from the start of the input.
 #![tactic(auto)]
 
+pub mod constants;
 mod data;
 mod elements;
 mod globals;
 mod initializers;
 mod tables;
 
-pub use data::add_data_segments;
-pub use elements::add_elements;
-pub use globals::add_globals;
-pub use tables::add_tables;
+pub use constants::{Constants, tells_types_apart};
+pub use data::{add_data_segments, check_next_data};
+pub use elements::{add_elements, add_next_element};
+pub use globals::{add_globals, add_next_global};
+pub use tables::{add_next_table, add_tables};
 pub use wasm_constant_items::OperatorValidatorAllocations;

@@ -55,9 +55,21 @@ fn check_init<'a, A: Allocator + Copy>(
     check_initializer(features, list, types, allocations, opened, element, reader)
 }
 
-/// Reads a table in the module as far as it has been read, and adds it.
+/// Reads the table that the bytes begin with, in the module as far as it has been read, and adds
+/// it. Its initializer, where it has one, may read the imported globals, and is typed in memory
+/// that was used before, which is handed on. The reader goes behind it.
+///
+/// The list must have the types of the module; and `types` are all that it has, with ids in the
+/// place of positions in their groups.
+///
+/// # Errors
+///
+/// Refused where the bytes don't begin with a table of a type that keeps every rule, with a
+/// constant expression of its entries' type where one is written, where there would be too many
+/// tables (Core Specification 3.0, Validation, Modules, Tables), and where memory is. The module is
+/// then only to be dropped.
 #[tactic(auto, unfolding(crate::specs::Machine::table_step))]
-fn add_next_table<'a, A: Allocator + Copy>(
+pub fn add_next_table<'a, A: Allocator + Copy>(
     features: WasmFeatures,
     list: &TypeList<A>,
     types: &TypesByIds<A>,

@@ -11,3 +11,4 @@ pub mod Lists
 pub mod WrittenTypes
 pub mod ItemLists
 pub mod Elements
+pub mod Singles

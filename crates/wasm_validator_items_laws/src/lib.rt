@@ -8,7 +8,13 @@ ghost use Rattle.wasm_spec.specs.Features.{Features};
 ghost use Rattle.wasm_rules.specs.Contexts.{Context};
 ghost use Rattle.wasm_readers_types.specs.declared.indices.UnpackedIndex.{UnpackedIndex};
 ghost use Rattle.wasm_validator_items_laws.specs.Items.{ExpressionsAreTyped, GlobalsAreTyped, DataAreTyped};
-ghost use Rattle.wasm_validator_items_laws.specs.Reading.{TablesAreReadAndAdded, GlobalsAreReadAndAdded, ElementsAreReadAndAdded, DataAreReadAndAdded, EntriesAreRenamed};
+ghost use Rattle.wasm_validator_items_laws.specs.Reading.{TablesAreReadAndAdded, GlobalsAreReadAndAdded, ElementsAreReadAndAdded, DataAreReadAndAdded, ItemsAreReadAndAdded, SectionsAddSingleItems, EntriesAreRenamed};
+
+/// The calls that the laws are about.
+pub use wasm_validator_items::{
+    Constants, add_data_segments, add_elements, add_globals, add_next_element, add_next_global,
+    add_next_table, add_tables, check_next_data, tells_types_apart,
+};
 
 /// Expressions, globals and data segments that are read and typed in one pass are those of the
 /// grammar whose expressions are typed, and each of these is found.
@@ -27,6 +33,18 @@ pub fn sections_are_read_and_added()
     ensures globals { GlobalsAreReadAndAdded }
     ensures elements { ElementsAreReadAndAdded }
     ensures segments { DataAreReadAndAdded }
+{}
+
+/// A single item is read by the grammar, and then added.
+#[tactic(auto, using(crate::proofs::Singles::items_are_added))]
+pub fn items_are_read_and_added()
+    ensures { ItemsAreReadAndAdded }
+{}
+
+/// A section adds its items as they are added one by one.
+#[tactic(auto, using(crate::proofs::Singles::sections_add_single_items))]
+pub fn sections_add_single_items<S, V>()
+    ensures { SectionsAddSingleItems S V }
 {}
 
 /// Entries are read the same with type indices in another form.

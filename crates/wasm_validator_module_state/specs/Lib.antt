@@ -1,5 +1,11 @@
+pub use Rattle.wasm_context_laws.specs.ListedTypes
+pub use Rattle.wasm_validator_items_laws.specs.Answers
+pub use Rattle.wasm_validator_items_laws.specs.Entries
+pub use Rattle.wasm_validator_items_laws.specs.Machine
+pub use Rattle.wasm_validator_items_laws.specs.Sections
 pub mod Held
 pub mod Seen
 pub mod LendsHeld
 pub mod LendsInner
 pub mod Bodies
+pub mod Singles

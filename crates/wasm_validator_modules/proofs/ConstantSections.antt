@@ -23,15 +23,15 @@ use Rattle.wasm_operator_worlds.specs.ListContexts.{list_declares}
 use Rattle.wasm_module_validity.specs.Expressions.{expression_at}
 use Rattle.wasm_context_laws.specs.ListedTypes.{types_declare}
 use Rattle.wasm_context_laws.proofs.ListedTypes.{lists_declare_their_types}
-use Rattle.wasm_validator_items.specs.Machine as one_pass
-use Rattle.wasm_validator_items.specs.Sections.{read_section}
-use Rattle.wasm_validator_items.specs.Entries.{add_table_entry, add_global_entry, add_element, add_data}
+use Rattle.wasm_validator_module_state.specs.Machine as one_pass
+use Rattle.wasm_validator_module_state.specs.Sections.{read_section}
+use Rattle.wasm_validator_module_state.specs.Entries.{add_table_entry, add_global_entry, add_element, add_data}
 use Rattle.wasm_module_list_laws.proofs.Tables.{tables_are_added}
 use Rattle.wasm_module_list_laws.proofs.Globals.{globals_are_added}
 use Rattle.wasm_module_list_laws.proofs.Elements.{elements_are_added}
 use Rattle.wasm_module_list_laws.proofs.Segments.{data_are_added}
 use Rattle.wasm_validator_modules.specs.Machine.{table_items, global_items, element_items, data_items}
-use Rattle.wasm_validator_modules.specs.Ready.{forgotten}
+use Rattle.wasm_validator_module_state.specs.Answers.{forgotten}
 
 module _ {T A : Type 0} where
   -- the answer without what was accepted says the same

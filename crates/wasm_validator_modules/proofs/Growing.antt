@@ -17,7 +17,7 @@ use Rattle.wasm_validator_types.specs.Spaces.{Spaces, no_spaces}
 use Rattle.wasm_validator_core.specs.declared.limits.TheConstants.{MAX_TYPES}
 use Rattle.wasm_validator_core.specs.Answers.{TypesSoFar}
 use Rattle.wasm_validator_core.specs.Machine.{with_ids, add_group}
-use Rattle.wasm_validator_items.specs.Sections.{read_each}
+use Rattle.wasm_validator_module_state.specs.Sections.{read_each}
 use Rattle.wasm_validator_modules.specs.Machine.{type_items, other_items, section_items, start_item, data_count_item, beside}
 use Rattle.wasm_validator_modules.specs.Standing.{Noted, nothing_noted, naming, counting, noting_nothing, Started, starting, taking, bodies_left, Stage, unparsed, in_module, in_code, ended, failed, Standing, HoldsAt, within, within_all, at_stage}
 use Rattle.wasm_validator_modules.specs.States.{begun, code_started, body_taken, module_ended, after_piece}

@@ -44,8 +44,8 @@ use Rattle.wasm_module_validity.specs.Modules.{Numbering}
 use Rattle.wasm_module_validity.proofs.Numbered.{types_are_numbered}
 use Rattle.wasm_module_list_laws.proofs.SectionTypes.{sections_give_module_types}
 use Rattle.wasm_module_list_laws.specs.Contexts.{HasOwnIds}
-use Rattle.wasm_validator_items.specs.Sections.{read_section}
-use Rattle.wasm_validator_items.specs.Entries.{add_table_entry, add_global_entry, add_element, add_data}
+use Rattle.wasm_validator_module_state.specs.Sections.{read_section}
+use Rattle.wasm_validator_module_state.specs.Entries.{add_table_entry, add_global_entry, add_element, add_data}
 use Rattle.wasm_module_list_laws.specs.Maps.{map_table_entry, map_global_entry, map_element}
 use Rattle.wasm_module_list_laws.specs.Reading.{EntriesAreRenamed}
 use Rattle.wasm_distinct_type_laws.specs.Apart.{AreApart}

@@ -10,7 +10,7 @@ use Rattle.wasm_rules.specs.Parts.{all_items}
 use Rattle.wasm_readers_errors.specs.declared.features.WasmFeatures.{WasmFeatures}
 use Rattle.wasm_validator_types.specs.Spaces.{Spaces}
 use Rattle.wasm_validator_core.specs.Answers.{TypesSoFar}
-use Rattle.wasm_validator_items.specs.Sections.{read_each, read_section}
+use Rattle.wasm_validator_module_state.specs.Sections.{read_each, read_section}
 use Rattle.wasm_validator_modules.proofs.Reading.{read_then_added, items_renamed, as_many_as_counted}
 use Rattle.wasm_validator_modules.proofs.ModuleRun.{step, SectionOf, one_section}
 

@@ -24,8 +24,8 @@ use Rattle.wasm_validator_modules.specs.Standing.{Noted, nothing_noted, naming, 
 use Rattle.wasm_validator_modules.specs.States.{begun, code_started, body_taken, module_ended, after_piece, is_barred}
 use Rattle.wasm_referenced_functions.specs.References.{section_names}
 use Rattle.wasm_validator_modules.proofs.Growing.{body_some}
-use Rattle.wasm_validator_items.specs.Sections.{read_each, read_section}
-use Rattle.wasm_validator_items.specs.Entries.{may_be_stored, add_data}
+use Rattle.wasm_validator_module_state.specs.Sections.{read_each, read_section}
+use Rattle.wasm_validator_module_state.specs.Entries.{may_be_stored, add_data}
 use Rattle.wasm_context_laws.specs.ListedTypes.{types_declare}
 use Rattle.wasm_module_validity.specs.Expressions.{expression_at}
 use Rattle.wasm_validator_modules.specs.Machine.{data_items, section_items, start_item, data_count_item, beside}

@@ -1,7 +1,5 @@
 -- What is always true of a validator's list of types and of the module that is being read.
 use Rattle.std.specs.Prelude.{List, ⊤}
-use Rattle.std.specs.declared.result.Result.{Result}
-use Rattle.std.specs.declared.result.Result.TheVariants.{Ok, Err}
 use Rattle.wasm_rules.specs.FeatureFlags.{features_of}
 use Rattle.wasm_readers_errors.specs.declared.features.WasmFeatures.{WasmFeatures}
 use Rattle.wasm_readers_types.specs.declared.types.SubType.{SubType}
@@ -44,8 +42,3 @@ module _ {A : Type 0} where
     pub ids : AreIdsIn a.types a.state
     pub valid : AreValidIn a.features a.types a.state
     pub first : AreFirstIn a.types a.constants.types a.state
-
--- the same answer without what was accepted
-abbrev pub forgotten : {T E : Type 0} → Result T E → Result (Unit {0}) E
-forgotten (Ok x) = Ok tt
-forgotten (Err e) = Err e

@@ -6,7 +6,6 @@ ghost use Rattle.wasm_validator_modules.specs.Sequences.{OneIdForOneType, OwnIdF
 ghost use Rattle.wasm_validator_modules.specs.SectionLaws.{TypesAdd, ImportsAdd, FunctionsAdd, TablesAdd, MemoriesAdd, TagsAdd, GlobalsAdd, ExportsAdd, ElementsAdd, SegmentsAdd};
 ghost use Rattle.wasm_validator_modules.specs.Table.{AcceptedByTable, RefusedByTable};
 
-mod constants;
 mod module_sections;
 pub mod payload;
 pub mod validator;
@@ -31,7 +30,9 @@ pub use wasm_validator_canonical::{
 pub use wasm_validator_core::{Error, Module};
 pub use wasm_validator_func::{FuncToValidate, FuncValidator, FuncValidatorAllocations};
 pub use wasm_validator_matches::{Matches, WithRecGroup, func_signature_matches};
-pub use wasm_validator_module_state::{CodeState, MAX_FUNCTION_SIZE, MaybeOwned, ModuleState};
+pub use wasm_validator_module_state::{
+    CodeState, Constants, MAX_FUNCTION_SIZE, MaybeOwned, ModuleState,
+};
 pub use wasm_validator_resources::ValidatorResources;
 pub use wasm_validator_type_list::LinkCount;
 pub use wasm_validator_types::{

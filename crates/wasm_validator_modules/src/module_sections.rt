@@ -12,10 +12,8 @@ ghost use Rattle.wasm_validator_core.specs.Answers.{Adds, AddsWhere, HasValidTyp
 ghost use Rattle.wasm_validator_core.specs.Ready.{IsOpenFor, AreHeld, AreIdsOf};
 ghost use Rattle.wasm_validator_core_resources.specs.ById.{AreFirstByIds};
 ghost use Rattle.wasm_validator_modules.specs.Machine.{type_items, import_items, function_items, table_items, memory_items, tag_items, global_items, export_items, element_items, data_items};
-ghost use Rattle.wasm_validator_modules.specs.Ready.{forgotten};
 ghost use Rattle.wasm_validator_modules.specs.SectionsTold.{OfContent, StandsBetween, TellsTypes, TellsImports, TellsFunctions, TellsTables, TellsMemories, TellsTags, TellsGlobals, TellsExports, TellsElements, TellsData};
 
-use crate::constants::{Constants, tells_types_apart};
 use std::alloc::Allocator;
 use wasm_readers::{
     Counted, Data, Element, Export, Global, Import, MemoryType, RecGroup, SectionLimited, Table,
@@ -26,8 +24,7 @@ use wasm_validator_core::{
     Error, MAX_DATA_SEGMENTS, MAX_ELEMENT_SEGMENTS, MAX_EXPORTS, MAX_FUNCTIONS, MAX_GLOBALS,
     MAX_IMPORTS, MAX_TAGS, MAX_TYPES, Module, check_max,
 };
-use wasm_validator_items::OperatorValidatorAllocations;
-use wasm_validator_module_state::ModuleState;
+use wasm_validator_module_state::{Constants, ModuleState, tells_types_apart};
 use wasm_validator_types::{IndexSpaces, TypeList};
 
 /// Adds the types of a type section.
@@ -128,23 +125,6 @@ pub fn add_functions<A: Allocator + Copy>(
     Ok(())
 }
 
-/// Puts the memory back where items were added.
-fn kept_in<A: Allocator + Copy>(
-    constants: &mut Constants<A>,
-    added: Result<OperatorValidatorAllocations<A>, Error<A>>,
-) -> Result<(), Error<A>>
-    ensures same { result ≡ forgotten added }
-    ensures types { constants.new.types ≡ constants.old.types }
-{
-    match added {
-        Ok(allocations) => {
-            constants.keep(allocations);
-            Ok(())
-        }
-        Err(error) => Err(error),
-    }
-}
-
 /// Adds the tables of a table section, with what their entries begin with.
 fn add_tables<'a, A: Allocator + Copy>(
     features: WasmFeatures,
@@ -172,7 +152,7 @@ fn add_tables<'a, A: Allocator + Copy>(
     )?;
     tells_types_apart(list);
     let allocations = constants.taken(list)?;
-    let added = wasm_validator_items::add_tables(
+    let added = wasm_validator_module_state::add_tables(
         features,
         list,
         &constants.types,
@@ -181,7 +161,7 @@ fn add_tables<'a, A: Allocator + Copy>(
         section.count(),
         section.reader(),
     );
-    kept_in(constants, added)
+    constants.keep(added)
 }
 
 /// Adds the memories of a memory section.
@@ -269,7 +249,7 @@ fn add_globals<'a, A: Allocator + Copy>(
     )?;
     tells_types_apart(list);
     let allocations = constants.taken(list)?;
-    let added = wasm_validator_items::add_globals(
+    let added = wasm_validator_module_state::add_globals(
         features,
         list,
         &constants.types,
@@ -278,7 +258,7 @@ fn add_globals<'a, A: Allocator + Copy>(
         section.count(),
         section.reader(),
     );
-    kept_in(constants, added)
+    constants.keep(added)
 }
 
 /// Adds the element segments of an element section.
@@ -308,7 +288,7 @@ fn add_elements<'a, A: Allocator + Copy>(
     )?;
     tells_types_apart(list);
     let allocations = constants.taken(list)?;
-    let added = wasm_validator_items::add_elements(
+    let added = wasm_validator_module_state::add_elements(
         features,
         list,
         &constants.types,
@@ -317,7 +297,7 @@ fn add_elements<'a, A: Allocator + Copy>(
         section.count(),
         section.reader(),
     );
-    kept_in(constants, added)
+    constants.keep(added)
 }
 
 /// Adds the exports of an export section.
@@ -376,7 +356,7 @@ pub fn check_data_segments<'a, A: Allocator + Copy>(
     )?;
     tells_types_apart(list);
     let allocations = constants.taken(list)?;
-    let added = wasm_validator_items::add_data_segments(
+    let added = wasm_validator_module_state::add_data_segments(
         features,
         list,
         &constants.types,
@@ -385,7 +365,7 @@ pub fn check_data_segments<'a, A: Allocator + Copy>(
         section.count(),
         section.reader(),
     );
-    kept_in(constants, added)
+    constants.keep(added)
 }
 
 /// Adds the tables of a table section, and notes the functions that they name.

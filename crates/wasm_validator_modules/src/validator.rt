@@ -22,7 +22,6 @@ ghost use Rattle.wasm_validator_modules.specs.Verdict.{StandsApart};
 ghost use Rattle.wasm_validator_modules.specs.SectionsTold.{OfContent, StandsBetween, TellsWithin, TellsReading, TellsOrder, TellsTypes, TellsImports, TellsExports, TellsFunctions, TellsTables, TellsMemories, TellsTagSection, TellsGlobals, TellsElements, TellsData, TellsStart, TellsDataCount, header_told, body_told, end_order_told};
 ghost use Rattle.wasm_validator_modules.specs.States.{open_of, noted_of, started_of, read_of, ended_spaces, stage_of, order_at, end_order_at, body_order_at, state_kept, is_module, after_version, after_section, section_refused_at, after_start, after_data_count, after_code_start, body_at, after_body, after_end};
 
-use crate::constants::{Constants, tells_types_apart};
 use crate::module_sections::{
     add_functions, add_imports, add_memories, add_tags, add_types, check_data_segments,
     take_elements, take_exports, take_globals, take_tables,
@@ -43,7 +42,9 @@ use wasm_validator_canonical::needs_type_canonicalization;
 use wasm_validator_core::{Error, Module, check_data_count, check_max};
 use wasm_validator_core_resources::TypesByIds;
 use wasm_validator_func::FuncToValidate;
-use wasm_validator_module_state::{CodeState, MAX_FUNCTION_SIZE, ModuleState};
+use wasm_validator_module_state::{
+    CodeState, Constants, MAX_FUNCTION_SIZE, ModuleState, tells_types_apart,
+};
 use wasm_validator_resources::ValidatorResources;
 use wasm_validator_types::{IndexSpaces, TypeList, Types, TypesRef, ValidatorId};
 

@@ -1,4 +1,4 @@
-//! What the typing of constant expressions uses from one section to the next.
+//! What the typing of constant expressions uses from one item and one section to the next.
 
 ghost use Rattle.std.specs.Prelude.{◌≡◌, [], IfErr, OnOk};
 ghost use Rattle.wasm_spec.specs.TypeLaws.{HasNoRepetition};
@@ -6,18 +6,20 @@ ghost use Rattle.wasm_validator_type_list.specs.DefTypes.{types_of_list};
 ghost use Rattle.wasm_validator_type_list.specs.Listable.{AreListable};
 ghost use Rattle.wasm_validator_core_resources.specs.ById.{AreFirstByIds};
 ghost use Rattle.wasm_validator_core_resources.specs.ModuleContexts.{AreByIds};
+ghost use Rattle.wasm_validator_items.specs.Answers.{forgotten};
 
 use std::alloc::{Allocator, Global};
 use std::mem;
+use wasm_constant_items::OperatorValidatorAllocations;
 use wasm_validator_core::Error;
 use wasm_validator_core_resources::TypesByIds;
-use wasm_validator_items::OperatorValidatorAllocations;
 use wasm_validator_types::TypeList;
 
 /// The types of a list with ids in the place of positions in their groups, which follow the list as
 /// it grows, and the memory that constant expressions are typed in.
 #[derive(Drop)]
 pub struct Constants<A: Allocator = Global> {
+    /// The first types of the list, or all.
     pub types: TypesByIds<A>,
     allocations: OperatorValidatorAllocations<A>,
     alloc: A,
@@ -35,7 +37,12 @@ impl<A: Allocator + Copy> Constants<A> {
         }
     }
 
-    /// Makes the types those of the list, and hands the memory out.
+    /// Makes the types those of the list, and hands the memory out. What is there must be the first
+    /// types of this list, as it is where this was called with the list before it grew, or never.
+    ///
+    /// # Errors
+    ///
+    /// Fails where memory is refused.
     pub fn taken(&mut self, list: &TypeList<A>) -> Result<OperatorValidatorAllocations<A>, Error<A>>
         requires { AreFirstByIds list.now.groups self.old.types }
         ensures all { OnOk result (AreByIds list.now.groups self.new.types) }
@@ -49,11 +56,25 @@ impl<A: Allocator + Copy> Constants<A> {
         ))
     }
 
-    /// Puts the memory back.
-    pub fn keep(&mut self, allocations: OperatorValidatorAllocations<A>)
-        ensures { self.new.types ≡ self.old.types }
+    /// Puts the memory back, where it comes back.
+    ///
+    /// # Errors
+    ///
+    /// The error that is handed in.
+    pub fn keep(
+        &mut self,
+        added: Result<OperatorValidatorAllocations<A>, Error<A>>,
+    ) -> Result<(), Error<A>>
+        ensures same { result ≡ forgotten added }
+        ensures types { self.new.types ≡ self.old.types }
     {
-        self.allocations = allocations;
+        match added {
+            Ok(allocations) => {
+                self.allocations = allocations;
+                Ok(())
+            }
+            Err(error) => Err(error),
+        }
     }
 }
 
