@@ -18,6 +18,26 @@ fn a_snapshot_keeps_its_items(rt: HostRuntime) -> Result<(), Fail> {
     Ok(())
 }
 
+/// What can't be copied.
+#[derive(Drop)]
+struct Single {
+    number: u32,
+}
+
+#[test]
+fn snapshots_share_what_they_hold(rt: HostRuntime) -> Result<(), Fail> {
+    let mut list = SnapshotList::new(rt.alloc());
+    list.push(Single { number: 3 })?;
+    let first = list.commit()?;
+    list.push(Single { number: 7 })?;
+    let second = list.commit()?;
+    list.push(Single { number: 9 })?;
+    assert!(rt; (first.len(), second.len(), list.len()) == (1, 2, 3));
+    assert!(rt; (first[0].number, second[0].number, second[1].number) == (3, 3, 7));
+    assert!(rt; (list[0].number, list[1].number, list[2].number) == (3, 7, 9));
+    Ok(())
+}
+
 #[test]
 fn a_module_shows_what_was_added(rt: HostRuntime) -> Result<(), Fail> {
     let mut spaces = IndexSpaces::new(rt.alloc());
