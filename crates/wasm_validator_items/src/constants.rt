@@ -1,6 +1,6 @@
 //! What the typing of constant expressions uses from one item and one section to the next.
 
-ghost use Rattle.std.specs.Prelude.{◌≡◌, [], IfErr, OnOk};
+ghost use Rattle.std.specs.Prelude.{◌≡◌, [], IfOk, IfErr, OnOk};
 ghost use Rattle.wasm_spec.specs.TypeLaws.{HasNoRepetition};
 ghost use Rattle.wasm_validator_type_list.specs.DefTypes.{types_of_list};
 ghost use Rattle.wasm_validator_type_list.specs.Listable.{AreListable};
@@ -8,7 +8,7 @@ ghost use Rattle.wasm_validator_core_resources.specs.ById.{AreFirstByIds};
 ghost use Rattle.wasm_validator_core_resources.specs.ModuleContexts.{AreByIds};
 ghost use Rattle.wasm_validator_items.specs.Answers.{forgotten};
 
-use std::alloc::{Allocator, Global};
+use std::alloc::{AllocError, Allocator, Global};
 use std::mem;
 use wasm_constant_items::OperatorValidatorAllocations;
 use wasm_validator_core::Error;
@@ -54,6 +54,21 @@ impl<A: Allocator + Copy> Constants<A> {
             &mut self.allocations,
             OperatorValidatorAllocations::new(self.alloc),
         ))
+    }
+
+    /// The types of the list, which stay there too: none that was there before is copied. What is there
+    /// must be the first types of this list.
+    ///
+    /// # Errors
+    ///
+    /// Fails where memory is refused.
+    pub fn committed(&mut self, list: &TypeList<A>) -> Result<TypesByIds<A>, AllocError>
+        requires { AreFirstByIds list.now.groups self.old.types }
+        ensures all { IfOk result (AreByIds list.now.groups) }
+        ensures first { AreFirstByIds list.now.groups self.new.types }
+    {
+        self.types.update(list)?;
+        self.types.commit()
     }
 
     /// Puts the memory back, where it comes back.

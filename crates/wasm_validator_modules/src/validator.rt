@@ -8,6 +8,7 @@ ghost use Rattle.wasm_readers.specs.SectionsSeen.{count_of, bytes_of, section_st
 ghost use Rattle.wasm_parser.specs.Seen.{body_of, body_reader};
 ghost use Rattle.wasm_validator_core.specs.Answers.{TypesSoFar};
 ghost use Rattle.wasm_validator_core.specs.Ready.{AreHeld};
+ghost use Rattle.wasm_validator_core_resources.specs.ById.{AreFirstByIds};
 ghost use Rattle.wasm_validator_module_state.specs.Bodies.{expected_bodies};
 ghost use Rattle.wasm_validator_module_state.specs.declared.code_state.TheConstants.{MAX_FUNCTION_SIZE};
 ghost use Rattle.wasm_validator_type_list.specs.Interned.{AreOnce};
@@ -40,7 +41,6 @@ use wasm_readers::{
 };
 use wasm_validator_canonical::needs_type_canonicalization;
 use wasm_validator_core::{Error, Module, check_data_count, check_max};
-use wasm_validator_core_resources::TypesByIds;
 use wasm_validator_func::FuncToValidate;
 use wasm_validator_module_state::{
     CodeState, Constants, MAX_FUNCTION_SIZE, ModuleState, tells_types_apart,
@@ -333,17 +333,20 @@ fn finished<A: Allocator + Copy>(
 fn started<A: Allocator + Copy>(
     alloc: A,
     types: &mut TypeList<A>,
+    constants: &mut Constants<A>,
     state: ModuleState<A>,
 ) -> Result<CodeState<A>, AllocError>
-    requires { AreHeld types.old state.«module».types }
+    requires held { AreHeld types.old state.«module».types }
+    requires first { AreFirstByIds types.old.groups constants.old.types }
     ensures same { types.new ≡ types.old }
+    ensures first { OnOk result (AreFirstByIds types.old.groups constants.new.types) }
     ensures spaces { IfOk result (λ c. c.spaces.value ≡ state.«module») }
     ensures begun { IfOk result (λ c. started_of c
         ≡ starting (types_of_list types.old) state.«module» (noted_of state)) }
 {
     tells_types_apart(types);
     let listed = types.commit()?;
-    let by_ids = TypesByIds::of_list(alloc, &listed)?;
+    let by_ids = constants.committed(&listed)?;
     let ModuleState {
         module,
         data_count,
@@ -883,13 +886,15 @@ impl<A: Allocator + Copy> Validator<A> {
         ensures told { IfErr result (OfContent (TellsOrder range.now.start self.old.stage)) }
     {
         match opened(&mut self.state, range.start) {
-            Ok(state) => match started(self.alloc, &mut self.types, state) {
-                Ok(code) => {
-                    self.state = State::Code(code);
-                    Ok(())
+            Ok(state) => {
+                match started(self.alloc, &mut self.types, &mut self.constants, state) {
+                    Ok(code) => {
+                        self.state = State::Code(code);
+                        Ok(())
+                    }
+                    Err(_) => Err(Error::OutOfMemory),
                 }
-                Err(_) => Err(Error::OutOfMemory),
-            },
+            }
             Err(refusal) => Err(Error::Refused(refusal)),
         }
     }

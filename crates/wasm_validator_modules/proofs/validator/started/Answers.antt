@@ -2,6 +2,7 @@ use Rattle.std.proofs.Common.{◌≡◌, sym, ap, subst, ◌∙◌, ℕ, ◌<◌
 use Rattle.wasm_spec.specs.Trees.{DefType}
 use Rattle.wasm_validator_type_list.specs.DefTypes.{types_of_list}
 use Rattle.wasm_validator_types.specs.Spaces.{Spaces}
+use Rattle.wasm_validator_core_resources.specs.ById.{AreFirstByIds}
 use Rattle.wasm_validator_core_resources.specs.ModuleContexts.{exact_flags, flagged_from}
 use Rattle.wasm_operator_worlds.specs.ListContexts.{list_declares}
 use Rattle.wasm_operator_worlds.specs.IndexContexts.{id_of}
@@ -16,7 +17,7 @@ new-requires-2-clause-held g c =
     let list : types_of_list c.in_ok-listed.listed ≡ types_of_list c.args.types.now = ap types_of_list c.in_ok-listed.ensures.copy in
     let spaces : c.in_ok-clone.field-0.value ≡ c.args.state.«module» = c.in_ok-clone.ensures.cases ∙ c.in_ok-spaces.ensures.ok ∙ c.into_spaces.ensures in
     subst (λ (s : Spaces). All (λ (id : ℕ). id < length (types_of_list c.in_ok-listed.listed)) s.types) (sym spaces)
-    (subst (λ (ts : List DefType). All (λ (id : ℕ). id < length ts) c.args.state.«module».types) (sym list) c.requires)
+    (subst (λ (ts : List DefType). All (λ (id : ℕ). id < length ts) c.args.state.«module».types) (sym list) c.requires.held)
 
 pub returns-clause-begun : goal.returns-clause-begun
 returns-clause-begun g c =
@@ -41,3 +42,10 @@ returns-clause-begun g c =
       references = flagged_from 0 (flags i);
     }) in
     λ i. record { context = (c.new-3.ensures.resources ∙ context) i; taken = c.new-3.ensures.taken i }
+
+-- what is kept for constant expressions follows the list that is shared, which has the same groups
+pub committed-requires : goal.committed-requires
+committed-requires g c = subst (λ l. AreFirstByIds l.groups c.args.constants.now.types) (sym c.in_ok-listed.ensures.copy) c.requires.first
+
+pub returns-clause-first : goal.returns-clause-first
+returns-clause-first g c = subst (λ l. AreFirstByIds l.groups c.committed.new.self.types) c.in_ok-listed.ensures.copy c.in_ok-by_ids.ensures.first

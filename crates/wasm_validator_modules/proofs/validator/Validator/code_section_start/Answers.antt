@@ -8,8 +8,11 @@ use Rattle.wasm_validator_core_resources.specs.ById.{AreFirstByIds}
 use Rattle.wasm_validator_modules.proofs.Sections.{open-ids, open-valid, open-first}
 use Rattle.wasm_validator_modules.proofs.validator.Validator.code_section_start.Goals as goal
 
-pub started-requires : goal.started-requires
-started-requires g c = let ids = open-ids c.self.inside.types c.self.inside.state c.in-Ok.state.«module» c.in-Ok.ensures.ok c.self.invariant.ids in ids.known
+pub started-requires-clause-held : goal.started-requires-clause-held
+started-requires-clause-held g c = let ids = open-ids c.self.inside.types c.self.inside.state c.in-Ok.state.«module» c.in-Ok.ensures.ok c.self.invariant.ids in ids.known
+
+pub started-requires-clause-first : goal.started-requires-clause-first
+started-requires-clause-first g c = open-first c.self.inside.types c.self.inside.constants.types c.self.inside.state c.in-Ok.state.«module» c.in-Ok.ensures.ok c.self.invariant.first
 
 pub invariant_of-self : goal.invariant_of-self
 invariant_of-self g c =
@@ -22,5 +25,5 @@ invariant_of-self g c =
       list = subst (IsOpenFor features) same c.self.invariant.list;
       ids = subst (λ l. AreIdsOf l c.in-Ok-started.code.spaces.value.types) same (subst (λ (m : Spaces). AreIdsOf list m.types) (sym c.in-Ok-started.ensures.spaces) ids);
       valid = subst (λ l. AreValid (features_of features) (types_of_list l)) same (open-valid features list c.self.inside.state before c.in-Ok.ensures.ok c.self.invariant.valid);
-      first = subst (λ l. AreFirstByIds l.groups c.self.inside.constants.types) same (open-first list c.self.inside.constants.types c.self.inside.state before c.in-Ok.ensures.ok c.self.invariant.first);
+      first = subst (λ l. AreFirstByIds l.groups c.started.new.constants.types) same c.in-Ok-started.ensures.first;
     }
