@@ -1,12 +1,13 @@
 //! Bodies, read and typed operator by operator.
 
-ghost use Rattle.std.specs.Prelude.{◌≡◌, ◌≤◌, not, false, is_ok, IfErr};
+ghost use Rattle.std.specs.Prelude.{◌≡◌, ◌≤◌, ◌<◌, ◌||◌, not, false, is_ok, IfErr, OnOk};
 ghost use Rattle.wasm_binary_reader.specs.Reader.{SameInput, position_in, rest};
 ghost use Rattle.wasm_parser.specs.Seen.{body_of, body_reader};
 ghost use Rattle.wasm_module_resources.specs.Answers.{world};
 ghost use Rattle.wasm_operator_stacks.specs.Seen.{Kept};
 ghost use Rattle.wasm_operator_validator.specs.Typed.{typed_state, locals_in};
 ghost use Rattle.wasm_operator_validator.specs.Checked.{within, IsRefusedAt, StandsIn, ReadsTo};
+ghost use Rattle.wasm_operator_validator.specs.Reads.{ReadsStep, stepped};
 ghost use Rattle.wasm_validator_func.specs.Bodies.{instructions_from};
 ghost use Rattle.wasm_validator_func.specs.Validated.{body_in, Goes, Validates};
 
@@ -26,6 +27,30 @@ pub(crate) fn refused(rule: OperatorRule, offset: u64) -> Error
     Error::Refused(Refusal::new(Fault::Operator(rule, 0), offset))
 }
 
+/// Reads the next operator, and takes its step. The reader itself is not lent, so that it can be
+/// kept in registers.
+#[inline(always)]
+fn read_one<'a, A: Allocator, T: WasmModuleResources>(
+    validator: &mut OperatorValidator<A>,
+    resources: &T,
+    reader: &mut BinaryReader<'a>,
+) -> Result<(), Error>
+    ensures took { validator.old.failed ≡ false → ReadsStep result
+        (stepped (T.context resources.now) validator.old.stacks reader.old)
+        (typed_state validator.new) (rest reader.new) }
+    ensures input { SameInput reader.old reader.new }
+    ensures onward { position_in reader.old ≤ position_in reader.new }
+    ensures further { OnOk result (position_in reader.old < position_in reader.new) }
+    ensures same { Kept validator.old.stacks validator.new.stacks }
+    ensures failed { validator.new.failed ≡ (validator.old.failed || not (is_ok result)) }
+    ensures place { IfErr result (StandsIn reader.old) }
+{
+    let mut behind = *reader;
+    let step = validator.read_op(resources, &mut behind);
+    reader.go_on_from(&behind);
+    step
+}
+
 /// The instructions of a body, up to the `end` that closes it.
 fn read_instructions<'a, A: Allocator, T: WasmModuleResources>(
     validator: &mut OperatorValidator<A>,
@@ -42,16 +67,18 @@ fn read_instructions<'a, A: Allocator, T: WasmModuleResources>(
     ensures onward { position_in reader.old ≤ position_in reader.new }
     ensures place { IfErr result (StandsIn reader.old) }
 {
+    let mut ahead = *reader;
     'operators: while !validator.is_finished() {
-        match validator.frequent_op(resources, reader) {
+        match validator.frequent_op(resources, &mut ahead) {
             Ok(()) => continue,
             Err(_) => {}
         }
-        match validator.read_op(resources, reader) {
+        match read_one(validator, resources, &mut ahead) {
             Ok(()) => {}
             Err(error) => return Err(error),
         }
     }
+    reader.go_on_from(&ahead);
     Ok(())
 }
 

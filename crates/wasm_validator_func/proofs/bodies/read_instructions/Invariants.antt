@@ -9,14 +9,14 @@ use Rattle.wasm_validator_func.proofs.bodies.read_instructions.Given as goal
 
 abbrev pub invariant-operators : goal.invariant-operators
 invariant-operators g l = record {
-  same : SameInput l.initial.reader l.reader;
-  onward : position_in l.initial.reader ≤ position_in l.reader;
+  same : SameInput l.initial.reader l.ahead;
+  onward : position_in l.initial.reader ≤ position_in l.ahead;
   kept : Kept l.initial.validator.stacks l.validator.stacks;
   going : l.validator.failed ≡ false;
-  so_far : (most : ℕ) × (length (rest l.reader) ≤ most)
-      × (typed_from (world (g.T.WasmModuleResources.context l.resources)) (within l.initial.validator (g.T.WasmModuleResources.context l.resources)) most (typed_state l.validator) (rest l.reader)
+  so_far : (most : ℕ) × (length (rest l.ahead) ≤ most)
+      × (typed_from (world (g.T.WasmModuleResources.context l.resources)) (within l.initial.validator (g.T.WasmModuleResources.context l.resources)) most (typed_state l.validator) (rest l.ahead)
       ≡ instructions_from (world (g.T.WasmModuleResources.context l.resources)) (within l.initial.validator (g.T.WasmModuleResources.context l.resources)) (typed_state l.initial.validator) (rest l.initial.reader));
 }
 
 abbrev pub decreases-operators : goal.decreases-operators
-decreases-operators g l = length (rest l.reader)
+decreases-operators g l = length (rest l.ahead)
