@@ -11,7 +11,7 @@ use wasm_readers::{
     Export, ExternalKind, FuncType, GlobalType, Import, MemoryType, RecGroup, RefType, SubType,
     TableType, TagKind, TagType, TypeRef, ValType, WasmFeatures,
 };
-use wasm_validator::{BinaryReader, Constants, EntityType, Error, Module, ModuleState, TypeList};
+use wasm_validator::{EntityType, Error, Module, TypeList};
 use wasm_validator_canonical::needs_type_canonicalization;
 
 /// All proposals but this one.
@@ -199,47 +199,4 @@ fn limits_follow_the_features(rt: HostRuntime) {
     let all = WasmFeatures::all();
     assert!(rt; (module.max_tables(none), module.max_memories(none)) == (1, 1));
     assert!(rt; (module.max_tables(all), module.max_memories(all)) == (100, 100));
-}
-
-/// A table whose entries are the first function, a global, an element segment with that function, a
-/// data segment, and a global whose initializer has another type than it holds.
-const ITEMS: [u8; 30] = [
-    0x40, 0x00, 0x70, 0x00, 0x01, 0xd2, 0x00, 0x0b, 0x7f, 0x00, 0x41, 0x05, 0x0b, 0x00, 0x41, 0x00,
-    0x0b, 0x01, 0x00, 0x00, 0x41, 0x00, 0x0b, 0x01, 0x61, 0x7e, 0x00, 0x41, 0x05, 0x0b,
-];
-
-#[test]
-fn single_items_are_read_and_added(rt: HostRuntime) -> Result<(), Fail> {
-    let alloc = rt.alloc();
-    let all = WasmFeatures::all();
-    let (list, module) = module_of(alloc)?;
-    let mut state = ModuleState::new(alloc);
-    state.module = module;
-    state.module.add_function(&list, 0, 7)?;
-    state.module.add_memory(all, MEMORY, 7)?;
-    let mut constants = Constants::new(alloc);
-    let mut reader = BinaryReader::new(&ITEMS, 100);
-    state.add_table(all, &list, &mut constants, &mut reader)?;
-    state.add_global(all, &list, &mut constants, &mut reader)?;
-    state.add_element_segment(all, &list, &mut constants, &mut reader)?;
-    state.add_data_segment(all, &list, &mut constants, &mut reader)?;
-    let spaces = state.module.spaces();
-    assert!(rt;
-        (
-            spaces.table_count(),
-            spaces.global_count(),
-            spaces.element_count()
-        ) == (1, 1, 1)
-    );
-    assert!(rt; state.referenced.as_slice() == [true].as_slice());
-    let refused = state.add_global(all, &list, &mut constants, &mut reader);
-    assert!(rt;
-        says(
-            alloc,
-            &refused,
-            129,
-            "type mismatch: expected i64, found i32"
-        )
-    );
-    Ok(())
 }
