@@ -61,6 +61,10 @@ piece_only s t (CodeEntry bytes) e = at_only s t (body_taken bytes s.stage) e
 piece_only s t (Unknown id bytes) e = absurd (none-some t e)
 piece_only s t parts.End e = at_only s t (module_ended s.stage) e
 
+-- and no payload the features
+pub same_features : (s t : Standing) (p : Piece) → after_piece s p ≡ Some t → t.features ≡ s.features
+same_features s t p e = ap (λ (u : Standing). u.features) (sym (piece_only s t p e))
+
 pub all_only : (ps : List Piece) (s t : Standing) → after_all s ps ≡ Some t → record s { stage = t.stage } ≡ t
 all_only [] s t e = subst (λ (u : Standing). record s { stage = u.stage } ≡ u) (same_Some s t e) refl
 all_only (p ∷ ps) s t e =

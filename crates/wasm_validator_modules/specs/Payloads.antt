@@ -18,6 +18,8 @@ use Rattle.wasm_validator_types.specs.Shown.{shown_of, HoldsIds}
 use Rattle.wasm_validator_types.specs.declared.shown.Types.{Types}
 use Rattle.wasm_validator_core.specs.declared.error.Error.{Error}
 use Rattle.wasm_validator_core.specs.declared.error.Error.TheVariants.{Refused, DuplicateExport, OutOfMemory}
+use Rattle.wasm_validator_modules.specs.declared.payload.PendingBody.{PendingBody}
+use Rattle.wasm_validator_modules.specs.declared.payload.Bodies.{Bodies}
 use Rattle.wasm_validator_modules.specs.declared.payload.ValidPayload.{ValidPayload}
 use Rattle.wasm_validator_modules.specs.declared.payload.ValidPayload.TheVariants.{Ok, Func, End}
 use Rattle.wasm_parser.specs.declared.function_body.FunctionBody.{FunctionBody}
@@ -84,16 +86,26 @@ IsFunction Ok = ⊥
 IsFunction (Func f b) = ⊤
 IsFunction (End t) = ⊥
 
--- functions with their bodies
-abbrev pub bodies_seen : List (FuncToValidate (Context UnpackedIndex) × FunctionBody) → List BodyToValidate
-bodies_seen bodies = map (λ (p : FuncToValidate (Context UnpackedIndex) × FunctionBody). body_seen p.0 p.1) bodies
+-- a function whose body is to be validated under these features, as it was handed out
+abbrev pub pending_seen : {A : Type 0} → WasmFeatures → PendingBody A → BodyToValidate
+pending_seen features p = record { index = p.index; ty = p.ty; features = features; context = p.resources; bytes = body_of p.body }
+
+-- all of a module
+abbrev pub bodies_seen : {A : Type 0} → Bodies A → List BodyToValidate
+bodies_seen bodies = map (pending_seen bodies.features) bodies.pending.items
+
+-- a function that a payload gives is to be validated under these features
+abbrev pub IsGivenUnder : {A : Type 0} → WasmFeatures → ValidPayload A → Type 0
+IsGivenUnder features Ok = ⊤
+IsGivenUnder features (Func f b) = f.features ≡ features
+IsGivenUnder features (End t) = ⊤
 
 -- a body ends by this offset, and each of some does
 abbrev pub EndsBy : ℕ → FunctionBody → Type 0
 EndsBy end b = reader_end (body_reader b) ≤ end
 
-abbrev pub AllEndBy : ℕ → List (FuncToValidate (Context UnpackedIndex) × FunctionBody) → Type 0
-AllEndBy end bodies = All (λ (p : FuncToValidate (Context UnpackedIndex) × FunctionBody). EndsBy end p.1) bodies
+abbrev pub AllEndBy : {A : Type 0} → ℕ → Bodies A → Type 0
+AllEndBy {A} end bodies = All (λ (p : PendingBody A). EndsBy end p.body) bodies.pending.items
 
 abbrev pub GivenEndBy : {A : Type 0} → ℕ → ValidPayload A → Type 0
 GivenEndBy end Ok = ⊤

@@ -8,21 +8,36 @@ ghost use Rattle.wasm_parser.specs.Seen.{seen, state};
 ghost use Rattle.wasm_validator_modules.specs.SectionsTold.{StandsBetween};
 ghost use Rattle.wasm_validator_types.specs.Shown.{shown_of, HoldsIds};
 ghost use Rattle.wasm_validator_modules.specs.Standing.{Leaves};
-ghost use Rattle.wasm_validator_func.specs.Functions.{Decides};
+ghost use Rattle.wasm_validator_func.specs.Functions.{Decides, StandsInOrFirst};
+ghost use Rattle.wasm_parser.specs.Seen.{body_reader};
 ghost use Rattle.wasm_validator_modules.specs.States.{after_piece, handed, left_by, IsSection};
-ghost use Rattle.wasm_validator_modules.specs.Payloads.{ShowsModule, HoldsIdsAtEnd, IsFunction, latest_of, bodies_given, bodies_seen, AllEndBy, GivenEndBy, StandsBy, IsBodyOfIts, TellsFormat, Validates};
+ghost use Rattle.wasm_validator_modules.specs.Payloads.{ShowsModule, HoldsIdsAtEnd, IsFunction, IsGivenUnder, latest_of, bodies_given, bodies_seen, pending_seen, AllEndBy, GivenEndBy, StandsBy, IsBodyOfIts, TellsFormat, Validates};
 ghost use Rattle.wasm_validator_modules.specs.Verdict.{DecidesModule, DecidesAlone, EndsModule, StopsModule};
 
 use crate::validator::Validator;
 use std::alloc::{AllocError, Allocator, Global};
 use wasm_parser::{FunctionBody, ParseAll, Parser, Payload};
+use wasm_readers::WasmFeatures;
 use wasm_validator_core::Error;
 use wasm_validator_func::{FuncToValidate, FuncValidatorAllocations};
 use wasm_validator_resources::ValidatorResources;
 use wasm_validator_types::{Types, ValidatorId};
 
-/// Functions whose bodies are to be validated.
-pub(crate) type Bodies<'a, A> = Vec<(FuncToValidate<ValidatorResources<A>>, FunctionBody<'a>), A>;
+/// A function whose body is to be validated.
+#[derive(Drop)]
+pub struct PendingBody<'a, A: Allocator> {
+    resources: ValidatorResources<A>,
+    index: u32,
+    ty: u32,
+    body: FunctionBody<'a>,
+}
+
+/// Functions whose bodies are to be validated under these features, which are kept once.
+#[derive(Drop)]
+pub struct Bodies<'a, A: Allocator> {
+    features: WasmFeatures,
+    pending: Vec<PendingBody<'a, A>, A>,
+}
 
 /// What a payload that is accepted gives.
 #[derive(Drop)]
@@ -136,13 +151,13 @@ impl<A: Allocator + Copy> Validator<A> {
     /// Goes over the payloads of these bytes, up to the first that is refused, and collects the
     /// bodies.
     fn run<'a>(&mut self, bytes: &'a [u8]) -> Result<(Types<A>, Bodies<'a, A>), Error<A>>
-        ensures validates { Validates (λ b. bodies_seen b.items) result bytes.now self.old self.new }
-        ensures within { IfOk result (λ x. AllEndBy (length bytes.now) x.1.items) }
+        ensures validates { Validates (λ b. bodies_seen b) result bytes.now self.old self.new }
+        ensures within { IfOk result (λ x. AllEndBy (length bytes.now) x.1) }
         ensures place { IfErr result (StandsBetween 0 (length bytes.now)) }
     {
         let alloc = self.allocator();
         let mut payloads = Parser::new(alloc, 0).parse_all(bytes);
-        let mut gathered = Gathered::new(alloc);
+        let mut gathered = Gathered::new(alloc, *self.features());
         'payloads: loop {
             match next_of_input(&mut payloads) {
                 Ok(Some(payload)) => match self.payload(&payload) {
@@ -213,14 +228,18 @@ struct Gathered<'a, A: Allocator> {
 }
 
 impl<'a, A: Allocator + Copy> Gathered<'a, A> {
-    /// Nothing.
-    fn new(alloc: A) -> Gathered<'a, A>
+    /// Nothing, of a module under these features.
+    fn new(alloc: A, features: WasmFeatures) -> Gathered<'a, A>
         ensures ended { result.ended ≡ None }
-        ensures bodies { bodies_seen result.bodies.items ≡ [] }
+        ensures bodies { bodies_seen result.bodies ≡ [] }
+        ensures features { result.bodies.features ≡ features }
     {
         Gathered {
             ended: None,
-            bodies: Vec::new(alloc),
+            bodies: Bodies {
+                features,
+                pending: Vec::new(alloc),
+            },
         }
     }
 
@@ -231,32 +250,50 @@ impl<'a, A: Allocator + Copy> Gathered<'a, A> {
         payload: &Payload<'a, A>,
         valid: ValidPayload<'a, A>,
     ) -> Result<(), AllocError>
+        requires features { IsGivenUnder self.old.bodies.features valid }
         ensures ended { OnOk result (self.new.ended ≡ latest_of self.old.ended valid.entry) }
-        ensures bodies { OnOk result (bodies_seen self.new.bodies.items
-            ≡ bodies_seen self.old.bodies.items ++ bodies_given valid.entry) }
-        ensures within { (end : ℕ) → AllEndBy end self.old.bodies.items → GivenEndBy end valid.entry
-            → OnOk result (AllEndBy end self.new.bodies.items) }
+        ensures bodies { OnOk result (bodies_seen self.new.bodies
+            ≡ bodies_seen self.old.bodies ++ bodies_given valid.entry) }
+        ensures features { OnOk result (self.new.bodies.features ≡ self.old.bodies.features) }
+        ensures within { (end : ℕ) → AllEndBy end self.old.bodies → GivenEndBy end valid.entry
+            → OnOk result (AllEndBy end self.new.bodies) }
         ensures memory { OnErr result (IsFunction valid.entry) }
     {
         if let Payload::CodeSectionStart { count, .. } = payload {
             // Where it is refused, each body takes its own.
-            let _made = self.bodies.reserve_exact(*count as usize);
+            let _made = self.bodies.pending.reserve_exact(*count as usize);
         }
         self.keep(valid)
     }
 
     /// Keeps the types of the module that has ended last, and each body.
     fn keep(&mut self, valid: ValidPayload<'a, A>) -> Result<(), AllocError>
+        requires features { IsGivenUnder self.old.bodies.features valid }
         ensures ended { OnOk result (self.new.ended ≡ latest_of self.old.ended valid.entry) }
-        ensures bodies { OnOk result (bodies_seen self.new.bodies.items
-            ≡ bodies_seen self.old.bodies.items ++ bodies_given valid.entry) }
-        ensures within { (end : ℕ) → AllEndBy end self.old.bodies.items → GivenEndBy end valid.entry
-            → OnOk result (AllEndBy end self.new.bodies.items) }
+        ensures bodies { OnOk result (bodies_seen self.new.bodies
+            ≡ bodies_seen self.old.bodies ++ bodies_given valid.entry) }
+        ensures features { OnOk result (self.new.bodies.features ≡ self.old.bodies.features) }
+        ensures within { (end : ℕ) → AllEndBy end self.old.bodies → GivenEndBy end valid.entry
+            → OnOk result (AllEndBy end self.new.bodies) }
         ensures memory { OnErr result (IsFunction valid.entry) }
     {
         match valid {
             ValidPayload::Ok => Ok(()),
-            ValidPayload::Func(function, body) => Ok(self.bodies.push((function, body))?),
+            ValidPayload::Func(function, body) => {
+                let FuncToValidate {
+                    resources,
+                    index,
+                    ty,
+                    features: _,
+                } = function;
+                self.bodies.pending.push(PendingBody {
+                    resources,
+                    index,
+                    ty,
+                    body,
+                })?;
+                Ok(())
+            }
             ValidPayload::End(types) => {
                 self.ended = Some(types);
                 Ok(())
@@ -270,17 +307,42 @@ fn validate_bodies<'a, A: Allocator + Copy>(
     alloc: A,
     bodies: Bodies<'a, A>,
 ) -> Result<(), wasm_readers::Error>
-    ensures decided { Decides (All IsBodyOfIts (bodies_seen bodies.entry.items)) result }
-    ensures place { (end : ℕ) → AllEndBy end bodies.entry.items → IfErr result (StandsBy end) }
+    ensures decided { Decides (All IsBodyOfIts (bodies_seen bodies.entry)) result }
+    ensures place { (end : ℕ) → AllEndBy end bodies.entry → IfErr result (StandsBy end) }
 {
+    let Bodies { features, pending } = bodies;
     let mut allocations = FuncValidatorAllocations::new(alloc);
-    'bodies: for (function, body) in bodies {
-        match function.validate(&body, allocations) {
+    'bodies: for waiting in pending {
+        match validate_pending(features, waiting, allocations) {
             Ok(more) => allocations = more,
             Err(error) => return Err(error),
         }
     }
     Ok(())
+}
+
+/// Validates the body of one function under these features.
+fn validate_pending<'a, A: Allocator + Copy>(
+    features: WasmFeatures,
+    waiting: PendingBody<'a, A>,
+    allocations: FuncValidatorAllocations<A>,
+) -> Result<FuncValidatorAllocations<A>, wasm_readers::Error>
+    ensures decides { Decides (IsBodyOfIts (pending_seen features waiting.entry)) result }
+    ensures place { IfErr result (StandsInOrFirst (body_reader waiting.entry.body)) }
+{
+    let PendingBody {
+        resources,
+        index,
+        ty,
+        body,
+    } = waiting;
+    let function = FuncToValidate {
+        resources,
+        index,
+        ty,
+        features,
+    };
+    function.validate(&body, allocations)
 }
 
 /// The next payload of the input. What the parser refuses is handed on as it is.

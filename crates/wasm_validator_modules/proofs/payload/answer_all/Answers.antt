@@ -1,9 +1,6 @@
-use Rattle.std.proofs.Common.{sym, subst, List, length, Vec, Err}
-use Rattle.wasm_rules.specs.Contexts.{Context}
-use Rattle.wasm_readers_types.specs.declared.indices.UnpackedIndex.{UnpackedIndex}
-use Rattle.wasm_parser.specs.declared.function_body.FunctionBody.{FunctionBody}
-use Rattle.wasm_validator_func.specs.declared.func_validator.FuncToValidate.{FuncToValidate}
+use Rattle.std.proofs.Common.{sym, subst, List, length, Err}
 use Rattle.wasm_validator_core.specs.declared.error.Error.{Error}
+use Rattle.wasm_validator_modules.specs.declared.payload.Bodies.{Bodies}
 use Rattle.wasm_validator_modules.specs.States.{BodyToValidate}
 use Rattle.wasm_validator_modules.specs.Payloads.{bodies_seen}
 use Rattle.wasm_validator_modules.specs.Verdict.{DecidesModule}
@@ -14,18 +11,18 @@ use Rattle.wasm_validator_modules.proofs.payload.answer_all.Goals as goal
 
 pub returns-in-Err-clause-decided : goal.returns-in-Err-clause-decided
 returns-in-Err-clause-decided g c =
-    let gives : Vec (FuncToValidate (Context UnpackedIndex) × FunctionBody) g.row.A.Denot → List BodyToValidate = λ b. bodies_seen b.items in
+    let gives : Bodies g.row.A.Denot → List BodyToValidate = λ b. bodies_seen b in
     decides_refusal gives used_laws c.args.bytes.now c.args.validator.now c.run.new.self c.in-Err.error c.has_failed-has_failed.ensures.valid c.types_stand_apart.ensures c.in-Err.ensures.validates
 
 pub returns-in-Ok-validate_bodies-clause-decided : goal.returns-in-Ok-validate_bodies-clause-decided
 returns-in-Ok-validate_bodies-clause-decided g c =
-    decides_whole used_laws c.args.bytes.now c.args.validator.now c.run.new.self c.in-Ok.ended.0 (bodies_seen c.in-Ok.ended.1.items)
+    decides_whole used_laws c.args.bytes.now c.args.validator.now c.run.new.self c.in-Ok.ended.0 (bodies_seen c.in-Ok.ended.1)
     c.types_stand_apart.ensures c.in-Ok.ensures.validates c.in-Ok-validate_bodies.ensures.decided
 
 pub returns-in-Err-validate_bodies-clause-decided : goal.returns-in-Err-validate_bodies-clause-decided
 returns-in-Err-validate_bodies-clause-decided g c =
     subst (λ (e : Error g.row.A.Denot). DecidesModule (Err e) c.args.bytes.now c.args.validator.now c.run.new.self) (sym c.from.ensures)
-    (decides_body used_laws c.args.bytes.now c.args.validator.now c.run.new.self c.in-Ok.ended.0 (bodies_seen c.in-Ok.ended.1.items) c.in-Err-validate_bodies.error
+    (decides_body used_laws c.args.bytes.now c.args.validator.now c.run.new.self c.in-Ok.ended.0 (bodies_seen c.in-Ok.ended.1) c.in-Err-validate_bodies.error
     c.has_failed-has_failed.ensures.valid c.types_stand_apart.ensures c.in-Ok.ensures.validates c.in-Err-validate_bodies.ensures.decided)
 
 pub returns-in-Err-validate_bodies-clause-place : goal.returns-in-Err-validate_bodies-clause-place
@@ -34,13 +31,13 @@ returns-in-Err-validate_bodies-clause-place g c =
 
 pub returns-in-Err-clause-stopped : goal.returns-in-Err-clause-stopped
 returns-in-Err-clause-stopped g c =
-    let gives : Vec (FuncToValidate (Context UnpackedIndex) × FunctionBody) g.row.A.Denot → List BodyToValidate = λ b. bodies_seen b.items in
+    let gives : Bodies g.row.A.Denot → List BodyToValidate = λ b. bodies_seen b in
     λ e. stops gives used_laws c.args.bytes.now c.args.validator.now c.run.new.self c.in-Err.error c.has_failed-has_failed.ensures.valid c.types_stand_apart.ensures c.in-Err.ensures.validates
 
 pub returns-in-Ok-validate_bodies-clause-ended : goal.returns-in-Ok-validate_bodies-clause-ended
 returns-in-Ok-validate_bodies-clause-ended g c =
-    λ e. ends used_laws c.args.bytes.now c.args.validator.now c.run.new.self c.in-Ok.ended.0 (bodies_seen c.in-Ok.ended.1.items) c.types_stand_apart.ensures c.in-Ok.ensures.validates
+    λ e. ends used_laws c.args.bytes.now c.args.validator.now c.run.new.self c.in-Ok.ended.0 (bodies_seen c.in-Ok.ended.1) c.types_stand_apart.ensures c.in-Ok.ensures.validates
 
 pub returns-in-Err-validate_bodies-clause-ended : goal.returns-in-Err-validate_bodies-clause-ended
 returns-in-Err-validate_bodies-clause-ended g c =
-    λ e. ends used_laws c.args.bytes.now c.args.validator.now c.run.new.self c.in-Ok.ended.0 (bodies_seen c.in-Ok.ended.1.items) c.types_stand_apart.ensures c.in-Ok.ensures.validates
+    λ e. ends used_laws c.args.bytes.now c.args.validator.now c.run.new.self c.in-Ok.ended.0 (bodies_seen c.in-Ok.ended.1) c.types_stand_apart.ensures c.in-Ok.ensures.validates

@@ -1,40 +1,37 @@
-use Rattle.std.proofs.Common.{◌≡◌, sym, ap, subst, ◌∙◌, List, [], ◌∷◌, ◌++◌, All, arith, append_assoc, append-nil}
+use Rattle.std.proofs.Common.{◌≡◌, sym, ap, subst, ◌∙◌, List, [], ◌∷◌, ◌++◌, map, All, arith, append_assoc, append-nil}
 use Rattle.std.proofs.lemmas.List.{map_push}
 use Rattle.std.proofs.lemmas.List.Elements.{All-push}
-use Rattle.wasm_rules.specs.Contexts.{Context}
-use Rattle.wasm_readers_types.specs.declared.indices.UnpackedIndex.{UnpackedIndex}
-use Rattle.wasm_parser.specs.declared.function_body.FunctionBody.{FunctionBody}
-use Rattle.wasm_validator_func.specs.declared.func_validator.FuncToValidate.{FuncToValidate}
-use Rattle.wasm_validator_modules.specs.Payloads.{body_seen, bodies_seen, IsBodyOfIts}
+use Rattle.wasm_validator_modules.specs.declared.payload.PendingBody.{PendingBody}
+use Rattle.wasm_validator_modules.specs.Payloads.{pending_seen, IsBodyOfIts}
 use Rattle.wasm_validator_modules.proofs.Bodies.{refused_one, stands_by, no_items}
 use Rattle.wasm_validator_modules.proofs.payload.validate_bodies.Goals as goal
 
 pub bodies-init : goal.bodies-init
-bodies-init g c = (sym c.into_iter-function-iterator.ensures.into_iter_gives.0, λ k d l. absurd (omega (arith, l)))
+bodies-init g c = (sym c.into_iter-waiting-iterator.ensures.into_iter_gives.0, λ k d l. absurd (omega (arith, l)))
 
 pub bodies-preserved : goal.bodies-preserved
 bodies-preserved g c =
     let before = c.bodies.yielded in
     let rest = c.next.new.self.rest.items in
-    let x : FuncToValidate (Context UnpackedIndex) × FunctionBody = (c.in-Some.function, c.in-Some.body) in (
-      c.bodies.invariant.0 ∙ ap (λ xs. before ++ xs) c.in-Some.ensures.steps.0 ∙ sym (append_assoc before (x ∷ []) rest),
-      subst (All IsBodyOfIts) (sym (map_push (λ (p : FuncToValidate (Context UnpackedIndex) × FunctionBody). body_seen p.0 p.1) before x))
-          (All-push IsBodyOfIts (bodies_seen before) (body_seen c.in-Some.function c.in-Some.body) c.bodies.invariant.1 c.in-Ok.ensures.decides),
+    let seen = pending_seen c.args.bodies.features in (
+      c.bodies.invariant.0 ∙ ap (λ xs. before ++ xs) c.in-Some.ensures.steps.0 ∙ sym (append_assoc before (c.in-Some.waiting ∷ []) rest),
+      subst (All IsBodyOfIts) (sym (map_push seen before c.in-Some.waiting))
+          (All-push IsBodyOfIts (map seen before) (seen c.in-Some.waiting) c.bodies.invariant.1 c.in-Ok.ensures.decides),
     )
 
 pub returns-in-Err-clause-decided : goal.returns-in-Err-clause-decided
 returns-in-Err-clause-decided g c =
-    refused_one c.args.bodies.items c.bodies.yielded c.next.new.self.rest.items c.in-Some.function c.in-Some.body c.in-Err.error
+    refused_one c.args.bodies.features c.args.bodies.pending.items c.bodies.yielded c.next.new.self.rest.items c.in-Some.waiting c.in-Err.error
     (c.bodies.invariant.0 ∙ ap (λ xs. c.bodies.yielded ++ xs) c.in-Some.ensures.steps.0) c.in-Err.ensures.decides
 
 pub returns-in-Err-clause-place : goal.returns-in-Err-clause-place
 returns-in-Err-clause-place g c = λ end all.
-    stands_by end c.args.bodies.items c.bodies.yielded c.next.new.self.rest.items c.in-Some.function c.in-Some.body c.in-Err.error
+    stands_by end c.args.bodies.pending.items c.bodies.yielded c.next.new.self.rest.items c.in-Some.waiting c.in-Err.error
     (c.bodies.invariant.0 ∙ ap (λ xs. c.bodies.yielded ++ xs) c.in-Some.ensures.steps.0) all c.in-Err.ensures.place
 
 pub returns-clause-decided : goal.returns-clause-decided
 returns-clause-decided g c =
     let none = c.in-None.ensures.steps in
-    let empty : c.bodies.function-iterator.rest.items ≡ [] = no_items c.bodies.function-iterator.rest.items (omega (arith, none.0, c.bodies.function-iterator.rest.ok)) in
-    let all : c.args.bodies.items ≡ c.bodies.yielded = c.bodies.invariant.0 ∙ ap (λ xs. c.bodies.yielded ++ xs) empty ∙ append-nil c.bodies.yielded in
-    subst (λ (xs : List (FuncToValidate (Context UnpackedIndex) × FunctionBody)). All IsBodyOfIts (bodies_seen xs)) (sym all) c.bodies.invariant.1
+    let empty : c.bodies.waiting-iterator.rest.items ≡ [] = no_items c.bodies.waiting-iterator.rest.items (omega (arith, none.0, c.bodies.waiting-iterator.rest.ok)) in
+    let all : c.args.bodies.pending.items ≡ c.bodies.yielded = c.bodies.invariant.0 ∙ ap (λ xs. c.bodies.yielded ++ xs) empty ∙ append-nil c.bodies.yielded in
+    subst (λ (xs : List (PendingBody g.row.A.Denot)). All IsBodyOfIts (map (pending_seen c.args.bodies.features) xs)) (sym all) c.bodies.invariant.1

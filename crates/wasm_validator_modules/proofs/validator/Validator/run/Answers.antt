@@ -1,18 +1,16 @@
-use Rattle.std.proofs.Common.{◌≡◌, sym, subst, ◌∙◌, ◌≤◌, arith, Option, None, List, [], ◌++◌, length, Vec}
+use Rattle.std.proofs.Common.{◌≡◌, sym, subst, ◌∙◌, ◌≤◌, arith, Option, None, List, [], ◌++◌, length}
 use Rattle.wasm_parser.specs.Places.{starts_at, ends_at, input_end}
 use Rattle.wasm_parser.specs.Seen.{seen, state}
 use Rattle.wasm_parser.proofs.Falls.{falls}
-use Rattle.wasm_rules.specs.Contexts.{Context}
-use Rattle.wasm_readers_types.specs.declared.indices.UnpackedIndex.{UnpackedIndex}
-use Rattle.wasm_parser.specs.declared.function_body.FunctionBody.{FunctionBody}
-use Rattle.wasm_validator_func.specs.declared.func_validator.FuncToValidate.{FuncToValidate}
 use Rattle.wasm_validator_types.specs.declared.shown.Types.{Types}
 use Rattle.wasm_validator_modules.specs.declared.payload.ValidPayload.{ValidPayload}
+use Rattle.wasm_validator_modules.specs.declared.payload.Bodies.{Bodies}
 use Rattle.wasm_validator_modules.specs.States.{BodyToValidate}
-use Rattle.wasm_validator_modules.specs.Payloads.{bodies_seen, bodies_given, latest_of}
+use Rattle.wasm_validator_modules.specs.Payloads.{bodies_seen, bodies_given, latest_of, IsGivenUnder}
 use Rattle.wasm_parser.specs.Machine.{State}
 use Rattle.wasm_validator_modules.proofs.GoingOn.{IsOn, goes_on, refused_nothing}
-use Rattle.wasm_validator_modules.proofs.Bodies.{none_ends_by, given_wider}
+use Rattle.wasm_validator_modules.proofs.Bodies.{none_ends_by, given_wider, given_under}
+use Rattle.wasm_validator_modules.proofs.Growing.{same_features}
 use Rattle.wasm_validator_modules.proofs.Runs.{Progress, begun, progress-step, accepted, has_ended, no_memory, refused_format, rejected_payload, refused_whole, told_memory, between_wider}
 use Rattle.wasm_validator_modules.proofs.validator.Validator.run.Goals as goal
 
@@ -20,13 +18,14 @@ pub payloads-init : goal.payloads-init
 payloads-init g c =
     let P : Option (Types g.row.A.Denot) → List BodyToValidate → Type 0 = λ o bs. Progress c.args.bytes.now c.args.self.now c.args.self.now (state c.parse_all-payloads.result) o bs in
     let ended : None ≡ c.new-gathered.result.ended = sym c.new-gathered.ensures.ended in
-    let bodies : [] ≡ bodies_seen c.new-gathered.result.bodies.items = sym c.new-gathered.ensures.bodies in (
+    let bodies : [] ≡ bodies_seen c.new-gathered.result.bodies = sym c.new-gathered.ensures.bodies in (
       subst (λ bs. P c.new-gathered.result.ended bs) bodies
           (subst (λ o. P o []) ended (begun c.args.bytes.now (state c.parse_all-payloads.result) c.args.self.now c.parse_all-payloads.ensures.begun)),
       c.parse_all-payloads.ensures.reads,
       omega (arith, c.parse_all-payloads.ensures.whole, c.new.ensures),
       subst (λ (s : State). IsOn s.stage) (sym c.parse_all-payloads.ensures.begun) tt,
-      none_ends_by (length c.args.bytes.now) c.new-gathered.result.bodies.items c.new-gathered.ensures.bodies,
+      none_ends_by (length c.args.bytes.now) c.new-gathered.result.bodies c.new-gathered.ensures.bodies,
+      sym (c.new-gathered.ensures.features ∙ c.features.ensures),
     )
 
 pub payloads-smaller : goal.payloads-smaller
@@ -38,7 +37,7 @@ pub payloads-preserved : goal.payloads-preserved
 payloads-preserved g c =
     let given = rw c.in-Ok-Some.field-0-is at c.in-Ok-Some.ensures.ok in
     let within = rw c.in-Ok-Some.field-0-is at (c.in-Ok-Some.ensures.within c.payloads.invariant.1) in
-    let before = bodies_seen c.payloads.gathered.bodies.items in
+    let before = bodies_seen c.payloads.gathered.bodies in
     let P : Option (Types g.row.A.Denot) → List BodyToValidate → Type 0 = λ o bs. Progress c.args.bytes.now c.args.self.now c.payload.new.self (state c.next_of_input.new.payloads) o bs in
     let went : P (latest_of c.payloads.gathered.ended c.in-Ok.valid) (before ++ bodies_given c.in-Ok.valid) =
     progress-step c.args.bytes.now c.args.self.now c.payloads.self c.payload.new.self (state c.payloads.payloads) (state c.next_of_input.new.payloads) (seen c.in-Ok-Some.payload) c.payloads.gathered.ended before c.in-Ok.valid
@@ -50,13 +49,19 @@ payloads-preserved g c =
       c.next_of_input.ensures.whole ∙ c.payloads.invariant.2,
       goes_on (state c.payloads.payloads) (seen c.in-Ok-Some.payload) (state c.next_of_input.new.payloads) given,
       c.in_ok-take-in-Ok.ensures.within (length c.args.bytes.now) c.payloads.invariant.4 (given_wider (ends_at c.in-Ok-Some.payload) (length c.args.bytes.now) c.in-Ok.valid last c.in-Ok.ensures.within),
+      same_features c.payloads.self c.payload.new.self (seen c.in-Ok-Some.payload) c.in-Ok.ensures.moves ∙ c.payloads.invariant.5 ∙ sym c.in_ok-take-in-Ok.ensures.features,
     )
+
+pub take-requires : goal.take-requires
+take-requires g c = record {
+  features = subst (λ features. IsGivenUnder features c.in-Ok.valid) c.payloads.invariant.5 (given_under c.payloads.self (seen c.in-Ok-Some.payload) c.in-Ok.valid c.in-Ok.ensures.given);
+}
 
 pub returns-in_err-take-in-Ok-clause-validates : goal.returns-in_err-take-in-Ok-clause-validates
 returns-in_err-take-in-Ok-clause-validates g c =
     let given = rw c.in-Ok-Some.field-0-is at c.in-Ok-Some.ensures.ok in
-    let before = bodies_seen c.payloads.gathered.bodies.items in
-    told_memory (λ b. bodies_seen b.items) c.args.bytes.now c.args.self.now c.payload.new.self c.from_residual.result c.from_residual.ensures.1
+    let before = bodies_seen c.payloads.gathered.bodies in
+    told_memory (λ (b : Bodies g.row.A.Denot). bodies_seen b) c.args.bytes.now c.args.self.now c.payload.new.self c.from_residual.result c.from_residual.ensures.1
     (no_memory c.args.bytes.now c.args.self.now c.payloads.self c.payload.new.self (state c.payloads.payloads) (state c.next_of_input.new.payloads) (seen c.in-Ok-Some.payload) c.payloads.gathered.ended before c.in-Ok.valid
     c.payloads.invariant.0 given c.in-Ok.ensures.moves c.in-Ok.ensures.shown c.in-Ok.ensures.given c.in_err-take-in-Ok.ensures.memory)
 
@@ -73,28 +78,28 @@ returns-in-Err-clause-place g c =
 pub returns-in-Err-payload-clause-validates : goal.returns-in-Err-payload-clause-validates
 returns-in-Err-payload-clause-validates g c =
     let given = rw c.in-Ok-Some.field-0-is at c.in-Ok-Some.ensures.ok in
-    let before = bodies_seen c.payloads.gathered.bodies.items in
-    let gives : Vec (FuncToValidate (Context UnpackedIndex) × FunctionBody) g.row.A.Denot → List BodyToValidate = λ b. bodies_seen b.items in
+    let before = bodies_seen c.payloads.gathered.bodies in
+    let gives : Bodies g.row.A.Denot → List BodyToValidate = λ b. bodies_seen b in
     refused_whole (ValidPayload g.row.A.Denot) gives c.args.bytes.now c.args.self.now c.payloads.self c.payload.new.self (state c.payloads.payloads) (state c.next_of_input.new.payloads) c.payloads.gathered.ended before (seen c.in-Ok-Some.payload) c.in-Err-payload.error
     c.payloads.invariant.0 given c.in-Err-payload.ensures.moves
     (rejected_payload c.args.bytes.now c.args.self.now c.payloads.self (state c.payloads.payloads) (state c.next_of_input.new.payloads) (seen c.in-Ok-Some.payload) c.payloads.gathered.ended before c.payloads.invariant.0 given)
 
 pub returns-in-Err-clause-validates : goal.returns-in-Err-clause-validates
 returns-in-Err-clause-validates g c =
-    let gives : Vec (FuncToValidate (Context UnpackedIndex) × FunctionBody) g.row.A.Denot → List BodyToValidate = λ b. bodies_seen b.items in
-    refused_format gives c.args.bytes.now c.args.self.now c.payloads.self (state c.payloads.payloads) c.payloads.gathered.ended (bodies_seen c.payloads.gathered.bodies.items) c.in-Err.refused
+    let gives : Bodies g.row.A.Denot → List BodyToValidate = λ b. bodies_seen b in
+    refused_format gives c.args.bytes.now c.args.self.now c.payloads.self (state c.payloads.payloads) c.payloads.gathered.ended (bodies_seen c.payloads.gathered.bodies) c.in-Err.refused
     (c.in-Err.ensures.format (refused_nothing c.payloads.payloads c.payloads.invariant.3)) c.payloads.invariant.0 c.in-Err.ensures.err
 
 pub unreachable-requires : goal.unreachable-requires
 unreachable-requires g c =
-    let bodies = bodies_seen c.payloads.gathered.bodies.items in
+    let bodies = bodies_seen c.payloads.gathered.bodies in
     let P : Option (Types g.row.A.Denot) → Type 0 = λ o. Progress c.args.bytes.now c.args.self.now c.payloads.self (state c.payloads.payloads) o bodies in
     let over = rw c.in-Ok-None.field-0-is at c.in-Ok-None.ensures.ok in
     has_ended c.args.bytes.now c.args.self.now c.payloads.self (state c.payloads.payloads) bodies (subst P c.in-None.is c.payloads.invariant.0) over
 
 pub returns-clause-validates : goal.returns-clause-validates
 returns-clause-validates g c =
-    let bodies = bodies_seen c.payloads.gathered.bodies.items in
+    let bodies = bodies_seen c.payloads.gathered.bodies in
     let P : Option (Types g.row.A.Denot) → Type 0 = λ o. Progress c.args.bytes.now c.args.self.now c.payloads.self (state c.payloads.payloads) o bodies in
     let over = rw c.in-Ok-None.field-0-is at c.in-Ok-None.ensures.ok in
     accepted c.args.bytes.now c.args.self.now c.payloads.self (state c.payloads.payloads) c.in-Some.types bodies (subst P c.in-Some.is c.payloads.invariant.0) over

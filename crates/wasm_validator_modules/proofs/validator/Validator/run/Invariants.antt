@@ -9,8 +9,8 @@ use Rattle.wasm_validator_modules.proofs.validator.Validator.run.Given as goal
 
 abbrev pub invariant-payloads : goal.invariant-payloads
 invariant-payloads g l =
-    Progress l.bytes l.fn.self l.self (state l.payloads) l.gathered.ended (bodies_seen l.gathered.bodies.items)
-    × ReadsInput l.payloads × (input_end l.payloads ≡ length l.bytes) × IsOn (state l.payloads).stage × AllEndBy (length l.bytes) l.gathered.bodies.items
+    Progress l.bytes l.fn.self l.self (state l.payloads) l.gathered.ended (bodies_seen l.gathered.bodies)
+    × ReadsInput l.payloads × (input_end l.payloads ≡ length l.bytes) × IsOn (state l.payloads).stage × AllEndBy (length l.bytes) l.gathered.bodies × (l.self.features ≡ l.gathered.bodies.features)
 
 abbrev pub decreases-payloads : goal.decreases-payloads
 decreases-payloads g l = most_left (state l.payloads)
