@@ -13,12 +13,9 @@ use Rattle.wasm_validator_type_list.proofs.Grouped.{all-right}
 use Rattle.wasm_validator_core.specs.declared.error.Error as whole
 use Rattle.wasm_validator_core.specs.Errors.{lifted}
 use Rattle.wasm_validator_modules.specs.SectionsTold.{StandsBetween}
-use Rattle.wasm_spec.specs.Framing as parts
-use Rattle.wasm_spec.specs.Framing.{Piece, Version, Custom, Counted, Start, DataCount, CodeStart, CodeEntry, Unknown}
 use Rattle.wasm_readers_errors.specs.declared.features.WasmFeatures.{WasmFeatures}
-use Rattle.wasm_validator_modules.specs.Standing.{Standing, Stage, unparsed, in_module, in_code, ended, failed}
-use Rattle.wasm_validator_modules.specs.States.{BodyToValidate, next_function, body_with, body_at, handed}
-use Rattle.wasm_validator_modules.specs.Payloads.{body_seen, bodies_seen, bodies_given, pending_seen, IsGivenUnder, EndsBy, AllEndBy, GivenEndBy, StandsBy, IsBodyOfIts}
+use Rattle.wasm_validator_modules.specs.States.{BodyToValidate}
+use Rattle.wasm_validator_modules.specs.Payloads.{body_seen, bodies_seen, pending_seen, pending_in, EndsBy, AllEndBy, GivenEndBy, StandsBy, IsBodyOfIts}
 use Rattle.wasm_validator_modules.specs.declared.payload.PendingBody.{PendingBody}
 use Rattle.wasm_validator_modules.specs.declared.payload.Bodies.{Bodies}
 use Rattle.wasm_validator_modules.specs.declared.payload.ValidPayload.{ValidPayload}
@@ -33,13 +30,12 @@ refuses_more : (P Q : Type 0) (e : Error) → (Q → P) → Refuses P e → Refu
 refuses_more P Q (Refused r) f h = λ q. h (f q)
 refuses_more P Q OutOfMemory f h = tt
 
-module _ {A : Type 0} (features : WasmFeatures) where
-  pub refused_one : (xs ys rest : List (PendingBody A)) (p : PendingBody A) (e : Error) → xs ≡ ys ++ p ∷ rest
-      → Refuses (IsBodyOfIts (pending_seen features p)) e → Refuses (All IsBodyOfIts (map (pending_seen features) xs)) e
-  refused_one xs ys rest p e same h =
-      let seen : List (PendingBody A) → List BodyToValidate = map (pending_seen features) in
-      refuses_more (IsBodyOfIts (pending_seen features p)) (All IsBodyOfIts (seen xs)) e
-      (λ all. one_of IsBodyOfIts (seen xs) (seen ys) (seen rest) (pending_seen features p) (ap seen same ∙ map-append (pending_seen features) ys (p ∷ rest)) all) h
+pub refused_one : (features : WasmFeatures) (context : Context UnpackedIndex) (xs ys rest : List PendingBody) (p : PendingBody) (e : Error) → xs ≡ ys ++ p ∷ rest
+    → Refuses (IsBodyOfIts (pending_seen features context p)) e → Refuses (All IsBodyOfIts (map (pending_seen features context) xs)) e
+refused_one features context xs ys rest p e same h =
+    let seen : List PendingBody → List BodyToValidate = map (pending_seen features context) in
+    refuses_more (IsBodyOfIts (pending_seen features context p)) (All IsBodyOfIts (seen xs)) e
+    (λ all. one_of IsBodyOfIts (seen xs) (seen ys) (seen rest) (pending_seen features context p) (ap seen same ∙ map-append (pending_seen features context) ys (p ∷ rest)) all) h
 
 -- a refusal stands where its body ends, or before
 stands_in : (end : ℕ) (b : FunctionBody) (e : Error) → EndsBy end b → StandsInOrFirst (body_reader b) e → StandsBy end e
@@ -47,57 +43,32 @@ stands_in end b (Refused r) h (inl first) = omega (arith, first)
 stands_in end b (Refused r) h (inr within) = omega (arith, h, within.1)
 stands_in end b OutOfMemory h place = tt
 
-pub stands_by : {A : Type 0} (end : ℕ) (xs ys rest : List (PendingBody A)) (p : PendingBody A) (e : Error) → xs ≡ ys ++ p ∷ rest
-    → All (λ (q : PendingBody A). EndsBy end q.body) xs → StandsInOrFirst (body_reader p.body) e → StandsBy end e
-stands_by {A} end xs ys rest p e same all place = stands_in end p.body e (one_of (λ (q : PendingBody A). EndsBy end q.body) xs ys rest p same all) place
+pub stands_by : (end : ℕ) (xs ys rest : List PendingBody) (p : PendingBody) (e : Error) → xs ≡ ys ++ p ∷ rest
+    → All (λ (q : PendingBody). EndsBy end q.body) xs → StandsInOrFirst (body_reader p.body) e → StandsBy end e
+stands_by end xs ys rest p e same all place = stands_in end p.body e (one_of (λ (q : PendingBody). EndsBy end q.body) xs ys rest p same all) place
 
--- where none was handed out, and where one was
-none_end_by : {A : Type 0} (end : ℕ) (features : WasmFeatures) (xs : List (PendingBody A)) → map (pending_seen features) xs ≡ [] → All (λ (q : PendingBody A). EndsBy end q.body) xs
-none_end_by end features [] e = λ k d l. absurd (omega (arith, l))
-none_end_by end features (x ∷ xs) e = absurd (let h : pending_seen features x ∷ map (pending_seen features) xs ≡ [] = e in cc)
+-- where none is pending
+pub none_ends_by : {A : Type 0} (end : ℕ) (bodies : Bodies A) → bodies.pending.items ≡ [] → AllEndBy end bodies
+none_ends_by end bodies e = subst (All (λ (q : PendingBody). EndsBy end q.body)) (sym e) (λ k d l. absurd (omega (arith, l)))
 
-pub none_ends_by : {A : Type 0} (end : ℕ) (bodies : Bodies A) → bodies_seen bodies ≡ [] → AllEndBy end bodies
-none_ends_by end bodies e = none_end_by end bodies.features bodies.pending.items e
+pub nothing_seen : {A : Type 0} (bodies : Bodies A) → bodies.resources ≡ None → bodies_seen bodies ≡ []
+nothing_seen bodies e = ap (λ kept. pending_in bodies.features kept bodies.pending.items) e
 
--- one more, as its payload gave it
-pub one_more : {A : Type 0} (features : WasmFeatures) (xs : List (PendingBody A)) (f : FuncToValidate (Context UnpackedIndex)) (p : PendingBody A) → f.features ≡ features
-    → pending_seen f.features p ≡ body_seen f p.body → map (pending_seen features) (xs ++ p ∷ []) ≡ map (pending_seen features) xs ++ body_seen f p.body ∷ []
-one_more features xs f p same seen =
-    map-append (pending_seen features) xs (p ∷ [])
-    ∙ ap (λ (b : BodyToValidate). map (pending_seen features) xs ++ b ∷ []) (ap (λ g. pending_seen g p) (sym same) ∙ seen)
+-- one more, behind those that were pending before or as the first
+pub pushed_first : (features : WasmFeatures) (context : Context UnpackedIndex) (xs : List PendingBody) (p : PendingBody) → xs ≡ p ∷ []
+    → pending_in features (Some context) xs ≡ pending_seen features context p ∷ []
+pushed_first features context xs p e = ap (map (pending_seen features context)) e
 
--- the features of the first, if there is one
-abbrev first_features : List BodyToValidate → WasmFeatures → WasmFeatures
-first_features [] other = other
-first_features (b ∷ bs) other = b.features
+pub pushed_more : (features : WasmFeatures) (kept context : Context UnpackedIndex) (xs ys : List PendingBody) (p : PendingBody) → kept ≡ context → ys ≡ xs ++ p ∷ []
+    → pending_in features (Some kept) ys ≡ pending_in features (Some kept) xs ++ pending_seen features context p ∷ []
+pushed_more features kept context xs ys p same e =
+    ap (map (pending_seen features kept)) e ∙ map-append (pending_seen features kept) xs (p ∷ [])
+    ∙ ap (λ c. map (pending_seen features kept) xs ++ pending_seen features c p ∷ []) same
 
--- what is handed out is to be validated under the validator's features
-some_given : (features : WasmFeatures) (context : Context UnpackedIndex) (index : ℕ) (bytes : List ℕ) (o : Option ℕ) (f : FuncToValidate (Context UnpackedIndex)) (b : FunctionBody)
-    → body_with features context index bytes o ≡ body_seen f b ∷ [] → f.features ≡ features
-some_given features context index bytes None f b e = absurd (cc)
-some_given features context index bytes (Some ty) f b e =
-    sym (ap (λ bs. first_features bs features) e)
-
-body_given : (features : WasmFeatures) (bytes : List ℕ) (g : Stage) (f : FuncToValidate (Context UnpackedIndex)) (b : FunctionBody)
-    → body_at features bytes g ≡ body_seen f b ∷ [] → f.features ≡ features
-body_given features bytes (unparsed types) f b e = absurd (cc)
-body_given features bytes (in_module types spaces more) f b e = absurd (cc)
-body_given features bytes (in_code types spaces more) f b e = some_given features more.context (next_function spaces more) bytes (slice_get spaces.functions (next_function spaces more)) f b e
-body_given features bytes (ended types) f b e = absurd (cc)
-body_given features bytes failed f b e = absurd (cc)
-
-pub given_under : {A : Type 0} (s : Standing) (p : Piece) (v : ValidPayload A) → handed s p ≡ bodies_given v → IsGivenUnder s.features v
-given_under s p Ok e = tt
-given_under s p (End t) e = tt
-given_under s (CodeEntry bytes) (Func f b) e = body_given s.features bytes s.stage f b e
-given_under s (Version number kind) (Func f b) e = absurd (let h : [] ≡ body_seen f b ∷ [] = e in cc)
-given_under s (Custom name bytes) (Func f b) e = absurd (let h : [] ≡ body_seen f b ∷ [] = e in cc)
-given_under s (Counted id count bytes) (Func f b) e = absurd (let h : [] ≡ body_seen f b ∷ [] = e in cc)
-given_under s (Start index) (Func f b) e = absurd (let h : [] ≡ body_seen f b ∷ [] = e in cc)
-given_under s (DataCount count) (Func f b) e = absurd (let h : [] ≡ body_seen f b ∷ [] = e in cc)
-given_under s (CodeStart count size) (Func f b) e = absurd (let h : [] ≡ body_seen f b ∷ [] = e in cc)
-given_under s (Unknown id bytes) (Func f b) e = absurd (let h : [] ≡ body_seen f b ∷ [] = e in cc)
-given_under s parts.End (Func f b) e = absurd (let h : [] ≡ body_seen f b ∷ [] = e in cc)
+-- as its payload gave it
+pub as_given : (features : WasmFeatures) (f : FuncToValidate (Context UnpackedIndex)) (b : FunctionBody) (p : PendingBody) → f.features ≡ features
+    → pending_seen f.features f.resources p ≡ body_seen f b → pending_seen features f.resources p ≡ body_seen f b
+as_given features f b p same seen = ap (λ g. pending_seen g f.resources p) (sym same) ∙ seen
 
 pub given_wider : {A : Type 0} (a b : ℕ) (v : ValidPayload A) → a ≤ b → GivenEndBy a v → GivenEndBy b v
 given_wider a b Ok h e = tt

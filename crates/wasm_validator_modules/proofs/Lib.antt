@@ -11,6 +11,7 @@ pub mod SectionMoves
 pub mod NotedNames
 pub mod Runs
 pub mod Bodies
+pub mod KeptContext
 pub mod GoingOn
 pub mod Reading
 pub mod AddedTypes

@@ -86,26 +86,41 @@ IsFunction Ok = ⊥
 IsFunction (Func f b) = ⊤
 IsFunction (End t) = ⊥
 
--- a function whose body is to be validated under these features, as it was handed out
-abbrev pub pending_seen : {A : Type 0} → WasmFeatures → PendingBody A → BodyToValidate
-pending_seen features p = record { index = p.index; ty = p.ty; features = features; context = p.resources; bytes = body_of p.body }
+-- a function whose body is to be validated under these features and in this context, as it was handed out
+abbrev pub pending_seen : WasmFeatures → Context UnpackedIndex → PendingBody → BodyToValidate
+pending_seen features context p = record { index = p.index; ty = p.ty; features = features; context = context; bytes = body_of p.body }
 
--- all of a module
+-- all of a module: none before the first, from which on the context is kept
+abbrev pub pending_in : WasmFeatures → Option (Context UnpackedIndex) → List PendingBody → List BodyToValidate
+pending_in features None ps = []
+pending_in features (Some context) ps = map (pending_seen features context) ps
+
 abbrev pub bodies_seen : {A : Type 0} → Bodies A → List BodyToValidate
-bodies_seen bodies = map (pending_seen bodies.features) bodies.pending.items
+bodies_seen bodies = pending_in bodies.features bodies.resources bodies.pending.items
 
--- a function that a payload gives is to be validated under these features
-abbrev pub IsGivenUnder : {A : Type 0} → WasmFeatures → ValidPayload A → Type 0
-IsGivenUnder features Ok = ⊤
-IsGivenUnder features (Func f b) = f.features ≡ features
-IsGivenUnder features (End t) = ⊤
+-- this context is the one that is kept, if one is
+abbrev pub IsKept : Option (Context UnpackedIndex) → Context UnpackedIndex → Type 0
+IsKept None context = ⊤
+IsKept (Some kept) context = kept ≡ context
+
+-- a function that a payload gives is to be validated under these features, and in the same context as those before it
+abbrev pub IsGivenIn : {A : Type 0} → WasmFeatures → Option (Context UnpackedIndex) → ValidPayload A → Type 0
+IsGivenIn features kept Ok = ⊤
+IsGivenIn features kept (Func f b) = (f.features ≡ features) × IsKept kept f.resources
+IsGivenIn features kept (End t) = ⊤
+
+-- the context that is kept then
+abbrev pub kept_behind : {A : Type 0} → Option (Context UnpackedIndex) → ValidPayload A → Option (Context UnpackedIndex)
+kept_behind kept Ok = kept
+kept_behind kept (Func f b) = Some f.resources
+kept_behind kept (End t) = kept
 
 -- a body ends by this offset, and each of some does
 abbrev pub EndsBy : ℕ → FunctionBody → Type 0
 EndsBy end b = reader_end (body_reader b) ≤ end
 
 abbrev pub AllEndBy : {A : Type 0} → ℕ → Bodies A → Type 0
-AllEndBy {A} end bodies = All (λ (p : PendingBody A). EndsBy end p.body) bodies.pending.items
+AllEndBy end bodies = All (λ (p : PendingBody). EndsBy end p.body) bodies.pending.items
 
 abbrev pub GivenEndBy : {A : Type 0} → ℕ → ValidPayload A → Type 0
 GivenEndBy end Ok = ⊤

@@ -1,5 +1,5 @@
 ghost use Rattle.wasm_readers_errors.specs.declared.features.TheConstants.WasmFeatures.{STANDARD};
-ghost use Rattle.std.specs.Prelude.{ℕ, true, false, ◌≡◌, ◌≤◌, ◌++◌, [], IfOk, IfErr, OnOk, OnErr, IfSome, Some, None, length};
+ghost use Rattle.std.specs.Prelude.{ℕ, true, false, ◌≡◌, ◌≤◌, ◌++◌, ◌∷◌, [], IfOk, IfErr, OnOk, OnErr, IfSome, Some, None, length};
 ghost use Rattle.std.specs.List.{All};
 ghost use Rattle.std.specs.Option.{option_map};
 ghost use Rattle.wasm_parser.specs.Machine.{next_of};
@@ -11,7 +11,7 @@ ghost use Rattle.wasm_validator_modules.specs.Standing.{Leaves};
 ghost use Rattle.wasm_validator_func.specs.Functions.{Decides, StandsInOrFirst};
 ghost use Rattle.wasm_parser.specs.Seen.{body_reader};
 ghost use Rattle.wasm_validator_modules.specs.States.{after_piece, handed, left_by, IsSection};
-ghost use Rattle.wasm_validator_modules.specs.Payloads.{ShowsModule, HoldsIdsAtEnd, IsFunction, IsGivenUnder, latest_of, bodies_given, bodies_seen, pending_seen, AllEndBy, GivenEndBy, StandsBy, IsBodyOfIts, TellsFormat, Validates};
+ghost use Rattle.wasm_validator_modules.specs.Payloads.{ShowsModule, HoldsIdsAtEnd, IsFunction, IsKept, IsGivenIn, kept_behind, latest_of, bodies_given, bodies_seen, pending_seen, EndsBy, AllEndBy, GivenEndBy, StandsBy, IsBodyOfIts, TellsFormat, Validates};
 ghost use Rattle.wasm_validator_modules.specs.Verdict.{DecidesModule, DecidesAlone, EndsModule, StopsModule};
 
 use crate::validator::Validator;
@@ -25,18 +25,19 @@ use wasm_validator_types::{Types, ValidatorId};
 
 /// A function whose body is to be validated.
 #[derive(Drop)]
-pub struct PendingBody<'a, A: Allocator> {
-    resources: ValidatorResources<A>,
+pub struct PendingBody<'a> {
     index: u32,
     ty: u32,
     body: FunctionBody<'a>,
 }
 
-/// Functions whose bodies are to be validated under these features, which are kept once.
+/// The functions of a module whose bodies are to be validated. What all of them share is kept once:
+/// the features, and from the first on what bodies look up.
 #[derive(Drop)]
 pub struct Bodies<'a, A: Allocator> {
     features: WasmFeatures,
-    pending: Vec<PendingBody<'a, A>, A>,
+    resources: Option<ValidatorResources<A>>,
+    pending: Vec<PendingBody<'a>, A>,
 }
 
 /// What a payload that is accepted gives.
@@ -220,6 +221,31 @@ pub fn answer_all<A: Allocator + Copy>(validator: &mut Validator<A>, bytes: &[u8
     }
 }
 
+impl<'a, A: Allocator> Bodies<'a, A> {
+    /// Puts a body behind the others, which are checked by the same look-ups.
+    fn push(
+        &mut self,
+        resources: ValidatorResources<A>,
+        waiting: PendingBody<'a>,
+    ) -> Result<(), AllocError>
+        requires { IsKept self.old.resources resources }
+        ensures seen { OnOk result (bodies_seen self.new ≡ bodies_seen self.old
+            ++ pending_seen self.old.features resources waiting.entry ∷ []) }
+        ensures features { OnOk result (self.new.features ≡ self.old.features) }
+        ensures resources { OnOk result (self.new.resources ≡ Some resources) }
+        ensures within { (end : ℕ) → AllEndBy end self.old → EndsBy end waiting.entry.body
+            → OnOk result (AllEndBy end self.new) }
+    {
+        if self.resources.is_none() {
+            // Nothing is pending before the first.
+            self.pending.clear();
+            self.resources = Some(resources);
+        }
+        self.pending.push(waiting)?;
+        Ok(())
+    }
+}
+
 /// What payloads gave so far.
 #[derive(Drop)]
 struct Gathered<'a, A: Allocator> {
@@ -231,13 +257,15 @@ impl<'a, A: Allocator + Copy> Gathered<'a, A> {
     /// Nothing, of a module under these features.
     fn new(alloc: A, features: WasmFeatures) -> Gathered<'a, A>
         ensures ended { result.ended ≡ None }
-        ensures bodies { bodies_seen result.bodies ≡ [] }
+        ensures bodies { result.bodies.pending.items ≡ [] }
+        ensures resources { result.bodies.resources ≡ None }
         ensures features { result.bodies.features ≡ features }
     {
         Gathered {
             ended: None,
             bodies: Bodies {
                 features,
+                resources: None,
                 pending: Vec::new(alloc),
             },
         }
@@ -250,11 +278,13 @@ impl<'a, A: Allocator + Copy> Gathered<'a, A> {
         payload: &Payload<'a, A>,
         valid: ValidPayload<'a, A>,
     ) -> Result<(), AllocError>
-        requires features { IsGivenUnder self.old.bodies.features valid }
+        requires given { IsGivenIn self.old.bodies.features self.old.bodies.resources valid }
         ensures ended { OnOk result (self.new.ended ≡ latest_of self.old.ended valid.entry) }
         ensures bodies { OnOk result (bodies_seen self.new.bodies
             ≡ bodies_seen self.old.bodies ++ bodies_given valid.entry) }
         ensures features { OnOk result (self.new.bodies.features ≡ self.old.bodies.features) }
+        ensures resources { OnOk result (self.new.bodies.resources
+            ≡ kept_behind self.old.bodies.resources valid.entry) }
         ensures within { (end : ℕ) → AllEndBy end self.old.bodies → GivenEndBy end valid.entry
             → OnOk result (AllEndBy end self.new.bodies) }
         ensures memory { OnErr result (IsFunction valid.entry) }
@@ -268,11 +298,13 @@ impl<'a, A: Allocator + Copy> Gathered<'a, A> {
 
     /// Keeps the types of the module that has ended last, and each body.
     fn keep(&mut self, valid: ValidPayload<'a, A>) -> Result<(), AllocError>
-        requires features { IsGivenUnder self.old.bodies.features valid }
+        requires given { IsGivenIn self.old.bodies.features self.old.bodies.resources valid }
         ensures ended { OnOk result (self.new.ended ≡ latest_of self.old.ended valid.entry) }
         ensures bodies { OnOk result (bodies_seen self.new.bodies
             ≡ bodies_seen self.old.bodies ++ bodies_given valid.entry) }
         ensures features { OnOk result (self.new.bodies.features ≡ self.old.bodies.features) }
+        ensures resources { OnOk result (self.new.bodies.resources
+            ≡ kept_behind self.old.bodies.resources valid.entry) }
         ensures within { (end : ℕ) → AllEndBy end self.old.bodies → GivenEndBy end valid.entry
             → OnOk result (AllEndBy end self.new.bodies) }
         ensures memory { OnErr result (IsFunction valid.entry) }
@@ -286,13 +318,7 @@ impl<'a, A: Allocator + Copy> Gathered<'a, A> {
                     ty,
                     features: _,
                 } = function;
-                self.bodies.pending.push(PendingBody {
-                    resources,
-                    index,
-                    ty,
-                    body,
-                })?;
-                Ok(())
+                self.bodies.push(resources, PendingBody { index, ty, body })
             }
             ValidPayload::End(types) => {
                 self.ended = Some(types);
@@ -310,10 +336,18 @@ fn validate_bodies<'a, A: Allocator + Copy>(
     ensures decided { Decides (All IsBodyOfIts (bodies_seen bodies.entry)) result }
     ensures place { (end : ℕ) → AllEndBy end bodies.entry → IfErr result (StandsBy end) }
 {
-    let Bodies { features, pending } = bodies;
+    let Bodies {
+        features,
+        resources,
+        pending,
+    } = bodies;
+    let resources = match resources {
+        Some(resources) => resources,
+        None => return Ok(()),
+    };
     let mut allocations = FuncValidatorAllocations::new(alloc);
     'bodies: for waiting in pending {
-        match validate_pending(features, waiting, allocations) {
+        match validate_pending(features, &resources, waiting, allocations) {
             Ok(more) => allocations = more,
             Err(error) => return Err(error),
         }
@@ -321,23 +355,20 @@ fn validate_bodies<'a, A: Allocator + Copy>(
     Ok(())
 }
 
-/// Validates the body of one function under these features.
+/// Validates the body of one function under these features, by these look-ups.
 fn validate_pending<'a, A: Allocator + Copy>(
     features: WasmFeatures,
-    waiting: PendingBody<'a, A>,
+    resources: &ValidatorResources<A>,
+    waiting: PendingBody<'a>,
     allocations: FuncValidatorAllocations<A>,
 ) -> Result<FuncValidatorAllocations<A>, wasm_readers::Error>
-    ensures decides { Decides (IsBodyOfIts (pending_seen features waiting.entry)) result }
+    ensures decides { Decides
+        (IsBodyOfIts (pending_seen features resources.now waiting.entry)) result }
     ensures place { IfErr result (StandsInOrFirst (body_reader waiting.entry.body)) }
 {
-    let PendingBody {
-        resources,
-        index,
-        ty,
-        body,
-    } = waiting;
+    let PendingBody { index, ty, body } = waiting;
     let function = FuncToValidate {
-        resources,
+        resources: resources.clone()?,
         index,
         ty,
         features,

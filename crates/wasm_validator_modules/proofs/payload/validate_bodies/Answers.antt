@@ -13,7 +13,7 @@ pub bodies-preserved : goal.bodies-preserved
 bodies-preserved g c =
     let before = c.bodies.yielded in
     let rest = c.next.new.self.rest.items in
-    let seen = pending_seen c.args.bodies.features in (
+    let seen = pending_seen c.args.bodies.features c.in-Some-resources.resources in (
       c.bodies.invariant.0 ∙ ap (λ xs. before ++ xs) c.in-Some.ensures.steps.0 ∙ sym (append_assoc before (c.in-Some.waiting ∷ []) rest),
       subst (All IsBodyOfIts) (sym (map_push seen before c.in-Some.waiting))
           (All-push IsBodyOfIts (map seen before) (seen c.in-Some.waiting) c.bodies.invariant.1 c.in-Ok.ensures.decides),

@@ -6,10 +6,11 @@ use Rattle.wasm_validator_types.specs.declared.shown.Types.{Types}
 use Rattle.wasm_validator_modules.specs.declared.payload.ValidPayload.{ValidPayload}
 use Rattle.wasm_validator_modules.specs.declared.payload.Bodies.{Bodies}
 use Rattle.wasm_validator_modules.specs.States.{BodyToValidate}
-use Rattle.wasm_validator_modules.specs.Payloads.{bodies_seen, bodies_given, latest_of, IsGivenUnder}
+use Rattle.wasm_validator_modules.specs.Payloads.{bodies_seen, bodies_given, latest_of, IsGivenIn}
 use Rattle.wasm_parser.specs.Machine.{State}
 use Rattle.wasm_validator_modules.proofs.GoingOn.{IsOn, goes_on, refused_nothing}
-use Rattle.wasm_validator_modules.proofs.Bodies.{none_ends_by, given_wider, given_under}
+use Rattle.wasm_validator_modules.proofs.Bodies.{none_ends_by, given_wider, nothing_seen}
+use Rattle.wasm_validator_modules.proofs.KeptContext.{IsInKept, given_in, kept_in}
 use Rattle.wasm_validator_modules.proofs.Growing.{same_features}
 use Rattle.wasm_validator_modules.proofs.Runs.{Progress, begun, progress-step, accepted, has_ended, no_memory, refused_format, rejected_payload, refused_whole, told_memory, between_wider}
 use Rattle.wasm_validator_modules.proofs.validator.Validator.run.Goals as goal
@@ -18,7 +19,7 @@ pub payloads-init : goal.payloads-init
 payloads-init g c =
     let P : Option (Types g.row.A.Denot) → List BodyToValidate → Type 0 = λ o bs. Progress c.args.bytes.now c.args.self.now c.args.self.now (state c.parse_all-payloads.result) o bs in
     let ended : None ≡ c.new-gathered.result.ended = sym c.new-gathered.ensures.ended in
-    let bodies : [] ≡ bodies_seen c.new-gathered.result.bodies = sym c.new-gathered.ensures.bodies in (
+    let bodies : [] ≡ bodies_seen c.new-gathered.result.bodies = sym (nothing_seen c.new-gathered.result.bodies c.new-gathered.ensures.resources) in (
       subst (λ bs. P c.new-gathered.result.ended bs) bodies
           (subst (λ o. P o []) ended (begun c.args.bytes.now (state c.parse_all-payloads.result) c.args.self.now c.parse_all-payloads.ensures.begun)),
       c.parse_all-payloads.ensures.reads,
@@ -26,6 +27,7 @@ payloads-init g c =
       subst (λ (s : State). IsOn s.stage) (sym c.parse_all-payloads.ensures.begun) tt,
       none_ends_by (length c.args.bytes.now) c.new-gathered.result.bodies c.new-gathered.ensures.bodies,
       sym (c.new-gathered.ensures.features ∙ c.features.ensures),
+      subst (λ kept. IsInKept kept c.args.self.now.stage) (sym c.new-gathered.ensures.resources) tt,
     )
 
 pub payloads-smaller : goal.payloads-smaller
@@ -50,11 +52,14 @@ payloads-preserved g c =
       goes_on (state c.payloads.payloads) (seen c.in-Ok-Some.payload) (state c.next_of_input.new.payloads) given,
       c.in_ok-take-in-Ok.ensures.within (length c.args.bytes.now) c.payloads.invariant.4 (given_wider (ends_at c.in-Ok-Some.payload) (length c.args.bytes.now) c.in-Ok.valid last c.in-Ok.ensures.within),
       same_features c.payloads.self c.payload.new.self (seen c.in-Ok-Some.payload) c.in-Ok.ensures.moves ∙ c.payloads.invariant.5 ∙ sym c.in_ok-take-in-Ok.ensures.features,
+      subst (λ kept. IsInKept kept c.payload.new.self.stage) (sym c.in_ok-take-in-Ok.ensures.resources)
+          (kept_in c.payloads.gathered.bodies.resources c.payloads.self c.payload.new.self (seen c.in-Ok-Some.payload) c.in-Ok.valid c.in-Ok.ensures.moves c.in-Ok.ensures.given c.payloads.invariant.6),
     )
 
 pub take-requires : goal.take-requires
 take-requires g c = record {
-  features = subst (λ features. IsGivenUnder features c.in-Ok.valid) c.payloads.invariant.5 (given_under c.payloads.self (seen c.in-Ok-Some.payload) c.in-Ok.valid c.in-Ok.ensures.given);
+  given = subst (λ features. IsGivenIn features c.payloads.gathered.bodies.resources c.in-Ok.valid) c.payloads.invariant.5
+      (given_in c.payloads.gathered.bodies.resources c.payloads.self (seen c.in-Ok-Some.payload) c.in-Ok.valid c.in-Ok.ensures.given c.payloads.invariant.6);
 }
 
 pub returns-in_err-take-in-Ok-clause-validates : goal.returns-in_err-take-in-Ok-clause-validates
