@@ -1,5 +1,5 @@
 -- Bodies that are validated one after another.
-use Rattle.std.proofs.Common.{◌≡◌, refl, sym, ap, subst, ◌∙◌, inl, inr, ℕ, ◌≤◌, length, slice_get, map, List, [], ◌∷◌, ◌++◌, All, Option, Some, None, arith}
+use Rattle.std.proofs.Common.{◌≡◌, refl, sym, ap, subst, ◌∙◌, inl, inr, ℕ, ◌≤◌, length, map, List, [], ◌∷◌, ◌++◌, All, Some, None, arith}
 use Rattle.std.proofs.lemmas.List.{map-append}
 use Rattle.wasm_rules.specs.Contexts.{Context}
 use Rattle.wasm_readers_types.specs.declared.indices.UnpackedIndex.{UnpackedIndex}
@@ -12,7 +12,7 @@ use Rattle.wasm_validator_func.specs.Functions.{Refuses, StandsInOrFirst}
 use Rattle.wasm_validator_type_list.proofs.Grouped.{all-right}
 use Rattle.wasm_validator_core.specs.declared.error.Error as whole
 use Rattle.wasm_validator_core.specs.Errors.{lifted}
-use Rattle.wasm_validator_modules.specs.SectionsTold.{StandsBetween}
+use Rattle.wasm_validator_sections.specs.SectionsTold.{StandsBetween}
 use Rattle.wasm_readers_errors.specs.declared.features.WasmFeatures.{WasmFeatures}
 use Rattle.wasm_validator_modules.specs.States.{BodyToValidate}
 use Rattle.wasm_validator_modules.specs.Payloads.{body_seen, bodies_seen, pending_seen, pending_in, EndsBy, AllEndBy, GivenEndBy, StandsBy, IsBodyOfIts}

@@ -34,11 +34,12 @@ use Rattle.wasm_validator_module_state.specs.Sections.{read_section}
 use Rattle.wasm_validator_module_state.specs.Entries.{is_constant_of, is_constant_or_none, are_items, may_be_placed, may_be_stored, listed_items_type, add_table_entry, add_global_entry, add_element, add_data}
 use Rattle.wasm_module_list_laws.specs.Maps.{map_table_entry, map_global_entry, map_items, map_element}
 use Rattle.wasm_module_list_laws.specs.Reading.{EntriesAreRenamed}
-use Rattle.wasm_validator_modules.specs.Standing.{Noted, naming, Standing}
+use Rattle.wasm_validator_sections.specs.Noted.{Noted, naming}
+use Rattle.wasm_validator_modules.specs.Standing.{Standing}
 use Rattle.wasm_referenced_functions.specs.References.{names_of_tables, names_of_globals, names_of_elements}
 use Rattle.wasm_validator_modules.specs.States.{after_section}
 use Rattle.wasm_validator_modules.specs.SectionLaws.{AddsEach, HasAddedEach, FitsTable, FitsGlobal, FitsElement, FitsData, TablesAdd, GlobalsAdd, ElementsAdd, SegmentsAdd}
-use Rattle.wasm_validator_modules.proofs.SectionLists.{Renames, limited, section_entries, renames_nothing, same_item}
+use Rattle.wasm_validator_sections.proofs.SectionEntries.{Renames, limited, section_entries, renames_nothing, same_item}
 use Rattle.wasm_validator_modules.proofs.SectionLaws.{moved, moved_from, moved_to, at_module}
 
 -- Items are added under a test that decides their rule, where what is kept leaves room for so many more of them.

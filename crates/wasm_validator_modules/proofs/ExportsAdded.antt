@@ -12,10 +12,11 @@ use Rattle.wasm_validator_core_laws.specs.Exports.{with_exports}
 use Rattle.wasm_validator_core_laws.proofs.AddedExports.{exports_are_added_behind}
 use Rattle.wasm_validator_core_laws.proofs.AddedItems.{each_changed}
 use Rattle.wasm_validator_module_state.specs.Sections.{read_section}
-use Rattle.wasm_validator_modules.specs.Standing.{naming, in_module}
+use Rattle.wasm_validator_sections.specs.Noted.{naming}
+use Rattle.wasm_validator_modules.specs.Standing.{in_module}
 use Rattle.wasm_referenced_functions.specs.References.{names_of_exports}
 use Rattle.wasm_validator_modules.specs.SectionLaws.{ExportsAdd}
-use Rattle.wasm_validator_modules.proofs.SectionLists.{limited, section_entries, renames_nothing, same_item}
+use Rattle.wasm_validator_sections.proofs.SectionEntries.{limited, section_entries, renames_nothing, same_item}
 use Rattle.wasm_validator_modules.proofs.SectionLaws.{moved_from, moved_to, at_module}
 
 pub exports_add : ExportsAdd

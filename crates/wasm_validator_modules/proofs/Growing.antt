@@ -1,30 +1,28 @@
 -- What holds of a list of types and of each front of it goes back over steps: a list of types only grows.
 use Rattle.std.proofs.Common.{◌≡◌, refl, sym, ap, subst, ◌∙◌, ℕ, ◌+◌, Bool, true, false, ◌&&◌, cond, eqb, leb, List, [], ◌∷◌, ◌++◌, length, Option, Some, None}
-use Rattle.std.specs.Option.{option_map}
 use Rattle.std.proofs.lemmas.Option.{none-some, same_Some}
-use Rattle.wasm_spec.specs.Syntax.{Rec}
 use Rattle.wasm_spec.specs.BinaryTypes.{rec_at}
 use Rattle.wasm_rules.specs.FeatureFlags.{features_of}
-use Rattle.wasm_rules.proofs.Tests.{guarded, map_some, then_some}
+use Rattle.wasm_rules.proofs.Tests.{guarded, then_some}
 use Rattle.wasm_spec.specs.Framing as parts
 use Rattle.wasm_spec.specs.Framing.{Piece, Version, Custom, Counted, Start, DataCount, CodeStart, CodeEntry, Unknown}
 use Rattle.wasm_readers.specs.Written.{written}
 use Rattle.wasm_readers_errors.specs.declared.features.WasmFeatures.{WasmFeatures}
-use Rattle.wasm_readers_types.specs.declared.indices.UnpackedIndex.{UnpackedIndex}
-use Rattle.wasm_validator_canonical.specs.Groups.{with_written}
-use Rattle.wasm_validator_canonical.proofs.Steps.{written_front}
 use Rattle.wasm_validator_types.specs.Spaces.{Spaces, no_spaces}
 use Rattle.wasm_validator_core.specs.declared.limits.TheConstants.{MAX_TYPES}
 use Rattle.wasm_validator_core.specs.Answers.{TypesSoFar}
-use Rattle.wasm_validator_core.specs.Machine.{with_ids, add_group}
+use Rattle.wasm_validator_core.specs.Machine.{add_group}
 use Rattle.wasm_validator_module_state.specs.Sections.{read_each}
-use Rattle.wasm_validator_modules.specs.Machine.{type_items, other_items, section_items, start_item, data_count_item, beside}
-use Rattle.wasm_validator_modules.specs.Standing.{Noted, nothing_noted, naming, counting, noting_nothing, Started, starting, taking, bodies_left, Stage, unparsed, in_module, in_code, ended, failed, Standing, HoldsAt, within, within_all, at_stage}
+use Rattle.wasm_validator_sections.specs.Machine.{type_items, other_items, section_items, start_item, data_count_item, beside}
+use Rattle.wasm_validator_sections.specs.Noted.{Noted, nothing_noted, naming, counting, noting_nothing}
+use Rattle.wasm_validator_sections.specs.Started.{Started, starting, taking, bodies_left}
+use Rattle.wasm_validator_modules.specs.Standing.{Stage, unparsed, in_module, in_code, ended, failed, Standing, HoldsAt, within, within_all, at_stage}
 use Rattle.wasm_validator_modules.specs.States.{begun, code_started, body_taken, module_ended, after_piece}
 use Rattle.wasm_referenced_functions.specs.References.{section_names}
 use Rattle.wasm_validator_module_state.specs.declared.code_state.TheConstants.{MAX_FUNCTION_SIZE}
 use Rattle.wasm_validator_modules.specs.Payloads.{after_all}
-use Rattle.wasm_validator_modules.proofs.ItemSteps.{read_back}
+use Rattle.wasm_validator_sections.proofs.GroupsGrow.{group_back}
+use Rattle.wasm_validator_sections.proofs.ItemSteps.{read_back}
 
 -- a step within a module
 pub within_some : (s t : Standing) (types : TypesSoFar) (spaces : Spaces) (more : Noted) (note : Noted → Noted) (f : TypesSoFar × Spaces → Option (TypesSoFar × Spaces)) → at_stage s (within note f (in_module types spaces more)) ≡ Some t
@@ -84,19 +82,11 @@ module _ (V : TypesSoFar → Type 0) (left : (us more : TypesSoFar) → V (us ++
     stays : (p q : TypesSoFar × Spaces) → p.0 ≡ q.0 → Over q → Over p
     stays p q e v = subst V (sym e) v
 
-    pub group_back : (p q : TypesSoFar × Spaces) (g : Rec UnpackedIndex) → add_group features p g ≡ Some q → Over q → Over p
-    group_back p q g e v =
-        let w = with_written (features_of features) p.0 p.1.types g in
-        let a = guarded (leb (length p.1.types + length g.types) MAX_TYPES) (option_map (with_ids p.1) w) q e in
-        let b = map_some (with_ids p.1) w q a.1 in
-        let front = written_front (features_of features) p.0 p.1.types g b.0 b.1 in
-        left p.0 front.0 (subst V (sym (ap (λ (x : TypesSoFar × Spaces). x.0) b.2) ∙ front.1) v)
-
     -- sections
     types_back : (n : ℕ) (bytes : List ℕ) (p q : TypesSoFar × Spaces) → type_items features n bytes p ≡ Some q → Over q → Over p
     types_back n bytes p q e v =
         let a = guarded (leb (length p.1.types + n) MAX_TYPES) (read_each (rec_at written) (add_group features) n bytes p) q e in
-        read_back (rec_at written) (add_group features) Over group_back n bytes p q a.1 v
+        read_back (rec_at written) (add_group features) Over (group_back V left features) n bytes p q a.1 v
 
     pub beside_back : (f : TypesSoFar → Spaces → Option Spaces) (p q : TypesSoFar × Spaces) → beside f p ≡ Some q → Over q → Over p
     beside_back f p q e v =

@@ -1,5 +1,5 @@
 -- The bodies of a module are all checked in one context: that with which its code has started.
-use Rattle.std.proofs.Common.{◌≡◌, refl, sym, ap, subst, ◌∙◌, ℕ, Bool, true, false, cond, eqb, List, [], ◌∷◌, Option, Some, None, slice_get}
+use Rattle.std.proofs.Common.{◌≡◌, sym, ap, subst, ◌∙◌, ℕ, Bool, true, false, cond, eqb, List, [], ◌∷◌, Option, Some, None, slice_get}
 use Rattle.std.specs.Prelude.{⊤}
 use Rattle.std.proofs.lemmas.Option.{none-some, same_Some}
 use Rattle.wasm_rules.specs.Contexts.{Context}
@@ -14,8 +14,9 @@ use Rattle.wasm_parser.specs.declared.function_body.FunctionBody.{FunctionBody}
 use Rattle.wasm_validator_types.specs.Spaces.{Spaces}
 use Rattle.wasm_validator_core.specs.Answers.{TypesSoFar}
 use Rattle.wasm_validator_func.specs.declared.func_validator.FuncToValidate.{FuncToValidate}
-use Rattle.wasm_validator_modules.specs.Machine.{section_items, start_item, data_count_item, beside}
-use Rattle.wasm_validator_modules.specs.Standing.{Noted, naming, counting, noting_nothing, Started, taking, Stage, unparsed, in_module, in_code, ended, failed, Standing, within, within_all, at_stage}
+use Rattle.wasm_validator_sections.specs.Machine.{section_items, start_item, data_count_item, beside}
+use Rattle.wasm_validator_sections.specs.Noted.{Noted, naming, counting, noting_nothing}
+use Rattle.wasm_validator_modules.specs.Standing.{Stage, unparsed, in_module, in_code, ended, failed, Standing, within, within_all, at_stage}
 use Rattle.wasm_validator_modules.specs.States.{BodyToValidate, begun, code_started, body_taken, module_ended, after_piece, next_function, body_with, body_at, handed}
 use Rattle.wasm_validator_modules.specs.Payloads.{body_seen, bodies_given, IsKept, IsGivenIn, kept_behind}
 use Rattle.wasm_validator_modules.specs.declared.payload.ValidPayload.{ValidPayload}

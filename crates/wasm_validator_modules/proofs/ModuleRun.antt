@@ -20,7 +20,7 @@ use Rattle.wasm_validator_types.specs.Spaces.{Spaces}
 use Rattle.wasm_validator_core.specs.declared.limits.TheConstants.{MAX_DATA_SEGMENTS}
 use Rattle.wasm_validator_core.specs.Items.{is_data_count}
 use Rattle.wasm_validator_core.specs.Answers.{TypesSoFar, HasValidTypes}
-use Rattle.wasm_validator_modules.specs.Machine.{tag_items, section_items, start_item, data_count_item, beside}
+use Rattle.wasm_validator_sections.specs.Machine.{tag_items, section_items, start_item, data_count_item, beside}
 use Rattle.wasm_validator_canonical.proofs.Canonical.{and_left, and_right}
 use Rattle.std.proofs.lemmas.Option.{same_Some}
 use Rattle.wasm_validator_modules.proofs.ValidTypes.{beside_back, section_back}

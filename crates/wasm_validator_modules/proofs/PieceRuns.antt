@@ -18,8 +18,10 @@ use Rattle.wasm_validator_types.specs.Spaces.{Spaces}
 use Rattle.wasm_validator_core.specs.Answers.{TypesSoFar}
 use Rattle.wasm_validator_module_state.specs.Bodies.{expected_bodies}
 use Rattle.wasm_validator_module_state.specs.declared.code_state.TheConstants.{MAX_FUNCTION_SIZE}
-use Rattle.wasm_validator_modules.specs.Machine.{section_items, start_item, data_count_item, beside}
-use Rattle.wasm_validator_modules.specs.Standing.{Noted, naming, counting, Started, starting, taking, bodies_left, Stage, Standing, in_module, in_code, ended, shown_at, within, within_all, at_stage}
+use Rattle.wasm_validator_sections.specs.Machine.{section_items, start_item, data_count_item, beside}
+use Rattle.wasm_validator_sections.specs.Noted.{Noted, naming, counting}
+use Rattle.wasm_validator_sections.specs.Started.{Started, starting, taking, bodies_left}
+use Rattle.wasm_validator_modules.specs.Standing.{Stage, Standing, in_module, in_code, ended, shown_at, within, within_all, at_stage}
 use Rattle.wasm_validator_modules.specs.States.{BodyToValidate, next_function, body_with, handed, after_piece}
 use Rattle.wasm_validator_modules.specs.Payloads.{after_all, handed_behind, all_handed}
 use Rattle.wasm_validator_modules.proofs.CodeOrder.{IsLate, InOrder, HasStarted}

@@ -6,7 +6,8 @@ use Rattle.wasm_parser.specs.Machine.{State, next_of}
 use Rattle.wasm_readers_errors.specs.declared.error.Refusal.{Refusal}
 use Rattle.wasm_validator_types.specs.Spaces.{Spaces}
 use Rattle.wasm_validator_core.specs.Answers.{TypesSoFar}
-use Rattle.wasm_validator_modules.specs.Standing.{Started, bodies_left, Stage, unparsed, in_module, in_code, ended, failed, Standing, HoldsAt, can_reset_at, may_reset, reset_at, after_reset, refused_at, read_refused_at, body_refused_at, ended_at}
+use Rattle.wasm_validator_sections.specs.Started.{Started, bodies_left}
+use Rattle.wasm_validator_modules.specs.Standing.{Stage, unparsed, in_module, in_code, ended, failed, Standing, HoldsAt, can_reset_at, may_reset, reset_at, after_reset, refused_at, read_refused_at, body_refused_at, ended_at}
 use Rattle.wasm_validator_modules.specs.States.{is_barred, left_by}
 use Rattle.wasm_validator_modules.specs.Payloads.{after_all, HasRefused, IsToldOfFormat}
 use Rattle.wasm_validator_modules.specs.Sequences.{KeepsTypes, RefusedKeepTypes}

@@ -51,11 +51,12 @@ use Rattle.wasm_module_list_laws.specs.Reading.{EntriesAreRenamed}
 use Rattle.wasm_distinct_type_laws.specs.Apart.{AreApart}
 use Rattle.wasm_module_list_laws.specs.Lists.{add_table_entries, add_global_entries, add_elements, add_segments, add_all_lists, up_to_tables, up_to_memories, up_to_tags, up_to_globals, up_to_exports, AreValidModuleLists}
 use Rattle.wasm_module_list_laws.specs.Laws.{AreTypedConstants}
-use Rattle.wasm_validator_modules.specs.Machine.{start_item, data_count_item, beside}
+use Rattle.wasm_validator_sections.specs.Machine.{start_item, data_count_item, beside}
 use Rattle.wasm_validator_modules.proofs.AddedTypes.{TypesAdded, section, type_space, list_after, ids, as_many_types, runs_to, ends_at}
-use Rattle.wasm_validator_modules.proofs.ItemSteps.{each_back}
+use Rattle.wasm_validator_sections.proofs.ItemSteps.{each_back}
 use Rattle.wasm_validator_modules.proofs.ModuleRun.{step, step_back, AreParts, by_sections, SectionOf, section_at, StartOf, start_at, DataCountOf, data_count_at, CodeStartOf, code_start_at, bodies_pass, ranked_items, ranked_starts, ranked_data_counts}
-use Rattle.wasm_validator_modules.proofs.SectionLists.{same_item, map_same, Renames, renames_nothing, ReadAdded, step_read, read_step, each_beside, beside_each, section_beside}
+use Rattle.wasm_validator_sections.proofs.SectionEntries.{same_item, map_same, Renames, renames_nothing}
+use Rattle.wasm_validator_modules.proofs.SectionLists.{ReadAdded, step_read, read_step, each_beside, beside_each, section_beside}
 use Rattle.wasm_validator_modules.proofs.UsedLaws.{UsedLaws}
 use Rattle.wasm_validator_modules.proofs.ValidRules.{AreSmall, KeepsOthers}
 

@@ -20,7 +20,7 @@ use Rattle.wasm_validator_core.specs.Answers.{IsNowhere}
 use Rattle.wasm_validator_modules.specs.Standing.{Stage, unparsed, in_module, in_code, ended, failed, Standing, at_stage, HoldsValid, Leaves}
 use Rattle.wasm_validator_modules.specs.States.{after_piece, BodyToValidate, body_taken, body_at, handed, IsBeforeEnd, left_by}
 use Rattle.wasm_validator_modules.specs.Payloads.{ShowsModule, Show, IsFunction, body_seen, bodies_given, latest_of, after_all, handed_behind, all_handed, Runs, Rejects, HasTaken, IsToldOfFormat, IsLeft, IsBehindCode, IsOutOfMemory, TellsFormat, Validates}
-use Rattle.wasm_validator_modules.specs.SectionsTold.{StandsBetween}
+use Rattle.wasm_validator_sections.specs.SectionsTold.{StandsBetween}
 use Rattle.wasm_validator_modules.proofs.Growing.{body_some}
 use Rattle.wasm_readers_errors.specs.declared.features.WasmFeatures.{WasmFeatures}
 use Rattle.std.proofs.lemmas.Option.{same_Some}

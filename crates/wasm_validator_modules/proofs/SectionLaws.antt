@@ -25,12 +25,13 @@ use Rattle.wasm_validator_core.specs.Answers.{TypesSoFar}
 use Rattle.wasm_validator_core.specs.Items.{add_function, add_memory, add_tag}
 use Rattle.wasm_validator_core_laws.proofs.AddedItems.{of_each, each_changed, IsStep, step_of, items_verdict}
 use Rattle.wasm_validator_module_state.specs.Sections.{read_section}
-use Rattle.wasm_validator_modules.specs.Machine.{section_items}
-use Rattle.wasm_validator_modules.specs.Standing.{Noted, Stage, Standing, in_module, at_stage}
+use Rattle.wasm_validator_sections.specs.Machine.{section_items}
+use Rattle.wasm_validator_sections.specs.Noted.{Noted}
+use Rattle.wasm_validator_modules.specs.Standing.{Stage, Standing, in_module, at_stage}
 use Rattle.wasm_validator_modules.specs.States.{within_by, after_section}
 use Rattle.wasm_referenced_functions.specs.References.{section_names}
 use Rattle.wasm_validator_modules.specs.SectionLaws.{HasAdded, FunctionsAdd, MemoriesAdd, TagsAdd}
-use Rattle.wasm_validator_modules.proofs.SectionLists.{Renames, limited, section_entries, renames_nothing, same_item}
+use Rattle.wasm_validator_sections.proofs.SectionEntries.{Renames, limited, section_entries, renames_nothing, same_item}
 
 -- items that are read and added behind lists
 module _ {V W : Type 0} (f : V → W) (reads : List ℕ → Option (V × List ℕ)) (renamed : List ℕ → Option (W × List ℕ)) (renames : Renames f reads renamed)

@@ -13,9 +13,11 @@ use Rattle.wasm_validator_core.specs.Answers.{TypesSoFar, IsNowhere, Adds, AddsW
 use Rattle.wasm_validator_modules.specs.declared.validator.State.{State}
 use Rattle.wasm_validator_modules.specs.declared.validator.State.TheVariants.{Module}
 use Rattle.wasm_validator_module_state.specs.declared.module_state.ModuleState.{ModuleState}
-use Rattle.wasm_validator_modules.specs.Standing.{Noted, Stage, in_module, Standing, HoldsValid, refused_at, read_refused_at, within, at_stage, Moves}
-use Rattle.wasm_validator_modules.specs.States.{noted_of, stage_of, state_kept, section_refused_at}
-use Rattle.wasm_validator_modules.proofs.ItemSteps.{none_nowhere}
+use Rattle.wasm_validator_sections.specs.Noted.{Noted}
+use Rattle.wasm_validator_modules.specs.Standing.{Stage, in_module, Standing, HoldsValid, refused_at, read_refused_at, within, at_stage, Moves}
+use Rattle.wasm_validator_sections.specs.Noted.{noted_of}
+use Rattle.wasm_validator_modules.specs.States.{stage_of, state_kept, section_refused_at}
+use Rattle.wasm_validator_sections.proofs.ItemSteps.{none_nowhere}
 use Rattle.wasm_validator_modules.proofs.Growing.{within_some}
 
 module _ (id : ℕ) (features : WasmFeatures) (types : TypesSoFar) (m : Spaces) (k : Noted) (note : Noted → Noted) where

@@ -20,7 +20,9 @@ use Rattle.wasm_spec.specs.BinarySections.{Data, data_at}
 use Rattle.wasm_spec.specs.Features.{Features}
 use Rattle.wasm_rules.specs.Parts.{Expression}
 use Rattle.wasm_validator_core.specs.Answers.{TypesSoFar}
-use Rattle.wasm_validator_modules.specs.Standing.{Noted, nothing_noted, naming, counting, noting_nothing, Started, starting, taking, bodies_left, Stage, unparsed, in_module, in_code, ended, failed, Standing, refused_at, read_refused_at, body_refused_at, ended_at, within, within_all, at_stage}
+use Rattle.wasm_validator_sections.specs.Noted.{Noted, nothing_noted, naming, counting, noting_nothing}
+use Rattle.wasm_validator_sections.specs.Started.{Started, starting, taking, bodies_left}
+use Rattle.wasm_validator_modules.specs.Standing.{Stage, unparsed, in_module, in_code, ended, failed, Standing, refused_at, read_refused_at, body_refused_at, ended_at, within, within_all, at_stage}
 use Rattle.wasm_validator_modules.specs.States.{begun, code_started, body_taken, module_ended, after_piece, is_barred}
 use Rattle.wasm_referenced_functions.specs.References.{section_names}
 use Rattle.wasm_validator_modules.proofs.Growing.{body_some}
@@ -28,8 +30,8 @@ use Rattle.wasm_validator_module_state.specs.Sections.{read_each, read_section}
 use Rattle.wasm_validator_module_state.specs.Entries.{may_be_stored, add_data}
 use Rattle.wasm_context_laws.specs.ListedTypes.{types_declare}
 use Rattle.wasm_module_validity.specs.Expressions.{expression_at}
-use Rattle.wasm_validator_modules.specs.Machine.{data_items, section_items, start_item, data_count_item, beside}
-use Rattle.wasm_validator_modules.proofs.ItemSteps.{read_back}
+use Rattle.wasm_validator_sections.specs.Machine.{data_items, section_items, start_item, data_count_item, beside}
+use Rattle.wasm_validator_sections.proofs.ItemSteps.{read_back}
 use Rattle.wasm_validator_modules.specs.Table.{phase_of, bodies_at, call_of, AcceptedByTable, RefusedByTable}
 
 stays : (s t : Standing) (k : Noted) (o : Option (TypesSoFar × Spaces)) → at_stage s (option_and_then (λ (p : TypesSoFar × Spaces). Some (in_module p.0 p.1 k)) o) ≡ Some t → phase_of t.stage ≡ table.in_module

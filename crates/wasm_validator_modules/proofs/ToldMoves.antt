@@ -13,9 +13,12 @@ use Rattle.wasm_validator_core.specs.declared.error.Error.TheVariants.{Refused}
 use Rattle.wasm_validator_core.specs.Answers.{TypesSoFar}
 use Rattle.wasm_validator_modules.specs.declared.validator.State.{State}
 use Rattle.wasm_validator_modules.specs.declared.validator.State.TheVariants.{Unparsed, Module, Code, End, Failed}
-use Rattle.wasm_validator_modules.specs.Standing.{Noted, in_module, Standing}
-use Rattle.wasm_validator_modules.specs.States.{open_of, noted_of, stage_of, order_at}
-use Rattle.wasm_validator_modules.specs.SectionsTold.{OfContent, TellsAt, TellsWithin}
+use Rattle.wasm_validator_sections.specs.Noted.{Noted}
+use Rattle.wasm_validator_modules.specs.Standing.{in_module, Standing}
+use Rattle.wasm_validator_sections.specs.Noted.{noted_of}
+use Rattle.wasm_validator_modules.specs.States.{open_of, stage_of, order_at}
+use Rattle.wasm_validator_modules.specs.OrderTold.{TellsWithin}
+use Rattle.wasm_validator_sections.specs.SectionsTold.{OfContent, TellsAt}
 
 -- a module is being read, before the start of its code
 open_stage : {A : Type 0} (types : TypesSoFar) (s : State A) (m : Spaces) → open_of s ≡ Some m → (k : Noted) × (stage_of types s ≡ in_module types m k)

@@ -29,15 +29,16 @@ use Rattle.wasm_validator_types.specs.Spaces.{Spaces}
 use Rattle.wasm_validator_core.specs.Answers.{TypesSoFar}
 use Rattle.wasm_validator_core.specs.Machine.{with_ids, add_group}
 use Rattle.wasm_validator_core_laws.proofs.AddedItems.{each_changed}
-use Rattle.wasm_validator_modules.specs.Machine.{type_items}
-use Rattle.wasm_validator_modules.specs.Standing.{Noted, naming, Stage, Standing, in_module, HoldsAt, HoldsValid, within, at_stage}
+use Rattle.wasm_validator_sections.specs.Machine.{type_items}
+use Rattle.wasm_validator_sections.specs.Noted.{Noted, naming}
+use Rattle.wasm_validator_modules.specs.Standing.{Stage, Standing, in_module, HoldsAt, HoldsValid, within, at_stage}
 use Rattle.wasm_validator_modules.specs.SectionLaws.{TypesHeld, FitsGroup, held_with, with_group, AddsGroups, TypesAdd}
 use Rattle.wasm_validator_modules.proofs.AddedTypes.{as_many_zipped, one_group, one_ends}
 use Rattle.wasm_validator_modules.proofs.Growing.{within_some}
-use Rattle.wasm_validator_modules.proofs.ItemSteps.{each_back}
+use Rattle.wasm_validator_sections.proofs.ItemSteps.{each_back}
 use Rattle.wasm_validator_modules.proofs.SectionLaws.{at_module}
-use Rattle.wasm_validator_modules.proofs.SectionLists.{limited, section_entries}
-use Rattle.wasm_validator_modules.proofs.ValidTypes.{group_back}
+use Rattle.wasm_validator_sections.proofs.SectionEntries.{limited, section_entries}
+use Rattle.wasm_validator_sections.proofs.GroupsGrow.{valid_back}
 
 module _ (features : WasmFeatures) (m : Spaces) where
   abbrev F : Features
@@ -105,7 +106,7 @@ module _ (features : WasmFeatures) (m : Spaces) where
   groups_from [] h s q e v = record { held = h; added = refl; is = same_Some (at h) q e; stand = s.stand }
   groups_from (g ∷ gs) h s q e v =
       let a = then_some (λ t. each add t gs) (add (at h) g) q e in
-      let before = each_back add (λ (p : State). AreValid F p.0) (λ x y w c d. group_back features x y (map_rec written w) c d) gs a.0 q a.2 v in
+      let before = each_back add (λ (p : State). AreValid F p.0) (λ x y w c d. valid_back features x y (map_rec written w) c d) gs a.0 q a.2 v in
       let b = group_from h s g a.0 a.1 before in
       let c = groups_from gs (with_group F h g b.fits.tree) (sound_with h g b.fits s) q (ap (λ t. each add t gs) b.is ∙ a.2) v in
       record { held = c.held; added = (b.fits, c.added); is = c.is; stand = c.stand }

@@ -1,32 +1,20 @@
 -- Where the types of all modules are valid after a step, they were before it.
 use Rattle.std.proofs.Common.{◌≡◌, sym, ap, subst, ℕ, List, ◌++◌, Option, Some}
-use Rattle.wasm_spec.specs.Features.{Features}
-use Rattle.wasm_spec.specs.Syntax.{Rec}
-use Rattle.wasm_spec.specs.GroupRules.{IsValidType}
-use Rattle.wasm_spec.specs.Trees.{declared}
 use Rattle.wasm_rules.specs.FeatureFlags.{features_of}
 use Rattle.wasm_spec.specs.Framing.{Piece}
 use Rattle.wasm_readers_errors.specs.declared.features.WasmFeatures.{WasmFeatures}
-use Rattle.wasm_readers_types.specs.declared.indices.UnpackedIndex.{UnpackedIndex}
-use Rattle.wasm_validator_type_list.proofs.Grouped.{all-left}
 use Rattle.wasm_validator_canonical.specs.Groups.{AreValid}
 use Rattle.wasm_validator_types.specs.Spaces.{Spaces}
 use Rattle.wasm_validator_core.specs.Answers.{TypesSoFar, HasValidTypes}
-use Rattle.wasm_validator_core.specs.Machine.{add_group}
-use Rattle.wasm_validator_modules.specs.Machine.{section_items, beside}
+use Rattle.wasm_validator_sections.specs.Machine.{section_items, beside}
 use Rattle.wasm_validator_modules.specs.Standing.{Standing, HoldsAt, HoldsValid}
 use Rattle.wasm_validator_modules.specs.Payloads.{after_all}
+use Rattle.wasm_validator_sections.proofs.GroupsGrow.{fronts_valid}
 use Rattle.wasm_validator_modules.proofs.Growing as growing
-
-fronts_valid : (F : Features) (us more : TypesSoFar) → AreValid F (us ++ more) → AreValid F us
-fronts_valid F us more v = all-left (IsValidType F declared) us more v
 
 module _ (features : WasmFeatures) where
   abbrev V : TypesSoFar → Type 0
   V = AreValid (features_of features)
-
-  pub group_back : (p q : TypesSoFar × Spaces) (g : Rec UnpackedIndex) → add_group features p g ≡ Some q → HasValidTypes features q → HasValidTypes features p
-  group_back p q g e v = growing.group_back V (fronts_valid (features_of features)) features p q g e v
 
   pub beside_back : (f : TypesSoFar → Spaces → Option Spaces) (p q : TypesSoFar × Spaces) → beside f p ≡ Some q → HasValidTypes features q → HasValidTypes features p
   beside_back f p q e v = growing.beside_back V (fronts_valid (features_of features)) features f p q e v

@@ -26,7 +26,9 @@ use Rattle.wasm_validator_canonical.specs.Groups.{AreValid}
 use Rattle.wasm_validator_canonical.proofs.Steps.{all_written_at_most}
 use Rattle.wasm_validator_core.specs.Answers.{TypesSoFar, HasValidTypes}
 use Rattle.wasm_distinct_type_laws.specs.Apart.{AreApart}
-use Rattle.wasm_validator_modules.specs.Standing.{nothing_noted, starting, Stage, Standing, unparsed, in_module, in_code, ended, failed, fresh, shown_at, HoldsAt, AreValidAt, HoldsValid}
+use Rattle.wasm_validator_sections.specs.Noted.{nothing_noted}
+use Rattle.wasm_validator_sections.specs.Started.{starting}
+use Rattle.wasm_validator_modules.specs.Standing.{Stage, Standing, unparsed, in_module, in_code, ended, failed, fresh, shown_at, HoldsAt, AreValidAt, HoldsValid}
 use Rattle.wasm_validator_modules.specs.States.{after_piece, after_version, BodyToValidate, handed, IsBeforeEnd}
 use Rattle.wasm_validator_modules.specs.Payloads.{Show, after_all, handed_behind, all_handed, Accepts, Rejects, IsBodyOfIts, IsBehindCode, Runs, Validates}
 use Rattle.wasm_validator_modules.specs.Shows.{ShowModule}

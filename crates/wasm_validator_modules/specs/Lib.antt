@@ -1,9 +1,8 @@
 pub mod Standing
 pub mod Codes
-pub mod Machine
 pub mod Shows
 pub mod Ready
-pub mod SectionsTold
+pub mod OrderTold
 pub mod States
 pub mod Payloads
 pub mod Verdict

@@ -36,7 +36,7 @@ use Rattle.wasm_validator_canonical.specs.Groups.{AreValid}
 use Rattle.wasm_validator_core.specs.Answers.{IsNowhere}
 use Rattle.wasm_validator_modules.specs.Standing.{Stage, unparsed, in_module, in_code, ended, Standing, shown_at, failed, body_refused_at, HoldsValid}
 use Rattle.wasm_validator_modules.specs.States.{IsBeforeEnd, body_taken, BodyToValidate, body_at, handed, after_piece, left_by}
-use Rattle.wasm_validator_modules.specs.SectionsTold.{body_told}
+use Rattle.wasm_validator_modules.specs.OrderTold.{body_told}
 use Rattle.wasm_readers_errors.specs.declared.features.WasmFeatures.{WasmFeatures}
 
 -- The types show what the validator held, in a list where equal types are one if the features ask for it; then no

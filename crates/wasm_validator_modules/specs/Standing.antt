@@ -1,57 +1,17 @@
 -- Where a validator stands, and the words for calls that move it.
-use Rattle.std.specs.Prelude.{ℕ, suc, ◌≡◌, ◌-◌, ◌==◌, if◌then◌else◌, Bool, true, false, List, [], Option, Some, None, ⊤}
+use Rattle.std.specs.Prelude.{ℕ, ◌≡◌, ◌==◌, if◌then◌else◌, Bool, true, false, [], Option, Some, None, ⊤}
 use Rattle.std.specs.Option.{option_and_then}
 use Rattle.std.specs.declared.result.Result.{Result}
 use Rattle.std.specs.declared.result.Result.TheVariants.{Ok, Err}
 use Rattle.wasm_readers_errors.specs.declared.features.WasmFeatures.{WasmFeatures}
-use Rattle.wasm_rules.specs.Contexts.{Context}
-use Rattle.wasm_readers_types.specs.declared.indices.UnpackedIndex.{UnpackedIndex}
-use Rattle.wasm_referenced_functions.specs.References.{marked}
-use Rattle.wasm_validator_core_resources.specs.ModuleContexts.{flagged_from}
-use Rattle.wasm_module_list_laws.specs.BodyContexts.{code_context}
 use Rattle.wasm_validator_types.specs.Spaces.{Spaces}
 use Rattle.wasm_validator_core.specs.declared.error.Error.{Error}
 use Rattle.wasm_validator_core.specs.declared.error.Error.TheVariants.{Refused, DuplicateExport, OutOfMemory}
 use Rattle.wasm_rules.specs.FeatureFlags.{features_of}
 use Rattle.wasm_validator_canonical.specs.Groups.{AreValid}
 use Rattle.wasm_validator_core.specs.Answers.{TypesSoFar, IsNowhere}
-use Rattle.wasm_validator_module_state.specs.Bodies.{expected_bodies}
-
--- What is noted of a module while its sections are read, beside its lists: the number of data segments that it is to have, if that is
--- written, and which functions count as referenced, by a flag at the function's index.
-pub record Noted : Type 0 where
-  pub data_count : Option ℕ
-  pub referenced : List Bool
-
-abbrev pub nothing_noted : Noted
-nothing_noted = record { data_count = None; referenced = [] }
-
--- some more functions count as referenced; and another data count is written
-abbrev pub naming : List ℕ → Noted → Noted
-naming xs n = record n { referenced = marked xs n.referenced }
-
-abbrev pub counting : ℕ → Noted → Noted
-counting count n = record n { data_count = Some count }
-
--- nothing more is noted
-abbrev pub noting_nothing : Noted → Noted
-noting_nothing n = n
-
--- What bodies are checked in once the code section has started, and how many of them were taken.
-pub record Started : Type 0 where
-  pub context : Context UnpackedIndex
-  pub taken : ℕ
-
--- the start of the code of a module with these lists, where these are the types of all modules
-abbrev pub starting : TypesSoFar → Spaces → Noted → Started
-starting us s n = record { context = code_context us s n.data_count (flagged_from 0 n.referenced); taken = 0 }
-
--- one body more was taken, and so many are to come
-abbrev pub taking : Started → Started
-taking c = record c { taken = suc c.taken }
-
-abbrev pub bodies_left : Spaces → Started → ℕ
-bodies_left s c = expected_bodies s - c.taken
+use Rattle.wasm_validator_sections.specs.Noted.{Noted}
+use Rattle.wasm_validator_sections.specs.Started.{Started, bodies_left}
 
 -- The stages of a validator: no header has been read, a module is being read, its code section has started, one has
 -- ended, or one was refused. A validator that has failed shows nothing of what it held.

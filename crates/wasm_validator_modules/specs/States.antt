@@ -18,24 +18,18 @@ use Rattle.wasm_rules.specs.Contexts.{Context}
 use Rattle.wasm_readers_types.specs.declared.indices.UnpackedIndex.{UnpackedIndex}
 use Rattle.wasm_referenced_functions.specs.References.{section_names}
 use Rattle.wasm_validator_module_state.specs.declared.module_state.ModuleState.{ModuleState}
-use Rattle.wasm_validator_module_state.specs.declared.code_state.CodeState.{CodeState}
 use Rattle.wasm_validator_module_state.specs.declared.code_state.TheConstants.{MAX_FUNCTION_SIZE}
 use Rattle.wasm_validator_modules.specs.declared.validator.EndedSpaces.{EndedSpaces}
 use Rattle.wasm_validator_modules.specs.declared.validator.EndedSpaces.TheVariants.{Owned, Shared}
 use Rattle.wasm_validator_modules.specs.declared.validator.State.TheVariants.{Unparsed, Module, Code, End, Failed}
 use Rattle.wasm_validator_modules.specs.declared.validator.Validator.TheInside.{Inside}
 use Rattle.wasm_validator_core.specs.Answers.{TypesSoFar}
-use Rattle.wasm_validator_modules.specs.Standing.{Noted, nothing_noted, naming, counting, noting_nothing, Started, starting, taking, bodies_left, Stage, unparsed, in_module, in_code, ended, failed, Standing, ended_at, refused_at, read_refused_at, body_refused_at, within, within_all, at_stage}
-use Rattle.wasm_validator_modules.specs.Machine.{section_items, start_item, data_count_item, beside}
+use Rattle.wasm_validator_sections.specs.Noted.{nothing_noted, naming, counting, noting_nothing, noted_of}
+use Rattle.wasm_validator_sections.specs.Started.{Started, starting, taking, bodies_left, started_of}
+use Rattle.wasm_validator_modules.specs.Standing.{Stage, unparsed, in_module, in_code, ended, failed, Standing, ended_at, refused_at, read_refused_at, body_refused_at, within, within_all, at_stage}
+use Rattle.wasm_validator_sections.specs.Machine.{section_items, start_item, data_count_item, beside}
 
 module _ {A : Type 0} where
-  -- what is noted of a module, and what stands of its code
-  abbrev pub noted_of : ModuleState A → Noted
-  noted_of m = record { data_count = m.data_count; referenced = m.referenced }
-
-  abbrev pub started_of : CodeState A → Started
-  started_of c = record { context = c.resources; taken = c.taken }
-
   -- the module that is being read, before the start of its code
   abbrev pub open_of : State A → Option Spaces
   open_of (Module m) = Some m.«module»

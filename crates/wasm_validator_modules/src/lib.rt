@@ -6,7 +6,6 @@ ghost use Rattle.wasm_validator_modules.specs.Sequences.{OneIdForOneType, OwnIdF
 ghost use Rattle.wasm_validator_modules.specs.SectionLaws.{TypesAdd, ImportsAdd, FunctionsAdd, TablesAdd, MemoriesAdd, TagsAdd, GlobalsAdd, ExportsAdd, ElementsAdd, SegmentsAdd};
 ghost use Rattle.wasm_validator_modules.specs.Table.{AcceptedByTable, RefusedByTable};
 
-mod module_sections;
 pub mod payload;
 pub mod validator;
 

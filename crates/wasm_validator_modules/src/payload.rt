@@ -5,7 +5,7 @@ ghost use Rattle.std.specs.Option.{option_map};
 ghost use Rattle.wasm_parser.specs.Machine.{next_of};
 ghost use Rattle.wasm_parser.specs.Places.{starts_at, ends_at, input_end, refused_with, ReadsInput};
 ghost use Rattle.wasm_parser.specs.Seen.{seen, state};
-ghost use Rattle.wasm_validator_modules.specs.SectionsTold.{StandsBetween};
+ghost use Rattle.wasm_validator_sections.specs.SectionsTold.{StandsBetween};
 ghost use Rattle.wasm_validator_types.specs.Shown.{shown_of, HoldsIds};
 ghost use Rattle.wasm_validator_modules.specs.Standing.{Leaves};
 ghost use Rattle.wasm_validator_func.specs.Functions.{Decides, StandsInOrFirst};

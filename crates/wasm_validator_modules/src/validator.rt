@@ -1,5 +1,5 @@
 ghost use Rattle.wasm_readers_errors.specs.declared.features.TheConstants.WasmFeatures.{STANDARD};
-ghost use Rattle.std.specs.Prelude.{◌≡◌, List, ◌∷◌, ◌-◌, ◌==◌, not, nat_le, length, false, [], IfOk, IfErr, IfSome, IfNone, IsSome, IsErr, OnOk, OnErr, Some, None, true, is_ok, ◌↔◌, ◌+◌};
+ghost use Rattle.std.specs.Prelude.{◌≡◌, List, ◌∷◌, ◌-◌, not, [], IfOk, IfErr, IfSome, IfNone, IsSome, IsErr, OnOk, OnErr, Some, None, true, is_ok, ◌↔◌, ◌+◌};
 ghost use Rattle.wasm_validator_core.specs.Errors.{IsContent, offset_of};
 ghost use Rattle.wasm_binary_reader.specs.Reader.{original, position_in};
 ghost use Rattle.wasm_readers_errors.specs.Refusals.{plain};
@@ -7,9 +7,6 @@ ghost use Rattle.wasm_rules.specs.FeatureFlags.{features_of};
 ghost use Rattle.wasm_readers.specs.SectionsSeen.{count_of, bytes_of, section_start, section_end};
 ghost use Rattle.wasm_parser.specs.Seen.{body_of, body_reader};
 ghost use Rattle.wasm_validator_core.specs.Answers.{TypesSoFar};
-ghost use Rattle.wasm_validator_core.specs.Ready.{AreHeld};
-ghost use Rattle.wasm_validator_core_resources.specs.ById.{AreFirstByIds};
-ghost use Rattle.wasm_validator_module_state.specs.Bodies.{expected_bodies};
 ghost use Rattle.wasm_validator_module_state.specs.declared.code_state.TheConstants.{MAX_FUNCTION_SIZE};
 ghost use Rattle.wasm_validator_type_list.specs.Interned.{AreOnce};
 ghost use Rattle.wasm_validator_type_list.specs.Listing.{Listing, committed};
@@ -18,15 +15,12 @@ ghost use Rattle.wasm_validator_modules.specs.Ready.{AreIdsIn, AreValidIn, AreFi
 ghost use Rattle.wasm_validator_type_list.specs.DefTypes.{types_of_list};
 ghost use Rattle.wasm_validator_types.specs.Shown.{shown_of, shown_by, HoldsIds};
 ghost use Rattle.wasm_validator_modules.specs.Payloads.{Show, body_seen, TakesBody};
-ghost use Rattle.wasm_validator_modules.specs.Standing.{starting, taking, HoldsValid, Leaves, Moves, read_refused_at, body_refused_at, ended_at, fresh, is_failed, may_reset, after_reset, shown_at};
+ghost use Rattle.wasm_validator_modules.specs.Standing.{HoldsValid, Leaves, Moves, read_refused_at, body_refused_at, ended_at, fresh, is_failed, may_reset, after_reset, shown_at};
 ghost use Rattle.wasm_validator_modules.specs.Verdict.{StandsApart};
-ghost use Rattle.wasm_validator_modules.specs.SectionsTold.{OfContent, StandsBetween, TellsWithin, TellsReading, TellsOrder, TellsTypes, TellsImports, TellsExports, TellsFunctions, TellsTables, TellsMemories, TellsTagSection, TellsGlobals, TellsElements, TellsData, TellsStart, TellsDataCount, header_told, body_told, end_order_told};
-ghost use Rattle.wasm_validator_modules.specs.States.{open_of, noted_of, started_of, read_of, ended_spaces, stage_of, order_at, end_order_at, body_order_at, state_kept, is_module, after_version, after_section, section_refused_at, after_start, after_data_count, after_code_start, body_at, after_body, after_end};
+ghost use Rattle.wasm_validator_modules.specs.OrderTold.{TellsWithin, TellsReading, TellsOrder, TellsTagSection, TellsStart, TellsDataCount, header_told, body_told, end_order_told};
+ghost use Rattle.wasm_validator_sections.specs.SectionsTold.{OfContent, StandsBetween, TellsTypes, TellsImports, TellsExports, TellsFunctions, TellsTables, TellsMemories, TellsGlobals, TellsElements, TellsData};
+ghost use Rattle.wasm_validator_modules.specs.States.{open_of, read_of, ended_spaces, stage_of, order_at, end_order_at, body_order_at, state_kept, is_module, after_version, after_section, section_refused_at, after_start, after_data_count, after_code_start, body_at, after_body, after_end};
 
-use crate::module_sections::{
-    add_functions, add_imports, add_memories, add_tags, add_types, check_data_segments,
-    take_elements, take_exports, take_globals, take_tables,
-};
 use bitflags::Flags;
 use std::alloc::{AllocError, Allocator, Global};
 use std::marker::Model;
@@ -36,16 +30,18 @@ use std::rc::Rc;
 use wasm_distinct_type_laws::types_are_apart;
 use wasm_parser::{Encoding, FunctionBody};
 use wasm_readers::{
-    Counted, Data, Element, Export, Fault, Global as GlobalItem, Import, MemoryType, OutOfOrder,
-    RecGroup, Refusal, Rule, SectionLimited, Table, TagType, WasmFeatures,
+    Data, Element, Export, Fault, Global as GlobalItem, Import, MemoryType, OutOfOrder, RecGroup,
+    Refusal, Rule, SectionLimited, Table, TagType, WasmFeatures,
 };
 use wasm_validator_canonical::needs_type_canonicalization;
-use wasm_validator_core::{Error, Module, check_data_count, check_max};
+use wasm_validator_core::{Error, Module, check_data_count};
 use wasm_validator_func::FuncToValidate;
-use wasm_validator_module_state::{
-    CodeState, Constants, MAX_FUNCTION_SIZE, ModuleState, tells_types_apart,
-};
+use wasm_validator_module_state::{CodeState, Constants, ModuleState, tells_types_apart};
 use wasm_validator_resources::ValidatorResources;
+use wasm_validator_sections::{
+    add_functions, add_imports, add_memories, add_tags, add_types, check_data_segments, handed_out,
+    started, take_elements, take_exports, take_globals, take_tables,
+};
 use wasm_validator_types::{IndexSpaces, TypeList, Types, TypesRef, ValidatorId};
 
 /// What a validator is doing.
@@ -184,46 +180,6 @@ fn body_out_of_order<A: Allocator>(state: &State<A>) -> OutOfOrder
     }
 }
 
-/// Hands out the next function of a module, whose body these bytes are, and takes the body.
-fn handed_out<A: Allocator + Copy>(
-    code: CodeState<A>,
-    index: u32,
-    ty: u32,
-    features: WasmFeatures,
-    body: &FunctionBody<'_>,
-) -> Result<(CodeState<A>, FuncToValidate<ValidatorResources<A>>), Error<A>>
-    requires { not (expected_bodies code.spaces.value - code.taken == 0) ≡ true }
-    ensures small { IfOk result (λ x. nat_le (length (body_of body.now)) MAX_FUNCTION_SIZE
-        ≡ true) }
-    ensures spaces { IfOk result (λ x. x.0.spaces ≡ code.spaces) }
-    ensures started { IfOk result (λ x. started_of x.0 ≡ taking (started_of code)) }
-    ensures function { IfOk result (λ x. x.1 ≡ record {
-      resources = code.resources;
-      index = index;
-      ty = ty;
-      features = features;
-    }) }
-    ensures refused { IfErr result (OfContent (λ e.
-        (nat_le (length (body_of body.now)) MAX_FUNCTION_SIZE ≡ false) × (e ≡ Error.Refused
-        (plain (Fault.Limit Counted.FunctionBodySize MAX_FUNCTION_SIZE)
-        (original (body_reader body.now) + position_in (body_reader body.now)))))) }
-{
-    check_max(
-        0,
-        body.as_bytes().len(),
-        MAX_FUNCTION_SIZE,
-        Counted::FunctionBodySize,
-        body.range().start,
-    )?;
-    let function = FuncToValidate {
-        resources: code.resources.clone()?,
-        index,
-        ty,
-        features,
-    };
-    Ok((code.with_body(), function))
-}
-
 /// Takes one body more, where one is to come. Where it is too long, or memory is refused, the
 /// validator has failed.
 fn taken<A: Allocator + Copy>(
@@ -326,42 +282,6 @@ fn finished<A: Allocator + Copy>(
     let list = types.commit()?;
     let spaces = shared(alloc, ended)?;
     Ok(Types::new(id, features, list, spaces))
-}
-
-/// The start of the code of a module: its lists are shared from now on, and what bodies look up is
-/// made of them.
-fn started<A: Allocator + Copy>(
-    alloc: A,
-    types: &mut TypeList<A>,
-    constants: &mut Constants<A>,
-    state: ModuleState<A>,
-) -> Result<CodeState<A>, AllocError>
-    requires held { AreHeld types.old state.«module».types }
-    requires first { AreFirstByIds types.old.groups constants.old.types }
-    ensures same { types.new ≡ types.old }
-    ensures first { OnOk result (AreFirstByIds types.old.groups constants.new.types) }
-    ensures spaces { IfOk result (λ c. c.spaces.value ≡ state.«module») }
-    ensures begun { IfOk result (λ c. started_of c
-        ≡ starting (types_of_list types.old) state.«module» (noted_of state)) }
-{
-    tells_types_apart(types);
-    let listed = types.commit()?;
-    let by_ids = constants.committed(&listed)?;
-    let ModuleState {
-        module,
-        data_count,
-        referenced,
-    } = state;
-    let spaces = Rc::new(alloc, module.into_spaces())?;
-    let resources = ValidatorResources::new(
-        alloc,
-        spaces.clone()?,
-        listed,
-        by_ids,
-        data_count,
-        referenced.into_flags(),
-    )?;
-    Ok(CodeState::new(spaces, resources))
 }
 
 impl<A: Allocator + Copy> Validator<A> {

@@ -9,11 +9,12 @@ use Rattle.wasm_validator_types.specs.Spaces.{Spaces}
 use Rattle.wasm_validator_core.specs.declared.error.Error.{Error}
 use Rattle.wasm_validator_core.specs.Answers.{TypesSoFar, HasValidTypes}
 use Rattle.wasm_validator_core.specs.Ready.{AreIdsOf}
-use Rattle.wasm_validator_modules.specs.Machine.{other_items, section_items}
+use Rattle.wasm_validator_sections.specs.Machine.{other_items, section_items}
 use Rattle.wasm_validator_modules.specs.Ready.{AreIdsIn, AreValidIn, AreFirstIn}
-use Rattle.wasm_validator_modules.specs.SectionsTold.{TellsGlobals}
+use Rattle.wasm_validator_sections.specs.SectionsTold.{TellsGlobals}
 use Rattle.wasm_referenced_functions.specs.References.{section_names}
-use Rattle.wasm_validator_modules.specs.Standing.{naming, Standing, Moves}
+use Rattle.wasm_validator_sections.specs.Noted.{naming}
+use Rattle.wasm_validator_modules.specs.Standing.{Standing, Moves}
 use Rattle.wasm_validator_modules.specs.States.{stage_of, after_section, order_at}
 use Rattle.wasm_validator_modules.proofs.SectionMoves.{adds_beside, section_moves}
 use Rattle.wasm_validator_modules.proofs.Sections.{open-ids, open-valid, open-first, kept-ids, kept-valid, kept-first}

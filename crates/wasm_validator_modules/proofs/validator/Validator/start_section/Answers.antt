@@ -8,7 +8,7 @@ use Rattle.wasm_validator_types.specs.Spaces.{Spaces}
 use Rattle.wasm_validator_core.specs.declared.error.Error.{Error}
 use Rattle.wasm_validator_core.specs.Answers.{TypesSoFar}
 use Rattle.wasm_validator_core.specs.Told.{told_of_start}
-use Rattle.wasm_validator_modules.specs.SectionsTold.{TellsStart}
+use Rattle.wasm_validator_modules.specs.OrderTold.{TellsStart}
 use Rattle.wasm_validator_modules.proofs.ToldMoves.{all_told_within, checked_told}
 use Rattle.wasm_validator_modules.proofs.validator.Validator.start_section.Goals as goal
 

@@ -1,0 +1,37 @@
+-- What holds of a list of types and of each front of it goes back over a group that is added to it.
+use Rattle.std.proofs.Common.{◌≡◌, sym, ap, subst, ◌∙◌, ◌+◌, leb, ◌++◌, length, Some}
+use Rattle.std.specs.Option.{option_map}
+use Rattle.wasm_spec.specs.Features.{Features}
+use Rattle.wasm_spec.specs.Syntax.{Rec}
+use Rattle.wasm_spec.specs.GroupRules.{IsValidType}
+use Rattle.wasm_spec.specs.Trees.{declared}
+use Rattle.wasm_rules.specs.FeatureFlags.{features_of}
+use Rattle.wasm_rules.proofs.Tests.{guarded, map_some}
+use Rattle.wasm_readers_errors.specs.declared.features.WasmFeatures.{WasmFeatures}
+use Rattle.wasm_readers_types.specs.declared.indices.UnpackedIndex.{UnpackedIndex}
+use Rattle.wasm_validator_type_list.proofs.Grouped.{all-left}
+use Rattle.wasm_validator_canonical.specs.Groups.{AreValid, with_written}
+use Rattle.wasm_validator_canonical.proofs.Steps.{written_front}
+use Rattle.wasm_validator_types.specs.Spaces.{Spaces}
+use Rattle.wasm_validator_core.specs.declared.limits.TheConstants.{MAX_TYPES}
+use Rattle.wasm_validator_core.specs.Answers.{TypesSoFar, HasValidTypes}
+use Rattle.wasm_validator_core.specs.Machine.{with_ids, add_group}
+
+module _ (V : TypesSoFar → Type 0) (left : (us more : TypesSoFar) → V (us ++ more) → V us) (features : WasmFeatures) where
+  abbrev Over : TypesSoFar × Spaces → Type 0
+  Over p = V p.0
+
+  pub group_back : (p q : TypesSoFar × Spaces) (g : Rec UnpackedIndex) → add_group features p g ≡ Some q → Over q → Over p
+  group_back p q g e v =
+      let w = with_written (features_of features) p.0 p.1.types g in
+      let a = guarded (leb (length p.1.types + length g.types) MAX_TYPES) (option_map (with_ids p.1) w) q e in
+      let b = map_some (with_ids p.1) w q a.1 in
+      let front = written_front (features_of features) p.0 p.1.types g b.0 b.1 in
+      left p.0 front.0 (subst V (sym (ap (λ (x : TypesSoFar × Spaces). x.0) b.2) ∙ front.1) v)
+
+-- so it is with types that are valid
+pub fronts_valid : (F : Features) (us more : TypesSoFar) → AreValid F (us ++ more) → AreValid F us
+fronts_valid F us more v = all-left (IsValidType F declared) us more v
+
+pub valid_back : (features : WasmFeatures) (p q : TypesSoFar × Spaces) (g : Rec UnpackedIndex) → add_group features p g ≡ Some q → HasValidTypes features q → HasValidTypes features p
+valid_back features p q g e v = group_back (AreValid (features_of features)) (fronts_valid (features_of features)) features p q g e v

@@ -1,0 +1,24 @@
+use Rattle.std.proofs.Common.{length}
+use Rattle.wasm_spec.specs.BinarySections.{table_entry_at}
+use Rattle.wasm_rules.specs.Limits.{most_tables}
+use Rattle.wasm_readers.specs.Written.{written}
+use Rattle.wasm_module_validity.specs.Expressions.{expression_at}
+use Rattle.wasm_context_laws.specs.ListedTypes.{types_declare}
+use Rattle.wasm_validator_module_state.specs.Entries.{add_table_entry}
+use Rattle.wasm_referenced_functions.specs.References.{table_names}
+use Rattle.wasm_readers.specs.SectionsSeen.{count_of, bytes_of}
+use Rattle.wasm_rules.specs.FeatureFlags.{features_of}
+use Rattle.wasm_validator_type_list.specs.DefTypes.{types_of_list}
+use Rattle.wasm_validator_sections.proofs.NotedNames.{has_items, names_marked}
+use Rattle.wasm_validator_sections.proofs.module_sections.take_tables.Goals as goal
+
+pub returns-in_ok-mark_tables-in-Ok-clause-noted : goal.returns-in_ok-mark_tables-in-Ok-clause-noted
+returns-in_ok-mark_tables-in-Ok-clause-noted g c =
+    let F = features_of c.args.features in
+    let us = types_of_list c.args.list.now in
+    let count = count_of c.args.section.now in
+    let bytes = bytes_of c.args.section.now in
+    let old = c.args.state.now in
+    let items = has_items (table_entry_at expression_at written) (add_table_entry F (types_declare us us) us) (length c.args.state.now.«module».tables) (most_tables F) count bytes old.«module» c.add_tables.new.opened c.in-Ok.ensures.added in
+    let flags = names_marked (table_entry_at expression_at written) table_names count bytes old.referenced c.mark_tables.new.referenced items c.in_ok-mark_tables-in-Ok.ensures.marked in
+    λ i. record { data_count = old.data_count; referenced = flags i }

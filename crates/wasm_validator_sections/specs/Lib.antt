@@ -1,0 +1,4 @@
+pub mod Machine
+pub mod SectionsTold
+pub mod Noted
+pub mod Started

@@ -1,0 +1,487 @@
+//! The items of a module's sections, one by one.
+
+ghost use Rattle.std.specs.Prelude.{◌≡◌, OnOk, IfErr, IsTrue};
+ghost use Rattle.wasm_rules.specs.FeatureFlags.{features_of};
+ghost use Rattle.wasm_readers.specs.SectionsSeen.{count_of, bytes_of, section_start, section_end};
+ghost use Rattle.wasm_referenced_functions.specs.References.{names_of_tables, names_of_globals, names_of_exports, names_of_elements};
+ghost use Rattle.wasm_validator_sections.specs.Noted.{naming};
+ghost use Rattle.wasm_validator_sections.specs.Noted.{noted_of};
+ghost use Rattle.wasm_validator_type_list.specs.DefTypes.{types_of_list};
+ghost use Rattle.wasm_validator_canonical.specs.Groups.{AreValid};
+ghost use Rattle.wasm_validator_core.specs.Answers.{Adds, AddsWhere, HasValidTypes};
+ghost use Rattle.wasm_validator_core.specs.Ready.{IsOpenFor, AreHeld, AreIdsOf};
+ghost use Rattle.wasm_validator_core_resources.specs.ById.{AreFirstByIds};
+ghost use Rattle.wasm_validator_sections.specs.Machine.{type_items, import_items, function_items, table_items, memory_items, tag_items, global_items, export_items, element_items, data_items};
+ghost use Rattle.wasm_validator_sections.specs.SectionsTold.{OfContent, StandsBetween, TellsTypes, TellsImports, TellsFunctions, TellsTables, TellsMemories, TellsTags, TellsGlobals, TellsExports, TellsElements, TellsData};
+
+use std::alloc::Allocator;
+use wasm_readers::{
+    Counted, Data, Element, Export, Global, Import, MemoryType, RecGroup, SectionLimited, Table,
+    TagType, WasmFeatures,
+};
+use wasm_referenced_functions::{mark_elements, mark_exports, mark_globals, mark_tables};
+use wasm_validator_core::{
+    Error, MAX_DATA_SEGMENTS, MAX_ELEMENT_SEGMENTS, MAX_EXPORTS, MAX_FUNCTIONS, MAX_GLOBALS,
+    MAX_IMPORTS, MAX_TAGS, MAX_TYPES, Module, check_max,
+};
+use wasm_validator_module_state::{Constants, ModuleState, tells_types_apart};
+use wasm_validator_types::{IndexSpaces, TypeList};
+
+/// Adds the types of a type section.
+pub fn add_types<'a, A: Allocator + Copy>(
+    features: WasmFeatures,
+    alloc: A,
+    list: &mut TypeList<A>,
+    opened: &mut Module<A>,
+    section: &SectionLimited<'a, RecGroup<A>, A>,
+) -> Result<(), Error<A>>
+    requires open { IsOpenFor features list.old }
+    requires ids { AreIdsOf list.old opened.old.types }
+    requires valid { AreValid (features_of features) (types_of_list list.old) }
+    ensures added { AddsWhere (HasValidTypes features) result
+        (type_items features (count_of section.now) (bytes_of section.now)
+        (types_of_list list.old, opened.old)) (types_of_list list.new, opened.new) }
+    ensures valid { OnOk result (AreValid (features_of features) (types_of_list list.new)) }
+    ensures open { IsOpenFor features list.new }
+    ensures ids { OnOk result (AreIdsOf list.new opened.new.types) }
+    ensures place { IfErr result (StandsBetween (section_start section.now)
+        (section_end section.now)) }
+    ensures told { IfErr result (OfContent (TellsTypes features section.now
+        (types_of_list list.old) opened.old)) }
+{
+    check_max(
+        opened.spaces().type_count() as usize,
+        section.count() as usize,
+        MAX_TYPES,
+        Counted::Types,
+        section.range().start,
+    )?;
+    let mut groups = section.items();
+    'groups: while let Some((offset, group)) = groups.read_next()? {
+        match opened.add_types(features, alloc, list, group, offset) {
+            Ok(()) => {}
+            Err(error) => return Err(error),
+        }
+    }
+    Ok(())
+}
+
+/// Adds the imports of an import section.
+pub fn add_imports<'a, A: Allocator + Copy>(
+    features: WasmFeatures,
+    list: &TypeList<A>,
+    opened: &mut Module<A>,
+    section: &SectionLimited<'a, Import<'a>, A>,
+) -> Result<(), Error<A>>
+    requires { AreHeld list.now opened.old.types }
+    ensures added { Adds result (import_items (features_of features) (types_of_list list.now)
+        (count_of section.now) (bytes_of section.now) opened.old) opened.new }
+    ensures types { opened.new.types ≡ opened.old.types }
+    ensures place { IfErr result (StandsBetween (section_start section.now)
+        (section_end section.now)) }
+    ensures told { IfErr result (OfContent (TellsImports features section.now
+        (types_of_list list.now) opened.old)) }
+{
+    check_max(
+        opened.spaces().import_count(),
+        section.count() as usize,
+        MAX_IMPORTS,
+        Counted::Imports,
+        section.range().start,
+    )?;
+    let mut imports = section.items();
+    'imports: while let Some((offset, import)) = imports.read_next()? {
+        opened.add_import(features, list, &import, offset)?;
+    }
+    Ok(())
+}
+
+/// Adds the functions of a function section.
+pub fn add_functions<A: Allocator + Copy>(
+    list: &TypeList<A>,
+    opened: &mut Module<A>,
+    section: &SectionLimited<'_, u32, A>,
+) -> Result<(), Error<A>>
+    requires { AreHeld list.now opened.old.types }
+    ensures added { Adds result (function_items (types_of_list list.now) (count_of section.now)
+        (bytes_of section.now) opened.old) opened.new }
+    ensures types { opened.new.types ≡ opened.old.types }
+    ensures place { IfErr result (StandsBetween (section_start section.now)
+        (section_end section.now)) }
+    ensures told { IfErr result (OfContent (TellsFunctions section.now
+        (types_of_list list.now) opened.old)) }
+{
+    check_max(
+        opened.spaces().function_count() as usize,
+        section.count() as usize,
+        MAX_FUNCTIONS,
+        Counted::Functions,
+        section.range().start,
+    )?;
+    let mut functions = section.items();
+    'functions: while let Some((offset, type_index)) = functions.read_next()? {
+        opened.add_function(list, type_index, offset)?;
+    }
+    Ok(())
+}
+
+/// Adds the tables of a table section, with what their entries begin with.
+fn add_tables<'a, A: Allocator + Copy>(
+    features: WasmFeatures,
+    list: &TypeList<A>,
+    constants: &mut Constants<A>,
+    opened: &mut Module<A>,
+    section: &SectionLimited<'a, Table<'a>, A>,
+) -> Result<(), Error<A>>
+    requires held { AreHeld list.now opened.old.types }
+    requires first { AreFirstByIds list.now.groups constants.old.types }
+    ensures added { Adds result (table_items (features_of features) (types_of_list list.now)
+        (count_of section.now) (bytes_of section.now) opened.old) opened.new }
+    ensures types { opened.new.types ≡ opened.old.types }
+    ensures first { AreFirstByIds list.now.groups constants.new.types }
+    ensures place { IfErr result (StandsBetween (section_start section.now)
+        (section_end section.now)) }
+    ensures told { IfErr result (OfContent (TellsTables section.now features opened.old)) }
+{
+    check_max(
+        opened.spaces().table_count() as usize,
+        section.count() as usize,
+        opened.max_tables(features),
+        Counted::Tables,
+        section.range().start,
+    )?;
+    tells_types_apart(list);
+    let allocations = constants.taken(list)?;
+    let added = wasm_validator_module_state::add_tables(
+        features,
+        list,
+        &constants.types,
+        allocations,
+        opened,
+        section.count(),
+        section.reader(),
+    );
+    constants.keep(added)
+}
+
+/// Adds the memories of a memory section.
+pub fn add_memories<A: Allocator + Copy>(
+    features: WasmFeatures,
+    opened: &mut Module<A>,
+    section: &SectionLimited<'_, MemoryType, A>,
+) -> Result<(), Error<A>>
+    ensures added { Adds result (memory_items (features_of features) (count_of section.now)
+        (bytes_of section.now) opened.old) opened.new }
+    ensures types { opened.new.types ≡ opened.old.types }
+    ensures place { IfErr result (StandsBetween (section_start section.now)
+        (section_end section.now)) }
+    ensures told { IfErr result (OfContent (TellsMemories section.now features opened.old)) }
+{
+    check_max(
+        opened.spaces().memory_count() as usize,
+        section.count() as usize,
+        opened.max_memories(features),
+        Counted::Memories,
+        section.range().start,
+    )?;
+    let mut memories = section.items();
+    'memories: while let Some((offset, ty)) = memories.read_next()? {
+        opened.add_memory(features, ty, offset)?;
+    }
+    Ok(())
+}
+
+/// Adds the tags of a tag section, where the exceptions proposal is on.
+pub fn add_tags<A: Allocator + Copy>(
+    features: WasmFeatures,
+    list: &TypeList<A>,
+    opened: &mut Module<A>,
+    section: &SectionLimited<'_, TagType, A>,
+) -> Result<(), Error<A>>
+    requires held { AreHeld list.now opened.old.types }
+    requires exceptions { IsTrue (features_of features).exceptions }
+    ensures added { Adds result (tag_items (features_of features) (types_of_list list.now)
+        (count_of section.now) (bytes_of section.now) opened.old) opened.new }
+    ensures types { opened.new.types ≡ opened.old.types }
+    ensures place { IfErr result (StandsBetween (section_start section.now)
+        (section_end section.now)) }
+    ensures told { IfErr result (OfContent (TellsTags features section.now
+        (types_of_list list.now) opened.old)) }
+{
+    check_max(
+        opened.spaces().tag_count() as usize,
+        section.count() as usize,
+        MAX_TAGS,
+        Counted::Tags,
+        section.range().start,
+    )?;
+    let mut tags = section.items();
+    'tags: while let Some((offset, ty)) = tags.read_next()? {
+        opened.add_tag(features, list, ty, offset)?;
+    }
+    Ok(())
+}
+
+/// Adds the globals of a global section, with their initializers.
+fn add_globals<'a, A: Allocator + Copy>(
+    features: WasmFeatures,
+    list: &TypeList<A>,
+    constants: &mut Constants<A>,
+    opened: &mut Module<A>,
+    section: &SectionLimited<'a, Global<'a>, A>,
+) -> Result<(), Error<A>>
+    requires held { AreHeld list.now opened.old.types }
+    requires first { AreFirstByIds list.now.groups constants.old.types }
+    ensures added { Adds result (global_items (features_of features) (types_of_list list.now)
+        (count_of section.now) (bytes_of section.now) opened.old) opened.new }
+    ensures types { opened.new.types ≡ opened.old.types }
+    ensures first { AreFirstByIds list.now.groups constants.new.types }
+    ensures place { IfErr result (StandsBetween (section_start section.now)
+        (section_end section.now)) }
+    ensures told { IfErr result (OfContent (TellsGlobals section.now opened.old)) }
+{
+    check_max(
+        opened.spaces().global_count() as usize,
+        section.count() as usize,
+        MAX_GLOBALS,
+        Counted::Globals,
+        section.range().start,
+    )?;
+    tells_types_apart(list);
+    let allocations = constants.taken(list)?;
+    let added = wasm_validator_module_state::add_globals(
+        features,
+        list,
+        &constants.types,
+        allocations,
+        opened,
+        section.count(),
+        section.reader(),
+    );
+    constants.keep(added)
+}
+
+/// Adds the element segments of an element section.
+fn add_elements<'a, A: Allocator + Copy>(
+    features: WasmFeatures,
+    list: &TypeList<A>,
+    constants: &mut Constants<A>,
+    opened: &mut Module<A>,
+    section: &SectionLimited<'a, Element<'a>, A>,
+) -> Result<(), Error<A>>
+    requires held { AreHeld list.now opened.old.types }
+    requires first { AreFirstByIds list.now.groups constants.old.types }
+    ensures added { Adds result (element_items (features_of features) (types_of_list list.now)
+        (count_of section.now) (bytes_of section.now) opened.old) opened.new }
+    ensures types { opened.new.types ≡ opened.old.types }
+    ensures first { AreFirstByIds list.now.groups constants.new.types }
+    ensures place { IfErr result (StandsBetween (section_start section.now)
+        (section_end section.now)) }
+    ensures told { IfErr result (OfContent (TellsElements section.now opened.old)) }
+{
+    check_max(
+        opened.spaces().element_count() as usize,
+        section.count() as usize,
+        MAX_ELEMENT_SEGMENTS,
+        Counted::ElementSegments,
+        section.range().start,
+    )?;
+    tells_types_apart(list);
+    let allocations = constants.taken(list)?;
+    let added = wasm_validator_module_state::add_elements(
+        features,
+        list,
+        &constants.types,
+        allocations,
+        opened,
+        section.count(),
+        section.reader(),
+    );
+    constants.keep(added)
+}
+
+/// Adds the exports of an export section.
+fn add_exports<'a, A: Allocator + Copy>(
+    features: WasmFeatures,
+    alloc: A,
+    list: &TypeList<A>,
+    opened: &mut Module<A>,
+    section: &SectionLimited<'a, Export<'a>, A>,
+) -> Result<(), Error<A>>
+    ensures added { Adds result (export_items (features_of features) (types_of_list list.now)
+        (count_of section.now) (bytes_of section.now) opened.old) opened.new }
+    ensures types { opened.new.types ≡ opened.old.types }
+    ensures place { IfErr result (StandsBetween (section_start section.now)
+        (section_end section.now)) }
+    ensures told { IfErr result (OfContent (TellsExports features section.now
+        (types_of_list list.now) opened.old)) }
+{
+    check_max(
+        opened.spaces().export_count(),
+        section.count() as usize,
+        MAX_EXPORTS,
+        Counted::Exports,
+        section.range().start,
+    )?;
+    let mut exports = section.items();
+    'exports: while let Some((offset, export)) = exports.read_next()? {
+        opened.add_export(features, alloc, list, &export, offset)?;
+    }
+    Ok(())
+}
+
+/// Checks the data segments of a data section, which change nothing in the module.
+pub fn check_data_segments<'a, A: Allocator + Copy>(
+    features: WasmFeatures,
+    list: &TypeList<A>,
+    constants: &mut Constants<A>,
+    spaces: &IndexSpaces<A>,
+    section: &SectionLimited<'a, Data<'a>, A>,
+) -> Result<(), Error<A>>
+    requires held { AreHeld list.now spaces.now.types }
+    requires first { AreFirstByIds list.now.groups constants.old.types }
+    ensures added { Adds result (data_items (features_of features) (types_of_list list.now)
+        (count_of section.now) (bytes_of section.now) spaces.now) spaces.now }
+    ensures first { AreFirstByIds list.now.groups constants.new.types }
+    ensures place { IfErr result (StandsBetween (section_start section.now)
+        (section_end section.now)) }
+    ensures told { IfErr result (OfContent (TellsData section.now)) }
+{
+    check_max(
+        0,
+        section.count() as usize,
+        MAX_DATA_SEGMENTS,
+        Counted::DataSegments,
+        section.range().start,
+    )?;
+    tells_types_apart(list);
+    let allocations = constants.taken(list)?;
+    let added = wasm_validator_module_state::add_data_segments(
+        features,
+        list,
+        &constants.types,
+        allocations,
+        spaces,
+        section.count(),
+        section.reader(),
+    );
+    constants.keep(added)
+}
+
+/// Adds the tables of a table section, and notes the functions that they name.
+pub fn take_tables<'a, A: Allocator + Copy>(
+    features: WasmFeatures,
+    list: &TypeList<A>,
+    constants: &mut Constants<A>,
+    state: &mut ModuleState<A>,
+    section: &SectionLimited<'a, Table<'a>, A>,
+) -> Result<(), Error<A>>
+    requires held { AreHeld list.now state.old.«module».types }
+    requires first { AreFirstByIds list.now.groups constants.old.types }
+    ensures added { Adds result (table_items (features_of features) (types_of_list list.now)
+        (count_of section.now) (bytes_of section.now) state.old.«module»)
+        state.new.«module» }
+    ensures noted { OnOk result (noted_of state.new ≡ naming (names_of_tables
+        (count_of section.now) (bytes_of section.now)) (noted_of state.old)) }
+    ensures types { state.new.«module».types ≡ state.old.«module».types }
+    ensures first { AreFirstByIds list.now.groups constants.new.types }
+    ensures place { IfErr result (StandsBetween (section_start section.now)
+        (section_end section.now)) }
+    ensures told { IfErr result (OfContent (TellsTables section.now features state.old.«module»)) }
+{
+    match add_tables(features, list, constants, &mut state.module, section) {
+        Ok(()) => {
+            mark_tables(&mut state.referenced, section)?;
+            Ok(())
+        }
+        Err(error) => Err(error),
+    }
+}
+
+/// Adds the globals of a global section, and notes the functions that they name.
+pub fn take_globals<'a, A: Allocator + Copy>(
+    features: WasmFeatures,
+    list: &TypeList<A>,
+    constants: &mut Constants<A>,
+    state: &mut ModuleState<A>,
+    section: &SectionLimited<'a, Global<'a>, A>,
+) -> Result<(), Error<A>>
+    requires held { AreHeld list.now state.old.«module».types }
+    requires first { AreFirstByIds list.now.groups constants.old.types }
+    ensures added { Adds result (global_items (features_of features) (types_of_list list.now)
+        (count_of section.now) (bytes_of section.now) state.old.«module»)
+        state.new.«module» }
+    ensures noted { OnOk result (noted_of state.new ≡ naming (names_of_globals
+        (count_of section.now) (bytes_of section.now)) (noted_of state.old)) }
+    ensures types { state.new.«module».types ≡ state.old.«module».types }
+    ensures first { AreFirstByIds list.now.groups constants.new.types }
+    ensures place { IfErr result (StandsBetween (section_start section.now)
+        (section_end section.now)) }
+    ensures told { IfErr result (OfContent (TellsGlobals section.now state.old.«module»)) }
+{
+    match add_globals(features, list, constants, &mut state.module, section) {
+        Ok(()) => {
+            mark_globals(&mut state.referenced, section)?;
+            Ok(())
+        }
+        Err(error) => Err(error),
+    }
+}
+
+/// Adds the element segments of an element section, and notes the functions that they name.
+pub fn take_elements<'a, A: Allocator + Copy>(
+    features: WasmFeatures,
+    list: &TypeList<A>,
+    constants: &mut Constants<A>,
+    state: &mut ModuleState<A>,
+    section: &SectionLimited<'a, Element<'a>, A>,
+) -> Result<(), Error<A>>
+    requires held { AreHeld list.now state.old.«module».types }
+    requires first { AreFirstByIds list.now.groups constants.old.types }
+    ensures added { Adds result (element_items (features_of features) (types_of_list list.now)
+        (count_of section.now) (bytes_of section.now) state.old.«module»)
+        state.new.«module» }
+    ensures noted { OnOk result (noted_of state.new ≡ naming (names_of_elements
+        (count_of section.now) (bytes_of section.now)) (noted_of state.old)) }
+    ensures types { state.new.«module».types ≡ state.old.«module».types }
+    ensures first { AreFirstByIds list.now.groups constants.new.types }
+    ensures place { IfErr result (StandsBetween (section_start section.now)
+        (section_end section.now)) }
+    ensures told { IfErr result (OfContent (TellsElements section.now state.old.«module»)) }
+{
+    match add_elements(features, list, constants, &mut state.module, section) {
+        Ok(()) => {
+            mark_elements(&mut state.referenced, section)?;
+            Ok(())
+        }
+        Err(error) => Err(error),
+    }
+}
+
+/// Adds the exports of an export section, and notes the functions that they name.
+pub fn take_exports<'a, A: Allocator + Copy>(
+    features: WasmFeatures,
+    alloc: A,
+    list: &TypeList<A>,
+    state: &mut ModuleState<A>,
+    section: &SectionLimited<'a, Export<'a>, A>,
+) -> Result<(), Error<A>>
+    ensures added { Adds result (export_items (features_of features) (types_of_list list.now)
+        (count_of section.now) (bytes_of section.now) state.old.«module»)
+        state.new.«module» }
+    ensures noted { OnOk result (noted_of state.new ≡ naming (names_of_exports
+        (count_of section.now) (bytes_of section.now)) (noted_of state.old)) }
+    ensures types { state.new.«module».types ≡ state.old.«module».types }
+    ensures place { IfErr result (StandsBetween (section_start section.now)
+        (section_end section.now)) }
+    ensures told { IfErr result (OfContent (TellsExports features section.now
+        (types_of_list list.now) state.old.«module»)) }
+{
+    match add_exports(features, alloc, list, &mut state.module, section) {
+        Ok(()) => {
+            mark_exports(&mut state.referenced, section)?;
+            Ok(())
+        }
+        Err(error) => Err(error),
+    }
+}
