@@ -2,3 +2,4 @@ pub mod Marks
 pub mod Marking
 pub mod Loops
 pub mod Naming
+pub mod Passing

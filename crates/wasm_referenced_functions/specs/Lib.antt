@@ -3,3 +3,4 @@ pub mod References
 pub mod Marks
 pub mod Marking
 pub mod Operators
+pub mod Nameless

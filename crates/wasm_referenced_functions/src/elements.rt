@@ -4,11 +4,12 @@ ghost use Rattle.std.specs.Prelude.{◌≡◌, Some, None, IfOk, OnErr, OnOk};
 ghost use Rattle.std.specs.Option.{option_map};
 ghost use Rattle.wasm_spec.specs.BinaryTypes.{flags_at};
 ghost use Rattle.wasm_binary_reader.specs.Reader.{rest};
-ghost use Rattle.wasm_referenced_functions.specs.Marking.{GoesPast, mark_functions, mark_expressions, mark_expression, mark_kind_and_functions, mark_type_and_expressions, mark_table_expression, mark_element_from, mark_element};
+ghost use Rattle.wasm_referenced_functions.specs.Marking.{GoesPast, mark_expressions, mark_expression, mark_kind_and_functions, mark_type_and_expressions, mark_table_expression, mark_element_from, mark_element};
 
 use crate::expressions::mark_expression;
 use crate::flags::ReferencedFunctions;
-use crate::items::{FunctionIndex, NamingItem, mark_list};
+use crate::functions::mark_functions;
+use crate::items::{NamingItem, mark_list};
 use std::alloc::Allocator;
 use wasm_readers::BinaryReader;
 use wasm_readers::types::read_ref_type;
@@ -26,17 +27,6 @@ impl<A: Allocator + Copy> NamingItem<A> for ExpressionItem {
     ) -> Result<(), Error> {
         mark_expression(referenced, reader)
     }
-}
-
-/// A list of indices of functions.
-fn mark_functions<A: Allocator + Copy>(
-    referenced: &mut ReferencedFunctions<A>,
-    reader: &mut BinaryReader<'_>,
-) -> Result<(), Error>
-    ensures past { GoesPast result (mark_functions referenced.old (rest reader.old)) referenced.new
-        (rest reader.new) }
-{
-    mark_list::<A, FunctionIndex>(referenced, reader)
 }
 
 /// A list of constant expressions.

@@ -9,6 +9,7 @@ ghost use Rattle.wasm_referenced_functions.specs.Operators.{is_last, function_of
 ghost use Rattle.wasm_referenced_functions.specs.Marking.{GoesPast, mark_expression};
 
 use crate::flags::ReferencedFunctions;
+use crate::nameless::next_nameless_expression;
 use std::alloc::{AllocError, Allocator};
 use wasm_operators::{ControlOperator, Operator, ReferenceOperator, read_operator};
 use wasm_readers::BinaryReader;
@@ -103,8 +104,9 @@ fn mark_operators<A: Allocator + Copy>(
 
 /// Goes past a constant expression, and marks the functions that it names. Its operators are read
 /// twice: up to its end, and then alone.
+#[inline(never)]
 #[tactic(auto, using(crate::proofs::Naming::expression_marked))]
-pub(crate) fn mark_expression<A: Allocator + Copy>(
+fn mark_any_expression<A: Allocator + Copy>(
     referenced: &mut ReferencedFunctions<A>,
     reader: &mut BinaryReader<'_>,
 ) -> Result<(), Error>
@@ -114,4 +116,23 @@ pub(crate) fn mark_expression<A: Allocator + Copy>(
     let expression = read_expression(reader)?;
     mark_operators(referenced, expression)?;
     Ok(())
+}
+
+/// Goes past a constant expression, and marks the functions that it names.
+#[inline]
+pub(crate) fn mark_expression<A: Allocator + Copy>(
+    referenced: &mut ReferencedFunctions<A>,
+    reader: &mut BinaryReader<'_>,
+) -> Result<(), Error>
+    ensures past { GoesPast result (mark_expression referenced.old (rest reader.old))
+        referenced.new (rest reader.new) }
+{
+    let mut ahead = *reader;
+    match next_nameless_expression(&mut ahead) {
+        Some(()) => {
+            reader.go_on_from(&ahead);
+            Ok(())
+        }
+        None => mark_any_expression(referenced, reader),
+    }
 }

@@ -1,10 +1,13 @@
 //! Flags of functions.
 
-ghost use Rattle.std.specs.Prelude.{◌≡◌, ◌≤◌, [], length, OnOk};
+ghost use Rattle.std.specs.Prelude.{◌≡◌, ◌≤◌, true, false, [], length, Some, OnOk};
+ghost use Rattle.wasm_binary_reader.specs.Reader.{SameInput, rest};
 ghost use Rattle.wasm_referenced_functions.specs.References.{mark};
+ghost use Rattle.wasm_referenced_functions.specs.Marking.{mark_many, mark_function};
 
 use std::alloc::{AllocError, Allocator, Global};
 use std::marker::Model;
+use wasm_readers::BinaryReader;
 
 /// A flag for each function of a module, set where the function counts as referenced. A contract
 /// sees the flags. Behind the last one no function counts.
@@ -61,6 +64,16 @@ impl<A: Allocator + Copy> ReferencedFunctions<A> {
         }
         add_mark(&mut self.flags, place)
     }
+
+    /// Sets the flags of functions whose indices are next, so many at the most, and gives how many
+    /// of these are left where an index or its flag isn't there.
+    pub(crate) fn mark_known(&mut self, count: u32, reader: &mut BinaryReader<'_>) -> u32
+        ensures so_far { mark_many mark_function result self.new (rest reader.new)
+            ≡ mark_many mark_function count self.old (rest reader.old) }
+        ensures fewer { result ≤ count }
+    {
+        set_flags(self.flags.as_mut_slice(), count, reader)
+    }
 }
 
 /// Adds flags up to this place, of which the last one is set.
@@ -73,4 +86,49 @@ fn add_mark<A: Allocator>(flags: &mut Vec<bool, A>, place: usize) -> Result<(), 
         flags.push(false)?;
     }
     Ok(flags.push(true)?)
+}
+
+/// Sets the flag of the function whose index is next, and tells whether both are there.
+#[inline(always)]
+fn set_next(flags: &mut [bool], reader: &mut BinaryReader<'_>) -> bool
+    ensures same { SameInput reader.old reader.new }
+    ensures taken { result ≡ true → mark_function flags.old (rest reader.old)
+        ≡ Some (flags.new, rest reader.new) }
+    ensures kept { result ≡ false → flags.new ≡ flags.old }
+    ensures unread { result ≡ false → reader.new ≡ reader.old }
+{
+    let mut ahead = *reader;
+    match ahead.next_var_u32() {
+        Some(function_index) => {
+            let place = function_index as usize;
+            if place < flags.len() {
+                flags[place] = true;
+                reader.go_on_from(&ahead);
+                return true;
+            }
+            false
+        }
+        None => false,
+    }
+}
+
+/// Sets the flags of functions whose indices are next, so many at the most, and gives how many of
+/// these are left where an index or its flag isn't there.
+fn set_flags(flags: &mut [bool], count: u32, reader: &mut BinaryReader<'_>) -> u32
+    ensures so_far { mark_many mark_function result flags.new (rest reader.new)
+        ≡ mark_many mark_function count flags.old (rest reader.old) }
+    ensures fewer { result ≤ count }
+{
+    // The reader itself is not lent, so that it can be kept in registers.
+    let mut ahead = *reader;
+    let mut left = count;
+    'functions: while left > 0 {
+        if !set_next(flags, &mut ahead) {
+            reader.go_on_from(&ahead);
+            return left;
+        }
+        left -= 1;
+    }
+    reader.go_on_from(&ahead);
+    left
 }

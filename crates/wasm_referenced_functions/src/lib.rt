@@ -6,8 +6,10 @@ mod elements;
 mod entries;
 mod expressions;
 mod flags;
+mod functions;
 mod items;
 mod laws;
+mod nameless;
 mod sections;
 mod singles;
 

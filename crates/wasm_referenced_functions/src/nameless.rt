@@ -1,0 +1,47 @@
+//! Constant expressions of one operator that names no function.
+
+ghost use Rattle.std.specs.Prelude.{◌≡◌, OnSome};
+ghost use Rattle.wasm_binary_reader.specs.Reader.{SameInput, rest};
+ghost use Rattle.wasm_referenced_functions.specs.Nameless.{BeginsNameless, NamesNothing};
+
+use wasm_readers::BinaryReader;
+
+/// Goes past a constant of an integer type or the reading of a global, if one is next. Else the
+/// reader may stand further on.
+#[inline(always)]
+#[tactic(auto, using(crate::proofs::Passing::nameless))]
+fn next_nameless(reader: &mut BinaryReader<'_>) -> Option<()>
+    ensures same { SameInput reader.old reader.new }
+    ensures some { OnSome result (BeginsNameless (rest reader.old) (rest reader.new)) }
+{
+    match reader.next_u8()? {
+        0x23 => {
+            reader.next_var_u32()?;
+            Some(())
+        }
+        0x41 => {
+            reader.next_var_i32()?;
+            Some(())
+        }
+        0x42 => {
+            reader.next_var_i64()?;
+            Some(())
+        }
+        _ => None,
+    }
+}
+
+/// Goes past a constant expression of such an operator alone, if one is next. Else the reader may
+/// stand further on.
+#[inline(always)]
+pub(crate) fn next_nameless_expression(reader: &mut BinaryReader<'_>) -> Option<()>
+    ensures same { SameInput reader.old reader.new }
+    ensures some { OnSome result (NamesNothing (rest reader.old) (rest reader.new)) }
+{
+    next_nameless(reader)?;
+    if reader.next_u8()? == 0x0b {
+        Some(())
+    } else {
+        None
+    }
+}
