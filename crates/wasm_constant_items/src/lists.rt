@@ -1,6 +1,6 @@
 //! The items of element segments.
 
-ghost use Rattle.std.specs.Prelude.{◌≤◌, IfErr};
+ghost use Rattle.std.specs.Prelude.{◌≡◌, ◌≤◌, true, false, Some, IfErr};
 ghost use Rattle.wasm_rules.specs.FeatureFlags.{features_of};
 ghost use Rattle.wasm_binary_reader.specs.Reader.{SameInput, position_in, rest};
 ghost use Rattle.wasm_readers_types.specs.SeenValues.{val_of};
@@ -57,8 +57,9 @@ fn check_function<'a, T: WasmModuleResources>(
     }
 }
 
-/// Reads so many indices of functions that are there.
-fn check_functions<'a, T: WasmModuleResources>(
+/// Reads so many indices of functions that are there, one by one.
+#[inline(never)]
+fn check_each_function<'a, T: WasmModuleResources>(
     resources: &T,
     count: u32,
     reader: &mut BinaryReader<'a>,
@@ -75,6 +76,72 @@ fn check_functions<'a, T: WasmModuleResources>(
         left -= 1;
     }
     Ok(())
+}
+
+/// Goes past the index of a function that is there, if one is next, and tells whether it is.
+#[inline(always)]
+#[tactic(auto, unfolding(crate::specs::Elements::behind_function))]
+fn pass_function<'a, T: WasmModuleResources>(resources: &T, reader: &mut BinaryReader<'a>) -> bool
+    ensures past { result ≡ true → behind_function (T.context resources.now) (rest reader.old)
+        ≡ Some (rest reader.new) }
+    ensures input { SameInput reader.old reader.new }
+    ensures onward { position_in reader.old ≤ position_in reader.new }
+    ensures unread { result ≡ false → reader.new ≡ reader.old }
+{
+    let mut ahead = *reader;
+    match ahead.next_var_u32() {
+        Some(function_index) => match resources.type_index_of_function(function_index) {
+            Some(_) => {
+                reader.go_on_from(&ahead);
+                true
+            }
+            None => false,
+        },
+        None => false,
+    }
+}
+
+/// Goes past indices of functions that are there, so many at the most, and gives how many of these
+/// are left.
+fn pass_functions<'a, T: WasmModuleResources>(
+    resources: &T,
+    count: u32,
+    reader: &mut BinaryReader<'a>,
+) -> u32
+    ensures so_far { behind_many (behind_function (T.context resources.now)) result
+        (rest reader.new) ≡ behind_many (behind_function (T.context resources.now)) count
+        (rest reader.old) }
+    ensures input { SameInput reader.old reader.new }
+    ensures onward { position_in reader.old ≤ position_in reader.new }
+{
+    // The reader itself is not lent, so that it can be kept in registers.
+    let mut ahead = *reader;
+    let mut left = count;
+    'items: while left > 0 {
+        if !pass_function(resources, &mut ahead) {
+            reader.go_on_from(&ahead);
+            return left;
+        }
+        left -= 1;
+    }
+    reader.go_on_from(&ahead);
+    left
+}
+
+/// Reads so many indices of functions that are there, and tells of the first that isn't.
+fn check_functions<'a, T: WasmModuleResources>(
+    resources: &T,
+    count: u32,
+    reader: &mut BinaryReader<'a>,
+) -> Result<(), Error>
+    ensures past { GoesPast result (behind_many (behind_function (T.context resources.now)) count
+        (rest reader.old)) (rest reader.new) }
+    ensures input { SameInput reader.old reader.new }
+    ensures onward { position_in reader.old ≤ position_in reader.new }
+    ensures place { IfErr result (StandsIn reader.old) }
+{
+    let left = pass_functions(resources, count, reader);
+    check_each_function(resources, left, reader)
 }
 
 /// Reads a list of indices of functions.

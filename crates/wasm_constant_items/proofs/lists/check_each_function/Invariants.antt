@@ -2,7 +2,7 @@ use Rattle.std.proofs.Common.{◌≡◌, ◌≤◌}
 use Rattle.wasm_binary_reader.specs.Reader.{SameInput, position_in, rest}
 use Rattle.wasm_constant_items.specs.Elements.{behind_function}
 use Rattle.wasm_constant_items.specs.Lists.{behind_many}
-use Rattle.wasm_constant_items.proofs.lists.check_functions.Given as goal
+use Rattle.wasm_constant_items.proofs.lists.check_each_function.Given as goal
 
 abbrev pub invariant-items : goal.invariant-items
 invariant-items g l = record {

@@ -2,7 +2,7 @@ use Rattle.std.proofs.Common.{◌∙◌, arith, rules}
 use Rattle.wasm_binary_reader.specs.Reader.{rest}
 use Rattle.wasm_constant_items.specs.Elements.{behind_function}
 use Rattle.wasm_constant_items.proofs.Loops.{one_less}
-use Rattle.wasm_constant_items.proofs.lists.check_functions.Goals as goal
+use Rattle.wasm_constant_items.proofs.lists.check_each_function.Goals as goal
 
 pub items-preserved : goal.items-preserved
 items-preserved g c = record {
