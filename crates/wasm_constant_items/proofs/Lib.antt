@@ -1,4 +1,5 @@
 pub mod Typing
 pub mod Finding
+pub mod Anywhere
 pub mod Written
 pub mod Loops

@@ -1,4 +1,5 @@
 pub mod Expressions
+pub mod Numbers
 pub mod Offsets
 pub mod Globals
 pub mod Data

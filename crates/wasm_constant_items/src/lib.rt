@@ -10,6 +10,7 @@ mod expressions;
 mod globals;
 mod laws;
 mod lists;
+mod numbers;
 mod offsets;
 
 pub use data::check_data;

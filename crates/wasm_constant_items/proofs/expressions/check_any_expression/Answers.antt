@@ -2,7 +2,7 @@ use Rattle.wasm_readers_types.specs.SeenValues.{val_of}
 use Rattle.wasm_binary_reader.specs.Reader.{rest}
 use Rattle.wasm_constant_checks.specs.Typed.{typed_state}
 use Rattle.wasm_constant_items.proofs.Typing.{goes_past, goes_nowhere}
-use Rattle.wasm_constant_items.proofs.expressions.check_expression_of_type.Goals as goal
+use Rattle.wasm_constant_items.proofs.expressions.check_any_expression.Goals as goal
 
 pub returns-in-Ok-clause-past : goal.returns-in-Ok-clause-past
 returns-in-Ok-clause-past g c =
