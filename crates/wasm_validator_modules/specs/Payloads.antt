@@ -119,8 +119,11 @@ kept_behind kept (End t) = kept
 abbrev pub EndsBy : ℕ → FunctionBody → Type 0
 EndsBy end b = reader_end (body_reader b) ≤ end
 
+abbrev pub EachEndsBy : ℕ → List PendingBody → Type 0
+EachEndsBy end ps = All (λ (p : PendingBody). EndsBy end p.body) ps
+
 abbrev pub AllEndBy : {A : Type 0} → ℕ → Bodies A → Type 0
-AllEndBy end bodies = All (λ (p : PendingBody). EndsBy end p.body) bodies.pending.items
+AllEndBy end bodies = EachEndsBy end bodies.pending.items
 
 abbrev pub GivenEndBy : {A : Type 0} → ℕ → ValidPayload A → Type 0
 GivenEndBy end Ok = ⊤

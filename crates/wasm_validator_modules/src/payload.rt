@@ -1,5 +1,5 @@
 ghost use Rattle.wasm_readers_errors.specs.declared.features.TheConstants.WasmFeatures.{STANDARD};
-ghost use Rattle.std.specs.Prelude.{ℕ, true, false, ◌≡◌, ◌≤◌, ◌++◌, ◌∷◌, [], IfOk, IfErr, OnOk, OnErr, IfSome, Some, None, length};
+ghost use Rattle.std.specs.Prelude.{ℕ, true, false, ◌≡◌, ◌≤◌, ◌++◌, ◌∷◌, [], IfOk, IfErr, OnOk, OnErr, IfSome, Some, None, length, map};
 ghost use Rattle.std.specs.List.{All};
 ghost use Rattle.std.specs.Option.{option_map};
 ghost use Rattle.wasm_parser.specs.Machine.{next_of};
@@ -11,7 +11,7 @@ ghost use Rattle.wasm_validator_modules.specs.Standing.{Leaves};
 ghost use Rattle.wasm_validator_func.specs.Functions.{Decides, StandsInOrFirst};
 ghost use Rattle.wasm_parser.specs.Seen.{body_reader};
 ghost use Rattle.wasm_validator_modules.specs.States.{after_piece, handed, left_by, IsSection};
-ghost use Rattle.wasm_validator_modules.specs.Payloads.{ShowsModule, HoldsIdsAtEnd, IsFunction, IsKept, IsGivenIn, kept_behind, latest_of, bodies_given, bodies_seen, pending_seen, EndsBy, AllEndBy, GivenEndBy, StandsBy, IsBodyOfIts, TellsFormat, Validates};
+ghost use Rattle.wasm_validator_modules.specs.Payloads.{ShowsModule, HoldsIdsAtEnd, IsFunction, IsKept, IsGivenIn, kept_behind, latest_of, bodies_given, bodies_seen, pending_seen, EndsBy, EachEndsBy, AllEndBy, GivenEndBy, StandsBy, IsBodyOfIts, TellsFormat, Validates};
 ghost use Rattle.wasm_validator_modules.specs.Verdict.{DecidesModule, DecidesAlone, EndsModule, StopsModule};
 
 use crate::validator::Validator;
@@ -328,7 +328,7 @@ impl<'a, A: Allocator + Copy> Gathered<'a, A> {
     }
 }
 
-/// Validates bodies one after another, in the same memory.
+/// Validates the bodies of a module, if its code has some.
 fn validate_bodies<'a, A: Allocator + Copy>(
     alloc: A,
     bodies: Bodies<'a, A>,
@@ -341,13 +341,27 @@ fn validate_bodies<'a, A: Allocator + Copy>(
         resources,
         pending,
     } = bodies;
-    let resources = match resources {
-        Some(resources) => resources,
-        None => return Ok(()),
-    };
+    match resources {
+        Some(resources) => validate_each(alloc, features, &resources, pending),
+        None => Ok(()),
+    }
+}
+
+/// Validates bodies one after another, in the same memory.
+fn validate_each<'a, A: Allocator + Copy>(
+    alloc: A,
+    features: WasmFeatures,
+    resources: &ValidatorResources<A>,
+    pending: Vec<PendingBody<'a>, A>,
+) -> Result<(), wasm_readers::Error>
+    ensures decided { Decides (All IsBodyOfIts
+        (map (pending_seen features resources.now) pending.entry.items)) result }
+    ensures place { (end : ℕ) → EachEndsBy end pending.entry.items
+        → IfErr result (StandsBy end) }
+{
     let mut allocations = FuncValidatorAllocations::new(alloc);
     'bodies: for waiting in pending {
-        match validate_pending(features, &resources, waiting, allocations) {
+        match validate_pending(features, resources, waiting, allocations) {
             Ok(more) => allocations = more,
             Err(error) => return Err(error),
         }

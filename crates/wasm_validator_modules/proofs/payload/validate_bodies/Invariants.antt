@@ -1,6 +1,0 @@
-use Rattle.std.proofs.Common.{◌≡◌, ◌++◌, map, All}
-use Rattle.wasm_validator_modules.specs.Payloads.{pending_seen, IsBodyOfIts}
-use Rattle.wasm_validator_modules.proofs.payload.validate_bodies.Given as goal
-
-abbrev pub invariant-bodies : goal.invariant-bodies
-invariant-bodies g l = (l.fn.bodies.pending.items ≡ l.yielded ++ l.waiting-iterator.rest.items) × All IsBodyOfIts (map (pending_seen l.fn.bodies.features l.resources) l.yielded)
