@@ -3,3 +3,4 @@ mod Loops
 mod Places
 mod Refusals
 mod Steps
+mod Integers

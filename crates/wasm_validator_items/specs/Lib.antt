@@ -8,3 +8,4 @@ pub mod Machine
 pub mod Answers
 pub mod Sections
 pub mod Entries
+pub mod Integers
