@@ -3,4 +3,3 @@ mod Loops
 mod Places
 mod Refusals
 mod Steps
-mod Integers

@@ -8,4 +8,3 @@ pub mod Machine
 pub mod Answers
 pub mod Sections
 pub mod Entries
-pub mod Integers

@@ -6,7 +6,6 @@ ghost use Rattle.wasm_spec.specs.Syntax.{map_global};
 ghost use Rattle.wasm_rules.specs.FeatureFlags.{features_of};
 ghost use Rattle.wasm_binary_reader.specs.Reader.{SameInput, input, original, position_in, rest};
 ghost use Rattle.wasm_readers_types.specs.SeenExterns.{global_of};
-ghost use Rattle.wasm_readers_types.specs.SeenValues.{val_of};
 ghost use Rattle.wasm_validator_type_list.specs.DefTypes.{types_of_list};
 ghost use Rattle.wasm_validator_canonical.specs.Indices.{canonical_index};
 ghost use Rattle.wasm_item_checks.specs.Answers.{IsRefusalAt};
@@ -18,7 +17,6 @@ ghost use Rattle.wasm_operator_worlds.specs.IndexContexts.{id_of};
 ghost use Rattle.wasm_operator_worlds.specs.ListContexts.{list_declares};
 ghost use Rattle.wasm_validator_core_resources.specs.ModuleContexts.{AreByIds};
 ghost use Rattle.wasm_validator_items.specs.Answers.{Refuses, StandsBetween, StandsBehind};
-ghost use Rattle.wasm_validator_items.specs.Integers.{is_integer};
 ghost use Rattle.wasm_validator_items.specs.Machine.{global_step, items_from, global_items};
 
 use crate::initializers::check_initializer;
@@ -27,20 +25,10 @@ use wasm_constant_items::OperatorValidatorAllocations;
 use wasm_readers::BinaryReader;
 use wasm_readers::externs::read_global_type;
 use wasm_readers_errors::{Counted, Fault, Malformed, Refusal, WasmFeatures};
-use wasm_readers_types::{GlobalType, TypeRef, ValType};
+use wasm_readers_types::{GlobalType, TypeRef};
 use wasm_validator_core::{Error, MAX_GLOBALS, Module, check_max};
 use wasm_validator_core_resources::TypesByIds;
 use wasm_validator_types::{EntityType, TypeList};
-
-/// Whether it is an integer type.
-fn is_integer(ty: ValType) -> bool
-    ensures { result ≡ is_integer (val_of ty) }
-{
-    match ty {
-        ValType::I32 | ValType::I64 => true,
-        _ => false,
-    }
-}
 
 /// Accepts the type of a global, and gives it as the list of types has it.
 fn listed_global<A: Allocator + Copy>(
@@ -57,9 +45,6 @@ fn listed_global<A: Allocator + Copy>(
         ≡ map_global (canonical_index opened.now.types) (global_of ty)) }
     ensures refusal { IfErr result (IsRefusalAt features offset) }
 {
-    if is_integer(ty.content_type) && !ty.shared {
-        return Ok(ty);
-    }
     match opened.check_type_ref(features, list, TypeRef::Global(ty), offset)? {
         EntityType::Global(global) => Ok(global),
         _ => unreachable!(),
