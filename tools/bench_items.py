@@ -16,8 +16,8 @@ import sys
 import tempfile
 
 ROOT = os.path.dirname(os.path.dirname(os.path.realpath(__file__)))
-VALIDATOR, READER = [*sys.argv[1:], *(os.path.join(ROOT, "crates", name, "out", name) for name in ("wasm_validate", "bench_bodies"))[len(sys.argv) - 1:]] \
-    if len(sys.argv) < 3 else sys.argv[1:3]
+BUILT = [os.path.join(ROOT, "crates", name, "out", name) for name in ("wasm_validate", "bench_bodies")]
+VALIDATOR, READER = [*sys.argv[1:3], *BUILT[len(sys.argv) - 1:]][:2]
 HEAD = b"\0asm\1\0\0\0"
 TYPE = b"\1\4\1\x60\0\0"
 
