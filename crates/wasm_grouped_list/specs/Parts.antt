@@ -1,6 +1,7 @@
--- Parts of a list, one behind another.
-use Rattle.std.specs.Prelude.{ℕ, ◌≡◌, ◌+◌, ◌<◌, List, [], ◌∷◌, ◌++◌, length, map}
+-- Parts of a list, one behind another, and runs of parts.
+use Rattle.std.specs.Prelude.{ℕ, ◌≡◌, ◌+◌, ◌<◌, List, [], ◌∷◌, ◌++◌, length, map, ⊤}
 use Rattle.wasm_grouped_list.specs.declared.parts.Part.{Part}
+use Rattle.wasm_grouped_list.specs.declared.parts.Run.{Run}
 
 -- a part as the place of its first item, and its items
 abbrev pub seen : {T A : Type 0} → Part T A → ℕ × List T
@@ -16,5 +17,32 @@ abbrev pub StandFrom : {T : Type 0} → ℕ → List (ℕ × List T) → ℕ →
 StandFrom from [] end = from ≡ end
 StandFrom from (p ∷ ps) end = (p.0 ≡ from) × (0 < length p.1) × StandFrom (from + length p.1) ps end
 
-abbrev pub Stand : {T A : Type 0} → List (Part T A) → ℕ → Type 0
-Stand ps end = StandFrom 0 (map seen ps) end
+abbrev pub PartsStand : {T A : Type 0} → ℕ → List (Part T A) → ℕ → Type 0
+PartsStand from ps end = StandFrom from (map seen ps) end
+
+-- a run as the place of its first item, and its parts
+abbrev pub run_parts : {T A : Type 0} → Run T A → ℕ × List (ℕ × List T)
+run_parts r = (r.first, map seen r.parts.value.items)
+
+-- as one part
+abbrev pub one_part : {T : Type 0} → ℕ × List (ℕ × List T) → ℕ × List T
+one_part r = (r.0, all_items r.1)
+
+abbrev pub run_seen : {T A : Type 0} → Run T A → ℕ × List T
+run_seen r = one_part (run_parts r)
+
+-- its parts stand where it does
+abbrev pub IsRunOf : {T : Type 0} → ℕ × List (ℕ × List T) → Type 0
+IsRunOf r = StandFrom r.0 r.1 (r.0 + length (all_items r.1))
+
+abbrev pub IsRun : {T A : Type 0} → Run T A → Type 0
+IsRun r = IsRunOf (run_parts r)
+
+abbrev pub AreRuns : {T : Type 0} → List (ℕ × List (ℕ × List T)) → Type 0
+AreRuns [] = ⊤
+AreRuns (r ∷ rs) = IsRunOf r × AreRuns rs
+
+-- so do all, one behind another
+pub record RunsStand {T A : Type 0} (rs : List (Run T A)) (end : ℕ) : Type 0 where
+  pub order : StandFrom 0 (map run_seen rs) end
+  pub each : AreRuns (map run_parts rs)

@@ -1,7 +1,7 @@
 ghost use Rattle.std.specs.Prelude.{◌≡◌, ◌<◌, ◌++◌, ◌∷◌, [], length, slice_index_or, IfOk, IfErr, IfSome, OnOk, OnErr, IsSome, IsTrue, ◌↔◌};
 
 use crate::group_id::RecGroupId;
-use crate::parts::{Part, close, item_at, share};
+use crate::parts::{Part, Run, close, closed_item, gather, join_last, share, share_runs};
 use std::alloc::{AllocError, AllocFailed, Allocator, Global};
 use std::marker::Model;
 use std::ops::{Index, Range};
@@ -10,9 +10,12 @@ use wasm_readers_types::{CoreTypeId, SubType};
 /// A list that grows at its end, and of which snapshots are taken. A contract sees the list alone.
 ///
 /// A snapshot and its list share what they hold: parts that grow no more, and behind them each list
-/// has an open end of its own.
+/// has an open end of its own. Many parts are a run, which is shared as one, and runs of as many
+/// parts are joined: so a list of n parts holds some log n runs, and a snapshot takes as much.
 #[derive(Drop)]
 pub struct SnapshotList<T, A: Allocator = Global> {
+    runs: Vec<Run<T, A>, A>,
+    middle: usize,
     parts: Vec<Part<T, A>, A>,
     before: usize,
     pub(crate) tail: Vec<T, A>,
@@ -37,6 +40,8 @@ impl<T, A: Allocator + Copy> SnapshotList<T, A> {
         ensures { result ≡ [] }
     {
         SnapshotList {
+            runs: Vec::new(alloc),
+            middle: 0,
             parts: Vec::new(alloc),
             before: 0,
             tail: Vec::new(alloc),
@@ -77,7 +82,8 @@ impl<T, A: Allocator + Copy> SnapshotList<T, A> {
         ensures when { IsSome result ↔ (index < length self.now) }
     {
         if index < self.before {
-            Some(item_at(&self.parts, self.before, index))
+            let item = closed_item(&self.runs, &self.parts, self.middle, self.before, index);
+            Some(item)
         } else {
             self.tail.get(index - self.before)
         }
@@ -95,9 +101,26 @@ impl<T, A: Allocator + Copy> SnapshotList<T, A> {
         ensures same { self.new ≡ self.old }
         ensures copy { IfOk result (λ copy. copy ≡ self.old) }
     {
-        self.before = close(self.alloc, &mut self.parts, self.before, &mut self.tail)?;
+        self.before = close(
+            self.alloc,
+            &mut self.parts,
+            self.middle,
+            self.before,
+            &mut self.tail,
+        )?;
+        self.middle = gather(
+            self.alloc,
+            &mut self.runs,
+            &mut self.parts,
+            self.middle,
+            self.before,
+        );
+        join_last(self.alloc, &mut self.runs, self.middle);
+        let runs = share_runs(self.alloc, &self.runs)?;
         let parts = share(self.alloc, &self.parts)?;
         Ok(SnapshotList {
+            runs,
+            middle: self.middle,
             parts,
             before: self.before,
             tail: Vec::new(self.alloc),
@@ -117,7 +140,7 @@ impl<T, A: Allocator> Index<usize> for SnapshotList<T, A> {
 
     fn index(&self, index: usize) -> &T {
         if index < self.before {
-            item_at(&self.parts, self.before, index)
+            closed_item(&self.runs, &self.parts, self.middle, self.before, index)
         } else {
             &self.tail[index - self.before]
         }

@@ -1,18 +1,24 @@
 use Rattle.std.proofs.Common.{arith, ◌≡◌, ◌-◌, sym, ◌∙◌, refl, map, get_or, ℕ, List, Bor, ◌++◌}
 use Rattle.std.specs.Prelude.{IfSome, Option, None, Some}
 use Rattle.std.proofs.lemmas.Grind.{common_steps}
-use Rattle.wasm_grouped_list.specs.Parts.{seen, all_items}
-use Rattle.wasm_grouped_list.proofs.Ends.{in_parts, in_tail, whole_length}
+use Rattle.wasm_grouped_list.specs.Parts.{seen, run_seen, all_items}
+use Rattle.wasm_grouped_list.proofs.Ends.{in_closed, in_open, whole_length}
+use Rattle.wasm_grouped_list.proofs.RunsStand.{closed_end}
 use Rattle.wasm_grouped_list.proofs.snapshot_list.SnapshotList.get.Goals as goal
 
 pub returns-then-index-self-clause-found : goal.returns-then-index-self-clause-found
 returns-then-index-self-clause-found g c =
-    let s = in_parts c.self.inside.parts.items c.self.inside.before c.args.index c.self.inside.tail.items c.item_at.result.now c.self.invariant.stand c.if-index-self.true in
-    rw (← c.self.view_is, s) c.item_at.ensures
+    let a = c.self.inside in
+    let closed = all_items (map run_seen a.runs.items) ++ all_items (map seen a.parts.items) in
+    let end = closed_end a.runs.items a.middle c.self.invariant.runs a.parts.items a.before c.self.invariant.parts in
+    rw (← c.self.view_is, in_closed closed a.tail.items a.before c.args.index c.closed_item-item.result.now end c.if-index-self.true) c.closed_item-item.ensures
 
 pub returns-then-index-self-clause-when : goal.returns-then-index-self-clause-when
 returns-then-index-self-clause-when g c =
-    let w = whole_length c.self.inside.parts.items c.self.inside.before c.self.inside.tail.items c.self.invariant.stand in
+    let a = c.self.inside in
+    let closed = all_items (map run_seen a.runs.items) ++ all_items (map seen a.parts.items) in
+    let end = closed_end a.runs.items a.middle c.self.invariant.runs a.parts.items a.before c.self.invariant.parts in
+    let w = whole_length closed a.tail.items a.before end in
     (λ _. rw (← c.self.view_is, w) (omega arith), λ _. refl)
 
 -- what a look-up at the end says of the whole
@@ -22,10 +28,16 @@ found (Some x) xs ys i j h t = h ∙ sym (t x.now)
 
 pub returns-else-index-self-clause-found : goal.returns-else-index-self-clause-found
 returns-else-index-self-clause-found g c =
-    let t = λ (x : g.row.T.Denot). in_tail c.self.inside.parts.items c.self.inside.before c.args.index c.self.inside.tail.items x c.self.invariant.stand c.if-index-self.false in
-    rw (← c.self.view_is) (found c.get.result c.self.inside.tail.items (all_items (map seen c.self.inside.parts.items) ++ c.self.inside.tail.items) c.args.index (c.args.index - c.self.inside.before) (rw c.deref.ensures.value at c.get.ensures.lookup.1) t)
+    let a = c.self.inside in
+    let closed = all_items (map run_seen a.runs.items) ++ all_items (map seen a.parts.items) in
+    let end = closed_end a.runs.items a.middle c.self.invariant.runs a.parts.items a.before c.self.invariant.parts in
+    let t = λ (x : g.row.T.Denot). in_open closed a.tail.items a.before c.args.index x end c.if-index-self.false in
+    rw (← c.self.view_is) (found c.get.result a.tail.items (closed ++ a.tail.items) c.args.index (c.args.index - a.before) (rw c.deref.ensures.value at c.get.ensures.lookup.1) t)
 
 pub returns-else-index-self-clause-when : goal.returns-else-index-self-clause-when
 returns-else-index-self-clause-when g c =
-    let w = whole_length c.self.inside.parts.items c.self.inside.before c.self.inside.tail.items c.self.invariant.stand in
+    let a = c.self.inside in
+    let closed = all_items (map run_seen a.runs.items) ++ all_items (map seen a.parts.items) in
+    let end = closed_end a.runs.items a.middle c.self.invariant.runs a.parts.items a.before c.self.invariant.parts in
+    let w = whole_length closed a.tail.items a.before end in
     rw (← c.self.view_is, w) (grind (arith, common_steps, c.get.ensures.lookup, c.deref.ensures.value))

@@ -1,8 +1,12 @@
-use Rattle.std.proofs.Common.{ap, sym, ◌∙◌, ◌+◌, ℕ}
+use Rattle.std.proofs.Common.{◌≡◌, ◌+◌, ◌++◌, ◌∙◌, ap, sym, ℕ, map}
+use Rattle.wasm_grouped_list.specs.Parts.{seen, run_seen, all_items}
 use Rattle.wasm_grouped_list.proofs.Ends.{whole_length}
+use Rattle.wasm_grouped_list.proofs.RunsStand.{closed_end}
 use Rattle.wasm_grouped_list.proofs.snapshot_list.SnapshotList.len.Goals as goal
 
 pub returns : goal.returns
 returns g c =
     let a = c.self.inside in
-    rw (← c.self.view_is) (ap (λ (n : ℕ). a.before + n) (c.len.ensures ∙ a.tail.ok.0) ∙ sym (whole_length a.parts.items a.before a.tail.items c.self.invariant.stand))
+    let closed = all_items (map run_seen a.runs.items) ++ all_items (map seen a.parts.items) in
+    let end = closed_end a.runs.items a.middle c.self.invariant.runs a.parts.items a.before c.self.invariant.parts in
+    rw (← c.self.view_is) (ap (λ (n : ℕ). a.before + n) (c.len.ensures ∙ a.tail.ok.0) ∙ sym (whole_length closed a.tail.items a.before end))
