@@ -1,27 +1,22 @@
-//! Items that no module can write, and tables with an initial value.
+//! Items that no module can write.
 
 use bitflags::Flags;
 use std::alloc::Global;
 use std::fmt::Write;
-use wasm_item_checks::{check_defined_table, check_type_ref};
+use wasm_item_checks::check_type_ref;
 use wasm_readers_errors::{Refusal, WasmFeatures};
-use wasm_readers_types::{GlobalType, MemoryType, RefType, TableType, TypeRef, ValType};
+use wasm_readers_types::{MemoryType, RefType, TableType, TypeRef};
 use wasm_validator_type_list::TypeList;
 
-/// Whether this is a refusal at byte 7 with this message, which this proposal would lift.
-fn is_refused(
-    alloc: Global,
-    answer: Result<(), Refusal>,
-    missing: Option<WasmFeatures>,
-    message: &str,
-) -> bool {
+/// Whether this is a refusal at byte 7 with this message, which no proposal would lift.
+fn is_refused(alloc: Global, answer: Result<(), Refusal>, message: &str) -> bool {
     let Err(refusal) = answer else {
         return false;
     };
     let fault = refusal.fault;
     let mut text = String::new(alloc);
     match write!(text, "{fault}") {
-        Ok(()) => text.as_str() == message && refusal.offset == 7 && refusal.missing == missing,
+        Ok(()) => text.as_str() == message && refusal.offset == 7 && refusal.missing == None,
         Err(_) => false,
     }
 }
@@ -58,46 +53,11 @@ fn narrow_sizes_past_those_that_are_written(rt: HostRuntime) {
     let alloc = rt.alloc();
     let message = "table size must be at most 0xffffffff entries";
     let answer = alone(alloc, table(0x1_0000_0000, None));
-    assert!(rt; is_refused(alloc, answer, None, message));
+    assert!(rt; is_refused(alloc, answer, message));
     let answer = alone(alloc, table(0, Some(0x1_0000_0000)));
-    assert!(rt; is_refused(alloc, answer, None, message));
+    assert!(rt; is_refused(alloc, answer, message));
     assert!(rt; alone(alloc, memory(0x1_0000_0000)).is_ok());
     let answer = alone(alloc, memory(0x1_0000_0001));
     let message = "memory size must be at most 0x100000000 1-byte pages";
-    assert!(rt; is_refused(alloc, answer, None, message));
-}
-
-/// What is said of a table of these references, which is defined with an initial value.
-fn defined(alloc: Global, features: WasmFeatures, element_type: RefType) -> Result<(), Refusal> {
-    let ty = TableType {
-        element_type,
-        table64: false,
-        initial: 0,
-        maximum: None,
-        shared: false,
-    };
-    check_defined_table(features, &TypeList::new(alloc, true), &[], ty, true, 7)
-}
-
-#[test]
-fn tables_with_an_initial_value(rt: HostRuntime) {
-    let alloc = rt.alloc();
-    assert!(rt; defined(alloc, WasmFeatures::all(), RefType::FUNC).is_ok());
-    let feature = WasmFeatures::FUNCTION_REFERENCES;
-    let mut features = WasmFeatures::all();
-    features.remove(feature);
-    let message = "tables with expression initializers require the function-references proposal";
-    let answer = defined(alloc, features, RefType::FUNCREF);
-    assert!(rt; is_refused(alloc, answer, Some(feature), message));
-}
-
-#[test]
-fn the_type_of_a_mutable_global_needs_nothing(rt: HostRuntime) {
-    let ty = TypeRef::Global(GlobalType {
-        content_type: ValType::I32,
-        mutable: true,
-        shared: false,
-    });
-    let list = TypeList::new(rt.alloc(), true);
-    assert!(rt; check_type_ref(WasmFeatures::empty(), &list, &[], ty, 7).is_ok());
+    assert!(rt; is_refused(alloc, answer, message));
 }

@@ -67,26 +67,6 @@ fn an_equal_type_gets_its_id_again(rt: HostRuntime) -> Result<(), Fail> {
 }
 
 #[test]
-fn each_type_gets_an_id_of_its_own(rt: HostRuntime) -> Result<(), Fail> {
-    let alloc = rt.alloc();
-    let mut list = TypeList::new(alloc, false);
-    let first = list.intern_func_type(signature(alloc), 0)?;
-    let second = list.intern_func_type(signature(alloc), 0)?;
-    assert!(rt; (first.index(), second.index()) == (0, 1));
-    Ok(())
-}
-
-#[test]
-fn a_type_is_found_under_its_id(rt: HostRuntime) -> Result<(), Fail> {
-    let mut list = TypeAlloc::new(rt.alloc(), true);
-    let id = list.intern_func_type(signature(rt.alloc()), 0)?;
-    assert!(rt; list.get(id).is_some());
-    assert!(rt; list[id].is_final);
-    assert!(rt; list.supertype_of(id).is_none());
-    Ok(())
-}
-
-#[test]
 fn a_group_is_found_by_its_type(rt: HostRuntime) -> Result<(), Fail> {
     let mut list = TypeAlloc::new(rt.alloc(), true);
     let id = list.intern_func_type(signature(rt.alloc()), 0)?;

@@ -4,9 +4,8 @@ use std::alloc::Global;
 use std::collections::HashMap;
 use std::test::Fail;
 use wasm_readers_types::{
-    AbstractHeapType, CompositeInnerType, ContType, CoreTypeId, FuncType, HeapType, Items, MAX_IDS,
-    PackedIndex, RecGroup, RefType, SubType, UnpackedIndex, ValType, copied, same, same_group,
-    same_sub, same_val,
+    AbstractHeapType, CoreTypeId, FuncType, HeapType, Items, MAX_IDS, PackedIndex, RecGroup,
+    RefType, SubType, UnpackedIndex, ValType, copied, same, same_group, same_sub, same_val,
 };
 
 fn swap_types(alloc: Global) -> Result<FuncType, Fail> {
@@ -65,17 +64,5 @@ fn a_group_is_found_however_it_is_written(rt: HostRuntime) -> Result<(), Fail> {
     let mut map = HashMap::new(alloc);
     map.insert(explicit, 3u32)?;
     assert!(rt; map.get(&implicit).copied() == Some(3));
-    Ok(())
-}
-
-#[test]
-fn composite_types_of_two_kinds_differ(rt: HostRuntime) -> Result<(), Fail> {
-    let alloc = rt.alloc();
-    let func = CompositeInnerType::Func(swap_types(alloc)?);
-    let copy = func.clone()?;
-    assert!(rt; func == copy);
-    let index = PackedIndex::from_module_index(0);
-    let cont: CompositeInnerType = CompositeInnerType::Cont(ContType(index));
-    assert!(rt; func != cont);
     Ok(())
 }
