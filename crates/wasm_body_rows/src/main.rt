@@ -1,8 +1,10 @@
 //! `wasm-body-rows FILE..` runs rows, each a function's body with the answer that is wanted of it,
-//! over one sample of types, functions, tables and the like, and tells the wrong ones.
+//! over one sample of types, functions, tables and the like, or a single operator with what it is,
+//! and tells the wrong ones.
 #![tactic(auto)]
 
 mod features;
+mod operators;
 mod row;
 mod run;
 mod sample;

@@ -112,7 +112,7 @@ pub fn judge<'a>(
 }
 
 /// The bytes that these hexadecimal digits stand for, and none for `-`.
-fn parse_bytes(alloc: Global, text: &str) -> Result<Vec<u8>, Trouble> {
+pub fn parse_bytes(alloc: Global, text: &str) -> Result<Vec<u8>, Trouble> {
     if text == "-" {
         return Ok(Vec::new(alloc));
     }

@@ -1,5 +1,6 @@
 ghost use Rattle.std.specs.Prelude.{◌≡◌, ◌<◌, ◌≤◌, ◌↔◌, true, false};
 
+use crate::operators::{OPERATOR, judge_operator};
 use crate::row::{Difference, judge};
 use crate::sample::Sample;
 use std::alloc::Global;
@@ -169,7 +170,11 @@ fn run_line<W: Write, E: Write>(
     out: &mut W,
     err: &mut E,
 ) -> Outcome {
-    match judge(alloc, sample, line) {
+    let answer = match line.strip_prefix(OPERATOR) {
+        Some(row) => judge_operator(alloc, row),
+        None => judge(alloc, sample, line),
+    };
+    match answer {
         Ok(None) => Outcome::Right,
         Ok(Some(difference)) => match print_difference(line, &difference, out) {
             Ok(()) => Outcome::Wrong,

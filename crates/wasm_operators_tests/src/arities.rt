@@ -1,7 +1,6 @@
 //! How many operands operators take and give, in a body of one module.
 
-use crate::first;
-use crate::numbers::parts;
+use crate::bytes::{first, parts};
 use std::alloc::Global;
 use std::test::Fail;
 use wasm_operator_arity::{FrameStack, ModuleArity, operator_arity};

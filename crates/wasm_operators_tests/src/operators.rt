@@ -1,12 +1,8 @@
-use crate::numbers::{is_whole, parts};
+use crate::bytes::{first, is_whole, parts, reader};
 use crate::table::{EXPRESSIONS, LISTS};
-use crate::{first, reader};
 use std::alloc::Global;
 use std::test::Fail;
-use wasm_operators::{
-    ControlOperator, Operator, ParametricOperator, read_expression, read_operator,
-};
-use wasm_readers_errors::{Fault, Malformed};
+use wasm_operators::{ControlOperator, Operator, ParametricOperator, read_expression};
 
 /// What an operator with a list holds: its other part, and its first items.
 fn listed(alloc: Global, bytes: &[u8]) -> Result<String, Fail> {
@@ -76,18 +72,4 @@ fn expressions(rt: HostRuntime) -> Result<(), Fail> {
     // A block, and an `if` with its `else`, in the expression.
     assert!(rt; has_no_front(b"\x02\x40\x41\x01\x04\x40\x05\x0b\x0b\x0b"));
     Ok(())
-}
-
-/// Where and why the second operator is refused, if only that is.
-fn second_refusal(bytes: &[u8]) -> Option<(Fault, u64)> {
-    let mut reader = reader(bytes)?;
-    read_operator(&mut reader).ok()?;
-    let refusal = read_operator(&mut reader).err()?;
-    Some((refusal.fault, refusal.offset))
-}
-
-#[test]
-fn an_unknown_operator_is_refused_where_it_begins(rt: HostRuntime) {
-    let refusal = second_refusal(b"\x01\xfb\x80\x01");
-    assert!(rt; refusal == Some((Fault::Malformed(Malformed::Opcode), 1)));
 }

@@ -1,7 +1,7 @@
 //! Parsing of whole inputs, whose first byte has the offset 100: how many payloads come, and what
 //! each holds.
 
-use crate::numbers::parts;
+use crate::bytes::parts;
 use std::alloc::Global;
 use std::test::Fail;
 use wasm_parser::{Parser, Payload};
