@@ -10,9 +10,6 @@ ghost use Rattle.wasm_linking_tests.specs.Links.{HaveOneId, MayLink};
 use std::alloc::Allocator;
 use wasm_validator::{Error, Types, Validator, ValidatorId, validate_list};
 
-#[cfg(test)]
-mod tests;
-
 /// Whether the functions with these indices are there, and their types have one id.
 fn have_one_id<A: Allocator + Copy>(
     exporter: &Types<A>,

@@ -1,76 +1,9 @@
 //! `wasm-validate FILE...` says of each file whether it is a valid WebAssembly module.
 #![tactic(auto)]
 
-ghost use Rattle.std.specs.Prelude.{◌≡◌, ◌≤◌, IfOk};
-ghost use Rattle.wasm_validate.specs.Files.{IsUnread};
-ghost use Rattle.wasm_validate.specs.Words.{IsNoText, name_of};
-
-mod lines;
-mod run;
-mod words;
-
-use run::{Input, print_error, run};
-use std::alloc::AllocError;
-use std::env::Env;
-use std::fs;
-use std::io::{self, Write};
 use std::process::ExitCode;
-use std::rt::Files;
-use words::{Word, read_words};
+use wasm_validate_files::validate_arguments;
 
 fn main(rt: HostRuntime) -> ExitCode {
     ExitCode::from(validate_arguments(&rt, &mut rt.stdout(), &mut rt.stderr()))
-}
-
-/// Reads the files that the arguments name, and validates them. The answer is the exit status.
-fn validate_arguments<R: Env + Files + AllocGlobal, W: Write, E: Write>(
-    rt: &R,
-    out: &mut W,
-    err: &mut E,
-) -> u8
-    ensures { result ≤ 2 }
-{
-    match read_arguments(rt) {
-        Ok(files) => run(rt.alloc(), files.as_slice(), out, err),
-        Err(_) => print_error(err, "out of memory"),
-    }
-}
-
-/// The files that the arguments name, up to the first that can't be read: that one ends everything.
-/// Only memory can be refused. All words are read before the first file.
-fn read_arguments<R: Env + Files + AllocGlobal>(rt: &R) -> Result<Vec<Input>, AllocError> {
-    let words = read_words(rt)?;
-    let mut files = Vec::with_capacity(rt.alloc(), words.len())?;
-    'words: for word in words {
-        let file = read_file(rt, word)?;
-        let is_read = file.bytes.is_some();
-        files.push(file)?;
-        if !is_read {
-            break;
-        }
-    }
-    Ok(files)
-}
-
-/// The file that this word names, with what it holds where it can be read. Only memory can be
-/// refused.
-fn read_file<R: Files + AllocGlobal>(rt: &R, word: Word) -> Result<Input, AllocError>
-    ensures named { IfOk result (λ file. file.name ≡ name_of word) }
-    ensures no_text { IsNoText word → IfOk result IsUnread }
-{
-    match word {
-        Word::NoText(name) => Ok(Input { name, bytes: None }),
-        Word::Path(name) => match fs::read(rt, name.as_str()) {
-            Ok(bytes) => Ok(Input {
-                name,
-                bytes: Some(bytes),
-            }),
-            Err(error) => {
-                if error.kind() == io::ErrorKind::OutOfMemory {
-                    return Err(AllocError);
-                }
-                Ok(Input { name, bytes: None })
-            }
-        },
-    }
 }

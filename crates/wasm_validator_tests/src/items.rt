@@ -3,23 +3,15 @@
 ghost use Rattle.std.specs.Prelude.{IfOk};
 ghost use Rattle.wasm_validator_core.specs.Ready.{AreHeld};
 
-use crate::says;
 use bitflags::Flags;
 use std::alloc::Global;
 use std::test::Fail;
 use wasm_readers::{
-    Export, ExternalKind, FuncType, GlobalType, Import, MemoryType, RecGroup, RefType, SubType,
-    TableType, TagKind, TagType, TypeRef, ValType, WasmFeatures,
+    FuncType, GlobalType, Import, MemoryType, RecGroup, RefType, SubType, TableType, TagKind,
+    TagType, TypeRef, ValType, WasmFeatures,
 };
 use wasm_validator::{EntityType, Error, Module, TypeList};
 use wasm_validator_canonical::needs_type_canonicalization;
-
-/// All proposals but this one.
-fn all_but(off: WasmFeatures) -> WasmFeatures {
-    let mut features = WasmFeatures::all();
-    features.remove(off);
-    features
-}
 
 /// A module, and a list of types, with the function type that takes two integers and gives one.
 fn module_of(alloc: Global) -> Result<(TypeList, Module), Error>
@@ -157,46 +149,4 @@ fn functions_are_found_by_their_indices(rt: HostRuntime) -> Result<(), Fail> {
     assert!(rt; takes_two(&list, &module, 1));
     assert!(rt; !takes_two(&list, &module, 2));
     Ok(())
-}
-
-/// What is said of an export of the first global under these features, and the size behind it.
-fn exports_global(
-    alloc: Global,
-    list: &TypeList,
-    module: &mut Module,
-    features: WasmFeatures,
-) -> Result<u32, Error>
-    requires { AreHeld list.now module.old.types }
-    ensures { AreHeld list.now module.new.types }
-{
-    let export = Export {
-        name: "g",
-        kind: ExternalKind::Global,
-        index: 0,
-    };
-    module.add_export(features, alloc, list, &export, 7)?;
-    Ok(module.spaces().effective_size())
-}
-
-#[test]
-fn mutable_globals_are_exported_by_their_proposal(rt: HostRuntime) -> Result<(), Fail> {
-    let alloc = rt.alloc();
-    let (list, mut module) = module_of(alloc)?;
-    imports(&list, &mut module, TypeRef::Global(GLOBAL))?;
-    let fewer = all_but(WasmFeatures::MUTABLE_GLOBAL);
-    let refused = exports_global(alloc, &list, &mut module, fewer);
-    assert!(rt; says(alloc, &refused, 7, "mutable global support is not enabled"));
-    let size = exports_global(alloc, &list, &mut module, WasmFeatures::all());
-    // One, and the global twice.
-    assert!(rt; size.ok() == Some(3));
-    Ok(())
-}
-
-#[test]
-fn limits_follow_the_features(rt: HostRuntime) {
-    let module: Module = Module::new(rt.alloc());
-    let none = WasmFeatures::empty();
-    let all = WasmFeatures::all();
-    assert!(rt; (module.max_tables(none), module.max_memories(none)) == (1, 1));
-    assert!(rt; (module.max_tables(all), module.max_memories(all)) == (100, 100));
 }

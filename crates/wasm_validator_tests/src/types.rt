@@ -6,16 +6,20 @@ ghost use Rattle.wasm_readers_types.specs.SeenValues.{ref_of};
 ghost use Rattle.wasm_validator_type_list.specs.Listing.{types_in};
 ghost use Rattle.wasm_validator_type_list.specs.Subtyping.{IsRefOver};
 
-use crate::check;
 use std::alloc::{AllocError, Global};
 use std::test::Fail;
-use wasm_readers_types::{AbstractHeapType, CoreTypeId, HeapType, RefType, UnpackedIndex, ValType};
-use wasm_validator::TypeList;
+use wasm_readers_types::{AbstractHeapType, CoreTypeId, HeapType, RefType, UnpackedIndex};
+use wasm_validator::{Error, TypeList, Types, ValidatorId, validate};
 use wasm_validator_type_list::LinkCount;
 
 /// Two structures and two functions, the second of each below the first.
 const FOUR: &[u8] =
     b"\0asm\x01\0\0\0\x01\x1b\x04\x50\0\x5f\0\x50\x01\0\x5f\x01\x7f\0\x50\0\x60\x01\x63\x01\0\x50\x01\x02\x60\x01\x63\0\0";
+
+/// What the default features say of these bytes.
+fn check(alloc: Global, bytes: &[u8]) -> Result<Types, Error> {
+    validate(alloc, bytes, ValidatorId::from_number(0))
+}
 
 /// A module of 64 function types, each but the first extending the one before.
 fn chain(alloc: Global) -> Result<Vec<u8>, AllocError> {
@@ -133,28 +137,6 @@ fn types_are_below_abstract_ones(rt: HostRuntime) -> Result<(), Fail> {
     Ok(())
 }
 
-/// Of the first type: whether the reference is below the one or null, and that below it; whether it
-/// is shared; and whether its top is that of all but functions and what comes from outside.
-fn answers_on_first(list: &TypeList) -> Option<[bool; 4]> {
-    let zero = reference(list, 0, false)?;
-    let nullable = zero.nullable();
-    Some([
-        list.valtype_is_subtype(ValType::Ref(zero), ValType::Ref(nullable)),
-        list.valtype_is_subtype(ValType::Ref(nullable), ValType::Ref(zero)),
-        list.reftype_is_shared(zero),
-        list.top_type(&zero.heap_type()) == RefType::ANYREF.heap_type(),
-    ])
-}
-
-#[test]
-fn the_first_type_is_a_structure(rt: HostRuntime) -> Result<(), Fail> {
-    let types = check(rt.alloc(), FOUR)?;
-    let list = types.as_ref().type_list();
-    assert!(rt; answers_on_first(list) == Some([true, false, false, true]));
-    assert!(rt; list.valtype_is_shared(ValType::I32));
-    Ok(())
-}
-
 /// Whether what the first type declares matches what the second one does, if the list has both.
 fn matches(list: &TypeList, a: u32, b: u32) -> Option<bool> {
     let (a, b) = (CoreTypeId::from_index(a), CoreTypeId::from_index(b));
@@ -174,13 +156,5 @@ fn types_match_by_their_structure(rt: HostRuntime) -> Result<(), Fail> {
     assert!(rt; matches(list, 3, 2) == Some(true));
     assert!(rt; matches(list, 2, 3) == Some(false));
     assert!(rt; matches(list, 2, 0) == Some(false));
-    Ok(())
-}
-
-#[test]
-fn a_type_is_shown_by_its_id(rt: HostRuntime) -> Result<(), Fail> {
-    let types = check(rt.alloc(), FOUR)?;
-    assert!(rt; types.as_ref().get(CoreTypeId::from_index(3)).is_some());
-    assert!(rt; types.as_ref().get(CoreTypeId::from_index(4)).is_none());
     Ok(())
 }

@@ -1,0 +1,112 @@
+-- From the answers of one validator on files to what the exit status says of these.
+use Rattle.std.proofs.Common.{ℕ, zero, suc, ◌≡◌, ◌-◌, ◌<◌, ◌≤◌, List, [], ◌∷◌, length, map, take, get_or, slice_get, Option, Some, None, Bool, true, false, not, cond, inl, inr, refl, sym, ap, subst, ◌∙◌, arith}
+use Rattle.std.specs.Prelude.{sum, find, Any}
+use Rattle.std.specs.Option.{is_some}
+use Rattle.std.specs.List.{All, AllZip}
+use Rattle.std.specs.declared.result.Result.{Result}
+use Rattle.std.specs.declared.result.Result.TheVariants.{Ok, Err}
+use Rattle.std.proofs.lemmas.Option.{none-some, slice_get_cases, get_or_from_slice_get, slice_get_within}
+use Rattle.std.proofs.lemmas.Bool.{false≢true}
+use Rattle.std.proofs.lemmas.List.{length-map}
+use Rattle.std.proofs.lemmas.List.Elements.{All-nil, All-cons}
+use Rattle.std.proofs.lemmas.List.Sums.{sum_by-take-le}
+use Rattle.wasm_readers_errors.specs.declared.features.TheConstants.WasmFeatures.{STANDARD}
+use Rattle.wasm_readers_types.specs.declared.indices.TheConstants.{MAX_IDS}
+use Rattle.wasm_rules.specs.FeatureFlags.{features_of}
+use Rattle.wasm_module_validity.specs.Modules.{up_to_bodies}
+use Rattle.wasm_validator_types.specs.declared.shown.Types as shown
+use Rattle.wasm_validator_core.specs.declared.error.Error.{Error}
+use Rattle.wasm_validator_core.specs.declared.error.Error.TheVariants.{OutOfMemory}
+use Rattle.wasm_validator.specs.Headline.{WritesAtMost, HasRoom, NoneLacksMemory}
+use Rattle.wasm_validate_files.specs.declared.files.Input.{Input}
+use Rattle.wasm_validate_files.specs.Files.{IsRead, IsUnread, is_unread, bytes_held, AreAllAccepted, HoldsAtMost, HasRoomForAll}
+use Rattle.wasm_validate_files.specs.Answers.{IsOkAt, Tells}
+
+-- what the validator answers on a file
+abbrev Told : Type 0 → Type 0
+Told A = Result (shown.Types A) (Error A)
+
+module _ {A : Type 0} where
+  -- where no first file could not be read, each was
+  read_first : (b : Bool) (f : Input A) (rest : Option (Input A)) → None ≡ cond (not b) (Some f) rest → (b ≡ true) × (None ≡ rest)
+  read_first true f rest e = (refl, e)
+  read_first false f rest e = absurd (none-some f e)
+
+  pub all_read : (files : List (Input A)) → None ≡ find is_unread files → All IsRead files
+  all_read [] e = All-nil IsRead
+  all_read (f ∷ fs) e = let first = read_first (is_some f.bytes) f (find is_unread fs) e in All-cons IsRead f fs first.0 (all_read fs first.1)
+
+  pub none_unread : (files : List (Input A)) → None ≡ find is_unread files → Any IsUnread files → ⊥
+  none_unread files e (k, f, l, at, u) = false≢true (ap is_some (sym u) ∙ subst IsRead at (all_read files e k f l))
+
+  -- the bytes of the file at this place
+  held_at : (files : List (Input A)) (k : ℕ) (d : Input A) → k < length files → slice_get (map bytes_held files) k ≡ Some (bytes_held (get_or files k d))
+  held_at [] k d l = absurd (omega arith)
+  held_at (f ∷ fs) zero d l = λ i. Some (bytes_held f)
+  held_at (f ∷ fs) (suc k) d l = held_at fs k d (omega arith)
+
+  -- the room for the types of all files is room for those of the first
+  room_for_first : (n : ℕ) (files : List (Input A)) (counts : List ℕ)
+      → AllZip HoldsAtMost files counts → AllZip (WritesAtMost (features_of STANDARD)) (take n (map bytes_held files)) (take n counts)
+  room_for_first zero files counts z = tt
+  room_for_first (suc n) [] [] z = tt
+  room_for_first (suc n) [] (c ∷ cs) z = absurd z
+  room_for_first (suc n) (f ∷ fs) [] z = absurd z
+  room_for_first (suc n) (f ∷ fs) (c ∷ cs) z = (z.0, room_for_first n fs cs z.1)
+
+  room : (files : List (Input A)) (answers : List (Told A)) → HasRoomForAll files → HasRoom (features_of STANDARD) (map bytes_held files) answers 0
+  room files answers r =
+      let n = length answers in
+      let less : sum (take n r.counts) ≤ sum r.counts = sum_by-take-le (λ (x : ℕ). x) r.counts n in
+      let fit : sum r.counts ≤ MAX_IDS = r.fit in
+      record { counts = take n r.counts; each = room_for_first n files r.counts r.each; fit = omega (arith, less, fit) }
+
+  -- no answer is that memory was refused
+  none_lacks : (files : List (Input A)) (answers : List (Told A)) → Tells files answers → NoneLacksMemory (features_of STANDARD) (map bytes_held files) answers
+  none_lacks files answers tells k e =
+      tells.with_memory (k, Err OutOfMemory, slice_get_within answers k (Err OutOfMemory) e, get_or_from_slice_get answers k (Err OutOfMemory) (Err OutOfMemory) e, tt)
+
+  -- Where each file was read and has the answer that it is valid, it is.
+  pub all_accepted : (files : List (Input A)) (answers : List (Told A))
+      → All IsRead files → Tells files answers → ((k : ℕ) → k < length files → IsOkAt answers k) → AreAllAccepted files
+  all_accepted files answers read tells oks k d l =
+      let ok : IsOkAt answers k = oks k l in
+      (read k d l, (tells.headline.accepted k (bytes_held (get_or files k d)) ok.0 (record { given = held_at files k d l; answered = ok.1 })).module_valid)
+
+  -- where all files are valid modules, no answer on one is a refusal
+  none_refused : (files : List (Input A)) (answers : List (Told A)) → Tells files answers → HasRoomForAll files → AreAllAccepted files
+      → (k : ℕ) (r : Told A) (d : Input A) → k < length files → slice_get answers k ≡ Some r → IsOkAt answers k
+  none_refused files answers tells fits accepted k (Ok t) d l e = (t, e)
+  none_refused files answers tells fits accepted k (Err x) d l e =
+      absurd
+      (tells.headline.refused (none_lacks files answers tells) (room files answers fits) k (bytes_held (get_or files k d)) x (record { given = held_at files k d l; answered = e })
+      (accepted k d l).1)
+
+  -- and the list of answers doesn't stop
+  none_stops : (files : List (Input A)) (answers : List (Told A)) → Tells files answers → HasRoomForAll files → AreAllAccepted files
+      → (k : ℕ) (d : Input A) → k < length files → length answers ≤ k → ⊥
+  none_stops files answers tells fits accepted k d l past =
+      let all : length (map bytes_held files) ≡ length files = length-map files bytes_held in
+      let some : 0 < length answers = tells.headline.first (omega (arith, all)) in
+      let last = length answers - 1 in
+      let within : last < length answers = omega (arith, some) in
+      let read : last < length files = omega (arith, past, l) in
+      elim (slice_get_cases answers last).1 [
+        | inl at ↦
+            tells.headline.stops (none_lacks files answers tells) (room files answers fits) last (bytes_held (get_or files last d)) at.0
+            (record { given = held_at files last d read; answered = at.2 }) (omega (arith, some)) (omega (arith, all, past, l)) (up_to_bodies (accepted last d read).1)
+        | inr behind ↦ absurd (omega (arith, behind.0, within))
+      ]
+
+  -- Where all files are valid modules and there is room for their types, each has the answer that it is.
+  pub all_answered : (files : List (Input A)) (answers : List (Told A)) → Tells files answers → HasRoomForAll files → AreAllAccepted files
+      → (k : ℕ) → k < length files → IsOkAt answers k
+  all_answered files answers tells fits accepted k l =
+      elim (slice_get_cases files k).1 [
+        | inl file ↦
+            elim (slice_get_cases answers k).1 [
+              | inl answer ↦ none_refused files answers tells fits accepted k answer.0 file.0 l answer.2
+              | inr behind ↦ absurd (none_stops files answers tells fits accepted k file.0 l behind.0)
+            ]
+        | inr behind ↦ absurd (omega (arith, behind.0, l))
+      ]

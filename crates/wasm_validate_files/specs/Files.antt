@@ -1,0 +1,44 @@
+-- What the program's answer says of its files.
+use Rattle.std.specs.Prelude.{ℕ, ◌≡◌, ◌≤◌, Bool, not, List, [], None, IsSome, sum}
+use Rattle.std.specs.Option.{is_some, unwrap_or, option_map}
+use Rattle.std.specs.List.{All, AllZip}
+use Rattle.wasm_readers_errors.specs.declared.features.TheConstants.WasmFeatures.{STANDARD}
+use Rattle.wasm_readers_types.specs.declared.indices.TheConstants.{MAX_IDS}
+use Rattle.wasm_rules.specs.FeatureFlags.{features_of}
+use Rattle.wasm_validator.specs.Verdict.{AreModule}
+use Rattle.wasm_validator.specs.Headline.{WritesAtMost}
+use Rattle.wasm_validate_files.specs.declared.files.Input.{Input}
+
+module _ {A : Type 0} where
+  -- the file could be read, or could not be
+  abbrev pub IsRead : Input A → Type 0
+  IsRead f = IsSome f.bytes
+
+  abbrev pub IsUnread : Input A → Type 0
+  IsUnread f = f.bytes ≡ None
+
+  -- the test for the second
+  abbrev pub is_unread : Input A → Bool
+  is_unread f = not (is_some f.bytes)
+
+  -- the bytes of a file, and none where it could not be read
+  abbrev pub bytes_held : Input A → List ℕ
+  bytes_held f = unwrap_or (option_map (λ v. v.items) f.bytes) []
+
+  -- the file was read, and with the default features its bytes are a valid module
+  abbrev pub IsAccepted : Input A → Type 0
+  IsAccepted f = IsRead f × AreModule STANDARD (bytes_held f)
+
+  -- all files are valid modules
+  abbrev pub AreAllAccepted : List (Input A) → Type 0
+  AreAllAccepted files = All IsAccepted files
+
+  -- In the bytes of this file at most so many types are written.
+  abbrev pub HoldsAtMost : Input A → ℕ → Type 0
+  HoldsAtMost f n = WritesAtMost (features_of STANDARD) (bytes_held f) n
+
+  -- A list of types has room for those of all files.
+  pub record HasRoomForAll (files : List (Input A)) : Type 0 where
+    pub counts : List ℕ
+    pub each : AllZip HoldsAtMost files counts
+    pub fit : sum counts ≤ MAX_IDS
