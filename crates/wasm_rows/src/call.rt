@@ -2,7 +2,7 @@ use crate::answer::{Answer, HandedOut};
 use crate::bytes::parse_bytes;
 use crate::row::Trouble;
 use crate::words::split_word;
-use std::alloc::Global;
+use std::alloc::{Allocator, Global};
 use std::ops::Range;
 use wasm_validator::{
     BinaryReader, CustomSectionReader, Encoding, Error, FuncToValidate, FuncValidatorAllocations,
@@ -175,11 +175,11 @@ fn give_body(alloc: Global, validator: &mut Validator, body: &FunctionBody<'_>) 
 }
 
 /// Why the body of this function is refused, where it is.
-fn refusal_of(
-    alloc: Global,
-    function: FuncToValidate<ValidatorResources>,
+fn refusal_of<A: Allocator + Copy>(
+    alloc: A,
+    function: FuncToValidate<ValidatorResources<A>>,
     body: &FunctionBody<'_>,
-) -> Option<Error> {
+) -> Option<Error<A>> {
     match function.validate(body, FuncValidatorAllocations::new(alloc)) {
         Ok(_) => None,
         Err(error) => Some(Error::from(error)),
