@@ -18,13 +18,15 @@ use std::io::{self, Write};
 use std::rt::Files;
 use words::{Word, read_words};
 
-/// Reads the files that the arguments name, and validates them. The answer is the exit status.
+/// Reads the files that the arguments name, and validates them, as [`run`] says. The answer is the
+/// exit status. What files hold is beyond a contract, so only how the call ends is said here.
 pub fn validate_arguments<R: Env + Files + AllocGlobal, W: Write, E: Write>(
     rt: &R,
     out: &mut W,
     err: &mut E,
 ) -> u8
-    ensures { result ≤ 2 }
+    ensures known { result ≤ 2 }
+    ensures quiet { (result ≡ STATUS_TROUBLE → ⊥) → err.new ≡ err.old }
 {
     match read_arguments(rt) {
         Ok(files) => run(rt.alloc(), files.as_slice(), out, err),
