@@ -7,25 +7,29 @@ use wasm_readers::BinaryReader;
 /// What the row of a single operator begins with.
 pub const OPERATOR: &str = "operator ";
 
+/// The answer that is wanted of an operator with a list, which doesn't print its items.
+const LISTED: &str = "read";
+
 /// The answer to the row of a single operator, where it isn't right.
 pub fn judge_operator<'a>(alloc: Global, row: &'a str) -> Result<Option<Difference<'a>>, Trouble> {
     let Some((digits, wanted)) = row.split_once(" | ") else {
         return Err(Trouble::Malformed("an operator without a wanted answer"));
     };
     let mut bytes = parse_bytes(alloc, digits.trim())?;
-    let mut given = String::new(alloc);
-    push_operator(&mut given, &mut bytes)?;
     let wanted = wanted.trim();
+    let mut given = String::new(alloc);
+    push_operator(&mut given, &mut bytes, wanted == LISTED)?;
     if given.as_str() == wanted {
         return Ok(None);
     }
     Ok(Some(Difference { wanted, given }))
 }
 
-/// Adds the operator as it prints itself, and what else is to be said if these bytes aren't those
-/// that it takes; or `refused`.
-fn push_operator(text: &mut String, bytes: &mut Vec<u8>) -> Result<(), Trouble> {
+/// Adds the operator as it prints itself, or `read` for one with a list, and what else is to be
+/// said if these bytes aren't those that it takes; or `refused`.
+fn push_operator(text: &mut String, bytes: &mut Vec<u8>, is_listed: bool) -> Result<(), Trouble> {
     match first(bytes.as_slice()) {
+        Some(_) if is_listed => text.push_str(LISTED)?,
         Some(op) => write!(text, "{op:?}")?,
         None => {
             text.push_str("refused")?;

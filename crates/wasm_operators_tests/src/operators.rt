@@ -1,4 +1,4 @@
-use crate::bytes::{first, is_whole, parts, reader};
+use crate::bytes::{first, parts, reader};
 use crate::table::{EXPRESSIONS, LISTS};
 use std::alloc::Global;
 use std::test::Fail;
@@ -38,10 +38,9 @@ fn listed(alloc: Global, bytes: &[u8]) -> Result<String, Fail> {
 #[test]
 fn lists(rt: HostRuntime) -> Result<(), Fail> {
     for line in LISTS.lines() {
-        let (mut bytes, wanted) = parts(rt.alloc(), line)?;
+        let (bytes, wanted) = parts(rt.alloc(), line)?;
         let given = listed(rt.alloc(), bytes.as_slice())?;
         assert!(rt; given.as_str() == wanted, "{given}");
-        assert!(rt; is_whole(&mut bytes)?, "{line}");
     }
     Ok(())
 }

@@ -98,8 +98,14 @@ fn payloads_hold_their_parts(rt: HostRuntime) -> Result<(), Fail> {
     let alloc = rt.alloc();
     let bytes =
         b"\0asm\x01\0\0\0\0\x03\x01\x61\x05\x03\x02\x01\0\x08\x01\x07\x0a\x04\x01\x02\0\x0b\x0f\x01\x09";
-    let wanted =
-        "version 1 Module 100..108\ncustom a [5] 112 110..113\nfunctions 1 115..117\nstart 7 119..120\ncode 1 122..126 3\nbody [0, 11] 124..126\nunknown 15 [9] 128..129\nend 129";
+    let wanted = "version 1 Module 100..108\n\
+         custom a [5] 112 110..113\n\
+         functions 1 115..117\n\
+         start 7 119..120\n\
+         code 1 122..126 3\n\
+         body [0, 11] 124..126\n\
+         unknown 15 [9] 128..129\n\
+         end 129";
     let mut lines = wanted.lines();
     for payload in Parser::new(alloc, 100).parse_all(bytes) {
         let text = shown(alloc, &payload?)?;
