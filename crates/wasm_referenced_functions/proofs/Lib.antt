@@ -3,3 +3,4 @@ pub mod Marking
 pub mod Loops
 pub mod Naming
 pub mod Passing
+pub mod Unnamed

@@ -1,7 +1,8 @@
 -- A constant expression of one instruction that names no function is passed as it stands.
-use Rattle.std.proofs.Common.{◌≡◌, ◌<◌, ◌-◌, ◌∙◌, refl, sym, ap, ℕ, zero, suc, ℤ, true, false, List, [], ◌∷◌, ◌++◌, length, take, Option, Some, None, option_map, append_assoc, arith, length-append}
+use Rattle.std.proofs.Common.{◌≡◌, ◌<◌, ◌-◌, ◌∙◌, refl, sym, ap, ℕ, zero, suc, ℤ, Bool, true, false, List, [], ◌∷◌, ◌++◌, length, take, Option, Some, None, option_map, append_assoc, arith, length-append}
 use Rattle.std.proofs.Math.Seq.{take-append_seam}
 use Rattle.std.specs.List.{flat_map}
+use Rattle.std.specs.Option.{option_and_then}
 use Rattle.wasm_spec.specs.Values.{u32_at, signed_at}
 use Rattle.wasm_spec.specs.Laws.{IsShorterRest}
 use Rattle.wasm_spec.specs.Features.{Features}
@@ -19,8 +20,8 @@ use Rattle.wasm_operator_steps.specs.ConstantExpressions.{is_constant}
 use Rattle.wasm_module_validity.specs.Expressions.{is_end, behind_end, expression_at, instructions_of, functions_named, named}
 use Rattle.wasm_module_validity.proofs.Cutting.{instruction_is_cut}
 use Rattle.wasm_referenced_functions.specs.References.{marked}
-use Rattle.wasm_referenced_functions.specs.Marking.{mark_read}
-use Rattle.wasm_referenced_functions.specs.Nameless.{is_nameless, BeginsNameless, NamesNothing}
+use Rattle.wasm_referenced_functions.specs.Marking.{mark_read, mark_many, mark_function, mark_functions, mark_element_from}
+use Rattle.wasm_referenced_functions.specs.Nameless.{is_nameless, BeginsNameless, NamesNothing, IsPlain}
 
 no : {P : Type 0} → false ≡ true → P
 no e = absurd cc
@@ -141,3 +142,11 @@ passed b bytes second more x e f =
     instruction_is_cut (features true) x.op expression (b ∷ []) more (nameless-constant (features true) x.op x.is) before in
     nothing_marked bytes expression more (is_read bytes expression more is ends)
     (name_nothing (length expression - 2) expression (b ∷ []) x.op whole_size alone (read_end b (b ∷ []) [] refl f) (nameless-names x.op x.is))
+
+-- a segment of functions whose offset names nothing
+pub plain : (flag count : ℕ) (bytes first second more : List ℕ) → u32_at bytes ≡ Some (flag, first) → flag ≡ 0 → NamesNothing first second → u32_at second ≡ Some (count, more) → IsPlain count bytes more
+plain flag count bytes first second more e z n f flags =
+    ap (λ (o : Option (ℕ × List ℕ)). option_and_then (λ x. mark_element_from x.0 flags x.1) o) e
+    ∙ ap (λ (k : ℕ). mark_element_from k flags first) z
+    ∙ ap (λ (o : Option (List Bool × List ℕ)). option_and_then (λ s. mark_functions s.0 s.1) o) (n flags)
+    ∙ ap (λ (o : Option (ℕ × List ℕ)). option_and_then (λ x. mark_many mark_function x.0 flags x.1) o) f

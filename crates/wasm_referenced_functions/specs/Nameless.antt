@@ -1,9 +1,9 @@
 -- Constant expressions of one instruction that names no function, and of their `end`.
 -- Core Specification 3.0, Binary Format, Instructions (Expressions).
-use Rattle.std.specs.Prelude.{◌≡◌, ℕ, Bool, true, false, List, Some}
+use Rattle.std.specs.Prelude.{◌≡◌, ℕ, ◌==◌, Bool, true, false, not, List, Some}
 use Rattle.wasm_operators.specs.VariableOperator.TheVariants.{GlobalGet}
 use Rattle.wasm_operators.specs.Instructions.{Instruction, constant, variable, instruction_at}
-use Rattle.wasm_referenced_functions.specs.Marking.{mark_expression}
+use Rattle.wasm_referenced_functions.specs.Marking.{mark_many, mark_function, mark_expression, mark_element}
 
 -- constants, and the reading of a global
 abbrev pub is_nameless : Instruction ℕ → Bool
@@ -20,3 +20,11 @@ pub record BeginsNameless (bytes next : List ℕ) : Type 0 where
 -- The bytes begin with a constant expression that names no function, and these are behind it.
 abbrev pub NamesNothing : List ℕ → List ℕ → Type 0
 NamesNothing bytes more = (flags : List Bool) → mark_expression flags bytes ≡ Some (flags, more)
+
+-- a byte that isn't the one that an instruction begins with which names a function
+abbrev pub is_other : ℕ → Bool
+is_other b = not (b == 0xd2)
+
+-- The bytes begin with an element segment of so many functions whose offset names none, and their indices are behind these.
+abbrev pub IsPlain : ℕ → List ℕ → List ℕ → Type 0
+IsPlain count bytes more = (flags : List Bool) → mark_element flags bytes ≡ mark_many mark_function count flags more

@@ -8,8 +8,9 @@ ghost use Rattle.wasm_referenced_functions.specs.Marking.{GoesPast, mark_express
 
 use crate::expressions::mark_expression;
 use crate::flags::ReferencedFunctions;
-use crate::functions::mark_functions;
+use crate::functions::{mark_each_function, mark_functions};
 use crate::items::{NamingItem, mark_list};
+use crate::nameless::next_plain_segment;
 use std::alloc::Allocator;
 use wasm_readers::BinaryReader;
 use wasm_readers::types::read_ref_type;
@@ -125,6 +126,19 @@ fn mark_element_from<A: Allocator + Copy>(
     }
 }
 
+/// An element segment.
+#[inline(never)]
+fn mark_any_element<A: Allocator + Copy>(
+    referenced: &mut ReferencedFunctions<A>,
+    reader: &mut BinaryReader<'_>,
+) -> Result<(), Error>
+    ensures past { GoesPast result (mark_element referenced.old (rest reader.old)) referenced.new
+        (rest reader.new) }
+{
+    let flag = reader.read_var_u32()?;
+    mark_element_from(referenced, flag, reader)
+}
+
 /// Element segments.
 pub(crate) struct ElementEntry {}
 
@@ -135,7 +149,13 @@ impl<A: Allocator + Copy> NamingItem<A> for ElementEntry {
         referenced: &mut ReferencedFunctions<A>,
         reader: &mut BinaryReader<'_>,
     ) -> Result<(), Error> {
-        let flag = reader.read_var_u32()?;
-        mark_element_from(referenced, flag, reader)
+        let mut ahead = *reader;
+        match next_plain_segment(&mut ahead) {
+            Some(count) => {
+                reader.go_on_from(&ahead);
+                mark_each_function(referenced, count, reader)
+            }
+            None => mark_any_element(referenced, reader),
+        }
     }
 }

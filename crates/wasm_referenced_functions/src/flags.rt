@@ -1,6 +1,6 @@
 //! Flags of functions.
 
-ghost use Rattle.std.specs.Prelude.{◌≡◌, ◌≤◌, true, false, [], length, Some, OnOk};
+ghost use Rattle.std.specs.Prelude.{◌≡◌, ◌≤◌, ◌-◌, true, false, [], length, drop, Some, OnOk};
 ghost use Rattle.wasm_binary_reader.specs.Reader.{SameInput, rest};
 ghost use Rattle.wasm_referenced_functions.specs.References.{mark};
 ghost use Rattle.wasm_referenced_functions.specs.Marking.{mark_many, mark_function};
@@ -8,6 +8,9 @@ ghost use Rattle.wasm_referenced_functions.specs.Marking.{mark_many, mark_functi
 use std::alloc::{AllocError, Allocator, Global};
 use std::marker::Model;
 use wasm_readers::BinaryReader;
+
+/// From so many functions on their indices are first taken as bytes.
+const MANY_FUNCTIONS: u32 = 16;
 
 /// A flag for each function of a module, set where the function counts as referenced. A contract
 /// sees the flags. Behind the last one no function counts.
@@ -72,7 +75,11 @@ impl<A: Allocator + Copy> ReferencedFunctions<A> {
             ≡ mark_many mark_function count self.old (rest reader.old) }
         ensures fewer { result ≤ count }
     {
-        set_flags(self.flags.as_mut_slice(), count, reader)
+        let mut left = count;
+        if count >= MANY_FUNCTIONS {
+            left = set_run(self.flags.as_mut_slice(), count, reader);
+        }
+        set_flags(self.flags.as_mut_slice(), left, reader)
     }
 }
 
@@ -86,6 +93,52 @@ fn add_mark<A: Allocator>(flags: &mut Vec<bool, A>, place: usize) -> Result<(), 
         flags.push(false)?;
     }
     Ok(flags.push(true)?)
+}
+
+/// The least of two.
+#[inline(always)]
+fn least(a: usize, b: usize) -> usize
+    ensures first { result ≤ a }
+    ensures second { result ≤ b }
+{
+    if a < b { a } else { b }
+}
+
+/// Sets the flags of the functions whose indices are the first bytes, so many at the most, and
+/// gives how many these are: up to one that is no index alone, or whose flag isn't there.
+fn set_each(flags: &mut [bool], bytes: &[u8], count: u32) -> usize
+    ensures within { result ≤ length bytes.now }
+    ensures fewer { result ≤ count }
+    ensures so_far { mark_many mark_function (count - result) flags.new (drop result bytes.now)
+        ≡ mark_many mark_function count flags.old bytes.now }
+{
+    let most = least(count as usize, bytes.len());
+    let limit = least(flags.len(), 128);
+    let mut at = 0;
+    'functions: while at < most {
+        let place = bytes[at] as usize;
+        if place >= limit {
+            return at;
+        }
+        flags[place] = true;
+        at += 1;
+    }
+    at
+}
+
+/// Sets the flags of functions whose indices are next, so many at the most, as far as each is one
+/// byte and its flag is there, and gives how many of these are left.
+fn set_run(flags: &mut [bool], count: u32, reader: &mut BinaryReader<'_>) -> u32
+    ensures so_far { mark_many mark_function result flags.new (rest reader.new)
+        ≡ mark_many mark_function count flags.old (rest reader.old) }
+    ensures fewer { result ≤ count }
+{
+    let bytes = reader.remaining();
+    let set = set_each(flags, bytes, count);
+    match reader.read_reader(set) {
+        Ok(_) => count - set as u32,
+        Err(_) => unreachable!(),
+    }
 }
 
 /// Sets the flag of the function whose index is next, and tells whether both are there.

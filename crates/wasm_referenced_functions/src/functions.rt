@@ -10,7 +10,7 @@ use wasm_readers::BinaryReader;
 use wasm_readers_errors::Error;
 
 /// Goes past so many indices of functions, and marks the functions.
-fn mark_each_function<A: Allocator + Copy>(
+pub(crate) fn mark_each_function<A: Allocator + Copy>(
     referenced: &mut ReferencedFunctions<A>,
     count: u32,
     reader: &mut BinaryReader<'_>,

@@ -1,8 +1,8 @@
 //! Constant expressions of one operator that names no function.
 
-ghost use Rattle.std.specs.Prelude.{◌≡◌, OnSome};
+ghost use Rattle.std.specs.Prelude.{◌≡◌, OnSome, IfSome};
 ghost use Rattle.wasm_binary_reader.specs.Reader.{SameInput, rest};
-ghost use Rattle.wasm_referenced_functions.specs.Nameless.{BeginsNameless, NamesNothing};
+ghost use Rattle.wasm_referenced_functions.specs.Nameless.{BeginsNameless, NamesNothing, IsPlain};
 
 use wasm_readers::BinaryReader;
 
@@ -44,4 +44,20 @@ pub(crate) fn next_nameless_expression(reader: &mut BinaryReader<'_>) -> Option<
     } else {
         None
     }
+}
+
+/// Goes past what an element segment begins with that holds functions and goes to the first table,
+/// at an offset that names none, and gives how many functions follow. Else the reader may stand
+/// further on.
+#[inline(always)]
+#[tactic(auto, using(crate::proofs::Passing::plain))]
+pub(crate) fn next_plain_segment(reader: &mut BinaryReader<'_>) -> Option<u32>
+    ensures same { SameInput reader.old reader.new }
+    ensures some { IfSome result (λ count. IsPlain count (rest reader.old) (rest reader.new)) }
+{
+    if reader.next_var_u32()? != 0 {
+        return None;
+    }
+    next_nameless_expression(reader)?;
+    reader.next_var_u32()
 }

@@ -1,5 +1,7 @@
 //! Sections that were accepted, read once more for the functions that their items name.
 
+ghost use Rattle.std.specs.Prelude.{◌≡◌};
+ghost use Rattle.std.specs.List.{list_all};
 ghost use Rattle.wasm_spec.specs.BinaryModules.{export_at};
 ghost use Rattle.wasm_spec.specs.BinarySections.{table_entry_at, global_entry_at, element_at};
 ghost use Rattle.wasm_rules.specs.LinkRules.{exported_functions};
@@ -9,7 +11,8 @@ ghost use Rattle.wasm_readers.specs.Written.{written};
 ghost use Rattle.wasm_module_validity.specs.Expressions.{expression_at};
 ghost use Rattle.wasm_referenced_functions.specs.References.{table_names, global_names, element_names};
 ghost use Rattle.wasm_referenced_functions.specs.Marks.{MarksNames};
-ghost use Rattle.wasm_referenced_functions.specs.Marking.{EndsWith, mark_many};
+ghost use Rattle.wasm_referenced_functions.specs.Marking.{EndsWith, mark_many, mark_global};
+ghost use Rattle.wasm_referenced_functions.specs.Nameless.{is_other};
 
 use crate::elements::ElementEntry;
 use crate::entries::{ExportEntry, GlobalEntry, TableEntry};
@@ -34,6 +37,37 @@ fn mark_section<A: Allocator, I: NamingItem<A>>(
         Err(Error::Refused(_)) => Ok(()),
         Err(Error::OutOfMemory) => Err(AllocError),
     }
+}
+
+/// The byte that an instruction begins with which names a function.
+const REF_FUNC: u8 = 0xd2;
+
+/// Whether none of the bytes is the one that an instruction begins with which names a function.
+fn names_none(bytes: &[u8]) -> bool
+    ensures { result ≡ list_all is_other bytes.now }
+{
+    for byte in bytes {
+        if *byte == REF_FUNC {
+            return false;
+        }
+    }
+    true
+}
+
+/// Marks the functions that so many globals name, up to the first that can't be read.
+#[tactic(auto, using(crate::proofs::Unnamed::nothing_marked))]
+fn mark_each_global<A: Allocator + Copy>(
+    referenced: &mut ReferencedFunctions<A>,
+    count: u32,
+    reader: BinaryReader<'_>,
+) -> Result<(), AllocError>
+    ensures { EndsWith result (mark_many mark_global count referenced.old (rest reader.entry))
+        referenced.new }
+{
+    if names_none(reader.remaining()) {
+        return Ok(());
+    }
+    mark_section::<A, GlobalEntry>(referenced, count, reader)
 }
 
 /// Marks the functions that the initializers of the tables name. The section has been accepted:
@@ -65,7 +99,7 @@ pub fn mark_globals<'a, A: Allocator + Copy>(
     ensures marked { MarksNames (global_entry_at expression_at written) global_names
         (count_of section.now) (bytes_of section.now) result referenced.old referenced.new }
 {
-    mark_section::<A, GlobalEntry>(referenced, section.count(), section.reader())
+    mark_each_global(referenced, section.count(), section.reader())
 }
 
 /// Marks the functions that are exported. The section has been accepted: where its items can't be

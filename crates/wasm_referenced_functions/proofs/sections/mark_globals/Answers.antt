@@ -12,5 +12,5 @@ pub returns : goal.returns
 returns g c = record {
   marked =
       section_marked global_names (global_entry_at expression_at written) mark_global global_goes c.count.result (count_of c.args.section.now) (rest c.reader.result) (bytes_of c.args.section.now)
-      c.mark_section.result c.args.referenced.now c.mark_section.new.referenced c.count.ensures c.reader.ensures.rest c.mark_section.ensures;
+      c.mark_each_global.result c.args.referenced.now c.mark_each_global.new.referenced c.count.ensures c.reader.ensures.rest c.mark_each_global.ensures;
 }
