@@ -3,3 +3,5 @@ pub mod Finding
 pub mod Anywhere
 pub mod Written
 pub mod Loops
+pub mod Known
+pub mod PlainSegments

@@ -5,5 +5,7 @@ pub mod Globals
 pub mod Data
 pub mod Lists
 pub mod Elements
+pub mod Known
+pub mod Plain
 pub mod Answers
 pub use Rattle.wasm_constant_checks.specs.Checked

@@ -7,10 +7,10 @@ ghost use Rattle.wasm_constant_checks.specs.Checked.{IsRefusedAt, StandsIn};
 ghost use Rattle.wasm_constant_items.specs.Answers.{GoesPast};
 ghost use Rattle.wasm_constant_items.specs.Data.{behind_data_mode, behind_data};
 
+use crate::memory::ExpressionMemory;
 use crate::offsets::check_memory_offset;
 use bitflags::Flags;
 use std::alloc::Allocator;
-use wasm_constant_checks::OperatorValidatorAllocations;
 use wasm_module_resources::WasmModuleResources;
 use wasm_readers::BinaryReader;
 use wasm_readers_errors::{Error, Fault, ItemRule, Malformed, Refusal, WasmFeatures};
@@ -32,14 +32,14 @@ pub(crate) fn no_bulk_memory(rule: ItemRule, offset: u64) -> Error
 }
 
 /// Reads where a data segment with this flag goes, and types its offset.
-fn check_data_mode<'a, A: Allocator, T: WasmModuleResources>(
-    allocations: OperatorValidatorAllocations<A>,
+fn check_data_mode<'a, A: Allocator + Copy, T: WasmModuleResources>(
+    memory: &mut ExpressionMemory<A>,
     features: WasmFeatures,
     resources: &T,
     imported_globals: u32,
     flag: u32,
     reader: &mut BinaryReader<'a>,
-) -> Result<OperatorValidatorAllocations<A>, Error>
+) -> Result<(), Error>
     ensures past { GoesPast result (behind_data_mode (T.context resources.now)
         (features_of features) imported_globals flag (rest reader.old)) (rest reader.new) }
     ensures input { SameInput reader.old reader.new }
@@ -47,17 +47,10 @@ fn check_data_mode<'a, A: Allocator, T: WasmModuleResources>(
     ensures place { IfErr result (StandsIn reader.old) }
 {
     match flag {
-        0 => check_memory_offset(
-            allocations,
-            features,
-            resources,
-            imported_globals,
-            0,
-            reader,
-        ),
+        0 => check_memory_offset(memory, features, resources, imported_globals, 0, reader),
         1 => {
             if features.contains(WasmFeatures::BULK_MEMORY) {
-                return Ok(allocations);
+                return Ok(());
             }
             let offset = reader.original_position();
             Err(no_bulk_memory(ItemRule::PassiveData, offset))
@@ -65,7 +58,7 @@ fn check_data_mode<'a, A: Allocator, T: WasmModuleResources>(
         2 => {
             let memory_index = reader.read_var_u32()?;
             check_memory_offset(
-                allocations,
+                memory,
                 features,
                 resources,
                 imported_globals,
@@ -77,8 +70,8 @@ fn check_data_mode<'a, A: Allocator, T: WasmModuleResources>(
     }
 }
 
-/// Reads a data segment, and types its offset in memory that was used before, which is handed on.
-/// So many globals are imported, and they come first.
+/// Reads a data segment, and types its offset in memory that is used again. So many globals are
+/// imported, and they come first.
 ///
 /// # Errors
 ///
@@ -87,13 +80,13 @@ fn check_data_mode<'a, A: Allocator, T: WasmModuleResources>(
 /// constant expression of the memory's address type (Core Specification 3.0, Validation, Modules,
 /// Data Segments); and where memory is.
 #[tactic(auto, unfolding(crate::specs::Data::behind_data))]
-pub fn check_data<'a, A: Allocator, T: WasmModuleResources>(
-    allocations: OperatorValidatorAllocations<A>,
+pub fn check_data<'a, A: Allocator + Copy, T: WasmModuleResources>(
+    memory: &mut ExpressionMemory<A>,
     features: WasmFeatures,
     resources: &T,
     imported_globals: u32,
     reader: &mut BinaryReader<'a>,
-) -> Result<OperatorValidatorAllocations<A>, Error>
+) -> Result<(), Error>
     ensures past { GoesPast result (behind_data (T.context resources.now) (features_of features)
         imported_globals (rest reader.old)) (rest reader.new) }
     ensures input { SameInput reader.old reader.new }
@@ -101,14 +94,7 @@ pub fn check_data<'a, A: Allocator, T: WasmModuleResources>(
     ensures place { IfErr result (StandsIn reader.old) }
 {
     let flag = reader.read_var_u32()?;
-    let allocations = check_data_mode(
-        allocations,
-        features,
-        resources,
-        imported_globals,
-        flag,
-        reader,
-    )?;
+    check_data_mode(memory, features, resources, imported_globals, flag, reader)?;
     reader.read_sized()?;
-    Ok(allocations)
+    Ok(())
 }

@@ -13,10 +13,11 @@ ghost use Rattle.wasm_constant_items.specs.Elements.{index_if, written_type_at, 
 use crate::data::{no_bulk_memory, unknown_flag};
 use crate::globals::refused_at;
 use crate::lists::{check_expression_list, check_function_list};
+use crate::memory::ExpressionMemory;
 use crate::offsets::check_table_offset;
+use crate::plain::next_plain_segment;
 use bitflags::Flags;
 use std::alloc::Allocator;
-use wasm_constant_checks::OperatorValidatorAllocations;
 use wasm_module_resources::WasmModuleResources;
 use wasm_readers::BinaryReader;
 use wasm_readers::types::read_ref_type;
@@ -113,15 +114,15 @@ fn check_items_type<'a, T: WasmModuleResources>(
 
 /// The table that a segment with this flag goes to, if it goes to one, behind its offset.
 #[tactic(auto, unfolding(crate::specs::Elements::segment_table_at))]
-fn check_segment_table<'a, A: Allocator, T: WasmModuleResources>(
-    allocations: OperatorValidatorAllocations<A>,
+fn check_segment_table<'a, A: Allocator + Copy, T: WasmModuleResources>(
+    memory: &mut ExpressionMemory<A>,
     features: WasmFeatures,
     resources: &T,
     imported_globals: u32,
     flag: u32,
     reader: &mut BinaryReader<'a>,
-) -> Result<(Option<u32>, OperatorValidatorAllocations<A>), Error>
-    ensures reads { Reads (λ x. x.0) result (segment_table_at (T.context resources.now)
+) -> Result<Option<u32>, Error>
+    ensures reads { Reads (λ x. x) result (segment_table_at (T.context resources.now)
         (features_of features) imported_globals flag (rest reader.old)) (rest reader.new) }
     ensures input { SameInput reader.old reader.new }
     ensures onward { position_in reader.old ≤ position_in reader.new }
@@ -129,21 +130,21 @@ fn check_segment_table<'a, A: Allocator, T: WasmModuleResources>(
 {
     if flag & 1 != 0 {
         if features.contains(WasmFeatures::BULK_MEMORY) {
-            return Ok((None, allocations));
+            return Ok(None);
         }
         let offset = reader.original_position();
         return Err(no_bulk_memory(ItemRule::PassiveElements, offset));
     }
     let table_index = read_index_if(reader, flag & 2 != 0)?;
-    let allocations = check_table_offset(
-        allocations,
+    check_table_offset(
+        memory,
         features,
         resources,
         imported_globals,
         table_index,
         reader,
     )?;
-    Ok((Some(table_index), allocations))
+    Ok(Some(table_index))
 }
 
 /// Whether items of this type may go to the table, if there is one.
@@ -160,15 +161,15 @@ fn may_go<T: WasmModuleResources>(resources: &T, table: Option<u32>, ty: ValType
 }
 
 /// Reads the items of a segment with this flag, which are of this type.
-fn check_items<'a, A: Allocator, T: WasmModuleResources>(
-    allocations: OperatorValidatorAllocations<A>,
+fn check_items<'a, A: Allocator + Copy, T: WasmModuleResources>(
+    memory: &mut ExpressionMemory<A>,
     features: WasmFeatures,
     resources: &T,
     imported_globals: u32,
     flag: u32,
     ty: ValType,
     reader: &mut BinaryReader<'a>,
-) -> Result<OperatorValidatorAllocations<A>, Error>
+) -> Result<(), Error>
     ensures past { GoesPast result (behind_items (T.context resources.now)
         (features_of features) imported_globals flag (val_of ty) (rest reader.old))
         (rest reader.new) }
@@ -177,17 +178,10 @@ fn check_items<'a, A: Allocator, T: WasmModuleResources>(
     ensures place { IfErr result (StandsIn reader.old) }
 {
     if flag & 4 != 0 {
-        return check_expression_list(
-            allocations,
-            features,
-            resources,
-            imported_globals,
-            ty,
-            reader,
-        );
+        return check_expression_list(memory, features, resources, imported_globals, ty, reader);
     }
     check_function_list(resources, reader)?;
-    Ok(allocations)
+    Ok(())
 }
 
 /// The refusal of items that the segment's table may not hold, at this offset.
@@ -200,8 +194,8 @@ fn wrong_items(offset: u64) -> Error
 
 /// Reads the items of a segment with this flag, which are of this type and go to this table, if
 /// they go to one.
-fn check_items_for<'a, A: Allocator, T: WasmModuleResources>(
-    allocations: OperatorValidatorAllocations<A>,
+fn check_items_for<'a, A: Allocator + Copy, T: WasmModuleResources>(
+    memory: &mut ExpressionMemory<A>,
     features: WasmFeatures,
     resources: &T,
     imported_globals: u32,
@@ -209,8 +203,8 @@ fn check_items_for<'a, A: Allocator, T: WasmModuleResources>(
     table: Option<u32>,
     ty: ValType,
     reader: &mut BinaryReader<'a>,
-) -> Result<(ValType, OperatorValidatorAllocations<A>), Error>
-    ensures reads { Reads (λ x. val_of x.0) result (typed_items_at (T.context resources.now)
+) -> Result<ValType, Error>
+    ensures reads { Reads val_of result (typed_items_at (T.context resources.now)
         (features_of features) imported_globals flag table (val_of ty) (rest reader.old))
         (rest reader.new) }
     ensures input { SameInput reader.old reader.new }
@@ -220,8 +214,8 @@ fn check_items_for<'a, A: Allocator, T: WasmModuleResources>(
     if !may_go(resources, table, ty) {
         return Err(wrong_items(reader.original_position()));
     }
-    let allocations = check_items(
-        allocations,
+    check_items(
+        memory,
         features,
         resources,
         imported_globals,
@@ -229,19 +223,19 @@ fn check_items_for<'a, A: Allocator, T: WasmModuleResources>(
         ty,
         reader,
     )?;
-    Ok((ty, allocations))
+    Ok(ty)
 }
 
 /// Reads an element segment with this flag.
-fn check_element_from<'a, A: Allocator, T: WasmModuleResources>(
-    allocations: OperatorValidatorAllocations<A>,
+fn check_element_from<'a, A: Allocator + Copy, T: WasmModuleResources>(
+    memory: &mut ExpressionMemory<A>,
     features: WasmFeatures,
     resources: &T,
     imported_globals: u32,
     flag: u32,
     reader: &mut BinaryReader<'a>,
-) -> Result<(ValType, OperatorValidatorAllocations<A>), Error>
-    ensures reads { Reads (λ x. val_of x.0) result (typed_element_from (T.context resources.now)
+) -> Result<ValType, Error>
+    ensures reads { Reads val_of result (typed_element_from (T.context resources.now)
         (features_of features) imported_globals flag (rest reader.old)) (rest reader.new) }
     ensures input { SameInput reader.old reader.new }
     ensures onward { position_in reader.old ≤ position_in reader.new }
@@ -250,17 +244,10 @@ fn check_element_from<'a, A: Allocator, T: WasmModuleResources>(
     if flag > 7 {
         return Err(unknown_flag(reader.original_position()));
     }
-    let (table, allocations) = check_segment_table(
-        allocations,
-        features,
-        resources,
-        imported_globals,
-        flag,
-        reader,
-    )?;
+    let table = check_segment_table(memory, features, resources, imported_globals, flag, reader)?;
     let ty = check_items_type(features, resources, flag, reader)?;
     check_items_for(
-        allocations,
+        memory,
         features,
         resources,
         imported_globals,
@@ -271,9 +258,29 @@ fn check_element_from<'a, A: Allocator, T: WasmModuleResources>(
     )
 }
 
-/// Reads an element segment, whose expressions are typed in memory that was used before, and hands
-/// the memory on. The answer is the type of its items, whose references are identities. So many
-/// globals are imported, and they come first.
+/// Reads any element segment, part by part.
+#[inline(never)]
+#[tactic(auto, unfolding(crate::specs::Elements::typed_element_at))]
+fn check_any_element<'a, A: Allocator + Copy, T: WasmModuleResources>(
+    memory: &mut ExpressionMemory<A>,
+    features: WasmFeatures,
+    resources: &T,
+    imported_globals: u32,
+    reader: &mut BinaryReader<'a>,
+) -> Result<ValType, Error>
+    ensures reads { Reads val_of result (typed_element_at (T.context resources.now)
+        (features_of features) imported_globals (rest reader.old)) (rest reader.new) }
+    ensures input { SameInput reader.old reader.new }
+    ensures onward { position_in reader.old ≤ position_in reader.new }
+    ensures place { IfErr result (StandsIn reader.old) }
+{
+    let flag = reader.read_var_u32()?;
+    check_element_from(memory, features, resources, imported_globals, flag, reader)
+}
+
+/// Reads an element segment, whose expressions are typed in memory that is used again. The answer
+/// is the type of its items, whose references are identities. So many globals are imported, and
+/// they come first.
 ///
 /// # Errors
 ///
@@ -283,27 +290,23 @@ fn check_element_from<'a, A: Allocator, T: WasmModuleResources>(
 /// offset that is a constant expression of the table's address type, and any other asks for
 /// `BULK_MEMORY` (Core Specification 3.0, Validation, Modules, Element Segments); and where memory
 /// is.
-#[tactic(auto, unfolding(crate::specs::Elements::typed_element_at))]
-pub fn check_element<'a, A: Allocator, T: WasmModuleResources>(
-    allocations: OperatorValidatorAllocations<A>,
+pub fn check_element<'a, A: Allocator + Copy, T: WasmModuleResources>(
+    memory: &mut ExpressionMemory<A>,
     features: WasmFeatures,
     resources: &T,
     imported_globals: u32,
     reader: &mut BinaryReader<'a>,
-) -> Result<(ValType, OperatorValidatorAllocations<A>), Error>
-    ensures reads { Reads (λ x. val_of x.0) result (typed_element_at (T.context resources.now)
+) -> Result<ValType, Error>
+    ensures reads { Reads val_of result (typed_element_at (T.context resources.now)
         (features_of features) imported_globals (rest reader.old)) (rest reader.new) }
     ensures input { SameInput reader.old reader.new }
     ensures onward { position_in reader.old ≤ position_in reader.new }
     ensures place { IfErr result (StandsIn reader.old) }
 {
-    let flag = reader.read_var_u32()?;
-    check_element_from(
-        allocations,
-        features,
-        resources,
-        imported_globals,
-        flag,
-        reader,
-    )
+    let mut ahead = *reader;
+    if next_plain_segment(resources, &mut ahead).is_some() {
+        reader.go_on_from(&ahead);
+        return Ok(ValType::Ref(RefType::FUNC));
+    }
+    check_any_element(memory, features, resources, imported_globals, reader)
 }

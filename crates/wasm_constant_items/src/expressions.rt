@@ -8,11 +8,10 @@ ghost use Rattle.wasm_constant_checks.specs.Checked.{StandsIn};
 ghost use Rattle.wasm_constant_items.specs.Answers.{GoesPast};
 ghost use Rattle.wasm_constant_items.specs.Expressions.{behind_expression};
 
+use crate::memory::ExpressionMemory;
 use crate::numbers::next_number;
 use std::alloc::Allocator;
-use wasm_constant_checks::{
-    OperatorValidator, OperatorValidatorAllocations, check_constant_expression,
-};
+use wasm_constant_checks::{OperatorValidator, check_constant_expression};
 use wasm_module_resources::WasmModuleResources;
 use wasm_readers::BinaryReader;
 use wasm_readers_errors::{Error, WasmFeatures};
@@ -21,43 +20,46 @@ use wasm_readers_types::ValType;
 /// Reads and types the constant expression of this type that the bytes begin with, operator by
 /// operator.
 #[inline(never)]
-fn check_any_expression<'a, A: Allocator, T: WasmModuleResources>(
-    allocations: OperatorValidatorAllocations<A>,
+fn check_any_expression<'a, A: Allocator + Copy, T: WasmModuleResources>(
+    memory: &mut ExpressionMemory<A>,
     features: WasmFeatures,
     resources: &T,
     imported_globals: u32,
     ty: ValType,
     reader: &mut BinaryReader<'a>,
-) -> Result<OperatorValidatorAllocations<A>, Error>
+) -> Result<(), Error>
     ensures past { GoesPast result (behind_expression (T.context resources.now)
         (features_of features) imported_globals (val_of ty) (rest reader.old)) (rest reader.new) }
     ensures input { SameInput reader.old reader.new }
     ensures onward { position_in reader.old ≤ position_in reader.new }
     ensures place { IfErr result (StandsIn reader.old) }
 {
-    let mut validator = OperatorValidator::new_const_expr(features, ty, allocations)?;
+    let mut validator = OperatorValidator::new_const_expr(features, ty, memory.take())?;
     match check_constant_expression(&mut validator, resources, imported_globals, reader) {
-        Ok(()) => Ok(validator.into_allocations()),
+        Ok(()) => {
+            memory.keep(validator.into_allocations());
+            Ok(())
+        }
         Err(error) => Err(error),
     }
 }
 
 /// Reads and types the constant expression of this type that the bytes begin with, in memory that
-/// was used before, and hands the memory on. The type's references are identities. So many globals
-/// are imported, and they come first.
+/// is used again. The type's references are identities. So many globals are imported, and they come
+/// first.
 ///
 /// # Errors
 ///
 /// Refused where the bytes don't begin with a constant expression of this type (Core Specification
 /// 3.0, Validation, Instructions, Constant Expressions); and where memory is.
-pub fn check_expression_of_type<'a, A: Allocator, T: WasmModuleResources>(
-    allocations: OperatorValidatorAllocations<A>,
+pub fn check_expression_of_type<'a, A: Allocator + Copy, T: WasmModuleResources>(
+    memory: &mut ExpressionMemory<A>,
     features: WasmFeatures,
     resources: &T,
     imported_globals: u32,
     ty: ValType,
     reader: &mut BinaryReader<'a>,
-) -> Result<OperatorValidatorAllocations<A>, Error>
+) -> Result<(), Error>
     ensures past { GoesPast result (behind_expression (T.context resources.now)
         (features_of features) imported_globals (val_of ty) (rest reader.old)) (rest reader.new) }
     ensures input { SameInput reader.old reader.new }
@@ -68,15 +70,8 @@ pub fn check_expression_of_type<'a, A: Allocator, T: WasmModuleResources>(
     match next_number(ty, &mut ahead) {
         Some(()) => {
             reader.go_on_from(&ahead);
-            Ok(allocations)
+            Ok(())
         }
-        None => check_any_expression(
-            allocations,
-            features,
-            resources,
-            imported_globals,
-            ty,
-            reader,
-        ),
+        None => check_any_expression(memory, features, resources, imported_globals, ty, reader),
     }
 }

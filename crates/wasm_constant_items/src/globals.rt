@@ -9,8 +9,8 @@ ghost use Rattle.wasm_constant_checks.specs.Checked.{IsRefusedAt, StandsIn};
 ghost use Rattle.wasm_constant_items.specs.Globals.{global_type_at, typed_global_at};
 
 use crate::expressions::check_expression_of_type;
+use crate::memory::ExpressionMemory;
 use std::alloc::Allocator;
-use wasm_constant_checks::OperatorValidatorAllocations;
 use wasm_module_resources::WasmModuleResources;
 use wasm_readers::BinaryReader;
 use wasm_readers::externs::read_global_type;
@@ -54,9 +54,8 @@ fn check_global_type<'a, T: WasmModuleResources>(
     }
 }
 
-/// Reads a global, with its initializer, which is typed in memory that was used before, and hands
-/// the memory on. The answer's references are identities. So many globals are imported, and they
-/// come first.
+/// Reads a global, with its initializer, which is typed in memory that is used again. The answer's
+/// references are identities. So many globals are imported, and they come first.
 ///
 /// # Errors
 ///
@@ -64,14 +63,14 @@ fn check_global_type<'a, T: WasmModuleResources>(
 /// types the module has, and then with a constant expression of what it holds (Core Specification
 /// 3.0, Validation, Modules, Globals); and where memory is.
 #[tactic(auto, unfolding(crate::specs::Globals::typed_global_at))]
-pub fn check_global_entry<'a, A: Allocator, T: WasmModuleResources>(
-    allocations: OperatorValidatorAllocations<A>,
+pub fn check_global_entry<'a, A: Allocator + Copy, T: WasmModuleResources>(
+    memory: &mut ExpressionMemory<A>,
     features: WasmFeatures,
     resources: &T,
     imported_globals: u32,
     reader: &mut BinaryReader<'a>,
-) -> Result<(GlobalType, OperatorValidatorAllocations<A>), Error>
-    ensures reads { Reads (λ x. global_of x.0) result (typed_global_at (T.context resources.now)
+) -> Result<GlobalType, Error>
+    ensures reads { Reads global_of result (typed_global_at (T.context resources.now)
         (features_of features) imported_globals (rest reader.old)) (rest reader.new) }
     ensures input { SameInput reader.old reader.new }
     ensures onward { position_in reader.old ≤ position_in reader.new }
@@ -79,13 +78,13 @@ pub fn check_global_entry<'a, A: Allocator, T: WasmModuleResources>(
 {
     let ty = check_global_type(features, resources, reader)?;
     let content = ty.content_type;
-    let allocations = check_expression_of_type(
-        allocations,
+    check_expression_of_type(
+        memory,
         features,
         resources,
         imported_globals,
         content,
         reader,
     )?;
-    Ok((ty, allocations))
+    Ok(ty)
 }

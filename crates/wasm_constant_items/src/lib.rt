@@ -10,8 +10,10 @@ mod expressions;
 mod globals;
 mod laws;
 mod lists;
+mod memory;
 mod numbers;
 mod offsets;
+mod plain;
 
 pub use data::check_data;
 pub use elements::check_element;
@@ -19,7 +21,5 @@ pub use expressions::check_expression_of_type;
 pub use globals::check_global_entry;
 pub use laws::expressions_are_found;
 pub use lists::{check_expression_list, check_function_list};
+pub use memory::ExpressionMemory;
 pub use offsets::{check_memory_offset, check_table_offset};
-
-/// The memory that the checks use again.
-pub use wasm_constant_checks::OperatorValidatorAllocations;

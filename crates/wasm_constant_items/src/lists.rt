@@ -9,17 +9,21 @@ ghost use Rattle.wasm_constant_items.specs.Answers.{GoesPast};
 ghost use Rattle.wasm_constant_items.specs.Elements.{behind_function};
 ghost use Rattle.wasm_constant_items.specs.Expressions.{behind_expression};
 ghost use Rattle.wasm_constant_items.specs.Lists.{behind_many, behind_list};
+ghost use Rattle.wasm_constant_items.specs.Known.{AreAtMost, AreFunctions};
 
 use crate::expressions::check_expression_of_type;
+use crate::memory::ExpressionMemory;
 use std::alloc::Allocator;
-use wasm_constant_checks::OperatorValidatorAllocations;
 use wasm_module_resources::WasmModuleResources;
 use wasm_readers::BinaryReader;
 use wasm_readers_errors::{Error, Fault, ItemRule, Refusal, WasmFeatures};
 use wasm_readers_types::ValType;
 
 /// The most items of an element segment.
-const MAX_ITEMS: u32 = 10_000_000;
+pub(crate) const MAX_ITEMS: u32 = 10_000_000;
+
+/// From so many items on they are looked at together first.
+const MANY_ITEMS: u32 = 16;
 
 /// The refusal of a function's index, at this offset.
 #[inline(never)]
@@ -78,6 +82,56 @@ fn check_each_function<'a, T: WasmModuleResources>(
     Ok(())
 }
 
+/// The greatest of these bytes, or 0.
+fn greatest(bytes: &[u8]) -> u8
+    ensures { AreAtMost result bytes.now }
+{
+    let mut most = 0;
+    for byte in bytes {
+        if *byte > most {
+            most = *byte;
+        }
+    }
+    most
+}
+
+/// Whether these bytes are known to be indices of functions that are there, one byte each.
+fn are_known<T: WasmModuleResources>(resources: &T, bytes: &[u8]) -> bool
+    ensures { result ≡ true → AreFunctions (T.context resources.now) bytes.now }
+{
+    let most = greatest(bytes);
+    if most >= 128 {
+        return false;
+    }
+    resources.type_index_of_function(u32::from(most)).is_some()
+}
+
+/// Goes past so many indices of functions that are there, if these are next, one byte each, and
+/// tells whether they are.
+fn pass_bytes<'a, T: WasmModuleResources>(
+    resources: &T,
+    count: u32,
+    reader: &mut BinaryReader<'a>,
+) -> bool
+    ensures past { result ≡ true → behind_many (behind_function (T.context resources.now)) count
+        (rest reader.old) ≡ Some (rest reader.new) }
+    ensures input { SameInput reader.old reader.new }
+    ensures onward { position_in reader.old ≤ position_in reader.new }
+    ensures unread { result ≡ false → reader.new ≡ reader.old }
+{
+    let mut ahead = *reader;
+    match ahead.read_reader(count as usize) {
+        Ok(indices) => {
+            if !are_known(resources, indices.remaining()) {
+                return false;
+            }
+            reader.go_on_from(&ahead);
+            true
+        }
+        Err(_) => false,
+    }
+}
+
 /// Goes past the index of a function that is there, if one is next, and tells whether it is.
 #[inline(always)]
 #[tactic(auto, unfolding(crate::specs::Elements::behind_function))]
@@ -128,6 +182,23 @@ fn pass_functions<'a, T: WasmModuleResources>(
     left
 }
 
+/// Goes past so many indices of functions that are there, and tells whether they are.
+pub(crate) fn pass_all_functions<'a, T: WasmModuleResources>(
+    resources: &T,
+    count: u32,
+    reader: &mut BinaryReader<'a>,
+) -> bool
+    ensures past { result ≡ true → behind_many (behind_function (T.context resources.now)) count
+        (rest reader.old) ≡ Some (rest reader.new) }
+    ensures input { SameInput reader.old reader.new }
+    ensures onward { position_in reader.old ≤ position_in reader.new }
+{
+    if count >= MANY_ITEMS && pass_bytes(resources, count, reader) {
+        return true;
+    }
+    pass_functions(resources, count, reader) == 0
+}
+
 /// Reads so many indices of functions that are there, and tells of the first that isn't.
 fn check_functions<'a, T: WasmModuleResources>(
     resources: &T,
@@ -140,6 +211,9 @@ fn check_functions<'a, T: WasmModuleResources>(
     ensures onward { position_in reader.old ≤ position_in reader.new }
     ensures place { IfErr result (StandsIn reader.old) }
 {
+    if count >= MANY_ITEMS && pass_bytes(resources, count, reader) {
+        return Ok(());
+    }
     let left = pass_functions(resources, count, reader);
     check_each_function(resources, left, reader)
 }
@@ -170,15 +244,15 @@ pub fn check_function_list<'a, T: WasmModuleResources>(
 }
 
 /// Reads so many constant expressions of this type.
-fn check_expressions<'a, A: Allocator, T: WasmModuleResources>(
-    allocations: OperatorValidatorAllocations<A>,
+fn check_expressions<'a, A: Allocator + Copy, T: WasmModuleResources>(
+    memory: &mut ExpressionMemory<A>,
     features: WasmFeatures,
     resources: &T,
     imported_globals: u32,
     ty: ValType,
     count: u32,
     reader: &mut BinaryReader<'a>,
-) -> Result<OperatorValidatorAllocations<A>, Error>
+) -> Result<(), Error>
     ensures past { GoesPast result (behind_many (behind_expression (T.context resources.now)
         (features_of features) imported_globals (val_of ty)) count (rest reader.old))
         (rest reader.new) }
@@ -186,38 +260,29 @@ fn check_expressions<'a, A: Allocator, T: WasmModuleResources>(
     ensures onward { position_in reader.old ≤ position_in reader.new }
     ensures place { IfErr result (StandsIn reader.old) }
 {
-    let mut allocations = allocations;
     let mut left = count;
     'items: while left > 0 {
-        allocations = check_expression_of_type(
-            allocations,
-            features,
-            resources,
-            imported_globals,
-            ty,
-            reader,
-        )?;
+        check_expression_of_type(memory, features, resources, imported_globals, ty, reader)?;
         left -= 1;
     }
-    Ok(allocations)
+    Ok(())
 }
 
-/// Reads a list of constant expressions of this type, which are typed in memory that was used
-/// before, and hands the memory on. The type's references are identities. So many globals are
-/// imported, and they come first.
+/// Reads a list of constant expressions of this type, which are typed in memory that is used again.
+/// The type's references are identities. So many globals are imported, and they come first.
 ///
 /// # Errors
 ///
 /// Refused where the bytes don't begin with such a list, where it has more than 10,000,000 items
 /// (Core Specification 3.0, Validation, Modules, Element Segments); and where memory is.
-pub fn check_expression_list<'a, A: Allocator, T: WasmModuleResources>(
-    allocations: OperatorValidatorAllocations<A>,
+pub fn check_expression_list<'a, A: Allocator + Copy, T: WasmModuleResources>(
+    memory: &mut ExpressionMemory<A>,
     features: WasmFeatures,
     resources: &T,
     imported_globals: u32,
     ty: ValType,
     reader: &mut BinaryReader<'a>,
-) -> Result<OperatorValidatorAllocations<A>, Error>
+) -> Result<(), Error>
     ensures past { GoesPast result (behind_list (behind_expression (T.context resources.now)
         (features_of features) imported_globals (val_of ty)) (rest reader.old)) (rest reader.new) }
     ensures input { SameInput reader.old reader.new }
@@ -230,7 +295,7 @@ pub fn check_expression_list<'a, A: Allocator, T: WasmModuleResources>(
         return Err(too_many_items(offset));
     }
     check_expressions(
-        allocations,
+        memory,
         features,
         resources,
         imported_globals,

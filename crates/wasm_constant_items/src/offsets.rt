@@ -9,8 +9,8 @@ ghost use Rattle.wasm_constant_items.specs.Answers.{GoesPast};
 ghost use Rattle.wasm_constant_items.specs.Offsets.{address_type, behind_table_offset, behind_memory_offset};
 
 use crate::expressions::check_expression_of_type;
+use crate::memory::ExpressionMemory;
 use std::alloc::Allocator;
-use wasm_constant_checks::OperatorValidatorAllocations;
 use wasm_module_resources::WasmModuleResources;
 use wasm_readers::BinaryReader;
 use wasm_readers_errors::{Error, Fault, OperatorRule, Refusal, WasmFeatures};
@@ -32,8 +32,7 @@ pub(crate) fn unknown(rule: OperatorRule, index: u32, offset: u64) -> Error
 }
 
 /// Reads and types the offset of a segment that is active in the table of this index, in memory
-/// that was used before, and hands the memory on. So many globals are imported, and they come
-/// first.
+/// that is used again. So many globals are imported, and they come first.
 ///
 /// # Errors
 ///
@@ -41,14 +40,14 @@ pub(crate) fn unknown(rule: OperatorRule, index: u32, offset: u64) -> Error
 /// of its address type (Core Specification 3.0, Validation, Modules, Element Segments); and where
 /// memory is.
 #[tactic(auto, unfolding(crate::specs::Offsets::behind_table_offset))]
-pub fn check_table_offset<'a, A: Allocator, T: WasmModuleResources>(
-    allocations: OperatorValidatorAllocations<A>,
+pub fn check_table_offset<'a, A: Allocator + Copy, T: WasmModuleResources>(
+    memory: &mut ExpressionMemory<A>,
     features: WasmFeatures,
     resources: &T,
     imported_globals: u32,
     table_index: u32,
     reader: &mut BinaryReader<'a>,
-) -> Result<OperatorValidatorAllocations<A>, Error>
+) -> Result<(), Error>
     ensures past { GoesPast result (behind_table_offset (T.context resources.now)
         (features_of features) imported_globals table_index (rest reader.old)) (rest reader.new) }
     ensures input { SameInput reader.old reader.new }
@@ -60,19 +59,11 @@ pub fn check_table_offset<'a, A: Allocator, T: WasmModuleResources>(
         Some(table) => address_type(table.table64),
         None => return Err(unknown(OperatorRule::UnknownTable, table_index, offset)),
     };
-    check_expression_of_type(
-        allocations,
-        features,
-        resources,
-        imported_globals,
-        ty,
-        reader,
-    )
+    check_expression_of_type(memory, features, resources, imported_globals, ty, reader)
 }
 
 /// Reads and types the offset of a segment that is active in the memory of this index, in memory
-/// that was used before, and hands the memory on. So many globals are imported, and they come
-/// first.
+/// that is used again. So many globals are imported, and they come first.
 ///
 /// # Errors
 ///
@@ -80,14 +71,14 @@ pub fn check_table_offset<'a, A: Allocator, T: WasmModuleResources>(
 /// expression of its address type (Core Specification 3.0, Validation, Modules, Data Segments); and
 /// where memory is.
 #[tactic(auto, unfolding(crate::specs::Offsets::behind_memory_offset))]
-pub fn check_memory_offset<'a, A: Allocator, T: WasmModuleResources>(
-    allocations: OperatorValidatorAllocations<A>,
+pub fn check_memory_offset<'a, A: Allocator + Copy, T: WasmModuleResources>(
+    memory: &mut ExpressionMemory<A>,
     features: WasmFeatures,
     resources: &T,
     imported_globals: u32,
     memory_index: u32,
     reader: &mut BinaryReader<'a>,
-) -> Result<OperatorValidatorAllocations<A>, Error>
+) -> Result<(), Error>
     ensures past { GoesPast result (behind_memory_offset (T.context resources.now)
         (features_of features) imported_globals memory_index (rest reader.old)) (rest reader.new) }
     ensures input { SameInput reader.old reader.new }
@@ -99,12 +90,5 @@ pub fn check_memory_offset<'a, A: Allocator, T: WasmModuleResources>(
         Some(memory) => address_type(memory.memory64),
         None => return Err(unknown(OperatorRule::UnknownMemory, memory_index, offset)),
     };
-    check_expression_of_type(
-        allocations,
-        features,
-        resources,
-        imported_globals,
-        ty,
-        reader,
-    )
+    check_expression_of_type(memory, features, resources, imported_globals, ty, reader)
 }

@@ -1,7 +1,5 @@
 -- What the refusal of an item says, and where it stands.
 use Rattle.std.specs.Prelude.{◌≡◌, ℕ, ◌≤◌, ◌+◌, length, Option, None, ⊤}
-use Rattle.std.specs.declared.result.Result.{Result}
-use Rattle.std.specs.declared.result.Result.TheVariants.{Ok, Err}
 use Rattle.wasm_binary_reader.specs.Reader.{input, original, position_in}
 use Rattle.wasm_binary_reader.specs.declared.binary_reader.BinaryReader.{BinaryReader}
 use Rattle.wasm_validator_core.specs.declared.error.Error.{Error}
@@ -18,11 +16,6 @@ abbrev pub StandsBetween : {A : Type 0} → ℕ → ℕ → Error A → Type 0
 StandsBetween from to (Refused r) = (from ≤ r.offset) × (r.offset ≤ to)
 StandsBetween from to (DuplicateExport name offset) = (from ≤ offset) × (offset ≤ to)
 StandsBetween from to OutOfMemory = ⊤
-
--- the same answer without what was accepted
-abbrev pub forgotten : {T E : Type 0} → Result T E → Result (Unit {0}) E
-forgotten (Ok x) = Ok tt
-forgotten (Err e) = Err e
 
 -- from where this reader stands to the end of its part of the input
 abbrev pub StandsBehind : {A : Type 0} → BinaryReader → Error A → Type 0

@@ -1,7 +1,7 @@
 -- What one entry of a section adds to a module that has been read so far, where its constant expressions are typed in that module.
 -- `us` are the types of all modules so far, and `declares` says of each of their ids what it declares.
 -- Core Specification 3.0, Validation, Modules.
-use Rattle.std.specs.Prelude.{ℕ, ◌==◌, nat_lt, nat_le, Bool, true, false, ◌&&◌, if◌then◌else◌, List, [], ◌∷◌, ◌++◌, length, slice_get, Option, Some, None, is_some}
+use Rattle.std.specs.Prelude.{ℕ, ◌==◌, nat_lt, nat_le, Bool, true, false, ◌&&◌, if◌then◌else◌, List, length, slice_get, Option, Some, None, is_some}
 use Rattle.std.specs.List.{list_all}
 use Rattle.wasm_spec.specs.Syntax.{Ref, Val, reference, Sub, map_ref, map_val, map_table, map_global}
 use Rattle.wasm_spec.specs.BinarySections.{TableEntry, GlobalEntry, Element, ElementItems, functions, expressions, Data, SegmentMode, passive, active, declarative, ref_func}

@@ -1,17 +1,14 @@
 //! What the typing of constant expressions uses from one item and one section to the next.
 
-ghost use Rattle.std.specs.Prelude.{◌≡◌, [], IfOk, IfErr, OnOk};
+ghost use Rattle.std.specs.Prelude.{◌≡◌, [], IfOk, OnOk};
 ghost use Rattle.wasm_spec.specs.TypeLaws.{HasNoRepetition};
 ghost use Rattle.wasm_validator_type_list.specs.DefTypes.{types_of_list};
 ghost use Rattle.wasm_validator_type_list.specs.Listable.{AreListable};
 ghost use Rattle.wasm_validator_core_resources.specs.ById.{AreFirstByIds};
 ghost use Rattle.wasm_validator_core_resources.specs.ModuleContexts.{AreByIds};
-ghost use Rattle.wasm_validator_items.specs.Answers.{forgotten};
 
 use std::alloc::{AllocError, Allocator, Global};
-use std::mem;
-use wasm_constant_items::OperatorValidatorAllocations;
-use wasm_validator_core::Error;
+use wasm_constant_items::ExpressionMemory;
 use wasm_validator_core_resources::TypesByIds;
 use wasm_validator_types::TypeList;
 
@@ -21,8 +18,8 @@ use wasm_validator_types::TypeList;
 pub struct Constants<A: Allocator = Global> {
     /// The first types of the list, or all.
     pub types: TypesByIds<A>,
-    allocations: OperatorValidatorAllocations<A>,
-    alloc: A,
+    /// What constant expressions are typed in.
+    pub memory: ExpressionMemory<A>,
 }
 
 impl<A: Allocator + Copy> Constants<A> {
@@ -32,32 +29,26 @@ impl<A: Allocator + Copy> Constants<A> {
     {
         Constants {
             types: TypesByIds::new(alloc),
-            allocations: OperatorValidatorAllocations::new(alloc),
-            alloc,
+            memory: ExpressionMemory::new(alloc),
         }
     }
 
-    /// Makes the types those of the list, and hands the memory out. What is there must be the first
-    /// types of this list, as it is where this was called with the list before it grew, or never.
+    /// Makes the types those of the list. What is there must be the first types of this list, as it
+    /// is where this was called with the list before it grew, or never.
     ///
     /// # Errors
     ///
     /// Fails where memory is refused.
-    pub fn taken(&mut self, list: &TypeList<A>) -> Result<OperatorValidatorAllocations<A>, Error<A>>
+    pub fn update(&mut self, list: &TypeList<A>) -> Result<(), AllocError>
         requires { AreFirstByIds list.now.groups self.old.types }
         ensures all { OnOk result (AreByIds list.now.groups self.new.types) }
         ensures first { AreFirstByIds list.now.groups self.new.types }
-        ensures memory { IfErr result (λ e. e ≡ Error.OutOfMemory) }
     {
-        self.types.update(list)?;
-        Ok(mem::replace(
-            &mut self.allocations,
-            OperatorValidatorAllocations::new(self.alloc),
-        ))
+        Ok(self.types.update(list)?)
     }
 
-    /// The types of the list, which stay there too: none that was there before is copied. What is there
-    /// must be the first types of this list.
+    /// The types of the list, which stay there too: none that was there before is copied. What is
+    /// there must be the first types of this list.
     ///
     /// # Errors
     ///
@@ -69,27 +60,6 @@ impl<A: Allocator + Copy> Constants<A> {
     {
         self.types.update(list)?;
         self.types.commit()
-    }
-
-    /// Puts the memory back, where it comes back.
-    ///
-    /// # Errors
-    ///
-    /// The error that is handed in.
-    pub fn keep(
-        &mut self,
-        added: Result<OperatorValidatorAllocations<A>, Error<A>>,
-    ) -> Result<(), Error<A>>
-        ensures same { result ≡ forgotten added }
-        ensures types { self.new.types ≡ self.old.types }
-    {
-        match added {
-            Ok(allocations) => {
-                self.allocations = allocations;
-                Ok(())
-            }
-            Err(error) => Err(error),
-        }
     }
 }
 

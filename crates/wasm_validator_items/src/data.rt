@@ -13,7 +13,7 @@ ghost use Rattle.wasm_validator_items.specs.Answers.{Refuses, StandsBetween, Sta
 ghost use Rattle.wasm_validator_items.specs.Machine.{data_step, items_from, data_items};
 
 use std::alloc::Allocator;
-use wasm_constant_items::{OperatorValidatorAllocations, check_data};
+use wasm_constant_items::{ExpressionMemory, check_data};
 use wasm_readers::BinaryReader;
 use wasm_readers_errors::{Counted, Fault, Malformed, Refusal, WasmFeatures};
 use wasm_validator_core::{Error, MAX_DATA_SEGMENTS, check_max};
@@ -22,7 +22,7 @@ use wasm_validator_types::{IndexSpaces, TypeList};
 
 /// Reads and types the data segment that the bytes begin with, in the module as far as it has been
 /// read, which it leaves as it is. Its offset may read the imported globals, and is typed in memory
-/// that was used before, which is handed on. The reader goes behind it.
+/// that is used again. The reader goes behind it.
 ///
 /// The list must have the types of the module; and `types` are all that it has, with ids in the
 /// place of positions in their groups.
@@ -36,10 +36,10 @@ pub fn check_next_data<'a, A: Allocator + Copy>(
     features: WasmFeatures,
     list: &TypeList<A>,
     types: &TypesByIds<A>,
-    allocations: OperatorValidatorAllocations<A>,
+    memory: &mut ExpressionMemory<A>,
     spaces: &IndexSpaces<A>,
     reader: &mut BinaryReader<'a>,
-) -> Result<OperatorValidatorAllocations<A>, Error<A>>
+) -> Result<(), Error<A>>
     requires held { AreHeld list.now spaces.now.types }
     requires types { AreByIds list.now.groups types.now }
     ensures ok { IfOk result (λ _. data_step (features_of features)
@@ -53,8 +53,8 @@ pub fn check_next_data<'a, A: Allocator + Copy>(
 {
     let imported_globals = spaces.imported_global_count();
     let resources = ModuleResources::new(spaces, list, types, &[], None);
-    let allocations = check_data(allocations, features, &resources, imported_globals, reader)?;
-    Ok(allocations)
+    check_data(memory, features, &resources, imported_globals, reader)?;
+    Ok(())
 }
 
 /// Reads and types so many data segments, behind which nothing is left.
@@ -62,26 +62,25 @@ fn check_each_data<'a, A: Allocator + Copy>(
     features: WasmFeatures,
     list: &TypeList<A>,
     types: &TypesByIds<A>,
-    allocations: OperatorValidatorAllocations<A>,
+    memory: &mut ExpressionMemory<A>,
     spaces: &IndexSpaces<A>,
     count: u32,
     reader: BinaryReader<'a>,
-) -> Result<OperatorValidatorAllocations<A>, Error<A>>
+) -> Result<(), Error<A>>
     requires held { AreHeld list.now spaces.now.types }
     requires types { AreByIds list.now.groups types.now }
     ensures added { Adds result (items_from (data_step (features_of features)
         (list_declares id_of list.now.groups)) count (rest reader.entry) spaces.now) spaces.now }
     ensures place { IfErr result (StandsBehind reader.entry) }
 {
-    let mut allocations = allocations;
     let mut reader = reader;
     let mut left = count;
     'segments: while left > 0 {
-        allocations = check_next_data(features, list, types, allocations, spaces, &mut reader)?;
+        check_next_data(features, list, types, memory, spaces, &mut reader)?;
         left -= 1;
     }
     if reader.is_empty() {
-        return Ok(allocations);
+        return Ok(());
     }
     let fault = Fault::Malformed(Malformed::SectionSize);
     let offset = reader.original_position();
@@ -90,7 +89,7 @@ fn check_each_data<'a, A: Allocator + Copy>(
 
 /// Reads the data segments of a data section, whose offsets may read the imported globals. They add
 /// nothing to the module. `reader` is the section's, behind its count; and the offsets are typed in
-/// memory that was used before, which is handed on.
+/// memory that is used again.
 ///
 /// The list must have the types of the module; and `types` are all that it has, with ids in the
 /// place of positions in their groups.
@@ -104,11 +103,11 @@ pub fn add_data_segments<'a, A: Allocator + Copy>(
     features: WasmFeatures,
     list: &TypeList<A>,
     types: &TypesByIds<A>,
-    allocations: OperatorValidatorAllocations<A>,
+    memory: &mut ExpressionMemory<A>,
     spaces: &IndexSpaces<A>,
     count: u32,
     reader: BinaryReader<'a>,
-) -> Result<OperatorValidatorAllocations<A>, Error<A>>
+) -> Result<(), Error<A>>
     requires held { AreHeld list.now spaces.now.types }
     requires types { AreByIds list.now.groups types.now }
     ensures added { Adds result (data_items (features_of features)
@@ -124,5 +123,5 @@ pub fn add_data_segments<'a, A: Allocator + Copy>(
         Counted::DataSegments,
         reader.range().start,
     )?;
-    check_each_data(features, list, types, allocations, spaces, count, reader)
+    check_each_data(features, list, types, memory, spaces, count, reader)
 }

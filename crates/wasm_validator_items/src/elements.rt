@@ -16,7 +16,7 @@ ghost use Rattle.wasm_validator_items.specs.Answers.{Refuses, StandsBetween, Sta
 ghost use Rattle.wasm_validator_items.specs.Machine.{context_of, with_items, element_step, items_from, element_items};
 
 use std::alloc::Allocator;
-use wasm_constant_items::{OperatorValidatorAllocations, check_element};
+use wasm_constant_items::{ExpressionMemory, check_element};
 use wasm_readers::BinaryReader;
 use wasm_readers_errors::{Counted, Fault, Malformed, Refusal, WasmFeatures};
 use wasm_readers_types::ValType;
@@ -30,15 +30,15 @@ fn check_segment<'a, A: Allocator + Copy>(
     features: WasmFeatures,
     list: &TypeList<A>,
     types: &TypesByIds<A>,
-    allocations: OperatorValidatorAllocations<A>,
+    memory: &mut ExpressionMemory<A>,
     opened: &Module<A>,
     reader: &mut BinaryReader<'a>,
-) -> Result<(ValType, OperatorValidatorAllocations<A>), Error<A>>
+) -> Result<ValType, Error<A>>
     requires held { AreHeld list.now opened.now.types }
     requires types { AreByIds list.now.groups types.now }
     ensures ok { IfOk result (λ x. typed_element_at (context_of
         (list_declares id_of list.now.groups) opened.now) (features_of features)
-        opened.now.imported_globals (rest reader.old) ≡ Some (val_of x.0, rest reader.new)) }
+        opened.now.imported_globals (rest reader.old) ≡ Some (val_of x, rest reader.new)) }
     ensures err { IfErr result (λ e. Refuses e (typed_element_at (context_of
         (list_declares id_of list.now.groups) opened.now) (features_of features)
         opened.now.imported_globals (rest reader.old))) }
@@ -49,7 +49,7 @@ fn check_segment<'a, A: Allocator + Copy>(
     let spaces = opened.spaces();
     let imported_globals = spaces.imported_global_count();
     let resources = ModuleResources::new(spaces, list, types, &[], None);
-    let segment = check_element(allocations, features, &resources, imported_globals, reader)?;
+    let segment = check_element(memory, features, &resources, imported_globals, reader)?;
     Ok(segment)
 }
 
@@ -68,8 +68,8 @@ fn add_segment<A: Allocator + Copy>(opened: &mut Module<A>, ty: ValType) -> Resu
 }
 
 /// Reads the element segment that the bytes begin with, in the module as far as it has been read,
-/// and adds it. Its expressions may read the imported globals, and are typed in memory that was
-/// used before, which is handed on. The reader goes behind it.
+/// and adds it. Its expressions may read the imported globals, and are typed in memory that is used
+/// again. The reader goes behind it.
 ///
 /// The list must have the types of the module; and `types` are all that it has, with ids in the
 /// place of positions in their groups. The number of element segments must fit 32 bits then.
@@ -84,10 +84,10 @@ pub fn add_next_element<'a, A: Allocator + Copy>(
     features: WasmFeatures,
     list: &TypeList<A>,
     types: &TypesByIds<A>,
-    allocations: OperatorValidatorAllocations<A>,
+    memory: &mut ExpressionMemory<A>,
     opened: &mut Module<A>,
     reader: &mut BinaryReader<'a>,
-) -> Result<OperatorValidatorAllocations<A>, Error<A>>
+) -> Result<(), Error<A>>
     requires held { AreHeld list.now opened.old.types }
     requires types { AreByIds list.now.groups types.now }
     requires room { length opened.old.elements + 1 < 2 ^ 32 }
@@ -102,9 +102,9 @@ pub fn add_next_element<'a, A: Allocator + Copy>(
     ensures onward { position_in reader.old ≤ position_in reader.new }
     ensures place { IfErr result (StandsBehind reader.old) }
 {
-    let (ty, allocations) = check_segment(features, list, types, allocations, opened, reader)?;
+    let ty = check_segment(features, list, types, memory, opened, reader)?;
     add_segment(opened, ty)?;
-    Ok(allocations)
+    Ok(())
 }
 
 /// Adds so many element segments, behind which nothing is left.
@@ -112,11 +112,11 @@ fn add_each_element<'a, A: Allocator + Copy>(
     features: WasmFeatures,
     list: &TypeList<A>,
     types: &TypesByIds<A>,
-    allocations: OperatorValidatorAllocations<A>,
+    memory: &mut ExpressionMemory<A>,
     opened: &mut Module<A>,
     count: u32,
     reader: BinaryReader<'a>,
-) -> Result<OperatorValidatorAllocations<A>, Error<A>>
+) -> Result<(), Error<A>>
     requires held { AreHeld list.now opened.old.types }
     requires types { AreByIds list.now.groups types.now }
     requires room { length opened.old.elements + count ≤ MAX_ELEMENT_SEGMENTS }
@@ -125,15 +125,14 @@ fn add_each_element<'a, A: Allocator + Copy>(
     ensures types { opened.new.types ≡ opened.old.types }
     ensures place { IfErr result (StandsBehind reader.entry) }
 {
-    let mut allocations = allocations;
     let mut reader = reader;
     let mut left = count;
     'segments: while left > 0 {
-        allocations = add_next_element(features, list, types, allocations, opened, &mut reader)?;
+        add_next_element(features, list, types, memory, opened, &mut reader)?;
         left -= 1;
     }
     if reader.is_empty() {
-        return Ok(allocations);
+        return Ok(());
     }
     let fault = Fault::Malformed(Malformed::SectionSize);
     let offset = reader.original_position();
@@ -142,7 +141,7 @@ fn add_each_element<'a, A: Allocator + Copy>(
 
 /// Adds the element segments of an element section, whose expressions may read the imported
 /// globals. `reader` is the section's, behind its count; and the expressions are typed in memory
-/// that was used before, which is handed on.
+/// that is used again.
 ///
 /// The list must have the types of the module; and `types` are all that it has, with ids in the
 /// place of positions in their groups.
@@ -157,11 +156,11 @@ pub fn add_elements<'a, A: Allocator + Copy>(
     features: WasmFeatures,
     list: &TypeList<A>,
     types: &TypesByIds<A>,
-    allocations: OperatorValidatorAllocations<A>,
+    memory: &mut ExpressionMemory<A>,
     opened: &mut Module<A>,
     count: u32,
     reader: BinaryReader<'a>,
-) -> Result<OperatorValidatorAllocations<A>, Error<A>>
+) -> Result<(), Error<A>>
     requires held { AreHeld list.now opened.old.types }
     requires types { AreByIds list.now.groups types.now }
     ensures added { Adds result (element_items (features_of features)
@@ -179,5 +178,5 @@ pub fn add_elements<'a, A: Allocator + Copy>(
         Counted::ElementSegments,
         reader.range().start,
     )?;
-    add_each_element(features, list, types, allocations, opened, count, reader)
+    add_each_element(features, list, types, memory, opened, count, reader)
 }

@@ -21,11 +21,11 @@ ghost use Rattle.wasm_validator_items.specs.Machine.{global_step, items_from, gl
 
 use crate::initializers::check_initializer;
 use std::alloc::Allocator;
-use wasm_constant_items::OperatorValidatorAllocations;
+use wasm_constant_items::ExpressionMemory;
 use wasm_readers::BinaryReader;
 use wasm_readers::externs::read_global_type;
 use wasm_readers_errors::{Counted, Fault, Malformed, Refusal, WasmFeatures};
-use wasm_readers_types::{GlobalType, TypeRef};
+use wasm_readers_types::{GlobalType, TypeRef, ValType};
 use wasm_validator_core::{Error, MAX_GLOBALS, Module, check_max};
 use wasm_validator_core_resources::TypesByIds;
 use wasm_validator_types::{EntityType, TypeList};
@@ -45,6 +45,11 @@ fn listed_global<A: Allocator + Copy>(
         ≡ map_global (canonical_index opened.now.types) (global_of ty)) }
     ensures refusal { IfErr result (IsRefusalAt features offset) }
 {
+    match (ty.content_type, ty.shared) {
+        // Such a global is allowed whatever the features are, and names no type.
+        (ValType::I32 | ValType::I64, false) => return Ok(ty),
+        _ => {}
+    }
     match opened.check_type_ref(features, list, TypeRef::Global(ty), offset)? {
         EntityType::Global(global) => Ok(global),
         _ => unreachable!(),
@@ -52,8 +57,8 @@ fn listed_global<A: Allocator + Copy>(
 }
 
 /// Reads the global that the bytes begin with, in the module as far as it has been read, and adds
-/// it. Its initializer may read the imported globals, and is typed in memory that was used before,
-/// which is handed on. The reader goes behind it.
+/// it. Its initializer may read the imported globals, and is typed in memory that is used again.
+/// The reader goes behind it.
 ///
 /// The list must have the types of the module; and `types` are all that it has, with ids in the
 /// place of positions in their groups.
@@ -68,10 +73,10 @@ pub fn add_next_global<'a, A: Allocator + Copy>(
     features: WasmFeatures,
     list: &TypeList<A>,
     types: &TypesByIds<A>,
-    allocations: OperatorValidatorAllocations<A>,
+    memory: &mut ExpressionMemory<A>,
     opened: &mut Module<A>,
     reader: &mut BinaryReader<'a>,
-) -> Result<OperatorValidatorAllocations<A>, Error<A>>
+) -> Result<(), Error<A>>
     requires held { AreHeld list.now opened.old.types }
     requires types { AreByIds list.now.groups types.now }
     ensures ok { IfOk result (λ _. global_step (features_of features)
@@ -89,17 +94,9 @@ pub fn add_next_global<'a, A: Allocator + Copy>(
     let written = read_global_type(reader)?;
     let ty = listed_global(features, list, opened, written, offset)?;
     let content = ty.content_type;
-    let allocations = check_initializer(
-        features,
-        list,
-        types,
-        allocations,
-        opened,
-        content,
-        reader,
-    )?;
+    check_initializer(features, list, types, memory, opened, content, reader)?;
     opened.add_global(ty, offset)?;
-    Ok(allocations)
+    Ok(())
 }
 
 /// Adds so many globals, behind which nothing is left.
@@ -107,11 +104,11 @@ fn add_each_global<'a, A: Allocator + Copy>(
     features: WasmFeatures,
     list: &TypeList<A>,
     types: &TypesByIds<A>,
-    allocations: OperatorValidatorAllocations<A>,
+    memory: &mut ExpressionMemory<A>,
     opened: &mut Module<A>,
     count: u32,
     reader: BinaryReader<'a>,
-) -> Result<OperatorValidatorAllocations<A>, Error<A>>
+) -> Result<(), Error<A>>
     requires held { AreHeld list.now opened.old.types }
     requires types { AreByIds list.now.groups types.now }
     ensures added { Adds result (items_from (global_step (features_of features)
@@ -120,15 +117,14 @@ fn add_each_global<'a, A: Allocator + Copy>(
     ensures types { opened.new.types ≡ opened.old.types }
     ensures place { IfErr result (StandsBehind reader.entry) }
 {
-    let mut allocations = allocations;
     let mut reader = reader;
     let mut left = count;
     'globals: while left > 0 {
-        allocations = add_next_global(features, list, types, allocations, opened, &mut reader)?;
+        add_next_global(features, list, types, memory, opened, &mut reader)?;
         left -= 1;
     }
     if reader.is_empty() {
-        return Ok(allocations);
+        return Ok(());
     }
     let fault = Fault::Malformed(Malformed::SectionSize);
     let offset = reader.original_position();
@@ -137,7 +133,7 @@ fn add_each_global<'a, A: Allocator + Copy>(
 
 /// Adds the globals of a global section, each with its initializer, which may read the imported
 /// globals. `reader` is the section's, behind its count; and the initializers are typed in memory
-/// that was used before, which is handed on.
+/// that is used again.
 ///
 /// The list must have the types of the module; and `types` are all that it has, with ids in the
 /// place of positions in their groups.
@@ -152,11 +148,11 @@ pub fn add_globals<'a, A: Allocator + Copy>(
     features: WasmFeatures,
     list: &TypeList<A>,
     types: &TypesByIds<A>,
-    allocations: OperatorValidatorAllocations<A>,
+    memory: &mut ExpressionMemory<A>,
     opened: &mut Module<A>,
     count: u32,
     reader: BinaryReader<'a>,
-) -> Result<OperatorValidatorAllocations<A>, Error<A>>
+) -> Result<(), Error<A>>
     requires held { AreHeld list.now opened.old.types }
     requires types { AreByIds list.now.groups types.now }
     ensures added { Adds result (global_items (features_of features)
@@ -175,5 +171,5 @@ pub fn add_globals<'a, A: Allocator + Copy>(
         Counted::Globals,
         reader.range().start,
     )?;
-    add_each_global(features, list, types, allocations, opened, count, reader)
+    add_each_global(features, list, types, memory, opened, count, reader)
 }

@@ -13,7 +13,7 @@ ghost use Rattle.wasm_validator_items.specs.Answers.{Refuses, StandsBehind};
 ghost use Rattle.wasm_validator_items.specs.Machine.{behind_initializer};
 
 use std::alloc::Allocator;
-use wasm_constant_items::{OperatorValidatorAllocations, check_expression_of_type};
+use wasm_constant_items::{ExpressionMemory, check_expression_of_type};
 use wasm_readers::BinaryReader;
 use wasm_readers_errors::WasmFeatures;
 use wasm_readers_types::ValType;
@@ -28,11 +28,11 @@ pub(crate) fn check_initializer<'a, A: Allocator + Copy>(
     features: WasmFeatures,
     list: &TypeList<A>,
     types: &TypesByIds<A>,
-    allocations: OperatorValidatorAllocations<A>,
+    memory: &mut ExpressionMemory<A>,
     opened: &Module<A>,
     ty: ValType,
     reader: &mut BinaryReader<'a>,
-) -> Result<OperatorValidatorAllocations<A>, Error<A>>
+) -> Result<(), Error<A>>
     requires held { AreHeld list.now opened.now.types }
     requires types { AreByIds list.now.groups types.now }
     ensures ok { IfOk result (λ _. behind_initializer (features_of features)
@@ -47,13 +47,6 @@ pub(crate) fn check_initializer<'a, A: Allocator + Copy>(
     let spaces = opened.spaces();
     let imported_globals = spaces.imported_global_count();
     let resources = ModuleResources::new(spaces, list, types, &[], None);
-    let allocations = check_expression_of_type(
-        allocations,
-        features,
-        &resources,
-        imported_globals,
-        ty,
-        reader,
-    )?;
-    Ok(allocations)
+    check_expression_of_type(memory, features, &resources, imported_globals, ty, reader)?;
+    Ok(())
 }

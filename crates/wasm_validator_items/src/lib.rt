@@ -16,4 +16,4 @@ pub use data::{add_data_segments, check_next_data};
 pub use elements::{add_elements, add_next_element};
 pub use globals::{add_globals, add_next_global};
 pub use tables::{add_next_table, add_tables};
-pub use wasm_constant_items::OperatorValidatorAllocations;
+pub use wasm_constant_items::ExpressionMemory;

@@ -16,7 +16,7 @@ ghost use Rattle.wasm_validator_items.specs.Machine.{behind_init, table_step, it
 
 use crate::initializers::check_initializer;
 use std::alloc::Allocator;
-use wasm_constant_items::OperatorValidatorAllocations;
+use wasm_constant_items::ExpressionMemory;
 use wasm_readers::BinaryReader;
 use wasm_readers::externs::read_table_head;
 use wasm_readers_errors::{Counted, Fault, Malformed, Refusal, WasmFeatures};
@@ -30,12 +30,12 @@ fn check_init<'a, A: Allocator + Copy>(
     features: WasmFeatures,
     list: &TypeList<A>,
     types: &TypesByIds<A>,
-    allocations: OperatorValidatorAllocations<A>,
+    memory: &mut ExpressionMemory<A>,
     opened: &Module<A>,
     ty: TableType,
     has_init: bool,
     reader: &mut BinaryReader<'a>,
-) -> Result<OperatorValidatorAllocations<A>, Error<A>>
+) -> Result<(), Error<A>>
     requires held { AreHeld list.now opened.now.types }
     requires types { AreByIds list.now.groups types.now }
     ensures ok { IfOk result (λ _. behind_init (features_of features)
@@ -49,15 +49,15 @@ fn check_init<'a, A: Allocator + Copy>(
     ensures place { IfErr result (StandsBehind reader.old) }
 {
     if !has_init {
-        return Ok(allocations);
+        return Ok(());
     }
     let element = ValType::Ref(ty.element_type);
-    check_initializer(features, list, types, allocations, opened, element, reader)
+    check_initializer(features, list, types, memory, opened, element, reader)
 }
 
 /// Reads the table that the bytes begin with, in the module as far as it has been read, and adds
 /// it. Its initializer, where it has one, may read the imported globals, and is typed in memory
-/// that was used before, which is handed on. The reader goes behind it.
+/// that is used again. The reader goes behind it.
 ///
 /// The list must have the types of the module; and `types` are all that it has, with ids in the
 /// place of positions in their groups.
@@ -73,10 +73,10 @@ pub fn add_next_table<'a, A: Allocator + Copy>(
     features: WasmFeatures,
     list: &TypeList<A>,
     types: &TypesByIds<A>,
-    allocations: OperatorValidatorAllocations<A>,
+    memory: &mut ExpressionMemory<A>,
     opened: &mut Module<A>,
     reader: &mut BinaryReader<'a>,
-) -> Result<OperatorValidatorAllocations<A>, Error<A>>
+) -> Result<(), Error<A>>
     requires held { AreHeld list.now opened.old.types }
     requires types { AreByIds list.now.groups types.now }
     ensures ok { IfOk result (λ _. table_step (features_of features)
@@ -94,18 +94,9 @@ pub fn add_next_table<'a, A: Allocator + Copy>(
     let head = read_table_head(reader)?;
     let has_init = head.has_init;
     let ty = opened.check_table(features, list, head.ty, has_init, offset)?;
-    let allocations = check_init(
-        features,
-        list,
-        types,
-        allocations,
-        opened,
-        ty,
-        has_init,
-        reader,
-    )?;
+    check_init(features, list, types, memory, opened, ty, has_init, reader)?;
     opened.add_listed_table(features, ty, offset)?;
-    Ok(allocations)
+    Ok(())
 }
 
 /// Adds so many tables, behind which nothing is left.
@@ -113,11 +104,11 @@ fn add_each_table<'a, A: Allocator + Copy>(
     features: WasmFeatures,
     list: &TypeList<A>,
     types: &TypesByIds<A>,
-    allocations: OperatorValidatorAllocations<A>,
+    memory: &mut ExpressionMemory<A>,
     opened: &mut Module<A>,
     count: u32,
     reader: BinaryReader<'a>,
-) -> Result<OperatorValidatorAllocations<A>, Error<A>>
+) -> Result<(), Error<A>>
     requires held { AreHeld list.now opened.old.types }
     requires types { AreByIds list.now.groups types.now }
     ensures added { Adds result (items_from (table_step (features_of features)
@@ -126,15 +117,14 @@ fn add_each_table<'a, A: Allocator + Copy>(
     ensures types { opened.new.types ≡ opened.old.types }
     ensures place { IfErr result (StandsBehind reader.entry) }
 {
-    let mut allocations = allocations;
     let mut reader = reader;
     let mut left = count;
     'tables: while left > 0 {
-        allocations = add_next_table(features, list, types, allocations, opened, &mut reader)?;
+        add_next_table(features, list, types, memory, opened, &mut reader)?;
         left -= 1;
     }
     if reader.is_empty() {
-        return Ok(allocations);
+        return Ok(());
     }
     let fault = Fault::Malformed(Malformed::SectionSize);
     let offset = reader.original_position();
@@ -143,7 +133,7 @@ fn add_each_table<'a, A: Allocator + Copy>(
 
 /// Adds the tables of a table section, each with what its entries begin with where that is written,
 /// which may read the imported globals. `reader` is the section's, behind its count; and the
-/// initializers are typed in memory that was used before, which is handed on.
+/// initializers are typed in memory that is used again.
 ///
 /// The list must have the types of the module; and `types` are all that it has, with ids in the
 /// place of positions in their groups.
@@ -158,11 +148,11 @@ pub fn add_tables<'a, A: Allocator + Copy>(
     features: WasmFeatures,
     list: &TypeList<A>,
     types: &TypesByIds<A>,
-    allocations: OperatorValidatorAllocations<A>,
+    memory: &mut ExpressionMemory<A>,
     opened: &mut Module<A>,
     count: u32,
     reader: BinaryReader<'a>,
-) -> Result<OperatorValidatorAllocations<A>, Error<A>>
+) -> Result<(), Error<A>>
     requires held { AreHeld list.now opened.old.types }
     requires types { AreByIds list.now.groups types.now }
     ensures added { Adds result (table_items (features_of features)
@@ -181,5 +171,5 @@ pub fn add_tables<'a, A: Allocator + Copy>(
         Counted::Tables,
         reader.range().start,
     )?;
-    add_each_table(features, list, types, allocations, opened, count, reader)
+    add_each_table(features, list, types, memory, opened, count, reader)
 }

@@ -25,20 +25,19 @@ use Rattle.wasm_context_laws.specs.ListedTypes.{types_declare}
 use Rattle.wasm_context_laws.proofs.ListedTypes.{lists_declare_their_types}
 use Rattle.wasm_referenced_functions.specs.Expressions.{expression_at}
 use Rattle.wasm_referenced_functions.specs.References.{marked, names_if, names_at}
-use Rattle.wasm_validator_items_laws.specs.Answers.{Refuses, forgotten}
+use Rattle.wasm_validator_items_laws.specs.Answers.{Refuses}
 use Rattle.wasm_validator_items_laws.specs.Entries.{add_table_entry, add_global_entry, add_element, add_data}
 use Rattle.wasm_validator_items_laws.specs.Machine.{table_step, global_step, element_step, data_step}
 use Rattle.wasm_validator_items_laws.specs.Sections.{read_one, read_one_of}
 use Rattle.wasm_validator_items_laws.proofs.Singles.{items_are_added}
 use Rattle.wasm_validator_module_state.specs.Singles.{next_table, next_global, next_element, next_data}
 
--- the answer without what was accepted says the same, in other words for the machine
-kept_adds : {T A S : Type 0} (r : Result T (Error A)) (q : Result (Unit {0}) (Error A)) (o p : Option S) (t : S)
-    → q ≡ forgotten r → o ≡ p → IfOk r (λ x. o ≡ Some t) → IfErr r (λ e. Refuses e o) → Adds q p t
-kept_adds {A = A} (Ok x) q o p t e f ok err = subst (λ (w : Result (Unit {0}) (Error A)). Adds w p t) (sym e) (sym f ∙ ok)
-kept_adds {A = A} (Err (Refused r)) q o p t e f ok err = subst (λ (w : Result (Unit {0}) (Error A)). Adds w p t) (sym e) (sym f ∙ err)
-kept_adds {A = A} (Err (DuplicateExport name offset)) q o p t e f ok err = subst (λ (w : Result (Unit {0}) (Error A)). Adds w p t) (sym e) (sym f ∙ err)
-kept_adds {A = A} (Err OutOfMemory) q o p t e f ok err = subst (λ (w : Result (Unit {0}) (Error A)). Adds w p t) (sym e) tt
+-- the answer says the same in other words for the machine
+kept_adds : {T A S : Type 0} (r : Result T (Error A)) (o p : Option S) (t : S) → o ≡ p → IfOk r (λ x. o ≡ Some t) → IfErr r (λ e. Refuses e o) → Adds r p t
+kept_adds (Ok x) o p t f ok err = sym f ∙ ok
+kept_adds (Err (Refused r)) o p t f ok err = sym f ∙ err
+kept_adds (Err (DuplicateExport name offset)) o p t f ok err = sym f ∙ err
+kept_adds (Err OutOfMemory) o p t f ok err = tt
 
 -- what each id declares
 abbrev Declared : Type 0
@@ -77,23 +76,23 @@ module _ {A : Type 0} (F : Features) (c : Bool) (gs : List (List (SubType A))) (
       ∙ ap (λ (ds : Declared). read_one (data_at expression_at) (add_data F ds) s bytes) same
 
   -- so the answer of the one says what the other does
-  module _ {T : Type 0} (r : Result T (Error A)) (q : Result (Unit {0}) (Error A)) (t : Spaces × List ℕ) (answer : q ≡ forgotten r) where
-    pub table_added : IfOk r (λ x. table_step F ids us s bytes ≡ Some t) → IfErr r (λ e. Refuses e (table_step F ids us s bytes)) → Adds q (next_table F us s bytes) t
-    table_added ok err = kept_adds r q (table_step F ids us s bytes) (next_table F us s bytes) t answer table_is ok err
+  module _ {T : Type 0} (r : Result T (Error A)) (t : Spaces × List ℕ) where
+    pub table_added : IfOk r (λ x. table_step F ids us s bytes ≡ Some t) → IfErr r (λ e. Refuses e (table_step F ids us s bytes)) → Adds r (next_table F us s bytes) t
+    table_added ok err = kept_adds r (table_step F ids us s bytes) (next_table F us s bytes) t table_is ok err
 
-    pub global_added : IfOk r (λ x. global_step F ids us s bytes ≡ Some t) → IfErr r (λ e. Refuses e (global_step F ids us s bytes)) → Adds q (next_global F us s bytes) t
-    global_added ok err = kept_adds r q (global_step F ids us s bytes) (next_global F us s bytes) t answer global_is ok err
+    pub global_added : IfOk r (λ x. global_step F ids us s bytes ≡ Some t) → IfErr r (λ e. Refuses e (global_step F ids us s bytes)) → Adds r (next_global F us s bytes) t
+    global_added ok err = kept_adds r (global_step F ids us s bytes) (next_global F us s bytes) t global_is ok err
 
     pub element_added : nat_le (length s.elements + 1) MAX_ELEMENT_SEGMENTS ≡ true
-        → IfOk r (λ x. element_step F ids s bytes ≡ Some t) → IfErr r (λ e. Refuses e (element_step F ids s bytes)) → Adds q (next_element F us s bytes) t
-    element_added fits ok err = kept_adds r q (element_step F ids s bytes) (next_element F us s bytes) t answer (element_is fits) ok err
+        → IfOk r (λ x. element_step F ids s bytes ≡ Some t) → IfErr r (λ e. Refuses e (element_step F ids s bytes)) → Adds r (next_element F us s bytes) t
+    element_added fits ok err = kept_adds r (element_step F ids s bytes) (next_element F us s bytes) t (element_is fits) ok err
 
   -- a data segment leaves the module as it is
-  pub data_checked : {T : Type 0} (r : Result T (Error A)) (q : Result (Unit {0}) (Error A)) (u : Spaces) (more : List ℕ) → q ≡ forgotten r → u ≡ s
-      → IfOk r (λ x. data_step F ids u bytes ≡ Some (u, more)) → IfErr r (λ e. Refuses e (data_step F ids u bytes)) → Adds q (next_data F us s bytes) (s, more)
-  data_checked r q u more answer here ok err =
-      subst (λ (w : Spaces). Adds q (next_data F us s bytes) (w, more)) here
-      (kept_adds r q (data_step F ids u bytes) (next_data F us s bytes) (u, more) answer (ap (λ (w : Spaces). data_step F ids w bytes) here ∙ data_is) ok err)
+  pub data_checked : {T : Type 0} (r : Result T (Error A)) (u : Spaces) (more : List ℕ) → u ≡ s
+      → IfOk r (λ x. data_step F ids u bytes ≡ Some (u, more)) → IfErr r (λ e. Refuses e (data_step F ids u bytes)) → Adds r (next_data F us s bytes) (s, more)
+  data_checked r u more here ok err =
+      subst (λ (w : Spaces). Adds r (next_data F us s bytes) (w, more)) here
+      (kept_adds r (data_step F ids u bytes) (next_data F us s bytes) (u, more) (ap (λ (w : Spaces). data_step F ids w bytes) here ∙ data_is) ok err)
 
 nothing : {X : Type 0} (x : X) → None ≡ Some x → ⊥
 nothing x e = cc

@@ -39,16 +39,15 @@ pub(crate) fn add_table<'a, A: Allocator + Copy>(
     ensures place { IfErr result (StandsBehind reader.old) }
 {
     tells_types_apart(list);
-    let allocations = constants.taken(list)?;
-    let added = add_next_table(
+    constants.update(list)?;
+    add_next_table(
         features,
         list,
         &constants.types,
-        allocations,
+        &mut constants.memory,
         opened,
         reader,
-    );
-    constants.keep(added)
+    )
 }
 
 /// Adds the global that the bytes begin with.
@@ -70,16 +69,15 @@ pub(crate) fn add_global<'a, A: Allocator + Copy>(
     ensures place { IfErr result (StandsBehind reader.old) }
 {
     tells_types_apart(list);
-    let allocations = constants.taken(list)?;
-    let added = add_next_global(
+    constants.update(list)?;
+    add_next_global(
         features,
         list,
         &constants.types,
-        allocations,
+        &mut constants.memory,
         opened,
         reader,
-    );
-    constants.keep(added)
+    )
 }
 
 /// Accepts one element segment more, besides those that are there.
@@ -118,16 +116,15 @@ pub(crate) fn add_element<'a, A: Allocator + Copy>(
 {
     check_element_room(opened, reader.original_position())?;
     tells_types_apart(list);
-    let allocations = constants.taken(list)?;
-    let added = add_next_element(
+    constants.update(list)?;
+    add_next_element(
         features,
         list,
         &constants.types,
-        allocations,
+        &mut constants.memory,
         opened,
         reader,
-    );
-    constants.keep(added)
+    )
 }
 
 /// Checks the data segment that the bytes begin with.
@@ -148,15 +145,14 @@ pub(crate) fn check_data<'a, A: Allocator + Copy>(
     ensures place { IfErr result (StandsBehind reader.old) }
 {
     tells_types_apart(list);
-    let allocations = constants.taken(list)?;
+    constants.update(list)?;
     let spaces = opened.spaces();
-    let added = check_next_data(
+    check_next_data(
         features,
         list,
         &constants.types,
-        allocations,
+        &mut constants.memory,
         spaces,
         reader,
-    );
-    constants.keep(added)
+    )
 }

@@ -1,8 +1,7 @@
 -- What a section whose items hold constant expressions adds in one pass is what its items add one after another, over what the types of the
 -- list declare.
-use Rattle.std.proofs.Common.{◌≡◌, sym, ap, subst, ◌∙◌, ℕ, Bool, List, length, Option}
+use Rattle.std.proofs.Common.{◌≡◌, ap, subst, ◌∙◌, ℕ, Bool, List, length, Option}
 use Rattle.std.specs.declared.result.Result.{Result}
-use Rattle.std.specs.declared.result.Result.TheVariants.{Ok, Err}
 use Rattle.wasm_spec.specs.BinarySections.{table_entry_at, global_entry_at, element_at, data_at}
 use Rattle.wasm_spec.specs.Features.{Features}
 use Rattle.wasm_spec.specs.Syntax.{Sub}
@@ -16,7 +15,6 @@ use Rattle.wasm_validator_type_list.specs.Listable.{AreListable}
 use Rattle.wasm_validator_types.specs.Spaces.{Spaces}
 use Rattle.wasm_validator_core.specs.Answers.{TypesSoFar, Adds}
 use Rattle.wasm_validator_core.specs.declared.error.Error.{Error}
-use Rattle.wasm_validator_core.specs.declared.error.Error.TheVariants.{Refused, DuplicateExport, OutOfMemory}
 use Rattle.wasm_validator_core.specs.declared.limits.TheConstants.{MAX_GLOBALS, MAX_ELEMENT_SEGMENTS, MAX_DATA_SEGMENTS}
 use Rattle.wasm_operator_worlds.specs.IndexContexts.{id_of}
 use Rattle.wasm_operator_worlds.specs.ListContexts.{list_declares}
@@ -31,15 +29,10 @@ use Rattle.wasm_module_list_laws.proofs.Globals.{globals_are_added}
 use Rattle.wasm_module_list_laws.proofs.Elements.{elements_are_added}
 use Rattle.wasm_module_list_laws.proofs.Segments.{data_are_added}
 use Rattle.wasm_validator_sections.specs.Machine.{table_items, global_items, element_items, data_items}
-use Rattle.wasm_validator_module_state.specs.Answers.{forgotten}
 
-module _ {T A : Type 0} where
-  -- the answer without what was accepted says the same
-  forgotten_adds : {S : Type 0} (r : Result T (Error A)) (q : Result (Unit {0}) (Error A)) (o p : Option S) (t : S) → q ≡ forgotten r → o ≡ p → Adds r o t → Adds q p t
-  forgotten_adds (Ok x) q o p t e f h = subst (λ (w : Result (Unit {0}) (Error A)). Adds w p t) (sym e) (sym f ∙ h)
-  forgotten_adds (Err (Refused r)) q o p t e f h = subst (λ (w : Result (Unit {0}) (Error A)). Adds w p t) (sym e) (sym f ∙ h)
-  forgotten_adds (Err (DuplicateExport name offset)) q o p t e f h = subst (λ (w : Result (Unit {0}) (Error A)). Adds w p t) (sym e) (sym f ∙ h)
-  forgotten_adds (Err OutOfMemory) q o p t e f h = subst (λ (w : Result (Unit {0}) (Error A)). Adds w p t) (sym e) tt
+-- the answer says the same in other words for what is added
+same_adds : {T A S : Type 0} (r : Result T (Error A)) (o p : Option S) (t : S) → o ≡ p → Adds r o t → Adds r p t
+same_adds r o p t f h = subst (λ x. Adds r x t) f h
 
 module _ {A : Type 0} (F : Features) (c : Bool) (gs : List (List (SubType A))) (listable : AreListable gs) (apart : HasNoRepetition (def_types c gs)) (count : ℕ) (bytes : List ℕ) (s : Spaces) where
   abbrev us : TypesSoFar
@@ -75,15 +68,15 @@ module _ {A : Type 0} (F : Features) (c : Bool) (gs : List (List (SubType A))) (
       ∙ ap (λ (ds : Declared). read_section (data_at expression_at) (add_data F ds) 0 MAX_DATA_SEGMENTS count bytes s) same
 
   -- so the answer of the one says what the other does
-  module _ {T : Type 0} (r : Result T (Error A)) (q : Result (Unit {0}) (Error A)) (n : ℕ) (more : List ℕ) (t : Spaces) (answer : q ≡ forgotten r) (as_many : n ≡ count) (as_read : more ≡ bytes) where
-    pub tables_added : Adds r (one_pass.table_items F ids us n more s) t → Adds q (table_items F us count bytes s) t
-    tables_added h = forgotten_adds r q (one_pass.table_items F ids us n more s) (table_items F us count bytes s) t answer ((λ i. one_pass.table_items F ids us (as_many i) (as_read i) s) ∙ tables_are) h
+  module _ {T : Type 0} (r : Result T (Error A)) (n : ℕ) (more : List ℕ) (t : Spaces) (as_many : n ≡ count) (as_read : more ≡ bytes) where
+    pub tables_added : Adds r (one_pass.table_items F ids us n more s) t → Adds r (table_items F us count bytes s) t
+    tables_added h = same_adds r (one_pass.table_items F ids us n more s) (table_items F us count bytes s) t ((λ i. one_pass.table_items F ids us (as_many i) (as_read i) s) ∙ tables_are) h
 
-    pub globals_added : Adds r (one_pass.global_items F ids us n more s) t → Adds q (global_items F us count bytes s) t
-    globals_added h = forgotten_adds r q (one_pass.global_items F ids us n more s) (global_items F us count bytes s) t answer ((λ i. one_pass.global_items F ids us (as_many i) (as_read i) s) ∙ globals_are) h
+    pub globals_added : Adds r (one_pass.global_items F ids us n more s) t → Adds r (global_items F us count bytes s) t
+    globals_added h = same_adds r (one_pass.global_items F ids us n more s) (global_items F us count bytes s) t ((λ i. one_pass.global_items F ids us (as_many i) (as_read i) s) ∙ globals_are) h
 
-    pub elements_added : Adds r (one_pass.element_items F ids n more s) t → Adds q (element_items F us count bytes s) t
-    elements_added h = forgotten_adds r q (one_pass.element_items F ids n more s) (element_items F us count bytes s) t answer ((λ i. one_pass.element_items F ids (as_many i) (as_read i) s) ∙ elements_are) h
+    pub elements_added : Adds r (one_pass.element_items F ids n more s) t → Adds r (element_items F us count bytes s) t
+    elements_added h = same_adds r (one_pass.element_items F ids n more s) (element_items F us count bytes s) t ((λ i. one_pass.element_items F ids (as_many i) (as_read i) s) ∙ elements_are) h
 
-    pub data_added : Adds r (one_pass.data_items F ids n more s) t → Adds q (data_items F us count bytes s) t
-    data_added h = forgotten_adds r q (one_pass.data_items F ids n more s) (data_items F us count bytes s) t answer ((λ i. one_pass.data_items F ids (as_many i) (as_read i) s) ∙ data_are) h
+    pub data_added : Adds r (one_pass.data_items F ids n more s) t → Adds r (data_items F us count bytes s) t
+    data_added h = same_adds r (one_pass.data_items F ids n more s) (data_items F us count bytes s) t ((λ i. one_pass.data_items F ids (as_many i) (as_read i) s) ∙ data_are) h

@@ -151,17 +151,16 @@ fn add_tables<'a, A: Allocator + Copy>(
         section.range().start,
     )?;
     tells_types_apart(list);
-    let allocations = constants.taken(list)?;
-    let added = wasm_validator_module_state::add_tables(
+    constants.update(list)?;
+    wasm_validator_module_state::add_tables(
         features,
         list,
         &constants.types,
-        allocations,
+        &mut constants.memory,
         opened,
         section.count(),
         section.reader(),
-    );
-    constants.keep(added)
+    )
 }
 
 /// Adds the memories of a memory section.
@@ -248,17 +247,16 @@ fn add_globals<'a, A: Allocator + Copy>(
         section.range().start,
     )?;
     tells_types_apart(list);
-    let allocations = constants.taken(list)?;
-    let added = wasm_validator_module_state::add_globals(
+    constants.update(list)?;
+    wasm_validator_module_state::add_globals(
         features,
         list,
         &constants.types,
-        allocations,
+        &mut constants.memory,
         opened,
         section.count(),
         section.reader(),
-    );
-    constants.keep(added)
+    )
 }
 
 /// Adds the element segments of an element section.
@@ -287,17 +285,16 @@ fn add_elements<'a, A: Allocator + Copy>(
         section.range().start,
     )?;
     tells_types_apart(list);
-    let allocations = constants.taken(list)?;
-    let added = wasm_validator_module_state::add_elements(
+    constants.update(list)?;
+    wasm_validator_module_state::add_elements(
         features,
         list,
         &constants.types,
-        allocations,
+        &mut constants.memory,
         opened,
         section.count(),
         section.reader(),
-    );
-    constants.keep(added)
+    )
 }
 
 /// Adds the exports of an export section.
@@ -355,17 +352,16 @@ pub fn check_data_segments<'a, A: Allocator + Copy>(
         section.range().start,
     )?;
     tells_types_apart(list);
-    let allocations = constants.taken(list)?;
-    let added = wasm_validator_module_state::add_data_segments(
+    constants.update(list)?;
+    wasm_validator_module_state::add_data_segments(
         features,
         list,
         &constants.types,
-        allocations,
+        &mut constants.memory,
         spaces,
         section.count(),
         section.reader(),
-    );
-    constants.keep(added)
+    )
 }
 
 /// Adds the tables of a table section, and notes the functions that they name.

@@ -10,5 +10,5 @@ pub items-preserved : goal.items-preserved
 items-preserved g c = record {
   same = search rules;
   onward = omega arith;
-  so_far = one_less (behind_expression (g.T.WasmModuleResources.context c.args.resources.now) (features_of c.args.features) c.args.imported_globals (val_of c.args.ty)) c.items.left (rest c.items.reader) (rest c.check_expression_of_type.new.reader) (omega arith) c.in_ok-allocations.ensures.past ∙ c.items.invariant.so_far;
+  so_far = one_less (behind_expression (g.T.WasmModuleResources.context c.args.resources.now) (features_of c.args.features) c.args.imported_globals (val_of c.args.ty)) c.items.left (rest c.items.reader) (rest c.check_expression_of_type.new.reader) (omega arith) c.in_ok-check_expression_of_type.ensures.past ∙ c.items.invariant.so_far;
 }

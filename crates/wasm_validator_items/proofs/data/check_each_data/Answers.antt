@@ -11,20 +11,20 @@ use Rattle.wasm_validator_items.proofs.Places.{behind_earlier}
 use Rattle.wasm_validator_items.proofs.Refusals.{err_as, error_as, refuses_whole, adds_nothing}
 use Rattle.wasm_validator_items.proofs.data.check_each_data.Goals as goal
 
-pub returns-in_err-allocations-clause-added : goal.returns-in_err-allocations-clause-added
-returns-in_err-allocations-clause-added g c =
+pub returns-in_err-check_next_data-clause-added : goal.returns-in_err-check_next_data-clause-added
+returns-in_err-check_next_data-clause-added g c =
     let step = data_step (features_of c.args.features) (list_declares id_of c.args.list.now.groups) in
     let all = items_from step c.args.count (rest c.args.reader) c.args.spaces.now in
     adds_nothing c.from_residual.result all c.args.spaces.now
-    (error_as c.from_residual.result c.in_err-allocations.field-0.0 (λ (e : Error g.row.A.Denot). Refuses e all) c.from_residual.ensures.1
-    (refuses_whole c.in_err-allocations.field-0.0 (step c.args.spaces.now (rest c.segments.reader)) all
+    (error_as c.from_residual.result c.in_err-check_next_data.field-0.0 (λ (e : Error g.row.A.Denot). Refuses e all) c.from_residual.ensures.1
+    (refuses_whole c.in_err-check_next_data.field-0.0 (step c.args.spaces.now (rest c.segments.reader)) all
     (none_here step c.segments.left (rest c.segments.reader) c.args.spaces.now all (omega arith) c.segments.invariant.so_far)
-    c.in_err-allocations.ensures.err))
+    c.in_err-check_next_data.ensures.err))
 
-pub returns-in_err-allocations-clause-place : goal.returns-in_err-allocations-clause-place
-returns-in_err-allocations-clause-place g c =
-    err_as c.from_residual.result c.in_err-allocations.field-0.0 (λ (e : Error g.row.A.Denot). StandsBehind c.args.reader e) c.from_residual.ensures.1
-    (behind_earlier c.args.reader c.segments.reader c.in_err-allocations.field-0.0 c.segments.invariant.same c.segments.invariant.onward c.in_err-allocations.ensures.place)
+pub returns-in_err-check_next_data-clause-place : goal.returns-in_err-check_next_data-clause-place
+returns-in_err-check_next_data-clause-place g c =
+    err_as c.from_residual.result c.in_err-check_next_data.field-0.0 (λ (e : Error g.row.A.Denot). StandsBehind c.args.reader e) c.from_residual.ensures.1
+    (behind_earlier c.args.reader c.segments.reader c.in_err-check_next_data.field-0.0 c.segments.invariant.same c.segments.invariant.onward c.in_err-check_next_data.ensures.place)
 
 pub segments-preserved : goal.segments-preserved
 segments-preserved g c =
@@ -36,7 +36,7 @@ segments-preserved g c =
       onward = omega (arith, onward, before);
       so_far =
           one_less step c.segments.left (rest c.segments.reader) (rest c.check_next_data.new.reader) c.args.spaces.now c.args.spaces.now (items_from step c.args.count (rest c.args.reader) c.args.spaces.now)
-          (omega arith) c.in_ok-allocations.ensures.ok c.segments.invariant.so_far;
+          (omega arith) c.in_ok-check_next_data.ensures.ok c.segments.invariant.so_far;
     }
 
 pub returns-then-is_empty-clause-added : goal.returns-then-is_empty-clause-added

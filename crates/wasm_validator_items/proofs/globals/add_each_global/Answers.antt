@@ -13,20 +13,20 @@ use Rattle.wasm_validator_items.proofs.Places.{behind_earlier}
 use Rattle.wasm_validator_items.proofs.Refusals.{err_as, error_as, refuses_whole, adds_nothing}
 use Rattle.wasm_validator_items.proofs.globals.add_each_global.Goals as goal
 
-pub returns-in_err-allocations-clause-added : goal.returns-in_err-allocations-clause-added
-returns-in_err-allocations-clause-added g c =
+pub returns-in_err-add_next_global-clause-added : goal.returns-in_err-add_next_global-clause-added
+returns-in_err-add_next_global-clause-added g c =
     let step = global_step (features_of c.args.features) (list_declares id_of c.args.list.now.groups) (types_of_list c.args.list.now) in
     let all = items_from step c.args.count (rest c.args.reader) c.args.opened.now in
     adds_nothing c.from_residual.result all c.add_next_global.new.opened
-    (error_as c.from_residual.result c.in_err-allocations.field-0.0 (λ (e : Error g.row.A.Denot). Refuses e all) c.from_residual.ensures.1
-    (refuses_whole c.in_err-allocations.field-0.0 (step c.globals.opened (rest c.globals.reader)) all
+    (error_as c.from_residual.result c.in_err-add_next_global.field-0.0 (λ (e : Error g.row.A.Denot). Refuses e all) c.from_residual.ensures.1
+    (refuses_whole c.in_err-add_next_global.field-0.0 (step c.globals.opened (rest c.globals.reader)) all
     (none_here step c.globals.left (rest c.globals.reader) c.globals.opened all (omega arith) c.globals.invariant.so_far)
-    c.in_err-allocations.ensures.err))
+    c.in_err-add_next_global.ensures.err))
 
-pub returns-in_err-allocations-clause-place : goal.returns-in_err-allocations-clause-place
-returns-in_err-allocations-clause-place g c =
-    err_as c.from_residual.result c.in_err-allocations.field-0.0 (λ (e : Error g.row.A.Denot). StandsBehind c.args.reader e) c.from_residual.ensures.1
-    (behind_earlier c.args.reader c.globals.reader c.in_err-allocations.field-0.0 c.globals.invariant.same c.globals.invariant.onward c.in_err-allocations.ensures.place)
+pub returns-in_err-add_next_global-clause-place : goal.returns-in_err-add_next_global-clause-place
+returns-in_err-add_next_global-clause-place g c =
+    err_as c.from_residual.result c.in_err-add_next_global.field-0.0 (λ (e : Error g.row.A.Denot). StandsBehind c.args.reader e) c.from_residual.ensures.1
+    (behind_earlier c.args.reader c.globals.reader c.in_err-add_next_global.field-0.0 c.globals.invariant.same c.globals.invariant.onward c.in_err-add_next_global.ensures.place)
 
 pub globals-preserved : goal.globals-preserved
 globals-preserved g c =
@@ -40,7 +40,7 @@ globals-preserved g c =
       onward = omega (arith, onward, before);
       so_far =
           one_less step c.globals.left (rest c.globals.reader) (rest c.add_next_global.new.reader) c.globals.opened c.add_next_global.new.opened (items_from step c.args.count (rest c.args.reader) c.args.opened.now)
-          (omega arith) c.in_ok-allocations.ensures.ok c.globals.invariant.so_far;
+          (omega arith) c.in_ok-add_next_global.ensures.ok c.globals.invariant.so_far;
     }
 
 pub returns-then-is_empty-clause-added : goal.returns-then-is_empty-clause-added

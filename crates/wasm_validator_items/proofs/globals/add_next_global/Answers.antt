@@ -15,23 +15,23 @@ use Rattle.wasm_validator_items.proofs.Refusals.{err_as, refuses_whole, adding_r
 use Rattle.wasm_validator_items.proofs.Steps.{uninitialized, no_room}
 use Rattle.wasm_validator_items.proofs.globals.add_next_global.Goals as goal
 
-pub returns-in_err-allocations-clause-err : goal.returns-in_err-allocations-clause-err
-returns-in_err-allocations-clause-err g c =
+pub returns-in_err-check_initializer-clause-err : goal.returns-in_err-check_initializer-clause-err
+returns-in_err-check_initializer-clause-err g c =
     let F = features_of c.args.features in
     let declares = list_declares id_of c.args.list.now.groups in
     let us = types_of_list c.args.list.now in
     let s = c.args.opened.now in
     let more = rest c.read_global_type.new.reader in
     let step = global_step F declares us s (rest c.args.reader.now) in
-    err_as c.from_residual-in_err-allocations.result c.in_err-allocations.field-0.0 (λ (e : Error g.row.A.Denot). Refuses e step) c.from_residual-in_err-allocations.ensures.1
-    (refuses_whole c.in_err-allocations.field-0.0 (behind_initializer F declares s (val_of c.in_ok-ty.ty.content_type) more) step
+    err_as c.from_residual-in_err-check_initializer.result c.in_err-check_initializer.field-0.0 (λ (e : Error g.row.A.Denot). Refuses e step) c.from_residual-in_err-check_initializer.ensures.1
+    (refuses_whole c.in_err-check_initializer.field-0.0 (behind_initializer F declares s (val_of c.in_ok-ty.ty.content_type) more) step
     (uninitialized F declares us s (rest c.args.reader.now) more (global_of c.in_ok-written.written) (global_of c.in_ok-ty.ty) c.in_ok-written.ensures.ok c.in_ok-ty.ensures.allowed c.in_ok-ty.ensures.listed)
-    c.in_err-allocations.ensures.err)
+    c.in_err-check_initializer.ensures.err)
 
-pub returns-in_err-allocations-clause-place : goal.returns-in_err-allocations-clause-place
-returns-in_err-allocations-clause-place g c =
-    err_as c.from_residual-in_err-allocations.result c.in_err-allocations.field-0.0 (λ (e : Error g.row.A.Denot). StandsBehind c.args.reader.now e) c.from_residual-in_err-allocations.ensures.1
-    (behind_earlier c.args.reader.now c.read_global_type.new.reader c.in_err-allocations.field-0.0 c.in_ok-written.ensures.same c.in_ok-written.ensures.onward c.in_err-allocations.ensures.place)
+pub returns-in_err-check_initializer-clause-place : goal.returns-in_err-check_initializer-clause-place
+returns-in_err-check_initializer-clause-place g c =
+    err_as c.from_residual-in_err-check_initializer.result c.in_err-check_initializer.field-0.0 (λ (e : Error g.row.A.Denot). StandsBehind c.args.reader.now e) c.from_residual-in_err-check_initializer.ensures.1
+    (behind_earlier c.args.reader.now c.read_global_type.new.reader c.in_err-check_initializer.field-0.0 c.in_ok-written.ensures.same c.in_ok-written.ensures.onward c.in_err-check_initializer.ensures.place)
 
 pub returns-in_err-add_global-clause-err : goal.returns-in_err-add_global-clause-err
 returns-in_err-add_global-clause-err g c =
@@ -44,7 +44,7 @@ returns-in_err-add_global-clause-err g c =
     let step = global_step F declares us s (rest c.args.reader.now) in
     err_as c.from_residual-in_err-add_global.result c.in_err-add_global.field-0.0 (λ (e : Error g.row.A.Denot). Refuses e step) c.from_residual-in_err-add_global.ensures.1
     (refuses_whole c.in_err-add_global.field-0.0 (with_global s (global_of c.in_ok-ty.ty)) step
-    (no_room F declares us s (rest c.args.reader.now) more (global_of c.in_ok-written.written) (global_of c.in_ok-ty.ty) after c.in_ok-written.ensures.ok c.in_ok-ty.ensures.allowed c.in_ok-ty.ensures.listed c.in_ok-allocations.ensures.ok)
+    (no_room F declares us s (rest c.args.reader.now) more (global_of c.in_ok-written.written) (global_of c.in_ok-ty.ty) after c.in_ok-written.ensures.ok c.in_ok-ty.ensures.allowed c.in_ok-ty.ensures.listed c.in_ok-check_initializer.ensures.ok)
     (adding_refuses c.in_err-add_global.field-0.0 (with_global s (global_of c.in_ok-ty.ty)) c.add_global.new.self c.in_err-add_global.ensures.added))
 
 pub returns-in_err-add_global-clause-place : goal.returns-in_err-add_global-clause-place

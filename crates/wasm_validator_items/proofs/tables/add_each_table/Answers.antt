@@ -13,20 +13,20 @@ use Rattle.wasm_validator_items.proofs.Places.{behind_earlier}
 use Rattle.wasm_validator_items.proofs.Refusals.{err_as, error_as, refuses_whole, adds_nothing}
 use Rattle.wasm_validator_items.proofs.tables.add_each_table.Goals as goal
 
-pub returns-in_err-allocations-clause-added : goal.returns-in_err-allocations-clause-added
-returns-in_err-allocations-clause-added g c =
+pub returns-in_err-add_next_table-clause-added : goal.returns-in_err-add_next_table-clause-added
+returns-in_err-add_next_table-clause-added g c =
     let step = table_step (features_of c.args.features) (list_declares id_of c.args.list.now.groups) (types_of_list c.args.list.now) in
     let all = items_from step c.args.count (rest c.args.reader) c.args.opened.now in
     adds_nothing c.from_residual.result all c.add_next_table.new.opened
-    (error_as c.from_residual.result c.in_err-allocations.field-0.0 (λ (e : Error g.row.A.Denot). Refuses e all) c.from_residual.ensures.1
-    (refuses_whole c.in_err-allocations.field-0.0 (step c.tables.opened (rest c.tables.reader)) all
+    (error_as c.from_residual.result c.in_err-add_next_table.field-0.0 (λ (e : Error g.row.A.Denot). Refuses e all) c.from_residual.ensures.1
+    (refuses_whole c.in_err-add_next_table.field-0.0 (step c.tables.opened (rest c.tables.reader)) all
     (none_here step c.tables.left (rest c.tables.reader) c.tables.opened all (omega arith) c.tables.invariant.so_far)
-    c.in_err-allocations.ensures.err))
+    c.in_err-add_next_table.ensures.err))
 
-pub returns-in_err-allocations-clause-place : goal.returns-in_err-allocations-clause-place
-returns-in_err-allocations-clause-place g c =
-    err_as c.from_residual.result c.in_err-allocations.field-0.0 (λ (e : Error g.row.A.Denot). StandsBehind c.args.reader e) c.from_residual.ensures.1
-    (behind_earlier c.args.reader c.tables.reader c.in_err-allocations.field-0.0 c.tables.invariant.same c.tables.invariant.onward c.in_err-allocations.ensures.place)
+pub returns-in_err-add_next_table-clause-place : goal.returns-in_err-add_next_table-clause-place
+returns-in_err-add_next_table-clause-place g c =
+    err_as c.from_residual.result c.in_err-add_next_table.field-0.0 (λ (e : Error g.row.A.Denot). StandsBehind c.args.reader e) c.from_residual.ensures.1
+    (behind_earlier c.args.reader c.tables.reader c.in_err-add_next_table.field-0.0 c.tables.invariant.same c.tables.invariant.onward c.in_err-add_next_table.ensures.place)
 
 pub tables-preserved : goal.tables-preserved
 tables-preserved g c =
@@ -40,7 +40,7 @@ tables-preserved g c =
       onward = omega (arith, onward, before);
       so_far =
           one_less step c.tables.left (rest c.tables.reader) (rest c.add_next_table.new.reader) c.tables.opened c.add_next_table.new.opened (items_from step c.args.count (rest c.args.reader) c.args.opened.now)
-          (omega arith) c.in_ok-allocations.ensures.ok c.tables.invariant.so_far;
+          (omega arith) c.in_ok-add_next_table.ensures.ok c.tables.invariant.so_far;
     }
 
 pub returns-then-is_empty-clause-added : goal.returns-then-is_empty-clause-added

@@ -15,23 +15,23 @@ use Rattle.wasm_validator_items.proofs.Refusals.{err_as, refuses_whole, adding_r
 use Rattle.wasm_validator_items.proofs.Steps.{without_init, no_table_room}
 use Rattle.wasm_validator_items.proofs.tables.add_next_table.Goals as goal
 
-pub returns-in_err-allocations-clause-err : goal.returns-in_err-allocations-clause-err
-returns-in_err-allocations-clause-err g c =
+pub returns-in_err-check_init-clause-err : goal.returns-in_err-check_init-clause-err
+returns-in_err-check_init-clause-err g c =
     let F = features_of c.args.features in
     let declares = list_declares id_of c.args.list.now.groups in
     let us = types_of_list c.args.list.now in
     let s = c.args.opened.now in
     let more = rest c.read_table_head.new.reader in
     let step = table_step F declares us s (rest c.args.reader.now) in
-    err_as c.from_residual-in_err-allocations.result c.in_err-allocations.field-0.0 (λ (e : Error g.row.A.Denot). Refuses e step) c.from_residual-in_err-allocations.ensures.1
-    (refuses_whole c.in_err-allocations.field-0.0 (behind_init F declares s (table_of c.in_ok-ty.ty) c.in_ok-head.head.has_init more) step
+    err_as c.from_residual-in_err-check_init.result c.in_err-check_init.field-0.0 (λ (e : Error g.row.A.Denot). Refuses e step) c.from_residual-in_err-check_init.ensures.1
+    (refuses_whole c.in_err-check_init.field-0.0 (behind_init F declares s (table_of c.in_ok-ty.ty) c.in_ok-head.head.has_init more) step
     (without_init F declares us s (rest c.args.reader.now) more (head_of c.in_ok-head.head) (table_of c.in_ok-ty.ty) c.in_ok-head.ensures.ok c.in_ok-ty.ensures.allowed c.in_ok-ty.ensures.listed)
-    c.in_err-allocations.ensures.err)
+    c.in_err-check_init.ensures.err)
 
-pub returns-in_err-allocations-clause-place : goal.returns-in_err-allocations-clause-place
-returns-in_err-allocations-clause-place g c =
-    err_as c.from_residual-in_err-allocations.result c.in_err-allocations.field-0.0 (λ (e : Error g.row.A.Denot). StandsBehind c.args.reader.now e) c.from_residual-in_err-allocations.ensures.1
-    (behind_earlier c.args.reader.now c.read_table_head.new.reader c.in_err-allocations.field-0.0 c.in_ok-head.ensures.same c.in_ok-head.ensures.onward c.in_err-allocations.ensures.place)
+pub returns-in_err-check_init-clause-place : goal.returns-in_err-check_init-clause-place
+returns-in_err-check_init-clause-place g c =
+    err_as c.from_residual-in_err-check_init.result c.in_err-check_init.field-0.0 (λ (e : Error g.row.A.Denot). StandsBehind c.args.reader.now e) c.from_residual-in_err-check_init.ensures.1
+    (behind_earlier c.args.reader.now c.read_table_head.new.reader c.in_err-check_init.field-0.0 c.in_ok-head.ensures.same c.in_ok-head.ensures.onward c.in_err-check_init.ensures.place)
 
 pub returns-in_err-add_listed_table-clause-err : goal.returns-in_err-add_listed_table-clause-err
 returns-in_err-add_listed_table-clause-err g c =
@@ -44,7 +44,7 @@ returns-in_err-add_listed_table-clause-err g c =
     let step = table_step F declares us s (rest c.args.reader.now) in
     err_as c.from_residual-in_err-add_listed_table.result c.in_err-add_listed_table.field-0.0 (λ (e : Error g.row.A.Denot). Refuses e step) c.from_residual-in_err-add_listed_table.ensures.1
     (refuses_whole c.in_err-add_listed_table.field-0.0 (with_table F s (table_of c.in_ok-ty.ty)) step
-    (no_table_room F declares us s (rest c.args.reader.now) more (head_of c.in_ok-head.head) (table_of c.in_ok-ty.ty) after c.in_ok-head.ensures.ok c.in_ok-ty.ensures.allowed c.in_ok-ty.ensures.listed c.in_ok-allocations.ensures.ok)
+    (no_table_room F declares us s (rest c.args.reader.now) more (head_of c.in_ok-head.head) (table_of c.in_ok-ty.ty) after c.in_ok-head.ensures.ok c.in_ok-ty.ensures.allowed c.in_ok-ty.ensures.listed c.in_ok-check_init.ensures.ok)
     (adding_refuses c.in_err-add_listed_table.field-0.0 (with_table F s (table_of c.in_ok-ty.ty)) c.add_listed_table.new.self c.in_err-add_listed_table.ensures.added))
 
 pub returns-in_err-add_listed_table-clause-place : goal.returns-in_err-add_listed_table-clause-place

@@ -7,6 +7,6 @@ use Rattle.wasm_validator_module_state.proofs.single_items.add_element.Goals as 
 pub returns-clause-added : goal.returns-clause-added
 returns-clause-added g c =
     let list = c.args.list.now in
-    let added = c.add_next_element-added in
+    let added = c.add_next_element in
     element_added (features_of c.args.features) list.is_canonical list.groups c.tells_types_apart.ensures.listable c.tells_types_apart.ensures.apart c.args.opened.now (rest c.args.reader.now)
-    added.result c.keep.result (added.new.opened, rest added.new.reader) c.keep.ensures.same (sym c.in_ok-check_element_room.ensures.fits) added.ensures.ok added.ensures.err
+    added.result (added.new.opened, rest added.new.reader) (sym c.in_ok-check_element_room.ensures.fits) added.ensures.ok added.ensures.err

@@ -6,6 +6,6 @@ use Rattle.wasm_validator_module_state.proofs.single_items.add_global.Goals as g
 pub returns-clause-added : goal.returns-clause-added
 returns-clause-added g c =
     let list = c.args.list.now in
-    let added = c.add_next_global-added in
+    let added = c.add_next_global in
     global_added (features_of c.args.features) list.is_canonical list.groups c.tells_types_apart.ensures.listable c.tells_types_apart.ensures.apart c.args.opened.now (rest c.args.reader.now)
-    added.result c.keep.result (added.new.opened, rest added.new.reader) c.keep.ensures.same added.ensures.ok added.ensures.err
+    added.result (added.new.opened, rest added.new.reader) added.ensures.ok added.ensures.err

@@ -7,6 +7,6 @@ use Rattle.wasm_validator_sections.proofs.module_sections.add_elements.Goals as 
 pub returns-clause-added : goal.returns-clause-added
 returns-clause-added g c =
     let list = c.args.list.now in
-    let added = c.add_elements-added in
+    let added = c.add_elements in
     elements_added (features_of c.args.features) list.is_canonical list.groups c.tells_types_apart.ensures.listable c.tells_types_apart.ensures.apart (count_of c.args.section.now) (bytes_of c.args.section.now) c.args.opened.now
-    added.result c.keep.result c.count-2.result (rest c.reader.result) c.add_elements-added.new.opened c.keep.ensures.same c.count-2.ensures c.reader.ensures.rest added.ensures.added
+    added.result c.count-2.result (rest c.reader.result) c.add_elements.new.opened c.count-2.ensures c.reader.ensures.rest added.ensures.added

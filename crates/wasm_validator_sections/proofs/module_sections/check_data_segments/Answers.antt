@@ -7,6 +7,6 @@ use Rattle.wasm_validator_sections.proofs.module_sections.check_data_segments.Go
 pub returns-clause-added : goal.returns-clause-added
 returns-clause-added g c =
     let list = c.args.list.now in
-    let added = c.add_data_segments-added in
+    let added = c.add_data_segments in
     data_added (features_of c.args.features) list.is_canonical list.groups c.tells_types_apart.ensures.listable c.tells_types_apart.ensures.apart (count_of c.args.section.now) (bytes_of c.args.section.now) c.args.spaces.now
-    added.result c.keep.result c.count-2.result (rest c.reader.result) c.args.spaces.now c.keep.ensures.same c.count-2.ensures c.reader.ensures.rest added.ensures.added
+    added.result c.count-2.result (rest c.reader.result) c.args.spaces.now c.count-2.ensures c.reader.ensures.rest added.ensures.added
