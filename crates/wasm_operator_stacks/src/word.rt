@@ -31,6 +31,7 @@ pub enum Operand {
 
 impl Word {
     ghost use Rattle.std.specs.Prelude.{◌≡◌, true};
+    ghost use Rattle.std.specs.Bool.{Decides};
     ghost use Rattle.wasm_readers_types.specs.SeenValues.{abstract_heap_of};
     ghost use Rattle.wasm_type_words.specs.Seen.{val_in, number_val};
     ghost use Rattle.wasm_operator_steps.specs.Machine.{bottom, bottom_reference, open_reference, known};
@@ -80,11 +81,12 @@ impl Word {
         }
     }
 
-    /// Whether its type is known to be this.
+    /// Whether it is the same number as the type's: then its type is known to be this.
     #[inline(always)]
     #[tactic(auto, using(crate::proofs::Wording::same_words))]
     pub fn is(self, ty: TypeWord) -> bool
-        ensures { result ≡ true → operand_of self ≡ known (val_in ty) }
+        ensures same { Decides result (self.bits ≡ ty.bits) }
+        ensures known { result ≡ true → operand_of self ≡ known (val_in ty) }
     {
         self.bits == ty.bits
     }

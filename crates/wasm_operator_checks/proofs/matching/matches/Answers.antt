@@ -7,4 +7,4 @@ use Rattle.wasm_operator_checks.proofs.matching.matches.Goals as goal
 pub returns-then-is : goal.returns-then-is
 returns-then-is g c =
     c.if-is.true
-    ∙ known_matches (g.T.WasmModuleResources.context c.args.resources.now) (operand_of c.args.operand) (val_in c.args.ty) (c.is.ensures c.if-is.true)
+    ∙ known_matches (g.T.WasmModuleResources.context c.args.resources.now) (operand_of c.args.operand) (val_in c.args.ty) (c.is.ensures.known c.if-is.true)
