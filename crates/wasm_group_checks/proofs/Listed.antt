@@ -30,12 +30,12 @@ use Rattle.wasm_group_checks.proofs.Rules.{SupertypeDeclares}
 use Rattle.wasm_group_checks.specs.Listed.{numbered, IsIn, leads_packed, IsListed}
 
 -- optional references
-known_option : (P : UnpackedIndex → Type 0) (o : Option PackedIndex) → All P (refs_option (option_map index_of o)) → IfSome o (λ p. P p.unpacked)
+known_option : (P : UnpackedIndex → Type 0) (o : Option PackedIndex) → All P (refs_option (option_map index_of o)) → IfSome o (λ p. P (index_of p))
 known_option P None h = tt
-known_option P (Some p) h = All-head P p.unpacked [] h
+known_option P (Some p) h = All-head P (index_of p) [] h
 
 -- the numbers that a type's clauses lead to
-led : (f : UnpackedIndex → ℕ) (o : Option PackedIndex) → option_map (λ (p : PackedIndex). f p.unpacked) o ≡ option_map f (option_map index_of o)
+led : (f : UnpackedIndex → ℕ) (o : Option PackedIndex) → option_map (λ (p : PackedIndex). f (index_of p)) o ≡ option_map f (option_map index_of o)
 led f None = refl
 led f (Some p) = refl
 
@@ -76,13 +76,13 @@ module _ {A : Type 0} where
       let P = IsKnownIn gs k in
       record { there = h.there; known = all-right P (refs_option s.descriptor) (refs_comp s.comp) (all-right P (refs_option s.describes) (refs_option s.descriptor ++ refs_comp s.comp) (all-right P s.supers (refs_option s.describes ++ (refs_option s.descriptor ++ refs_comp s.comp)) h.known)) }
 
-  pub listed_descriptor : (gs : List (List (SubType A))) (id k : ℕ) (ty : SubType A) → IsListed gs id k ty → IfSome ty.composite_type.descriptor_idx (λ p. IsKnownIn gs k p.unpacked)
+  pub listed_descriptor : (gs : List (List (SubType A))) (id k : ℕ) (ty : SubType A) → IsListed gs id k ty → IfSome ty.composite_type.descriptor_idx (λ p. IsKnownIn gs k (index_of p))
   listed_descriptor gs id k ty h =
       let s = sub_of ty in
       let P = IsKnownIn gs k in
       known_option P ty.composite_type.descriptor_idx (all-left P (refs_option s.descriptor) (refs_comp s.comp) (all-right P (refs_option s.describes) (refs_option s.descriptor ++ refs_comp s.comp) (all-right P s.supers (refs_option s.describes ++ (refs_option s.descriptor ++ refs_comp s.comp)) h.known)))
 
-  pub listed_describes : (gs : List (List (SubType A))) (id k : ℕ) (ty : SubType A) → IsListed gs id k ty → IfSome ty.composite_type.describes_idx (λ p. IsKnownIn gs k p.unpacked)
+  pub listed_describes : (gs : List (List (SubType A))) (id k : ℕ) (ty : SubType A) → IsListed gs id k ty → IfSome ty.composite_type.describes_idx (λ p. IsKnownIn gs k (index_of p))
   listed_describes gs id k ty h =
       let s = sub_of ty in
       let P = IsKnownIn gs k in

@@ -4,6 +4,7 @@ use Rattle.std.specs.declared.option.Option.TheVariants.{Some}
 use Rattle.std.specs.List.{All}
 use Rattle.wasm_spec.specs.Syntax.{Sub, map_sub}
 use Rattle.wasm_spec.specs.References.{refs_sub}
+use Rattle.wasm_readers_types.specs.SeenValues.{index_of}
 use Rattle.wasm_readers_types.specs.declared.indices.CoreTypeId.{CoreTypeId}
 use Rattle.wasm_readers_types.specs.declared.indices.PackedIndex.{PackedIndex}
 use Rattle.wasm_readers_types.specs.declared.types.SubType.{SubType}
@@ -26,7 +27,7 @@ module _ {A : Type 0} where
 
   -- the number of the id that a reference in the k-th group leads to
   abbrev pub leads_packed : List (List (SubType A)) → ℕ → PackedIndex → ℕ
-  leads_packed gs k p = leads_in gs k p.unpacked
+  leads_packed gs k p = leads_in gs k (index_of p)
 
   -- what a sub type in the k-th group says, over ids
   abbrev pub says : List (List (SubType A)) → ℕ → SubType A → Sub ℕ

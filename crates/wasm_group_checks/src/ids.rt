@@ -2,6 +2,7 @@
 
 ghost use Rattle.std.specs.Prelude.{◌≡◌, ◌<◌, length, slice_index_or, option_map, IfSome};
 ghost use Rattle.std.specs.Bool.{Decides};
+ghost use Rattle.wasm_readers_types.specs.SeenValues.{index_of};
 ghost use Rattle.wasm_spec.specs.Declared.{supertype_of, descriptor_of, described_by};
 ghost use Rattle.wasm_readers_types.specs.declared.types.SubType.{SubType};
 ghost use Rattle.wasm_validator_type_list.specs.Listable.{AreListable};
@@ -50,7 +51,7 @@ fn optional_id_at<A: Allocator + Copy>(
     index: Option<PackedIndex>,
 ) -> Option<CoreTypeId>
     requires group { group.index < length types.now.groups }
-    requires known { IfSome index (λ p. IsKnownIn types.now.groups group.index p.unpacked) }
+    requires known { IfSome index (λ p. IsKnownIn types.now.groups group.index (index_of p)) }
     ensures leads { numbered result ≡ option_map (leads_packed types.now.groups group.index) index }
     ensures there { IfSome result (IsIn types.now) }
 {

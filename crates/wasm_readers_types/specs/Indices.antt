@@ -1,8 +1,10 @@
 -- What an index says, in its three forms.
-use Rattle.std.specs.Prelude.{ℕ, ◌<◌, Option}
+use Rattle.std.specs.Prelude.{ℕ, ◌<◌, ◌+◌, ◌*◌, Option}
 use Rattle.std.specs.declared.option.Option.TheVariants.{None, Some}
 use Rattle.wasm_readers_types.specs.declared.indices.TheConstants.{MAX_IDS}
 use Rattle.wasm_readers_types.specs.declared.indices.CoreTypeId.{CoreTypeId}
+use Rattle.wasm_readers_types.specs.declared.indices.IndexForm.{IndexForm}
+use Rattle.wasm_readers_types.specs.declared.indices.IndexForm.TheVariants as form
 use Rattle.wasm_readers_types.specs.declared.indices.UnpackedIndex.{UnpackedIndex}
 use Rattle.wasm_readers_types.specs.declared.indices.UnpackedIndex.TheVariants.{Module, RecGroup, Id}
 
@@ -33,3 +35,20 @@ abbrev pub id_of : UnpackedIndex → Option CoreTypeId
 id_of (Module i) = None
 id_of (RecGroup i) = None
 id_of (Id id) = Some id
+
+-- the index with this number, in one of its forms
+abbrev pub indexed : IndexForm → ℕ → UnpackedIndex
+indexed form.Module n = Module n
+indexed form.RecGroup n = RecGroup n
+indexed form.Id n = Id (record { index = n })
+
+-- the number that four bytes are, the highest first
+abbrev pub number_in : ℕ → ℕ → ℕ → ℕ → ℕ
+number_in highest high low lowest = highest * 16777216 + high * 65536 + low * 256 + lowest
+
+-- each is a byte
+pub record AreBytes (highest high low lowest : ℕ) : Type 0 where
+  pub highest_fits : highest < 256
+  pub high_fits : high < 256
+  pub low_fits : low < 256
+  pub lowest_fits : lowest < 256

@@ -1,11 +1,13 @@
 -- Types that say the same in the abstract syntax are the same: what each function of SeenValues and SeenTypes forgets is nothing.
 use Rattle.std.specs.Prelude.{◌≡◌, List, [], ◌∷◌, map, refl}
-use Rattle.std.specs.Prelude.{ℕ, Option, option_map, ◌%◌, ◌<◌}
+use Rattle.std.specs.Prelude.{ℕ, Option, option_map, ◌/◌, ◌%◌, ◌<◌}
 use Rattle.std.specs.declared.option.Option.TheVariants.{None, Some}
 use Rattle.std.proofs.Common.{ap, sym, ◌∙◌, lit<, arith}
-use Rattle.wasm_readers_types.specs.Indices.{number_of}
-use Rattle.wasm_readers_types.specs.IndicesExact.{packed_by, packed-same}
+use Rattle.wasm_readers_types.specs.Indices.{number_of, number_in, AreBytes}
+use Rattle.wasm_readers_types.specs.IndicesExact.{Bytes, key_of, index_by, packed_by, packed-same}
 use Rattle.wasm_readers_types.specs.declared.indices.TheConstants.{MAX_IDS}
+use Rattle.wasm_readers_types.specs.declared.indices.IndexForm.{IndexForm}
+use Rattle.wasm_readers_types.specs.declared.indices.IndexForm.TheVariants as form
 use Rattle.wasm_readers_types.specs.declared.indices.PackedIndex.{PackedIndex}
 use Rattle.wasm_readers_types.specs.declared.indices.UnpackedIndex.TheVariants.{Module, RecGroup, Id}
 use Rattle.wasm_spec.specs.Syntax as syntax
@@ -67,22 +69,44 @@ abstract-undone abstract.NoExn = refl
 abstract-undone abstract.Cont = refl
 abstract-undone abstract.NoCont = refl
 
+-- the bytes of a number, in a form
+abbrev bytes_back : IndexForm → ℕ → Bytes
+bytes_back f n = (f, (n / 16777216 % 256, (n / 65536 % 256, (n / 256 % 256, n % 256))))
+
+are_bytes : (n : ℕ) → AreBytes (n / 16777216 % 256) (n / 65536 % 256) (n / 256 % 256) (n % 256)
+are_bytes n = record { highest_fits = omega arith; high_fits = omega arith; low_fits = omega arith; lowest_fits = omega arith }
+
+number_back : (n : ℕ) → n < 1048576 → number_in (n / 16777216 % 256) (n / 65536 % 256) (n / 256 % 256) (n % 256) < MAX_IDS
+number_back n h = omega (arith, h)
+
 -- an index that can't be packed becomes another one
 abbrev index_back : UnpackedIndex → PackedIndex
-index_back (Module i) = packed_by (Module i) (lit< tt)
-index_back (RecGroup i) = packed_by (RecGroup (i % 1048576)) (omega arith)
-index_back (Id id) = packed_by (Id (record { index = id.index % 1048576 })) (omega arith)
+index_back (Module n) = packed_by (bytes_back form.Module n) (are_bytes n) (lit< tt)
+index_back (RecGroup n) = packed_by (bytes_back form.RecGroup (n % 1048576)) (are_bytes (n % 1048576)) (number_back (n % 1048576) (omega arith))
+index_back (Id id) = packed_by (bytes_back form.Id (id.index % 1048576)) (are_bytes (id.index % 1048576)) (number_back (id.index % 1048576) (omega arith))
 
 mod_small : (i : ℕ) → i < 1048576 → i % 1048576 ≡ i
 mod_small i h = grind arith
 
-unpacked-undone : (u : UnpackedIndex) → number_of u < MAX_IDS → (index_back u).unpacked ≡ u
-unpacked-undone (Module i) h = refl
-unpacked-undone (RecGroup i) h = ap RecGroup (mod_small i h)
-unpacked-undone (Id id) h = λ i. Id (record { index = mod_small id.index h i })
+bytes-undone : (f : IndexForm) (a b c d : ℕ) → AreBytes a b c d → bytes_back f (number_in a b c d) ≡ (f, (a, (b, (c, d))))
+bytes-undone f a b c d h =
+    let n = number_in a b c d in
+    let w : n / 16777216 % 256 ≡ a = omega (arith, h.highest_fits, h.high_fits, h.low_fits, h.lowest_fits) in
+    let x : n / 65536 % 256 ≡ b = omega (arith, h.highest_fits, h.high_fits, h.low_fits, h.lowest_fits) in
+    let y : n / 256 % 256 ≡ c = omega (arith, h.highest_fits, h.high_fits, h.low_fits, h.lowest_fits) in
+    let z : n % 256 ≡ d = omega (arith, h.highest_fits, h.high_fits, h.low_fits, h.lowest_fits) in
+    λ i. (f, (w i, (x i, (y i, z i))))
+
+small-undone : (f : IndexForm) (a b c d : ℕ) → AreBytes a b c d → number_in a b c d < 1048576 → bytes_back f (number_in a b c d % 1048576) ≡ (f, (a, (b, (c, d))))
+small-undone f a b c d h l = ap (bytes_back f) (mod_small (number_in a b c d) l) ∙ bytes-undone f a b c d h
+
+key-undone : (k : Bytes) (h : AreBytes k.1.0 k.1.1.0 k.1.1.1.0 k.1.1.1.1) → number_of (index_by k) < MAX_IDS → key_of (index_back (index_by k)) ≡ k
+key-undone (form.Module, (a, (b, (c, d)))) h l = bytes-undone form.Module a b c d h
+key-undone (form.RecGroup, (a, (b, (c, d)))) h l = small-undone form.RecGroup a b c d h l
+key-undone (form.Id, (a, (b, (c, d)))) h l = small-undone form.Id a b c d h l
 
 index-undone : (p : PackedIndex) → index_back (index_of p) ≡ p
-index-undone p = packed-same (index_back p.unpacked) p (unpacked-undone p.unpacked p.fits)
+index-undone p = packed-same (index_back (index_of p)) p (key-undone (key_of p) p.bytes p.fits)
 
 abbrev heap_back : Heap UnpackedIndex → PackedHeap
 heap_back (syntax.abstract_heap shared a) = packed.Abstract shared (abstract_back a)

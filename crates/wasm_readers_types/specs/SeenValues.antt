@@ -3,7 +3,7 @@ use Rattle.std.specs.Prelude.{Bool, Option}
 use Rattle.std.specs.declared.option.Option.TheVariants.{None, Some}
 use Rattle.wasm_spec.specs.Syntax as syntax
 use Rattle.wasm_spec.specs.Syntax.{AbstractHeap, Heap, Ref, Val, Storage, Field}
-use Rattle.wasm_readers_types.specs.Indices.{Fits}
+use Rattle.wasm_readers_types.specs.Indices.{Fits, indexed, number_in}
 use Rattle.wasm_readers_types.specs.declared.indices.PackedIndex.{PackedIndex}
 use Rattle.wasm_readers_types.specs.declared.indices.UnpackedIndex.{UnpackedIndex}
 use Rattle.wasm_readers_types.specs.declared.values.AbstractHeapType.{AbstractHeapType}
@@ -47,7 +47,7 @@ HeapFits (heap.Concrete i) = Fits i
 HeapFits (heap.Exact i) = Fits i
 
 abbrev pub index_of : PackedIndex → UnpackedIndex
-index_of p = p.unpacked
+index_of p = indexed p.form (number_in p.highest p.high p.low p.lowest)
 
 abbrev pub packed_heap_of : PackedHeap → Heap UnpackedIndex
 packed_heap_of (packed.Abstract shared ty) = syntax.abstract_heap shared (abstract_heap_of ty)

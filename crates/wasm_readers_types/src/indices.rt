@@ -1,9 +1,10 @@
 ghost use Rattle.std.specs.Prelude.{◌≡◌, ◌<◌, ℕ, Option, IfSome, IsSome, IsTrue, ◌↔◌};
 ghost use Rattle.std.proofs.Common.{rules};
 ghost use Rattle.wasm_readers_types.specs.declared.indices.TheConstants.{MAX_IDS};
-ghost use Rattle.wasm_readers_types.specs.Indices.{number_of, Fits, IsId, module_of, id_of};
+ghost use Rattle.wasm_readers_types.specs.Indices.{number_of, number_in, AreBytes, indexed, Fits, IsId, module_of, id_of};
 
 use crate::exact::{Exact, Faithful};
+use std::fmt;
 
 /// How many ids there are, and so how many types a list of types can have: 2²⁰. It is one more
 /// than the largest id, and than the largest place in a recursion group, that a [`PackedIndex`]
@@ -65,9 +66,11 @@ impl Faithful for UnpackedIndex {
 }
 
 impl UnpackedIndex {
+    ghost use Rattle.wasm_readers_types.specs.SeenValues.{index_of};
+
     /// The index packed: none where a place in a group or an id is [`MAX_IDS`] or more.
     pub fn pack(&self) -> Option<PackedIndex>
-        ensures value { IfSome result (λ p. p.unpacked ≡ self.now) }
+        ensures value { IfSome result (λ p. index_of p ≡ self.now) }
         ensures fits { IsSome result ↔ Fits self.now }
     {
         match *self {
@@ -78,11 +81,25 @@ impl UnpackedIndex {
     }
 }
 
-/// An [`UnpackedIndex`] whose place in a group or id is below [`MAX_IDS`], as types hold it.
+/// In which of its forms a packed index is.
 #[derive(Clone, Copy, PartialEq, Eq, PartialOrd, Ord, Hash, Debug)]
+enum IndexForm {
+    Module,
+    RecGroup,
+    Id,
+}
+
+/// An [`UnpackedIndex`] whose place in a group or id is below [`MAX_IDS`], as types hold it: in five
+/// bytes that may stand anywhere, the highest of the number first, so that a value type takes eight.
+#[derive(Clone, Copy, PartialEq, Eq, PartialOrd, Ord, Hash)]
 pub struct PackedIndex {
-    unpacked: UnpackedIndex,
-    ghost fits: { number_of unpacked < MAX_IDS },
+    form: IndexForm,
+    highest: u8,
+    high: u8,
+    low: u8,
+    lowest: u8,
+    ghost bytes: { AreBytes highest high low lowest },
+    ghost fits: { number_of (indexed form (number_in highest high low lowest)) < MAX_IDS },
 }
 
 impl Exact for PackedIndex {
@@ -96,24 +113,49 @@ impl Faithful for PackedIndex {
 }
 
 impl PackedIndex {
-    /// A type index of a module. Every one can be packed.
-    pub fn from_module_index(index: u32) -> PackedIndex
-        ensures { result.unpacked ≡ UnpackedIndex.Module index }
+    ghost use Rattle.wasm_readers_types.specs.SeenValues.{index_of};
+
+    /// The index in this form with this number.
+    #[inline(always)]
+    #[tactic(auto, using(crate::proofs::Packing::packed_numbers))]
+    fn of(form: IndexForm, number: u32) -> PackedIndex
+        requires { number_of (indexed form number) < MAX_IDS }
+        ensures { index_of result ≡ indexed form number }
     {
         PackedIndex {
-            unpacked: UnpackedIndex::Module(index),
+            form,
+            highest: (number / 16_777_216) as u8,
+            high: (number / 65_536 % 256) as u8,
+            low: (number / 256 % 256) as u8,
+            lowest: (number % 256) as u8,
         }
+    }
+
+    /// The number of the index, in whichever form it is.
+    #[inline(always)]
+    fn number(&self) -> u32
+        ensures { result ≡ number_in self.now.highest self.now.high self.now.low self.now.lowest }
+    {
+        self.highest as u32 * 16_777_216
+            + self.high as u32 * 65_536
+            + self.low as u32 * 256
+            + self.lowest as u32
+    }
+
+    /// A type index of a module. Every one can be packed.
+    pub fn from_module_index(index: u32) -> PackedIndex
+        ensures { index_of result ≡ UnpackedIndex.Module index }
+    {
+        PackedIndex::of(IndexForm::Module, index)
     }
 
     /// A place in the recursion group that the reference stands in, where it is below [`MAX_IDS`].
     pub fn from_rec_group_index(index: u32) -> Option<PackedIndex>
-        ensures value { IfSome result (λ p. p.unpacked ≡ UnpackedIndex.RecGroup index) }
+        ensures value { IfSome result (λ p. index_of p ≡ UnpackedIndex.RecGroup index) }
         ensures fits { IsSome result ↔ (index < MAX_IDS) }
     {
         if index < MAX_IDS {
-            Some(PackedIndex {
-                unpacked: UnpackedIndex::RecGroup(index),
-            })
+            Some(PackedIndex::of(IndexForm::RecGroup, index))
         } else {
             None
         }
@@ -121,13 +163,11 @@ impl PackedIndex {
 
     /// An id, where it is below [`MAX_IDS`].
     pub fn from_id(id: CoreTypeId) -> Option<PackedIndex>
-        ensures value { IfSome result (λ p. p.unpacked ≡ UnpackedIndex.Id id) }
+        ensures value { IfSome result (λ p. index_of p ≡ UnpackedIndex.Id id) }
         ensures fits { IsSome result ↔ (id.index < MAX_IDS) }
     {
         if id.index < MAX_IDS {
-            Some(PackedIndex {
-                unpacked: UnpackedIndex::Id(id),
-            })
+            Some(PackedIndex::of(IndexForm::Id, id.index))
         } else {
             None
         }
@@ -135,39 +175,49 @@ impl PackedIndex {
 
     /// The index that this one packs. Its place in a group or its id is below [`MAX_IDS`].
     pub fn unpack(&self) -> UnpackedIndex
-        ensures value { result ≡ self.now.unpacked }
+        ensures value { result ≡ index_of self.now }
         ensures fits { Fits result }
     {
-        self.unpacked
+        match self.form {
+            IndexForm::Module => UnpackedIndex::Module(self.number()),
+            IndexForm::RecGroup => UnpackedIndex::RecGroup(self.number()),
+            IndexForm::Id => UnpackedIndex::Id(CoreTypeId::from_index(self.number())),
+        }
     }
 
     /// Whether it is an id, and so means the same type wherever it stands.
     pub fn is_canonical(&self) -> bool
-        ensures { IsTrue result ↔ IsId self.now.unpacked }
+        ensures { IsTrue result ↔ IsId (index_of self.now) }
     {
-        match self.unpacked {
-            UnpackedIndex::Id(_) => true,
-            UnpackedIndex::Module(_) | UnpackedIndex::RecGroup(_) => false,
+        match self.form {
+            IndexForm::Id => true,
+            IndexForm::Module | IndexForm::RecGroup => false,
         }
     }
 
     /// The module's type index, where it is one.
     pub fn as_module_index(&self) -> Option<u32>
-        ensures { result ≡ module_of self.now.unpacked }
+        ensures { result ≡ module_of (index_of self.now) }
     {
-        match self.unpacked {
-            UnpackedIndex::Module(index) => Some(index),
-            UnpackedIndex::RecGroup(_) | UnpackedIndex::Id(_) => None,
+        match self.form {
+            IndexForm::Module => Some(self.number()),
+            IndexForm::RecGroup | IndexForm::Id => None,
         }
     }
 
     /// The id, where it is one.
     pub fn as_core_type_id(&self) -> Option<CoreTypeId>
-        ensures { result ≡ id_of self.now.unpacked }
+        ensures { result ≡ id_of (index_of self.now) }
     {
-        match self.unpacked {
-            UnpackedIndex::Id(id) => Some(id),
-            UnpackedIndex::Module(_) | UnpackedIndex::RecGroup(_) => None,
+        match self.form {
+            IndexForm::Id => Some(CoreTypeId::from_index(self.number())),
+            IndexForm::Module | IndexForm::RecGroup => None,
         }
+    }
+}
+
+impl fmt::Debug for PackedIndex {
+    fn fmt<W: fmt::Write>(&self, f: &mut fmt::Formatter<W>) -> fmt::Result {
+        self.unpack().fmt(f)
     }
 }

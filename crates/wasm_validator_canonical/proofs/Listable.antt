@@ -110,9 +110,9 @@ module _ (n count : ℕ) (gc : Bool) (ids : List ℕ) (below : All (λ i. i < n)
         (All-append Q (refs_option listed.describes) (refs_option listed.descriptor ++ refs_comp listed.comp) (subst (All Q) (sym (refs_option-map as_listed t.describes)) b)
         (All-append Q (refs_option listed.descriptor) (refs_comp listed.comp) (subst (All Q) (sym (refs_option-map as_listed t.descriptor)) d) (subst (All Q) (sym (refs_comp-map as_listed t.comp)) c)))
 
-unmapped : (Q : UnpackedIndex → Type 0) (ps : List PackedIndex) → All Q (map index_of ps) → All (λ (p : PackedIndex). Q p.unpacked) ps
-unmapped Q [] a = All-nil (λ (p : PackedIndex). Q p.unpacked)
-unmapped Q (p ∷ ps) a = All-cons (λ (p : PackedIndex). Q p.unpacked) p ps (All-head Q (index_of p) (map index_of ps) a) (unmapped Q ps (All-tail Q (index_of p) (map index_of ps) a))
+unmapped : (Q : UnpackedIndex → Type 0) (ps : List PackedIndex) → All Q (map index_of ps) → All (λ (p : PackedIndex). Q (index_of p)) ps
+unmapped Q [] a = All-nil (λ (p : PackedIndex). Q (index_of p))
+unmapped Q (p ∷ ps) a = All-cons (λ (p : PackedIndex). Q (index_of p)) p ps (All-head Q (index_of p) (map index_of ps) a) (unmapped Q ps (All-tail Q (index_of p) (map index_of ps) a))
 
 -- one type after another
 module _ (count : ℕ) (gc : Bool) (ids : List ℕ) where
@@ -159,24 +159,24 @@ module _ {A : Type 0} where
         (subst (λ (y : Sub UnpackedIndex). All (IsKnown n count) (refs_sub y)) (sym x.0) (sub_known n count gc ids below p here t (bound_first count gc ids p t ts h)))
         (each_known (p + 1) g ts rest (bound_rest count gc ids p t ts h) x.1)
 
-    supers_known : (p : ℕ) (s : SubType A) (t : Sub UnpackedIndex) → p ≤ count → is_bound gc (length ids) (length ids + count) (length ids + p) t ≡ true → sub_of s ≡ map_sub (canonical_index ids) t → All (λ (q : PackedIndex). IsKnown n p q.unpacked) s.supertype_idxs
+    supers_known : (p : ℕ) (s : SubType A) (t : Sub UnpackedIndex) → p ≤ count → is_bound gc (length ids) (length ids + count) (length ids + p) t ≡ true → sub_of s ≡ map_sub (canonical_index ids) t → All (λ (q : PackedIndex). IsKnown n p (index_of q)) s.supertype_idxs
     supers_known p s t l h e =
         unmapped (IsKnown n p) s.supertype_idxs (subst (λ (y : Sub UnpackedIndex). All (IsKnown n p) y.supers) (sym e) (supers_earlier n count gc ids below p l t h))
 
     each_earlier : (p : ℕ) (g : List (SubType A)) (ts : List (Sub UnpackedIndex)) → p + length ts ≤ count → are_bound gc (length ids) (length ids + count) (length ids + p) ts ≡ true → map sub_of g ≡ canonical_group ids ts
-        → (i : ℕ) (s : SubType A) → slice_get g i ≡ Some s → All (λ (q : PackedIndex). IsKnown n (p + i) q.unpacked) s.supertype_idxs
+        → (i : ℕ) (s : SubType A) → slice_get g i ≡ Some s → All (λ (q : PackedIndex). IsKnown n (p + i) (index_of q)) s.supertype_idxs
     each_earlier p [] ts l h e i s x = absurd (none-some s x)
     each_earlier p (y ∷ g) [] l h e i s x = absurd (no_heads y g e)
     each_earlier p (y ∷ g) (t ∷ ts) l h e zero s x =
         let at : p ≡ p + 0 = omega arith in
         let same : y ≡ s = same_Some y s x in
         let here : p ≤ count = omega (arith, l) in
-        subst (λ m. All (λ (q : PackedIndex). IsKnown n m q.unpacked) s.supertype_idxs) at
-        (subst (λ (z : SubType A). All (λ (q : PackedIndex). IsKnown n p q.unpacked) z.supertype_idxs) same (supers_known p y t here (bound_first count gc ids p t ts h) (heads y g (map_sub (canonical_index ids) t) (canonical_group ids ts) e).0))
+        subst (λ m. All (λ (q : PackedIndex). IsKnown n m (index_of q)) s.supertype_idxs) at
+        (subst (λ (z : SubType A). All (λ (q : PackedIndex). IsKnown n p (index_of q)) z.supertype_idxs) same (supers_known p y t here (bound_first count gc ids p t ts h) (heads y g (map_sub (canonical_index ids) t) (canonical_group ids ts) e).0))
     each_earlier p (y ∷ g) (t ∷ ts) l h e (suc i) s x =
         let at : p + 1 + i ≡ p + suc i = omega arith in
         let rest : p + 1 + length ts ≤ count = omega (arith, l) in
-        subst (λ m. All (λ (q : PackedIndex). IsKnown n m q.unpacked) s.supertype_idxs) at
+        subst (λ m. All (λ (q : PackedIndex). IsKnown n m (index_of q)) s.supertype_idxs) at
         (each_earlier (p + 1) g ts rest (bound_rest count gc ids p t ts h) (heads y g (map_sub (canonical_index ids) t) (canonical_group ids ts) e).1 i s x)
 
     each_one : (g : List (SubType A)) (ts : List (Sub UnpackedIndex)) → list_all extends_at_most_one ts ≡ true → map sub_of g ≡ canonical_group ids ts → All one g
@@ -198,7 +198,7 @@ module _ {A : Type 0} where
         record {
           known = subst (λ c. All (λ s. All (IsKnown n c) (refs_sub (sub_of s))) g) m (each_known 0 g ts all bound e);
           one_supertype = each_one g ts one e;
-          earlier = λ i s x. let zeroth : 0 + i ≡ i = omega arith in subst (λ m. All (λ (q : PackedIndex). IsKnown n m q.unpacked) s.supertype_idxs) zeroth (each_earlier 0 g ts all bound e i s x);
+          earlier = λ i s x. let zeroth : 0 + i ≡ i = omega arith in subst (λ m. All (λ (q : PackedIndex). IsKnown n m (index_of q)) s.supertype_idxs) zeroth (each_earlier 0 g ts all bound e i s x);
         }
 
 or_none : (a b c d : Bool) → (a || b || c || d) ≡ false → a ≡ false

@@ -35,9 +35,9 @@ leads_before start i (Module j) h = absurd h
 leads_before start i (RecGroup j) h = omega (arith, h)
 leads_before start i (Id id) h = omega (arith, h)
 
-first_before : (start i y : ℕ) (ps : List PackedIndex) → All (λ (p : PackedIndex). IsKnown start i p.unpacked) ps → slice_get (map (leads_to start) (map index_of ps)) 0 ≡ Some y → y < start + i
+first_before : (start i y : ℕ) (ps : List PackedIndex) → All (λ (p : PackedIndex). IsKnown start i (index_of p)) ps → slice_get (map (leads_to start) (map index_of ps)) 0 ≡ Some y → y < start + i
 first_before start i y [] h e = absurd (none-some y e)
-first_before start i y (p ∷ ps) h e = let n : leads_to start p.unpacked ≡ y = same_Some (leads_to start p.unpacked) y e in let l = leads_before start i p.unpacked (All-head (λ (q : PackedIndex). IsKnown start i q.unpacked) p ps h) in omega (arith, n, l)
+first_before start i y (p ∷ ps) h e = let n : leads_to start (index_of p) ≡ y = same_Some (leads_to start (index_of p)) y e in let l = leads_before start i (index_of p) (All-head (λ (q : PackedIndex). IsKnown start i (index_of q)) p ps h) in omega (arith, n, l)
 
 module _ {A : Type 0} where
   -- the member at a position of a group

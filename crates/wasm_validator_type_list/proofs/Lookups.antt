@@ -2,6 +2,7 @@
 use Rattle.std.proofs.Common.{◌≡◌, refl, sym, ap, subst, ◌∙◌, ℕ, zero, suc, ◌+◌, ◌-◌, ◌<◌, List, [], ◌∷◌, ◌++◌, length, slice_get, take, drop, Some, None, arith, length-append}
 use Rattle.std.proofs.lemmas.Option.{none-some, same_Some, slice_get_within, get_or_from_slice_get}
 use Rattle.std.proofs.lemmas.List.Concat.{flat_map-append}
+use Rattle.wasm_readers_types.specs.SeenValues.{index_of}
 use Rattle.wasm_readers_types.specs.Indices.{module_of}
 use Rattle.wasm_readers_types.specs.declared.indices.PackedIndex.{PackedIndex}
 use Rattle.wasm_readers_types.specs.declared.indices.UnpackedIndex.{UnpackedIndex}
@@ -54,9 +55,9 @@ member_at gs k place x h e =
 
 module _ {A : Type 0} where
   pub supertype_listed : (gs : List (List (SubType A))) (k place : ℕ) (ty : SubType A) (p : PackedIndex) → AreListable gs → IsInGroup gs k place
-      → slice_get (all_in gs) place ≡ Some ty → slice_get ty.supertype_idxs 0 ≡ Some p → module_of p.unpacked ≡ None
+      → slice_get (all_in gs) place ≡ Some ty → slice_get ty.supertype_idxs 0 ≡ Some p → module_of (index_of p) ≡ None
   supertype_listed gs k place ty p h in_group e f =
       let m = member_at gs k place ty in_group e in
       let i = place - first_of gs k in
       let known = (h k m.members m.group).earlier i ty m.position 0 p (slice_get_within ty.supertype_idxs 0 p f) in
-      not_module (first_of gs k) i p.unpacked (subst (λ (q : PackedIndex). IsKnown (first_of gs k) i q.unpacked) (get_or_from_slice_get ty.supertype_idxs 0 p p f) known)
+      not_module (first_of gs k) i (index_of p) (subst (λ (q : PackedIndex). IsKnown (first_of gs k) i (index_of q)) (get_or_from_slice_get ty.supertype_idxs 0 p p f) known)

@@ -8,6 +8,7 @@ use Rattle.std.specs.Map.{lookup}
 use Rattle.std.specs.List.{slice_index_or}
 use Rattle.std.specs.Option.{option_map}
 use Rattle.std.specs.declared.ops.Range.{Range}
+use Rattle.wasm_readers_types.specs.SeenValues.{index_of}
 use Rattle.wasm_readers_types.specs.Indices.{module_of}
 use Rattle.wasm_readers_types.specs.declared.indices.CoreTypeId.{CoreTypeId}
 use Rattle.wasm_readers_types.specs.declared.indices.PackedIndex.{PackedIndex}
@@ -221,12 +222,12 @@ module _ {A : Type 0} where
   type_there gs k place ty h e = let l : place < length (all_in gs) = omega (arith, h.below, first_of-within gs (k + 1)) in slice_get-get_or (all_in gs) place ty l ∙ ap Some (sym e)
 
   pub supertype_no_module : (a : Inside A) (k place : ℕ) (ty : SubType A) (supers : List PackedIndex) (p : PackedIndex) (u : UnpackedIndex) → IsSound a → IsInGroup a.groups k place
-      → ty ≡ slice_index_or (all_in a.groups) place ty → supers ≡ ty.supertype_idxs → Some p ≡ slice_get supers 0 → u ≡ p.unpacked → module_of u ≡ None
+      → ty ≡ slice_index_or (all_in a.groups) place ty → supers ≡ ty.supertype_idxs → Some p ≡ slice_get supers 0 → u ≡ (index_of p) → module_of u ≡ None
   supertype_no_module a k place ty supers p u h in_group e f g u_is =
       ap module_of u_is ∙ supertype_listed a.groups k place ty p h.listable in_group (type_there a.groups k place ty in_group e) (ap (λ l. slice_get l 0) (sym f) ∙ sym g)
 
   pub supertype_some : (a : Inside A) (l : Listing A) (k place : ℕ) (ty : SubType A) (supers : List PackedIndex) (p : PackedIndex) (u : UnpackedIndex) (ids : Range CoreTypeId) (r : CoreTypeId) → shown a ≡ l → IsInGroup a.groups k place
-      → ty ≡ slice_index_or (all_in a.groups) place ty → supers ≡ ty.supertype_idxs → Some p ≡ slice_get supers 0 → u ≡ p.unpacked
+      → ty ≡ slice_index_or (all_in a.groups) place ty → supers ≡ ty.supertype_idxs → Some p ≡ slice_get supers 0 → u ≡ (index_of p)
       → ids ≡ span (first_of a.groups k) (first_of a.groups (k + 1)) → r.index ≡ leads_to ids.start.index u → IsSupertypeAt l.groups place (Some r)
   supertype_some a l k place ty supers p u ids r view in_group e f g u_is ids_is r_is =
       subst (λ (m : Listing A). IsSupertypeAt m.groups place (Some r)) view (record {
@@ -234,7 +235,7 @@ module _ {A : Type 0} where
         ty = ty;
         in_group = in_group;
         there = type_there a.groups k place ty in_group e;
-        leads = ap Some (r_is ∙ ap (λ (q : Range CoreTypeId). leads_to q.start.index u) ids_is ∙ ap (leads_to (first_of a.groups k)) u_is) ∙ ap (option_map (λ (q : PackedIndex). leads_to (first_of a.groups k) q.unpacked)) (g ∙ ap (λ m. slice_get m 0) f);
+        leads = ap Some (r_is ∙ ap (λ (q : Range CoreTypeId). leads_to q.start.index u) ids_is ∙ ap (leads_to (first_of a.groups k)) u_is) ∙ ap (option_map (λ (q : PackedIndex). leads_to (first_of a.groups k) (index_of q))) (g ∙ ap (λ m. slice_get m 0) f);
       })
 
   pub supertype_none : (a : Inside A) (l : Listing A) (k place : ℕ) (ty : SubType A) (supers : List PackedIndex) → shown a ≡ l → IsInGroup a.groups k place
@@ -245,5 +246,5 @@ module _ {A : Type 0} where
         ty = ty;
         in_group = in_group;
         there = type_there a.groups k place ty in_group e;
-        leads = ap (option_map (λ (q : PackedIndex). leads_to (first_of a.groups k) q.unpacked)) (g ∙ ap (λ m. slice_get m 0) f);
+        leads = ap (option_map (λ (q : PackedIndex). leads_to (first_of a.groups k) (index_of q))) (g ∙ ap (λ m. slice_get m 0) f);
       })

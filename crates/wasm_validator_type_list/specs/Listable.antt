@@ -3,6 +3,7 @@ use Rattle.std.specs.Prelude.{ℕ, ◌≡◌, ◌≤◌, ◌<◌, List, length, 
 use Rattle.std.specs.declared.option.Option.TheVariants.{Some}
 use Rattle.std.specs.List.{All}
 use Rattle.wasm_spec.specs.References.{refs_sub}
+use Rattle.wasm_readers_types.specs.SeenValues.{index_of}
 use Rattle.wasm_readers_types.specs.declared.indices.UnpackedIndex.{UnpackedIndex}
 use Rattle.wasm_readers_types.specs.declared.indices.UnpackedIndex.TheVariants.{Module, RecGroup, Id}
 use Rattle.wasm_readers_types.specs.declared.types.SubType.{SubType}
@@ -20,7 +21,7 @@ module _ {A : Type 0} where
   pub record IsListable (types : ℕ) (g : List (SubType A)) : Type 0 where
     pub known : All (λ s. All (IsKnown types (length g)) (refs_sub (sub_of s))) g
     pub one_supertype : All (λ (s : SubType A). length s.supertype_idxs ≤ 1) g
-    pub earlier : (i : ℕ) (s : SubType A) → slice_get g i ≡ Some s → All (λ p. IsKnown types i p.unpacked) s.supertype_idxs
+    pub earlier : (i : ℕ) (s : SubType A) → slice_get g i ≡ Some s → All (λ p. IsKnown types i (index_of p)) s.supertype_idxs
 
   -- each group of the list may stand behind those before it
   abbrev pub AreListable : List (List (SubType A)) → Type 0

@@ -2,6 +2,7 @@
 use Rattle.std.specs.Prelude.{ℕ, ◌≡◌, ◌+◌, ◌<◌, ⊤, List, slice_get, Option, option_map}
 use Rattle.std.specs.declared.ops.Range.{Range}
 use Rattle.std.specs.declared.option.Option.TheVariants.{Some}
+use Rattle.wasm_readers_types.specs.SeenValues.{index_of}
 use Rattle.wasm_readers_types.specs.declared.indices.CoreTypeId.{CoreTypeId}
 use Rattle.wasm_readers_types.specs.declared.indices.PackedIndex.{PackedIndex}
 use Rattle.wasm_readers_types.specs.declared.indices.UnpackedIndex.{UnpackedIndex}
@@ -32,4 +33,4 @@ pub record IsSupertypeAt {A : Type 0} (gs : List (List (SubType A))) (place : �
   pub ty : SubType A
   pub in_group : IsInGroup gs group place
   pub there : slice_get (all_in gs) place ≡ Some ty
-  pub leads : option_map (λ (id : CoreTypeId). id.index) supertype ≡ option_map (λ (p : PackedIndex). leads_to (first_of gs group) p.unpacked) (slice_get ty.supertype_idxs 0)
+  pub leads : option_map (λ (id : CoreTypeId). id.index) supertype ≡ option_map (λ (p : PackedIndex). leads_to (first_of gs group) (index_of p)) (slice_get ty.supertype_idxs 0)

@@ -1,5 +1,6 @@
 ghost use Rattle.std.specs.Prelude.{◌≡◌, ◌+◌, ◌<◌, ◌≤◌, true, length, slice_index_or, IfOk, IfErr, IfSome, IsOk, IsSome, IsTrue, ◌↔◌};
 ghost use Rattle.std.specs.declared.option.Option.TheVariants.{None};
+ghost use Rattle.wasm_readers_types.specs.SeenValues.{index_of};
 ghost use Rattle.wasm_readers_types.specs.Indices.{number_of, module_of};
 ghost use Rattle.wasm_readers_types.specs.declared.indices.TheConstants.{MAX_IDS};
 ghost use Rattle.wasm_grouped_list.specs.Groups.{first_of, IsInGroup};
@@ -233,12 +234,12 @@ impl<A: Allocator + Copy> TypeList<A> {
         offset: u64,
     ) -> Result<CoreTypeId, Refusal>
         requires group { group.index < length self.now.groups }
-        requires not_module { module_of index.unpacked ≡ None }
+        requires not_module { module_of (index_of index) ≡ None }
         ensures id { IfOk result (λ id. id.index
-            ≡ leads_to (first_of self.now.groups group.index) index.unpacked) }
+            ≡ leads_to (first_of self.now.groups group.index) (index_of index)) }
         ensures leads { IsOk result ↔ Leads (first_of self.now.groups group.index)
-            (first_of self.now.groups (group.index + 1)) index.unpacked }
-        ensures err { IfErr result (λ e. e ≡ not_in_group (number_of index.unpacked) offset) }
+            (first_of self.now.groups (group.index + 1)) (index_of index) }
+        ensures err { IfErr result (λ e. e ≡ not_in_group (number_of (index_of index)) offset) }
     {
         self.at_canonicalized_unpacked_index(group, index.unpack(), offset)
     }
