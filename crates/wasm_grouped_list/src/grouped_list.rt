@@ -123,6 +123,31 @@ impl<T, A: Allocator + Copy> GroupedList<T, A> {
         Ok(())
     }
 
+    /// Puts a group at the end, and what is noted of its items at the end of a list of notes: both, or
+    /// where memory is refused neither.
+    pub fn push_noted<N>(
+        &mut self,
+        group: Vec<T, A>,
+        notes: &mut SnapshotList<N, A>,
+        more: Vec<N, A>,
+    ) -> Result<(), AllocError>
+    where
+        T: Drop,
+        N: Drop,
+        requires room { length (all_in self.old) + length group.items < 2 ^ 32 }
+        requires group_room { length self.old < 2 ^ 32 }
+        ensures ok { OnOk result (self.new ≡ self.old ++ group.items ∷ []) }
+        ensures noted { OnOk result (notes.new ≡ notes.old ++ more.items) }
+        ensures err { OnErr result (self.new ≡ self.old) }
+        ensures not_noted { OnErr result (notes.new ≡ notes.old) }
+    {
+        let mut more = more;
+        notes.tail.reserve(more.len())?;
+        self.push(group)?;
+        notes.tail.append(&mut more).unwrap();
+        Ok(())
+    }
+
     /// A list of its own with the groups of this one, which stays as it was. No item is copied: both
     /// lists hold the same ones.
     pub fn commit(&mut self) -> Result<GroupedList<T, A>, AllocError>

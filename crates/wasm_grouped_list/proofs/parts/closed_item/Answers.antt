@@ -1,4 +1,4 @@
-use Rattle.std.proofs.Common.{arith, ◌≡◌, ◌<◌, ◌+◌, ◌-◌, ◌∙◌, sym, subst, ℕ, length, map}
+use Rattle.std.proofs.Common.{arith, ◌∙◌, sym, subst, map}
 use Rattle.wasm_grouped_list.specs.Parts.{seen, run_seen, all_items, RunsStand}
 use Rattle.wasm_grouped_list.proofs.Ends.{end-is, ends, in_closed, in_open}
 use Rattle.wasm_grouped_list.proofs.RunsStand.{runs_end}

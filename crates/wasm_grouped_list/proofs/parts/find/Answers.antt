@@ -1,4 +1,4 @@
-use Rattle.std.proofs.Common.{arith, ◌≡◌, ℕ, ◌<◌, ◌≤◌, ◌+◌, ◌-◌, ◌∙◌, sym, subst, length, map}
+use Rattle.std.proofs.Common.{arith, ◌≡◌, ℕ, ◌<◌, ◌≤◌, ◌+◌, ◌∙◌, sym, subst, length, map}
 use Rattle.wasm_grouped_list.specs.Parts.{all_items}
 use Rattle.wasm_grouped_list.proofs.Ends.{before, piece_first, whole_end, some_piece}
 use Rattle.wasm_grouped_list.proofs.parts.find.Goals as goal

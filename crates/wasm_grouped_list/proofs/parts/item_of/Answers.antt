@@ -1,4 +1,4 @@
-use Rattle.std.proofs.Common.{arith, ◌≡◌, ◌<◌, ◌+◌, ◌-◌, ◌∙◌, sym, ap, subst, map, length, get_or}
+use Rattle.std.proofs.Common.{arith, ◌≡◌, ◌<◌, ◌+◌, ◌-◌, ◌∙◌, sym, subst, map, length, get_or}
 use Rattle.wasm_grouped_list.specs.Parts.{seen, run_seen, all_items, PartsStand}
 use Rattle.wasm_grouped_list.proofs.Ends.{before, piece_first, piece_end, piece_item}
 use Rattle.wasm_grouped_list.proofs.RunsStand.{is_run}

@@ -1,5 +1,4 @@
-use Rattle.std.proofs.Common.{arith, ◌≡◌, ◌<◌, ◌-◌, ◌∙◌, suc, sym, ap, subst, ℕ, ◌++◌, ◌∷◌, [], List, take, length, get_or, slice_set}
-use Rattle.wasm_grouped_list.specs.declared.parts.Run.{Run}
+use Rattle.std.proofs.Common.{arith, ◌≡◌, ◌<◌, ◌-◌, ◌∙◌, suc, ap, subst, ℕ, ◌++◌, ◌∷◌, [], take, length, get_or, slice_set}
 use Rattle.wasm_grouped_list.proofs.RunsStand.{is_run, behind, last_two, set_last, joined_items, joined_runs}
 use Rattle.wasm_grouped_list.proofs.parts.join_last.Goals as goal
 

@@ -1,4 +1,4 @@
-use Rattle.std.proofs.Common.{◌≡◌, sym, ap, subst, ◌∙◌, ℕ, ◌+◌, ◌++◌, List, length, map}
+use Rattle.std.proofs.Common.{◌≡◌, sym, ap, subst, ◌∙◌, ℕ, ◌+◌, ◌++◌, length, map}
 use Rattle.wasm_grouped_list.specs.Parts.{seen, all_items, StandFrom}
 use Rattle.wasm_grouped_list.proofs.Ends.{items_append, stand_append, ends}
 use Rattle.wasm_grouped_list.proofs.parts.joined.Goals as goal

@@ -1,4 +1,4 @@
-use Rattle.std.proofs.Common.{◌≡◌, sym, ap, subst, ◌∙◌, ◌++◌, [], List, map, append-nil, append_assoc}
+use Rattle.std.proofs.Common.{◌≡◌, sym, ap, subst, ◌∙◌, ◌++◌, map, append-nil, append_assoc}
 use Rattle.wasm_grouped_list.specs.Parts.{seen, run_seen, all_items, StandFrom}
 use Rattle.wasm_grouped_list.proofs.RunsStand.{same_seen, same_runs}
 use Rattle.wasm_grouped_list.proofs.snapshot_list.SnapshotList.commit.Goals as goal

@@ -1,4 +1,4 @@
-use Rattle.std.proofs.Common.{◌≡◌, ◌+◌, ◌++◌, ◌∙◌, ap, sym, ℕ, map}
+use Rattle.std.proofs.Common.{◌+◌, ◌++◌, ◌∙◌, ap, sym, ℕ, map}
 use Rattle.wasm_grouped_list.specs.Parts.{seen, run_seen, all_items}
 use Rattle.wasm_grouped_list.proofs.Ends.{whole_length}
 use Rattle.wasm_grouped_list.proofs.RunsStand.{closed_end}
