@@ -2,14 +2,12 @@
 //! of each item, and the ids of groups and of what is in them.
 #![tactic(auto)]
 
-mod copies;
 mod elements;
 mod group_id;
 mod grouped_list;
 mod parts;
 mod snapshot_list;
 
-pub use copies::copy_of;
 pub use elements::RecGroupElements;
 pub use group_id::RecGroupId;
 pub use grouped_list::GroupedList;

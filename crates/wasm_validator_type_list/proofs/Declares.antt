@@ -25,12 +25,12 @@ from-map f [] k y e h = absurd (none-some y e)
 from-map f (x ∷ xs) zero y e h = h x refl (same_Some (f x) y e)
 from-map f (x ∷ xs) (suc k) y e h = from-map f xs k y e h
 
-first-mapped : {X Y Z : Type 0} (f : Y → Z) (g : X → Y) (xs : List X) → slice_get (map f (map g xs)) 0 ≡ option_map (λ x. f (g x)) (slice_get xs 0)
+pub first-mapped : {X Y Z : Type 0} (f : Y → Z) (g : X → Y) (xs : List X) → slice_get (map f (map g xs)) 0 ≡ option_map (λ x. f (g x)) (slice_get xs 0)
 first-mapped f g [] = refl
 first-mapped f g (x ∷ xs) = refl
 
 -- the first of a list of known references leads before a type
-leads_before : (start i : ℕ) (r : UnpackedIndex) → IsKnown start i r → leads_to start r < start + i
+pub leads_before : (start i : ℕ) (r : UnpackedIndex) → IsKnown start i r → leads_to start r < start + i
 leads_before start i (Module j) h = absurd h
 leads_before start i (RecGroup j) h = omega (arith, h)
 leads_before start i (Id id) h = omega (arith, h)

@@ -71,7 +71,7 @@ module _ (D E : ℕ → Option (Sub ℕ)) (bound : ℕ) (down : (x y : ℕ) → 
       record { top = h.top; leads = ancestors_stay n id l ∙ h.leads; is_top = ap (option_and_then supertype) (same h.top here) ∙ h.is_top }
 
 module _ {A : Type 0} where
-  subs-push : (gs : List (List (SubType A))) (g : List (SubType A)) (start : ℕ) → subs_by_ids start (gs ++ g ∷ []) ≡ subs_by_ids start gs ++ subs_by_ids (start + length (all_in gs)) (g ∷ [])
+  pub subs-push : (gs : List (List (SubType A))) (g : List (SubType A)) (start : ℕ) → subs_by_ids start (gs ++ g ∷ []) ≡ subs_by_ids start gs ++ subs_by_ids (start + length (all_in gs)) (g ∷ [])
   subs-push [] g start = let n : start ≡ start + 0 = omega arith in ap (λ s. subs_by_ids s (g ∷ [])) n
   subs-push (h ∷ hs) g start =
       let n : start + length h + length (all_in hs) ≡ start + length (all_in (h ∷ hs)) = omega (arith, length-append h (all_in hs)) in

@@ -3,6 +3,7 @@ pub mod DefTypes
 pub mod Once
 pub mod Placed
 pub mod Few
+pub mod Ancestors
 pub mod Sound
 pub mod Lookups
 pub mod Declares

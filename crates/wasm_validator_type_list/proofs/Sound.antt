@@ -1,7 +1,6 @@
 -- What is always true of a list of types, as groups are added.
-use Rattle.std.proofs.Common.{◌≡◌, refl, sym, ap, subst, ◌∙◌, ℕ, ◌+◌, ◌-◌, ◌<◌, ◌≤◌, ◌^◌, Bool, true, false, true≢false, cond, nat_eq, List, [], ◌∷◌, ◌++◌, length, slice_get, Option, Some, None, arith, length-append}
+use Rattle.std.proofs.Common.{◌≡◌, refl, sym, ap, subst, ◌∙◌, ℕ, ◌+◌, ◌-◌, ◌<◌, ◌≤◌, ◌^◌, Bool, true, false, true≢false, nat_eq, List, [], ◌∷◌, ◌++◌, length, slice_get, Option, Some, None, arith, length-append}
 use Rattle.std.specs.Prelude.{OnErr}
-use Rattle.std.specs.HashMap as hash
 use Rattle.std.specs.declared.result.Result.{Result}
 use Rattle.std.specs.declared.result.Result.TheVariants.{Ok, Err}
 use Rattle.std.specs.Map.{lookup}
@@ -19,29 +18,34 @@ use Rattle.wasm_validator_type_list.proofs.DefTypes.{first_of-within}
 use Rattle.wasm_validator_type_list.proofs.Lookups.{supertype_listed}
 use Rattle.std.proofs.lemmas.Option.{none-some, MatchOption-at_some, MatchOption-at_none}
 use Rattle.wasm_readers_types.specs.declared.indices.TheConstants.{MAX_IDS}
-use Rattle.wasm_readers_types.specs.declared.types.RecGroup.{RecGroup}
 use Rattle.wasm_readers_types.specs.declared.types.SubType.{SubType}
-use Rattle.wasm_readers_types.specs.TypesExact.{group_equal, group-exact}
 use Rattle.wasm_validator_type_list.specs.declared.type_list.TypeList.TheInside.{Inside}
 use Rattle.wasm_grouped_list.specs.Groups.{all_in, first_of, IsInGroup}
 use Rattle.wasm_validator_type_list.specs.Listing.{Listing, no_groups, types_in, committed, with_depths}
 use Rattle.wasm_validator_type_list.specs.Listable.{IsListable}
-use Rattle.wasm_validator_type_list.specs.Interned.{IsNew, IsPlaceOf, Interns, InternsTypes}
+use Rattle.wasm_group_table.specs.Places.{IsNew, IsPlaceOf}
+use Rattle.wasm_ancestor_lists.specs.Supers.{extended_in}
+use Rattle.wasm_validator_type_list.proofs.Ancestors.{supers-push}
+use Rattle.wasm_validator_type_list.specs.Interned.{Interns, InternsTypes}
 use Rattle.wasm_spec.specs.Declared.{IsDepth}
 use Rattle.wasm_validator_type_list.specs.Declares.{declares}
 use Rattle.wasm_validator_type_list.specs.Depths.{depth_of, in_order, with_depth, HasDepth, AreDepths}
-use Rattle.wasm_validator_type_list.specs.Sound.{shown, IsSound}
+use Rattle.wasm_validator_type_list.specs.Sound.{shown, supers_in, count_of_empty, IsSound}
 use Rattle.wasm_grouped_list.proofs.Flat.{all_in-push}
-use Rattle.wasm_grouped_list.proofs.Places.{get-left, get-end, get-push}
 use Rattle.wasm_validator_type_list.proofs.Once.{once-push, listable-push, types-known, types-new}
 use Rattle.wasm_validator_type_list.proofs.Depths.{found-in_order, in_order-none, depths-push, depth-put}
 use Rattle.wasm_validator_type_list.proofs.Few.{few_groups, few-more, few-new}
-use Rattle.std.proofs.lemmas.Option.{slice_get_within, slice_get-get_or}
+use Rattle.std.proofs.lemmas.Option.{slice_get-get_or}
 
 -- what holds, of a refusal
 pub on_err : {X E P : Type 0} (r : Result X E) → P → OnErr r P
 on_err (Ok x) p = tt
 on_err (Err e) p = p
+
+-- one is found only where equal groups are kept once
+pub only_once : (b : Bool) (n : ℕ) (o : Option ℕ) → (b ≡ false → o ≡ None) → o ≡ Some n → b ≡ true
+only_once true n o h e = refl
+only_once false n o h e = absurd (none-some n (sym (h refl) ∙ e))
 
 module _ {A : Type 0} where
   -- no depths
@@ -66,13 +70,13 @@ module _ {A : Type 0} where
   room_of a n m h e l = omega (arith, h.room, e, l)
 
   -- no groups
-  pub sound_none : (a : Inside A) → a.groups ≡ [] → a.known.entries ≡ [] → a.depths.entries ≡ [] → IsSound a
+  pub sound_none : (a : Inside A) → a.groups ≡ [] → a.ancestors ≡ [] → a.depths.entries ≡ [] → IsSound a
   sound_none a e f d = record {
     room = rw e (omega arith);
     few = rw e (omega arith);
     listable = rw e (λ k g h. absurd (none-some g h));
     once = λ _. rw e (record { groups = λ j k g h _. absurd (none-some g h); types = record { one_id = λ j k d h _. absurd (none-some d h) } });
-    mapped = λ _ _ k. rw (e, f) (λ n h. none-some k.types h);
+    ancestors = f ∙ ap supers_in (sym e);
     deep = no_depths a.groups a d;
   }
 
@@ -92,71 +96,55 @@ module _ {A : Type 0} where
 
   -- the same groups
   pub sound_same : (a b : Inside A) → IsSound a → b.groups ≡ a.groups → b.is_canonical ≡ a.is_canonical → b.is_open ≡ a.is_open
-      → ((q : RecGroup A) → hash.get group_equal b.known q ≡ hash.get group_equal a.known q) → in_order b.depths.entries ≡ in_order a.depths.entries → IsSound b
+      → b.ancestors ≡ a.ancestors → in_order b.depths.entries ≡ in_order a.depths.entries → IsSound b
   sound_same a b h e c o m s = record {
     room = rw e h.room;
     few = rw e h.few;
     listable = rw e h.listable;
     once = λ d. rw e (h.once (sym c ∙ d));
-    mapped = λ d p k. rw (e, m k) (h.mapped (sym c ∙ d) (sym o ∙ p) k);
+    ancestors = m ∙ h.ancestors ∙ ap supers_in (sym e);
     deep = rw (e, s) h.deep;
   }
 
   -- a committed list
-  pub sound_closed : (a b : Inside A) → IsSound a → b.groups ≡ a.groups → b.is_canonical ≡ a.is_canonical → b.is_open ≡ false → b.depths.entries ≡ [] → IsSound b
-  sound_closed a b h e c o d = record {
+  pub sound_closed : (a b : Inside A) → IsSound a → b.groups ≡ a.groups → b.is_canonical ≡ a.is_canonical → b.ancestors ≡ a.ancestors → b.depths.entries ≡ [] → IsSound b
+  sound_closed a b h e c m d = record {
     room = rw e h.room;
     few = rw e h.few;
     listable = rw e h.listable;
     once = λ d. rw e (h.once (sym c ∙ d));
-    mapped = λ d p k. absurd (true≢false (sym p ∙ o));
+    ancestors = m ∙ h.ancestors ∙ ap supers_in (sym e);
     deep = no_depths b.groups b d;
   }
 
-  -- what the map says of a group, once the group k was put at the end
-  placed-push : (gs : List (List (SubType A))) (k q : RecGroup A) (o : Option ℕ) (b : Bool) → b ≡ group_equal k q → IsPlaceOf o gs q.types → IsPlaceOf (cond b (Some (length gs)) o) (gs ++ k.types ∷ []) q.types
-  placed-push gs k q o true e h = let same : k.types ≡ q.types = (group-exact k q).0 (sym e) in get-end gs k.types ∙ ap Some same
-  placed-push gs k q (Some n) false e h = get-left gs (k.types ∷ []) n (omega (arith, slice_get_within gs n q.types h)) ∙ h
-  placed-push gs k q None false e h = λ n f. get-push gs k.types n q.types f (h n) (λ _ same. true≢false (sym ((group-exact k q).1 same) ∙ sym e))
+  few-push : (gs : List (List (SubType A))) (g : List (SubType A)) (c : Bool) → (c ≡ true → IsNew gs g) → (c ≡ false → 0 < length g) → count_of_empty gs ≤ 1 → count_of_empty (gs ++ g ∷ []) ≤ 1
+  few-push gs g true n m h = few-new gs g h (n refl)
+  few-push gs g false n m h = few-more gs g h (m refl)
 
-  -- a new group, in a list that keeps equal ones once
-  pub sound_known : (a b : Inside A) (k : RecGroup A) → IsSound a → IsListable (length (all_in a.groups)) k.types → length (all_in a.groups) + length k.types ≤ MAX_IDS
-      → IsNew a.groups k.types → b.groups ≡ a.groups ++ k.types ∷ [] → b.is_canonical ≡ a.is_canonical → b.is_open ≡ a.is_open
-      → ((q : RecGroup A) → hash.get group_equal b.known q ≡ cond (group_equal k q) (Some (length a.groups)) (hash.get group_equal a.known q)) → b.depths ≡ a.depths → IsSound b
-  sound_known a b k h l r n e c o m s =
-      let gs = a.groups in
-      record {
-        room = rw e (omega (arith, r, ap length (all_in-push gs k.types), length-append (all_in gs) k.types));
-        few = rw e (few-new gs k.types h.few n);
-        listable = rw e (listable-push gs k.types h.listable l);
-        once = λ d. rw e (once-push gs k.types h.listable l (h.once (sym c ∙ d)) n);
-        mapped = λ d p q. rw (e, m q) (placed-push gs k q (hash.get group_equal a.known q) (group_equal k q) refl (h.mapped (sym c ∙ d) (sym o ∙ p) q));
-        deep = rw (e, s) (depths-push gs k.types (in_order a.depths.entries) h.listable h.deep);
-      }
-
-  -- a group with members, in a list of another mode
-  pub sound_own : (a b : Inside A) (k : List (SubType A)) → IsSound a → IsListable (length (all_in a.groups)) k → length (all_in a.groups) + length k ≤ MAX_IDS
-      → 0 < length k → b.groups ≡ a.groups ++ k ∷ [] → b.is_canonical ≡ false → b.depths ≡ a.depths → IsSound b
-  sound_own a b k h l r n e c s =
+  -- a group more: a new one where equal ones are kept once, and elsewhere one with members
+  pub sound_push : (a b : Inside A) (k : List (SubType A)) → IsSound a → IsListable (length (all_in a.groups)) k → length (all_in a.groups) + length k ≤ MAX_IDS
+      → (a.is_canonical ≡ true → IsNew a.groups k) → (a.is_canonical ≡ false → 0 < length k) → b.groups ≡ a.groups ++ k ∷ [] → b.is_canonical ≡ a.is_canonical
+      → b.ancestors ≡ a.ancestors ++ extended_in (length (all_in a.groups)) k → b.depths ≡ a.depths → IsSound b
+  sound_push a b k h l r n m e c x s =
       let gs = a.groups in
       record {
         room = rw e (omega (arith, r, ap length (all_in-push gs k), length-append (all_in gs) k));
-        few = rw e (few-more gs k h.few n);
+        few = rw e (few-push gs k a.is_canonical n m h.few);
         listable = rw e (listable-push gs k h.listable l);
-        once = λ d. absurd (true≢false (sym d ∙ c));
-        mapped = λ d p q. absurd (true≢false (sym d ∙ c));
+        once = λ d. rw e (once-push gs k h.listable l (h.once (sym c ∙ d)) (n (sym c ∙ d)));
+        ancestors = x ∙ ap (λ l. l ++ extended_in (length (all_in gs)) k) h.ancestors ∙ sym (supers-push gs k) ∙ ap supers_in (sym e);
         deep = rw (e, s) (depths-push gs k (in_order a.depths.entries) h.listable h.deep);
       }
 
   -- a depth more
-  pub sound_depth : (a b : Inside A) (id n : ℕ) → IsSound a → HasDepth a.groups id n → b.groups ≡ a.groups → b.is_canonical ≡ a.is_canonical → b.is_open ≡ a.is_open → b.known ≡ a.known
+  pub sound_depth : (a b : Inside A) (id n : ℕ) → IsSound a → HasDepth a.groups id n → b.groups ≡ a.groups → b.is_canonical ≡ a.is_canonical → b.is_open ≡ a.is_open → b.ancestors ≡ a.ancestors
       → in_order b.depths.entries ≡ with_depth (in_order a.depths.entries) id n → IsSound b
   sound_depth a b id n h t e c o k m = record {
     room = rw e h.room;
     few = rw e h.few;
     listable = rw e h.listable;
     once = λ d. rw e (h.once (sym c ∙ d));
-    mapped = λ d p q. rw (e, k) (h.mapped (sym c ∙ d) (sym o ∙ p) q);
+    ancestors = k ∙ h.ancestors ∙ ap supers_in (sym e);
     deep = rw (e, m) (depth-put a.groups (in_order a.depths.entries) id n h.deep t);
   }
 
@@ -170,12 +158,12 @@ module _ {A : Type 0} where
   pub kept_right : (a : Inside A) (l : Listing A) (id n : ℕ) → shown a ≡ l → IsSound a → Some n ≡ depth_of l.depths id → HasDepth l.groups id n
   kept_right a l id n v h e = subst (λ (m : Listing A). HasDepth m.groups id n) v (h.deep id n (ap (λ (m : Listing A). depth_of m.depths id) v ∙ sym e))
 
-  -- the map's answers
-  pub place_found : (a : Inside A) (k : RecGroup A) (n : ℕ) → IsSound a → a.is_canonical ≡ true → a.is_open ≡ true → hash.get group_equal a.known k ≡ Some n → slice_get a.groups n ≡ Some k.types
-  place_found a k n h c o e = MatchOption-at_some (IsNew a.groups k.types) (λ m. slice_get a.groups m ≡ Some k.types) n e (h.mapped c o k)
+  -- the group that is found
+  pub place_found : (gs : List (List (SubType A))) (g h : List (SubType A)) (n : ℕ) (o : Option ℕ) → h ≡ g → o ≡ Some n → IsPlaceOf o gs h → slice_get gs n ≡ Some g
+  place_found gs g h n o same e p = MatchOption-at_some (IsNew gs h) (λ m. slice_get gs m ≡ Some h) n e p ∙ ap Some same
 
-  pub place_missed : (a : Inside A) (k : RecGroup A) → IsSound a → a.is_canonical ≡ true → a.is_open ≡ true → hash.get group_equal a.known k ≡ None → IsNew a.groups k.types
-  place_missed a k h c o e = MatchOption-at_none (IsNew a.groups k.types) (λ m. slice_get a.groups m ≡ Some k.types) e (h.mapped c o k)
+  pub place_missed : (gs : List (List (SubType A))) (g h : List (SubType A)) (o : Option ℕ) → h ≡ g → o ≡ None → IsPlaceOf o gs h → IsNew gs g
+  place_missed gs g h o same e p = subst (IsNew gs) same (MatchOption-at_none (IsNew gs h) (λ m. slice_get gs m ≡ Some h) e p)
 
   -- what is said of a group that is found, and of one that is added
   pub interned_found : (a : Inside A) (l : Listing A) (g : List (SubType A)) (n : ℕ) → shown a ≡ l → IsSound a → a.is_canonical ≡ true → slice_get a.groups n ≡ Some g → Interns l l g false n × InternsTypes l l g false n
@@ -204,11 +192,6 @@ module _ {A : Type 0} where
         types-new (shown a) (shown b) g f h.listable next (λ d. ((h.once d).types, n d)),
       ))
       k
-
-  pub interned_own : (a b : Inside A) (l : Listing A) (g : List (SubType A)) → shown a ≡ l → IsSound a → IsListable (length (types_in l)) g
-      → b.groups ≡ a.groups ++ g ∷ [] → b.is_canonical ≡ a.is_canonical → b.is_open ≡ a.is_open → a.is_canonical ≡ false → b.depths ≡ a.depths
-      → Interns l (shown b) g true (length a.groups) × InternsTypes l (shown b) g true (length a.groups)
-  interned_own a b l g e h k f c o off s = interned_new a b l g e h k f c o (λ on. absurd (true≢false (sym on ∙ off))) s
 
   -- the ids of a group fit
   pub span_room : (a : Inside A) (k : ℕ) (ids : Range CoreTypeId) → IsSound a → ids ≡ span (first_of a.groups k) (first_of a.groups (k + 1)) → (ids.start.index ≤ MAX_IDS) × (ids.end.index ≤ MAX_IDS)

@@ -1,32 +1,17 @@
 -- What interning a group does to a list.
-use Rattle.std.specs.Prelude.{ℕ, ◌≡◌, ◌<◌, ◌≤◌, Bool, true, false, cond, ◌↔◌, List, [], ◌∷◌, ◌++◌, length, slice_get}
-use Rattle.std.specs.Option.{MatchOption}
-use Rattle.std.specs.declared.option.Option.{Option}
+use Rattle.std.specs.Prelude.{ℕ, ◌≡◌, ◌<◌, ◌≤◌, Bool, true, false, ◌↔◌, List, [], ◌∷◌, ◌++◌, length, slice_get}
 use Rattle.std.specs.declared.option.Option.TheVariants.{Some}
 use Rattle.wasm_spec.specs.Syntax.{Sub}
 use Rattle.wasm_spec.specs.TypeLaws.{HasNoRepetition}
 use Rattle.wasm_readers_types.specs.declared.indices.UnpackedIndex.{UnpackedIndex}
 use Rattle.wasm_readers_types.specs.SeenTypes.{sub_of}
-use Rattle.wasm_readers_types.specs.declared.types.RecGroup.{RecGroup}
 use Rattle.wasm_readers_types.specs.declared.types.SubType.{SubType}
-use Rattle.wasm_readers_types.specs.TypesExact.{group_equal}
+use Rattle.wasm_group_table.specs.Places.{IsNew}
 use Rattle.wasm_grouped_list.specs.Groups.{all_in, first_of}
 use Rattle.wasm_validator_type_list.specs.Listing.{Listing}
 use Rattle.wasm_validator_type_list.specs.DefTypes.{def_types, tree_behind, IsTreeOfOne, StandFor}
 
 module _ {A : Type 0} where
-  -- none of the groups has these sub types
-  abbrev pub IsNew : List (List (SubType A)) → List (SubType A) → Type 0
-  IsNew gs g = (k : ℕ) → slice_get gs k ≡ Some g → ⊥
-
-  -- the group is found by its sub types under the number, and any other as before
-  abbrev pub FindsOneMore : (RecGroup A → Option ℕ) → RecGroup A → ℕ → (RecGroup A → Option ℕ) → Type 0
-  FindsOneMore old group number new = (q : RecGroup A) → new q ≡ cond (group_equal group q) (Some number) (old q)
-
-  -- the number of the group with these sub types, if there is one
-  abbrev pub IsPlaceOf : Option ℕ → List (List (SubType A)) → List (SubType A) → Type 0
-  IsPlaceOf o gs g = MatchOption o (IsNew gs g) (λ n. slice_get gs n ≡ Some g)
-
   -- no group is there twice, and no type has two ids
   pub record AreOnce (gs : List (List (SubType A))) : Type 0 where
     pub groups : (j k : ℕ) (g : List (SubType A)) → slice_get gs j ≡ Some g → slice_get gs k ≡ Some g → j ≡ k

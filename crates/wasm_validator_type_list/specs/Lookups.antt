@@ -1,4 +1,5 @@
 -- Where references in a list lead.
+pub use Rattle.wasm_ancestor_lists.specs.Supers.{leads_to}
 use Rattle.std.specs.Prelude.{ℕ, ◌≡◌, ◌+◌, ◌<◌, ⊤, List, slice_get, Option, option_map}
 use Rattle.std.specs.declared.ops.Range.{Range}
 use Rattle.std.specs.declared.option.Option.TheVariants.{Some}
@@ -10,12 +11,6 @@ use Rattle.wasm_readers_types.specs.declared.indices.UnpackedIndex.TheVariants.{
 use Rattle.wasm_readers_types.specs.declared.types.SubType.{SubType}
 use Rattle.wasm_grouped_list.specs.Groups.{all_in, first_of, IsInGroup}
 use Rattle.wasm_grouped_list.specs.Spans.{span}
-
--- the number of the id that a reference in a group leads to, where the group's first id has this number; a module's index isn't in lists
-abbrev pub leads_to : ℕ → UnpackedIndex → ℕ
-leads_to start (Module i) = i
-leads_to start (RecGroup i) = start + i
-leads_to start (Id id) = id.index
 
 -- the reference leads to an id, where the group's ids have the numbers from start to below end
 abbrev pub Leads : ℕ → ℕ → UnpackedIndex → Type 0

@@ -5,7 +5,6 @@
 #![tactic(auto)]
 
 mod laws;
-mod link_count;
 mod subtyping;
 mod type_alloc;
 mod type_info;
@@ -15,8 +14,8 @@ mod with_rec_group;
 pub use laws::{
     ids_are_a_world, ids_match_as_types, types_declare_what_ids_declare, types_have_their_places,
 };
-pub use link_count::LinkCount;
 pub use type_alloc::TypeAlloc;
 pub use type_info::{TypeData, TypeIdentifier, TypeInfo};
 pub use type_list::TypeList;
+pub use wasm_ancestor_lists::LinkCount;
 pub use wasm_grouped_list::{RecGroupElements, RecGroupId, SnapshotList};

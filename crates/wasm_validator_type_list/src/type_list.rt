@@ -14,18 +14,17 @@ use std::collections::HashMap;
 use std::hash::{BuildHasherDefault, FoldHasher};
 use std::marker::Model;
 use std::ops::{Index, Range};
-use wasm_grouped_list::{GroupedList, RecGroupElements, RecGroupId, SnapshotList};
+use wasm_ancestor_lists::AncestorLists;
+use wasm_group_table::GroupTable;
+use wasm_grouped_list::{RecGroupElements, RecGroupId, SnapshotList};
 use wasm_readers_errors::{Fault, Refusal};
-use wasm_readers_types::{CoreTypeId, PackedIndex, RecGroup, SubType, UnpackedIndex};
+use wasm_readers_types::{CoreTypeId, PackedIndex, SubType, UnpackedIndex};
 
 mod depths;
 mod interning;
 mod matching;
 mod relations;
 mod total;
-
-/// The number of each group, found by its sub types.
-type KnownGroups<A> = HashMap<RecGroup<A>, u32, BuildHasherDefault<FoldHasher>, A>;
 
 /// The depths of types, found by the numbers of their ids.
 type KeptDepths<A> = HashMap<u32, u8, BuildHasherDefault<FoldHasher>, A>;
@@ -38,8 +37,8 @@ type KeptDepths<A> = HashMap<u32, u8, BuildHasherDefault<FoldHasher>, A>;
 /// Where the list is canonical equal groups are kept once, so that no two ids stand for one type.
 #[derive(Drop)]
 pub struct TypeList<A: Allocator = Global> {
-    groups: GroupedList<SubType<A>, A>,
-    known: KnownGroups<A>,
+    groups: GroupTable<SubType<A>, A>,
+    ancestors: AncestorLists<A>,
     depths: KeptDepths<A>,
     is_canonical: bool,
     is_open: bool,
@@ -71,8 +70,8 @@ impl<A: Allocator + Copy> TypeList<A> {
         ensures { result ≡ no_groups is_canonical }
     {
         TypeList {
-            groups: GroupedList::new(alloc),
-            known: HashMap::new(alloc),
+            groups: GroupTable::new(alloc, is_canonical),
+            ancestors: AncestorLists::new(alloc),
             depths: HashMap::new(alloc),
             is_canonical,
             is_open: true,
@@ -270,9 +269,10 @@ impl<A: Allocator + Copy> TypeList<A> {
         ensures copy { IfOk result (λ copy. copy ≡ committed self.old) }
     {
         let groups = self.groups.commit()?;
+        let ancestors = self.ancestors.commit()?;
         Ok(TypeList {
             groups,
-            known: HashMap::new(self.alloc),
+            ancestors,
             depths: HashMap::new(self.alloc),
             is_canonical: self.is_canonical,
             is_open: false,

@@ -1,20 +1,20 @@
-ghost use Rattle.std.specs.Prelude.{◌≡◌, ◌+◌, ◌<◌, ◌^◌, ◌++◌, ◌∷◌, [], ℕ, false, cond, length, IfOk, OnOk, OnErr, IsTrue};
-ghost use Rattle.std.specs.HashMap as hash;
+ghost use Rattle.std.specs.Prelude.{◌≡◌, ◌+◌, ◌<◌, ◌∷◌, [], true, false, length, IfOk, OnErr, IsTrue};
 ghost use Rattle.std.specs.List.{All};
-ghost use Rattle.std.specs.declared.option.Option.TheVariants.{Some};
+ghost use Rattle.std.specs.declared.option.Option.TheVariants.{None};
+ghost use Rattle.wasm_group_table.specs.Known.{group_hash};
+ghost use Rattle.wasm_group_table.specs.Places.{IsPlaceOf};
 ghost use Rattle.wasm_spec.specs.References.{refs_comp};
-ghost use Rattle.wasm_readers_types.specs.declared.types.RecGroup.{RecGroup};
 ghost use Rattle.wasm_readers_types.specs.SeenTypes.{func_of, final_func};
-ghost use Rattle.wasm_readers_types.specs.TypesExact.{group_equal};
-ghost use Rattle.wasm_grouped_list.specs.Groups.{all_in};
 ghost use Rattle.wasm_validator_type_list.specs.Listing.{types_in};
 ghost use Rattle.wasm_validator_type_list.specs.Listable.{IsKnown, IsListable};
-ghost use Rattle.wasm_validator_type_list.specs.Interned.{FindsOneMore, Interns, InternsTypes, InternsOne, InternsSeen};
+ghost use Rattle.wasm_validator_type_list.specs.Interned.{Interns, InternsTypes, InternsOne, InternsSeen};
 ghost use Rattle.wasm_validator_type_list.specs.Refused.{RefusesTooMany};
 
-use crate::type_list::{KnownGroups, TypeList};
-use std::alloc::{AllocError, Allocator};
-use wasm_grouped_list::{GroupedList, RecGroupId, copy_of};
+use crate::type_list::TypeList;
+use std::alloc::Allocator;
+use std::hash::Hash;
+use wasm_group_table::GroupTable;
+use wasm_grouped_list::RecGroupId;
 use wasm_readers_errors::{Error, Fault, Refusal, Rule};
 use wasm_readers_types::{CoreTypeId, FuncType, MAX_IDS, RecGroup, SubType};
 
@@ -50,15 +50,13 @@ impl<A: Allocator + Copy> TypeList<A> {
             let refusal = Refusal::new(Fault::Rule(Rule::TooManyTypes), offset);
             return Err(Error::Refused(refusal));
         }
+        let hash = GroupTable::<SubType<A>, A>::hash_of(group.types());
+        if let Some(found) = found_in(is_canonical, &self.groups, group.types(), hash) {
+            return Ok((false, RecGroupId::from_index(found)));
+        }
         let number = self.groups.group_count() as u32;
-        if !is_canonical {
-            self.groups.push(group.into_types())?;
-            return Ok((true, RecGroupId::from_index(number)));
-        }
-        if let Some(found) = self.known.get(&group) {
-            return Ok((false, RecGroupId::from_index(*found)));
-        }
-        put_known(self.alloc, &mut self.groups, &mut self.known, group, number)?;
+        self.ancestors
+            .push_group(&mut self.groups, group.into_types(), hash)?;
         Ok((true, RecGroupId::from_index(number)))
     }
 
@@ -110,27 +108,21 @@ impl<A: Allocator + Copy> TypeList<A> {
     }
 }
 
-/// Puts the group at the end, and its number into the map: both, or where memory is refused none.
-fn put_known<A: Allocator + Copy>(
-    alloc: A,
-    groups: &mut GroupedList<SubType<A>, A>,
-    known: &mut KnownGroups<A>,
-    group: RecGroup<A>,
-    number: u32,
-) -> Result<(), AllocError>
-    requires room { length (all_in groups.old) + length group.types < 2 ^ 32 }
-    requires group_room { length groups.old < 2 ^ 32 }
-    ensures groups { OnOk result (groups.new ≡ groups.old ++ group.types ∷ []) }
-    ensures known { OnOk result (FindsOneMore (hash.get group_equal known.old) group number
-        (hash.get group_equal known.new)) }
-    ensures same_groups { OnErr result (groups.new ≡ groups.old) }
-    ensures same_known { OnErr result ((q : RecGroup A)
-        → hash.get group_equal known.new q ≡ hash.get group_equal known.old q) }
+/// The number of the group with these types, which have this hash, where equal groups are kept once
+/// and there is one.
+fn found_in<A: Allocator + Copy>(
+    is_canonical: bool,
+    groups: &GroupTable<SubType<A>, A>,
+    types: &[SubType<A>],
+    hash: u64,
+) -> Option<u32>
+    requires { hash ≡ group_hash ⟦<SubType<A> as Hash>⟧.hash_input types.now }
+    ensures once { is_canonical ≡ true → IsPlaceOf result groups.now types.now }
+    ensures own { is_canonical ≡ false → result ≡ None }
 {
-    let members = copy_of(alloc, group.types())?;
-    known.reserve(1)?;
-    groups.push(members)?;
-    let inserted: Result<_, _> = known.insert(group, number);
-    let _none = inserted.unwrap();
-    Ok(())
+    if is_canonical {
+        groups.find(types, hash)
+    } else {
+        None
+    }
 }

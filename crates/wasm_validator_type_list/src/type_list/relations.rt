@@ -1,8 +1,8 @@
-ghost use Rattle.std.specs.Prelude.{◌≡◌, ◌+◌, ◌<◌, ◌^◌, length};
+ghost use Rattle.std.specs.Prelude.{◌≡◌, ◌+◌, ◌<◌, ◌≤◌, ◌^◌, ℕ, length};
 ghost use Rattle.std.specs.Bool.{Decides};
 ghost use Rattle.std.specs.declared.option.Option.TheVariants.{Some};
 ghost use Rattle.wasm_spec.specs.Syntax.{abstract_heap, concrete, exact};
-ghost use Rattle.wasm_spec.specs.Declared.{IsAncestor};
+ghost use Rattle.wasm_spec.specs.Declared.{IsAncestor, IsDepth};
 ghost use Rattle.wasm_spec.specs.Matching.{MatchesKind, IsAboveBottom, MatchesHeap, MatchesRef, MatchesVal, top_of_heap, is_shared_type, is_shared_heap, is_shared_val};
 ghost use Rattle.wasm_readers_types.specs.SeenValues.{abstract_heap_of};
 ghost use Rattle.wasm_validator_type_list.specs.Listing.{types_in};
@@ -10,10 +10,10 @@ ghost use Rattle.wasm_validator_type_list.specs.Declares.{declares};
 ghost use Rattle.wasm_validator_type_list.specs.Reading.{Counts};
 ghost use Rattle.wasm_validator_type_list.specs.Subtyping.{IsHeapOver, IsRefOver, IsValOver, heap_by_ids, ref_by_ids, val_by_ids};
 
-use crate::link_count::LinkCount;
 use crate::subtyping::{abstract_is_subtype, abstract_top, id_in, is_bottom, kind};
 use crate::type_list::TypeList;
 use std::alloc::Allocator;
+use wasm_ancestor_lists::LinkCount;
 use wasm_readers_types::{AbstractHeapType, CoreTypeId, HeapType, RefType, ValType};
 
 impl<A: Allocator + Copy> TypeList<A> {
@@ -28,9 +28,11 @@ impl<A: Allocator + Copy> TypeList<A> {
         self.id_is_subtype_counted(a, b, &mut count)
     }
 
-    /// The same, and adds one to the count for each supertype link that is read: no more than lead
-    /// from the first type to the second, or where this isn't an ancestor than the first has proper
-    /// ancestors; and one at least where the first has more of these than the second.
+    /// The same, and adds one to the count for each supertype link or entry of a list of ancestors that
+    /// is read: one at most where the first type has 63 proper ancestors at most, as those of all
+    /// modules that are accepted; no more than links lead from the first type to the second, or where
+    /// this isn't an ancestor than the first has proper ancestors; and one at least where the first
+    /// has more of these than the second.
     pub fn id_is_subtype_counted(&self, a: CoreTypeId, b: CoreTypeId, count: &mut LinkCount) -> bool
         requires sub { a.index < length (types_in self.now) }
         requires sup { b.index < length (types_in self.now) }
@@ -38,20 +40,10 @@ impl<A: Allocator + Copy> TypeList<A> {
         ensures decides { Decides result (IsAncestor (declares self.now.groups) a.index b.index) }
         ensures counts { Counts (declares self.now.groups) a.index b.index
             count.old.links count.new.links }
+        ensures one { (n : ℕ) → IsDepth (declares self.now.groups) a.index n → n ≤ 63
+            → count.new.links ≤ count.old.links + 1 }
     {
-        // What is always true of the list is known from here on.
-        let _groups = &self.groups;
-        let mut id = a;
-        'links: while id.index() != b.index() {
-            match self.supertype_of(id) {
-                Some(supertype) => {
-                    count.add_one();
-                    id = supertype;
-                }
-                None => return false,
-            }
-        }
-        true
+        self.ancestors.is_ancestor(a, b, count)
     }
 
     /// Whether the first reference type matches the second (Core Specification 3.0, Validation,

@@ -1,35 +1,20 @@
-use Rattle.std.proofs.Common.{◌∙◌, sym, ◌<◌, arith}
-use Rattle.wasm_validator_type_list.proofs.Relations.{listable_of, link_down, link_walked, found_on_walk, counts_at, missed_on_walk, counts_at_top}
+use Rattle.std.proofs.Common.{ap, arith, length}
+use Rattle.wasm_validator_type_list.specs.Declares.{declares}
+use Rattle.wasm_validator_type_list.specs.Listing.{Listing, types_in}
+use Rattle.wasm_validator_type_list.proofs.Ancestors.{as_many, ids_tell}
 use Rattle.wasm_validator_type_list.proofs.type_list.TypeList.id_is_subtype_counted.Goals as goal
 
-pub links-smaller : goal.links-smaller
-links-smaller g c =
-    let down : c.in-Some.supertype.index < c.links.id.index = link_down c.args.self.now c.links.id.index c.in-Some.supertype c.supertype_of.result (listable_of c.self.inside c.args.self.now c.self.view_is c.self.invariant) c.supertype_of.ensures c.in-Some.is in
-    down
+pub is_ancestor-requires-clause-sub : goal.is_ancestor-requires-clause-sub
+is_ancestor-requires-clause-sub g c = omega (arith, c.requires.sub, as_many c.self.inside c.self.invariant, ap (λ (l : Listing _). length (types_in l)) c.self.view_is)
 
-pub links-preserved : goal.links-preserved
-links-preserved g c =
-    let down : c.in-Some.supertype.index < c.links.id.index = link_down c.args.self.now c.links.id.index c.in-Some.supertype c.supertype_of.result (listable_of c.self.inside c.args.self.now c.self.view_is c.self.invariant) c.supertype_of.ensures c.in-Some.is in
-    record {
-      from = omega arith;
-      walk = link_walked c.args.self.now c.args.a.index c.args.b.index c.args.count.now.links c.links.count.links c.add_one.new.self.links c.links.id.index c.in-Some.supertype c.supertype_of.result
-          c.links.invariant.walk (λ e. c.links-test.true (c.index.ensures ∙ e ∙ sym c.index-in-links.ensures)) c.supertype_of.ensures c.in-Some.is c.links.invariant.from c.add_one.ensures;
-      down = omega (arith, down);
-    }
-
-pub returns-in-None-clause-decides : goal.returns-in-None-clause-decides
-returns-in-None-clause-decides g c =
-    missed_on_walk c.args.self.now c.args.a.index c.args.b.index _ c.links.id.index c.supertype_of.result c.links.invariant.walk
-    (λ e. c.links-test.true (c.index.ensures ∙ e ∙ sym c.index-in-links.ensures)) c.supertype_of.ensures c.in-None.is
-
-pub returns-in-None-clause-counts : goal.returns-in-None-clause-counts
-returns-in-None-clause-counts g c =
-    counts_at_top c.args.self.now c.args.a.index c.args.b.index c.args.count.now.links c.links.count.links c.links.id.index c.supertype_of.result c.links.invariant.walk c.links.invariant.from c.supertype_of.ensures c.in-None.is
+pub is_ancestor-requires-clause-sup : goal.is_ancestor-requires-clause-sup
+is_ancestor-requires-clause-sup g c = omega (arith, c.requires.sup, as_many c.self.inside c.self.invariant, ap (λ (l : Listing _). length (types_in l)) c.self.view_is)
 
 pub returns-clause-decides : goal.returns-clause-decides
-returns-clause-decides g c =
-    found_on_walk c.args.self.now c.args.a.index c.args.b.index _ c.links.id.index c.links.invariant.walk (sym c.index.ensures ∙ c.links-test.false ∙ c.index-in-links.ensures)
+returns-clause-decides g c = c.is_ancestor.ensures.decides (declares c.args.self.now.groups) (ids_tell c.self.inside c.args.self.now c.self.view_is c.self.invariant)
 
 pub returns-clause-counts : goal.returns-clause-counts
-returns-clause-counts g c =
-    counts_at c.args.self.now c.args.a.index c.args.b.index c.args.count.now.links c.links.count.links c.links.id.index c.links.invariant.walk c.links.invariant.from (sym c.index.ensures ∙ c.links-test.false ∙ c.index-in-links.ensures)
+returns-clause-counts g c = c.is_ancestor.ensures.counts (declares c.args.self.now.groups) (ids_tell c.self.inside c.args.self.now c.self.view_is c.self.invariant)
+
+pub returns-clause-one : goal.returns-clause-one
+returns-clause-one g c = c.is_ancestor.ensures.one (declares c.args.self.now.groups) (ids_tell c.self.inside c.args.self.now c.self.view_is c.self.invariant)

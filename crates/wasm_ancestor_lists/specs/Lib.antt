@@ -1,0 +1,4 @@
+pub mod Supers
+pub mod Counting
+pub mod Entries
+pub mod Inside

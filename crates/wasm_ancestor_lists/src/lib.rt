@@ -1,0 +1,10 @@
+//! Of each type of a list the number of its proper ancestors, and where these are few the list of
+//! them, so that one look-up tells whether a type is below another.
+#![tactic(auto)]
+
+mod ancestor_lists;
+mod entries;
+mod link_count;
+
+pub use ancestor_lists::AncestorLists;
+pub use link_count::LinkCount;
