@@ -8,8 +8,14 @@ ghost use Rattle.wasm_validator_type_list.specs.Subtyping.{IsRefOver};
 
 use std::alloc::{AllocError, Global};
 use std::test::Fail;
-use wasm_readers_types::{AbstractHeapType, CoreTypeId, HeapType, RefType, UnpackedIndex};
-use wasm_validator::{Error, TypeList, Types, ValidatorId, validate};
+use wasm_readers::{BinaryReader, FromReader};
+use wasm_readers_types::{
+    AbstractHeapType, CoreTypeId, HeapType, RecGroup, RefType, UnpackedIndex,
+};
+use wasm_validator::{
+    Error, TypeList, Types, ValidatorId, WasmFeatures, canonicalize_and_intern_rec_group, validate,
+};
+use wasm_validator_canonical::needs_type_canonicalization;
 use wasm_validator_type_list::LinkCount;
 
 /// Two structures and two functions, the second of each below the first.
@@ -47,9 +53,37 @@ fn links(list: &TypeList, a: u32, b: u32) -> Option<(bool, u64)> {
 fn links_are_counted(rt: HostRuntime) -> Result<(), Fail> {
     let types = check(rt.alloc(), &chain(rt.alloc())?)?;
     let list = types.as_ref().type_list();
-    assert!(rt; links(list, 63, 0) == Some((true, 63)));
-    assert!(rt; links(list, 0, 63) == Some((false, 0)));
+    assert!(rt; links(list, 63, 0) == Some((true, 1)));
+    assert!(rt; links(list, 62, 63) == Some((false, 0)));
     assert!(rt; links(list, 63, 63) == Some((true, 0)));
+    Ok(())
+}
+
+/// A group of 65 function types, each but the first extending the one before.
+fn long_group(alloc: Global) -> Result<Vec<u8>, AllocError> {
+    let mut bytes = Vec::new(alloc);
+    bytes.extend_from_slice(b"\x4e\x41\x50\0\x60\0\0")?;
+    for before in 0u8..64 {
+        bytes.extend_from_slice(&[0x50, 1, before, 0x60, 0, 0])?;
+    }
+    Ok(bytes)
+}
+
+#[test]
+fn more_than_63_ancestors_are_found_by_links(rt: HostRuntime) -> Result<(), Fail> {
+    let alloc = rt.alloc();
+    let features = WasmFeatures::default();
+    let mut list = TypeList::new(alloc, needs_type_canonicalization(features));
+    let bytes = long_group(alloc)?;
+    let group: RecGroup = RecGroup::from_reader(alloc, &mut BinaryReader::new(&bytes, 0))?;
+    if group.is_explicit_rec_group() {
+        let added = canonicalize_and_intern_rec_group(features, alloc, &mut list, &[], group, 0);
+        assert!(rt; added.is_err());
+    }
+    assert!(rt; list.len() == 65);
+    assert!(rt; links(&list, 64, 0) == Some((true, 2)));
+    assert!(rt; links(&list, 63, 0) == Some((true, 1)));
+    assert!(rt; links(&list, 0, 64) == Some((false, 0)));
     Ok(())
 }
 
