@@ -10,28 +10,16 @@ without what an empty module takes: where it is validated whole (`wasm-validate 
 crates/wasm_validate and crates/bench_bodies, where no others are named.
 """
 import os
-import re
-import subprocess
 import sys
 import tempfile
+
+sys.dont_write_bytecode = True
+from wasm_bytes import HEAD, instructions, section, unsigned
 
 ROOT = os.path.dirname(os.path.dirname(os.path.realpath(__file__)))
 BUILT = [os.path.join(ROOT, "crates", name, "out", name) for name in ("wasm_validate", "bench_bodies")]
 VALIDATOR, READER = [*sys.argv[1:3], *BUILT[len(sys.argv) - 1:]][:2]
-HEAD = b"\0asm\1\0\0\0"
 TYPE = b"\1\4\1\x60\0\0"
-
-
-def unsigned(n):
-    out = bytearray()
-    while n > 0x7F:
-        out.append(n & 0x7F | 0x80)
-        n >>= 7
-    return bytes(out + bytes([n]))
-
-
-def section(number, contents):
-    return bytes([number]) + unsigned(len(contents)) + contents
 
 
 def many(number, count, item):
@@ -48,15 +36,6 @@ MODULES = {
     "active data segments": (MEMORY, lambda n: many(11, n, b"\0\x41\0\x0b\1\0"), b"", (10_000, 100_000)),
     "functions in one segment": (TYPE + ONE_FUNCTION, lambda n: section(9, b"\1\1\0" + unsigned(n) + b"\0" * n), CODE, (1_000_000, 10_000_000)),
 }
-
-
-def instructions(*command):
-    with tempfile.NamedTemporaryFile() as out:
-        said = subprocess.run(["valgrind", "--tool=callgrind", f"--callgrind-out-file={out.name}", *command], stdout=subprocess.PIPE, stderr=subprocess.STDOUT, text=True)
-    found = re.search(r"Collected : (\d+)", said.stdout)
-    if not found:
-        sys.exit(f"{' '.join(command)}: {said.stdout}")
-    return int(found.group(1))
 
 
 def main():

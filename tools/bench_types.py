@@ -10,24 +10,16 @@ and 10,000 small modules that share their types, and prints the instructions tha
 The program is the one that `rt ci` or `rt run` has built in crates/wasm_validate, where no other is named.
 """
 import os
-import re
-import subprocess
 import sys
 import tempfile
 import time
 
+sys.dont_write_bytecode = True
+from wasm_bytes import HEAD, instructions, section, unsigned
+
 ROOT = os.path.dirname(os.path.dirname(os.path.realpath(__file__)))
 VALIDATOR = sys.argv[1] if len(sys.argv) > 1 else os.path.join(ROOT, "crates", "wasm_validate", "out", "wasm_validate")
-HEAD = b"\0asm\1\0\0\0"
 NUMBERS = b"\x7f\x7e\x7d\x7c\x7b"
-
-
-def unsigned(n):
-    out = bytearray()
-    while n > 0x7F:
-        out.append(n & 0x7F | 0x80)
-        n >>= 7
-    return bytes(out + bytes([n]))
 
 
 def signed(n):
@@ -49,7 +41,7 @@ def in_numbers(n, length):
 
 def type_section(groups):
     contents = unsigned(len(groups)) + b"".join(groups)
-    return HEAD + b"\1" + unsigned(len(contents)) + contents
+    return HEAD + section(1, contents)
 
 
 def of_nine(count):
@@ -81,15 +73,6 @@ def timed(path):
     if status:
         sys.exit(f"{VALIDATOR}: a module was refused")
     return time.monotonic() - began, used.ru_maxrss * 1024
-
-
-def instructions(*command):
-    with tempfile.NamedTemporaryFile() as out:
-        said = subprocess.run(["valgrind", "--tool=callgrind", f"--callgrind-out-file={out.name}", *command], stdout=subprocess.PIPE, stderr=subprocess.STDOUT, text=True)
-    found = re.search(r"Collected : (\d+)", said.stdout)
-    if not found:
-        sys.exit(f"{command[0]}: {said.stdout[-500:]}")
-    return int(found.group(1))
 
 
 def main():

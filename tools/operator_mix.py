@@ -11,6 +11,9 @@ The same call writes the same bytes.
 import random
 import sys
 
+sys.dont_write_bytecode = True
+from wasm_bytes import unsigned
+
 I32, I64 = "i32", "i64"
 # name: per cent, opcode, what it takes, what it gives
 MIX = {
@@ -100,14 +103,6 @@ LOCALS = [(1, I64), (1, I32), (150, I32), (150, I64)]
 TYPES = [ty for count, ty in LOCALS for _ in range(count)]
 GLOBALS = [I32, I64, I32]
 ALIGN = {"i64.load": 3, "i64.store": 3, "i32.load": 2, "i32.store": 2, "i32.load8_u": 0}
-
-
-def unsigned(n):
-    out = bytearray()
-    while n > 0x7F:
-        out.append(n & 0x7F | 0x80)
-        n >>= 7
-    return bytes(out + bytes([n]))
 
 
 def signed(n):
