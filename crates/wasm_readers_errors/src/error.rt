@@ -366,7 +366,9 @@ fn write_unknown_export<W: fmt::Write>(
 fn write_component_header<W: fmt::Write>(f: &mut fmt::Formatter<W>, number: u16) -> fmt::Result {
     write!(
         f,
-        "unknown binary version and encoding combination: {number:#x} and 0x1, note: encoded as a component but the WebAssembly component model feature is not enabled - enable the feature to allow component validation"
+        "unknown binary version and encoding combination: {number:#x} and 0x1, \
+         note: encoded as a component but the WebAssembly component model feature is not enabled - \
+         enable the feature to allow component validation"
     )
 }
 
