@@ -162,7 +162,7 @@ impl<A: Allocator + Copy> Validator<A> {
         'payloads: loop {
             match next_of_input(&mut payloads) {
                 Ok(Some(payload)) => match self.payload(&payload) {
-                    Ok(valid) => gathered.take(&payload, valid)?,
+                    Ok(valid) => gathered.take(payload, valid)?,
                     Err(error) => return Err(error),
                 },
                 Ok(None) => break,
@@ -275,7 +275,7 @@ impl<'a, A: Allocator + Copy> Gathered<'a, A> {
     /// once: the parser has found as many functions.
     fn take(
         &mut self,
-        payload: &Payload<'a, A>,
+        payload: Payload<'a, A>,
         valid: ValidPayload<'a, A>,
     ) -> Result<(), AllocError>
         requires given { IsGivenIn self.old.bodies.features self.old.bodies.resources valid }
@@ -289,9 +289,9 @@ impl<'a, A: Allocator + Copy> Gathered<'a, A> {
             → OnOk result (AllEndBy end self.new.bodies) }
         ensures memory { OnErr result (IsFunction valid.entry) }
     {
-        if let Payload::CodeSectionStart { count, .. } = payload {
+        if let Some(count) = body_count(payload) {
             // Where it is refused, each body takes its own.
-            let _made = self.bodies.pending.reserve_exact(*count as usize);
+            let _made = self.bodies.pending.reserve_exact(count as usize);
         }
         self.keep(valid)
     }
@@ -325,6 +325,14 @@ impl<'a, A: Allocator + Copy> Gathered<'a, A> {
                 Ok(())
             }
         }
+    }
+}
+
+/// How many bodies are to come, where the code section starts.
+fn body_count<'a, A: Allocator>(payload: Payload<'a, A>) -> Option<u32> {
+    match payload {
+        Payload::CodeSectionStart { count, .. } => Some(count),
+        _ => None,
     }
 }
 
