@@ -18,11 +18,21 @@ use wasm_readers_types::{CoreTypeId, SubType};
 
 /// Of each type of a list its proper ancestors, from the topmost down, all in one store. A contract
 /// sees of each type the id that it extends.
-#[derive(Drop)]
 pub struct AncestorLists<A: Allocator = Global> {
     entries: SnapshotList<Entry, A>,
     ids: SnapshotList<u32, A>,
     alloc: A,
+}
+
+// By hand: so each way out takes one call for it, and not a step for each field.
+impl<A: Allocator> Drop for AncestorLists<A> {
+    fn drop(self) {
+        let AncestorLists {
+            entries: _,
+            ids: _,
+            alloc: _,
+        } = self;
+    }
 }
 
 impl<A: Allocator> Model for AncestorLists<A> {

@@ -5,10 +5,19 @@ use std::mem;
 use wasm_constant_checks::OperatorValidatorAllocations;
 
 /// The memory that constant expressions are typed in, which is used again from one to the next.
-#[derive(Drop)]
 pub struct ExpressionMemory<A: Allocator = Global> {
     allocations: OperatorValidatorAllocations<A>,
     alloc: A,
+}
+
+// By hand: so each way out takes one call for it, and not a step for each field.
+impl<A: Allocator> Drop for ExpressionMemory<A> {
+    fn drop(self) {
+        let ExpressionMemory {
+            allocations: _,
+            alloc: _,
+        } = self;
+    }
 }
 
 impl<A: Allocator + Copy> ExpressionMemory<A> {

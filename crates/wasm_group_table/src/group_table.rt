@@ -14,12 +14,23 @@ use wasm_readers_types::{CoreTypeId, Exact};
 
 /// Groups of items, one behind another, in one flat list, and where they are indexed each found by
 /// its hash. A contract sees the list of groups; the place of an item is counted over all groups.
-#[derive(Drop)]
 pub struct GroupTable<T: Exact + Hash, A: Allocator = Global> {
     groups: GroupedList<T, A>,
     known: KnownGroups<A>,
     is_indexed: bool,
     alloc: A,
+}
+
+// By hand: so each way out takes one call for it, and not a step for each field.
+impl<T: Exact + Hash + Drop, A: Allocator> Drop for GroupTable<T, A> {
+    fn drop(self) {
+        let GroupTable {
+            groups: _,
+            known: _,
+            is_indexed: _,
+            alloc: _,
+        } = self;
+    }
 }
 
 impl<T: Exact + Hash, A: Allocator> Model for GroupTable<T, A> {

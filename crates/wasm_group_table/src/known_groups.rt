@@ -13,10 +13,19 @@ use wasm_readers_types::{Exact, same};
 
 /// Which groups a list has, by their hashes: of each hash the number of the last group with it, and
 /// of each group that of the last one before it with the same hash.
-#[derive(Drop)]
 pub(crate) struct KnownGroups<A: Allocator> {
     latest: HashMap<u64, u32, BuildHasherDefault<FoldHasher>, A>,
     earlier: HashMap<u32, u32, BuildHasherDefault<FoldHasher>, A>,
+}
+
+// By hand: so each way out takes one call for it, and not a step for each field.
+impl<A: Allocator> Drop for KnownGroups<A> {
+    fn drop(self) {
+        let KnownGroups {
+            latest: _,
+            earlier: _,
+        } = self;
+    }
 }
 
 impl<A: Allocator + Copy> KnownGroups<A> {

@@ -10,12 +10,23 @@ use wasm_readers_types::CoreTypeId;
 
 /// Groups of items, one behind another, in one flat list. A contract sees the list of groups; the
 /// place of an item is counted over all groups.
-#[derive(Drop)]
 pub struct GroupedList<T, A: Allocator = Global> {
     items: SnapshotList<T, A>,
     spans: SnapshotList<Range<CoreTypeId>, A>,
     owners: SnapshotList<u32, A>,
     alloc: A,
+}
+
+// By hand: so each way out takes one call for it, and not a step for each field.
+impl<T: Drop, A: Allocator> Drop for GroupedList<T, A> {
+    fn drop(self) {
+        let GroupedList {
+            items: _,
+            spans: _,
+            owners: _,
+            alloc: _,
+        } = self;
+    }
 }
 
 impl<T, A: Allocator> Model for GroupedList<T, A> {

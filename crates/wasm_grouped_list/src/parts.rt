@@ -11,17 +11,29 @@ const MAX_END: usize = (1 << 63) - 1;
 const MANY: usize = 8;
 
 /// A part of a list that grows no more, and the place of its first item.
-#[derive(Drop)]
 pub(crate) struct Part<T, A: Allocator> {
     first: usize,
     items: Rc<Vec<T, A>, A>,
 }
 
+// By hand: so each way out takes one call for it, and not a step for each field.
+impl<T: Drop, A: Allocator> Drop for Part<T, A> {
+    fn drop(self) {
+        let Part { first: _, items: _ } = self;
+    }
+}
+
 /// Parts one behind another, which lists share, and the place of the first item.
-#[derive(Drop)]
 pub(crate) struct Run<T, A: Allocator> {
     first: usize,
     parts: Rc<Vec<Part<T, A>, A>, A>,
+}
+
+// By hand: so each way out takes one call for it, and not a step for each field.
+impl<T: Drop, A: Allocator> Drop for Run<T, A> {
+    fn drop(self) {
+        let Run { first: _, parts: _ } = self;
+    }
 }
 
 /// What stands in a list behind others of its kind.

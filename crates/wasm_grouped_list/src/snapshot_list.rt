@@ -12,7 +12,6 @@ use wasm_readers_types::{CoreTypeId, SubType};
 /// A snapshot and its list share what they hold: parts that grow no more, and behind them each list
 /// has an open end of its own. Many parts are a run, which is shared as one, and runs of as many
 /// parts are joined: so a list of n parts holds some log n runs, and a snapshot takes as much.
-#[derive(Drop)]
 pub struct SnapshotList<T, A: Allocator = Global> {
     runs: Vec<Run<T, A>, A>,
     middle: usize,
@@ -20,6 +19,20 @@ pub struct SnapshotList<T, A: Allocator = Global> {
     before: usize,
     pub(crate) tail: Vec<T, A>,
     alloc: A,
+}
+
+// By hand: so each way out takes one call for it, and not a step for each field.
+impl<T: Drop, A: Allocator> Drop for SnapshotList<T, A> {
+    fn drop(self) {
+        let SnapshotList {
+            runs: _,
+            middle: _,
+            parts: _,
+            before: _,
+            tail: _,
+            alloc: _,
+        } = self;
+    }
 }
 
 impl<T, A: Allocator> Model for SnapshotList<T, A> {

@@ -10,10 +10,19 @@ use std::marker::Model;
 
 /// Numbers, each at most once, the latest first. To look whether one is there takes no search, and
 /// the memory for it stays when numbers are forgotten.
-#[derive(Drop)]
 pub struct Marks<A: Allocator = Global> {
     flags: Vec<bool, A>,
     numbers: Stack<u32, A>,
+}
+
+// By hand: so each way out takes one call for it, and not a step for each field.
+impl<A: Allocator> Drop for Marks<A> {
+    fn drop(self) {
+        let Marks {
+            flags: _,
+            numbers: _,
+        } = self;
+    }
 }
 
 impl<A: Allocator> Model for Marks<A> {

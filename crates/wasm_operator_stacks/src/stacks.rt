@@ -21,7 +21,6 @@ pub struct Frame {
 
 /// What the validation of a body or a constant expression keeps: the features, whether the function
 /// is shared, the operands, the innermost frame, if one is open, those around it, and the locals.
-#[derive(Drop)]
 pub struct Stacks<A: Allocator = Global> {
     pub features: WasmFeatures,
     pub is_shared: bool,
@@ -30,4 +29,19 @@ pub struct Stacks<A: Allocator = Global> {
     pub frame: Frame,
     pub outer: Stack<Frame, A>,
     pub locals: Locals<A>,
+}
+
+// By hand: so each way out takes one call for it, and not a step for each field.
+impl<A: Allocator> Drop for Stacks<A> {
+    fn drop(self) {
+        let Stacks {
+            features: _,
+            is_shared: _,
+            operands: _,
+            is_open: _,
+            frame: _,
+            outer: _,
+            locals: _,
+        } = self;
+    }
 }

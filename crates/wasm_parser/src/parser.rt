@@ -31,7 +31,6 @@ enum Progress {
 }
 
 /// The payloads of one module that are still to come.
-#[derive(Drop)]
 pub struct ParseAll<'a, A: Allocator = Global> {
     alloc: A,
     progress: Progress,
@@ -43,6 +42,24 @@ pub struct ParseAll<'a, A: Allocator = Global> {
     bodies: u32,
     declared: Option<u32>,
     segments: u32,
+}
+
+// By hand: so each way out takes one call for it, and not a step for each field.
+impl<A: Allocator> Drop for ParseAll<'_, A> {
+    fn drop(self) {
+        let ParseAll {
+            alloc: _,
+            progress: _,
+            reader: _,
+            place: _,
+            code: _,
+            bodies_left: _,
+            functions: _,
+            bodies: _,
+            declared: _,
+            segments: _,
+        } = self;
+    }
 }
 
 /// The bytes with which each module begins (Core Specification 3.0, Binary Format, Modules).

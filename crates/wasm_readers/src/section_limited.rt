@@ -50,12 +50,23 @@ impl<'a, A: Allocator> FromReader<'a, A> for u32 {
 }
 
 /// A section that is a count and that many items. Its items are read as they are asked for.
-#[derive(Drop)]
 pub struct SectionLimited<'a, T, A: Allocator = Global> {
     reader: BinaryReader<'a>,
     count: u32,
     alloc: A,
     of: PhantomData<T>,
+}
+
+// By hand: so each way out takes one call for it, and not a step for each field.
+impl<T: Drop, A: Allocator> Drop for SectionLimited<'_, T, A> {
+    fn drop(self) {
+        let SectionLimited {
+            reader: _,
+            count: _,
+            alloc: _,
+            of: _,
+        } = self;
+    }
 }
 
 impl<'a, T, A: Allocator + Copy> SectionLimited<'a, T, A> {
@@ -165,13 +176,25 @@ impl<'a, A: Allocator + Copy> SectionLimited<'a, Table<'a>, A> {
 }
 
 /// The items of a section that are left to read.
-#[derive(Drop)]
 pub struct SectionItems<'a, T, A: Allocator = Global> {
     reader: BinaryReader<'a>,
     left: u32,
     done: bool,
     alloc: A,
     of: PhantomData<T>,
+}
+
+// By hand: so each way out takes one call for it, and not a step for each field.
+impl<T: Drop, A: Allocator> Drop for SectionItems<'_, T, A> {
+    fn drop(self) {
+        let SectionItems {
+            reader: _,
+            left: _,
+            done: _,
+            alloc: _,
+            of: _,
+        } = self;
+    }
 }
 
 impl<'a, T: FromReader<'a, A>, A: Allocator + Copy> SectionItems<'a, T, A> {

@@ -14,11 +14,21 @@ use std::hash::Hash;
 
 /// A function type (Core Specification 3.0, Structure, Types, Composite Types): what a function
 /// takes and what it gives.
-#[derive(Clone, Drop)]
+#[derive(Clone)]
 #[derive_where(PartialEq, Eq, Hash, Debug)]
 pub struct FuncType<A: Allocator = Global> {
     params: Items<ValType, A>,
     results: Items<ValType, A>,
+}
+
+// By hand: so each way out takes one call for it, and not a step for each field.
+impl<A: Allocator> Drop for FuncType<A> {
+    fn drop(self) {
+        let FuncType {
+            params: _,
+            results: _,
+        } = self;
+    }
 }
 
 /// An array type (Core Specification 3.0, Structure, Types, Aggregate Types): what each place
@@ -82,12 +92,22 @@ pub struct SubType<A: Allocator = Global> {
 
 /// A recursion group (Core Specification 3.0, Structure, Types, Recursive Types). `==` and the hash
 /// read its sub types alone, and not whether `rec` is written.
-#[derive(Clone, Drop)]
+#[derive(Clone)]
 #[derive_where(PartialEq, Eq, Hash, Debug)]
 pub struct RecGroup<A: Allocator = Global> {
     #[derive_where(skip(EqHashOrd))]
     is_explicit: bool,
     types: Items<SubType<A>, A>,
+}
+
+// By hand: so each way out takes one call for it, and not a step for each field.
+impl<A: Allocator> Drop for RecGroup<A> {
+    fn drop(self) {
+        let RecGroup {
+            is_explicit: _,
+            types: _,
+        } = self;
+    }
 }
 
 impl<A: Allocator> FuncType<A> {

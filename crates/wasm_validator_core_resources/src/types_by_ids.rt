@@ -19,10 +19,16 @@ use wasm_validator_type_list::{SnapshotList, TypeList};
 /// Copies of the types of a list, each under its id, with ids in the place of positions in their
 /// groups, as operators compare them. They follow a list that grows: `update` copies the types that
 /// were added since. A contract sees the types.
-#[derive(Drop)]
 pub struct TypesByIds<A: Allocator = Global> {
     types: SnapshotList<SubType<A>, A>,
     alloc: A,
+}
+
+// By hand: so each way out takes one call for it, and not a step for each field.
+impl<A: Allocator> Drop for TypesByIds<A> {
+    fn drop(self) {
+        let TypesByIds { types: _, alloc: _ } = self;
+    }
 }
 
 impl<A: Allocator> Model for TypesByIds<A> {

@@ -49,11 +49,21 @@ pub struct FuncToValidate<T> {
 pub struct FuncValidatorAllocations<A: Allocator = Global>(OperatorValidatorAllocations<A>);
 
 /// The validation of one function body. Once something was refused it has failed, and refuses all.
-#[derive(Drop)]
 pub struct FuncValidator<T, A: Allocator = Global> {
     pub(crate) validator: OperatorValidator<A>,
     pub(crate) resources: T,
     pub(crate) index: u32,
+}
+
+// By hand: so each way out takes one call for it, and not a step for each field.
+impl<T: Drop, A: Allocator> Drop for FuncValidator<T, A> {
+    fn drop(self) {
+        let FuncValidator {
+            validator: _,
+            resources: _,
+            index: _,
+        } = self;
+    }
 }
 
 impl<A: Allocator + Copy> FuncValidatorAllocations<A> {
@@ -360,6 +370,11 @@ impl<T: WasmModuleResources, A: Allocator> FuncValidator<T, A> {
 impl<T: Drop, A: Allocator> FuncValidator<T, A> {
     /// The memory, for the next body.
     pub fn into_allocations(self) -> FuncValidatorAllocations<A> {
-        FuncValidatorAllocations(self.validator.into_allocations())
+        let FuncValidator {
+            validator,
+            resources: _,
+            index: _,
+        } = self;
+        FuncValidatorAllocations(validator.into_allocations())
     }
 }

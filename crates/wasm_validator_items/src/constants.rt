@@ -14,12 +14,21 @@ use wasm_validator_types::TypeList;
 
 /// The types of a list with ids in the place of positions in their groups, which follow the list as
 /// it grows, and the memory that constant expressions are typed in.
-#[derive(Drop)]
 pub struct Constants<A: Allocator = Global> {
     /// The first types of the list, or all.
     pub types: TypesByIds<A>,
     /// What constant expressions are typed in.
     pub memory: ExpressionMemory<A>,
+}
+
+// By hand: so each way out takes one call for it, and not a step for each field.
+impl<A: Allocator> Drop for Constants<A> {
+    fn drop(self) {
+        let Constants {
+            types: _,
+            memory: _,
+        } = self;
+    }
 }
 
 impl<A: Allocator + Copy> Constants<A> {

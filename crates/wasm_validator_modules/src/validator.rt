@@ -56,7 +56,6 @@ pub enum State<A: Allocator> {
 }
 
 /// Checks modules, section by section, and keeps the types of all that it has seen.
-#[derive(Drop)]
 pub struct Validator<A: Allocator = Global> {
     id: ValidatorId,
     features: WasmFeatures,
@@ -64,6 +63,20 @@ pub struct Validator<A: Allocator = Global> {
     constants: Constants<A>,
     state: State<A>,
     alloc: A,
+}
+
+// By hand: so each way out takes one call for it, and not a step for each field.
+impl<A: Allocator> Drop for Validator<A> {
+    fn drop(self) {
+        let Validator {
+            id: _,
+            features: _,
+            types: _,
+            constants: _,
+            state: _,
+            alloc: _,
+        } = self;
+    }
 }
 
 impl<A: Allocator> Model for Validator<A> {

@@ -26,13 +26,25 @@ use wasm_validator_types::IndexSpaces;
 /// over, all types of the list with ids in the place of positions in their groups, its data count,
 /// and for each function whether it occurs outside of bodies. A contract sees the context that it
 /// gives.
-#[derive(Drop)]
 struct CodeModule<A: Allocator> {
     spaces: Rc<IndexSpaces<A>, A>,
     list: TypeList<A>,
     types: TypesByIds<A>,
     data_count: Option<u32>,
     referenced: Vec<bool, A>,
+}
+
+// By hand: so each way out takes one call for it, and not a step for each field.
+impl<A: Allocator> Drop for CodeModule<A> {
+    fn drop(self) {
+        let CodeModule {
+            spaces: _,
+            list: _,
+            types: _,
+            data_count: _,
+            referenced: _,
+        } = self;
+    }
 }
 
 impl<A: Allocator> Model for CodeModule<A> {

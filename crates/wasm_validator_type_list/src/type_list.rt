@@ -35,7 +35,6 @@ type KeptDepths<A> = HashMap<u32, u8, BuildHasherDefault<FoldHasher>, A>;
 /// types.
 ///
 /// Where the list is canonical equal groups are kept once, so that no two ids stand for one type.
-#[derive(Drop)]
 pub struct TypeList<A: Allocator = Global> {
     groups: GroupTable<SubType<A>, A>,
     ancestors: AncestorLists<A>,
@@ -43,6 +42,20 @@ pub struct TypeList<A: Allocator = Global> {
     is_canonical: bool,
     is_open: bool,
     alloc: A,
+}
+
+// By hand: so each way out takes one call for it, and not a step for each field.
+impl<A: Allocator> Drop for TypeList<A> {
+    fn drop(self) {
+        let TypeList {
+            groups: _,
+            ancestors: _,
+            depths: _,
+            is_canonical: _,
+            is_open: _,
+            alloc: _,
+        } = self;
+    }
 }
 
 impl<A: Allocator> Model for TypeList<A> {

@@ -30,12 +30,23 @@ use wasm_readers_types::{CoreTypeId, GlobalType, MemoryType, RefType, SubType, T
 use wasm_validator_type_list::{RecGroupElements, RecGroupId, TypeList};
 
 /// The types of a validated module, which outlive its validator.
-#[derive(Drop)]
 pub struct Types<A: Allocator = Global> {
     id: ValidatorId,
     features: WasmFeatures,
     types: TypeList<A>,
     spaces: Rc<IndexSpaces<A>, A>,
+}
+
+// By hand: so each way out takes one call for it, and not a step for each field.
+impl<A: Allocator> Drop for Types<A> {
+    fn drop(self) {
+        let Types {
+            id: _,
+            features: _,
+            types: _,
+            spaces: _,
+        } = self;
+    }
 }
 
 impl<A: Allocator + Copy> Types<A> {
