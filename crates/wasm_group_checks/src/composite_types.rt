@@ -24,7 +24,7 @@ use wasm_readers_types::{
     CompositeInnerType, CompositeType, CoreTypeId, FieldType, HeapType, StorageType, ValType,
 };
 use wasm_validator_type_list::{RecGroupId, TypeList};
-use wasm_value_checks as value_types;
+use wasm_value_checks::check_composite_type as check_by_features;
 
 /// Accepts a shared type where the proposal for them is on.
 fn check_shared_flag(features: WasmFeatures, shared: bool, offset: u64) -> Result<(), Refusal>
@@ -241,7 +241,7 @@ pub fn check_composite_type<A: Allocator + Copy>(
     let group = group_of(types, id);
     let ty = &types[id].composite_type;
     check_shared_flag(features, ty.shared, offset)?;
-    value_types::check_composite_type(features, &ty.inner, offset)?;
+    check_by_features(features, &ty.inner, offset)?;
     check_members(types, group, ty, offset)?;
     check_continuation(types, group, &ty.inner, offset)
 }
