@@ -3,7 +3,7 @@ ghost use Rattle.std.specs.Bool.{Decides};
 ghost use Rattle.wasm_spec.specs.Syntax.{Sub};
 ghost use Rattle.wasm_spec.specs.Declared.{IsAncestor, IsDepth};
 ghost use Rattle.wasm_grouped_list.specs.Groups.{all_in};
-ghost use Rattle.wasm_group_table.specs.Known.{group_hash};
+ghost use Rattle.wasm_grouped_list.specs.Known.{group_hash};
 ghost use Rattle.wasm_ancestor_lists.specs.Supers.{extended_in, ExtendEarlier, Tells};
 ghost use Rattle.wasm_ancestor_lists.specs.Counting.{Counts};
 
@@ -12,8 +12,7 @@ use crate::link_count::LinkCount;
 use std::alloc::{AllocError, Allocator, Global};
 use std::hash::Hash;
 use std::marker::Model;
-use wasm_group_table::GroupTable;
-use wasm_grouped_list::SnapshotList;
+use wasm_grouped_list::{GroupTable, SnapshotList};
 use wasm_readers_types::{CoreTypeId, SubType};
 
 /// Of each type of a list its proper ancestors, from the topmost down, all in one store. A contract

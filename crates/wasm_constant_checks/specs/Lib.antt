@@ -1,4 +1,4 @@
-pub mod Constants
 pub use Rattle.wasm_operator_validator.specs.Typed
 pub use Rattle.wasm_operator_validator.specs.Checked
 pub use Rattle.wasm_operator_validator.specs.declared.validator.OperatorValidator
+pub mod Constants

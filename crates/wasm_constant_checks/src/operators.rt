@@ -9,9 +9,10 @@ ghost use Rattle.wasm_module_resources.specs.Answers.{written_index};
 ghost use Rattle.wasm_operator_steps.specs.ConstantRules.{may_be_read, is_readable};
 
 use bitflags::Flags;
-use wasm_flat_operators::{ArrayOperator, ConversionOperator, StructOperator, VariableOperator};
+use wasm_flat_operators::{
+    ArrayOperator, ConversionOperator, NumericOperator, StructOperator, VariableOperator,
+};
 use wasm_module_resources::WasmModuleResources;
-use wasm_numeric_operators::NumericOperator;
 use wasm_operators::{ControlOperator, Operator, ReferenceOperator};
 use wasm_readers_errors::{GatedConstant, WasmFeatures};
 

@@ -1,3 +1,4 @@
+pub use Rattle.wasm_constant_checks.specs.Checked
 pub mod Expressions
 pub mod Numbers
 pub mod Offsets
@@ -8,4 +9,3 @@ pub mod Elements
 pub mod Known
 pub mod Plain
 pub mod Answers
-pub use Rattle.wasm_constant_checks.specs.Checked

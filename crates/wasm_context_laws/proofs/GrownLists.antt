@@ -9,8 +9,8 @@ use Rattle.wasm_readers_types.specs.SeenTypes.{sub_of}
 use Rattle.wasm_readers_types.specs.declared.indices.UnpackedIndex.{UnpackedIndex}
 use Rattle.wasm_validator_type_list.specs.DefTypes.{def_types}
 use Rattle.wasm_validator_type_list.specs.Declares.{subs_by_ids}
-use Rattle.wasm_operator_worlds.specs.ListContexts.{under_ids, list_declares}
-use Rattle.wasm_operator_worlds.specs.IndexContexts.{id_of}
+use Rattle.wasm_validator_core_resources.specs.ListContexts.{under_ids, list_declares}
+use Rattle.wasm_validator_core_resources.specs.IndexContexts.{id_of}
 use Rattle.wasm_context_laws.specs.ListedTypes.{id_in, types_declare}
 use Rattle.wasm_context_laws.specs.GrownLists.{FirstTypesStayFirst}
 use Rattle.wasm_context_laws.proofs.ListedTypes.{declare_in_front}

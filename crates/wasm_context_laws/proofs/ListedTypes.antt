@@ -29,8 +29,8 @@ use Rattle.wasm_validator_type_list.proofs.Declares.{IsDeclared, declared_by}
 use Rattle.wasm_validator_type_list.proofs.Lookups.{first_of-next}
 use Rattle.wasm_validator_type_list.proofs.DefTypes.{length-def_types, first_of-within}
 use Rattle.wasm_validator_type_list.proofs.Joined.{length-subs, types_declare_what_ids_declare}
-use Rattle.wasm_operator_worlds.specs.ListContexts.{under_ids, list_declares}
-use Rattle.wasm_operator_worlds.specs.IndexContexts.{id_of}
+use Rattle.wasm_validator_core_resources.specs.ListContexts.{under_ids, list_declares}
+use Rattle.wasm_validator_core_resources.specs.IndexContexts.{id_of}
 use Rattle.wasm_context_laws.specs.ListedTypes.{same_code, same_type, number_in, id_in, types_declare, ListsDeclareTheirTypes}
 
 not_both : {P : Type 0} → false ≡ true → P

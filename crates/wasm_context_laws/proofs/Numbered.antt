@@ -27,9 +27,9 @@ use Rattle.wasm_validator_type_list.proofs.Declares.{descends}
 use Rattle.wasm_validator_type_list.proofs.DefTypes.{length-def_types}
 use Rattle.wasm_validator_type_list.proofs.Joined.{length-subs, types_declare_what_ids_declare}
 use Rattle.wasm_validator_canonical.proofs.ValidAlone.{refs_sub-map}
-use Rattle.wasm_operator_worlds.specs.ListContexts.{under_ids, list_declares}
-use Rattle.wasm_operator_worlds.specs.IndexContexts.{id_of, same_index}
-use Rattle.wasm_operator_worlds.proofs.Listed.{lists_are_listed}
+use Rattle.wasm_validator_core_resources.specs.ListContexts.{under_ids, list_declares}
+use Rattle.wasm_validator_core_resources.specs.IndexContexts.{id_of, same_index}
+use Rattle.wasm_validator_core_resources.proofs.Listed.{lists_are_listed}
 use Rattle.wasm_context_laws.specs.Numbered.{AreNumbered, same_number, identity_or, identity_at, IdsRenameNumbers}
 use Rattle.wasm_context_laws.proofs.ShortChains.{no_value, above-renamed, below-renamed}
 use Rattle.wasm_context_laws.proofs.Counted.{count_below, count-most, count-more}

@@ -22,8 +22,8 @@ use Rattle.wasm_validator_canonical.specs.Sections.{written, StandsFor}
 use Rattle.wasm_validator_types.specs.Spaces.{Spaces}
 use Rattle.wasm_operator_steps.specs.Bodies.{Local, Surroundings, map_local}
 use Rattle.wasm_operator_steps.specs.Steps.{is_typed}
-use Rattle.wasm_operator_worlds.specs.ListContexts.{list_declares}
-use Rattle.wasm_operator_worlds.specs.IndexContexts.{id_of, same_index}
+use Rattle.wasm_validator_core_resources.specs.ListContexts.{list_declares}
+use Rattle.wasm_validator_core_resources.specs.IndexContexts.{id_of, same_index}
 use Rattle.wasm_validator_core_resources.specs.ModuleContexts.{module_context}
 use Rattle.wasm_context_laws.specs.Declaring.{with_declared}
 use Rattle.wasm_context_laws.specs.Numbered.{AreNumbered, same_number, identity_at}

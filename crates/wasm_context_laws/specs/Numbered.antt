@@ -15,8 +15,8 @@ use Rattle.wasm_readers_types.specs.declared.types.SubType.{SubType}
 use Rattle.wasm_validator_type_list.specs.Listable.{AreListable}
 use Rattle.wasm_validator_type_list.specs.DefTypes.{def_types}
 use Rattle.wasm_operator_steps.specs.Renaming.{Renames}
-use Rattle.wasm_operator_worlds.specs.ListContexts.{list_declares}
-use Rattle.wasm_operator_worlds.specs.IndexContexts.{id_of, same_index}
+use Rattle.wasm_validator_core_resources.specs.ListContexts.{list_declares}
+use Rattle.wasm_validator_core_resources.specs.IndexContexts.{id_of, same_index}
 
 -- The distinct types of a module: each has its place as its number, so that none comes twice, declares something, and mentions only
 -- types among them.

@@ -1,2 +1,4 @@
-pub mod Opcodes
+pub mod NumericOpcodes
+pub mod OpcodeSignatures
+pub mod AccessOpcodes
 pub mod Fronts

@@ -1,3 +1,6 @@
+pub mod Opcodes
+pub mod Numeric
+pub mod Signatures
 pub mod Immediates
 pub mod Refusals
 pub mod Calls

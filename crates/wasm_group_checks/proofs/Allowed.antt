@@ -7,7 +7,7 @@ use Rattle.wasm_spec.specs.Syntax.{Heap, abstract_heap, concrete, exact, map_hea
 use Rattle.wasm_spec.specs.Features.{Features}
 use Rattle.wasm_spec.specs.ValueTypes.{implies, allows_heap, allows_val, allows_storage}
 use Rattle.wasm_spec.specs.GroupRules.{storages, field_storage, has_many_results, is_array, is_struct, is_cont}
-use Rattle.wasm_value_checks.specs.Allowed.{allows_comp}
+use Rattle.wasm_module_resources.specs.Allowed.{allows_comp}
 
 module _ {R S : Type 0} (f : R → S) where
   unpacked_map : (vs : List (Val R)) → map unpacked (map (map_val f) vs) ≡ map (map_storage f) (map unpacked vs)

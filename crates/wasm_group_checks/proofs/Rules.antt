@@ -10,7 +10,7 @@ use Rattle.wasm_spec.specs.ValueTypes.{implies, allows_storage}
 use Rattle.wasm_spec.specs.Matching.{MatchesSub, is_shared_storage}
 use Rattle.wasm_spec.specs.GroupRules.{storages, has_many_results, is_array, is_struct, is_cont, IsContinuationOfFunction, OfSupertype, TypeRules, DescriptorRules}
 use Rattle.wasm_validator_type_list.specs.Grouped.{MatchesDeclared}
-use Rattle.wasm_value_checks.specs.Allowed.{allows_form, allows_comp}
+use Rattle.wasm_module_resources.specs.Allowed.{allows_form, allows_comp}
 use Rattle.wasm_group_checks.specs.Rules.{Declares, CompositeRules, allows_extending, allows_clauses, HasSameFinality, HasDescriptorLike, DescribesLike, DescriptorDescribes, DescribedHasDescriptor, DescriptorHasSameFinality, IsShallow, MayExtend, ExtendsClauses}
 use Rattle.wasm_group_checks.proofs.Allowed.{struct_map}
 use Rattle.wasm_group_checks.proofs.Decided.{implied, implies_from, both, both_from, is_some_map, nothing_there}

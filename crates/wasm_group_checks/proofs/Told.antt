@@ -20,7 +20,7 @@ use Rattle.wasm_readers_errors.specs.declared.features.TheConstants.WasmFeatures
 use Rattle.wasm_readers_types.specs.declared.types.SubType.{SubType}
 use Rattle.wasm_grouped_list.specs.Groups.{first_of, IsInGroup}
 use Rattle.wasm_validator_type_list.specs.Declares.{declares}
-use Rattle.wasm_value_checks.specs.Told.{first_told, lack_for_ref, told_of_heap, told_of_val, told_of_storage, told_of_field, told_of_comp}
+use Rattle.wasm_module_resources.specs.Told.{first_told, lack_for_ref, told_of_heap, told_of_val, told_of_storage, told_of_field, told_of_comp}
 use Rattle.wasm_group_checks.specs.Told.{Unless, holds, broken, FirstOf, first, second, AtSome, absent, present, told_of_extending, told_of_clauses, ToldOfContinuation, ToldOfType, ToldOfGroup}
 use Rattle.wasm_group_checks.proofs.Allowed.{struct_map}
 use Rattle.wasm_group_checks.proofs.Decided.{is_some_map, is_decided}

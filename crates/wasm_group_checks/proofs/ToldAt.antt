@@ -21,7 +21,7 @@ use Rattle.wasm_readers_errors.specs.declared.error.Refusal.{Refusal}
 use Rattle.wasm_readers_errors.specs.declared.features.WasmFeatures.{WasmFeatures}
 use Rattle.wasm_readers_types.specs.declared.types.SubType.{SubType}
 use Rattle.wasm_validator_type_list.specs.Declares.{declares}
-use Rattle.wasm_value_checks.specs.Told.{first_told, told_of_abstract, told_of_heap, told_of_val, told_of_storage, told_of_comp}
+use Rattle.wasm_module_resources.specs.Told.{first_told, told_of_abstract, told_of_heap, told_of_val, told_of_storage, told_of_comp}
 use Rattle.wasm_group_checks.specs.Told.{clause_of_non_struct, Unless, holds, broken, FirstOf, first, second, AtSome, absent, present, told_of_extending, told_of_clauses, told_before_continuation, ToldOfContinuation, ToldOfExtended, ToldOfExtendedClauses, ToldOfPair, ToldOfType, ToldOfGroup}
 
 module _ (offset : ℕ) where

@@ -22,7 +22,7 @@ use Rattle.wasm_readers_types.specs.declared.types.SubType.{SubType}
 use Rattle.wasm_grouped_list.specs.Groups.{IsInGroup}
 use Rattle.wasm_validator_type_list.specs.Declares.{declares}
 use Rattle.wasm_validator_type_list.specs.Grouped.{MatchesDeclared}
-use Rattle.wasm_value_checks.specs.Told.{told_of_comp}
+use Rattle.wasm_module_resources.specs.Told.{told_of_comp}
 use Rattle.wasm_group_checks.specs.Rules.{IsOpen, IsShallow, HasDescriptorLike, DescribesLike, ExtendsDescriptor, ExtendsDescribed, DescriptorDescribes, DescribedHasDescriptor, DescriptorHasSameFinality}
 
 -- nothing is told where this holds, and this refusal where it doesn't

@@ -19,12 +19,12 @@ ghost use Rattle.wasm_group_checks.specs.Told.{told_of_shared, told_of_members, 
 
 use crate::ids::{group_of, id_at};
 use std::alloc::Allocator;
+use wasm_module_resources::check_composite_type as check_by_features;
 use wasm_readers_errors::{Fault, GroupRule, Refusal, WasmFeatures, hold, require_if};
 use wasm_readers_types::{
     CompositeInnerType, CompositeType, CoreTypeId, FieldType, HeapType, StorageType, ValType,
 };
 use wasm_validator_type_list::{RecGroupId, TypeList};
-use wasm_value_checks::check_composite_type as check_by_features;
 
 /// Accepts a shared type where the proposal for them is on.
 fn check_shared_flag(features: WasmFeatures, shared: bool, offset: u64) -> Result<(), Refusal>

@@ -3,3 +3,6 @@ pub mod Flat
 pub mod Counting
 pub mod Ends
 pub mod RunsStand
+pub mod Finding
+pub mod Standing
+pub mod Tables

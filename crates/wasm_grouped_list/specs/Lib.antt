@@ -4,3 +4,6 @@ pub mod Flat
 pub mod Elements
 pub mod Parts
 pub mod Snapshots
+pub mod Places
+pub mod Known
+pub mod Tables

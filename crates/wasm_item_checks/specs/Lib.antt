@@ -3,3 +3,7 @@ pub mod ModuleTypes
 pub mod Items
 pub mod Laws
 pub mod Told
+pub mod Held
+pub mod Listed
+pub mod Sizes
+pub mod Arities

@@ -19,7 +19,7 @@ use Rattle.wasm_readers_errors.specs.declared.features.TheConstants.WasmFeatures
 use Rattle.wasm_readers_types.specs.declared.indices.UnpackedIndex.{UnpackedIndex}
 use Rattle.wasm_readers_types.specs.declared.indices.UnpackedIndex.TheVariants.{Module, RecGroup, Id}
 use Rattle.wasm_validator_canonical.specs.Indices.{number_in}
-use Rattle.wasm_value_checks.specs.Told.{told_of_ref, told_of_val}
+use Rattle.wasm_module_resources.specs.Told.{told_of_ref, told_of_val}
 use Rattle.wasm_item_checks.specs.ModuleTypes.{arity_at}
 use Rattle.wasm_item_checks.specs.Items.{is_funcref, is_shared_ref_over, is_shared_val_over, are_ordered, are_at_most, log_of, most_of}
 

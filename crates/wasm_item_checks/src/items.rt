@@ -16,6 +16,7 @@ use crate::module_types::{
     check_ref_index, check_val_index, func_type_at, is_ref_shared, is_val_shared,
 };
 use std::alloc::Allocator;
+use wasm_module_resources::{check_ref_type, check_value_type};
 use wasm_readers_errors::{
     Fault, ItemRule, Refusal, Rule, WasmFeatures, hold, require, require_if,
 };
@@ -24,7 +25,6 @@ use wasm_readers_types::{
     TypeRef, ValType,
 };
 use wasm_validator_type_list::TypeList;
-use wasm_value_checks::{check_ref_type, check_value_type};
 
 /// Whether this is the type of references that may be null to any function.
 fn is_funcref(ty: RefType) -> bool

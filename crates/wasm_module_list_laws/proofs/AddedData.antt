@@ -20,8 +20,8 @@ use Rattle.wasm_validator_core_laws.specs.Shown.{spaces_of}
 use Rattle.wasm_context_laws.specs.ListedTypes.{types_declare}
 use Rattle.wasm_module_validity.specs.Typing.{IsConstant, IsTypedDataMode, IsTypedData}
 use Rattle.wasm_module_validity.specs.Modules.{Numbering, number_at, context_of, imported_globals}
-use Rattle.wasm_validator_items_laws.specs.Entries.{add_data, may_be_stored, is_offset}
-use Rattle.wasm_module_context_laws.specs.Contexts.{ShowsConstants, ConstantsAreOverNumbers}
+use Rattle.wasm_validator_items.specs.Entries.{add_data, may_be_stored, is_offset}
+use Rattle.wasm_module_list_laws.specs.Contexts.{ShowsConstants, ConstantsAreOverNumbers}
 use Rattle.wasm_module_list_laws.specs.Lists.{add_segments, up_to_elements}
 use Rattle.wasm_module_list_laws.proofs.Behind.{IsRight, are_right, right_behind, each_verdict, tested_verdict}
 use Rattle.wasm_module_list_laws.proofs.Constants.{Setting, spaces, GlobalsInRange, shows_constants, offset_decided}

@@ -39,10 +39,10 @@ use Rattle.wasm_validator_core_laws.proofs.AddedItems.{for_each, each_changed}
 use Rattle.wasm_context_laws.specs.ListedTypes.{types_declare}
 use Rattle.wasm_module_validity.specs.Typing.{IsConstant, IsTypedElementMode, AreTypedItems, IsTypedElement}
 use Rattle.wasm_module_validity.specs.Modules.{Numbering, number_at, context_of, imported_globals}
-use Rattle.wasm_validator_items_laws.specs.Entries.{listed_items_type, is_constant_of, is_offset, are_items, may_be_placed, add_element}
-use Rattle.wasm_validator_items_laws.specs.Machine as machine
-use Rattle.wasm_validator_items_laws.specs.Maps.{map_items, map_element}
-use Rattle.wasm_module_context_laws.specs.Contexts.{ShowsConstants, ConstantsAreOverNumbers, ReferencesMatchOverIds}
+use Rattle.wasm_validator_items.specs.Entries.{listed_items_type, is_constant_of, is_offset, are_items, may_be_placed, add_element}
+use Rattle.wasm_validator_items.specs.Machine as machine
+use Rattle.wasm_validator_items.specs.Maps.{map_items, map_element}
+use Rattle.wasm_module_list_laws.specs.Contexts.{ShowsConstants, ConstantsAreOverNumbers, ReferencesMatchOverIds}
 use Rattle.wasm_module_list_laws.specs.Lists.{add_elements, up_to_exports}
 use Rattle.wasm_module_list_laws.proofs.Behind.{decides_then, IsRight, are_right, right_behind, each_verdict, tested_verdict}
 use Rattle.wasm_module_list_laws.proofs.Constants.{Setting, spaces, GlobalsInRange, constant_decided, offset_decided}

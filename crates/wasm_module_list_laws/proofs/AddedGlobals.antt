@@ -29,9 +29,9 @@ use Rattle.wasm_validator_core_laws.proofs.AddedItems.{for_each, each_changed}
 use Rattle.wasm_context_laws.specs.ListedTypes.{types_declare}
 use Rattle.wasm_module_validity.specs.Typing.{IsTypedGlobal}
 use Rattle.wasm_module_validity.specs.Modules.{Numbering, number_at, context_of, imported_globals}
-use Rattle.wasm_validator_items_laws.specs.Entries.{add_global_entry, is_constant_of}
-use Rattle.wasm_validator_items_laws.specs.Maps.{map_global_entry}
-use Rattle.wasm_module_context_laws.specs.Contexts.{ShowsConstants, ConstantsAreOverNumbers}
+use Rattle.wasm_validator_items.specs.Entries.{add_global_entry, is_constant_of}
+use Rattle.wasm_validator_items.specs.Maps.{map_global_entry}
+use Rattle.wasm_module_list_laws.specs.Contexts.{ShowsConstants, ConstantsAreOverNumbers}
 use Rattle.wasm_module_list_laws.specs.Lists.{add_global_entries, up_to_tags}
 use Rattle.wasm_module_list_laws.proofs.Behind.{decides_then, IsWithin, AllFrom, are_within, all_behind, each_verdict, limited_verdict}
 use Rattle.wasm_module_list_laws.proofs.Constants.{Setting, spaces, GlobalsInRange, shows_constants, constant_decided}

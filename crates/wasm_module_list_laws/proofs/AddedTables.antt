@@ -30,9 +30,9 @@ use Rattle.wasm_validator_core_laws.proofs.AddedItems.{each_changed}
 use Rattle.wasm_context_laws.specs.ListedTypes.{types_declare}
 use Rattle.wasm_module_validity.specs.Typing.{IsConstant, IsTypedTable}
 use Rattle.wasm_module_validity.specs.Modules.{Numbering, number_at, context_of, imported_globals}
-use Rattle.wasm_validator_items_laws.specs.Entries.{add_table_entry, is_constant_or_none}
-use Rattle.wasm_validator_items_laws.specs.Maps.{map_table_entry}
-use Rattle.wasm_module_context_laws.specs.Contexts.{ShowsConstants, ConstantsAreOverNumbers}
+use Rattle.wasm_validator_items.specs.Entries.{add_table_entry, is_constant_or_none}
+use Rattle.wasm_validator_items.specs.Maps.{map_table_entry}
+use Rattle.wasm_module_list_laws.specs.Contexts.{ShowsConstants, ConstantsAreOverNumbers}
 use Rattle.wasm_module_list_laws.specs.Lists.{add_table_entries}
 use Rattle.wasm_module_list_laws.proofs.Behind.{decides_then, IsWithin, AllFrom, all_from, from_all, are_within, all_behind, each_verdict, limited_verdict}
 use Rattle.wasm_module_list_laws.proofs.Constants.{Setting, spaces, GlobalsInRange, shows_constants, constant_decided}

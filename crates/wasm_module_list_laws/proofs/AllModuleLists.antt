@@ -25,7 +25,7 @@ use Rattle.wasm_validator_core_laws.proofs.AddedDefinitions.{functions_are_added
 use Rattle.wasm_validator_core_laws.proofs.AllLists.{StepLaw, then_law, law_as, function_of_extern, tag_of_extern, all_imported}
 use Rattle.wasm_module_validity.specs.Typing.{IsTypedTable, IsTypedGlobal, IsTypedElement, IsTypedData}
 use Rattle.wasm_module_validity.specs.Modules.{Numbering, number_at, context_of, imported_globals}
-use Rattle.wasm_module_context_laws.specs.Contexts.{ConstantsAreOverNumbers, ReferencesMatchOverIds}
+use Rattle.wasm_module_list_laws.specs.Contexts.{ConstantsAreOverNumbers, ReferencesMatchOverIds}
 use Rattle.wasm_module_list_laws.specs.Lists.{up_to_tables, up_to_memories, up_to_tags, up_to_globals, up_to_exports, up_to_elements, add_table_entries, add_global_entries, add_elements, add_segments, add_all_lists, AreValidModuleLists}
 use Rattle.wasm_module_list_laws.specs.Laws.{AreTypedConstants, AllListsAreAdded}
 use Rattle.wasm_module_list_laws.proofs.Behind.{All-both, AllFrom, at_index, from_index}

@@ -24,8 +24,8 @@ use Rattle.wasm_validator_core_laws.specs.Shown.{listed, listed_global, spaces_o
 use Rattle.wasm_context_laws.specs.ListedTypes.{types_declare}
 use Rattle.wasm_module_validity.specs.Typing.{IsConstant}
 use Rattle.wasm_module_validity.specs.Modules.{Numbering, number_at, context_of, imported_globals}
-use Rattle.wasm_validator_items_laws.specs.Entries.{is_constant_of, is_offset}
-use Rattle.wasm_module_context_laws.specs.Contexts.{HasOwnIds, AreModuleTypes, ShowsConstants, ConstantsAreOverNumbers}
+use Rattle.wasm_validator_items.specs.Entries.{is_constant_of, is_offset}
+use Rattle.wasm_module_list_laws.specs.Contexts.{HasOwnIds, AreModuleTypes, ShowsConstants, ConstantsAreOverNumbers}
 
 -- each imported function is one that is exactly of its type or isn't
 exact_of_extern : (x : Extern ℕ) → length (exact_in x) ≡ length (functions_in x)

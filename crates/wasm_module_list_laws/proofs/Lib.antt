@@ -1,12 +1,21 @@
-pub use Rattle.wasm_module_context_laws.proofs.Bodies
-pub use Rattle.wasm_module_context_laws.proofs.Constants as ConstantsOverNumbers
-pub use Rattle.wasm_module_context_laws.proofs.MatchingOverIds
-pub use Rattle.wasm_module_context_laws.proofs.SectionTypes
-pub use Rattle.wasm_validator_items_laws.proofs.Elements
-pub use Rattle.wasm_validator_items_laws.proofs.Globals
-pub use Rattle.wasm_validator_items_laws.proofs.Renamed
-pub use Rattle.wasm_validator_items_laws.proofs.Segments
-pub use Rattle.wasm_validator_items_laws.proofs.Tables
+pub use Rattle.wasm_validator_items.proofs.Elements
+pub use Rattle.wasm_validator_items.proofs.Globals
+pub use Rattle.wasm_validator_items.proofs.Renamed as RenamedEntries
+pub use Rattle.wasm_validator_items.proofs.Segments
+pub use Rattle.wasm_validator_items.proofs.Tables
+pub mod Entries
+pub mod Depths
+pub mod Numbers
+pub mod Renamed
+pub mod Standing
+pub mod Indices
+pub mod ConstantsOverNumbers
+pub mod SectionTypes
+pub mod References
+pub mod MatchingOverIds
+pub mod InRange
+pub mod Exactness
+pub mod Bodies
 pub mod Behind
 pub mod Constants
 pub mod AddedData

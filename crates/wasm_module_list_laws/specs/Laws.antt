@@ -14,7 +14,7 @@ use Rattle.wasm_validator_core_laws.specs.Shown.{spaces_of}
 use Rattle.wasm_validator_core_laws.specs.Lists.{only_types}
 use Rattle.wasm_module_validity.specs.Typing.{HasTypedConstants}
 use Rattle.wasm_module_validity.specs.Modules.{Numbering, number_at, context_of, imported_globals}
-use Rattle.wasm_module_context_laws.specs.Contexts.{HasOwnIds, AreModuleTypes}
+use Rattle.wasm_module_list_laws.specs.Contexts.{HasOwnIds, AreModuleTypes}
 use Rattle.wasm_module_list_laws.specs.Lists.{add_all_lists, AreValidModuleLists}
 
 -- the constant expressions of a module with these types and parts are typed

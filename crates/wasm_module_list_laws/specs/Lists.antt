@@ -17,8 +17,8 @@ use Rattle.wasm_validator_types.specs.Spaces.{Spaces}
 use Rattle.wasm_validator_core.specs.Answers.{TypesSoFar}
 use Rattle.wasm_validator_core_laws.specs.Lists.{up_to_functions, add_imports, add_functions, add_memories, add_tags, add_exports}
 use Rattle.wasm_context_laws.specs.ListedTypes.{types_declare}
-use Rattle.wasm_validator_items_laws.specs.Entries.{add_table_entry, add_global_entry, add_element, add_data}
-use Rattle.wasm_validator_items_laws.specs.Maps.{map_table_entry, map_global_entry, map_element}
+use Rattle.wasm_validator_items.specs.Entries.{add_table_entry, add_global_entry, add_element, add_data}
+use Rattle.wasm_validator_items.specs.Maps.{map_table_entry, map_global_entry, map_element}
 
 -- the lists whose items hold constant expressions, each typed in the module as far as it has been read
 module _ (F : Features) (us : TypesSoFar) where

@@ -1,1 +1,4 @@
+pub mod Allowed
+pub mod Refusals
+pub mod Told
 pub mod Answers

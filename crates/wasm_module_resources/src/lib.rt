@@ -1,7 +1,14 @@
-//! What operators look up of a module.
+//! What operators look up of a module, and value types and composite types by the proposals that a
+//! module may use.
+//!
+//! Each `offset` counts bytes from the start of the input.
 #![tactic(auto)]
 
+mod composite_types;
 mod forwarded;
 mod resources;
+mod value_types;
 
+pub use composite_types::check_composite_type;
 pub use resources::WasmModuleResources;
+pub use value_types::{check_ref_type, check_value_type};

@@ -14,12 +14,12 @@ ghost use Rattle.wasm_readers_types.specs.declared.indices.UnpackedIndex.TheVari
 ghost use Rattle.wasm_rules.specs.Attempts.{passes, among};
 ghost use Rattle.wasm_module_resources.specs.Answers.{world, sub_in, sub_of_id, function_type_in, tag_in, heap_in, ref_in, val_in, signature_seen, IsWrittenHeap, IsWrittenVal, Puts};
 
+use crate::check_value_type;
 use std::alloc::Allocator;
 use wasm_readers_errors::{Refusal, WasmFeatures};
 use wasm_readers_types::{
     CoreTypeId, FuncType, GlobalType, HeapType, MemoryType, RefType, SubType, TableType, ValType,
 };
-use wasm_value_checks::check_value_type;
 
 /// What operators look up of a module. Every answer is read from one context, and its types are
 /// identities, as ids are.

@@ -7,7 +7,7 @@ use Rattle.wasm_spec.specs.Features.{Features}
 use Rattle.wasm_spec.specs.Values.{unsigned_at, signed_at, not_negative, u32_at, s33_index_at}
 use Rattle.wasm_spec.specs.BinaryTypes.{abstract_heap_from, abstract_heap_at, plain_heap_from, heap_at}
 use Rattle.wasm_spec.proofs.Front.{IsRest, ReadsBy, Reads, reads_none, reads_here, reads_behind, reads_weaken, reads_map, reads_then, reads_value, unsigned-reads, signed-reads, heap-reads}
-use Rattle.wasm_numeric_operators.specs.Numeric.{numeric_from, saturating_from}
+use Rattle.wasm_flat_operators.specs.Numeric.{numeric_from, saturating_from}
 use Rattle.wasm_flat_operators.specs.Immediates.{one_index, two_indices}
 use Rattle.wasm_flat_operators.specs.Variables.{variable_from}
 use Rattle.wasm_flat_operators.specs.Memories.{access_from}

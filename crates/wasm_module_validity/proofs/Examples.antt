@@ -10,7 +10,7 @@ use Rattle.wasm_spec.specs.BinaryTypes.{heap_at}
 use Rattle.wasm_operators.specs.Control.{control_from, value_block, func_block}
 use Rattle.wasm_operators.specs.References.{reference_from}
 use Rattle.wasm_operators.specs.Instructions.{Instruction, instruction_at, plain_from}
-use Rattle.wasm_numeric_operators.specs.Numeric.{numeric_from, numeric_operators}
+use Rattle.wasm_flat_operators.specs.Numeric.{numeric_from, numeric_operators}
 use Rattle.wasm_flat_operators.specs.Constants.{constant_from}
 use Rattle.wasm_flat_operators.specs.Variables.{variable_from}
 use Rattle.wasm_rules.specs.Contexts.{Context}

@@ -3,9 +3,9 @@ use Rattle.std.proofs.Common.{◌≡◌, refl, sym, ap, ◌∙◌, subst, ℕ, B
 use Rattle.wasm_spec.specs.Syntax.{AbstractHeap, Val}
 use Rattle.wasm_spec.specs.MatchingTests.{World}
 use Rattle.wasm_spec.specs.Features.{Features}
-use Rattle.wasm_numeric_operators.specs.Signatures.{signature_of}
-use Rattle.wasm_numeric_operators.specs.declared.signatures.Signature.{Signature}
-use Rattle.wasm_numeric_operators.specs.declared.signatures.Signature.TheVariants.{Unary, Binary}
+use Rattle.wasm_flat_operators.specs.Signatures.{signature_of}
+use Rattle.wasm_flat_operators.specs.declared.signatures.Signature.{Signature}
+use Rattle.wasm_flat_operators.specs.declared.signatures.Signature.TheVariants.{Unary, Binary}
 use Rattle.wasm_flat_operators.specs.declared.variables.VariableOperator.TheVariants.{LocalGet, LocalSet, LocalTee, GlobalGet, GlobalSet}
 use Rattle.wasm_flat_operators.specs.declared.conversions.ConversionOperator.TheVariants.{AnyConvertExtern, ExternConvertAny, RefI31, I31GetS, I31GetU, RefI31Shared}
 use Rattle.wasm_flat_operators.specs.declared.structs.StructOperator.{StructOperator}

@@ -9,3 +9,5 @@ pub mod References
 pub mod ModuleExamples
 pub mod SeenLittle
 pub mod Renamed
+pub mod SeenAlone
+pub mod RenamedBodies

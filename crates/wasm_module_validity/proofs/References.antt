@@ -7,9 +7,9 @@ use Rattle.wasm_spec.specs.BinarySections.{Element}
 use Rattle.wasm_spec.specs.Features.{Features}
 use Rattle.wasm_spec.specs.MatchingTests.{World}
 use Rattle.wasm_spec.specs.Syntax.{Heap, Val}
-use Rattle.wasm_numeric_operators.specs.Signatures.{signature_of}
-use Rattle.wasm_numeric_operators.specs.declared.signatures.Signature.{Signature}
-use Rattle.wasm_numeric_operators.specs.declared.signatures.Signature.TheVariants.{Unary, Binary}
+use Rattle.wasm_flat_operators.specs.Signatures.{signature_of}
+use Rattle.wasm_flat_operators.specs.declared.signatures.Signature.{Signature}
+use Rattle.wasm_flat_operators.specs.declared.signatures.Signature.TheVariants.{Unary, Binary}
 use Rattle.wasm_flat_operators.specs.declared.variables.VariableOperator.{VariableOperator}
 use Rattle.wasm_flat_operators.specs.declared.variables.VariableOperator.TheVariants.{LocalGet, LocalSet, LocalTee, GlobalGet, GlobalSet}
 use Rattle.wasm_flat_operators.specs.declared.conversions.ConversionOperator.{ConversionOperator}

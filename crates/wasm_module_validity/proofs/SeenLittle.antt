@@ -4,9 +4,9 @@ use Rattle.std.specs.List.{All}
 use Rattle.std.proofs.lemmas.List.Elements.{All-head, All-tail}
 use Rattle.wasm_spec.specs.Features.{Features}
 use Rattle.wasm_spec.specs.MatchingTests.{World}
-use Rattle.wasm_numeric_operators.specs.Signatures.{signature_of}
-use Rattle.wasm_numeric_operators.specs.declared.signatures.Signature as numbers
-use Rattle.wasm_numeric_operators.specs.declared.signatures.Signature.TheVariants.{Unary, Binary}
+use Rattle.wasm_flat_operators.specs.Signatures.{signature_of}
+use Rattle.wasm_flat_operators.specs.declared.signatures.Signature as numbers
+use Rattle.wasm_flat_operators.specs.declared.signatures.Signature.TheVariants.{Unary, Binary}
 use Rattle.wasm_operators.specs.Control as control
 use Rattle.wasm_operators.specs.Control.{Block, empty_block, value_block, func_block}
 use Rattle.wasm_operators.specs.References as references

@@ -4,3 +4,4 @@ pub mod Modules
 pub mod Laws
 pub mod Examples
 pub mod OtherContexts
+pub mod Renaming

@@ -1,10 +1,14 @@
 //! When a module is valid, with its constant expressions and bodies: definitions in the words of the
 //! WebAssembly Core Specification 3.0, chapter Validation, section Modules.
+//!
+//! Bodies of functions over one kind of identity of types and over another, in contexts that show
+//! the same (Core Specification 3.0, Validation, Modules, Functions).
 #![tactic(auto)]
 
 ghost use Rattle.wasm_module_validity.specs.Laws.{TypesAreNumbered, NumbersTellTypesApart, PlainModulesAreValid, ExpressionsAreWhole, OwnReferencesSuffice};
 ghost use Rattle.wasm_module_validity.specs.OtherContexts.{ConstantsSeeLittle, ConstantsRename};
 ghost use Rattle.wasm_module_validity.specs.Examples.{NumberIsConstant, NumberOfAnotherType, NoTwoEnds, NoMissingEnd, FirstGlobalIsRead, NoMutableGlobalIsRead, NoGlobalIsReadWithoutGc, ImportedGlobalIsRead, NoGlobalReadsItself, SumIsConstant, NoSumWithoutExtendedConst, TableReadsImportedGlobal, NoTableReadsOwnGlobal, OffsetsAreAddresses, NoOtherDataOffsets, NoOtherElementOffsets, OffsetReadsGlobal, FunctionAndNullAreItems, NoNullItem, GlobalsComeBehindImports, BodiesGiveResults, NoExchangedBodies, NoLastBodyWithoutEnd, OneGlobalIsImported, ReadToItsEnd, NothingReadWithoutEnd, FunctionIsNamed, GlobalIsModule, NoGlobalOfAnotherType};
+ghost use Rattle.wasm_module_validity.specs.Renaming.{BodiesAreRenamed, TypedBodiesAreRenamed};
 
 /// Each list of types has a numbering by first appearance, and a numbering tells them apart.
 pub fn types_are_numbered()
@@ -90,4 +94,17 @@ pub fn expression_examples()
 pub fn module_examples()
     ensures global { GlobalIsModule }
     ensures no_global { NoGlobalOfAnotherType }
+{}
+
+/// No verdict on a function's body depends on the identities of types, nor on what its context
+/// declares but through a world, nor on the list of referenced functions but through which ones are
+/// in it.
+#[tactic(auto, using(crate::proofs::RenamedBodies::bodies_are_renamed))]
+pub fn bodies_are_renamed<R, S>()
+    ensures bodies { BodiesAreRenamed R S }
+{}
+
+/// Whether a module has typed bodies doesn't depend on them either.
+pub fn typed_bodies_are_renamed<R, S>()
+    ensures bodies { TypedBodiesAreRenamed R S }
 {}

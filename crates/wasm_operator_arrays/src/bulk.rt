@@ -10,12 +10,10 @@ use crate::reached::{reach_elements, reach_mutable};
 use crate::segments::{check_data, check_elements, is_number, is_storable};
 use crate::taken::{take_five, take_four};
 use std::alloc::Allocator;
+use wasm_flat_operators::NumberType;
 use wasm_module_resources::WasmModuleResources;
-use wasm_numeric_operators::NumberType;
-use wasm_operator_aggregates::{nullable, unpack};
-use wasm_operator_checks::{OperatorError, OperatorFault, OperatorRule};
-use wasm_operator_stacks::Stacks;
-use wasm_type_words::TypeWord;
+use wasm_operator_checks::{OperatorError, OperatorFault, OperatorRule, nullable, unpack};
+use wasm_operator_stacks::{Stacks, TypeWord};
 
 /// `array.fill`: takes an array that can be written, an index, an element, and a number of elements
 /// on top (Core Specification 3.0, Validation, Aggregate Instructions).

@@ -12,13 +12,12 @@ ghost use Rattle.wasm_operator_checks.specs.Steps.{Performs};
 ghost use Rattle.wasm_operator_arrays.specs.Lengths.{is_reference_below};
 
 use std::alloc::Allocator;
+use wasm_flat_operators::NumberType;
 use wasm_module_resources::WasmModuleResources;
-use wasm_numeric_operators::NumberType;
 use wasm_operator_checks::{OperatorError, OperatorFault, OperatorRule, has, look};
-use wasm_operator_stacks::{Operand, Stacks, Word};
+use wasm_operator_stacks::{Operand, Stacks, TypeWord, Word};
 use wasm_readers_errors::WasmFeatures;
 use wasm_readers_types::{AbstractHeapType, HeapType, RefType, ValType};
-use wasm_type_words::TypeWord;
 
 /// A reference, or null, to an abstract heap type.
 fn reference_to(shared: bool, heap: AbstractHeapType) -> RefType

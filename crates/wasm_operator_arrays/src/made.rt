@@ -10,12 +10,13 @@ use crate::reached::reach_elements;
 use crate::segments::{check_data, check_elements, is_number};
 use crate::taken::exchange_repeated;
 use std::alloc::Allocator;
+use wasm_flat_operators::NumberType;
 use wasm_module_resources::WasmModuleResources;
-use wasm_numeric_operators::NumberType;
-use wasm_operator_aggregates::{has_default, new_reference, unpack};
-use wasm_operator_checks::{OperatorError, OperatorFault, OperatorRule, Takes, ValTypes, plain};
-use wasm_operator_stacks::Stacks;
-use wasm_type_words::TypeWord;
+use wasm_operator_checks::{
+    OperatorError, OperatorFault, OperatorRule, Takes, ValTypes, has_default, new_reference, plain,
+    unpack,
+};
+use wasm_operator_stacks::{Stacks, TypeWord};
 
 /// `array.new`: takes an element, and a length on top, and gives a new array (Core Specification
 /// 3.0, Validation, Aggregate Instructions).

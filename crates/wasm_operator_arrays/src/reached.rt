@@ -4,12 +4,11 @@ ghost use Rattle.std.specs.Prelude.{◌≡◌, Some, None, true, false, slice_ge
 ghost use Rattle.wasm_readers_types.specs.SeenValues.{index_of, field_of};
 ghost use Rattle.wasm_operator_steps.specs.Actions.{gc, has, reaches_type, element_is_mutable};
 ghost use Rattle.wasm_operator_checks.specs.Steps.{held};
-ghost use Rattle.wasm_operator_aggregates.specs.Declared.{element_in, Barred};
+ghost use Rattle.wasm_operator_checks.specs.Declared.{element_in, Barred};
 
 use std::alloc::Allocator;
 use wasm_module_resources::WasmModuleResources;
-use wasm_operator_aggregates::identity;
-use wasm_operator_checks::{OperatorFault, OperatorRule, has, reaches};
+use wasm_operator_checks::{OperatorFault, OperatorRule, has, identity, reaches};
 use wasm_operator_stacks::Stacks;
 use wasm_readers_errors::WasmFeatures;
 use wasm_readers_types::{CompositeInnerType, FieldType, PackedIndex};
@@ -22,7 +21,7 @@ pub struct Elements {
 }
 
 /// What arrays of the type of this type index hold.
-#[tactic(auto, using(wasm_operator_checks::proofs::Acting::acts, wasm_operator_aggregates::proofs::Naming::reaching))]
+#[tactic(auto, using(wasm_operator_checks::proofs::Acting::acts, wasm_operator_checks::proofs::Naming::reaching))]
 pub fn reach_elements<A: Allocator, T: WasmModuleResources>(
     stacks: &Stacks<A>,
     resources: &T,

@@ -1,7 +1,7 @@
 //! Many operands, and like ones.
 
 ghost use Rattle.std.specs.Prelude.{◌≡◌, ◌∷◌, []};
-ghost use Rattle.wasm_type_words.specs.Seen.{val_in};
+ghost use Rattle.wasm_operator_stacks.specs.SeenTypeWords.{val_in};
 ghost use Rattle.wasm_operator_steps.specs.Machine.{pop_vals};
 ghost use Rattle.wasm_operator_steps.specs.Meanings.{copies};
 ghost use Rattle.wasm_module_resources.specs.Answers.{world};
@@ -12,8 +12,7 @@ ghost use Rattle.wasm_operator_checks.specs.SeenTypes.{exchanged};
 use std::alloc::Allocator;
 use wasm_module_resources::WasmModuleResources;
 use wasm_operator_checks::{OperatorError, OperatorFault, Takes, check_takes, check_type};
-use wasm_operator_stacks::{Stacks, Word};
-use wasm_type_words::TypeWord;
+use wasm_operator_stacks::{Stacks, TypeWord, Word};
 
 /// Takes operands of four types. Where that can't be, all stays.
 #[tactic(auto, using(crate::proofs::Many::many), unfolding(wasm_operator_checks::specs::Steps::Took))]

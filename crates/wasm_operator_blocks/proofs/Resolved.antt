@@ -14,7 +14,7 @@ use Rattle.wasm_rules.specs.Signatures.{Signature, signature_of}
 use Rattle.wasm_operator_steps.specs.Meanings.{resolve_block}
 use Rattle.wasm_module_resources.specs.Answers.{sub_in, written_index, val_in, val_resolved}
 use Rattle.wasm_operator_stacks.specs.declared.stacks.Stacks.{Stacks}
-use Rattle.wasm_operator_calls.specs.Callees.{type_in}
+use Rattle.wasm_operator_control.specs.Callees.{type_in}
 use Rattle.wasm_operator_blocks.specs.Known.{taken_by, block_known}
 
 -- the features allow a type whatever it is named by

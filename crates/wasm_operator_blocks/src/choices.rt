@@ -16,16 +16,15 @@ ghost use Rattle.wasm_operator_stacks.specs.SeenOperands.{operand_of};
 ghost use Rattle.wasm_operator_checks.specs.Steps.{Performs};
 
 use std::alloc::Allocator;
+use wasm_flat_operators::NumberType;
 use wasm_module_resources::WasmModuleResources;
-use wasm_numeric_operators::NumberType;
 use wasm_operator_checks::{
     OperatorError, OperatorFault, OperatorRule, Takes, ValTypes, check_type, has, look, plain,
 };
-use wasm_operator_stacks::{Operand, Stacks, Word};
+use wasm_operator_stacks::{Operand, Stacks, TypeWord, Word};
 use wasm_operators::Listed;
 use wasm_readers_errors::WasmFeatures;
 use wasm_readers_types::ValType;
-use wasm_type_words::TypeWord;
 
 /// Whether these are the same number type or vector type.
 fn is_same_number(ty: ValType, other: ValType) -> bool

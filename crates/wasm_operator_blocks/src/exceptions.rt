@@ -11,10 +11,9 @@ ghost use Rattle.wasm_operator_blocks.specs.Sent.{thrown_in};
 use std::alloc::Allocator;
 use wasm_module_resources::WasmModuleResources;
 use wasm_operator_checks::{OperatorError, OperatorFault, OperatorRule, ValTypes, halt, has};
-use wasm_operator_stacks::Stacks;
+use wasm_operator_stacks::{Stacks, TypeWord};
 use wasm_readers_errors::WasmFeatures;
 use wasm_readers_types::{RefType, ValType};
-use wasm_type_words::TypeWord;
 
 /// What an exception of this tag holds.
 #[tactic(auto, using(crate::proofs::Throwing::tags))]

@@ -21,4 +21,4 @@ pub use tables::branch_by_table;
 pub use tries::open_try_table;
 
 // Blocks stand on calls, so who steps through blocks finds these here.
-pub use wasm_operator_calls::step_call;
+pub use wasm_operator_control::step_call;

@@ -11,13 +11,12 @@ ghost use Rattle.wasm_operator_blocks.specs.Known.{Opens, block_known};
 
 use std::alloc::Allocator;
 use wasm_module_resources::WasmModuleResources;
-use wasm_operator_calls::type_reached;
 use wasm_operator_checks::{OperatorFault, OperatorRule, ValTypes, has};
-use wasm_operator_stacks::{BlockWord, Stacks};
+use wasm_operator_control::type_reached;
+use wasm_operator_stacks::{BlockWord, Stacks, TypeWord};
 use wasm_operators::BlockType;
 use wasm_readers_errors::WasmFeatures;
 use wasm_readers_types::ValType;
-use wasm_type_words::TypeWord;
 
 /// A block type by identities, and what the block takes.
 #[derive(Clone, Copy)]

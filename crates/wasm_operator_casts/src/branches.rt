@@ -18,13 +18,12 @@ ghost use Rattle.wasm_operator_casts.specs.Sent.{Castable};
 use crate::sends::send;
 use crate::tops::top_of;
 use std::alloc::Allocator;
-use wasm_module_resources::WasmModuleResources;
+use wasm_module_resources::{WasmModuleResources, check_ref_type};
 use wasm_operator_checks::{OperatorError, OperatorFault, OperatorRule, has};
 use wasm_operator_references::{matches_abstract, unknown_type};
 use wasm_operator_stacks::Stacks;
 use wasm_readers_errors::WasmFeatures;
 use wasm_readers_types::{RefType, ValType};
-use wasm_value_checks::check_ref_type;
 
 /// Whether the features allow a reference type as it is written.
 #[tactic(auto, using(crate::proofs::Casting::allowances))]

@@ -10,16 +10,15 @@ ghost use Rattle.wasm_operator_checks.specs.Steps.{Performs};
 
 use crate::tops::{abstract_to, can_be_tested, top_of};
 use std::alloc::Allocator;
+use wasm_flat_operators::NumberType;
 use wasm_module_resources::WasmModuleResources;
-use wasm_numeric_operators::NumberType;
 use wasm_operator_checks::{
     OperatorError, OperatorFault, OperatorRule, Takes, ValTypes, has, plain,
 };
 use wasm_operator_references::{allows_heap, resolve, unknown_type};
-use wasm_operator_stacks::Stacks;
+use wasm_operator_stacks::{Stacks, TypeWord};
 use wasm_readers_errors::WasmFeatures;
 use wasm_readers_types::HeapType;
-use wasm_type_words::TypeWord;
 
 /// `ref.test` (Core Specification 3.0, Validation, Instructions, Reference Instructions), to a type
 /// with null or without.

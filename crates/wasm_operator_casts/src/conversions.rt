@@ -17,16 +17,15 @@ ghost use Rattle.wasm_operator_references.specs.SeenReferences.{reference_seen};
 
 use crate::tops::abstract_to;
 use std::alloc::Allocator;
+use wasm_flat_operators::NumberType;
 use wasm_module_resources::WasmModuleResources;
-use wasm_numeric_operators::NumberType;
 use wasm_operator_checks::{
     OperatorError, OperatorFault, OperatorRule, Takes, ValTypes, has, plain,
 };
 use wasm_operator_references::{Referenced, allows_heap, look_below};
-use wasm_operator_stacks::{Stacks, Word};
+use wasm_operator_stacks::{Stacks, TypeWord, Word};
 use wasm_readers_errors::WasmFeatures;
 use wasm_readers_types::{AbstractHeapType, HeapType};
-use wasm_type_words::TypeWord;
 
 /// A reference of another hierarchy, null and shared as this one.
 #[tactic(auto, using(crate::proofs::Converting::words))]

@@ -3,7 +3,7 @@
 ghost use Rattle.std.specs.Prelude.{◌++◌, ◌∷◌, []};
 ghost use Rattle.wasm_spec.specs.Syntax.{reference};
 ghost use Rattle.wasm_readers_types.specs.SeenValues.{ref_of};
-ghost use Rattle.wasm_type_words.specs.Seen.{val_in};
+ghost use Rattle.wasm_operator_stacks.specs.SeenTypeWords.{val_in};
 ghost use Rattle.wasm_operator_steps.specs.Actions.{label};
 ghost use Rattle.wasm_module_resources.specs.Answers.{world};
 ghost use Rattle.wasm_operator_stacks.specs.Seen.{Kept};
@@ -18,9 +18,8 @@ use wasm_operator_checks::{
 };
 use wasm_operator_control::label_types;
 use wasm_operator_references::{exchange_with, front_types, last_type};
-use wasm_operator_stacks::{Stacks, Word};
+use wasm_operator_stacks::{Stacks, TypeWord, Word};
 use wasm_readers_types::{RefType, ValType};
-use wasm_type_words::TypeWord;
 
 /// Takes operands of some types with one of another type on top, and gives the same types with one
 /// of a third type on top. Where that can't be, all stays.

@@ -5,3 +5,4 @@ pub mod Taking
 pub mod Acting
 pub mod Typing
 pub mod Comparing
+pub mod Naming

@@ -4,15 +4,15 @@ use Rattle.std.specs.Option.{option_map}
 use Rattle.std.specs.Prelude.{Option, Some, None, slice_get, nat_le, nat_lt}
 use Rattle.wasm_spec.specs.Syntax.{Val, i32}
 use Rattle.wasm_rules.specs.Contexts.{Context}
-use Rattle.wasm_numeric_operators.specs.declared.signatures.NumberType.{NumberType}
-use Rattle.wasm_numeric_operators.specs.declared.signatures.NumberType.TheVariants as number
+use Rattle.wasm_flat_operators.specs.declared.signatures.NumberType.{NumberType}
+use Rattle.wasm_flat_operators.specs.declared.signatures.NumberType.TheVariants as number
 use Rattle.wasm_readers_types.specs.SeenExterns.{memory_of}
 use Rattle.wasm_readers_types.specs.declared.externs.MemoryType.{MemoryType}
 use Rattle.wasm_readers_types.specs.declared.indices.UnpackedIndex.{UnpackedIndex}
 use Rattle.wasm_flat_operators.specs.Memories.{max_align_of}
 use Rattle.wasm_flat_operators.specs.declared.memories.MemoryOperator.{MemoryOperator}
 use Rattle.wasm_flat_operators.specs.declared.memories.MemArg.{MemArg}
-use Rattle.wasm_type_words.specs.Seen.{number_val}
+use Rattle.wasm_operator_stacks.specs.SeenTypeWords.{number_val}
 use Rattle.wasm_operator_stacks.specs.Actions.{OperandTypes, Check, these, memory_address, lesser_memory_address, joined, is_aligned, data_is_there}
 use Rattle.wasm_rules.specs.Attempts.{◌>>=◌, passes}
 use Rattle.wasm_rules.specs.Signatures.{resolve_val}

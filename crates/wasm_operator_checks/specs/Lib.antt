@@ -1,3 +1,4 @@
 pub mod Steps
 pub mod SeenTypes
 pub mod Told
+pub mod Declared

@@ -12,7 +12,7 @@ use Rattle.wasm_readers_errors.specs.declared.error.Refusal.{Refusal}
 use Rattle.wasm_readers_errors.specs.Lifting.{lifting}
 use Rattle.wasm_readers_errors.specs.declared.operator_rules.OperatorRule.{OperatorRule}
 use Rattle.wasm_readers_errors.specs.declared.operator_rules.OperatorRule.TheVariants as rule
-use Rattle.wasm_type_words.specs.Seen.{val_in}
+use Rattle.wasm_operator_stacks.specs.SeenTypeWords.{val_in}
 use Rattle.wasm_operator_stacks.specs.Machine as machine
 use Rattle.wasm_operator_stacks.specs.Machine.{known}
 use Rattle.wasm_operator_stacks.specs.SeenOperands.{operand_of}

@@ -4,15 +4,14 @@ ghost use Rattle.std.specs.Prelude.{◌≡◌, ◌&&◌};
 ghost use Rattle.wasm_spec.specs.ValueTypes.{implies};
 ghost use Rattle.wasm_readers_errors.specs.On.{has_flag};
 ghost use Rattle.wasm_readers_types.specs.declared.indices.UnpackedIndex.{UnpackedIndex};
-ghost use Rattle.wasm_type_words.specs.Seen.{val_in};
+ghost use Rattle.wasm_operator_stacks.specs.SeenTypeWords.{val_in};
 ghost use Rattle.wasm_operator_stacks.specs.Meanings.{address as address_by};
 
 use bitflags::Flags;
 use std::alloc::Allocator;
-use wasm_numeric_operators::NumberType;
-use wasm_operator_stacks::Stacks;
+use wasm_flat_operators::NumberType;
+use wasm_operator_stacks::{Stacks, TypeWord};
 use wasm_readers_errors::WasmFeatures;
-use wasm_type_words::TypeWord;
 
 /// Whether a proposal is on.
 #[inline(always)]

@@ -1,7 +1,7 @@
 //! Operators that take some operands and give others.
 
 ghost use Rattle.std.specs.Prelude.{◌++◌, ◌∷◌, []};
-ghost use Rattle.wasm_type_words.specs.Seen.{val_in};
+ghost use Rattle.wasm_operator_stacks.specs.SeenTypeWords.{val_in};
 ghost use Rattle.wasm_module_resources.specs.Answers.{world};
 ghost use Rattle.wasm_operator_stacks.specs.Seen.{Kept};
 ghost use Rattle.wasm_operator_checks.specs.Steps.{Turns};
@@ -12,9 +12,8 @@ use crate::looks::check_type;
 use crate::types::{Takes, ValTypes, check_takes, check_types, exchange_types};
 use std::alloc::Allocator;
 use wasm_module_resources::WasmModuleResources;
-use wasm_operator_stacks::Stacks;
+use wasm_operator_stacks::{Stacks, TypeWord};
 use wasm_readers_errors::OperatorRule;
-use wasm_type_words::TypeWord;
 
 /// Takes operands of some types, and gives others. Where that can't be, all stays.
 #[inline(always)]

@@ -1,7 +1,7 @@
 //! Types that operands are checked against, and that are given.
 
 ghost use Rattle.std.specs.Prelude.{◌≡◌, ◌≤◌, ◌∷◌, [], length, map, OnOk, OnErr};
-ghost use Rattle.wasm_type_words.specs.Seen.{val_in};
+ghost use Rattle.wasm_operator_stacks.specs.SeenTypeWords.{val_in};
 ghost use Rattle.wasm_operator_stacks.specs.Machine.{pop_vals, push_vals};
 ghost use Rattle.wasm_module_resources.specs.Answers.{world};
 ghost use Rattle.wasm_operator_stacks.specs.Seen.{state_of, below, Kept};
@@ -12,9 +12,8 @@ use crate::faults::OperatorFault;
 use crate::looks::{check_many, check_type};
 use std::alloc::{AllocError, Allocator};
 use wasm_module_resources::WasmModuleResources;
-use wasm_operator_stacks::{Stacks, Word};
+use wasm_operator_stacks::{Stacks, TypeWord, Word};
 use wasm_readers_types::ValType;
-use wasm_type_words::TypeWord;
 
 /// None, one or many value types.
 #[derive(Clone, Copy)]

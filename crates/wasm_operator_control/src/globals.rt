@@ -11,9 +11,8 @@ use wasm_module_resources::WasmModuleResources;
 use wasm_operator_checks::{
     OperatorError, OperatorFault, OperatorRule, Takes, ValTypes, plain, reaches,
 };
-use wasm_operator_stacks::Stacks;
+use wasm_operator_stacks::{Stacks, TypeWord};
 use wasm_readers_types::GlobalType;
-use wasm_type_words::TypeWord;
 
 /// `global.get`.
 #[tactic(auto, using(wasm_operator_checks::proofs::Acting::acts, crate::proofs::Globally::globals))]

@@ -1,16 +1,28 @@
-//! Operators on locals and globals, blocks, and branches.
+//! Operators on locals and globals, blocks, branches, calls and tail calls.
 #![tactic(auto)]
 
 mod branches;
+mod calls;
 mod ends;
 mod frames;
 mod globals;
+mod halts;
 mod labels;
 mod locals;
+mod reach;
+mod results;
+mod step;
+mod tails;
 
 pub use branches::{branch, branch_if, do_nothing, give_back, trap};
+pub use calls::{call, call_indirect, call_ref};
 pub use ends::end;
 pub use frames::open_frame;
 pub use globals::{global_get, global_set};
+pub use halts::halt_with;
 pub use labels::{block_gives, block_takes, frame_at, function_type, label_types, returned_types};
 pub use locals::{drop_any, local_get, local_set, local_tee};
+pub use reach::{function_reached, null_or, type_reached};
+pub use results::{match_types, returns};
+pub use step::step_call;
+pub use tails::{return_call, return_call_indirect, return_call_ref};

@@ -6,8 +6,8 @@ use Rattle.wasm_spec.specs.Syntax.{i32}
 use Rattle.wasm_rules.specs.Contexts.{Context}
 use Rattle.wasm_rules.specs.FeatureFlags.{features_of}
 use Rattle.wasm_readers_types.specs.declared.indices.UnpackedIndex.{UnpackedIndex}
-use Rattle.wasm_numeric_operators.specs.declared.signatures.NumberType.{NumberType}
-use Rattle.wasm_numeric_operators.specs.declared.signatures.NumberType.TheVariants as number
+use Rattle.wasm_flat_operators.specs.declared.signatures.NumberType.{NumberType}
+use Rattle.wasm_flat_operators.specs.declared.signatures.NumberType.TheVariants as number
 use Rattle.wasm_operators.specs.Control.{Block}
 use Rattle.wasm_rules.specs.Attempts.{◌>>=◌, guard}
 use Rattle.wasm_operator_steps.specs.Actions.{Action, take, enter}

@@ -16,12 +16,12 @@ use Rattle.wasm_flat_operators.specs.declared.memories.MemoryOperator.{MemoryOpe
 use Rattle.wasm_flat_operators.specs.declared.memories.MemArg.{MemArg}
 use Rattle.wasm_flat_operators.specs.declared.variables.VariableOperator.TheVariants.{LocalGet, LocalSet, LocalTee, GlobalGet, GlobalSet}
 use Rattle.wasm_flat_operators.specs.declared.constants.ConstantOperator.TheVariants.{I32Const, I64Const}
-use Rattle.wasm_numeric_operators.specs.Numeric.{numeric_from}
-use Rattle.wasm_numeric_operators.specs.Signatures.{signature_of}
-use Rattle.wasm_numeric_operators.specs.declared.numeric.NumericOperator.{NumericOperator}
-use Rattle.wasm_numeric_operators.specs.declared.signatures.NumberType.{NumberType}
-use Rattle.wasm_numeric_operators.specs.declared.signatures.NumberType.TheVariants as number
-use Rattle.wasm_numeric_operators.specs.declared.signatures.Signature.{Signature}
+use Rattle.wasm_flat_operators.specs.Numeric.{numeric_from}
+use Rattle.wasm_flat_operators.specs.Signatures.{signature_of}
+use Rattle.wasm_flat_operators.specs.declared.numeric.NumericOperator.{NumericOperator}
+use Rattle.wasm_flat_operators.specs.declared.signatures.NumberType.{NumberType}
+use Rattle.wasm_flat_operators.specs.declared.signatures.NumberType.TheVariants as number
+use Rattle.wasm_flat_operators.specs.declared.signatures.Signature.{Signature}
 use Rattle.wasm_operators.specs.Control.{Block, block_at, parametric_from, drop_, select, control_from, block, loop, if_, end_, br, br_if, return_}
 use Rattle.wasm_operators.specs.References.{reference_from}
 use Rattle.wasm_operators.specs.Instructions.{Instruction, instruction_at, plain_from, variable, constant, numeric, parametric, control, call, access}

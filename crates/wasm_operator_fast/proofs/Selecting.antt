@@ -4,9 +4,9 @@ use Rattle.std.specs.Prelude.{Some}
 use Rattle.wasm_spec.specs.Syntax.{Val, i32}
 use Rattle.wasm_rules.specs.Contexts.{Context}
 use Rattle.wasm_readers_types.specs.declared.indices.UnpackedIndex.{UnpackedIndex}
-use Rattle.wasm_numeric_operators.specs.declared.signatures.NumberType.{NumberType}
-use Rattle.wasm_numeric_operators.specs.declared.signatures.NumberType.TheVariants as number
-use Rattle.wasm_type_words.specs.Seen.{number_val}
+use Rattle.wasm_flat_operators.specs.declared.signatures.NumberType.{NumberType}
+use Rattle.wasm_flat_operators.specs.declared.signatures.NumberType.TheVariants as number
+use Rattle.wasm_operator_stacks.specs.SeenTypeWords.{number_val}
 use Rattle.wasm_operator_steps.specs.Actions.{take, choose}
 use Rattle.wasm_operator_steps.specs.Machine.{State, known, pop_any, pop_val, push_operand, chosen}
 use Rattle.wasm_operator_steps.specs.Shapes.{one}

@@ -3,10 +3,10 @@ use Rattle.std.specs.Prelude.{ℕ, Bool, true, Option, None, Some}
 use Rattle.wasm_spec.specs.Features.{Features}
 use Rattle.wasm_spec.specs.ValueTypes.{allows_val}
 use Rattle.wasm_readers_types.specs.declared.indices.UnpackedIndex.{UnpackedIndex}
-use Rattle.wasm_numeric_operators.specs.declared.signatures.NumberType.{NumberType}
+use Rattle.wasm_flat_operators.specs.declared.signatures.NumberType.{NumberType}
 use Rattle.wasm_operators.specs.Control.{Block, empty_block, value_block}
 use Rattle.wasm_operator_steps.specs.Shapes.{number_type}
-use Rattle.wasm_type_words.specs.Seen.{number_val}
+use Rattle.wasm_operator_stacks.specs.SeenTypeWords.{number_val}
 
 -- as it is written
 abbrev pub block_giving : Option NumberType → Block ℕ

@@ -9,14 +9,12 @@ ghost use Rattle.wasm_operator_fast.specs.Fast.{Performs};
 use crate::not_taken::NotTaken;
 use crate::plain::plain;
 use std::alloc::Allocator;
-use wasm_flat_operators::{MemArg, MemoryOperator, max_align};
+use wasm_flat_operators::{MemArg, MemoryOperator, NumberType, max_align};
 use wasm_module_resources::WasmModuleResources;
-use wasm_numeric_operators::NumberType;
 use wasm_operator_checks::{Takes, ValTypes, address};
 use wasm_operator_numbers::allows_number;
-use wasm_operator_stacks::Stacks;
+use wasm_operator_stacks::{Stacks, TypeWord};
 use wasm_readers_types::MemoryType;
-use wasm_type_words::TypeWord;
 
 /// Whether a memory has 32-bit addresses and may be accessed so.
 #[inline(always)]

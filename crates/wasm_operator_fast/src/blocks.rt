@@ -16,12 +16,11 @@ ghost use Rattle.wasm_operator_fast.specs.Fast.{Performs};
 use crate::not_taken::NotTaken;
 use crate::peeks::peek;
 use std::alloc::Allocator;
+use wasm_flat_operators::NumberType;
 use wasm_module_resources::WasmModuleResources;
-use wasm_numeric_operators::NumberType;
 use wasm_operator_numbers::allows_number;
-use wasm_operator_stacks::{BlockWord, Stacks};
+use wasm_operator_stacks::{BlockWord, Stacks, TypeWord};
 use wasm_operators::FrameKind;
-use wasm_type_words::TypeWord;
 
 /// The block type that gives nothing or this number, where the features allow it.
 #[inline(always)]

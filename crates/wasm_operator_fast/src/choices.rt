@@ -7,10 +7,9 @@ ghost use Rattle.wasm_operator_fast.specs.Fast.{Performs};
 use crate::not_taken::NotTaken;
 use crate::peeks::peek;
 use std::alloc::Allocator;
+use wasm_flat_operators::NumberType;
 use wasm_module_resources::WasmModuleResources;
-use wasm_numeric_operators::NumberType;
-use wasm_operator_stacks::Stacks;
-use wasm_type_words::TypeWord;
+use wasm_operator_stacks::{Stacks, TypeWord};
 
 /// `select` between two numbers of this type, of which the lower one stays.
 #[inline(always)]

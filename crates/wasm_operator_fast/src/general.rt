@@ -11,8 +11,7 @@ use crate::not_taken::NotTaken;
 use crate::plain::as_fast;
 use std::alloc::Allocator;
 use wasm_module_resources::WasmModuleResources;
-use wasm_operator_calls::call;
-use wasm_operator_control::{branch, branch_if, drop_any, give_back, global_get, global_set};
+use wasm_operator_control::{branch, branch_if, call, drop_any, give_back, global_get, global_set};
 use wasm_operator_stacks::Stacks;
 
 /// `global.get`.

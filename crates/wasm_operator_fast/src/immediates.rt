@@ -10,8 +10,7 @@ ghost use Rattle.wasm_operator_fast.specs.Blocks.{block_named};
 ghost use Rattle.wasm_operator_fast.specs.Passed.{behind_signed, Passed};
 
 use crate::not_taken::NotTaken;
-use wasm_flat_operators::MemArg;
-use wasm_numeric_operators::NumberType;
+use wasm_flat_operators::{MemArg, NumberType};
 use wasm_readers::BinaryReader;
 
 /// The next byte.

@@ -1,7 +1,7 @@
 //! Looks at operands whose types are known.
 
 ghost use Rattle.std.specs.Prelude.{◌≡◌, ◌≤◌, ◌+◌, Some, length, OnOk};
-ghost use Rattle.wasm_type_words.specs.Seen.{val_in};
+ghost use Rattle.wasm_operator_stacks.specs.SeenTypeWords.{val_in};
 ghost use Rattle.wasm_operator_steps.specs.Machine.{known, pop_any, pop_val, pop_vals, push_operand};
 ghost use Rattle.wasm_module_resources.specs.Answers.{world};
 ghost use Rattle.wasm_operator_stacks.specs.Seen.{state_of, below};
@@ -12,8 +12,7 @@ use crate::not_taken::NotTaken;
 use std::alloc::Allocator;
 use wasm_module_resources::WasmModuleResources;
 use wasm_operator_checks::Takes;
-use wasm_operator_stacks::Stacks;
-use wasm_type_words::TypeWord;
+use wasm_operator_stacks::{Stacks, TypeWord};
 
 /// Looks whether an operand that is known to be of this type is in the innermost frame, below so
 /// many others.

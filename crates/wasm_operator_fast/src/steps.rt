@@ -19,9 +19,8 @@ use crate::not_taken::NotTaken;
 use crate::numbers::{compute, constant};
 use crate::signatures::signature;
 use std::alloc::Allocator;
-use wasm_flat_operators::access_from_opcode;
+use wasm_flat_operators::{NumberType, access_from_opcode, numeric_from_opcode};
 use wasm_module_resources::WasmModuleResources;
-use wasm_numeric_operators::{NumberType, numeric_from_opcode};
 use wasm_operator_stacks::Stacks;
 use wasm_readers::BinaryReader;
 

@@ -10,16 +10,14 @@ ghost use Rattle.wasm_operator_numbers.specs.Accesses.{accessing};
 
 use crate::allowed::allows_number;
 use std::alloc::Allocator;
-use wasm_flat_operators::max_align;
+use wasm_flat_operators::{NumberType, max_align};
 use wasm_module_resources::WasmModuleResources;
-use wasm_numeric_operators::NumberType;
 use wasm_operator_checks::{
     OperatorError, OperatorFault, OperatorRule, Takes, ValTypes, address, plain,
 };
-use wasm_operator_stacks::Stacks;
+use wasm_operator_stacks::{Stacks, TypeWord};
 use wasm_operators::{MemArg, MemoryOperator};
 use wasm_readers_types::MemoryType;
-use wasm_type_words::TypeWord;
 
 /// Whether it is a load or a store, and of what.
 #[derive(Clone, Copy)]

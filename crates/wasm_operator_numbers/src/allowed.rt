@@ -7,7 +7,7 @@ ghost use Rattle.wasm_operator_steps.specs.Shapes.{number_type};
 
 use bitflags::Flags;
 use std::alloc::Allocator;
-use wasm_numeric_operators::NumberType;
+use wasm_flat_operators::NumberType;
 use wasm_operator_stacks::Stacks;
 use wasm_readers_errors::WasmFeatures;
 

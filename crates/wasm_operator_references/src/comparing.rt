@@ -16,8 +16,8 @@ ghost use Rattle.wasm_operator_references.specs.SeenReferences.{reference_seen, 
 
 use crate::referenced::{Referenced, look_reference};
 use std::alloc::Allocator;
+use wasm_flat_operators::NumberType;
 use wasm_module_resources::WasmModuleResources;
-use wasm_numeric_operators::NumberType;
 use wasm_operator_checks::{OperatorError, OperatorFault, OperatorRule, has};
 use wasm_operator_stacks::{Stacks, Word};
 use wasm_readers_errors::WasmFeatures;

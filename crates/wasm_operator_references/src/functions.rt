@@ -17,10 +17,9 @@ use wasm_module_resources::WasmModuleResources;
 use wasm_operator_checks::{
     OperatorError, OperatorFault, OperatorRule, Takes, ValTypes, has, plain,
 };
-use wasm_operator_stacks::Stacks;
+use wasm_operator_stacks::{Stacks, TypeWord};
 use wasm_readers_errors::WasmFeatures;
 use wasm_readers_types::{HeapType, UnpackedIndex};
-use wasm_type_words::TypeWord;
 
 /// Whether a reference to a function is exactly to its type: where the function is, and descriptors
 /// can tell.

@@ -11,15 +11,14 @@ ghost use Rattle.wasm_operator_checks.specs.Steps.{Performs};
 use crate::referenced::{look_reference, non_null};
 use crate::written::{allows_heap, resolve, unknown_type};
 use std::alloc::Allocator;
+use wasm_flat_operators::NumberType;
 use wasm_module_resources::WasmModuleResources;
-use wasm_numeric_operators::NumberType;
 use wasm_operator_checks::{
     OperatorError, OperatorFault, OperatorRule, Takes, ValTypes, has, plain,
 };
-use wasm_operator_stacks::{Stacks, Word};
+use wasm_operator_stacks::{Stacks, TypeWord, Word};
 use wasm_readers_errors::WasmFeatures;
 use wasm_readers_types::HeapType;
-use wasm_type_words::TypeWord;
 
 /// `ref.null` (Core Specification 3.0, Validation, Instructions, Reference Instructions).
 ///

@@ -9,9 +9,8 @@ ghost use Rattle.wasm_operator_references.specs.SeenReferences.{reference_seen, 
 
 use std::alloc::Allocator;
 use wasm_operator_checks::{OperatorFault, OperatorRule, look};
-use wasm_operator_stacks::{Operand, Stacks, Word};
+use wasm_operator_stacks::{Operand, Stacks, TypeWord, Word};
 use wasm_readers_types::{AbstractHeapType, RefType, ValType};
-use wasm_type_words::TypeWord;
 
 /// A reference among operands: of a known type, and in code that isn't reached of any reference
 /// type, or of an abstract heap type whose shared flag is open, not null.

@@ -12,12 +12,11 @@ ghost use Rattle.wasm_operator_steps.specs.Shapes.{reference_to as val_to};
 ghost use Rattle.wasm_module_resources.specs.Answers.{IsWrittenHeap, written_index};
 
 use std::alloc::Allocator;
-use wasm_module_resources::WasmModuleResources;
+use wasm_module_resources::{WasmModuleResources, check_ref_type};
 use wasm_operator_checks::{OperatorFault, OperatorRule, has};
 use wasm_operator_stacks::Stacks;
 use wasm_readers_errors::WasmFeatures;
 use wasm_readers_types::{HeapType, RefType, UnpackedIndex};
-use wasm_value_checks::check_ref_type;
 
 /// Whether the features allow references to this heap type, with null or without.
 #[tactic(auto, using(crate::proofs::Writing::allowed))]

@@ -1,4 +1,5 @@
 pub use Rattle.wasm_operator_steps.proofs.TakenInTurn
+pub mod TypeWording
 pub mod Reversing
 pub mod Marking
 pub mod Localizing

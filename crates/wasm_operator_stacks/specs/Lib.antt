@@ -5,6 +5,8 @@ pub use Rattle.wasm_operator_steps.specs.Matching
 pub use Rattle.wasm_operator_steps.specs.Meanings
 pub use Rattle.wasm_operator_steps.specs.Shapes
 pub use Rattle.wasm_operator_steps.specs.Steps
+pub mod TypeWords
+pub mod SeenTypeWords
 pub mod Marked
 pub mod Locals
 pub mod Words

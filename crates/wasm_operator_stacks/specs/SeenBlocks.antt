@@ -1,7 +1,7 @@
 -- What contracts see of block types and frames.
 use Rattle.std.specs.Prelude.{Bool, true, false, List, [], ◌∷◌, map}
 use Rattle.wasm_readers_types.specs.declared.indices.UnpackedIndex.{UnpackedIndex}
-use Rattle.wasm_type_words.specs.Seen.{val_in}
+use Rattle.wasm_operator_stacks.specs.SeenTypeWords.{val_in}
 use Rattle.wasm_operator_steps.specs.Control as syntax
 use Rattle.wasm_operator_steps.specs.Control.{empty_block, value_block, func_block}
 use Rattle.wasm_operator_steps.specs.FrameKind.{FrameKind}

@@ -4,8 +4,8 @@ ghost use Rattle.std.specs.Prelude.{◌≡◌, ◌<◌, ◌^◌, ◌%◌};
 ghost use Rattle.wasm_readers_types.specs.declared.indices.TheConstants.{MAX_IDS};
 ghost use Rattle.wasm_operator_stacks.specs.Words.{block_at, block_number};
 
+use crate::TypeWord;
 use wasm_operator_steps::BlockType;
-use wasm_type_words::TypeWord;
 
 /// A block type as one number, its types as identities.
 #[derive(Clone, Copy)]
@@ -25,7 +25,7 @@ pub enum Block {
 }
 
 impl BlockWord {
-    ghost use Rattle.wasm_type_words.specs.Seen.{val_in};
+    ghost use Rattle.wasm_operator_stacks.specs.SeenTypeWords.{val_in};
     ghost use Rattle.wasm_operator_steps.specs.Control.{empty_block, value_block, func_block};
     ghost use Rattle.wasm_operator_steps.specs.SeenControl.{block_of};
     ghost use Rattle.wasm_operator_stacks.specs.SeenBlocks.{block_in, block_seen};

@@ -1,7 +1,9 @@
-//! What the validation of a body keeps: operands, frames, and locals with which of them are set.
+//! What the validation of a body keeps: operands, frames, and locals with which of them are set. Value
+//! types are kept as numbers, so that one comparison tells whether two are the same.
 #![tactic(auto)]
 
 mod block_word;
+mod codes;
 mod copies;
 mod local_word;
 mod locals;
@@ -10,13 +12,16 @@ mod runs;
 mod stack;
 mod stacks;
 mod steps;
+mod type_word;
 mod word;
 
 pub use block_word::{Block, BlockWord};
+pub use codes::{abstract_code, abstract_from_code};
 pub use local_word::LocalWord;
 pub use locals::{Locals, MAX_LOCALS};
 pub use marks::Marks;
 pub use runs::Runs;
 pub use stack::Stack;
 pub use stacks::{Frame, Stacks};
+pub use type_word::TypeWord;
 pub use word::{Operand, Word};

@@ -2,9 +2,9 @@
 
 ghost use Rattle.std.specs.Prelude.{◌<◌, ◌^◌, ◌%◌};
 ghost use Rattle.wasm_readers_types.specs.declared.indices.TheConstants.{MAX_IDS};
-ghost use Rattle.wasm_type_words.specs.Words.{val_at, val_number};
+ghost use Rattle.wasm_operator_stacks.specs.TypeWords.{val_at, val_number};
 
-use wasm_type_words::TypeWord;
+use crate::TypeWord;
 
 /// The bit of a local that isn't set when its function begins, past those of its type.
 const UNSET: u64 = 274_877_906_944;
@@ -19,7 +19,7 @@ pub struct LocalWord {
 
 impl LocalWord {
     ghost use Rattle.std.specs.Prelude.{◌≡◌};
-    ghost use Rattle.wasm_type_words.specs.Seen.{val_in};
+    ghost use Rattle.wasm_operator_stacks.specs.SeenTypeWords.{val_in};
     ghost use Rattle.wasm_operator_stacks.specs.Locals.{local_of};
 
     /// A local of this type.

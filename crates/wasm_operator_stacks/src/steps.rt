@@ -7,6 +7,7 @@ ghost use Rattle.wasm_operator_stacks.specs.SeenOperands.{operand_of};
 ghost use Rattle.wasm_operator_stacks.specs.SeenBlocks.{block_in, kind_of, frame_of};
 ghost use Rattle.wasm_operator_stacks.specs.Seen.{state_of, below, with_frame, Kept};
 
+use crate::TypeWord;
 use crate::block_word::BlockWord;
 use crate::locals::Locals;
 use crate::stack::Stack;
@@ -16,7 +17,6 @@ use std::alloc::{AllocError, Allocator};
 use wasm_operator_steps::FrameKind;
 use wasm_readers_errors::WasmFeatures;
 use wasm_readers_types::ValType;
-use wasm_type_words::TypeWord;
 
 impl<A: Allocator + Copy> Stacks<A> {
     /// Stacks without frames. They take no memory.

@@ -4,9 +4,9 @@ ghost use Rattle.std.specs.Prelude.{◌<◌, ◌^◌};
 ghost use Rattle.wasm_readers_types.specs.declared.indices.TheConstants.{MAX_IDS};
 ghost use Rattle.wasm_operator_stacks.specs.Words.{operand_at, operand_number};
 
-use wasm_numeric_operators::NumberType;
+use crate::{TypeWord, abstract_code, abstract_from_code};
+use wasm_flat_operators::NumberType;
 use wasm_readers_types::{AbstractHeapType, ValType};
-use wasm_type_words::{TypeWord, abstract_code, abstract_from_code};
 
 /// The number of an operand of any type.
 const BOTTOM: u64 = 5;
@@ -33,7 +33,7 @@ impl Word {
     ghost use Rattle.std.specs.Prelude.{◌≡◌, true};
     ghost use Rattle.std.specs.Bool.{Decides};
     ghost use Rattle.wasm_readers_types.specs.SeenValues.{abstract_heap_of};
-    ghost use Rattle.wasm_type_words.specs.Seen.{val_in, number_val};
+    ghost use Rattle.wasm_operator_stacks.specs.SeenTypeWords.{val_in, number_val};
     ghost use Rattle.wasm_operator_steps.specs.Machine.{bottom, bottom_reference, open_reference, known};
     ghost use Rattle.wasm_operator_stacks.specs.SeenOperands.{operand_of, operand_seen};
 

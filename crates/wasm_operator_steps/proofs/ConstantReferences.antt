@@ -3,11 +3,11 @@ use Rattle.std.proofs.Common.{◌≡◌, refl, sym, ap, ◌∙◌, subst, ℕ, B
 use Rattle.std.specs.Prelude.{⊤}
 use Rattle.wasm_spec.specs.MatchingTests.{World}
 use Rattle.wasm_spec.specs.Syntax.{AbstractHeap, any_heap, i31_heap, extern_heap, Heap, abstract_heap, Ref, Val, i32, i64, f32, f64, v128, reference}
-use Rattle.wasm_numeric_operators.specs.Signatures.{signature_of}
-use Rattle.wasm_numeric_operators.specs.declared.signatures.NumberType.{NumberType}
-use Rattle.wasm_numeric_operators.specs.declared.signatures.NumberType.TheVariants as number
-use Rattle.wasm_numeric_operators.specs.declared.signatures.Signature.{Signature}
-use Rattle.wasm_numeric_operators.specs.declared.signatures.Signature.TheVariants.{Unary, Binary}
+use Rattle.wasm_flat_operators.specs.Signatures.{signature_of}
+use Rattle.wasm_flat_operators.specs.declared.signatures.NumberType.{NumberType}
+use Rattle.wasm_flat_operators.specs.declared.signatures.NumberType.TheVariants as number
+use Rattle.wasm_flat_operators.specs.declared.signatures.Signature.{Signature}
+use Rattle.wasm_flat_operators.specs.declared.signatures.Signature.TheVariants.{Unary, Binary}
 use Rattle.wasm_operators.specs.References as references
 use Rattle.wasm_operators.specs.Instructions as instruction
 use Rattle.wasm_operators.specs.Instructions.{Instruction}

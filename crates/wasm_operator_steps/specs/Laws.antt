@@ -6,9 +6,9 @@ use Rattle.wasm_spec.specs.Syntax.{Sub}
 use Rattle.wasm_spec.specs.Declared.{ancestor_at, IsAncestor}
 use Rattle.wasm_spec.specs.MatchingTests.{IsWorld}
 use Rattle.wasm_rules.specs.Contexts.{Context}
-use Rattle.wasm_numeric_operators.specs.Numeric.{numeric_opcode}
-use Rattle.wasm_numeric_operators.specs.Signatures.{signature_at}
-use Rattle.wasm_numeric_operators.specs.declared.numeric.NumericOperator.{NumericOperator}
+use Rattle.wasm_flat_operators.specs.Numeric.{numeric_opcode}
+use Rattle.wasm_flat_operators.specs.Signatures.{signature_at}
+use Rattle.wasm_flat_operators.specs.declared.numeric.NumericOperator.{NumericOperator}
 use Rattle.wasm_operators.specs.Control.{Block}
 use Rattle.wasm_operators.specs.Maps.{map_block}
 use Rattle.wasm_operators.specs.Instructions.{Instruction, numeric}

@@ -16,7 +16,7 @@ use Rattle.wasm_operator_steps.specs.Meanings.{ref_to, is_packed, unpack_field, 
 use Rattle.wasm_module_resources.specs.Answers.{sub_in}
 use Rattle.wasm_operator_stacks.specs.declared.stacks.Stacks.{Stacks}
 use Rattle.wasm_operator_checks.specs.Steps.{typed, held}
-use Rattle.wasm_operator_aggregates.specs.Declared.{fields_in, descriptor_in, Barred, is_off, is_unreached, is_missing}
+use Rattle.wasm_operator_checks.specs.Declared.{fields_in, descriptor_in, Barred, is_off, is_unreached, is_missing}
 use Rattle.wasm_operator_structs.specs.Fields.{field_in}
 
 the_same : {X : Type 0} (x y : X) → Some x ≡ Some y → x ≡ y

@@ -8,7 +8,7 @@ use Rattle.wasm_readers_types.specs.declared.values.FieldType.{FieldType}
 use Rattle.wasm_operator_steps.specs.Actions.{Needed, gc, custom_descriptors}
 use Rattle.wasm_rules.specs.Attempts.{◌>>=◌}
 use Rattle.wasm_operator_steps.specs.Meanings.{unpack_field}
-use Rattle.wasm_operator_aggregates.specs.Declared.{fields_in}
+use Rattle.wasm_operator_checks.specs.Declared.{fields_in}
 use Rattle.wasm_operator_structs.specs.declared.reached.Proposal.{Proposal}
 use Rattle.wasm_operator_structs.specs.declared.reached.Proposal.TheVariants as proposal
 

@@ -9,10 +9,11 @@ ghost use Rattle.wasm_operator_checks.specs.Steps.{Performs};
 use crate::reached::reach_member;
 use std::alloc::Allocator;
 use wasm_module_resources::WasmModuleResources;
-use wasm_operator_aggregates::{is_packed, nullable, same_flag, unpack};
-use wasm_operator_checks::{OperatorError, OperatorFault, OperatorRule, Takes, ValTypes, plain};
-use wasm_operator_stacks::Stacks;
-use wasm_type_words::TypeWord;
+use wasm_operator_checks::{
+    OperatorError, OperatorFault, OperatorRule, Takes, ValTypes, is_packed, nullable, plain,
+    same_flag, unpack,
+};
+use wasm_operator_stacks::{Stacks, TypeWord};
 
 /// The rule that a field is packed, or that it isn't.
 fn packed_rule(packed: bool) -> OperatorRule {

@@ -2,7 +2,7 @@
 
 ghost use Rattle.std.specs.Prelude.{◌≡◌, ◌≤◌, ◌∷◌, [], length, map};
 ghost use Rattle.wasm_readers_types.specs.SeenValues.{field_of};
-ghost use Rattle.wasm_type_words.specs.Seen.{val_in};
+ghost use Rattle.wasm_operator_stacks.specs.SeenTypeWords.{val_in};
 ghost use Rattle.wasm_operator_steps.specs.Machine.{pop_vals};
 ghost use Rattle.wasm_operator_steps.specs.Meanings.{all_have_defaults};
 ghost use Rattle.wasm_module_resources.specs.Answers.{world};
@@ -13,11 +13,9 @@ ghost use Rattle.wasm_operator_structs.specs.Fields.{unpacked_types};
 
 use std::alloc::Allocator;
 use wasm_module_resources::WasmModuleResources;
-use wasm_operator_aggregates::{has_default, unpack};
-use wasm_operator_checks::{OperatorError, OperatorFault, check_type};
-use wasm_operator_stacks::{Stacks, Word};
+use wasm_operator_checks::{OperatorError, OperatorFault, check_type, has_default, unpack};
+use wasm_operator_stacks::{Stacks, TypeWord, Word};
 use wasm_readers_types::FieldType;
-use wasm_type_words::TypeWord;
 
 /// Whether all fields have a default.
 #[tactic(auto, using(crate::proofs::Defaulting::defaults))]

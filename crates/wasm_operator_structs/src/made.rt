@@ -10,9 +10,9 @@ use crate::fields::{exchange_fields, have_defaults};
 use crate::reached::{Proposal, reach_structure};
 use std::alloc::Allocator;
 use wasm_module_resources::WasmModuleResources;
-use wasm_operator_aggregates::{exact_or_null, new_reference};
 use wasm_operator_checks::{
-    OperatorError, OperatorFault, OperatorRule, Takes, ValTypes, check_type, plain,
+    OperatorError, OperatorFault, OperatorRule, Takes, ValTypes, check_type, exact_or_null,
+    new_reference, plain,
 };
 use wasm_operator_stacks::Stacks;
 

@@ -6,13 +6,12 @@ ghost use Rattle.wasm_operator_steps.specs.Actions.{gc, has, reaches_type};
 ghost use Rattle.wasm_operator_steps.specs.Meanings.{is_on as allowed};
 ghost use Rattle.wasm_rules.specs.FeatureFlags.{features_of};
 ghost use Rattle.wasm_operator_checks.specs.Steps.{held};
-ghost use Rattle.wasm_operator_aggregates.specs.Declared.{fields_in, descriptor_in, Barred};
+ghost use Rattle.wasm_operator_checks.specs.Declared.{fields_in, descriptor_in, Barred};
 ghost use Rattle.wasm_operator_structs.specs.Fields.{needed_of, field_in};
 
 use std::alloc::Allocator;
 use wasm_module_resources::WasmModuleResources;
-use wasm_operator_aggregates::identity;
-use wasm_operator_checks::{OperatorFault, OperatorRule, has, reaches};
+use wasm_operator_checks::{OperatorFault, OperatorRule, has, identity, reaches};
 use wasm_operator_stacks::Stacks;
 use wasm_readers_errors::WasmFeatures;
 use wasm_readers_types::{CompositeInnerType, FieldType, PackedIndex};
@@ -58,7 +57,7 @@ fn rule(proposal: Proposal) -> OperatorRule {
 }
 
 /// The structure type of this type index, for an operator of a proposal.
-#[tactic(auto, using(wasm_operator_checks::proofs::Acting::acts, wasm_operator_aggregates::proofs::Naming::reaching))]
+#[tactic(auto, using(wasm_operator_checks::proofs::Acting::acts, wasm_operator_checks::proofs::Naming::reaching))]
 pub fn reach_structure<'a, A: Allocator, T: WasmModuleResources>(
     stacks: &Stacks<A>,
     resources: &'a T,

@@ -1,3 +1,5 @@
+pub mod Frames
+pub mod LengthsCounted
 pub mod Stepping
 pub mod Defining
 pub mod Beginning

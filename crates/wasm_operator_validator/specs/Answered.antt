@@ -6,9 +6,9 @@ use Rattle.wasm_rules.specs.Contexts.{Context}
 use Rattle.wasm_readers_types.specs.declared.indices.UnpackedIndex.{UnpackedIndex}
 use Rattle.wasm_operators.specs.Control.{Block}
 use Rattle.wasm_operator_steps.specs.Machine.{Kind, Frame}
-use Rattle.wasm_operator_arity.specs.Arities.{in_u32}
-use Rattle.wasm_operator_arity.specs.Asked.{Asked}
-use Rattle.wasm_operator_arity.specs.Lengths.{lengths_of}
+use Rattle.wasm_operator_validator.specs.Arities.{in_u32}
+use Rattle.wasm_operator_validator.specs.Asked.{Asked}
+use Rattle.wasm_operator_validator.specs.Lengths.{lengths_of}
 use Rattle.wasm_module_resources.specs.Answers.{sub_in, sub_of_id, tag_in}
 use Rattle.wasm_operator_stacks.specs.Seen.{state_of}
 use Rattle.wasm_operator_stacks.specs.declared.stacks.Stacks.{Stacks}

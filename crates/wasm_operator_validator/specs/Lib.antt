@@ -1,3 +1,7 @@
+pub mod Asked
+pub mod Arities
+pub mod Sizes
+pub mod Lengths
 pub mod Stepped
 pub mod Typed
 pub mod Shown

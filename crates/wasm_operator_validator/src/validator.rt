@@ -17,11 +17,10 @@ use crate::steps::step;
 use std::alloc::{AllocError, Allocator, Global};
 use wasm_module_resources::WasmModuleResources;
 use wasm_operator_checks::{OperatorError, OperatorFault, OperatorRule};
-use wasm_operator_stacks::{BlockWord, LocalWord, Locals, MAX_LOCALS, Stacks};
+use wasm_operator_stacks::{BlockWord, LocalWord, Locals, MAX_LOCALS, Stacks, TypeWord};
 use wasm_operators::{FrameKind, Operator};
 use wasm_readers_errors::{Error, WasmFeatures};
 use wasm_readers_types::{CompositeInnerType, ValType};
-use wasm_type_words::TypeWord;
 
 /// The typing of one function body or one constant expression, operator by operator (Core
 /// Specification 3.0, Appendix, Validation Algorithm). It keeps operands, frames and locals; what

@@ -4,7 +4,7 @@ use Rattle.std.proofs.Common.{ℕ, nat_lt, ◌==◌, List, [], ◌∷◌, ◌++�
 use Rattle.wasm_spec.specs.Values.{u32_at, s33_index_at, not_negative}
 use Rattle.wasm_spec.specs.BinaryTypes.{val_at}
 use Rattle.wasm_spec.proofs.Front.{Reads, reads_none, reads_here, reads_value, reads_behind, reads_weaken, reads_if, reads_map, reads_then, reads_list, signed-reads, heap-reads, val-reads}
-use Rattle.wasm_numeric_operators.specs.Numeric.{numeric_from, saturating_from}
+use Rattle.wasm_flat_operators.specs.Numeric.{numeric_from, saturating_from}
 use Rattle.wasm_flat_operators.specs.Memories.{access_from}
 use Rattle.wasm_flat_operators.specs.Conversions.{conversion_from, shared_from}
 use Rattle.wasm_flat_operators.specs.declared.memories.MemoryOperator.{MemoryOperator}

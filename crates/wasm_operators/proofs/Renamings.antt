@@ -2,7 +2,7 @@
 use Rattle.std.proofs.Common.{refl, ℕ, nat_lt, ◌==◌, List, Option, Some, None}
 use Rattle.wasm_spec.specs.Values.{byte_at, u32_at, s33_index_at, list_at}
 use Rattle.wasm_spec.proofs.Renaming.{Renames, renames_none, renames_some, renames_if, renames_then, renames_map, renames_same_then, renames_same_map, renames_list, heap-renames, val-renames}
-use Rattle.wasm_numeric_operators.specs.Numeric.{numeric_from, saturating_from}
+use Rattle.wasm_flat_operators.specs.Numeric.{numeric_from, saturating_from}
 use Rattle.wasm_flat_operators.specs.Calls.{call_from}
 use Rattle.wasm_flat_operators.specs.Variables.{variable_from}
 use Rattle.wasm_flat_operators.specs.Tables.{table_access_from, table_from}

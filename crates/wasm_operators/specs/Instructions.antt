@@ -9,7 +9,7 @@ use Rattle.wasm_flat_operators.specs.Variables.{variable_from}
 use Rattle.wasm_flat_operators.specs.Tables.{table_access_from, table_from}
 use Rattle.wasm_flat_operators.specs.Memories.{access_from, memarg_at, memory_size_from, memory_from}
 use Rattle.wasm_flat_operators.specs.Constants.{constant_from, vector_from}
-use Rattle.wasm_numeric_operators.specs.Numeric.{numeric_from, saturating_from}
+use Rattle.wasm_flat_operators.specs.Numeric.{numeric_from, saturating_from}
 use Rattle.wasm_operators.specs.References.{Reference, Cast, reference_from, cast_from}
 use Rattle.wasm_flat_operators.specs.Conversions.{conversion_from, shared_from}
 use Rattle.wasm_flat_operators.specs.Structs.{struct_from}
@@ -21,8 +21,8 @@ use Rattle.wasm_flat_operators.specs.declared.memories.MemoryOperator.{MemoryOpe
 use Rattle.wasm_flat_operators.specs.declared.memories.MemArg.{MemArg}
 use Rattle.wasm_flat_operators.specs.declared.memories.BulkMemoryOperator.{BulkMemoryOperator}
 use Rattle.wasm_flat_operators.specs.declared.constants.ConstantOperator.{ConstantOperator}
-use Rattle.wasm_numeric_operators.specs.declared.numeric.NumericOperator.{NumericOperator}
-use Rattle.wasm_numeric_operators.specs.declared.numeric.SaturatingOperator.{SaturatingOperator}
+use Rattle.wasm_flat_operators.specs.declared.numeric.NumericOperator.{NumericOperator}
+use Rattle.wasm_flat_operators.specs.declared.numeric.SaturatingOperator.{SaturatingOperator}
 use Rattle.wasm_flat_operators.specs.declared.conversions.ConversionOperator.{ConversionOperator}
 use Rattle.wasm_flat_operators.specs.declared.structs.StructOperator.{StructOperator}
 use Rattle.wasm_flat_operators.specs.declared.arrays.ArrayOperator.{ArrayOperator}

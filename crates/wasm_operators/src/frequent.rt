@@ -13,8 +13,8 @@ use crate::control::{BlockType, ControlOperator, ParametricOperator};
 use crate::operators::Operator;
 use wasm_flat_operators::{
     CallOperator, ConstantOperator, MemArg, VariableOperator, access_from_opcode,
+    numeric_from_opcode,
 };
-use wasm_numeric_operators::numeric_from_opcode;
 use wasm_readers::BinaryReader;
 use wasm_readers_types::ValType;
 

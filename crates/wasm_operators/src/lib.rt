@@ -19,7 +19,6 @@ pub use operators::{Operator, read_operator};
 pub use references::{CastOperator, ReferenceOperator};
 pub use wasm_flat_operators::{
     ArrayOperator, BulkMemoryOperator, CallOperator, ConstantOperator, ConversionOperator, Ieee32,
-    Ieee64, MemArg, MemoryOperator, StructOperator, TableOperator, V128, VariableOperator,
-    max_align, read_memarg,
+    Ieee64, MemArg, MemoryOperator, NumericOperator, SaturatingOperator, StructOperator,
+    TableOperator, V128, VariableOperator, max_align, read_memarg,
 };
-pub use wasm_numeric_operators::{NumericOperator, SaturatingOperator};

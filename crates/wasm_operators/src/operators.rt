@@ -12,13 +12,10 @@ use crate::frequent::next_frequent;
 use crate::references::{CastOperator, ReferenceOperator, read_cast, read_reference};
 use wasm_flat_operators::{
     ArrayOperator, BulkMemoryOperator, CallOperator, ConstantOperator, ConversionOperator, MemArg,
-    MemoryOperator, StructOperator, TableOperator, VariableOperator, access_from_opcode,
-    conversion_from_code, read_array, read_call, read_constant, read_memarg, read_memory,
-    read_memory_size, read_struct, read_table, read_table_access, read_variable, read_vector,
-    shared_from_code,
-};
-use wasm_numeric_operators::{
-    NumericOperator, SaturatingOperator, numeric_from_opcode, saturating_from_code,
+    MemoryOperator, NumericOperator, SaturatingOperator, StructOperator, TableOperator,
+    VariableOperator, access_from_opcode, conversion_from_code, numeric_from_opcode, read_array,
+    read_call, read_constant, read_memarg, read_memory, read_memory_size, read_struct, read_table,
+    read_table_access, read_variable, read_vector, saturating_from_code, shared_from_code,
 };
 use wasm_readers::BinaryReader;
 use wasm_readers_errors::{Fault, Malformed, Refusal};

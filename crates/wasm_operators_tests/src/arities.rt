@@ -3,7 +3,7 @@
 use crate::bytes::{first, parts};
 use std::alloc::Global;
 use std::test::Fail;
-use wasm_operator_arity::{FrameStack, ModuleArity, operator_arity};
+use wasm_operator_validator::{FrameStack, ModuleArity, operator_arity};
 use wasm_operators::{BlockType, FrameKind};
 use wasm_readers_types::{
     CompositeInnerType, CompositeType, ContType, FieldType, FuncType, Items, RefType, StorageType,
@@ -27,7 +27,7 @@ impl ModuleArity for Sample {
     ghost use Rattle.wasm_operators.specs.SeenControl.{block_of};
     ghost use Rattle.wasm_operators.specs.Control.{func_block};
     ghost use Rattle.wasm_operator_steps.specs.Machine.{block_kind};
-    ghost use Rattle.wasm_operator_arity.specs.Asked.{kind_of};
+    ghost use Rattle.wasm_operator_validator.specs.Asked.{kind_of};
 
     ghost asked = { λ s. record {
       types = λ n. if n == 0 then Some (sub_of s.function) else (if n == 1 then Some (sub_of s.structure) else None);
@@ -90,7 +90,7 @@ impl ModuleArity for Sample {
 impl FrameStack for Sample {
     ghost use Rattle.std.specs.Prelude.{◌∷◌, [], Some, None};
     ghost use Rattle.wasm_operator_steps.specs.Machine.{block_kind};
-    ghost use Rattle.wasm_operator_arity.specs.Asked.{kind_of};
+    ghost use Rattle.wasm_operator_validator.specs.Asked.{kind_of};
 
     ghost kinds = { λ s. elim s.block [
       | None ↦ block_kind

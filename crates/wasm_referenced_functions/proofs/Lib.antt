@@ -4,3 +4,9 @@ pub mod Loops
 pub mod Naming
 pub mod Passing
 pub mod Unnamed
+pub mod Constants
+pub mod Entries
+pub mod Sections
+pub mod Pieces
+pub mod Parts
+pub mod Referenced

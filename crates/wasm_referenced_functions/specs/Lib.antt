@@ -4,3 +4,4 @@ pub mod Marks
 pub mod Marking
 pub mod Operators
 pub mod Nameless
+pub mod Naming

@@ -5,3 +5,5 @@ pub mod FramedOrder
 pub mod ModuleExamples
 pub mod Contexts
 pub mod Totals
+pub mod Counts
+pub mod Bodies

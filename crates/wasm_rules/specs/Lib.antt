@@ -14,3 +14,4 @@ pub mod Contexts
 pub mod Attempts
 pub mod Signatures
 pub mod Worlds
+pub mod Bodies

@@ -5,6 +5,7 @@
 ghost use Rattle.wasm_rules.specs.Contexts.{ContextsAreRenamed, RepeatedTypeIsOne};
 ghost use Rattle.wasm_rules.specs.Totals.{TotalsGoOn};
 ghost use Rattle.wasm_rules.specs.ModuleExamples.{TableOfOneOrTwo, NoTableOfTwoToOne, NoTableWithoutEntries, MemoryOfAllAddresses, NoMemoryPastAllAddresses, NoSharedGlobal, NoTagWithoutExceptions, NoMutableImport, MemoryIsExported, NoSecondMemory, NoNameTwice, SizeIsThree, NoStartWithParameter, NoPassiveElements, NoWrittenElements, OffsetsReference, NoPassiveData, NoTwoMemories, HeaderIsModule, NoVersionTwo};
+ghost use Rattle.wasm_rules.specs.Bodies.{BodiesAreAsManyAsFunctions};
 
 /// Worked examples of the rules of modules.
 #[tactic(auto, using(crate::proofs::ModuleExamples::examples))]
@@ -46,4 +47,10 @@ pub fn repeated_types_are_numbered_once()
 #[tactic(auto, using(crate::proofs::Totals::totals_go_on))]
 pub fn totals_go_on()
     ensures total { TotalsGoOn }
+{}
+
+/// A framed module has as many bodies as functions that it declares (Core Specification 3.0, Binary
+/// Format, Modules).
+pub fn bodies_are_as_many_as_functions()
+    ensures { BodiesAreAsManyAsFunctions }
 {}

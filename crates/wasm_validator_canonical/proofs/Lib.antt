@@ -20,3 +20,4 @@ pub mod NewIds
 pub mod DepthsOfIds
 pub mod KeptDepths
 pub mod Told
+pub mod Apart

@@ -8,3 +8,4 @@ pub mod Interned
 pub mod Told
 pub mod Sections
 pub mod Arities
+pub mod Apart

@@ -7,7 +7,7 @@ use Rattle.wasm_readers_errors.specs.declared.features.WasmFeatures.{WasmFeature
 use Rattle.wasm_validator_canonical.specs.Groups.{AreValid}
 use Rattle.wasm_validator_core.specs.declared.error.Error.{Error}
 use Rattle.wasm_validator_core.specs.declared.error.Error.TheVariants.{Refused, DuplicateExport, OutOfMemory}
-pub use Rattle.wasm_validator_entities.specs.Sizes.{TypesSoFar}
+pub use Rattle.wasm_item_checks.specs.Sizes.{TypesSoFar}
 
 -- A call that changes what it is given moves to where the machine moves; where it refuses the content so does the
 -- machine, and nothing is said of what is left.

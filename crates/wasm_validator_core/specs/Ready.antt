@@ -7,7 +7,7 @@ use Rattle.wasm_readers_errors.specs.declared.features.WasmFeatures.{WasmFeature
 use Rattle.wasm_validator_type_list.specs.Listing.{Listing}
 use Rattle.wasm_validator_type_list.specs.DefTypes.{types_of_list}
 use Rattle.wasm_validator_core.specs.declared.limits.TheConstants.{MAX_TYPES}
-pub use Rattle.wasm_validator_entities.specs.Held.{AreSmall, IsTyped, AreHeld}
+pub use Rattle.wasm_item_checks.specs.Held.{AreSmall, IsTyped, AreHeld}
 
 module _ {A : Type 0} where
   -- groups may be added to the list, and equal types are one there where the features ask for it

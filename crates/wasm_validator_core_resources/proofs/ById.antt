@@ -31,7 +31,7 @@ use Rattle.wasm_validator_type_list.proofs.Lookups.{first_of-next, member_at}
 use Rattle.wasm_validator_type_list.proofs.Declares.{declares-at}
 use Rattle.wasm_validator_type_list.proofs.Grouped.{all-left, all-right, all-flat}
 use Rattle.wasm_validator_type_list.proofs.Joined.{length-subs}
-use Rattle.wasm_operator_worlds.specs.IndexContexts.{id_of}
+use Rattle.wasm_validator_core_resources.specs.IndexContexts.{id_of}
 use Rattle.wasm_validator_core_resources.specs.ModuleContexts.{AreByIds}
 use Rattle.wasm_validator_core_resources.specs.ById.{as_id, Reaches, AreFirstByIds, NoneAreFirst, AllAreFirst, FirstStayFirst}
 

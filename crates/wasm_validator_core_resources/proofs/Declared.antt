@@ -15,9 +15,9 @@ use Rattle.wasm_validator_type_list.specs.Worlds.{ids_world}
 use Rattle.wasm_rules.specs.Attempts.{◌>>=◌, passes}
 use Rattle.wasm_rules.specs.Worlds.{declared_in, is_below}
 use Rattle.wasm_module_resources.specs.Answers.{same_index, world}
-use Rattle.wasm_operator_worlds.specs.ListContexts.{IsNoId, IsSeen}
-use Rattle.wasm_operator_worlds.specs.IndexContexts.{id_of}
-use Rattle.wasm_operator_worlds.proofs.Seen.{lists_are_seen}
+use Rattle.wasm_validator_core_resources.specs.ListContexts.{IsNoId, IsSeen}
+use Rattle.wasm_validator_core_resources.specs.IndexContexts.{id_of}
+use Rattle.wasm_validator_core_resources.proofs.Seen.{lists_are_seen}
 use Rattle.wasm_validator_core_resources.specs.declared.resources.ModuleResources.TheInside.{Inside}
 use Rattle.wasm_validator_core_resources.specs.Shown.{shown, IsSound}
 

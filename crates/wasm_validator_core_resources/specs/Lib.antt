@@ -1,3 +1,6 @@
+pub mod ListContexts
+pub mod IndexContexts
 pub mod ModuleContexts
 pub mod ById
 pub mod Shown
+pub mod ShownWithCode

@@ -10,8 +10,8 @@ use Rattle.wasm_readers_types.specs.SeenTypes.{sub_of}
 use Rattle.wasm_validator_type_list.specs.Listing.{Listing}
 use Rattle.wasm_validator_type_list.specs.Declares.{subs_by_ids}
 use Rattle.wasm_validator_types.specs.Spaces.{Spaces}
-use Rattle.wasm_operator_worlds.specs.ListContexts.{list_declares}
-use Rattle.wasm_operator_worlds.specs.IndexContexts.{id_of}
+use Rattle.wasm_validator_core_resources.specs.ListContexts.{list_declares}
+use Rattle.wasm_validator_core_resources.specs.IndexContexts.{id_of}
 
 -- which functions are exactly of their type: the imported ones, which are the first, as they say, and all behind them
 abbrev pub exact_flags : List ℕ → List Bool → List Bool

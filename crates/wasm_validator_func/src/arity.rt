@@ -4,8 +4,7 @@
 use crate::func_validator::FuncValidator;
 use std::alloc::Allocator;
 use wasm_module_resources::WasmModuleResources;
-use wasm_operator_arity::{FrameStack, ModuleArity};
-use wasm_operator_validator::{func_type_of, tag_arity};
+use wasm_operator_validator::{FrameStack, ModuleArity, func_type_of, tag_arity};
 use wasm_operators::{BlockType, FrameKind};
 use wasm_readers_types::{ContType, FuncType, RefType, SubType, UnpackedIndex};
 

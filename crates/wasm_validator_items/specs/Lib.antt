@@ -8,3 +8,6 @@ pub mod Machine
 pub mod Answers
 pub mod Sections
 pub mod Entries
+pub mod Items
+pub mod Maps
+pub mod Reading

@@ -17,7 +17,7 @@ use Rattle.wasm_validator_types.specs.Spaces.{Spaces}
 use Rattle.wasm_validator_core.specs.declared.limits.TheConstants.{MAX_GLOBALS, MAX_ELEMENT_SEGMENTS, MAX_DATA_SEGMENTS}
 use Rattle.wasm_validator_core.specs.Answers.{TypesSoFar}
 use Rattle.wasm_validator_core.specs.Items.{types_of_module, with_table, with_global}
-use Rattle.wasm_operator_worlds.specs.IndexContexts.{id_of}
+use Rattle.wasm_validator_core_resources.specs.IndexContexts.{id_of}
 use Rattle.wasm_validator_core_resources.specs.ModuleContexts.{exact_flags, numbers_from}
 use Rattle.wasm_constant_items.specs.Data.{behind_data}
 use Rattle.wasm_constant_items.specs.Elements.{typed_element_at}

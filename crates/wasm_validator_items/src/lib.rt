@@ -2,7 +2,18 @@
 //! been read, and added to it (Core Specification 3.0, Validation, Modules).
 //!
 //! Each `offset` counts bytes from the start of the input.
+//!
+//! The sections whose items hold constant expressions, read and typed in one pass, are read by the
+//! grammar and then added item by item (Core Specification 3.0, Validation, Modules, and Binary
+//! Format, Modules).
 #![tactic(auto)]
+
+ghost use Rattle.std.specs.Prelude.{ℕ};
+ghost use Rattle.wasm_spec.specs.Features.{Features};
+ghost use Rattle.wasm_rules.specs.Contexts.{Context};
+ghost use Rattle.wasm_readers_types.specs.declared.indices.UnpackedIndex.{UnpackedIndex};
+ghost use Rattle.wasm_validator_items.specs.Items.{ExpressionsAreTyped, GlobalsAreTyped, DataAreTyped};
+ghost use Rattle.wasm_validator_items.specs.Reading.{TablesAreReadAndAdded, GlobalsAreReadAndAdded, ElementsAreReadAndAdded, DataAreReadAndAdded, ItemsAreReadAndAdded, SectionsAddSingleItems, EntriesAreRenamed};
 
 pub mod constants;
 mod data;
@@ -17,3 +28,39 @@ pub use elements::{add_elements, add_next_element};
 pub use globals::{add_globals, add_next_global};
 pub use tables::{add_next_table, add_tables};
 pub use wasm_constant_items::ExpressionMemory;
+
+/// Expressions, globals and data segments that are read and typed in one pass are those of the
+/// grammar whose expressions are typed, and each of these is found.
+pub fn items_are_typed()
+    ensures expressions { (C : Context UnpackedIndex) (F : Features) (imported : ℕ)
+        → ExpressionsAreTyped C F imported }
+    ensures globals { (C : Context UnpackedIndex) (F : Features) (imported : ℕ)
+        → GlobalsAreTyped C F imported }
+    ensures data { (C : Context UnpackedIndex) (F : Features) (imported : ℕ)
+        → DataAreTyped C F imported }
+{}
+
+/// Each section is read by the grammar, and its items are added one after another.
+pub fn sections_are_read_and_added()
+    ensures tables { TablesAreReadAndAdded }
+    ensures globals { GlobalsAreReadAndAdded }
+    ensures elements { ElementsAreReadAndAdded }
+    ensures segments { DataAreReadAndAdded }
+{}
+
+/// A single item is read by the grammar, and then added.
+#[tactic(auto, using(crate::proofs::Singles::items_are_added))]
+pub fn items_are_read_and_added()
+    ensures { ItemsAreReadAndAdded }
+{}
+
+/// A section adds its items as they are added one by one.
+#[tactic(auto, using(crate::proofs::Singles::sections_add_single_items))]
+pub fn sections_add_single_items<S, V>()
+    ensures { SectionsAddSingleItems S V }
+{}
+
+/// Entries are read the same with type indices in another form.
+pub fn entries_are_renamed()
+    ensures { EntriesAreRenamed }
+{}

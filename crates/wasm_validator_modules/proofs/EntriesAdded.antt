@@ -30,8 +30,8 @@ use Rattle.wasm_validator_core_laws.specs.Shown.{listed, listed_table, listed_gl
 use Rattle.wasm_validator_core_laws.proofs.AddedItems.{each_changed}
 use Rattle.wasm_context_laws.specs.ListedTypes.{types_declare}
 use Rattle.wasm_module_validity.specs.Expressions.{expression_at}
-use Rattle.wasm_validator_module_state.specs.Sections.{read_section}
-use Rattle.wasm_validator_module_state.specs.Entries.{is_constant_of, is_constant_or_none, are_items, may_be_placed, may_be_stored, listed_items_type, add_table_entry, add_global_entry, add_element, add_data}
+use Rattle.wasm_validator_sections.specs.Sections.{read_section}
+use Rattle.wasm_validator_sections.specs.Entries.{is_constant_of, is_constant_or_none, are_items, may_be_placed, may_be_stored, listed_items_type, add_table_entry, add_global_entry, add_element, add_data}
 use Rattle.wasm_module_list_laws.specs.Maps.{map_table_entry, map_global_entry, map_items, map_element}
 use Rattle.wasm_module_list_laws.specs.Reading.{EntriesAreRenamed}
 use Rattle.wasm_validator_sections.specs.Noted.{Noted, naming}

@@ -11,7 +11,7 @@ use Rattle.wasm_validator_core.specs.Items.{add_export}
 use Rattle.wasm_validator_core_laws.specs.Exports.{with_exports}
 use Rattle.wasm_validator_core_laws.proofs.AddedExports.{exports_are_added_behind}
 use Rattle.wasm_validator_core_laws.proofs.AddedItems.{each_changed}
-use Rattle.wasm_validator_module_state.specs.Sections.{read_section}
+use Rattle.wasm_validator_sections.specs.Sections.{read_section}
 use Rattle.wasm_validator_sections.specs.Noted.{naming}
 use Rattle.wasm_validator_modules.specs.Standing.{in_module}
 use Rattle.wasm_referenced_functions.specs.References.{names_of_exports}

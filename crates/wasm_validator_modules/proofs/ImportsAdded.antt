@@ -22,7 +22,7 @@ use Rattle.wasm_validator_core_laws.specs.Imports.{KeepsLimits, FitsImport, with
 use Rattle.wasm_validator_core_laws.specs.Shown.{listed_table, listed_global}
 use Rattle.wasm_validator_core_laws.proofs.AddedImports.{one_import_is_added}
 use Rattle.wasm_validator_core_laws.proofs.AddedItems.{each_changed}
-use Rattle.wasm_validator_module_state.specs.Sections.{read_section}
+use Rattle.wasm_validator_sections.specs.Sections.{read_section}
 use Rattle.wasm_validator_modules.specs.SectionLaws.{AddsEach, ImportsAdd}
 use Rattle.wasm_validator_sections.proofs.SectionEntries.{limited, section_entries}
 use Rattle.wasm_validator_modules.proofs.SectionLaws.{moved_from, moved_to, at_module}

@@ -16,8 +16,8 @@ use Rattle.wasm_readers_errors.specs.declared.features.WasmFeatures.{WasmFeature
 use Rattle.wasm_referenced_functions.specs.References.{section_names}
 use Rattle.wasm_validator_types.specs.Spaces.{Spaces}
 use Rattle.wasm_validator_core.specs.Answers.{TypesSoFar}
-use Rattle.wasm_validator_module_state.specs.Bodies.{expected_bodies}
-use Rattle.wasm_validator_module_state.specs.declared.code_state.TheConstants.{MAX_FUNCTION_SIZE}
+use Rattle.wasm_validator_sections.specs.Bodies.{expected_bodies}
+use Rattle.wasm_validator_sections.specs.declared.code_state.TheConstants.{MAX_FUNCTION_SIZE}
 use Rattle.wasm_validator_sections.specs.Machine.{section_items, start_item, data_count_item, beside}
 use Rattle.wasm_validator_sections.specs.Noted.{Noted, naming, counting}
 use Rattle.wasm_validator_sections.specs.Started.{Started, starting, taking, bodies_left}

@@ -44,11 +44,11 @@ use Rattle.wasm_module_validity.specs.Modules.{Numbering}
 use Rattle.wasm_module_validity.proofs.Numbered.{types_are_numbered}
 use Rattle.wasm_module_list_laws.proofs.SectionTypes.{sections_give_module_types}
 use Rattle.wasm_module_list_laws.specs.Contexts.{HasOwnIds}
-use Rattle.wasm_validator_module_state.specs.Sections.{read_section}
-use Rattle.wasm_validator_module_state.specs.Entries.{add_table_entry, add_global_entry, add_element, add_data}
+use Rattle.wasm_validator_sections.specs.Sections.{read_section}
+use Rattle.wasm_validator_sections.specs.Entries.{add_table_entry, add_global_entry, add_element, add_data}
 use Rattle.wasm_module_list_laws.specs.Maps.{map_table_entry, map_global_entry, map_element}
 use Rattle.wasm_module_list_laws.specs.Reading.{EntriesAreRenamed}
-use Rattle.wasm_distinct_type_laws.specs.Apart.{AreApart}
+use Rattle.wasm_validator_canonical.specs.Apart.{AreApart}
 use Rattle.wasm_module_list_laws.specs.Lists.{add_table_entries, add_global_entries, add_elements, add_segments, add_all_lists, up_to_tables, up_to_memories, up_to_tags, up_to_globals, up_to_exports, AreValidModuleLists}
 use Rattle.wasm_module_list_laws.specs.Laws.{AreTypedConstants}
 use Rattle.wasm_validator_sections.specs.Machine.{start_item, data_count_item, beside}

@@ -24,7 +24,7 @@ use Rattle.wasm_validator_types.specs.Spaces.{Spaces}
 use Rattle.wasm_validator_core.specs.Answers.{TypesSoFar}
 use Rattle.wasm_validator_core.specs.Items.{add_function, add_memory, add_tag}
 use Rattle.wasm_validator_core_laws.proofs.AddedItems.{of_each, each_changed, IsStep, step_of, items_verdict}
-use Rattle.wasm_validator_module_state.specs.Sections.{read_section}
+use Rattle.wasm_validator_sections.specs.Sections.{read_section}
 use Rattle.wasm_validator_sections.specs.Machine.{section_items}
 use Rattle.wasm_validator_sections.specs.Noted.{Noted}
 use Rattle.wasm_validator_modules.specs.Standing.{Stage, Standing, in_module, at_stage}

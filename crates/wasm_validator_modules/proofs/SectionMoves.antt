@@ -12,10 +12,9 @@ use Rattle.wasm_validator_core.specs.declared.error.Error.TheVariants.{Refused, 
 use Rattle.wasm_validator_core.specs.Answers.{TypesSoFar, IsNowhere, Adds, AddsWhere, HasValidTypes}
 use Rattle.wasm_validator_modules.specs.declared.validator.State.{State}
 use Rattle.wasm_validator_modules.specs.declared.validator.State.TheVariants.{Module}
-use Rattle.wasm_validator_module_state.specs.declared.module_state.ModuleState.{ModuleState}
-use Rattle.wasm_validator_sections.specs.Noted.{Noted}
+use Rattle.wasm_validator_sections.specs.declared.module_state.ModuleState.{ModuleState}
+use Rattle.wasm_validator_sections.specs.Noted.{Noted, noted_of}
 use Rattle.wasm_validator_modules.specs.Standing.{Stage, in_module, Standing, HoldsValid, refused_at, read_refused_at, within, at_stage, Moves}
-use Rattle.wasm_validator_sections.specs.Noted.{noted_of}
 use Rattle.wasm_validator_modules.specs.States.{stage_of, state_kept, section_refused_at}
 use Rattle.wasm_validator_sections.proofs.ItemSteps.{none_nowhere}
 use Rattle.wasm_validator_modules.proofs.Growing.{within_some}

@@ -17,7 +17,7 @@ use Rattle.wasm_validator_type_list.specs.Listing.{Listing, types_in}
 use Rattle.wasm_validator_type_list.specs.Listing as lists
 use Rattle.wasm_validator_type_list.proofs.DefTypes.{length-def_types}
 use Rattle.wasm_validator_core.specs.Ready.{AreIdsOf}
-use Rattle.wasm_validator_module_state.specs.declared.module_state.ModuleState.{ModuleState}
+use Rattle.wasm_validator_sections.specs.declared.module_state.ModuleState.{ModuleState}
 use Rattle.wasm_validator_modules.specs.Ready.{AreIdsIn, AreValidIn, AreFirstIn}
 use Rattle.wasm_validator_modules.specs.States.{open_of, read_of, stage_of, state_kept, module_ended, after_end}
 use Rattle.std.specs.List.{All}

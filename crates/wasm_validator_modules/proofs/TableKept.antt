@@ -8,7 +8,7 @@ use Rattle.wasm_spec.specs.Framing as parts
 use Rattle.wasm_spec.specs.Framing.{Piece, Version, Custom, Counted, Start, DataCount, CodeStart, CodeEntry, Unknown}
 use Rattle.wasm_rules.specs.StateTable as table
 use Rattle.wasm_rules.specs.StateTable.{Phase, Call, section, barred_section, data_section, code_start, accepted_to, refused_to}
-use Rattle.wasm_validator_module_state.specs.Bodies.{expected_bodies}
+use Rattle.wasm_validator_sections.specs.Bodies.{expected_bodies}
 use Rattle.wasm_rules.specs.FeatureFlags.{features_of}
 use Rattle.wasm_readers_errors.specs.declared.features.WasmFeatures.{WasmFeatures}
 use Rattle.wasm_validator_types.specs.Spaces.{Spaces, no_spaces}
@@ -26,8 +26,8 @@ use Rattle.wasm_validator_modules.specs.Standing.{Stage, unparsed, in_module, in
 use Rattle.wasm_validator_modules.specs.States.{begun, code_started, body_taken, module_ended, after_piece, is_barred}
 use Rattle.wasm_referenced_functions.specs.References.{section_names}
 use Rattle.wasm_validator_modules.proofs.Growing.{body_some}
-use Rattle.wasm_validator_module_state.specs.Sections.{read_each, read_section}
-use Rattle.wasm_validator_module_state.specs.Entries.{may_be_stored, add_data}
+use Rattle.wasm_validator_sections.specs.Sections.{read_each, read_section}
+use Rattle.wasm_validator_sections.specs.Entries.{may_be_stored, add_data}
 use Rattle.wasm_context_laws.specs.ListedTypes.{types_declare}
 use Rattle.wasm_module_validity.specs.Expressions.{expression_at}
 use Rattle.wasm_validator_sections.specs.Machine.{data_items, section_items, start_item, data_count_item, beside}

@@ -33,7 +33,7 @@ use Rattle.wasm_validator_types.specs.Spaces.{Spaces}
 use Rattle.wasm_validator_core.specs.Answers.{TypesSoFar}
 use Rattle.wasm_module_list_laws.proofs.SectionTypes.{sections_give_module_types}
 use Rattle.wasm_module_list_laws.specs.BodyContexts.{code_context}
-use Rattle.wasm_distinct_type_laws.specs.Apart.{AreApart}
+use Rattle.wasm_validator_canonical.specs.Apart.{AreApart}
 use Rattle.wasm_validator_sections.specs.Noted.{Noted, nothing_noted, naming, counting}
 use Rattle.wasm_validator_sections.specs.Started.{Started, starting, taking}
 use Rattle.wasm_validator_modules.specs.States.{BodyToValidate, next_function, body_with}

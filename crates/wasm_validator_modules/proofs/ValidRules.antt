@@ -7,7 +7,7 @@ use Rattle.wasm_rules.specs.IndexSpaces.{IndexSpaces}
 use Rattle.wasm_rules.specs.LinkRules.{IsValidStart}
 use Rattle.wasm_rules.specs.Modules.{AreValidParts}
 use Rattle.wasm_module_list_laws.specs.Lists.{AreValidModuleLists}
-use Rattle.wasm_validator_module_state.specs.declared.code_state.TheConstants.{MAX_FUNCTION_SIZE}
+use Rattle.wasm_validator_sections.specs.declared.code_state.TheConstants.{MAX_FUNCTION_SIZE}
 
 -- no body is too long
 abbrev pub AreSmall : List (List ℕ) → Type 0

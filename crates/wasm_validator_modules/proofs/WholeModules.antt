@@ -11,7 +11,7 @@ use Rattle.wasm_spec.specs.Features.{Features, canonical}
 use Rattle.wasm_spec.specs.Trees.{DefType}
 use Rattle.wasm_spec.specs.TypeLaws.{HasNoRepetition}
 use Rattle.wasm_rules.specs.FeatureFlags.{features_of}
-use Rattle.wasm_rules.specs.IndexSpaces.{IndexSpaces, index_spaces}
+use Rattle.wasm_rules.specs.IndexSpaces.{IndexSpaces, index_spaces, imported, functions_in}
 use Rattle.wasm_rules.specs.Sections.{each}
 use Rattle.wasm_rules.proofs.FramedOrder.{IsInner, AreInner, others_inner, others_follow}
 use Rattle.wasm_rules.proofs.Tests.{then_some}
@@ -25,7 +25,7 @@ use Rattle.wasm_validator_core.specs.declared.error.Error.TheVariants.{Refused, 
 use Rattle.wasm_validator_canonical.specs.Groups.{AreValid}
 use Rattle.wasm_validator_canonical.proofs.Steps.{all_written_at_most}
 use Rattle.wasm_validator_core.specs.Answers.{TypesSoFar, HasValidTypes}
-use Rattle.wasm_distinct_type_laws.specs.Apart.{AreApart}
+use Rattle.wasm_validator_canonical.specs.Apart.{AreApart}
 use Rattle.wasm_validator_sections.specs.Noted.{nothing_noted}
 use Rattle.wasm_validator_sections.specs.Started.{starting}
 use Rattle.wasm_validator_modules.specs.Standing.{Stage, Standing, unparsed, in_module, in_code, ended, failed, fresh, shown_at, HoldsAt, AreValidAt, HoldsValid}
@@ -48,7 +48,6 @@ use Rattle.wasm_validator_modules.proofs.Runs.{refusal}
 use Rattle.wasm_parser.specs.Machine.{State, start, Run}
 use Rattle.wasm_parser.proofs.Law.{framed_run}
 use Rattle.wasm_rules.specs.Parts.{bodies_of}
-use Rattle.wasm_rules.specs.IndexSpaces.{imported, functions_in}
 use Rattle.wasm_readers_types.specs.declared.indices.TheConstants.{MAX_IDS}
 use Rattle.wasm_readers_errors.specs.declared.error.Error as reading
 use Rattle.wasm_readers_errors.specs.declared.error.Error.TheVariants as reading_error
@@ -58,7 +57,7 @@ use Rattle.wasm_module_validity.specs.Expressions.{expression_at}
 use Rattle.std.proofs.lemmas.List.{length-append}
 use Rattle.std.proofs.lemmas.Option.{same_Some}
 use Rattle.wasm_validator_func.specs.Functions.{Refuses}
-use Rattle.wasm_validator_module_state.specs.Bodies.{expected_bodies}
+use Rattle.wasm_validator_sections.specs.Bodies.{expected_bodies}
 
 -- pieces and then others
 nested_all : (o : Option Standing) (ps qs : List Piece) → ((s : Standing) → after_all s (ps ++ qs) ≡ option_and_then (λ t. after_all t qs) (after_all s ps))

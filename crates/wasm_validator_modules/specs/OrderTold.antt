@@ -18,7 +18,7 @@ use Rattle.wasm_validator_core.specs.declared.error.Error.{Error}
 use Rattle.wasm_validator_core.specs.declared.error.Error.TheVariants.{Refused}
 use Rattle.wasm_validator_core.specs.Answers.{TypesSoFar}
 use Rattle.wasm_validator_core.specs.Told.{told_of_start, told_of_data_count}
-use Rattle.wasm_validator_module_state.specs.declared.code_state.TheConstants.{MAX_FUNCTION_SIZE}
+use Rattle.wasm_validator_sections.specs.declared.code_state.TheConstants.{MAX_FUNCTION_SIZE}
 use Rattle.wasm_validator_sections.specs.Started.{bodies_left}
 use Rattle.wasm_validator_modules.specs.Standing.{Stage, unparsed, in_module, in_code, ended, failed}
 use Rattle.wasm_validator_sections.specs.SectionsTold.{Either, TellsAt, TellsTags}

@@ -29,7 +29,7 @@ use Rattle.wasm_validator_core_laws.specs.Imports.{KeepsLimits, FitsImport, with
 use Rattle.wasm_validator_core_laws.specs.Shown.{listed, listed_table, listed_global, listed_element}
 use Rattle.wasm_context_laws.specs.ListedTypes.{types_declare}
 use Rattle.wasm_module_validity.specs.Expressions.{expression_at}
-use Rattle.wasm_validator_module_state.specs.Entries.{is_constant_of, is_constant_or_none, are_items, may_be_placed, may_be_stored}
+use Rattle.wasm_validator_sections.specs.Entries.{is_constant_of, is_constant_or_none, are_items, may_be_placed, may_be_stored}
 use Rattle.wasm_module_list_laws.specs.Maps.{map_items}
 use Rattle.wasm_validator_sections.specs.Noted.{Noted, naming}
 use Rattle.wasm_validator_modules.specs.Standing.{Standing, in_module, HoldsValid}

@@ -17,8 +17,8 @@ use Rattle.wasm_validator_modules.specs.declared.validator.State.{State}
 use Rattle.wasm_rules.specs.Contexts.{Context}
 use Rattle.wasm_readers_types.specs.declared.indices.UnpackedIndex.{UnpackedIndex}
 use Rattle.wasm_referenced_functions.specs.References.{section_names}
-use Rattle.wasm_validator_module_state.specs.declared.module_state.ModuleState.{ModuleState}
-use Rattle.wasm_validator_module_state.specs.declared.code_state.TheConstants.{MAX_FUNCTION_SIZE}
+use Rattle.wasm_validator_sections.specs.declared.module_state.ModuleState.{ModuleState}
+use Rattle.wasm_validator_sections.specs.declared.code_state.TheConstants.{MAX_FUNCTION_SIZE}
 use Rattle.wasm_validator_modules.specs.declared.validator.EndedSpaces.{EndedSpaces}
 use Rattle.wasm_validator_modules.specs.declared.validator.EndedSpaces.TheVariants.{Owned, Shared}
 use Rattle.wasm_validator_modules.specs.declared.validator.State.TheVariants.{Unparsed, Module, Code, End, Failed}

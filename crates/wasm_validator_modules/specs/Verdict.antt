@@ -10,7 +10,7 @@ use Rattle.wasm_rules.specs.IndexSpaces.{index_spaces}
 use Rattle.wasm_module_validity.specs.Modules.{IsValidModule, IsValidUpToBodies}
 use Rattle.wasm_grouped_list.specs.Elements.{numbers_from}
 use Rattle.wasm_validator_type_list.specs.DefTypes.{types_of_list}
-use Rattle.wasm_distinct_type_laws.specs.Apart.{AreApart}
+use Rattle.wasm_validator_canonical.specs.Apart.{AreApart}
 use Rattle.wasm_validator_types.specs.Shown.{shown_of}
 use Rattle.wasm_validator_types.specs.declared.shown.Types as shown
 use Rattle.wasm_validator_core.specs.declared.error.Error.{Error}

@@ -4,12 +4,11 @@ ghost use Rattle.std.specs.List.{All};
 ghost use Rattle.std.specs.Option.{option_map};
 ghost use Rattle.wasm_parser.specs.Machine.{next_of};
 ghost use Rattle.wasm_parser.specs.Places.{starts_at, ends_at, input_end, refused_with, ReadsInput};
-ghost use Rattle.wasm_parser.specs.Seen.{seen, state};
+ghost use Rattle.wasm_parser.specs.Seen.{seen, state, body_reader};
 ghost use Rattle.wasm_validator_sections.specs.SectionsTold.{StandsBetween};
 ghost use Rattle.wasm_validator_types.specs.Shown.{shown_of, HoldsIds};
 ghost use Rattle.wasm_validator_modules.specs.Standing.{Leaves};
 ghost use Rattle.wasm_validator_func.specs.Functions.{Decides, StandsInOrFirst};
-ghost use Rattle.wasm_parser.specs.Seen.{body_reader};
 ghost use Rattle.wasm_validator_modules.specs.States.{after_piece, handed, left_by, IsSection};
 ghost use Rattle.wasm_validator_modules.specs.Payloads.{ShowsModule, HoldsIdsAtEnd, IsFunction, IsKept, IsGivenIn, kept_behind, latest_of, bodies_given, bodies_seen, pending_seen, EndsBy, EachEndsBy, AllEndBy, GivenEndBy, StandsBy, IsBodyOfIts, TellsFormat, Validates};
 ghost use Rattle.wasm_validator_modules.specs.Verdict.{DecidesModule, DecidesAlone, EndsModule, StopsModule};
@@ -19,8 +18,8 @@ use std::alloc::{AllocError, Allocator, Global};
 use wasm_parser::{FunctionBody, ParseAll, Parser, Payload};
 use wasm_readers::WasmFeatures;
 use wasm_validator_core::Error;
+use wasm_validator_core_resources::ValidatorResources;
 use wasm_validator_func::{FuncToValidate, FuncValidatorAllocations};
-use wasm_validator_resources::ValidatorResources;
 use wasm_validator_types::{Types, ValidatorId};
 
 /// A function whose body is to be validated.

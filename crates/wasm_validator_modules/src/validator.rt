@@ -7,7 +7,7 @@ ghost use Rattle.wasm_rules.specs.FeatureFlags.{features_of};
 ghost use Rattle.wasm_readers.specs.SectionsSeen.{count_of, bytes_of, section_start, section_end};
 ghost use Rattle.wasm_parser.specs.Seen.{body_of, body_reader};
 ghost use Rattle.wasm_validator_core.specs.Answers.{TypesSoFar};
-ghost use Rattle.wasm_validator_module_state.specs.declared.code_state.TheConstants.{MAX_FUNCTION_SIZE};
+ghost use Rattle.wasm_validator_sections.specs.declared.code_state.TheConstants.{MAX_FUNCTION_SIZE};
 ghost use Rattle.wasm_validator_type_list.specs.Interned.{AreOnce};
 ghost use Rattle.wasm_validator_type_list.specs.Listing.{Listing, committed};
 ghost use Rattle.wasm_readers_types.specs.declared.types.SubType.{SubType};
@@ -27,20 +27,19 @@ use std::marker::Model;
 use std::mem;
 use std::ops::Range;
 use std::rc::Rc;
-use wasm_distinct_type_laws::types_are_apart;
 use wasm_parser::{Encoding, FunctionBody};
 use wasm_readers::{
     Data, Element, Export, Fault, Global as GlobalItem, Import, MemoryType, OutOfOrder, RecGroup,
     Refusal, Rule, SectionLimited, Table, TagType, WasmFeatures,
 };
-use wasm_validator_canonical::needs_type_canonicalization;
+use wasm_validator_canonical::{needs_type_canonicalization, types_are_apart};
 use wasm_validator_core::{Error, Module, check_data_count};
+use wasm_validator_core_resources::ValidatorResources;
 use wasm_validator_func::FuncToValidate;
-use wasm_validator_module_state::{CodeState, Constants, ModuleState, tells_types_apart};
-use wasm_validator_resources::ValidatorResources;
 use wasm_validator_sections::{
-    add_functions, add_imports, add_memories, add_tags, add_types, check_data_segments, handed_out,
-    started, take_elements, take_exports, take_globals, take_tables,
+    CodeState, Constants, ModuleState, add_functions, add_imports, add_memories, add_tags,
+    add_types, check_data_segments, handed_out, started, take_elements, take_exports, take_globals,
+    take_tables, tells_types_apart,
 };
 use wasm_validator_types::{IndexSpaces, TypeList, Types, TypesRef, ValidatorId};
 

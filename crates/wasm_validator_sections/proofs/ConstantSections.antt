@@ -16,14 +16,14 @@ use Rattle.wasm_validator_types.specs.Spaces.{Spaces}
 use Rattle.wasm_validator_core.specs.Answers.{TypesSoFar, Adds}
 use Rattle.wasm_validator_core.specs.declared.error.Error.{Error}
 use Rattle.wasm_validator_core.specs.declared.limits.TheConstants.{MAX_GLOBALS, MAX_ELEMENT_SEGMENTS, MAX_DATA_SEGMENTS}
-use Rattle.wasm_operator_worlds.specs.IndexContexts.{id_of}
-use Rattle.wasm_operator_worlds.specs.ListContexts.{list_declares}
+use Rattle.wasm_validator_core_resources.specs.IndexContexts.{id_of}
+use Rattle.wasm_validator_core_resources.specs.ListContexts.{list_declares}
 use Rattle.wasm_module_validity.specs.Expressions.{expression_at}
 use Rattle.wasm_context_laws.specs.ListedTypes.{types_declare}
 use Rattle.wasm_context_laws.proofs.ListedTypes.{lists_declare_their_types}
-use Rattle.wasm_validator_module_state.specs.Machine as one_pass
-use Rattle.wasm_validator_module_state.specs.Sections.{read_section}
-use Rattle.wasm_validator_module_state.specs.Entries.{add_table_entry, add_global_entry, add_element, add_data}
+use Rattle.wasm_validator_sections.specs.ItemsMachine as one_pass
+use Rattle.wasm_validator_sections.specs.Sections.{read_section}
+use Rattle.wasm_validator_sections.specs.Entries.{add_table_entry, add_global_entry, add_element, add_data}
 use Rattle.wasm_module_list_laws.proofs.Tables.{tables_are_added}
 use Rattle.wasm_module_list_laws.proofs.Globals.{globals_are_added}
 use Rattle.wasm_module_list_laws.proofs.Elements.{elements_are_added}

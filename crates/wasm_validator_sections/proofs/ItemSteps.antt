@@ -12,7 +12,7 @@ use Rattle.wasm_validator_core.proofs.AddedGroups.{refusal}
 use Rattle.wasm_validator_core.specs.declared.error.Error.{Error}
 use Rattle.wasm_validator_core.specs.declared.error.Error.TheVariants.{Refused, DuplicateExport, OutOfMemory}
 use Rattle.wasm_validator_core.specs.Answers.{IsNowhere, Adds, AddsWhere}
-use Rattle.wasm_validator_module_state.specs.Sections.{read_each}
+use Rattle.wasm_validator_sections.specs.Sections.{read_each}
 
 -- what holds after items one after another held before them, where that is so of each
 pub read_back : {S V : Type 0} (encoded : List ℕ → Option (V × List ℕ)) (add : S → V → Option S) (P : S → Type 0) → ((s t : S) (v : V) → add s v ≡ Some t → P t → P s)

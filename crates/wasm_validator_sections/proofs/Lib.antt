@@ -1,3 +1,4 @@
+pub mod Singles
 pub mod ItemSteps
 pub mod SectionsTold
 pub mod ConstantSections

@@ -4,7 +4,7 @@ use Rattle.std.specs.List.{flat_map}
 use Rattle.wasm_rules.proofs.Tests.{then_some}
 use Rattle.wasm_spec.specs.Values.{items_at}
 use Rattle.wasm_referenced_functions.specs.References.{marked, names_or_none, names_in}
-use Rattle.wasm_validator_module_state.specs.Sections.{read_section}
+use Rattle.wasm_validator_sections.specs.Sections.{read_section}
 use Rattle.wasm_validator_sections.proofs.SectionEntries.{same_item, renames_nothing, limited, section_entries}
 
 -- a section that is accepted has items

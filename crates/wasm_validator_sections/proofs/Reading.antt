@@ -3,7 +3,7 @@ use Rattle.std.proofs.Common.{◌≡◌, refl, sym, ap, subst, ◌∙◌, ℕ, z
 use Rattle.std.specs.Option.{option_map, option_and_then}
 use Rattle.wasm_spec.specs.Values.{items_at}
 use Rattle.wasm_rules.specs.Sections.{each}
-use Rattle.wasm_validator_module_state.specs.Sections.{read_each}
+use Rattle.wasm_validator_sections.specs.Sections.{read_each}
 
 module _ {S V : Type 0} (encoded : List ℕ → Option (V × List ℕ)) (add : S → V → Option S) where
   -- the first item, and those behind it

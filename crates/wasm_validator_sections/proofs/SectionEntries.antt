@@ -3,7 +3,7 @@ use Rattle.std.proofs.Common.{◌≡◌, refl, sym, ap, ◌∙◌, ℕ, ◌+◌,
 use Rattle.std.specs.Option.{option_map, option_and_then}
 use Rattle.wasm_spec.specs.Values.{items_at}
 use Rattle.wasm_rules.specs.Sections.{each}
-use Rattle.wasm_validator_module_state.specs.Sections.{read_section}
+use Rattle.wasm_validator_sections.specs.Sections.{read_section}
 use Rattle.wasm_validator_sections.proofs.Reading.{read_then_added, items_renamed, as_many_as_counted}
 
 -- items behind so many, renamed and added, where all keep to the limit

@@ -17,8 +17,8 @@ use Rattle.wasm_validator_core.specs.Items.{is_startable, is_data_count, add_imp
 use Rattle.wasm_validator_core.specs.Answers.{TypesSoFar}
 use Rattle.wasm_context_laws.specs.ListedTypes.{types_declare}
 use Rattle.wasm_module_validity.specs.Expressions.{expression_at}
-use Rattle.wasm_validator_module_state.specs.Sections.{read_section}
-use Rattle.wasm_validator_module_state.specs.Entries.{add_table_entry, add_global_entry, add_element, add_data}
+use Rattle.wasm_validator_sections.specs.Sections.{read_section}
+use Rattle.wasm_validator_sections.specs.Entries.{add_table_entry, add_global_entry, add_element, add_data}
 
 abbrev pub type_items : WasmFeatures → ℕ → List ℕ → TypesSoFar × Spaces → Option (TypesSoFar × Spaces)
 type_items features count bytes p = read_section (rec_at written) (add_group features) (length p.1.types) MAX_TYPES count bytes p

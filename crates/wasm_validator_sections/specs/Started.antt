@@ -6,8 +6,8 @@ use Rattle.wasm_validator_core_resources.specs.ModuleContexts.{flagged_from}
 use Rattle.wasm_module_list_laws.specs.BodyContexts.{code_context}
 use Rattle.wasm_validator_types.specs.Spaces.{Spaces}
 use Rattle.wasm_validator_core.specs.Answers.{TypesSoFar}
-use Rattle.wasm_validator_module_state.specs.Bodies.{expected_bodies}
-use Rattle.wasm_validator_module_state.specs.declared.code_state.CodeState.{CodeState}
+use Rattle.wasm_validator_sections.specs.Bodies.{expected_bodies}
+use Rattle.wasm_validator_sections.specs.declared.code_state.CodeState.{CodeState}
 use Rattle.wasm_validator_sections.specs.Noted.{Noted}
 
 -- What bodies are checked in once the code section has started, and how many of them were taken.

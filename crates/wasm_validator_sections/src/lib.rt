@@ -1,12 +1,22 @@
-//! The sections of a module, whose items are added one by one to its lists, and what is told of one
-//! that is refused; and its code section, whose bodies are handed out.
+//! A module while its sections are read: their items are added one by one to its lists, and what is told
+//! of one that is refused; and its code section, whose bodies are handed out.
 #![tactic(auto)]
 
 mod code;
+pub mod code_state;
+mod maybe_owned;
 mod module_sections;
+pub mod module_state;
+mod single_items;
 
 pub use code::{handed_out, started};
+pub use code_state::{CodeState, MAX_FUNCTION_SIZE};
+pub use maybe_owned::MaybeOwned;
 pub use module_sections::{
     add_functions, add_imports, add_memories, add_tags, add_types, check_data_segments,
     take_elements, take_exports, take_globals, take_tables,
+};
+pub use module_state::ModuleState;
+pub use wasm_validator_items::{
+    Constants, add_data_segments, add_elements, add_globals, add_tables, tells_types_apart,
 };

@@ -4,8 +4,7 @@ ghost use Rattle.std.specs.Prelude.{◌≡◌, OnOk, IfErr, IsTrue};
 ghost use Rattle.wasm_rules.specs.FeatureFlags.{features_of};
 ghost use Rattle.wasm_readers.specs.SectionsSeen.{count_of, bytes_of, section_start, section_end};
 ghost use Rattle.wasm_referenced_functions.specs.References.{names_of_tables, names_of_globals, names_of_exports, names_of_elements};
-ghost use Rattle.wasm_validator_sections.specs.Noted.{naming};
-ghost use Rattle.wasm_validator_sections.specs.Noted.{noted_of};
+ghost use Rattle.wasm_validator_sections.specs.Noted.{naming, noted_of};
 ghost use Rattle.wasm_validator_type_list.specs.DefTypes.{types_of_list};
 ghost use Rattle.wasm_validator_canonical.specs.Groups.{AreValid};
 ghost use Rattle.wasm_validator_core.specs.Answers.{Adds, AddsWhere, HasValidTypes};
@@ -14,6 +13,7 @@ ghost use Rattle.wasm_validator_core_resources.specs.ById.{AreFirstByIds};
 ghost use Rattle.wasm_validator_sections.specs.Machine.{type_items, import_items, function_items, table_items, memory_items, tag_items, global_items, export_items, element_items, data_items};
 ghost use Rattle.wasm_validator_sections.specs.SectionsTold.{OfContent, StandsBetween, TellsTypes, TellsImports, TellsFunctions, TellsTables, TellsMemories, TellsTags, TellsGlobals, TellsExports, TellsElements, TellsData};
 
+use crate::{Constants, ModuleState, tells_types_apart};
 use std::alloc::Allocator;
 use wasm_readers::{
     Counted, Data, Element, Export, Global, Import, MemoryType, RecGroup, SectionLimited, Table,
@@ -24,7 +24,6 @@ use wasm_validator_core::{
     Error, MAX_DATA_SEGMENTS, MAX_ELEMENT_SEGMENTS, MAX_EXPORTS, MAX_FUNCTIONS, MAX_GLOBALS,
     MAX_IMPORTS, MAX_TAGS, MAX_TYPES, Module, check_max,
 };
-use wasm_validator_module_state::{Constants, ModuleState, tells_types_apart};
 use wasm_validator_types::{IndexSpaces, TypeList};
 
 /// Adds the types of a type section.
@@ -152,7 +151,7 @@ fn add_tables<'a, A: Allocator + Copy>(
     )?;
     tells_types_apart(list);
     constants.update(list)?;
-    wasm_validator_module_state::add_tables(
+    crate::add_tables(
         features,
         list,
         &constants.types,
@@ -248,7 +247,7 @@ fn add_globals<'a, A: Allocator + Copy>(
     )?;
     tells_types_apart(list);
     constants.update(list)?;
-    wasm_validator_module_state::add_globals(
+    crate::add_globals(
         features,
         list,
         &constants.types,
@@ -286,7 +285,7 @@ fn add_elements<'a, A: Allocator + Copy>(
     )?;
     tells_types_apart(list);
     constants.update(list)?;
-    wasm_validator_module_state::add_elements(
+    crate::add_elements(
         features,
         list,
         &constants.types,
@@ -353,7 +352,7 @@ pub fn check_data_segments<'a, A: Allocator + Copy>(
     )?;
     tells_types_apart(list);
     constants.update(list)?;
-    wasm_validator_module_state::add_data_segments(
+    crate::add_data_segments(
         features,
         list,
         &constants.types,

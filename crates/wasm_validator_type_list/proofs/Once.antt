@@ -11,7 +11,7 @@ use Rattle.wasm_grouped_list.specs.Groups.{all_in, first_of}
 use Rattle.wasm_validator_type_list.specs.Listable.{IsListable, AreListable}
 use Rattle.wasm_validator_type_list.specs.DefTypes.{listed_sub, listed_group, def_types, tree_behind, IsTreeOfOne, StandFor}
 use Rattle.wasm_validator_type_list.specs.Listing.{Listing}
-use Rattle.wasm_group_table.specs.Places.{IsNew}
+use Rattle.wasm_grouped_list.specs.Places.{IsNew}
 use Rattle.wasm_validator_type_list.specs.Interned.{AreOnce, InternsTypes}
 use Rattle.wasm_grouped_list.proofs.Flat.{all_in-push, first_of-stays, first_of-all}
 use Rattle.wasm_grouped_list.proofs.Places.{get-left, get-right, get-push, get-append, split-at}

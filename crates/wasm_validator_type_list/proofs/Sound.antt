@@ -16,14 +16,14 @@ use Rattle.wasm_grouped_list.specs.Spans.{span}
 use Rattle.wasm_validator_type_list.specs.Lookups.{leads_to, IsSupertypeAt}
 use Rattle.wasm_validator_type_list.proofs.DefTypes.{first_of-within}
 use Rattle.wasm_validator_type_list.proofs.Lookups.{supertype_listed}
-use Rattle.std.proofs.lemmas.Option.{none-some, MatchOption-at_some, MatchOption-at_none}
+use Rattle.std.proofs.lemmas.Option.{none-some, MatchOption-at_some, MatchOption-at_none, slice_get-get_or}
 use Rattle.wasm_readers_types.specs.declared.indices.TheConstants.{MAX_IDS}
 use Rattle.wasm_readers_types.specs.declared.types.SubType.{SubType}
 use Rattle.wasm_validator_type_list.specs.declared.type_list.TypeList.TheInside.{Inside}
 use Rattle.wasm_grouped_list.specs.Groups.{all_in, first_of, IsInGroup}
 use Rattle.wasm_validator_type_list.specs.Listing.{Listing, no_groups, types_in, committed, with_depths}
 use Rattle.wasm_validator_type_list.specs.Listable.{IsListable}
-use Rattle.wasm_group_table.specs.Places.{IsNew, IsPlaceOf}
+use Rattle.wasm_grouped_list.specs.Places.{IsNew, IsPlaceOf}
 use Rattle.wasm_ancestor_lists.specs.Supers.{extended_in}
 use Rattle.wasm_validator_type_list.proofs.Ancestors.{supers-push}
 use Rattle.wasm_validator_type_list.specs.Interned.{Interns, InternsTypes}
@@ -35,7 +35,6 @@ use Rattle.wasm_grouped_list.proofs.Flat.{all_in-push}
 use Rattle.wasm_validator_type_list.proofs.Once.{once-push, listable-push, types-known, types-new}
 use Rattle.wasm_validator_type_list.proofs.Depths.{found-in_order, in_order-none, depths-push, depth-put}
 use Rattle.wasm_validator_type_list.proofs.Few.{few_groups, few-more, few-new}
-use Rattle.std.proofs.lemmas.Option.{slice_get-get_or}
 
 -- what holds, of a refusal
 pub on_err : {X E P : Type 0} (r : Result X E) → P → OnErr r P

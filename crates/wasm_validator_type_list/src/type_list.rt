@@ -15,8 +15,7 @@ use std::hash::{BuildHasherDefault, FoldHasher};
 use std::marker::Model;
 use std::ops::{Index, Range};
 use wasm_ancestor_lists::AncestorLists;
-use wasm_group_table::GroupTable;
-use wasm_grouped_list::{RecGroupElements, RecGroupId, SnapshotList};
+use wasm_grouped_list::{GroupTable, RecGroupElements, RecGroupId, SnapshotList};
 use wasm_readers_errors::{Fault, Refusal};
 use wasm_readers_types::{CoreTypeId, PackedIndex, SubType, UnpackedIndex};
 

@@ -1,5 +1,5 @@
-use Rattle.wasm_numeric_operators.proofs.Opcodes.{entry_of}
-use Rattle.wasm_flat_operators.proofs.Opcodes.{access-table}
+use Rattle.wasm_flat_operators.proofs.NumericOpcodes.{entry_of}
+use Rattle.wasm_flat_operators.proofs.AccessOpcodes.{access-table}
 use Rattle.wasm_flat_operators.specs.Memories.{access_opcode, access_from}
 use Rattle.wasm_flat_operators.proofs.memories.access_from_opcode.Goals as goal
 

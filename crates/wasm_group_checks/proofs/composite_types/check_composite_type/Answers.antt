@@ -5,7 +5,7 @@ use Rattle.wasm_rules.specs.FeatureFlags.{features_of}
 use Rattle.wasm_readers_types.specs.SeenTypes.{comp_of}
 use Rattle.wasm_validator_type_list.specs.Declares.{declares}
 use Rattle.wasm_validator_type_list.specs.Grouped.{leads_in}
-use Rattle.wasm_value_checks.specs.Allowed.{allows_comp}
+use Rattle.wasm_module_resources.specs.Allowed.{allows_comp}
 use Rattle.wasm_group_checks.specs.Listed.{says}
 use Rattle.wasm_group_checks.specs.Rules.{CompositeRules}
 use Rattle.wasm_group_checks.proofs.Allowed.{comp_allowed}

@@ -1,7 +1,7 @@
 use Rattle.std.proofs.Common.{◌∙◌}
 use Rattle.wasm_operator_checks.proofs.Acting.{needed, refused_here, plainly}
 use Rattle.wasm_operator_checks.proofs.Typing.{nothing_typed, i32_typed, both_typed}
-use Rattle.wasm_operator_aggregates.proofs.Naming.{barred}
+use Rattle.wasm_operator_checks.proofs.Naming.{barred}
 use Rattle.wasm_operator_arrays.proofs.Elements.{element_typed, array_before}
 use Rattle.wasm_operator_arrays.proofs.accesses.array_set.Goals as goal
 

@@ -2,7 +2,7 @@ use Rattle.std.proofs.Common.{sym, ◌∙◌, ap}
 use Rattle.wasm_spec.specs.MatchingTests.{same_flag}
 use Rattle.wasm_operator_checks.proofs.Acting.{needed, refused_here, plainly, refused_later}
 use Rattle.wasm_operator_checks.proofs.Typing.{i32_typed}
-use Rattle.wasm_operator_aggregates.proofs.Naming.{barred}
+use Rattle.wasm_operator_checks.proofs.Naming.{barred}
 use Rattle.wasm_operator_arrays.proofs.Elements.{element_typed, packed_held, packed_missing, array_before}
 use Rattle.wasm_operator_arrays.proofs.accesses.get.Goals as goal
 

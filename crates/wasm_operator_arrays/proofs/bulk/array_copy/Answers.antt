@@ -1,7 +1,7 @@
 use Rattle.std.proofs.Common.{sym, ◌∙◌}
 use Rattle.wasm_operator_checks.proofs.Acting.{needed, refused_here, refused_later, plainly}
 use Rattle.wasm_operator_checks.proofs.Typing.{nothing_typed, two_i32s_typed}
-use Rattle.wasm_operator_aggregates.proofs.Naming.{barred}
+use Rattle.wasm_operator_checks.proofs.Naming.{barred}
 use Rattle.wasm_operator_arrays.proofs.Elements.{storable_held, storable_missing, second_barred, array_before, i32_before}
 use Rattle.wasm_operator_arrays.proofs.bulk.array_copy.Goals as goal
 

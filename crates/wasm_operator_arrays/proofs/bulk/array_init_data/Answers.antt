@@ -4,7 +4,7 @@ use Rattle.wasm_readers_types.specs.declared.indices.UnpackedIndex.{UnpackedInde
 use Rattle.wasm_operator_steps.specs.Machine.{same_number}
 use Rattle.wasm_operator_checks.proofs.Acting.{needed, refused_here, plainly, refused_later}
 use Rattle.wasm_operator_checks.proofs.Typing.{nothing_typed, two_i32s_typed, data_held}
-use Rattle.wasm_operator_aggregates.proofs.Naming.{barred}
+use Rattle.wasm_operator_checks.proofs.Naming.{barred}
 use Rattle.wasm_operator_arrays.proofs.Elements.{number_held, array_before, i32_before}
 use Rattle.wasm_operator_arrays.proofs.bulk.array_init_data.Goals as goal
 

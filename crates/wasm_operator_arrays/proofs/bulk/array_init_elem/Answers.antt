@@ -2,7 +2,7 @@ use Rattle.std.proofs.Common.{sym, ◌∙◌, ap}
 use Rattle.wasm_operator_arrays.specs.Segments.{segment_matches}
 use Rattle.wasm_operator_checks.proofs.Acting.{needed, refused_here, plainly, refused_later}
 use Rattle.wasm_operator_checks.proofs.Typing.{nothing_typed, two_i32s_typed}
-use Rattle.wasm_operator_aggregates.proofs.Naming.{barred}
+use Rattle.wasm_operator_checks.proofs.Naming.{barred}
 use Rattle.wasm_operator_arrays.proofs.Elements.{segment_held, array_before, i32_before}
 use Rattle.wasm_operator_arrays.proofs.bulk.array_init_elem.Goals as goal
 

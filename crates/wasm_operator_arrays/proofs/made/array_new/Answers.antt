@@ -1,7 +1,7 @@
 use Rattle.std.proofs.Common.{◌∙◌}
 use Rattle.wasm_operator_checks.proofs.Acting.{needed, refused_takes, plainly}
 use Rattle.wasm_operator_checks.proofs.Typing.{i32_typed, joined_typed, first_untyped}
-use Rattle.wasm_operator_aggregates.proofs.Naming.{new_typed, barred}
+use Rattle.wasm_operator_checks.proofs.Naming.{new_typed, barred}
 use Rattle.wasm_operator_arrays.proofs.Elements.{element_typed, element_untyped}
 use Rattle.wasm_operator_arrays.proofs.made.array_new.Goals as goal
 

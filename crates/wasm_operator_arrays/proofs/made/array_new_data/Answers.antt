@@ -4,7 +4,7 @@ use Rattle.wasm_readers_types.specs.declared.indices.UnpackedIndex.{UnpackedInde
 use Rattle.wasm_operator_steps.specs.Machine.{same_number}
 use Rattle.wasm_operator_checks.proofs.Acting.{needed, refused_here, refused_later, plainly}
 use Rattle.wasm_operator_checks.proofs.Typing.{two_i32s_typed, data_held}
-use Rattle.wasm_operator_aggregates.proofs.Naming.{new_typed, barred}
+use Rattle.wasm_operator_checks.proofs.Naming.{new_typed, barred}
 use Rattle.wasm_operator_arrays.proofs.Elements.{number_held, number_missing}
 use Rattle.wasm_operator_arrays.proofs.made.array_new_data.Goals as goal
 

@@ -2,7 +2,7 @@ use Rattle.std.proofs.Common.{sym, ◌∙◌, ap}
 use Rattle.wasm_operator_steps.specs.Meanings.{has_default}
 use Rattle.wasm_operator_checks.proofs.Acting.{needed, refused_here, plainly, refused_later}
 use Rattle.wasm_operator_checks.proofs.Typing.{i32_typed}
-use Rattle.wasm_operator_aggregates.proofs.Naming.{new_typed, barred}
+use Rattle.wasm_operator_checks.proofs.Naming.{new_typed, barred}
 use Rattle.wasm_operator_arrays.proofs.Elements.{default_held, default_missing}
 use Rattle.wasm_operator_arrays.proofs.made.array_new_default.Goals as goal
 

@@ -2,7 +2,7 @@ use Rattle.std.proofs.Common.{sym, ◌∙◌, ap}
 use Rattle.wasm_operator_arrays.specs.Segments.{segment_matches}
 use Rattle.wasm_operator_checks.proofs.Acting.{needed, refused_here, refused_later, plainly}
 use Rattle.wasm_operator_checks.proofs.Typing.{two_i32s_typed}
-use Rattle.wasm_operator_aggregates.proofs.Naming.{new_typed, barred}
+use Rattle.wasm_operator_checks.proofs.Naming.{new_typed, barred}
 use Rattle.wasm_operator_arrays.proofs.Elements.{segment_held, segment_missing}
 use Rattle.wasm_operator_arrays.proofs.made.array_new_elem.Goals as goal
 

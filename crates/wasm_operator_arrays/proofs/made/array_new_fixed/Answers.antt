@@ -1,6 +1,6 @@
 use Rattle.std.proofs.Common.{◌∙◌}
 use Rattle.wasm_operator_checks.proofs.Acting.{needed, refused_takes, plainly}
-use Rattle.wasm_operator_aggregates.proofs.Naming.{new_typed, barred}
+use Rattle.wasm_operator_checks.proofs.Naming.{new_typed, barred}
 use Rattle.wasm_operator_arrays.proofs.Elements.{repeated_typed, repeated_untyped}
 use Rattle.wasm_operator_arrays.proofs.made.array_new_fixed.Goals as goal
 

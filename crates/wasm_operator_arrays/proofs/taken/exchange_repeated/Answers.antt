@@ -1,5 +1,5 @@
 use Rattle.std.proofs.Common.{[], ◌∷◌, ◌∙◌, ap}
-use Rattle.wasm_type_words.specs.Seen.{val_in}
+use Rattle.wasm_operator_stacks.specs.SeenTypeWords.{val_in}
 use Rattle.wasm_operator_steps.specs.Machine.{push_operand}
 use Rattle.wasm_operator_steps.specs.Meanings.{copies}
 use Rattle.wasm_module_resources.specs.Answers.{world}

@@ -1,5 +1,5 @@
 use Rattle.std.proofs.Common.{refl}
-use Rattle.wasm_type_words.specs.Seen.{val_in}
+use Rattle.wasm_operator_stacks.specs.SeenTypeWords.{val_in}
 use Rattle.wasm_module_resources.specs.Answers.{world}
 use Rattle.wasm_operator_stacks.specs.Seen.{state_of, below}
 use Rattle.wasm_operator_checks.specs.Steps.{Took}

@@ -1,5 +1,5 @@
 use Rattle.std.proofs.Common.{refl, [], ◌∷◌, ◌++◌, sym, ◌∙◌, ap}
-use Rattle.wasm_type_words.specs.Seen.{val_in}
+use Rattle.wasm_operator_stacks.specs.SeenTypeWords.{val_in}
 use Rattle.wasm_operator_steps.specs.Machine.{push_operand, push_vals}
 use Rattle.wasm_operator_steps.proofs.TakenInTurn.{push_vals-append}
 use Rattle.wasm_module_resources.specs.Answers.{world}

@@ -1,4 +1,4 @@
-use Rattle.wasm_type_words.specs.Seen.{val_in}
+use Rattle.wasm_operator_stacks.specs.SeenTypeWords.{val_in}
 use Rattle.wasm_module_resources.specs.Answers.{world}
 use Rattle.wasm_operator_stacks.specs.Seen.{state_of, below}
 use Rattle.wasm_operator_fast.proofs.Peeking.{three_there}

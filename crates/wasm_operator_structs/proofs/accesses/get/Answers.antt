@@ -1,7 +1,7 @@
 use Rattle.std.proofs.Common.{sym, ◌∙◌, ap}
 use Rattle.wasm_spec.specs.MatchingTests.{same_flag}
 use Rattle.wasm_operator_checks.proofs.Acting.{needed, refused_here, refused_later, plainly}
-use Rattle.wasm_operator_aggregates.proofs.Naming.{nullable_typed}
+use Rattle.wasm_operator_checks.proofs.Naming.{nullable_typed}
 use Rattle.wasm_operator_structs.proofs.Structures.{field_typed, packed_held}
 use Rattle.wasm_operator_structs.proofs.accesses.get.Goals as goal
 

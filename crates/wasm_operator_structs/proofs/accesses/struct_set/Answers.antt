@@ -1,7 +1,7 @@
 use Rattle.std.proofs.Common.{◌∙◌}
 use Rattle.wasm_operator_checks.proofs.Acting.{needed, refused_here, refused_later, plainly}
 use Rattle.wasm_operator_checks.proofs.Typing.{nothing_typed, joined_typed}
-use Rattle.wasm_operator_aggregates.proofs.Naming.{nullable_typed}
+use Rattle.wasm_operator_checks.proofs.Naming.{nullable_typed}
 use Rattle.wasm_operator_structs.proofs.Structures.{field_typed, mutable_held}
 use Rattle.wasm_operator_structs.proofs.accesses.struct_set.Goals as goal
 

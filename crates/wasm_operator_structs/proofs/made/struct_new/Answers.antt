@@ -1,5 +1,5 @@
 use Rattle.wasm_operator_checks.proofs.Acting.{needed, refused_here, refused_later, plainly}
-use Rattle.wasm_operator_aggregates.proofs.Naming.{new_typed}
+use Rattle.wasm_operator_checks.proofs.Naming.{new_typed}
 use Rattle.wasm_operator_structs.proofs.Structures.{fields_typed, undescribed_held}
 use Rattle.wasm_operator_structs.proofs.made.struct_new.Goals as goal
 

@@ -1,7 +1,7 @@
 use Rattle.std.proofs.Common.{sym, ◌∙◌}
 use Rattle.wasm_operator_checks.proofs.Acting.{needed, refused_here, refused_later, plainly}
 use Rattle.wasm_operator_checks.proofs.Typing.{nothing_typed}
-use Rattle.wasm_operator_aggregates.proofs.Naming.{new_typed}
+use Rattle.wasm_operator_checks.proofs.Naming.{new_typed}
 use Rattle.wasm_operator_structs.proofs.Structures.{defaults_held, undescribed_held}
 use Rattle.wasm_operator_structs.proofs.made.struct_new_default.Goals as goal
 

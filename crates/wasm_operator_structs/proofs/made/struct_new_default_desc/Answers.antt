@@ -4,7 +4,7 @@ use Rattle.std.specs.Prelude.{Option, Some}
 use Rattle.wasm_readers_types.specs.SeenValues.{index_of}
 use Rattle.wasm_readers_types.specs.declared.indices.PackedIndex.{PackedIndex}
 use Rattle.wasm_operator_checks.proofs.Acting.{needed, plainly}
-use Rattle.wasm_operator_aggregates.proofs.Naming.{new_typed}
+use Rattle.wasm_operator_checks.proofs.Naming.{new_typed}
 use Rattle.wasm_operator_structs.proofs.Structures.{defaults_held, descriptor_typed}
 use Rattle.wasm_operator_structs.proofs.made.struct_new_default_desc.Goals as goal
 

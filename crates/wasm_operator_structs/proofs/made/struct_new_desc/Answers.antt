@@ -3,13 +3,13 @@ use Rattle.std.specs.Option.{option_map}
 use Rattle.std.specs.Prelude.{Option, Some}
 use Rattle.wasm_readers_types.specs.SeenValues.{index_of}
 use Rattle.wasm_readers_types.specs.declared.indices.PackedIndex.{PackedIndex}
-use Rattle.wasm_type_words.specs.Seen.{val_in}
+use Rattle.wasm_operator_stacks.specs.SeenTypeWords.{val_in}
 use Rattle.wasm_module_resources.specs.Answers.{world}
 use Rattle.wasm_operator_stacks.specs.Seen.{state_of, below}
 use Rattle.wasm_operator_checks.proofs.Acting.{needed, refused_later, refused_takes, plainly, took_refused}
 use Rattle.wasm_operator_checks.proofs.Typing.{both_typed, first_untyped, second_untyped}
 use Rattle.wasm_operator_checks.proofs.Taking.{top_missing}
-use Rattle.wasm_operator_aggregates.proofs.Naming.{new_typed, barred}
+use Rattle.wasm_operator_checks.proofs.Naming.{new_typed, barred}
 use Rattle.wasm_operator_structs.specs.Fields.{unpacked_types}
 use Rattle.wasm_operator_structs.proofs.Filling.{took_below}
 use Rattle.wasm_operator_structs.proofs.Structures.{fields_typed, fields_untyped, descriptor_typed, descriptor_untyped}

@@ -1,8 +1,8 @@
 use Rattle.std.proofs.Common.{refl}
 use Rattle.wasm_rules.specs.FeatureFlags.{features_of}
 use Rattle.wasm_binary_reader.specs.Reader.{rest}
-use Rattle.wasm_operator_worlds.specs.IndexContexts.{id_of}
-use Rattle.wasm_operator_worlds.specs.ListContexts.{list_declares}
+use Rattle.wasm_validator_core_resources.specs.IndexContexts.{id_of}
+use Rattle.wasm_validator_core_resources.specs.ListContexts.{list_declares}
 use Rattle.wasm_validator_core.specs.declared.error.Error.{Error}
 use Rattle.wasm_validator_core.specs.Errors.{lifted}
 use Rattle.wasm_constant_items.specs.Data.{behind_data}

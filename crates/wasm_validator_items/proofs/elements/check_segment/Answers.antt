@@ -3,8 +3,8 @@ use Rattle.wasm_rules.specs.FeatureFlags.{features_of}
 use Rattle.wasm_binary_reader.specs.Reader.{rest}
 use Rattle.wasm_spec.specs.Syntax.{Val}
 use Rattle.wasm_readers_types.specs.declared.indices.UnpackedIndex.{UnpackedIndex}
-use Rattle.wasm_operator_worlds.specs.IndexContexts.{id_of}
-use Rattle.wasm_operator_worlds.specs.ListContexts.{list_declares}
+use Rattle.wasm_validator_core_resources.specs.IndexContexts.{id_of}
+use Rattle.wasm_validator_core_resources.specs.ListContexts.{list_declares}
 use Rattle.wasm_validator_core.specs.declared.error.Error.{Error}
 use Rattle.wasm_validator_core.specs.Errors.{lifted}
 use Rattle.wasm_constant_items.specs.Elements.{typed_element_at}

@@ -3,8 +3,8 @@ use Rattle.wasm_rules.specs.FeatureFlags.{features_of}
 use Rattle.wasm_binary_reader.specs.Reader.{SameInput, position_in, rest}
 use Rattle.wasm_validator_type_list.specs.DefTypes.{types_of_list}
 use Rattle.wasm_validator_core.specs.Ready.{AreHeld}
-use Rattle.wasm_operator_worlds.specs.IndexContexts.{id_of}
-use Rattle.wasm_operator_worlds.specs.ListContexts.{list_declares}
+use Rattle.wasm_validator_core_resources.specs.IndexContexts.{id_of}
+use Rattle.wasm_validator_core_resources.specs.ListContexts.{list_declares}
 use Rattle.wasm_validator_items.specs.Machine.{table_step, items_from}
 use Rattle.wasm_validator_items.proofs.tables.add_each_table.Given as goal
 

@@ -4,8 +4,8 @@ use Rattle.wasm_binary_reader.specs.Reader.{input, original, position_in, rest}
 use Rattle.wasm_readers.specs.Tables.{head_of}
 use Rattle.wasm_readers_types.specs.SeenExterns.{table_of}
 use Rattle.wasm_validator_type_list.specs.DefTypes.{types_of_list}
-use Rattle.wasm_operator_worlds.specs.IndexContexts.{id_of}
-use Rattle.wasm_operator_worlds.specs.ListContexts.{list_declares}
+use Rattle.wasm_validator_core_resources.specs.IndexContexts.{id_of}
+use Rattle.wasm_validator_core_resources.specs.ListContexts.{list_declares}
 use Rattle.wasm_validator_core.specs.declared.error.Error.{Error}
 use Rattle.wasm_validator_core.specs.Items.{with_table}
 use Rattle.wasm_validator_items.specs.Answers.{Refuses, StandsBehind}

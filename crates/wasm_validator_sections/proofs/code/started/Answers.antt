@@ -4,8 +4,8 @@ use Rattle.wasm_validator_type_list.specs.DefTypes.{types_of_list}
 use Rattle.wasm_validator_types.specs.Spaces.{Spaces}
 use Rattle.wasm_validator_core_resources.specs.ById.{AreFirstByIds}
 use Rattle.wasm_validator_core_resources.specs.ModuleContexts.{exact_flags, flagged_from}
-use Rattle.wasm_operator_worlds.specs.ListContexts.{list_declares}
-use Rattle.wasm_operator_worlds.specs.IndexContexts.{id_of}
+use Rattle.wasm_validator_core_resources.specs.ListContexts.{list_declares}
+use Rattle.wasm_validator_core_resources.specs.IndexContexts.{id_of}
 use Rattle.wasm_context_laws.specs.ListedTypes.{types_declare}
 use Rattle.wasm_context_laws.proofs.ListedTypes.{lists_declare_their_types}
 use Rattle.wasm_module_list_laws.specs.BodyContexts.{code_context}

@@ -13,7 +13,7 @@ use Rattle.wasm_validator_types.specs.Spaces.{Spaces}
 use Rattle.wasm_validator_core.specs.declared.error.Error.{Error}
 use Rattle.wasm_validator_core.specs.declared.error.Error.TheVariants.{Refused}
 use Rattle.wasm_validator_core.specs.Errors.{lifted}
-use Rattle.wasm_validator_module_state.specs.Sections.{read_each}
+use Rattle.wasm_validator_sections.specs.Sections.{read_each}
 use Rattle.wasm_validator_sections.specs.Machine.{export_items}
 use Rattle.wasm_validator_sections.specs.SectionsTold.{TellsEach, TellsCount, IsNone, OfContent, TellsOfExport, TellsNamedAt}
 use Rattle.wasm_validator_sections.proofs.ItemSteps.{read_each-step, read_each-refused, adds_refused, adds_as, if_none}

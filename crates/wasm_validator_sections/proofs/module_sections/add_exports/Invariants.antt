@@ -4,7 +4,7 @@ use Rattle.wasm_rules.specs.FeatureFlags.{features_of}
 use Rattle.wasm_readers.specs.SectionsSeen.{count_of, bytes_of, section_start, section_end, items_left, items_rest, next_item_at, items_end}
 use Rattle.wasm_validator_type_list.specs.DefTypes.{types_of_list}
 use Rattle.wasm_validator_core.specs.Items.{add_export}
-use Rattle.wasm_validator_module_state.specs.Sections.{read_each}
+use Rattle.wasm_validator_sections.specs.Sections.{read_each}
 use Rattle.wasm_validator_sections.specs.SectionsTold.{IsNone, TellsOfExport}
 use Rattle.wasm_validator_sections.proofs.SectionsTold.{ToldOfAll}
 use Rattle.wasm_validator_sections.proofs.module_sections.add_exports.Given as goal

@@ -6,7 +6,7 @@ use Rattle.wasm_readers.specs.SectionsSeen.{count_of, bytes_of, section_start, s
 use Rattle.wasm_validator_type_list.specs.DefTypes.{types_of_list}
 use Rattle.wasm_validator_core.specs.Items.{add_import}
 use Rattle.wasm_validator_core.specs.Ready.{AreHeld}
-use Rattle.wasm_validator_module_state.specs.Sections.{read_each}
+use Rattle.wasm_validator_sections.specs.Sections.{read_each}
 use Rattle.wasm_validator_sections.specs.SectionsTold.{IsNone, tells_import}
 use Rattle.wasm_validator_sections.proofs.SectionsTold.{ToldOfAll}
 use Rattle.wasm_validator_sections.proofs.module_sections.add_imports.Given as goal

@@ -9,7 +9,7 @@ use Rattle.wasm_validator_type_list.specs.DefTypes.{types_of_list}
 use Rattle.wasm_validator_core.specs.declared.limits.TheConstants.{MAX_TYPES}
 use Rattle.wasm_validator_core.specs.Answers.{IsNowhere, HasValidTypes}
 use Rattle.wasm_validator_core.specs.Machine.{add_group}
-use Rattle.wasm_validator_module_state.specs.Sections.{read_each}
+use Rattle.wasm_validator_sections.specs.Sections.{read_each}
 use Rattle.wasm_validator_sections.specs.Machine.{type_items}
 use Rattle.wasm_validator_core.specs.declared.error.Error.{Error}
 use Rattle.wasm_validator_core.specs.declared.error.Error.TheVariants.{Refused}

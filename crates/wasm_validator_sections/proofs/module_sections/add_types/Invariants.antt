@@ -6,7 +6,7 @@ use Rattle.wasm_rules.specs.FeatureFlags.{features_of}
 use Rattle.wasm_validator_canonical.specs.Groups.{AreValid}
 use Rattle.wasm_validator_type_list.specs.DefTypes.{types_of_list}
 use Rattle.wasm_validator_core.specs.Machine.{add_group}
-use Rattle.wasm_validator_module_state.specs.Sections.{read_each}
+use Rattle.wasm_validator_sections.specs.Sections.{read_each}
 use Rattle.wasm_validator_core.specs.Ready.{IsOpenFor, AreIdsOf}
 use Rattle.wasm_validator_core.specs.Answers.{IsNowhere, HasValidTypes}
 use Rattle.wasm_validator_sections.specs.SectionsTold.{tells_group}

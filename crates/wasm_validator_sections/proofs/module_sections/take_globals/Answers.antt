@@ -4,7 +4,7 @@ use Rattle.wasm_readers.specs.Written.{written}
 use Rattle.wasm_module_validity.specs.Expressions.{expression_at}
 use Rattle.wasm_context_laws.specs.ListedTypes.{types_declare}
 use Rattle.wasm_validator_core.specs.declared.limits.TheConstants.{MAX_GLOBALS}
-use Rattle.wasm_validator_module_state.specs.Entries.{add_global_entry}
+use Rattle.wasm_validator_sections.specs.Entries.{add_global_entry}
 use Rattle.wasm_referenced_functions.specs.References.{global_names}
 use Rattle.wasm_readers.specs.SectionsSeen.{count_of, bytes_of}
 use Rattle.wasm_rules.specs.FeatureFlags.{features_of}

@@ -1,5 +1,5 @@
 use Rattle.std.proofs.Common.{Some, sym, subst}
-use Rattle.wasm_validator_module_state.specs.declared.module_state.ModuleState.{ModuleState}
+use Rattle.wasm_validator_sections.specs.declared.module_state.ModuleState.{ModuleState}
 use Rattle.wasm_validator_modules.specs.Ready.{AreIdsIn, AreValidIn, AreFirstIn}
 use Rattle.wasm_validator_modules.proofs.Sections.{open-ids, open-valid, open-first, kept-ids, kept-valid, kept-first}
 use Rattle.wasm_validator_modules.proofs.validator.Validator.data_count_section.Goals as goal

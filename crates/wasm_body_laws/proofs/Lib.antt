@@ -1,2 +1,0 @@
-pub mod SeenAlone
-pub mod Renamed

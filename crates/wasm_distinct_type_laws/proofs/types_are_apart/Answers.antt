@@ -1,6 +1,0 @@
-use Rattle.std.proofs.Common.{◌∙◌}
-use Rattle.wasm_distinct_type_laws.proofs.Apart.{listed_types_are_apart}
-use Rattle.wasm_distinct_type_laws.proofs.types_are_apart.Goals as goal
-
-pub returns : goal.returns
-returns g c = listed_types_are_apart c.args.types.now.is_canonical c.args.types.now.groups (λ e. c.is_canonical-is_canonical.ensures.once (c.is_canonical-is_canonical.ensures.mode ∙ e))

@@ -1,2 +1,0 @@
-pub mod Opcodes
-pub mod OpcodeSignatures

@@ -1,3 +1,0 @@
-pub mod Opcodes
-pub mod Numeric
-pub mod Signatures

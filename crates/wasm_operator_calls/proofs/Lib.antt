@@ -1,3 +1,0 @@
-pub mod Returned
-pub mod Halted
-pub mod Called

@@ -1,0 +1,10 @@
+use Rattle.std.proofs.Common.{map, ◌∙◌, ap}
+use Rattle.wasm_readers_types.specs.SeenValues.{val_of}
+use Rattle.wasm_operator_checks.proofs.Acting.{needed, plainly}
+use Rattle.wasm_operator_control.proofs.Called.{function_held, function_params, function_results}
+use Rattle.wasm_operator_control.proofs.calls.call.Goals as goal
+
+pub returns-in-Ok-clause-took : goal.returns-in-Ok-clause-took
+returns-in-Ok-clause-took g c =
+    needed _ _ _ _ _ _ _ (function_held _ _ _ _ c.in-Ok.ensures.ok)
+    (plainly _ _ _ _ _ _ _ _ _ c.plain.ensures.took (function_params _ _ _ _ _ c.in-Ok.ensures.ok (ap (map val_of) c.params.ensures)) (function_results _ _ _ _ _ c.in-Ok.ensures.ok (c.listed.ensures ∙ ap (map val_of) c.results.ensures)))

@@ -1,0 +1,151 @@
+//! Operators on a table's elements and its size.
+
+ghost use Rattle.wasm_flat_operators.specs.declared.tables.TableOperator.TheVariants.{TableGet, TableSet, TableSize, TableGrow, TableFill};
+ghost use Rattle.wasm_operator_steps.specs.Shapes.{table_shape};
+ghost use Rattle.wasm_operator_stacks.specs.Seen.{Kept};
+ghost use Rattle.wasm_operator_checks.specs.Steps.{Performs};
+
+use crate::reach::table_reached;
+use std::alloc::Allocator;
+use wasm_module_resources::WasmModuleResources;
+use wasm_operator_checks::{
+    OperatorError, OperatorFault, OperatorRule, Takes, ValTypes, address, has, plain,
+};
+use wasm_operator_stacks::{Stacks, TypeWord};
+use wasm_readers_errors::WasmFeatures;
+
+/// `table.get`: takes an address, and gives an element (Core Specification 3.0, Validation, Table
+/// Instructions).
+#[tactic(auto, using(wasm_operator_checks::proofs::Acting::acts, wasm_operator_checks::proofs::Typing::types, crate::proofs::Tabled::tables))]
+pub fn table_get<A: Allocator, T: WasmModuleResources>(
+    stacks: &mut Stacks<A>,
+    resources: &T,
+    table: u32,
+) -> Result<(), OperatorError>
+    ensures took { Performs result (T.context resources.now) (table_shape (TableGet table))
+        stacks.old stacks.new }
+    ensures same { Kept stacks.old stacks.new }
+{
+    if !has(stacks, WasmFeatures::REFERENCE_TYPES) {
+        return Err(OperatorError::Refused(OperatorFault::new(OperatorRule::ReferenceTypes)));
+    }
+    match table_reached(stacks, resources, table) {
+        Ok(ty) => plain(
+            stacks,
+            resources,
+            Takes::One(address(ty.table64)),
+            ValTypes::One(TypeWord::reference(ty.element_type)),
+        ),
+        Err(fault) => Err(OperatorError::Refused(fault)),
+    }
+}
+
+/// `table.set`: takes an address, and an element on top (Core Specification 3.0, Validation, Table
+/// Instructions).
+#[tactic(auto, using(wasm_operator_checks::proofs::Acting::acts, wasm_operator_checks::proofs::Typing::types, crate::proofs::Tabled::tables))]
+pub fn table_set<A: Allocator, T: WasmModuleResources>(
+    stacks: &mut Stacks<A>,
+    resources: &T,
+    table: u32,
+) -> Result<(), OperatorError>
+    ensures took { Performs result (T.context resources.now) (table_shape (TableSet table))
+        stacks.old stacks.new }
+    ensures same { Kept stacks.old stacks.new }
+{
+    if !has(stacks, WasmFeatures::REFERENCE_TYPES) {
+        return Err(OperatorError::Refused(OperatorFault::new(OperatorRule::ReferenceTypes)));
+    }
+    match table_reached(stacks, resources, table) {
+        Ok(ty) => plain(
+            stacks,
+            resources,
+            Takes::Two(address(ty.table64), TypeWord::reference(ty.element_type)),
+            ValTypes::None,
+        ),
+        Err(fault) => Err(OperatorError::Refused(fault)),
+    }
+}
+
+/// `table.size`: gives a size, of the type of an address (Core Specification 3.0, Validation, Table
+/// Instructions).
+#[tactic(auto, using(wasm_operator_checks::proofs::Acting::acts, wasm_operator_checks::proofs::Typing::types, crate::proofs::Tabled::tables))]
+pub fn table_size<A: Allocator, T: WasmModuleResources>(
+    stacks: &mut Stacks<A>,
+    resources: &T,
+    table: u32,
+) -> Result<(), OperatorError>
+    ensures took { Performs result (T.context resources.now) (table_shape (TableSize table))
+        stacks.old stacks.new }
+    ensures same { Kept stacks.old stacks.new }
+{
+    if !has(stacks, WasmFeatures::REFERENCE_TYPES) {
+        return Err(OperatorError::Refused(OperatorFault::new(OperatorRule::ReferenceTypes)));
+    }
+    match table_reached(stacks, resources, table) {
+        Ok(ty) => plain(
+            stacks,
+            resources,
+            Takes::None,
+            ValTypes::One(address(ty.table64)),
+        ),
+        Err(fault) => Err(OperatorError::Refused(fault)),
+    }
+}
+
+/// `table.grow`: takes an element, and a number of elements on top, and gives the size from before
+/// (Core Specification 3.0, Validation, Table Instructions).
+#[tactic(auto, using(wasm_operator_checks::proofs::Acting::acts, wasm_operator_checks::proofs::Typing::types, crate::proofs::Tabled::tables))]
+pub fn table_grow<A: Allocator, T: WasmModuleResources>(
+    stacks: &mut Stacks<A>,
+    resources: &T,
+    table: u32,
+) -> Result<(), OperatorError>
+    ensures took { Performs result (T.context resources.now) (table_shape (TableGrow table))
+        stacks.old stacks.new }
+    ensures same { Kept stacks.old stacks.new }
+{
+    if !has(stacks, WasmFeatures::REFERENCE_TYPES) {
+        return Err(OperatorError::Refused(OperatorFault::new(OperatorRule::ReferenceTypes)));
+    }
+    match table_reached(stacks, resources, table) {
+        Ok(ty) => {
+            let address = address(ty.table64);
+            plain(
+                stacks,
+                resources,
+                Takes::Two(TypeWord::reference(ty.element_type), address),
+                ValTypes::One(address),
+            )
+        }
+        Err(fault) => Err(OperatorError::Refused(fault)),
+    }
+}
+
+/// `table.fill`: takes an address, an element, and a number of elements on top (Core Specification
+/// 3.0, Validation, Table Instructions).
+#[tactic(auto, using(wasm_operator_checks::proofs::Acting::acts, wasm_operator_checks::proofs::Typing::types, crate::proofs::Tabled::tables))]
+pub fn table_fill<A: Allocator, T: WasmModuleResources>(
+    stacks: &mut Stacks<A>,
+    resources: &T,
+    table: u32,
+) -> Result<(), OperatorError>
+    ensures took { Performs result (T.context resources.now) (table_shape (TableFill table))
+        stacks.old stacks.new }
+    ensures same { Kept stacks.old stacks.new }
+{
+    if !has(stacks, WasmFeatures::REFERENCE_TYPES) {
+        return Err(OperatorError::Refused(OperatorFault::new(OperatorRule::ReferenceTypes)));
+    }
+    match table_reached(stacks, resources, table) {
+        Ok(ty) => {
+            let address = address(ty.table64);
+            plain(
+                stacks,
+                resources,
+                Takes::Three(address, TypeWord::reference(ty.element_type), address),
+                ValTypes::None,
+            )
+        }
+        Err(fault) => Err(OperatorError::Refused(fault)),
+    }
+}

@@ -1,2 +1,0 @@
-pub mod ListContexts
-pub mod IndexContexts

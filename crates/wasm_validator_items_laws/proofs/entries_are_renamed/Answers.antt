@@ -1,6 +1,0 @@
-use Rattle.wasm_validator_items_laws.proofs.Renamed.{entries}
-use Rattle.wasm_validator_items_laws.proofs.entries_are_renamed.Goals as goal
-
--- src/lib.rt:17:1
-pub returns : goal.returns
-returns c = entries

@@ -1,0 +1,11 @@
+use Rattle.wasm_binary_reader.specs.Reader.{rest}
+use Rattle.wasm_rules.specs.FeatureFlags.{features_of}
+use Rattle.wasm_validator_sections.proofs.Singles.{data_checked}
+use Rattle.wasm_validator_sections.proofs.single_items.check_data.Goals as goal
+
+pub returns-clause-added : goal.returns-clause-added
+returns-clause-added g c =
+    let list = c.args.list.now in
+    let added = c.check_next_data in
+    data_checked (features_of c.args.features) list.is_canonical list.groups c.tells_types_apart.ensures.listable c.tells_types_apart.ensures.apart c.args.opened.now (rest c.args.reader.now)
+    added.result c.spaces-spaces.result.now (rest added.new.reader) c.spaces-spaces.ensures added.ensures.ok added.ensures.err
