@@ -1,7 +1,7 @@
 #!/usr/bin/env python3
-"""body_rows.py FOLDER: writes the rows of crates/wasm_body_rows/data.
+"""body_rows.py FOLDER: writes the rows of crates/rows_bodies/data.
 
-Each case is a function's body by its operators, over the context that crates/wasm_body_rows/src/sample.rt has too. FOLDER holds two
+Each case is a function's body by its operators, over the context that crates/rows_bodies/src/sample.rt has too. FOLDER holds two
 modules that aren't part of this repository: `wasmgen`, which assembles a module, and `oracle`, whose `WP().check(BYTES)` runs the Rust
 crate on it, all its features on. A body is put as the last one into a module with the context; the verdict and the offset, less
 where the body begins, are what the row wants. What the Rust crate says with its features on isn't asked where a case names
@@ -17,7 +17,7 @@ import oracle
 import wasmgen as W
 
 HERE = os.path.dirname(os.path.abspath(__file__))
-DATA = os.path.join(HERE, '..', 'crates', 'wasm_body_rows', 'data')
+DATA = os.path.join(HERE, '..', 'crates', 'rows_bodies', 'data')
 
 # ------------------------------------------------------------------------------------------------- the context
 TYPES = [

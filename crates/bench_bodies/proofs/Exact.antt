@@ -1,8 +1,8 @@
 -- All functions are exactly of their type.
 use Rattle.std.proofs.Common.{◌≡◌, ◌∙◌, refl, sym, ap, ℕ, zero, suc, true, false, List, [], ◌∷◌, map, Option, Some, None, slice_get}
 use Rattle.std.specs.Prelude.{is_some, IsSome}
-use Rattle.wasm_rules.specs.Attempts.{passes}
-use Rattle.wasm_rules.specs.Contexts.{is_exact}
+use Rattle.wasm_spec_rules.specs.Attempts.{passes}
+use Rattle.wasm_spec_rules.specs.Contexts.{is_exact}
 
 all_are_exact : (xs : List ℕ) (n : ℕ) → is_some (slice_get xs n) ≡ passes (λ b. b) (slice_get (map is_exact xs) n)
 all_are_exact [] n = refl

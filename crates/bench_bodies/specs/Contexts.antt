@@ -2,7 +2,7 @@
 -- Core Specification 3.0, Validation, Conventions (Contexts).
 use Rattle.std.specs.Prelude.{ℕ, [], ◌∷◌, List, map, None}
 use Rattle.wasm_spec.specs.Syntax.{Sub, Table, Memory, Global}
-use Rattle.wasm_rules.specs.Contexts.{Context, is_exact}
+use Rattle.wasm_spec_rules.specs.Contexts.{Context, is_exact}
 use Rattle.wasm_readers_types.specs.declared.indices.UnpackedIndex.{UnpackedIndex}
 use Rattle.wasm_readers_types.specs.declared.indices.UnpackedIndex.TheVariants.{Id}
 

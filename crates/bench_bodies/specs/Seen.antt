@@ -1,6 +1,6 @@
 -- The context that the module of the bench gives.
 use Rattle.std.specs.Prelude.{map}
-use Rattle.wasm_rules.specs.Contexts.{Context}
+use Rattle.wasm_spec_rules.specs.Contexts.{Context}
 use Rattle.wasm_readers_types.specs.SeenExterns.{table_of, memory_of, global_of}
 use Rattle.wasm_readers_types.specs.SeenTypes.{sub_of}
 use Rattle.wasm_readers_types.specs.declared.indices.UnpackedIndex.{UnpackedIndex}

@@ -11,17 +11,17 @@ ghost use Rattle.wasm_readers_types.specs.declared.indices.TheConstants.{MAX_IDS
 ghost use Rattle.wasm_readers_types.specs.declared.indices.UnpackedIndex.TheVariants.{Id};
 ghost use Rattle.wasm_readers_types.specs.SeenTypes.{sub_of};
 ghost use Rattle.wasm_readers_types.specs.SeenValues.{abstract_heap_of, heap_of, ref_of};
-ghost use Rattle.wasm_module_resources.specs.Answers.{world, same_index, written_index, IsWritten};
+ghost use Rattle.wasm_validator_resources.specs.Answers.{world, same_index, written_index, IsWritten};
 ghost use Rattle.bench_bodies.specs.Contexts.{only_id};
 
 use crate::heaps::{abstract_matches, abstract_top, same_flag};
 use std::alloc::Allocator;
-use wasm_module_resources::WasmModuleResources;
 use wasm_readers_errors::{Fault, Refusal};
 use wasm_readers_types::{
     AbstractHeapType, CoreTypeId, FuncType, GlobalType, HeapType, MemoryType, RefType, SubType,
     TableType, UnpackedIndex, ValType,
 };
+use wasm_validator_resources::WasmModuleResources;
 
 /// A module whose one type is a function's, with these functions, tables, memories and globals.
 #[derive(Drop)]

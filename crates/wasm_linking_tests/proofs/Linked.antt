@@ -11,10 +11,10 @@ use Rattle.wasm_readers_errors.specs.declared.features.TheConstants.WasmFeatures
 use Rattle.wasm_spec.specs.Syntax.{Sub}
 use Rattle.wasm_spec.specs.Features.{Features, canonical}
 use Rattle.wasm_spec.specs.Trees.{DefType, declared}
-use Rattle.wasm_rules.specs.FeatureFlags.{features_of}
-use Rattle.wasm_rules.specs.IndexSpaces.{index_spaces, imported, functions_in, signature, IsFunctionType}
+use Rattle.wasm_spec_rules.specs.FeatureFlags.{features_of}
+use Rattle.wasm_spec_rules.specs.IndexSpaces.{index_spaces, imported, functions_in, signature, IsFunctionType}
 use Rattle.wasm_validator_canonical.specs.Sections.{StandsFor}
-use Rattle.wasm_validator_core_laws.proofs.AllLists.{function_of_extern, all_imported}
+use Rattle.wasm_laws_core.proofs.AllLists.{function_of_extern, all_imported}
 use Rattle.wasm_validator_types.specs.Shown.{shown_of}
 use Rattle.wasm_validator_types.specs.declared.shown.Types as shown
 use Rattle.wasm_validator_core.specs.declared.error.Error.{Error}

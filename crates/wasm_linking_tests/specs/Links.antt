@@ -4,9 +4,9 @@ use Rattle.std.specs.Prelude.{ℕ, ◌≡◌, ◌<◌, List, length, slice_get, 
 use Rattle.wasm_readers_errors.specs.declared.features.TheConstants.WasmFeatures.{STANDARD}
 use Rattle.wasm_spec.specs.Features.{Features}
 use Rattle.wasm_spec.specs.Trees.{DefType}
-use Rattle.wasm_rules.specs.FeatureFlags.{features_of}
-use Rattle.wasm_rules.specs.IndexSpaces.{index_spaces}
-use Rattle.wasm_module_validity.specs.Modules.{IsValidModule}
+use Rattle.wasm_spec_rules.specs.FeatureFlags.{features_of}
+use Rattle.wasm_spec_rules.specs.IndexSpaces.{index_spaces}
+use Rattle.wasm_spec_validity.specs.Modules.{IsValidModule}
 use Rattle.wasm_validator_types.specs.Shown.{Shown}
 
 -- The bytes are a valid module, and the function with this index is there and has this type.

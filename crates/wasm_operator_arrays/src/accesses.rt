@@ -1,20 +1,20 @@
 //! Places of arrays that are read and written.
 
 ghost use Rattle.std.specs.Prelude.{◌≡◌};
-ghost use Rattle.wasm_flat_operators.specs.declared.arrays.ArrayOperator.TheVariants.{ArrayGet, ArrayGetS, ArrayGetU, ArraySet};
+ghost use Rattle.wasm_operators_plain.specs.declared.arrays.ArrayOperator.TheVariants.{ArrayGet, ArrayGetS, ArrayGetU, ArraySet};
 ghost use Rattle.wasm_operator_steps.specs.Shapes.{array_shape, item};
 ghost use Rattle.wasm_operator_stacks.specs.Seen.{Kept};
 ghost use Rattle.wasm_operator_checks.specs.Steps.{Performs};
 
 use crate::reached::{reach_elements, reach_mutable};
 use std::alloc::Allocator;
-use wasm_flat_operators::NumberType;
-use wasm_module_resources::WasmModuleResources;
 use wasm_operator_checks::{
     OperatorError, OperatorFault, OperatorRule, Takes, ValTypes, is_packed, nullable, plain,
     same_flag, unpack,
 };
 use wasm_operator_stacks::{Stacks, TypeWord};
+use wasm_operators_plain::NumberType;
+use wasm_validator_resources::WasmModuleResources;
 
 /// The rule that what an array holds is packed, or that it isn't.
 fn packed_rule(packed: bool) -> OperatorRule {

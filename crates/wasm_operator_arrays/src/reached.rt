@@ -7,11 +7,11 @@ ghost use Rattle.wasm_operator_checks.specs.Steps.{held};
 ghost use Rattle.wasm_operator_checks.specs.Declared.{element_in, Barred};
 
 use std::alloc::Allocator;
-use wasm_module_resources::WasmModuleResources;
 use wasm_operator_checks::{OperatorFault, OperatorRule, has, identity, reaches};
 use wasm_operator_stacks::Stacks;
 use wasm_readers_errors::WasmFeatures;
 use wasm_readers_types::{CompositeInnerType, FieldType, PackedIndex};
+use wasm_validator_resources::WasmModuleResources;
 
 /// What the places of arrays hold, and which array type they are of.
 #[derive(Clone, Copy)]

@@ -10,10 +10,10 @@ use crate::bulk::{array_copy, array_fill, array_init_data, array_init_elem};
 use crate::lengths::array_len;
 use crate::made::{array_new, array_new_data, array_new_default, array_new_elem, array_new_fixed};
 use std::alloc::Allocator;
-use wasm_flat_operators::ArrayOperator;
-use wasm_module_resources::WasmModuleResources;
 use wasm_operator_checks::OperatorError;
 use wasm_operator_stacks::Stacks;
+use wasm_operators_plain::ArrayOperator;
+use wasm_validator_resources::WasmModuleResources;
 
 /// An operator on arrays (Core Specification 3.0, Validation, Instructions, Aggregate
 /// Instructions).

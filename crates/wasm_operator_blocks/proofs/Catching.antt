@@ -2,17 +2,17 @@
 use Rattle.std.proofs.Common.{◌≡◌, ℕ, Bool, true, false, ◌&&◌, List, [], ◌∷◌, ◌++◌, refl, sym, ◌∙◌, ap}
 use Rattle.std.specs.Prelude.{Some, None}
 use Rattle.wasm_spec.specs.Syntax.{Val}
-use Rattle.wasm_rules.specs.Contexts.{Context}
+use Rattle.wasm_spec_rules.specs.Contexts.{Context}
 use Rattle.wasm_readers_types.specs.declared.indices.UnpackedIndex.{UnpackedIndex}
 use Rattle.wasm_operators.specs.SeenLists.{GivesFront}
 use Rattle.wasm_operators.specs.declared.control.Catch.{Catch}
 use Rattle.wasm_operators.specs.declared.control.Catch.TheVariants as catch
 use Rattle.wasm_operator_steps.specs.Actions.{OperandTypes, of_tag, params, label, joined, is_exception, each_matches}
-use Rattle.wasm_rules.specs.Attempts.{passes}
+use Rattle.wasm_spec_rules.specs.Attempts.{passes}
 use Rattle.wasm_operator_steps.specs.Matching.{matches_vals}
 use Rattle.wasm_operator_steps.specs.Meanings.{types_at, holds}
 use Rattle.wasm_operator_steps.specs.Shapes.{nothing, exception, catch_checks}
-use Rattle.wasm_module_resources.specs.Answers.{world}
+use Rattle.wasm_validator_resources.specs.Answers.{world}
 use Rattle.wasm_operator_stacks.specs.Seen.{state_of, around}
 use Rattle.wasm_operator_stacks.specs.declared.stacks.Stacks.{Stacks}
 use Rattle.wasm_operator_checks.specs.Steps.{typed, held}

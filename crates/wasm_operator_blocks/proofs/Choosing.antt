@@ -3,13 +3,13 @@ use Rattle.std.proofs.Common.{◌≡◌, Bool, true, false, List, [], ◌∷◌,
 use Rattle.std.specs.Prelude.{Some, None, if◌then◌else◌}
 use Rattle.wasm_spec.specs.Syntax.{AbstractHeap, Val, i32, map_val}
 use Rattle.wasm_spec.specs.ValueTypes.{allows_val}
-use Rattle.wasm_rules.specs.Contexts.{Context}
-use Rattle.wasm_rules.specs.FeatureFlags.{features_of}
+use Rattle.wasm_spec_rules.specs.Contexts.{Context}
+use Rattle.wasm_spec_rules.specs.FeatureFlags.{features_of}
 use Rattle.wasm_readers_types.specs.declared.indices.UnpackedIndex.{UnpackedIndex}
 use Rattle.wasm_operator_steps.specs.Actions.{Action, these, allows, need, take, choose}
 use Rattle.wasm_operator_steps.specs.Machine.{Operand, bottom, bottom_reference, open_reference, known, State, pop_any, pop_val, push_operand, chosen, same_number}
 use Rattle.wasm_operator_steps.specs.Shapes.{one}
-use Rattle.wasm_module_resources.specs.Answers.{world, written_index, val_in, val_resolved}
+use Rattle.wasm_validator_resources.specs.Answers.{world, written_index, val_in, val_resolved}
 use Rattle.wasm_operator_stacks.specs.Seen.{state_of}
 use Rattle.wasm_operator_stacks.specs.declared.stacks.Stacks.{Stacks}
 use Rattle.wasm_operator_checks.specs.Steps.{acted, typed, held}

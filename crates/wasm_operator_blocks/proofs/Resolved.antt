@@ -5,14 +5,14 @@ use Rattle.std.specs.Prelude.{Option, Some, None, if◌then◌else◌}
 use Rattle.wasm_spec.specs.Features.{Features}
 use Rattle.wasm_spec.specs.Syntax.{Sub, Heap, abstract_heap, concrete, exact, Val, i32, i64, f32, f64, v128, reference, map_heap, map_val}
 use Rattle.wasm_spec.specs.ValueTypes.{implies, allows_heap, allows_val}
-use Rattle.wasm_rules.specs.Contexts.{Context}
-use Rattle.wasm_rules.specs.FeatureFlags.{features_of}
+use Rattle.wasm_spec_rules.specs.Contexts.{Context}
+use Rattle.wasm_spec_rules.specs.FeatureFlags.{features_of}
 use Rattle.wasm_readers_types.specs.declared.indices.UnpackedIndex.{UnpackedIndex}
 use Rattle.wasm_operators.specs.Control.{Block, empty_block, value_block, func_block}
-use Rattle.wasm_rules.specs.Attempts.{◌>>=◌, guard, passes}
-use Rattle.wasm_rules.specs.Signatures.{Signature, signature_of}
+use Rattle.wasm_spec_rules.specs.Attempts.{◌>>=◌, guard, passes}
+use Rattle.wasm_spec_rules.specs.Signatures.{Signature, signature_of}
 use Rattle.wasm_operator_steps.specs.Meanings.{resolve_block}
-use Rattle.wasm_module_resources.specs.Answers.{sub_in, written_index, val_in, val_resolved}
+use Rattle.wasm_validator_resources.specs.Answers.{sub_in, written_index, val_in, val_resolved}
 use Rattle.wasm_operator_stacks.specs.declared.stacks.Stacks.{Stacks}
 use Rattle.wasm_operator_control.specs.Callees.{type_in}
 use Rattle.wasm_operator_blocks.specs.Known.{taken_by, block_known}

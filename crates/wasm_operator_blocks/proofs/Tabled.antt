@@ -4,15 +4,15 @@ use Rattle.std.specs.Prelude.{Option, Some, None}
 use Rattle.std.proofs.lemmas.Bool.Decides.{nat_tests}
 use Rattle.std.proofs.lemmas.List.{length-map}
 use Rattle.wasm_spec.specs.Syntax.{Val, i32}
-use Rattle.wasm_rules.specs.Contexts.{Context}
+use Rattle.wasm_spec_rules.specs.Contexts.{Context}
 use Rattle.wasm_readers_types.specs.declared.indices.UnpackedIndex.{UnpackedIndex}
 use Rattle.wasm_operators.specs.SeenLists.{GivesFront}
 use Rattle.wasm_operator_steps.specs.Actions.{label, Action, take, branch_to_one_of}
-use Rattle.wasm_rules.specs.Attempts.{◌>>=◌, guard}
+use Rattle.wasm_spec_rules.specs.Attempts.{◌>>=◌, guard}
 use Rattle.wasm_operator_steps.specs.Machine.{State, become_unreachable, pop_val, pop_vals}
 use Rattle.wasm_operator_steps.specs.Meanings.{label_at, labels_fit, run}
 use Rattle.wasm_operator_steps.specs.Shapes.{one}
-use Rattle.wasm_module_resources.specs.Answers.{world}
+use Rattle.wasm_validator_resources.specs.Answers.{world}
 use Rattle.wasm_operator_stacks.specs.Seen.{state_of, around, below}
 use Rattle.wasm_operator_stacks.specs.declared.stacks.Stacks.{Stacks}
 use Rattle.wasm_operator_checks.specs.Steps.{acted, typed}

@@ -3,14 +3,14 @@ use Rattle.std.proofs.Common.{◌≡◌, ℕ, Bool, true, false, ◌==◌, List,
 use Rattle.std.specs.Option.{option_map}
 use Rattle.std.specs.Prelude.{Option, Some, None, slice_get}
 use Rattle.wasm_spec.specs.Syntax.{Val, Sub, abstract_heap, exn_heap, reference}
-use Rattle.wasm_rules.specs.Contexts.{Context}
+use Rattle.wasm_spec_rules.specs.Contexts.{Context}
 use Rattle.wasm_readers_types.specs.declared.indices.UnpackedIndex.{UnpackedIndex}
 use Rattle.wasm_operator_steps.specs.Actions.{of_tag, params, is_exception}
-use Rattle.wasm_rules.specs.Attempts.{◌>>=◌, guard, passes}
-use Rattle.wasm_rules.specs.Signatures.{Signature, signature_of}
+use Rattle.wasm_spec_rules.specs.Attempts.{◌>>=◌, guard, passes}
+use Rattle.wasm_spec_rules.specs.Signatures.{Signature, signature_of}
 use Rattle.wasm_operator_steps.specs.Meanings.{signature_at}
 use Rattle.wasm_operator_steps.specs.Shapes.{one, reference_to}
-use Rattle.wasm_module_resources.specs.Answers.{world, sub_in, tag_in}
+use Rattle.wasm_validator_resources.specs.Answers.{world, sub_in, tag_in}
 use Rattle.wasm_operator_stacks.specs.Seen.{around}
 use Rattle.wasm_operator_stacks.specs.declared.stacks.Stacks.{Stacks}
 use Rattle.wasm_operator_checks.specs.Steps.{typed, held}

@@ -5,7 +5,7 @@ use Rattle.std.specs.Prelude.{Option, Some, None, zero, suc, Result}
 use Rattle.wasm_spec.specs.BinaryTypes.{val_at}
 use Rattle.wasm_spec.specs.Syntax.{Heap, abstract_heap, concrete, exact, Val, i32, i64, f32, f64, v128, reference, map_heap, map_val}
 use Rattle.wasm_spec.proofs.Renaming.{val-renames}
-use Rattle.wasm_rules.specs.Contexts.{Context}
+use Rattle.wasm_spec_rules.specs.Contexts.{Context}
 use Rattle.wasm_readers.specs.Written.{written}
 use Rattle.wasm_readers_types.specs.declared.indices.UnpackedIndex.{UnpackedIndex}
 use Rattle.wasm_operators.specs.Control.{select_of}
@@ -13,7 +13,7 @@ use Rattle.wasm_operators.specs.SeenLists.{begun_by, first_items, GivesFront}
 use Rattle.wasm_operator_steps.specs.Machine.{State}
 use Rattle.wasm_operator_steps.specs.Shapes.{parametric_shape}
 use Rattle.wasm_operator_steps.specs.Steps.{actions_of}
-use Rattle.wasm_module_resources.specs.Answers.{written_index, IsWrittenHeap, IsWrittenVal}
+use Rattle.wasm_validator_resources.specs.Answers.{written_index, IsWrittenHeap, IsWrittenVal}
 use Rattle.wasm_operator_stacks.specs.declared.stacks.Stacks.{Stacks}
 use Rattle.wasm_operator_checks.specs.Steps.{Took, acted}
 use Rattle.wasm_operator_checks.specs.declared.faults.OperatorError.{OperatorError}

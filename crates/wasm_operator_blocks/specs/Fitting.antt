@@ -1,11 +1,11 @@
 -- Targets of a branch table.
 use Rattle.std.specs.Prelude.{◌≡◌, ℕ, Bool, true, ◌&&◌, ◌==◌, List, length, Option, Some, is_some}
-use Rattle.wasm_rules.specs.Contexts.{Context}
+use Rattle.wasm_spec_rules.specs.Contexts.{Context}
 use Rattle.wasm_readers_types.specs.declared.indices.UnpackedIndex.{UnpackedIndex}
-use Rattle.wasm_rules.specs.Attempts.{passes}
+use Rattle.wasm_spec_rules.specs.Attempts.{passes}
 use Rattle.wasm_operator_steps.specs.Machine.{pop_vals}
 use Rattle.wasm_operator_steps.specs.Meanings.{label_at, labels_fit}
-use Rattle.wasm_module_resources.specs.Answers.{world}
+use Rattle.wasm_validator_resources.specs.Answers.{world}
 use Rattle.wasm_operator_stacks.specs.Seen.{state_of, around, below}
 use Rattle.wasm_operator_stacks.specs.declared.stacks.Stacks.{Stacks}
 

@@ -1,14 +1,13 @@
 -- What exceptions hold, and what catch clauses send to labels.
-use Rattle.std.specs.Prelude.{ℕ, Bool, ◌==◌, List, length, Option}
+use Rattle.std.specs.Prelude.{ℕ, Bool, ◌==◌, List, length, Option, false}
 use Rattle.wasm_spec.specs.Syntax.{Val, reference, abstract_heap, exn_heap}
-use Rattle.std.specs.Prelude.{false}
-use Rattle.wasm_rules.specs.Contexts.{Context}
+use Rattle.wasm_spec_rules.specs.Contexts.{Context}
 use Rattle.wasm_readers_types.specs.declared.indices.UnpackedIndex.{UnpackedIndex}
 use Rattle.wasm_operator_steps.specs.Actions.{label}
-use Rattle.wasm_rules.specs.Attempts.{◌>>=◌, guard, passes}
+use Rattle.wasm_spec_rules.specs.Attempts.{◌>>=◌, guard, passes}
 use Rattle.wasm_operator_steps.specs.Matching.{matches_vals}
 use Rattle.wasm_operator_steps.specs.Meanings.{types_at}
-use Rattle.wasm_module_resources.specs.Answers.{world, tag_in}
+use Rattle.wasm_validator_resources.specs.Answers.{world, tag_in}
 use Rattle.wasm_operator_stacks.specs.Seen.{state_of, around}
 use Rattle.wasm_operator_stacks.specs.declared.stacks.Stacks.{Stacks}
 

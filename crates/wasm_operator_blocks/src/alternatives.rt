@@ -10,13 +10,13 @@ ghost use Rattle.wasm_operator_checks.specs.Steps.{Performs};
 ghost use Rattle.wasm_operator_blocks.specs.Again.{again};
 
 use std::alloc::Allocator;
-use wasm_module_resources::WasmModuleResources;
 use wasm_operator_checks::{
     OperatorError, OperatorFault, OperatorRule, check_types, exchange_types,
 };
 use wasm_operator_control::{block_gives, block_takes};
 use wasm_operator_stacks::Stacks;
 use wasm_operators::FrameKind;
+use wasm_validator_resources::WasmModuleResources;
 
 /// Whether it is an `if` without its `else`.
 fn is_if(kind: FrameKind) -> bool

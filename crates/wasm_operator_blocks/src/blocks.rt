@@ -11,12 +11,12 @@ ghost use Rattle.wasm_operator_blocks.specs.Written.{block_written, IsWrittenBlo
 
 use crate::openings::resolve;
 use std::alloc::Allocator;
-use wasm_flat_operators::NumberType;
-use wasm_module_resources::WasmModuleResources;
 use wasm_operator_checks::{OperatorError, check_type};
 use wasm_operator_control::open_frame;
 use wasm_operator_stacks::{Stacks, TypeWord};
 use wasm_operators::{BlockType, FrameKind};
+use wasm_operators_plain::NumberType;
+use wasm_validator_resources::WasmModuleResources;
 
 /// Opens a frame of this kind, over what its type takes.
 #[tactic(auto, using(wasm_operator_checks::proofs::Acting::acts, crate::proofs::Entering::enters))]

@@ -13,7 +13,6 @@ use crate::exceptions::{throw, throw_ref};
 use crate::tables::branch_by_table;
 use crate::tries::open_try_table;
 use std::alloc::Allocator;
-use wasm_module_resources::WasmModuleResources;
 use wasm_operator_checks::OperatorError;
 use wasm_operator_control::{
     branch, branch_if, do_nothing, drop_any, end, give_back, global_get, global_set, local_get,
@@ -21,6 +20,7 @@ use wasm_operator_control::{
 };
 use wasm_operator_stacks::Stacks;
 use wasm_operators::{ControlOperator, ParametricOperator, VariableOperator};
+use wasm_validator_resources::WasmModuleResources;
 
 /// A control operator, calls aside (Core Specification 3.0, Validation, Instructions, Control
 /// Instructions), as it is written in a module.

@@ -9,11 +9,11 @@ ghost use Rattle.wasm_operator_checks.specs.Steps.{Performs};
 ghost use Rattle.wasm_operator_blocks.specs.Sent.{thrown_in};
 
 use std::alloc::Allocator;
-use wasm_module_resources::WasmModuleResources;
 use wasm_operator_checks::{OperatorError, OperatorFault, OperatorRule, ValTypes, halt, has};
 use wasm_operator_stacks::{Stacks, TypeWord};
 use wasm_readers_errors::WasmFeatures;
 use wasm_readers_types::{RefType, ValType};
+use wasm_validator_resources::WasmModuleResources;
 
 /// What an exception of this tag holds.
 #[tactic(auto, using(crate::proofs::Throwing::tags))]

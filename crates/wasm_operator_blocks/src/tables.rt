@@ -11,14 +11,14 @@ ghost use Rattle.wasm_operator_checks.specs.SeenTypes.{types_seen};
 ghost use Rattle.wasm_operator_blocks.specs.Fitting.{fits, all_fit, LastPasses};
 
 use std::alloc::Allocator;
-use wasm_flat_operators::NumberType;
-use wasm_module_resources::WasmModuleResources;
 use wasm_operator_checks::{
     OperatorError, OperatorFault, OperatorRule, ValTypes, check_type, check_types,
 };
 use wasm_operator_control::label_types;
 use wasm_operator_stacks::{Stacks, TypeWord};
 use wasm_operators::{BrTable, Listed};
+use wasm_operators_plain::NumberType;
+use wasm_validator_resources::WasmModuleResources;
 
 /// How many types these are.
 #[tactic(auto, using(crate::proofs::Tabled::counts))]

@@ -12,12 +12,12 @@ ghost use Rattle.wasm_operator_blocks.specs.Written.{block_written, IsWrittenBlo
 use crate::catches::check_catches;
 use crate::openings::resolve;
 use std::alloc::Allocator;
-use wasm_module_resources::WasmModuleResources;
 use wasm_operator_checks::{OperatorError, OperatorFault, OperatorRule, has};
 use wasm_operator_control::open_frame;
 use wasm_operator_stacks::Stacks;
 use wasm_operators::{FrameKind, TryTable};
 use wasm_readers_errors::WasmFeatures;
+use wasm_validator_resources::WasmModuleResources;
 
 /// `try_table` (Core Specification 3.0, Validation, Instructions, Control Instructions): a frame
 /// whose catch clauses branch to labels around it. Each label takes what its clause sends.

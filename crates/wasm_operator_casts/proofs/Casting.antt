@@ -7,14 +7,14 @@ use Rattle.wasm_spec.specs.Matching.{top_of_heap}
 use Rattle.wasm_spec.specs.MatchingTests.{matches_heap, matches_val}
 use Rattle.wasm_spec.specs.Syntax.{AbstractHeap, Heap, abstract_heap, concrete, exact, Ref, reference, map_heap, map_ref}
 use Rattle.wasm_spec.specs.ValueTypes.{allows_heap, allows_ref, allows_val}
-use Rattle.wasm_rules.specs.Contexts.{Context}
-use Rattle.wasm_rules.specs.FeatureFlags.{features_of}
+use Rattle.wasm_spec_rules.specs.Contexts.{Context}
+use Rattle.wasm_spec_rules.specs.FeatureFlags.{features_of}
 use Rattle.wasm_readers_types.specs.declared.indices.UnpackedIndex.{UnpackedIndex}
 use Rattle.wasm_operator_steps.specs.Actions.{may_be_cast}
-use Rattle.wasm_rules.specs.Attempts.{◌>>=◌}
-use Rattle.wasm_rules.specs.Signatures.{resolve_heap, resolve_ref}
+use Rattle.wasm_spec_rules.specs.Attempts.{◌>>=◌}
+use Rattle.wasm_spec_rules.specs.Signatures.{resolve_heap, resolve_ref}
 use Rattle.wasm_operator_steps.specs.Meanings.{casts}
-use Rattle.wasm_module_resources.specs.Answers.{IsWrittenHeap, world, written_index}
+use Rattle.wasm_validator_resources.specs.Answers.{IsWrittenHeap, world, written_index}
 use Rattle.wasm_operator_stacks.specs.Seen.{around}
 use Rattle.wasm_operator_stacks.specs.declared.stacks.Stacks.{Stacks}
 use Rattle.wasm_operator_checks.specs.Steps.{held}

@@ -2,14 +2,14 @@
 use Rattle.std.specs.Prelude.{◌≡◌, ℕ, true, List, [], ◌∷◌, ◌++◌, Option, Some, Result, Ok, Err}
 use Rattle.wasm_spec.specs.Syntax.{Ref, Val, reference}
 use Rattle.wasm_spec.specs.MatchingTests.{World, matches_val}
-use Rattle.wasm_rules.specs.Contexts.{Context}
+use Rattle.wasm_spec_rules.specs.Contexts.{Context}
 use Rattle.wasm_readers_types.specs.SeenValues.{ref_of}
 use Rattle.wasm_readers_types.specs.declared.indices.UnpackedIndex.{UnpackedIndex}
 use Rattle.wasm_readers_types.specs.declared.values.RefType.{RefType}
 use Rattle.wasm_operator_steps.specs.Actions.{has, gc, allows, may_be_cast, Action, need}
-use Rattle.wasm_rules.specs.Attempts.{◌>>=◌, guard, last_of, front_of}
+use Rattle.wasm_spec_rules.specs.Attempts.{◌>>=◌, guard, last_of, front_of}
 use Rattle.wasm_operator_steps.specs.Machine.{State}
-use Rattle.wasm_rules.specs.Signatures.{resolve_ref}
+use Rattle.wasm_spec_rules.specs.Signatures.{resolve_ref}
 use Rattle.wasm_operator_stacks.specs.Seen.{state_of}
 use Rattle.wasm_operator_stacks.specs.declared.stacks.Stacks.{Stacks}
 use Rattle.wasm_operator_checks.specs.Steps.{Took, acted, held}

@@ -2,13 +2,13 @@
 use Rattle.std.specs.Prelude.{ℕ, Bool, Option}
 use Rattle.wasm_spec.specs.Syntax.{Heap, abstract_heap}
 use Rattle.wasm_spec.specs.Matching.{top_of_heap}
-use Rattle.wasm_rules.specs.Contexts.{Context}
+use Rattle.wasm_spec_rules.specs.Contexts.{Context}
 use Rattle.wasm_readers_types.specs.SeenValues.{abstract_heap_of}
 use Rattle.wasm_readers_types.specs.declared.indices.UnpackedIndex.{UnpackedIndex}
 use Rattle.wasm_readers_types.specs.declared.values.AbstractHeapType.{AbstractHeapType}
-use Rattle.wasm_rules.specs.Attempts.{◌>>=◌}
-use Rattle.wasm_rules.specs.Signatures.{resolve_heap}
-use Rattle.wasm_module_resources.specs.Answers.{world}
+use Rattle.wasm_spec_rules.specs.Attempts.{◌>>=◌}
+use Rattle.wasm_spec_rules.specs.Signatures.{resolve_heap}
+use Rattle.wasm_validator_resources.specs.Answers.{world}
 
 abbrev pub top_seen : Bool × AbstractHeapType → Heap UnpackedIndex
 top_seen p = abstract_heap p.0 (abstract_heap_of p.1)

@@ -5,16 +5,16 @@ use Rattle.std.specs.Prelude.{Some, None, Option, Result, Ok, Err}
 use Rattle.wasm_spec.specs.Syntax.{Val}
 use Rattle.wasm_spec.specs.ValueTypes.{allows_val}
 use Rattle.wasm_spec.specs.MatchingTests.{World}
-use Rattle.wasm_rules.specs.Contexts.{Context}
-use Rattle.wasm_rules.specs.FeatureFlags.{features_of}
+use Rattle.wasm_spec_rules.specs.Contexts.{Context}
+use Rattle.wasm_spec_rules.specs.FeatureFlags.{features_of}
 use Rattle.wasm_readers_types.specs.declared.indices.UnpackedIndex.{UnpackedIndex}
-use Rattle.wasm_rules.specs.Attempts.{◌>>=◌, guard}
+use Rattle.wasm_spec_rules.specs.Attempts.{◌>>=◌, guard}
 use Rattle.wasm_operator_stacks.specs.Bodies.{Surroundings}
 use Rattle.wasm_operator_stacks.specs.Actions.{OperandTypes, Needed, Check, has, allows, Action, need, take, give, stop}
 use Rattle.wasm_operator_stacks.specs.Meanings.{run, types_at, holds, is_on}
 use Rattle.wasm_operator_stacks.specs.Machine.{State, become_unreachable, pop_vals, push_vals}
 use Rattle.wasm_operator_stacks.proofs.TakenInTurn.{types_at-frames, pop_vals-frames}
-use Rattle.wasm_module_resources.specs.Answers.{world}
+use Rattle.wasm_validator_resources.specs.Answers.{world}
 use Rattle.wasm_operator_stacks.specs.Seen.{state_of, around}
 use Rattle.wasm_operator_stacks.specs.declared.stacks.Stacks.{Stacks}
 use Rattle.wasm_operator_checks.specs.Steps.{Took, acted, typed, held}

@@ -3,15 +3,15 @@ use Rattle.std.proofs.Common.{◌≡◌, ℕ, Bool, true, false, List, [], ◌�
 use Rattle.std.specs.Prelude.{Some, slice_get, Err}
 use Rattle.wasm_spec.specs.Syntax.{Val, i32, concrete, Sub}
 use Rattle.wasm_spec.specs.ValueTypes.{implies}
-use Rattle.wasm_rules.specs.Contexts.{Context}
-use Rattle.wasm_rules.specs.FeatureFlags.{features_of}
+use Rattle.wasm_spec_rules.specs.Contexts.{Context}
+use Rattle.wasm_spec_rules.specs.FeatureFlags.{features_of}
 use Rattle.wasm_readers_types.specs.declared.indices.UnpackedIndex.{UnpackedIndex}
 use Rattle.wasm_operator_steps.specs.Actions.{Needed, has, reaches_type, these, new_reference, Action, need}
 use Rattle.wasm_operator_steps.specs.Machine.{State}
-use Rattle.wasm_rules.specs.Signatures.{resolve_val}
+use Rattle.wasm_spec_rules.specs.Signatures.{resolve_val}
 use Rattle.wasm_operator_steps.specs.Meanings.{ref_to}
 use Rattle.wasm_operator_steps.specs.Shapes.{nullable_to}
-use Rattle.wasm_module_resources.specs.Answers.{sub_in}
+use Rattle.wasm_validator_resources.specs.Answers.{sub_in}
 use Rattle.wasm_operator_stacks.specs.declared.stacks.Stacks.{Stacks}
 use Rattle.wasm_operator_checks.specs.Steps.{Took, acted, typed, held}
 use Rattle.wasm_operator_checks.specs.declared.faults.OperatorFault.{OperatorFault}

@@ -5,7 +5,7 @@ use Rattle.wasm_spec.specs.MatchingTests.{World}
 use Rattle.wasm_readers_types.specs.SeenValues.{val_of}
 use Rattle.wasm_readers_types.specs.declared.indices.UnpackedIndex.{UnpackedIndex}
 use Rattle.wasm_operator_stacks.specs.SeenTypeWords.{val_in}
-use Rattle.wasm_rules.specs.Attempts.{◌>>=◌}
+use Rattle.wasm_spec_rules.specs.Attempts.{◌>>=◌}
 use Rattle.wasm_operator_stacks.specs.Machine.{State, become_unreachable, pop_vals, push_vals}
 use Rattle.wasm_operator_checks.specs.declared.types.ValTypes.{ValTypes}
 use Rattle.wasm_operator_checks.specs.declared.types.ValTypes.TheVariants as types

@@ -3,10 +3,10 @@
 ghost use Rattle.std.specs.Prelude.{◌≡◌, map};
 ghost use Rattle.wasm_readers_types.specs.SeenValues.{val_of};
 ghost use Rattle.wasm_operator_stacks.specs.Matching.{matches_vals};
-ghost use Rattle.wasm_module_resources.specs.Answers.{world};
+ghost use Rattle.wasm_validator_resources.specs.Answers.{world};
 
-use wasm_module_resources::WasmModuleResources;
 use wasm_readers_types::ValType;
+use wasm_validator_resources::WasmModuleResources;
 
 /// Whether these types match those, place by place, and are equally many.
 #[tactic(auto, using(crate::proofs::Comparing::lists))]

@@ -9,8 +9,8 @@ ghost use Rattle.wasm_operator_stacks.specs.Meanings.{address as address_by};
 
 use bitflags::Flags;
 use std::alloc::Allocator;
-use wasm_flat_operators::NumberType;
 use wasm_operator_stacks::{Stacks, TypeWord};
+use wasm_operators_plain::NumberType;
 use wasm_readers_errors::WasmFeatures;
 
 /// Whether a proposal is on.

@@ -2,7 +2,7 @@
 
 ghost use Rattle.std.specs.Prelude.{◌++◌, ◌∷◌, []};
 ghost use Rattle.wasm_operator_stacks.specs.SeenTypeWords.{val_in};
-ghost use Rattle.wasm_module_resources.specs.Answers.{world};
+ghost use Rattle.wasm_validator_resources.specs.Answers.{world};
 ghost use Rattle.wasm_operator_stacks.specs.Seen.{Kept};
 ghost use Rattle.wasm_operator_checks.specs.Steps.{Turns};
 ghost use Rattle.wasm_operator_checks.specs.SeenTypes.{types_seen, takes_seen, exchanged, halted};
@@ -11,9 +11,9 @@ use crate::faults::{OperatorError, OperatorFault};
 use crate::looks::check_type;
 use crate::types::{Takes, ValTypes, check_takes, check_types, exchange_types};
 use std::alloc::Allocator;
-use wasm_module_resources::WasmModuleResources;
 use wasm_operator_stacks::{Stacks, TypeWord};
 use wasm_readers_errors::OperatorRule;
+use wasm_validator_resources::WasmModuleResources;
 
 /// Takes operands of some types, and gives others. Where that can't be, all stays.
 #[inline(always)]

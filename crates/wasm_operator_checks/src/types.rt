@@ -3,7 +3,7 @@
 ghost use Rattle.std.specs.Prelude.{◌≡◌, ◌≤◌, ◌∷◌, [], length, map, OnOk, OnErr};
 ghost use Rattle.wasm_operator_stacks.specs.SeenTypeWords.{val_in};
 ghost use Rattle.wasm_operator_stacks.specs.Machine.{pop_vals, push_vals};
-ghost use Rattle.wasm_module_resources.specs.Answers.{world};
+ghost use Rattle.wasm_validator_resources.specs.Answers.{world};
 ghost use Rattle.wasm_operator_stacks.specs.Seen.{state_of, below, Kept};
 ghost use Rattle.wasm_operator_checks.specs.Steps.{Checked};
 ghost use Rattle.wasm_operator_checks.specs.SeenTypes.{types_seen, takes_seen};
@@ -11,9 +11,9 @@ ghost use Rattle.wasm_operator_checks.specs.SeenTypes.{types_seen, takes_seen};
 use crate::faults::OperatorFault;
 use crate::looks::{check_many, check_type};
 use std::alloc::{AllocError, Allocator};
-use wasm_module_resources::WasmModuleResources;
 use wasm_operator_stacks::{Stacks, TypeWord, Word};
 use wasm_readers_types::ValType;
+use wasm_validator_resources::WasmModuleResources;
 
 /// None, one or many value types.
 #[derive(Clone, Copy)]

@@ -6,18 +6,18 @@ use Rattle.std.proofs.lemmas.Bool.Decides.{nat_tests}
 use Rattle.std.proofs.lemmas.List.{length-drop, length-map}
 use Rattle.wasm_spec.specs.MatchingTests.{World}
 use Rattle.wasm_spec.specs.Syntax.{Val}
-use Rattle.wasm_rules.specs.Contexts.{Context}
+use Rattle.wasm_spec_rules.specs.Contexts.{Context}
 use Rattle.wasm_readers_types.specs.declared.indices.UnpackedIndex.{UnpackedIndex}
 use Rattle.wasm_operators.specs.Control.{Block, empty_block, value_block, func_block}
-use Rattle.wasm_rules.specs.Attempts.{◌>>=◌}
+use Rattle.wasm_spec_rules.specs.Attempts.{◌>>=◌}
 use Rattle.wasm_operator_steps.specs.Actions.{leave}
 use Rattle.wasm_operator_steps.specs.Bodies.{Surroundings}
 use Rattle.wasm_operator_steps.specs.Matching.{matches_vals}
 use Rattle.wasm_operator_steps.specs.Machine as machine
 use Rattle.wasm_operator_steps.specs.Machine.{Kind, block_kind, loop_kind, if_kind, else_kind, try_table_kind, State, pop_vals, push_vals}
-use Rattle.wasm_rules.specs.Signatures.{Signature}
+use Rattle.wasm_spec_rules.specs.Signatures.{Signature}
 use Rattle.wasm_operator_steps.specs.Meanings.{block_signature, leave_in, may_end}
-use Rattle.wasm_module_resources.specs.Answers.{world}
+use Rattle.wasm_validator_resources.specs.Answers.{world}
 use Rattle.wasm_operator_stacks.specs.Seen.{state_of, around, below}
 use Rattle.wasm_operator_stacks.specs.SeenOperands.{operand_of}
 use Rattle.wasm_operator_stacks.specs.SeenBlocks.{block_in, kind_of, frame_of}

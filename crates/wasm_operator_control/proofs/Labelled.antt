@@ -4,14 +4,14 @@ use Rattle.std.specs.Option.{option_map}
 use Rattle.std.specs.Prelude.{zero, suc, Option, Some, None, slice_get}
 use Rattle.std.proofs.lemmas.Option.{slice_get-map}
 use Rattle.wasm_spec.specs.Syntax.{Val}
-use Rattle.wasm_rules.specs.Contexts.{Context}
+use Rattle.wasm_spec_rules.specs.Contexts.{Context}
 use Rattle.wasm_readers_types.specs.declared.indices.UnpackedIndex.{UnpackedIndex}
 use Rattle.wasm_operators.specs.Control.{Block, empty_block, value_block, func_block}
-use Rattle.wasm_rules.specs.Attempts.{last_of}
+use Rattle.wasm_spec_rules.specs.Attempts.{last_of}
 use Rattle.wasm_operator_steps.specs.Actions.{label, returned}
-use Rattle.wasm_rules.specs.Signatures.{Signature}
+use Rattle.wasm_spec_rules.specs.Signatures.{Signature}
 use Rattle.wasm_operator_steps.specs.Meanings.{block_signature, label_by}
-use Rattle.wasm_module_resources.specs.Answers.{world}
+use Rattle.wasm_validator_resources.specs.Answers.{world}
 use Rattle.wasm_operator_stacks.specs.Seen.{state_of, around}
 use Rattle.wasm_operator_stacks.specs.SeenBlocks.{block_in, kind_of, frame_of, frames_seen}
 use Rattle.wasm_operator_stacks.specs.declared.stacks.Frame.{Frame}

@@ -3,12 +3,12 @@ use Rattle.std.proofs.Common.{◌≡◌, ℕ, Bool, true, false, ◌||◌, List,
 use Rattle.std.specs.Option.{option_map}
 use Rattle.std.specs.Prelude.{Some, None, slice_get}
 use Rattle.wasm_spec.specs.Syntax.{Val}
-use Rattle.wasm_rules.specs.Contexts.{Context}
+use Rattle.wasm_spec_rules.specs.Contexts.{Context}
 use Rattle.wasm_readers_types.specs.declared.indices.UnpackedIndex.{UnpackedIndex}
-use Rattle.wasm_rules.specs.Attempts.{among}
+use Rattle.wasm_spec_rules.specs.Attempts.{among}
 use Rattle.wasm_operator_steps.specs.Actions.{Action, local, local_is_set, take, give, take_any, set}
 use Rattle.wasm_operator_steps.specs.Machine.{Operand, Frame, State, pop_any, pop_val, push_operand, set_local, known}
-use Rattle.wasm_module_resources.specs.Answers.{world}
+use Rattle.wasm_validator_resources.specs.Answers.{world}
 use Rattle.wasm_operator_stacks.specs.Locals.{local_of}
 use Rattle.wasm_operator_stacks.specs.Seen.{state_of, below}
 use Rattle.wasm_operator_stacks.specs.declared.local_word.LocalWord.{LocalWord}

@@ -7,7 +7,7 @@ use Rattle.wasm_spec.specs.MatchingTests.{World, matches_val}
 use Rattle.wasm_readers_types.specs.SeenValues.{val_of}
 use Rattle.wasm_readers_types.specs.declared.indices.UnpackedIndex.{UnpackedIndex}
 use Rattle.wasm_readers_types.specs.declared.values.ValType.{ValType}
-use Rattle.wasm_rules.specs.Attempts.{passes}
+use Rattle.wasm_spec_rules.specs.Attempts.{passes}
 use Rattle.wasm_operator_steps.specs.Matching.{matches_vals}
 
 -- none, and one

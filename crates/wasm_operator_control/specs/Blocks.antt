@@ -2,14 +2,14 @@
 use Rattle.std.specs.Prelude.{ℕ, Bool, true, [], ◌∷◌, Option, Some}
 use Rattle.std.specs.Option.{option_map}
 use Rattle.wasm_spec.specs.MatchingTests.{World}
-use Rattle.wasm_rules.specs.Contexts.{Context}
+use Rattle.wasm_spec_rules.specs.Contexts.{Context}
 use Rattle.wasm_readers_types.specs.declared.indices.UnpackedIndex.{UnpackedIndex}
 use Rattle.wasm_operators.specs.Control.{Block, empty_block, value_block, func_block}
-use Rattle.wasm_rules.specs.Attempts.{◌>>=◌}
+use Rattle.wasm_spec_rules.specs.Attempts.{◌>>=◌}
 use Rattle.wasm_operator_steps.specs.Machine.{Kind, block_kind, loop_kind, if_kind, else_kind, try_table_kind}
 use Rattle.wasm_operator_steps.specs.Matching.{matches_vals}
-use Rattle.wasm_rules.specs.Signatures.{Signature, signature_of}
-use Rattle.wasm_module_resources.specs.Answers.{sub_in}
+use Rattle.wasm_spec_rules.specs.Signatures.{Signature, signature_of}
+use Rattle.wasm_validator_resources.specs.Answers.{sub_in}
 
 -- the function type of a type index
 abbrev pub function_in : Context UnpackedIndex → ℕ → Option (Signature UnpackedIndex)

@@ -9,12 +9,12 @@ ghost use Rattle.wasm_readers_types.specs.declared.indices.UnpackedIndex.{Unpack
 
 use crate::labels::{label_types, returned_types};
 use std::alloc::Allocator;
-use wasm_flat_operators::NumberType;
-use wasm_module_resources::WasmModuleResources;
 use wasm_operator_checks::{
     OperatorError, OperatorFault, OperatorRule, Takes, ValTypes, halt, plain, plain_with,
 };
 use wasm_operator_stacks::{Stacks, TypeWord};
+use wasm_operators_plain::NumberType;
+use wasm_validator_resources::WasmModuleResources;
 
 /// `nop`.
 #[tactic(auto, using(wasm_operator_checks::proofs::Acting::acts, wasm_operator_checks::proofs::Typing::types))]

@@ -1,6 +1,6 @@
 //! Calls.
 
-ghost use Rattle.wasm_flat_operators.specs.declared.calls.CallOperator.TheVariants.{Call, CallIndirect, CallRef};
+ghost use Rattle.wasm_operators_plain.specs.declared.calls.CallOperator.TheVariants.{Call, CallIndirect, CallRef};
 ghost use Rattle.wasm_operator_steps.specs.Shapes.{call_shape};
 ghost use Rattle.wasm_operator_stacks.specs.Seen.{Kept};
 ghost use Rattle.wasm_operator_checks.specs.Steps.{Performs};
@@ -8,7 +8,6 @@ ghost use Rattle.wasm_operator_checks.specs.Steps.{Performs};
 use crate::reach::{function_reached, null_or, type_reached};
 use crate::results::listed;
 use std::alloc::Allocator;
-use wasm_module_resources::WasmModuleResources;
 use wasm_operator_checks::{
     OperatorError, OperatorFault, OperatorRule, Takes, ValTypes, address, has, plain, plain_with,
 };
@@ -16,6 +15,7 @@ use wasm_operator_numbers::table_reached;
 use wasm_operator_stacks::Stacks;
 use wasm_readers_errors::WasmFeatures;
 use wasm_readers_types::ValType;
+use wasm_validator_resources::WasmModuleResources;
 
 /// `call`: takes a function's parameters, and gives its results (Core Specification 3.0,
 /// Validation, Control Instructions).

@@ -2,9 +2,9 @@
 
 ghost use Rattle.std.specs.Prelude.{◌≡◌, Some};
 ghost use Rattle.wasm_operator_steps.specs.Matching.{matches_vals};
-ghost use Rattle.wasm_rules.specs.Signatures.{Signature};
+ghost use Rattle.wasm_spec_rules.specs.Signatures.{Signature};
 ghost use Rattle.wasm_operator_steps.specs.Shapes.{closing};
-ghost use Rattle.wasm_module_resources.specs.Answers.{world};
+ghost use Rattle.wasm_validator_resources.specs.Answers.{world};
 ghost use Rattle.wasm_readers_types.specs.declared.indices.UnpackedIndex.{UnpackedIndex};
 ghost use Rattle.wasm_operator_stacks.specs.Seen.{Kept};
 ghost use Rattle.wasm_operator_stacks.specs.SeenBlocks.{block_in, kind_of};
@@ -13,12 +13,12 @@ ghost use Rattle.wasm_operator_control.specs.Blocks.{signature_in, ends_in};
 
 use crate::labels::{block_gives, function_type};
 use std::alloc::Allocator;
-use wasm_module_resources::WasmModuleResources;
 use wasm_operator_checks::{
     OperatorError, OperatorFault, OperatorRule, check_types, exchange_types, match_all,
 };
 use wasm_operator_stacks::{Block, BlockWord, Stacks};
 use wasm_operators::FrameKind;
+use wasm_validator_resources::WasmModuleResources;
 
 /// Whether an `if` of this type may end without `else`.
 #[tactic(auto, using(crate::proofs::Ended::ends))]

@@ -1,7 +1,7 @@
 //! Frames that are opened.
 
 ghost use Rattle.std.specs.Prelude.{◌≤◌, length};
-ghost use Rattle.wasm_module_resources.specs.Answers.{world};
+ghost use Rattle.wasm_validator_resources.specs.Answers.{world};
 ghost use Rattle.wasm_operator_stacks.specs.Seen.{state_of, below, Kept};
 ghost use Rattle.wasm_operator_stacks.specs.SeenBlocks.{block_in, kind_of};
 ghost use Rattle.wasm_operator_checks.specs.Steps.{Turns};
@@ -9,10 +9,10 @@ ghost use Rattle.wasm_operator_checks.specs.SeenTypes.{types_seen};
 ghost use Rattle.wasm_operator_control.specs.Entered.{entered};
 
 use std::alloc::Allocator;
-use wasm_module_resources::WasmModuleResources;
 use wasm_operator_checks::{OperatorError, ValTypes, check_types, exchange_types};
 use wasm_operator_stacks::{BlockWord, Stacks};
 use wasm_operators::FrameKind;
+use wasm_validator_resources::WasmModuleResources;
 
 /// Opens a frame of this kind and type, by identities, over what it takes, below so many operands
 /// that are taken already. Where that can't be, all stays.

@@ -1,18 +1,18 @@
 //! Operators on globals.
 
 ghost use Rattle.std.specs.Prelude.{◌≡◌, slice_get};
-ghost use Rattle.wasm_flat_operators.specs.declared.variables.VariableOperator.TheVariants.{GlobalGet, GlobalSet};
+ghost use Rattle.wasm_operators_plain.specs.declared.variables.VariableOperator.TheVariants.{GlobalGet, GlobalSet};
 ghost use Rattle.wasm_operator_steps.specs.Shapes.{variable_shape};
 ghost use Rattle.wasm_operator_stacks.specs.Seen.{Kept};
 ghost use Rattle.wasm_operator_checks.specs.Steps.{Performs};
 
 use std::alloc::Allocator;
-use wasm_module_resources::WasmModuleResources;
 use wasm_operator_checks::{
     OperatorError, OperatorFault, OperatorRule, Takes, ValTypes, plain, reaches,
 };
 use wasm_operator_stacks::{Stacks, TypeWord};
 use wasm_readers_types::GlobalType;
+use wasm_validator_resources::WasmModuleResources;
 
 /// `global.get`.
 #[tactic(auto, using(wasm_operator_checks::proofs::Acting::acts, crate::proofs::Globally::globals))]

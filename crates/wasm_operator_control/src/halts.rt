@@ -2,17 +2,17 @@
 
 ghost use Rattle.std.specs.Prelude.{◌++◌, ◌∷◌, []};
 ghost use Rattle.wasm_operator_stacks.specs.SeenTypeWords.{val_in};
-ghost use Rattle.wasm_module_resources.specs.Answers.{world};
+ghost use Rattle.wasm_validator_resources.specs.Answers.{world};
 ghost use Rattle.wasm_operator_stacks.specs.Seen.{Kept};
 ghost use Rattle.wasm_operator_checks.specs.Steps.{Turns};
 ghost use Rattle.wasm_operator_checks.specs.SeenTypes.{types_seen, halted};
 
 use std::alloc::Allocator;
-use wasm_module_resources::WasmModuleResources;
 use wasm_operator_checks::{
     OperatorError, OperatorFault, OperatorRule, ValTypes, check_type, check_types,
 };
 use wasm_operator_stacks::{Stacks, TypeWord};
+use wasm_validator_resources::WasmModuleResources;
 
 /// Takes operands of some types with one of another type on top, and leaves the rest of the
 /// innermost frame's code unreached. Where that can't be, all stays.

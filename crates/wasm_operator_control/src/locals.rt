@@ -2,8 +2,8 @@
 
 ghost use Rattle.std.specs.Prelude.{◌≡◌, ◌||◌, OnOk, OnErr, IsSome, Some, slice_get};
 ghost use Rattle.std.specs.Option.{option_map};
-ghost use Rattle.wasm_flat_operators.specs.declared.variables.VariableOperator.TheVariants.{LocalGet, LocalSet, LocalTee};
-ghost use Rattle.wasm_rules.specs.Attempts.{among};
+ghost use Rattle.wasm_operators_plain.specs.declared.variables.VariableOperator.TheVariants.{LocalGet, LocalSet, LocalTee};
+ghost use Rattle.wasm_spec_rules.specs.Attempts.{among};
 ghost use Rattle.wasm_operator_steps.specs.Machine.{set_local};
 ghost use Rattle.wasm_operator_steps.specs.Shapes.{variable_shape, dropping};
 ghost use Rattle.wasm_operator_stacks.specs.Locals.{local_of};
@@ -11,11 +11,11 @@ ghost use Rattle.wasm_operator_stacks.specs.Seen.{state_of, Kept};
 ghost use Rattle.wasm_operator_checks.specs.Steps.{Performs};
 
 use std::alloc::{AllocError, Allocator};
-use wasm_module_resources::WasmModuleResources;
 use wasm_operator_checks::{
     OperatorError, OperatorFault, OperatorRule, Takes, ValTypes, check_type, look, plain,
 };
 use wasm_operator_stacks::{LocalWord, Locals, Stacks, Word};
+use wasm_validator_resources::WasmModuleResources;
 
 /// Whether a local is set by now.
 #[inline(always)]

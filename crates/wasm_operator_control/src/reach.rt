@@ -3,16 +3,16 @@
 ghost use Rattle.std.specs.Prelude.{◌≡◌, Some, None, IfOk, OnErr};
 ghost use Rattle.std.specs.Option.{option_map};
 ghost use Rattle.wasm_operator_stacks.specs.SeenTypeWords.{val_in};
-ghost use Rattle.wasm_rules.specs.Signatures.{resolve_val};
+ghost use Rattle.wasm_spec_rules.specs.Signatures.{resolve_val};
 ghost use Rattle.wasm_operator_steps.specs.Shapes.{nullable_to};
-ghost use Rattle.wasm_module_resources.specs.Answers.{signature_seen};
+ghost use Rattle.wasm_validator_resources.specs.Answers.{signature_seen};
 ghost use Rattle.wasm_operator_control.specs.Callees.{type_in, function_in};
 
 use std::alloc::Allocator;
-use wasm_module_resources::WasmModuleResources;
 use wasm_operator_checks::{OperatorFault, OperatorRule, reaches};
 use wasm_operator_stacks::{Stacks, TypeWord};
 use wasm_readers_types::{CompositeInnerType, FuncType, HeapType, RefType, UnpackedIndex};
+use wasm_validator_resources::WasmModuleResources;
 
 /// The function type of this type index.
 ///

@@ -7,10 +7,10 @@ ghost use Rattle.wasm_operator_checks.specs.Steps.{Performs};
 use crate::calls::{call, call_indirect, call_ref};
 use crate::tails::{return_call, return_call_indirect, return_call_ref};
 use std::alloc::Allocator;
-use wasm_flat_operators::CallOperator;
-use wasm_module_resources::WasmModuleResources;
 use wasm_operator_checks::OperatorError;
 use wasm_operator_stacks::Stacks;
+use wasm_operators_plain::CallOperator;
+use wasm_validator_resources::WasmModuleResources;
 
 /// A call or a tail call (Core Specification 3.0, Validation, Control Instructions).
 ///

@@ -1,6 +1,6 @@
 //! Tail calls: the callee gives what the body gives, and takes its place.
 
-ghost use Rattle.wasm_flat_operators.specs.declared.calls.CallOperator.TheVariants.{ReturnCall, ReturnCallIndirect, ReturnCallRef};
+ghost use Rattle.wasm_operators_plain.specs.declared.calls.CallOperator.TheVariants.{ReturnCall, ReturnCallIndirect, ReturnCallRef};
 ghost use Rattle.wasm_operator_steps.specs.Shapes.{call_shape};
 ghost use Rattle.wasm_operator_stacks.specs.Seen.{Kept};
 ghost use Rattle.wasm_operator_checks.specs.Steps.{Performs};
@@ -9,7 +9,6 @@ use crate::halts::halt_with;
 use crate::reach::{function_reached, null_or, type_reached};
 use crate::results::returns;
 use std::alloc::Allocator;
-use wasm_module_resources::WasmModuleResources;
 use wasm_operator_checks::{
     OperatorError, OperatorFault, OperatorRule, ValTypes, address, halt, has,
 };
@@ -17,6 +16,7 @@ use wasm_operator_numbers::table_reached;
 use wasm_operator_stacks::Stacks;
 use wasm_readers_errors::WasmFeatures;
 use wasm_readers_types::ValType;
+use wasm_validator_resources::WasmModuleResources;
 
 /// `return_call`: takes a function's parameters, and what follows isn't reached (Core Specification
 /// 3.0, Validation, Control Instructions).

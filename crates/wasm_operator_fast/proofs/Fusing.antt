@@ -4,24 +4,24 @@ use Rattle.std.specs.Option.{option_map}
 use Rattle.std.specs.Prelude.{Some, None, Option, Result, Ok, Err, nat_lt}
 use Rattle.std.proofs.lemmas.Bool.Decides.{nat_tests}
 use Rattle.wasm_spec.specs.Values.{u32_at, signed_at}
-use Rattle.wasm_rules.specs.Contexts.{Context}
+use Rattle.wasm_spec_rules.specs.Contexts.{Context}
 use Rattle.wasm_readers.specs.Written.{written}
 use Rattle.wasm_readers_types.specs.declared.indices.UnpackedIndex.{UnpackedIndex}
-use Rattle.wasm_flat_operators.specs.Calls.{call_from}
-use Rattle.wasm_flat_operators.specs.Variables.{variable_from}
-use Rattle.wasm_flat_operators.specs.Constants.{constant_from}
-use Rattle.wasm_flat_operators.specs.Memories.{access_from, memarg_at}
-use Rattle.wasm_flat_operators.specs.declared.calls.CallOperator.TheVariants.{Call}
-use Rattle.wasm_flat_operators.specs.declared.memories.MemoryOperator.{MemoryOperator}
-use Rattle.wasm_flat_operators.specs.declared.memories.MemArg.{MemArg}
-use Rattle.wasm_flat_operators.specs.declared.variables.VariableOperator.TheVariants.{LocalGet, LocalSet, LocalTee, GlobalGet, GlobalSet}
-use Rattle.wasm_flat_operators.specs.declared.constants.ConstantOperator.TheVariants.{I32Const, I64Const}
-use Rattle.wasm_flat_operators.specs.Numeric.{numeric_from}
-use Rattle.wasm_flat_operators.specs.Signatures.{signature_of}
-use Rattle.wasm_flat_operators.specs.declared.numeric.NumericOperator.{NumericOperator}
-use Rattle.wasm_flat_operators.specs.declared.signatures.NumberType.{NumberType}
-use Rattle.wasm_flat_operators.specs.declared.signatures.NumberType.TheVariants as number
-use Rattle.wasm_flat_operators.specs.declared.signatures.Signature.{Signature}
+use Rattle.wasm_operators_plain.specs.Calls.{call_from}
+use Rattle.wasm_operators_plain.specs.Variables.{variable_from}
+use Rattle.wasm_operators_plain.specs.Constants.{constant_from}
+use Rattle.wasm_operators_plain.specs.Memories.{access_from, memarg_at}
+use Rattle.wasm_operators_plain.specs.declared.calls.CallOperator.TheVariants.{Call}
+use Rattle.wasm_operators_plain.specs.declared.memories.MemoryOperator.{MemoryOperator}
+use Rattle.wasm_operators_plain.specs.declared.memories.MemArg.{MemArg}
+use Rattle.wasm_operators_plain.specs.declared.variables.VariableOperator.TheVariants.{LocalGet, LocalSet, LocalTee, GlobalGet, GlobalSet}
+use Rattle.wasm_operators_plain.specs.declared.constants.ConstantOperator.TheVariants.{I32Const, I64Const}
+use Rattle.wasm_operators_plain.specs.Numeric.{numeric_from}
+use Rattle.wasm_operators_plain.specs.Signatures.{signature_of}
+use Rattle.wasm_operators_plain.specs.declared.numeric.NumericOperator.{NumericOperator}
+use Rattle.wasm_operators_plain.specs.declared.signatures.NumberType.{NumberType}
+use Rattle.wasm_operators_plain.specs.declared.signatures.NumberType.TheVariants as number
+use Rattle.wasm_operators_plain.specs.declared.signatures.Signature.{Signature}
 use Rattle.wasm_operators.specs.Control.{Block, block_at, parametric_from, drop_, select, control_from, block, loop, if_, end_, br, br_if, return_}
 use Rattle.wasm_operators.specs.References.{reference_from}
 use Rattle.wasm_operators.specs.Instructions.{Instruction, instruction_at, plain_from, variable, constant, numeric, parametric, control, call, access}
@@ -29,9 +29,9 @@ use Rattle.wasm_operators.specs.Maps.{map_block, map_instruction}
 use Rattle.wasm_operator_steps.specs.Actions.{allows}
 use Rattle.wasm_operator_steps.specs.Machine.{State}
 use Rattle.wasm_operator_steps.specs.Shapes.{Shape, shape_of, call_shape, variable_shape, computing, dropping, choosing, access_shape, control_shape, plain, one, nothing, closing, number_type}
-use Rattle.wasm_rules.specs.Attempts.{◌>>=◌}
+use Rattle.wasm_spec_rules.specs.Attempts.{◌>>=◌}
 use Rattle.wasm_operator_steps.specs.Steps.{is_open, step_in, actions_of}
-use Rattle.wasm_module_resources.specs.Answers.{world, written_index}
+use Rattle.wasm_validator_resources.specs.Answers.{world, written_index}
 use Rattle.wasm_operator_stacks.specs.Seen.{state_of, around}
 use Rattle.wasm_operator_stacks.specs.declared.stacks.Stacks.{Stacks}
 use Rattle.wasm_operator_checks.specs.Steps.{acted}

@@ -5,10 +5,10 @@ use Rattle.std.specs.Prelude.{Some, slice_get}
 use Rattle.std.proofs.lemmas.Option.{slice_get-map}
 use Rattle.wasm_spec.specs.MatchingTests.{World}
 use Rattle.wasm_spec.specs.Syntax.{Val}
-use Rattle.wasm_rules.specs.Contexts.{Context}
+use Rattle.wasm_spec_rules.specs.Contexts.{Context}
 use Rattle.wasm_readers_types.specs.declared.indices.UnpackedIndex.{UnpackedIndex}
 use Rattle.wasm_operator_steps.specs.Machine.{State, known, pop_any, pop_val, pop_vals, push_operand}
-use Rattle.wasm_module_resources.specs.Answers.{world}
+use Rattle.wasm_validator_resources.specs.Answers.{world}
 use Rattle.wasm_operator_stacks.specs.Seen.{state_of, below}
 use Rattle.wasm_operator_stacks.specs.SeenOperands.{operand_of}
 use Rattle.wasm_operator_stacks.specs.declared.word.Word.{Word}

@@ -7,9 +7,9 @@ ghost use Rattle.wasm_operator_fast.specs.Fast.{Performs};
 use crate::not_taken::NotTaken;
 use crate::peeks::peek;
 use std::alloc::Allocator;
-use wasm_flat_operators::NumberType;
-use wasm_module_resources::WasmModuleResources;
 use wasm_operator_stacks::{Stacks, TypeWord};
+use wasm_operators_plain::NumberType;
+use wasm_validator_resources::WasmModuleResources;
 
 /// `select` between two numbers of this type, of which the lower one stays.
 #[inline(always)]

@@ -10,9 +10,9 @@ ghost use Rattle.wasm_operator_fast.specs.Fast.{Performs};
 use crate::not_taken::NotTaken;
 use crate::peeks::peek;
 use std::alloc::Allocator;
-use wasm_module_resources::WasmModuleResources;
 use wasm_operator_stacks::{Block, Stacks};
 use wasm_operators::FrameKind;
+use wasm_validator_resources::WasmModuleResources;
 
 /// Whether a frame is that of an `if` before its `else`.
 #[inline(always)]

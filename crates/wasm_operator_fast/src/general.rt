@@ -1,7 +1,7 @@
 //! Operators that the general way steps once they are read.
 
-ghost use Rattle.wasm_flat_operators.specs.declared.calls.CallOperator.TheVariants.{Call};
-ghost use Rattle.wasm_flat_operators.specs.declared.variables.VariableOperator.TheVariants.{GlobalGet, GlobalSet};
+ghost use Rattle.wasm_operators_plain.specs.declared.calls.CallOperator.TheVariants.{Call};
+ghost use Rattle.wasm_operators_plain.specs.declared.variables.VariableOperator.TheVariants.{GlobalGet, GlobalSet};
 ghost use Rattle.wasm_operators.specs.Control.{br, br_if, return_};
 ghost use Rattle.wasm_operator_steps.specs.Shapes.{call_shape, control_shape, dropping, variable_shape};
 ghost use Rattle.wasm_operator_stacks.specs.Seen.{Kept};
@@ -10,9 +10,9 @@ ghost use Rattle.wasm_operator_fast.specs.Fast.{Performs};
 use crate::not_taken::NotTaken;
 use crate::plain::as_fast;
 use std::alloc::Allocator;
-use wasm_module_resources::WasmModuleResources;
 use wasm_operator_control::{branch, branch_if, call, drop_any, give_back, global_get, global_set};
 use wasm_operator_stacks::Stacks;
+use wasm_validator_resources::WasmModuleResources;
 
 /// `global.get`.
 #[inline(always)]

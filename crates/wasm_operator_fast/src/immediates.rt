@@ -1,16 +1,16 @@
 //! Immediates, where they are there, without refusals.
 
 ghost use Rattle.std.specs.Prelude.{◌≡◌, ◌≤◌, ◌<◌, ◌∷◌, Some, IfOk, OnOk};
-ghost use Rattle.wasm_binary_reader.specs.Reader.{SameInput, position_in, rest};
+ghost use Rattle.wasm_readers_bytes.specs.Reader.{SameInput, position_in, rest};
 ghost use Rattle.wasm_spec.specs.Values.{u32_at, u64_at};
-ghost use Rattle.wasm_flat_operators.specs.Memories.{memarg_at};
+ghost use Rattle.wasm_operators_plain.specs.Memories.{memarg_at};
 ghost use Rattle.wasm_readers.specs.Written.{written};
 ghost use Rattle.wasm_operators.specs.Control.{block_at};
 ghost use Rattle.wasm_operator_fast.specs.Blocks.{block_named};
 ghost use Rattle.wasm_operator_fast.specs.Passed.{behind_signed, Passed};
 
 use crate::not_taken::NotTaken;
-use wasm_flat_operators::{MemArg, NumberType};
+use wasm_operators_plain::{MemArg, NumberType};
 use wasm_readers::BinaryReader;
 
 /// The next byte.
@@ -182,7 +182,7 @@ pub(crate) fn pass_i64(reader: &mut BinaryReader) -> Result<(), NotTaken>
 
 /// The next memory argument, where it is of the first memory.
 #[inline(always)]
-#[tactic(auto, unfolding(wasm_flat_operators::specs::Memories::memarg_at))]
+#[tactic(auto, unfolding(wasm_operators_plain::specs::Memories::memarg_at))]
 pub(crate) fn next_memarg(reader: &mut BinaryReader) -> Result<MemArg, NotTaken>
     ensures same { SameInput reader.old reader.new }
     ensures onward { position_in reader.old ≤ position_in reader.new }

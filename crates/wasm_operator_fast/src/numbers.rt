@@ -1,7 +1,7 @@
 //! Constants and numeric operators.
 
 ghost use Rattle.std.specs.Prelude.{◌≡◌, ◌∷◌, []};
-ghost use Rattle.wasm_flat_operators.specs.declared.signatures.Signature.TheVariants.{Unary, Binary};
+ghost use Rattle.wasm_operators_plain.specs.declared.signatures.Signature.TheVariants.{Unary, Binary};
 ghost use Rattle.wasm_operator_steps.specs.Actions.{allows};
 ghost use Rattle.wasm_operator_steps.specs.Shapes.{computing, number_type, nothing, one, plain as plain_shape};
 ghost use Rattle.wasm_operator_stacks.specs.Seen.{Kept};
@@ -10,11 +10,11 @@ ghost use Rattle.wasm_operator_fast.specs.Fast.{Performs};
 use crate::not_taken::NotTaken;
 use crate::plain::plain;
 use std::alloc::Allocator;
-use wasm_flat_operators::{NumberType, Signature};
-use wasm_module_resources::WasmModuleResources;
 use wasm_operator_checks::{Takes, ValTypes};
 use wasm_operator_numbers::allows_number;
 use wasm_operator_stacks::{Stacks, TypeWord};
+use wasm_operators_plain::{NumberType, Signature};
+use wasm_validator_resources::WasmModuleResources;
 
 /// An operator that takes a number and gives one.
 #[inline(always)]

@@ -1,9 +1,9 @@
 //! What numeric operators take and give, in the place where they are typed.
 
 ghost use Rattle.std.specs.Prelude.{◌≡◌};
-ghost use Rattle.wasm_flat_operators.specs.Signatures.{signature_of};
+ghost use Rattle.wasm_operators_plain.specs.Signatures.{signature_of};
 
-use wasm_flat_operators::{NumberType, NumericOperator, Signature};
+use wasm_operators_plain::{NumberType, NumericOperator, Signature};
 
 /// What a numeric operator takes and gives. It stands here once more to be inlined: each group of
 /// operators has code of its own then.

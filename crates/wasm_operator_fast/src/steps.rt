@@ -1,8 +1,8 @@
 //! Reading and typing at once.
 
 ghost use Rattle.std.specs.Prelude.{◌≡◌, ◌≤◌, ◌<◌, Some, OnOk, OnErr};
-ghost use Rattle.wasm_binary_reader.specs.Reader.{SameInput, position_in, rest};
-ghost use Rattle.wasm_module_resources.specs.Answers.{world};
+ghost use Rattle.wasm_readers_bytes.specs.Reader.{SameInput, position_in, rest};
+ghost use Rattle.wasm_validator_resources.specs.Answers.{world};
 ghost use Rattle.wasm_operator_stacks.specs.Seen.{state_of, around, Kept};
 ghost use Rattle.wasm_operator_fast.specs.Fused.{Fuses, step_at};
 
@@ -19,10 +19,10 @@ use crate::not_taken::NotTaken;
 use crate::numbers::{compute, constant};
 use crate::signatures::signature;
 use std::alloc::Allocator;
-use wasm_flat_operators::{NumberType, access_from_opcode, numeric_from_opcode};
-use wasm_module_resources::WasmModuleResources;
 use wasm_operator_stacks::Stacks;
+use wasm_operators_plain::{NumberType, access_from_opcode, numeric_from_opcode};
 use wasm_readers::BinaryReader;
+use wasm_validator_resources::WasmModuleResources;
 
 /// A numeric operator, a load or a store.
 #[inline(always)]

@@ -2,9 +2,9 @@
 use Rattle.std.specs.Prelude.{ℕ, Bool, Option, slice_get}
 use Rattle.wasm_spec.specs.Syntax.{Table}
 use Rattle.wasm_spec.specs.ValueTypes.{implies}
-use Rattle.wasm_rules.specs.Contexts.{Context}
+use Rattle.wasm_spec_rules.specs.Contexts.{Context}
 use Rattle.wasm_readers_types.specs.declared.indices.UnpackedIndex.{UnpackedIndex}
-use Rattle.wasm_rules.specs.Attempts.{◌>>=◌, guard}
+use Rattle.wasm_spec_rules.specs.Attempts.{◌>>=◌, guard}
 
 -- the table of an index, from a shared function or from another
 unfoldable pub table_in : Context UnpackedIndex → Bool → ℕ → Option (Table UnpackedIndex)

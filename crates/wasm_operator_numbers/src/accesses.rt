@@ -1,8 +1,8 @@
 //! Loads and stores.
 
 ghost use Rattle.std.specs.Prelude.{◌≡◌, ◌&&◌, ◌||◌, ◌^◌, nat_le, nat_lt};
-ghost use Rattle.wasm_flat_operators.specs.Memories.{max_align_of};
-ghost use Rattle.wasm_flat_operators.specs.declared.memories.MemArg.{MemArg};
+ghost use Rattle.wasm_operators_plain.specs.Memories.{max_align_of};
+ghost use Rattle.wasm_operators_plain.specs.declared.memories.MemArg.{MemArg};
 ghost use Rattle.wasm_operator_steps.specs.Shapes.{access_shape, loading, storing, number_type};
 ghost use Rattle.wasm_operator_stacks.specs.Seen.{Kept};
 ghost use Rattle.wasm_operator_checks.specs.Steps.{Performs};
@@ -10,14 +10,14 @@ ghost use Rattle.wasm_operator_numbers.specs.Accesses.{accessing};
 
 use crate::allowed::allows_number;
 use std::alloc::Allocator;
-use wasm_flat_operators::{NumberType, max_align};
-use wasm_module_resources::WasmModuleResources;
 use wasm_operator_checks::{
     OperatorError, OperatorFault, OperatorRule, Takes, ValTypes, address, plain,
 };
 use wasm_operator_stacks::{Stacks, TypeWord};
 use wasm_operators::{MemArg, MemoryOperator};
+use wasm_operators_plain::{NumberType, max_align};
 use wasm_readers_types::MemoryType;
+use wasm_validator_resources::WasmModuleResources;
 
 /// Whether it is a load or a store, and of what.
 #[derive(Clone, Copy)]

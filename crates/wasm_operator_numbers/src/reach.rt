@@ -5,10 +5,10 @@ ghost use Rattle.wasm_readers_types.specs.SeenExterns.{table_of};
 ghost use Rattle.wasm_operator_numbers.specs.Reached.{table_in};
 
 use std::alloc::Allocator;
-use wasm_module_resources::WasmModuleResources;
 use wasm_operator_checks::{OperatorFault, OperatorRule, reaches};
 use wasm_operator_stacks::Stacks;
 use wasm_readers_types::TableType;
+use wasm_validator_resources::WasmModuleResources;
 
 /// The type of the table of this index.
 ///

@@ -7,10 +7,10 @@ ghost use Rattle.wasm_operator_checks.specs.Steps.{Performs};
 use crate::bulk::{elem_drop, table_copy, table_init};
 use crate::tables::{table_fill, table_get, table_grow, table_set, table_size};
 use std::alloc::Allocator;
-use wasm_flat_operators::TableOperator;
-use wasm_module_resources::WasmModuleResources;
 use wasm_operator_checks::OperatorError;
 use wasm_operator_stacks::Stacks;
+use wasm_operators_plain::TableOperator;
+use wasm_validator_resources::WasmModuleResources;
 
 /// An operator on tables (Core Specification 3.0, Validation, Table Instructions).
 ///

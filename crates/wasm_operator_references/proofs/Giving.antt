@@ -6,7 +6,7 @@ use Rattle.wasm_spec.specs.Syntax.{Val}
 use Rattle.wasm_readers_types.specs.SeenValues.{val_of}
 use Rattle.wasm_readers_types.specs.declared.indices.UnpackedIndex.{UnpackedIndex}
 use Rattle.wasm_readers_types.specs.declared.values.ValType.{ValType}
-use Rattle.wasm_rules.specs.Attempts.{last_of, front_of}
+use Rattle.wasm_spec_rules.specs.Attempts.{last_of, front_of}
 use Rattle.wasm_operator_steps.specs.Machine.{Operand, State, known, pushed_onto, push_operand, push_vals}
 use Rattle.wasm_operator_stacks.specs.Seen.{below}
 use Rattle.wasm_operator_stacks.specs.SeenOperands.{operand_of}

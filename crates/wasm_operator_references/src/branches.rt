@@ -8,13 +8,13 @@ ghost use Rattle.wasm_operator_checks.specs.Steps.{Performs};
 use crate::given::{exchange_with, front_types, last_type};
 use crate::referenced::{look_reference, non_null};
 use std::alloc::Allocator;
-use wasm_module_resources::WasmModuleResources;
 use wasm_operator_checks::{
     OperatorError, OperatorFault, OperatorRule, check_types, exchange_types, has, matches,
 };
 use wasm_operator_control::label_types;
 use wasm_operator_stacks::Stacks;
 use wasm_readers_errors::WasmFeatures;
+use wasm_validator_resources::WasmModuleResources;
 
 /// `br_on_null` (Core Specification 3.0, Validation, Instructions, Control Instructions).
 ///

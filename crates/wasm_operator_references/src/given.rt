@@ -3,7 +3,7 @@
 ghost use Rattle.std.specs.Prelude.{◌≡◌, ◌≤◌, length, OnOk, OnErr};
 ghost use Rattle.std.specs.Option.{option_map};
 ghost use Rattle.wasm_operator_stacks.specs.SeenTypeWords.{val_in};
-ghost use Rattle.wasm_rules.specs.Attempts.{last_of, front_of};
+ghost use Rattle.wasm_spec_rules.specs.Attempts.{last_of, front_of};
 ghost use Rattle.wasm_operator_steps.specs.Machine.{push_operand, push_vals};
 ghost use Rattle.wasm_operator_stacks.specs.SeenOperands.{operand_of};
 ghost use Rattle.wasm_operator_stacks.specs.Seen.{state_of, below, Kept};

@@ -3,7 +3,7 @@
 ghost use Rattle.wasm_operators.specs.Maps.{map_reference};
 ghost use Rattle.wasm_operators.specs.SeenReferences.{reference_of};
 ghost use Rattle.wasm_operator_steps.specs.Shapes.{reference_shape};
-ghost use Rattle.wasm_module_resources.specs.Answers.{written_index};
+ghost use Rattle.wasm_validator_resources.specs.Answers.{written_index};
 ghost use Rattle.wasm_operator_stacks.specs.Seen.{Kept};
 ghost use Rattle.wasm_operator_checks.specs.Steps.{Performs};
 ghost use Rattle.wasm_operator_references.specs.Written.{IsWrittenReference};
@@ -13,10 +13,10 @@ use crate::comparing::ref_eq;
 use crate::functions::ref_func;
 use crate::nulls::{ref_as_non_null, ref_is_null, ref_null};
 use std::alloc::Allocator;
-use wasm_module_resources::WasmModuleResources;
 use wasm_operator_checks::OperatorError;
 use wasm_operator_stacks::Stacks;
 use wasm_operators::ReferenceOperator;
+use wasm_validator_resources::WasmModuleResources;
 
 /// An operator on references (Core Specification 3.0, Validation, Instructions, Reference
 /// Instructions), with the branches on null, as it is written in a module.

@@ -1,7 +1,7 @@
 -- What contracts see of words.
 use Rattle.wasm_spec.specs.Syntax.{Val, i32, i64, f32, f64}
-use Rattle.wasm_flat_operators.specs.declared.signatures.NumberType.{NumberType}
-use Rattle.wasm_flat_operators.specs.declared.signatures.NumberType.TheVariants as number
+use Rattle.wasm_operators_plain.specs.declared.signatures.NumberType.{NumberType}
+use Rattle.wasm_operators_plain.specs.declared.signatures.NumberType.TheVariants as number
 use Rattle.wasm_readers_types.specs.declared.indices.UnpackedIndex.{UnpackedIndex}
 use Rattle.wasm_operator_stacks.specs.declared.type_word.TypeWord.{TypeWord}
 use Rattle.wasm_operator_stacks.specs.TypeWords.{val_at}

@@ -5,7 +5,7 @@ ghost use Rattle.wasm_readers_types.specs.declared.indices.TheConstants.{MAX_IDS
 ghost use Rattle.wasm_operator_stacks.specs.TypeWords.{val_at, val_number};
 
 use crate::codes::{ref_code, ref_from_code};
-use wasm_flat_operators::NumberType;
+use wasm_operators_plain::NumberType;
 use wasm_readers_types::{RefType, ValType};
 
 /// A value type as one number: two are the same type exactly where the numbers are equal.

@@ -5,7 +5,7 @@ ghost use Rattle.wasm_readers_types.specs.declared.indices.TheConstants.{MAX_IDS
 ghost use Rattle.wasm_operator_stacks.specs.Words.{operand_at, operand_number};
 
 use crate::{TypeWord, abstract_code, abstract_from_code};
-use wasm_flat_operators::NumberType;
+use wasm_operators_plain::NumberType;
 use wasm_readers_types::{AbstractHeapType, ValType};
 
 /// The number of an operand of any type.

@@ -1,6 +1,6 @@
 -- Renaming through attempts.
 use Rattle.std.proofs.Common.{◌≡◌, refl, ◌∙◌, Bool, true, false, List, [], ◌∷◌, map, Option, Some, None, option_map, is_some, if◌then◌else◌}
-use Rattle.wasm_rules.specs.Attempts.{◌>>=◌, guard, passes, last_of, front_of}
+use Rattle.wasm_spec_rules.specs.Attempts.{◌>>=◌, guard, passes, last_of, front_of}
 
 module _ {A A' B B' : Type 0} (u : A → A') (v : B → B') (g : A → Option B) (g' : A' → Option B') (e : (x : A) → g' (u x) ≡ option_map v (g x)) where
   bind-some : (o : Option A) → (option_map u o >>= g') ≡ option_map v (o >>= g)

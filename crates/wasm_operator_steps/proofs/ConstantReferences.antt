@@ -3,11 +3,11 @@ use Rattle.std.proofs.Common.{◌≡◌, refl, sym, ap, ◌∙◌, subst, ℕ, B
 use Rattle.std.specs.Prelude.{⊤}
 use Rattle.wasm_spec.specs.MatchingTests.{World}
 use Rattle.wasm_spec.specs.Syntax.{AbstractHeap, any_heap, i31_heap, extern_heap, Heap, abstract_heap, Ref, Val, i32, i64, f32, f64, v128, reference}
-use Rattle.wasm_flat_operators.specs.Signatures.{signature_of}
-use Rattle.wasm_flat_operators.specs.declared.signatures.NumberType.{NumberType}
-use Rattle.wasm_flat_operators.specs.declared.signatures.NumberType.TheVariants as number
-use Rattle.wasm_flat_operators.specs.declared.signatures.Signature.{Signature}
-use Rattle.wasm_flat_operators.specs.declared.signatures.Signature.TheVariants.{Unary, Binary}
+use Rattle.wasm_operators_plain.specs.Signatures.{signature_of}
+use Rattle.wasm_operators_plain.specs.declared.signatures.NumberType.{NumberType}
+use Rattle.wasm_operators_plain.specs.declared.signatures.NumberType.TheVariants as number
+use Rattle.wasm_operators_plain.specs.declared.signatures.Signature.{Signature}
+use Rattle.wasm_operators_plain.specs.declared.signatures.Signature.TheVariants.{Unary, Binary}
 use Rattle.wasm_operators.specs.References as references
 use Rattle.wasm_operators.specs.Instructions as instruction
 use Rattle.wasm_operators.specs.Instructions.{Instruction}
@@ -15,13 +15,13 @@ use Rattle.wasm_operators.specs.VariableOperator.TheVariants.{LocalGet, LocalSet
 use Rattle.wasm_operators.specs.ConversionOperator.TheVariants.{AnyConvertExtern, ExternConvertAny, RefI31, I31GetS, I31GetU, RefI31Shared}
 use Rattle.wasm_operators.specs.StructOperator.TheVariants.{StructNew, StructNewDefault, StructGet, StructGetS, StructGetU, StructSet, StructNewDesc, StructNewDefaultDesc}
 use Rattle.wasm_operators.specs.ArrayOperator.TheVariants.{ArrayNew, ArrayNewDefault, ArrayNewFixed, ArrayNewData, ArrayNewElem, ArrayGet, ArrayGetS, ArrayGetU, ArraySet, ArrayLen, ArrayFill, ArrayCopy, ArrayInitData, ArrayInitElem}
-use Rattle.wasm_rules.specs.Attempts.{◌>>=◌, guard}
-use Rattle.wasm_rules.specs.Worlds.{world_of}
+use Rattle.wasm_spec_rules.specs.Attempts.{◌>>=◌, guard}
+use Rattle.wasm_spec_rules.specs.Worlds.{world_of}
 use Rattle.wasm_operator_steps.specs.Bodies.{Surroundings}
 use Rattle.wasm_operator_steps.specs.Machine.{Operand, bottom, bottom_reference, open_reference, known, State, push_operand, push_vals, popped, pop_any, as_reference, pop_reference, same_number, matches_operand, pop_val, pop_vals}
 use Rattle.wasm_operator_steps.specs.Actions.{OperandTypes, these, global, function_reference, new_reference, Check, Action, take, give, convert}
 use Rattle.wasm_operator_steps.specs.Shapes.{Shape, plain, converting, nothing, one, number_type, computing, shape_of}
-use Rattle.wasm_rules.specs.Signatures.{resolve_ref, resolve_val, resolve_vals}
+use Rattle.wasm_spec_rules.specs.Signatures.{resolve_ref, resolve_val, resolve_vals}
 use Rattle.wasm_operator_steps.specs.Meanings.{ref_to, exact_if, function_heap, types_at, holds, is_below_either, converted, act, run}
 use Rattle.wasm_operator_steps.specs.Meanings as meanings
 use Rattle.wasm_operator_steps.specs.Steps.{checked, actions_of, is_open, step}

@@ -4,8 +4,8 @@ use Rattle.wasm_spec.specs.MatchingTests.{World}
 use Rattle.wasm_operators.specs.Control.{Block}
 use Rattle.wasm_operators.specs.Maps.{map_block}
 use Rattle.wasm_operators.specs.Instructions.{Instruction}
-use Rattle.wasm_rules.specs.Attempts.{guard}
-use Rattle.wasm_rules.specs.Worlds.{world_of}
+use Rattle.wasm_spec_rules.specs.Attempts.{guard}
+use Rattle.wasm_spec_rules.specs.Worlds.{world_of}
 use Rattle.wasm_operator_steps.specs.Bodies.{Surroundings, map_surroundings}
 use Rattle.wasm_operator_steps.specs.Machine.{Frame, State, map_frame, map_state}
 use Rattle.wasm_operator_steps.specs.Shapes.{shape_of}

@@ -4,7 +4,7 @@ use Rattle.std.proofs.lemmas.Bool.Decides.{Decides-eqb}
 use Rattle.wasm_spec.specs.Syntax.{Val}
 use Rattle.wasm_spec.specs.MatchingTests.{World}
 use Rattle.wasm_operators.specs.Instructions.{Instruction}
-use Rattle.wasm_rules.specs.Attempts.{◌>>=◌, guard, last_of, front_of}
+use Rattle.wasm_spec_rules.specs.Attempts.{◌>>=◌, guard, last_of, front_of}
 use Rattle.wasm_operator_steps.specs.Bodies.{Surroundings}
 use Rattle.wasm_operator_steps.specs.Machine.{Operand, bottom, known, Frame, State, push_operand, pushed_onto, push_vals, popped, pop_any, matches_operand, pop_val, pop_vals}
 use Rattle.wasm_operator_steps.specs.Actions.{OperandTypes, these, params, results, label, returned, local, global, function_reference, new_reference, descriptor_of, fields, element, field, table_address, memory_address, table_element, segment, lesser_table_address, lesser_memory_address, top, repeated, front, last, joined, Action, take, give}

@@ -4,8 +4,8 @@ use Rattle.std.specs.Bool.{Decides}
 use Rattle.std.specs.Option.{option_and_then}
 use Rattle.wasm_spec.specs.Syntax.{Sub}
 use Rattle.wasm_spec.specs.Declared.{supertype, ancestor_at, IsAncestor}
-use Rattle.wasm_rules.specs.Attempts.{◌>>=◌, passes}
-use Rattle.wasm_rules.specs.Worlds.{declared_in, is_below}
+use Rattle.wasm_spec_rules.specs.Attempts.{◌>>=◌, passes}
+use Rattle.wasm_spec_rules.specs.Worlds.{declared_in, is_below}
 use Rattle.wasm_operator_steps.specs.Laws.{WorldsAreRight}
 
 or-cases : (a b : Bool) → (a || b) ≡ true → (a ≡ true) ⊎ (b ≡ true)

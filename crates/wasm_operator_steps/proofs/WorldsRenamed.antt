@@ -4,9 +4,9 @@ use Rattle.std.proofs.lemmas.List.{length-map}
 use Rattle.std.proofs.lemmas.Option.{slice_get-map}
 use Rattle.wasm_spec.specs.Syntax.{Sub, map_sub}
 use Rattle.wasm_spec.specs.Declared.{supertype}
-use Rattle.wasm_rules.specs.Contexts.{Context, renamed_declared, map_context}
-use Rattle.wasm_rules.specs.Attempts.{◌>>=◌}
-use Rattle.wasm_rules.specs.Worlds.{declared_in, is_below, world_of}
+use Rattle.wasm_spec_rules.specs.Contexts.{Context, renamed_declared, map_context}
+use Rattle.wasm_spec_rules.specs.Attempts.{◌>>=◌}
+use Rattle.wasm_spec_rules.specs.Worlds.{declared_in, is_below, world_of}
 use Rattle.wasm_operator_steps.specs.Renaming.{Renames}
 use Rattle.wasm_operator_steps.proofs.Attempts.{bind-map, passes-map, if-map}
 

@@ -3,7 +3,7 @@
 use Rattle.std.specs.Prelude.{Bool, List, map}
 use Rattle.wasm_spec.specs.Syntax.{Val, map_val}
 use Rattle.wasm_spec.specs.Features.{Features}
-use Rattle.wasm_rules.specs.Contexts.{Context, map_context}
+use Rattle.wasm_spec_rules.specs.Contexts.{Context, map_context}
 
 -- a local, and whether it is set from the start
 pub record Local (R : Type 0) : Type 0 where

@@ -3,8 +3,8 @@
 use Rattle.std.specs.Prelude.{◌≡◌, ℕ, Bool, true, false, not, ◌&&◌, List, ◌∷◌}
 use Rattle.wasm_spec.specs.Syntax.{i32, i64, f32, f64, v128}
 use Rattle.wasm_spec.specs.Features.{Features}
-use Rattle.wasm_flat_operators.specs.declared.numeric.NumericOperator.{NumericOperator}
-use Rattle.wasm_flat_operators.specs.declared.numeric.NumericOperator.TheVariants.{I32Add, I32Sub, I32Mul, I64Add, I64Sub, I64Mul}
+use Rattle.wasm_operators_plain.specs.declared.numeric.NumericOperator.{NumericOperator}
+use Rattle.wasm_operators_plain.specs.declared.numeric.NumericOperator.TheVariants.{I32Add, I32Sub, I32Mul, I64Add, I64Sub, I64Mul}
 use Rattle.wasm_operators.specs.Control.{end_}
 use Rattle.wasm_operators.specs.References.{ref_null, ref_func}
 use Rattle.wasm_operators.specs.Instructions as instruction

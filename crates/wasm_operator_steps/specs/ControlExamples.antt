@@ -3,7 +3,7 @@
 use Rattle.std.specs.Prelude.{ℕ, ◌≡◌, true, false, [], ◌∷◌}
 use Rattle.wasm_spec.specs.Syntax.{func_heap, exn_heap, extern_heap, concrete, i32, i64, f32}
 use Rattle.wasm_spec.specs.TypeExamples.{features}
-use Rattle.wasm_flat_operators.specs.declared.numeric.NumericOperator.TheVariants.{I32Add, I64Add, F32Add, I64Eqz}
+use Rattle.wasm_operators_plain.specs.declared.numeric.NumericOperator.TheVariants.{I32Add, I64Add, F32Add, I64Eqz}
 use Rattle.wasm_operators.specs.Control.{empty_block, value_block, func_block, nop, else_, throw_ref, return_, loop, if_, try_table, throw, br, br_if, br_table, select, select_of}
 use Rattle.wasm_operators.specs.References as references
 use Rattle.wasm_operators.specs.Instructions.{Instruction, control, call, parametric, variable, numeric, reference, conversion, structure, array}

@@ -8,9 +8,9 @@ use Rattle.wasm_spec.specs.ValueTypes.{allows_val}
 use Rattle.wasm_spec.specs.Values.{u32_at, list_at}
 use Rattle.wasm_spec.specs.BinaryTypes.{val_at}
 use Rattle.wasm_spec.specs.MatchingTests.{World}
-use Rattle.wasm_rules.specs.Attempts.{◌>>=◌}
-use Rattle.wasm_rules.specs.Contexts.{Context}
-use Rattle.wasm_rules.specs.Signatures.{Signature, signature_of, resolve_val}
+use Rattle.wasm_spec_rules.specs.Attempts.{◌>>=◌}
+use Rattle.wasm_spec_rules.specs.Contexts.{Context}
+use Rattle.wasm_spec_rules.specs.Signatures.{Signature, signature_of, resolve_val}
 use Rattle.wasm_operators.specs.Control.{func_block}
 use Rattle.wasm_operators.specs.Instructions.{Instruction}
 use Rattle.wasm_operator_steps.specs.Bodies.{Local, Surroundings}

@@ -3,7 +3,7 @@ use Rattle.std.specs.Prelude.{◌≡◌, Bool, List, [], ◌∷◌, ◌++◌}
 use Rattle.std.specs.List.{flat_map, Contains}
 use Rattle.wasm_spec.specs.Syntax.{Ref, Sub, Table, Global}
 use Rattle.wasm_spec.specs.References.{refs_heap, refs_val, refs_sub}
-use Rattle.wasm_rules.specs.Contexts.{Context}
+use Rattle.wasm_spec_rules.specs.Contexts.{Context}
 use Rattle.wasm_operators.specs.Control.{Block, empty_block, value_block, func_block}
 use Rattle.wasm_operator_steps.specs.Bodies.{Local, Surroundings}
 use Rattle.wasm_operator_steps.specs.Machine.{Operand, bottom, bottom_reference, open_reference, known, Frame, State}

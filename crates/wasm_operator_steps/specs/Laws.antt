@@ -5,14 +5,14 @@ use Rattle.std.specs.Option.{option_map}
 use Rattle.wasm_spec.specs.Syntax.{Sub}
 use Rattle.wasm_spec.specs.Declared.{ancestor_at, IsAncestor}
 use Rattle.wasm_spec.specs.MatchingTests.{IsWorld}
-use Rattle.wasm_rules.specs.Contexts.{Context}
-use Rattle.wasm_flat_operators.specs.Numeric.{numeric_opcode}
-use Rattle.wasm_flat_operators.specs.Signatures.{signature_at}
-use Rattle.wasm_flat_operators.specs.declared.numeric.NumericOperator.{NumericOperator}
+use Rattle.wasm_spec_rules.specs.Contexts.{Context}
+use Rattle.wasm_operators_plain.specs.Numeric.{numeric_opcode}
+use Rattle.wasm_operators_plain.specs.Signatures.{signature_at}
+use Rattle.wasm_operators_plain.specs.declared.numeric.NumericOperator.{NumericOperator}
 use Rattle.wasm_operators.specs.Control.{Block}
 use Rattle.wasm_operators.specs.Maps.{map_block}
 use Rattle.wasm_operators.specs.Instructions.{Instruction, numeric}
-use Rattle.wasm_rules.specs.Worlds.{declared_in, world_of}
+use Rattle.wasm_spec_rules.specs.Worlds.{declared_in, world_of}
 use Rattle.wasm_operator_steps.specs.Bodies.{Surroundings, map_surroundings}
 use Rattle.wasm_operator_steps.specs.Machine.{State, map_state}
 use Rattle.wasm_operator_steps.specs.Identities.{refs_surroundings, refs_state, refs_block, IsOneToOneOn}

@@ -3,11 +3,10 @@
 use Rattle.std.specs.Prelude.{ℕ, Bool, true, false, ◌==◌, ◌-◌, List, [], ◌∷◌, map, length, drop, Option, Some, None, slice_get, if◌then◌else◌}
 use Rattle.wasm_spec.specs.Syntax.{AbstractHeap, abstract_heap, Ref, Val, i32, i64, f32, f64, v128, reference, map_val}
 use Rattle.wasm_spec.specs.Matching.{is_shared_heap}
-use Rattle.wasm_spec.specs.MatchingTests.{World}
-use Rattle.wasm_spec.specs.MatchingTests.{matches_heap, matches_val}
+use Rattle.wasm_spec.specs.MatchingTests.{World, matches_heap, matches_val}
 use Rattle.wasm_operators.specs.Control.{Block}
 use Rattle.wasm_operators.specs.Maps.{map_block}
-use Rattle.wasm_rules.specs.Attempts.{◌>>=◌, guard}
+use Rattle.wasm_spec_rules.specs.Attempts.{◌>>=◌, guard}
 
 -- Operands. In code that isn't reached: one of any type; one of any reference type, not null; and a reference to an abstract heap
 -- type, not null, whose shared flag is open. Elsewhere those of a known type.

@@ -6,15 +6,13 @@ use Rattle.wasm_spec.specs.Syntax.{AbstractHeap, eq_heap, cont_heap, Heap, abstr
 use Rattle.wasm_spec.specs.Features.{Features}
 use Rattle.wasm_spec.specs.ValueTypes.{implies, allows_val}
 use Rattle.wasm_spec.specs.Matching.{top_of_heap, is_shared_heap}
-use Rattle.wasm_spec.specs.MatchingTests.{same_flag, same_abstract}
-use Rattle.wasm_spec.specs.MatchingTests.{World}
-use Rattle.wasm_spec.specs.MatchingTests.{matches_heap, matches_ref}
+use Rattle.wasm_spec.specs.MatchingTests.{same_flag, same_abstract, World, matches_heap, matches_ref}
 use Rattle.wasm_operators.specs.Control.{Block, empty_block, value_block, func_block}
 use Rattle.wasm_operators.specs.Memories.{max_align_of}
 use Rattle.wasm_operators.specs.MemoryOperator.{MemoryOperator}
 use Rattle.wasm_operators.specs.MemArg.{MemArg}
-use Rattle.wasm_rules.specs.Attempts.{◌>>=◌, guard, passes, among, last_of, front_of, list_of}
-use Rattle.wasm_rules.specs.Signatures.{Signature, signature_of, resolve_heap, resolve_ref, resolve_val, resolve_vals}
+use Rattle.wasm_spec_rules.specs.Attempts.{◌>>=◌, guard, passes, among, last_of, front_of, list_of}
+use Rattle.wasm_spec_rules.specs.Signatures.{Signature, signature_of, resolve_heap, resolve_ref, resolve_val, resolve_vals}
 use Rattle.wasm_operator_steps.specs.Matching.{matches_vals, matches_storage}
 use Rattle.wasm_operator_steps.specs.Bodies.{Surroundings}
 use Rattle.wasm_operator_steps.specs.Machine.{Operand, bottom_reference, open_reference, known, Kind, loop_kind, if_kind, else_kind, is_if, Frame, State, push_operand, push_vals, pop_any, pop_reference, non_null, same_number, chosen, become_unreachable, push_frame, set_local, pop_vals}

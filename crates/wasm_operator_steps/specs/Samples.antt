@@ -3,7 +3,7 @@ use Rattle.std.specs.Prelude.{ℕ, Bool, true, false, not, ◌&&◌, nat_eq, pos
 use Rattle.wasm_spec.specs.Syntax.{AbstractHeap, func_heap, Heap, abstract_heap, concrete, Ref, Val, i32, i64, reference, Storage, i8, unpacked, Field, Comp, func, array, struct, cont, Sub, Table, Memory, Global}
 use Rattle.wasm_spec.specs.Features.{Features}
 use Rattle.wasm_spec.specs.TypeExamples.{features}
-use Rattle.wasm_rules.specs.Contexts.{Context}
+use Rattle.wasm_spec_rules.specs.Contexts.{Context}
 use Rattle.wasm_operators.specs.Control as control
 use Rattle.wasm_operators.specs.Instructions as instruction
 use Rattle.wasm_operators.specs.Instructions.{Instruction}

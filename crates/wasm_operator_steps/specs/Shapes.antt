@@ -2,11 +2,11 @@
 -- Core Specification 3.0, Validation, Instructions, and the proposals for shared references and for custom descriptors.
 use Rattle.std.specs.Prelude.{ℕ, Bool, true, false, if◌then◌else◌, List, [], ◌∷◌, ◌++◌}
 use Rattle.wasm_spec.specs.Syntax.{AbstractHeap, any_heap, i31_heap, array_heap, func_heap, extern_heap, exn_heap, Heap, abstract_heap, concrete, Ref, Val, i32, i64, f32, f64, v128, reference}
-use Rattle.wasm_flat_operators.specs.Signatures.{signature_of, saturating_signature_of}
-use Rattle.wasm_flat_operators.specs.declared.signatures.NumberType.{NumberType}
-use Rattle.wasm_flat_operators.specs.declared.signatures.NumberType.TheVariants as number
-use Rattle.wasm_flat_operators.specs.declared.signatures.Signature.{Signature}
-use Rattle.wasm_flat_operators.specs.declared.signatures.Signature.TheVariants.{Unary, Binary}
+use Rattle.wasm_operators_plain.specs.Signatures.{signature_of, saturating_signature_of}
+use Rattle.wasm_operators_plain.specs.declared.signatures.NumberType.{NumberType}
+use Rattle.wasm_operators_plain.specs.declared.signatures.NumberType.TheVariants as number
+use Rattle.wasm_operators_plain.specs.declared.signatures.Signature.{Signature}
+use Rattle.wasm_operators_plain.specs.declared.signatures.Signature.TheVariants.{Unary, Binary}
 use Rattle.wasm_operators.specs.Control as control
 use Rattle.wasm_operators.specs.Control.{Block, empty_block, value_block, func_block, Control, Parametric}
 use Rattle.wasm_operators.specs.References as references

@@ -3,7 +3,7 @@ use Rattle.std.specs.Prelude.{ℕ, ◌≡◌, true, false, not, ◌&&◌, Bool, 
 use Rattle.wasm_spec.specs.Syntax.{func_heap, abstract_heap, concrete, Ref, i32, i8, unpacked, Comp, func, struct, Sub}
 use Rattle.wasm_spec.specs.Syntax as syntax
 use Rattle.wasm_spec.specs.TypeExamples.{features}
-use Rattle.wasm_rules.specs.Contexts.{Context}
+use Rattle.wasm_spec_rules.specs.Contexts.{Context}
 use Rattle.wasm_operators.specs.Control.{value_block, func_block, loop, if_, try_table, throw}
 use Rattle.wasm_operators.specs.References.{ref_func, ref_test, ref_cast}
 use Rattle.wasm_operators.specs.References as references

@@ -2,10 +2,10 @@
 use Rattle.std.specs.Prelude.{ℕ, ◌≡◌, Bool, true, List, ◌++◌, length, Some, None, is_some, slice_get}
 use Rattle.wasm_spec.specs.Syntax.{Val}
 use Rattle.wasm_spec.specs.MatchingTests.{World, matches_val}
-use Rattle.wasm_rules.specs.Contexts.{Context}
+use Rattle.wasm_spec_rules.specs.Contexts.{Context}
 use Rattle.wasm_operators.specs.Instructions.{Instruction}
-use Rattle.wasm_rules.specs.Attempts.{◌>>=◌, last_of, front_of}
-use Rattle.wasm_rules.specs.Worlds.{world_of}
+use Rattle.wasm_spec_rules.specs.Attempts.{◌>>=◌, last_of, front_of}
+use Rattle.wasm_spec_rules.specs.Worlds.{world_of}
 use Rattle.wasm_operator_steps.specs.Matching.{matches_vals}
 use Rattle.wasm_operator_steps.specs.Bodies.{Surroundings}
 use Rattle.wasm_operator_steps.specs.Machine.{bottom, known, Frame, State, push_operand, push_vals, pop_any, matches_operand, pop_val, pop_vals}

@@ -5,8 +5,8 @@ use Rattle.wasm_spec.specs.MatchingTests.{World}
 use Rattle.wasm_spec.specs.Syntax.{Val, i32}
 use Rattle.wasm_operators.specs.Control.{Block, value_block, func_block}
 use Rattle.wasm_operators.specs.Instructions.{Instruction}
-use Rattle.wasm_rules.specs.Attempts.{◌>>=◌, guard, passes}
-use Rattle.wasm_rules.specs.Worlds.{world_of}
+use Rattle.wasm_spec_rules.specs.Attempts.{◌>>=◌, guard, passes}
+use Rattle.wasm_spec_rules.specs.Worlds.{world_of}
 use Rattle.wasm_operator_steps.specs.Bodies.{Local, Surroundings}
 use Rattle.wasm_operator_steps.specs.Machine.{block_kind, State}
 use Rattle.wasm_operator_steps.specs.Actions.{front, last, label, local, Check, Action, need, refuse, take, give, take_any, take_reference, take_comparable, make_non_null, choose, stop, turn_to_else, leave, take_below, convert, enter, set, branch_on_null, branch_to_one_of}

@@ -8,10 +8,10 @@ ghost use Rattle.wasm_operator_checks.specs.Steps.{Performs};
 use crate::accesses::{struct_get, struct_get_s, struct_get_u, struct_set};
 use crate::made::{struct_new, struct_new_default, struct_new_default_desc, struct_new_desc};
 use std::alloc::Allocator;
-use wasm_flat_operators::StructOperator;
-use wasm_module_resources::WasmModuleResources;
 use wasm_operator_checks::OperatorError;
 use wasm_operator_stacks::Stacks;
+use wasm_operators_plain::StructOperator;
+use wasm_validator_resources::WasmModuleResources;
 
 /// An operator on structures (Core Specification 3.0, Validation, Instructions, Aggregate
 /// Instructions), or one of the proposal for custom descriptors.

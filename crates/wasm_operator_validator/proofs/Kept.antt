@@ -1,6 +1,6 @@
 -- What surrounds the code stays, and a refusal ends what is read.
 use Rattle.std.proofs.Common.{◌≡◌, ◌∙◌, refl, ℕ, List, Option, None, Err}
-use Rattle.wasm_rules.specs.Contexts.{Context}
+use Rattle.wasm_spec_rules.specs.Contexts.{Context}
 use Rattle.wasm_readers_errors.specs.declared.error.Error.{Error}
 use Rattle.wasm_readers_errors.specs.declared.error.Error.TheVariants.{Refused, OutOfMemory}
 use Rattle.wasm_readers_types.specs.declared.indices.UnpackedIndex.{UnpackedIndex}

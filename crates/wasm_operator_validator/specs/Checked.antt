@@ -1,9 +1,9 @@
 -- What contracts see of instructions that are read and typed.
 -- Core Specification 3.0, Appendix, Validation Algorithm.
 use Rattle.std.specs.Prelude.{◌≡◌, ◌≤◌, ◌+◌, ℕ, List, length, Option, Some, None, Result, Ok, Err, ⊤}
-use Rattle.wasm_rules.specs.Contexts.{Context}
-use Rattle.wasm_binary_reader.specs.Reader.{input, original, position_in}
-use Rattle.wasm_binary_reader.specs.declared.binary_reader.BinaryReader.{BinaryReader}
+use Rattle.wasm_spec_rules.specs.Contexts.{Context}
+use Rattle.wasm_readers_bytes.specs.Reader.{input, original, position_in}
+use Rattle.wasm_readers_bytes.specs.declared.binary_reader.BinaryReader.{BinaryReader}
 use Rattle.wasm_readers_errors.specs.declared.error.Error.{Error}
 use Rattle.wasm_readers_errors.specs.declared.error.Error.TheVariants.{Refused, OutOfMemory}
 use Rattle.wasm_readers_types.specs.declared.indices.UnpackedIndex.{UnpackedIndex}

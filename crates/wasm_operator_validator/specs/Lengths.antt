@@ -8,7 +8,7 @@ use Rattle.wasm_readers_types.specs.declared.indices.UnpackedIndex.TheVariants.{
 use Rattle.wasm_operator_steps.specs.Bodies.{Surroundings}
 use Rattle.wasm_operator_steps.specs.Machine.{Frame, State}
 use Rattle.wasm_operator_steps.specs.Actions.{of_tag, OperandTypes}
-use Rattle.wasm_rules.specs.Signatures.{Signature}
+use Rattle.wasm_spec_rules.specs.Signatures.{Signature}
 use Rattle.wasm_operator_steps.specs.Meanings.{sub_at, signature_at, types_at}
 use Rattle.wasm_operator_validator.specs.Arities.{how_many}
 use Rattle.wasm_operator_validator.specs.Asked.{Asked}

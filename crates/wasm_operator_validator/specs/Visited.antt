@@ -1,7 +1,7 @@
 -- One operator at an offset of the input, with what is told of its refusal.
 -- Core Specification 3.0, Validation, Instructions.
 use Rattle.std.specs.Prelude.{ℕ, Result, Ok, Err, ⊤}
-use Rattle.wasm_rules.specs.Contexts.{Context}
+use Rattle.wasm_spec_rules.specs.Contexts.{Context}
 use Rattle.wasm_readers_types.specs.declared.indices.UnpackedIndex.{UnpackedIndex}
 use Rattle.wasm_readers_errors.specs.declared.error.Error.{Error}
 use Rattle.wasm_operators.specs.Instructions.{Instruction}

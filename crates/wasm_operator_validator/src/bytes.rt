@@ -1,7 +1,7 @@
 //! Steps from bytes.
 
 ghost use Rattle.std.specs.Prelude.{◌≡◌, ◌≤◌, ◌<◌, ◌||◌, Some, false, not, is_ok, IfErr, OnOk, OnErr};
-ghost use Rattle.wasm_binary_reader.specs.Reader.{SameInput, position_in, rest};
+ghost use Rattle.wasm_readers_bytes.specs.Reader.{SameInput, position_in, rest};
 ghost use Rattle.wasm_operator_stacks.specs.Seen.{Kept};
 ghost use Rattle.wasm_operator_validator.specs.Typed.{typed_state};
 ghost use Rattle.wasm_operator_validator.specs.Checked.{StandsIn};
@@ -9,11 +9,11 @@ ghost use Rattle.wasm_operator_validator.specs.Reads.{ReadsStep, stepped};
 
 use crate::validator::OperatorValidator;
 use std::alloc::Allocator;
-use wasm_module_resources::WasmModuleResources;
 use wasm_operator_fast::{NotTaken, fast_step};
 use wasm_operators::read_operator;
 use wasm_readers::BinaryReader;
 use wasm_readers_errors::Error;
+use wasm_validator_resources::WasmModuleResources;
 
 impl<A: Allocator> OperatorValidator<A> {
     /// Reads the next operator and takes its step, where it is a frequent one, its operands are of

@@ -1,12 +1,12 @@
 //! The validator of operators.
 
 ghost use Rattle.std.specs.Prelude.{◌≡◌, ◌≤◌, ◌+◌, ◌++◌, [], true, false, not, ◌||◌, length, map, is_ok, IfErr, IfOk, OnOk, IsSome};
-ghost use Rattle.wasm_rules.specs.FeatureFlags.{features_of};
+ghost use Rattle.wasm_spec_rules.specs.FeatureFlags.{features_of};
 ghost use Rattle.wasm_readers_types.specs.SeenValues.{val_of};
 ghost use Rattle.wasm_operators.specs.SeenOperators.{operator_of};
 ghost use Rattle.wasm_operator_steps.specs.Meanings.{has_default};
 ghost use Rattle.wasm_operator_steps.specs.Steps.{is_finished};
-ghost use Rattle.wasm_module_resources.specs.Answers.{val_in, IsWrittenVal};
+ghost use Rattle.wasm_validator_resources.specs.Answers.{val_in, IsWrittenVal};
 ghost use Rattle.wasm_operator_stacks.specs.Seen.{Kept};
 ghost use Rattle.wasm_operator_control.specs.Blocks.{function_in};
 ghost use Rattle.wasm_operator_validator.specs.Stepped.{Steps, IsWrittenInstruction};
@@ -15,12 +15,12 @@ ghost use Rattle.wasm_operator_validator.specs.Typed.{typed_state, parameter, Be
 
 use crate::steps::step;
 use std::alloc::{AllocError, Allocator, Global};
-use wasm_module_resources::WasmModuleResources;
 use wasm_operator_checks::{OperatorError, OperatorFault, OperatorRule};
 use wasm_operator_stacks::{BlockWord, LocalWord, Locals, MAX_LOCALS, Stacks, TypeWord};
 use wasm_operators::{FrameKind, Operator};
 use wasm_readers_errors::{Error, WasmFeatures};
 use wasm_readers_types::{CompositeInnerType, ValType};
+use wasm_validator_resources::WasmModuleResources;
 
 /// The typing of one function body or one constant expression, operator by operator (Core
 /// Specification 3.0, Appendix, Validation Algorithm). It keeps operands, frames and locals; what

@@ -9,9 +9,9 @@ ghost use Rattle.wasm_operator_validator.specs.Visited.{IsToldAt, StepsAt};
 
 use crate::validator::OperatorValidator;
 use std::alloc::{Allocator, Global};
-use wasm_module_resources::WasmModuleResources;
 use wasm_operators::Operator;
 use wasm_readers_errors::Error;
+use wasm_validator_resources::WasmModuleResources;
 
 /// A validator of operators with what it looks up of the module, for as long as operators are
 /// handed to it.

@@ -4,11 +4,11 @@ use Rattle.std.proofs.Common.{ℕ, nat_lt, ◌==◌, List, [], ◌∷◌, ◌++�
 use Rattle.wasm_spec.specs.Values.{u32_at, s33_index_at, not_negative}
 use Rattle.wasm_spec.specs.BinaryTypes.{val_at}
 use Rattle.wasm_spec.proofs.Front.{Reads, reads_none, reads_here, reads_value, reads_behind, reads_weaken, reads_if, reads_map, reads_then, reads_list, signed-reads, heap-reads, val-reads}
-use Rattle.wasm_flat_operators.specs.Numeric.{numeric_from, saturating_from}
-use Rattle.wasm_flat_operators.specs.Memories.{access_from}
-use Rattle.wasm_flat_operators.specs.Conversions.{conversion_from, shared_from}
-use Rattle.wasm_flat_operators.specs.declared.memories.MemoryOperator.{MemoryOperator}
-use Rattle.wasm_flat_operators.proofs.Fronts.{u32-reads, one_index-reads, two_indices-reads, memarg-reads, call-reads, variable-reads, table_access-reads, table-reads, memory_size-reads, memory-reads, constant-reads, vector-reads, struct-reads, array-reads}
+use Rattle.wasm_operators_plain.specs.Numeric.{numeric_from, saturating_from}
+use Rattle.wasm_operators_plain.specs.Memories.{access_from}
+use Rattle.wasm_operators_plain.specs.Conversions.{conversion_from, shared_from}
+use Rattle.wasm_operators_plain.specs.declared.memories.MemoryOperator.{MemoryOperator}
+use Rattle.wasm_operators_plain.proofs.Fronts.{u32-reads, one_index-reads, two_indices-reads, memarg-reads, call-reads, variable-reads, table_access-reads, table-reads, memory_size-reads, memory-reads, constant-reads, vector-reads, struct-reads, array-reads}
 use Rattle.wasm_operators.specs.References.{cast_flags_from, cast_flags_at, branch_at, reference_from, cast_from}
 use Rattle.wasm_operators.specs.Control.{catch_at, br_table_at, try_table_at, block_at, control_from, parametric_from}
 use Rattle.wasm_operators.specs.Instructions.{with_memarg, aggregate_from, bulk_from, prefixed_from, plain_from, instruction_at}

@@ -2,20 +2,20 @@
 use Rattle.std.proofs.Common.{refl, ℕ, nat_lt, ◌==◌, List, Option, Some, None}
 use Rattle.wasm_spec.specs.Values.{byte_at, u32_at, s33_index_at, list_at}
 use Rattle.wasm_spec.proofs.Renaming.{Renames, renames_none, renames_some, renames_if, renames_then, renames_map, renames_same_then, renames_same_map, renames_list, heap-renames, val-renames}
-use Rattle.wasm_flat_operators.specs.Numeric.{numeric_from, saturating_from}
-use Rattle.wasm_flat_operators.specs.Calls.{call_from}
-use Rattle.wasm_flat_operators.specs.Variables.{variable_from}
-use Rattle.wasm_flat_operators.specs.Tables.{table_access_from, table_from}
-use Rattle.wasm_flat_operators.specs.Memories.{access_from, memarg_at, memory_size_from, memory_from}
-use Rattle.wasm_flat_operators.specs.Constants.{constant_from, vector_from}
-use Rattle.wasm_flat_operators.specs.Structs.{struct_from}
-use Rattle.wasm_flat_operators.specs.Arrays.{array_from}
-use Rattle.wasm_flat_operators.specs.Conversions.{conversion_from, shared_from}
+use Rattle.wasm_operators_plain.specs.Numeric.{numeric_from, saturating_from}
+use Rattle.wasm_operators_plain.specs.Calls.{call_from}
+use Rattle.wasm_operators_plain.specs.Variables.{variable_from}
+use Rattle.wasm_operators_plain.specs.Tables.{table_access_from, table_from}
+use Rattle.wasm_operators_plain.specs.Memories.{access_from, memarg_at, memory_size_from, memory_from}
+use Rattle.wasm_operators_plain.specs.Constants.{constant_from, vector_from}
+use Rattle.wasm_operators_plain.specs.Structs.{struct_from}
+use Rattle.wasm_operators_plain.specs.Arrays.{array_from}
+use Rattle.wasm_operators_plain.specs.Conversions.{conversion_from, shared_from}
 use Rattle.wasm_operators.specs.References.{cast_flags_at, branch_at, reference_from, cast_from}
 use Rattle.wasm_operators.specs.Control.{catch_at, br_table_at, try_table_at, block_at, control_from, parametric_from}
 use Rattle.wasm_operators.specs.Instructions.{with_memarg, aggregate_from, bulk_from, prefixed_from, plain_from, instruction_at}
 use Rattle.wasm_operators.specs.Maps.{map_block, map_control, map_parametric, map_reference, map_cast, map_instruction, map_try_table, map_branch}
-use Rattle.wasm_flat_operators.specs.declared.memories.MemoryOperator.{MemoryOperator}
+use Rattle.wasm_operators_plain.specs.declared.memories.MemoryOperator.{MemoryOperator}
 
 module _ {R S : Type 0} (f : R → S) (to : ℕ → R) where
   abbrev then_renamed : ℕ → S

@@ -4,28 +4,28 @@ use Rattle.std.specs.Prelude.{ℕ, ◌==◌, nat_lt, if◌then◌else◌, List, 
 use Rattle.std.specs.Option.{option_map, option_and_then}
 use Rattle.wasm_spec.specs.Values.{byte_at, u32_at}
 use Rattle.wasm_operators.specs.Control.{Control, Parametric, control_from, parametric_from}
-use Rattle.wasm_flat_operators.specs.Calls.{call_from}
-use Rattle.wasm_flat_operators.specs.Variables.{variable_from}
-use Rattle.wasm_flat_operators.specs.Tables.{table_access_from, table_from}
-use Rattle.wasm_flat_operators.specs.Memories.{access_from, memarg_at, memory_size_from, memory_from}
-use Rattle.wasm_flat_operators.specs.Constants.{constant_from, vector_from}
-use Rattle.wasm_flat_operators.specs.Numeric.{numeric_from, saturating_from}
+use Rattle.wasm_operators_plain.specs.Calls.{call_from}
+use Rattle.wasm_operators_plain.specs.Variables.{variable_from}
+use Rattle.wasm_operators_plain.specs.Tables.{table_access_from, table_from}
+use Rattle.wasm_operators_plain.specs.Memories.{access_from, memarg_at, memory_size_from, memory_from}
+use Rattle.wasm_operators_plain.specs.Constants.{constant_from, vector_from}
+use Rattle.wasm_operators_plain.specs.Numeric.{numeric_from, saturating_from}
 use Rattle.wasm_operators.specs.References.{Reference, Cast, reference_from, cast_from}
-use Rattle.wasm_flat_operators.specs.Conversions.{conversion_from, shared_from}
-use Rattle.wasm_flat_operators.specs.Structs.{struct_from}
-use Rattle.wasm_flat_operators.specs.Arrays.{array_from}
-use Rattle.wasm_flat_operators.specs.declared.calls.CallOperator.{CallOperator}
-use Rattle.wasm_flat_operators.specs.declared.variables.VariableOperator.{VariableOperator}
-use Rattle.wasm_flat_operators.specs.declared.tables.TableOperator.{TableOperator}
-use Rattle.wasm_flat_operators.specs.declared.memories.MemoryOperator.{MemoryOperator}
-use Rattle.wasm_flat_operators.specs.declared.memories.MemArg.{MemArg}
-use Rattle.wasm_flat_operators.specs.declared.memories.BulkMemoryOperator.{BulkMemoryOperator}
-use Rattle.wasm_flat_operators.specs.declared.constants.ConstantOperator.{ConstantOperator}
-use Rattle.wasm_flat_operators.specs.declared.numeric.NumericOperator.{NumericOperator}
-use Rattle.wasm_flat_operators.specs.declared.numeric.SaturatingOperator.{SaturatingOperator}
-use Rattle.wasm_flat_operators.specs.declared.conversions.ConversionOperator.{ConversionOperator}
-use Rattle.wasm_flat_operators.specs.declared.structs.StructOperator.{StructOperator}
-use Rattle.wasm_flat_operators.specs.declared.arrays.ArrayOperator.{ArrayOperator}
+use Rattle.wasm_operators_plain.specs.Conversions.{conversion_from, shared_from}
+use Rattle.wasm_operators_plain.specs.Structs.{struct_from}
+use Rattle.wasm_operators_plain.specs.Arrays.{array_from}
+use Rattle.wasm_operators_plain.specs.declared.calls.CallOperator.{CallOperator}
+use Rattle.wasm_operators_plain.specs.declared.variables.VariableOperator.{VariableOperator}
+use Rattle.wasm_operators_plain.specs.declared.tables.TableOperator.{TableOperator}
+use Rattle.wasm_operators_plain.specs.declared.memories.MemoryOperator.{MemoryOperator}
+use Rattle.wasm_operators_plain.specs.declared.memories.MemArg.{MemArg}
+use Rattle.wasm_operators_plain.specs.declared.memories.BulkMemoryOperator.{BulkMemoryOperator}
+use Rattle.wasm_operators_plain.specs.declared.constants.ConstantOperator.{ConstantOperator}
+use Rattle.wasm_operators_plain.specs.declared.numeric.NumericOperator.{NumericOperator}
+use Rattle.wasm_operators_plain.specs.declared.numeric.SaturatingOperator.{SaturatingOperator}
+use Rattle.wasm_operators_plain.specs.declared.conversions.ConversionOperator.{ConversionOperator}
+use Rattle.wasm_operators_plain.specs.declared.structs.StructOperator.{StructOperator}
+use Rattle.wasm_operators_plain.specs.declared.arrays.ArrayOperator.{ArrayOperator}
 
 -- the instructions by family
 pub data Instruction (R : Type 0) : Type 0 where

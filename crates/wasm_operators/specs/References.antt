@@ -5,7 +5,7 @@ use Rattle.std.specs.Option.{option_map, option_and_then}
 use Rattle.wasm_spec.specs.Syntax.{Heap, Ref}
 use Rattle.wasm_spec.specs.Values.{byte_at, u32_at}
 use Rattle.wasm_spec.specs.BinaryTypes.{heap_at}
-use Rattle.wasm_flat_operators.specs.Immediates.{alone, one_index}
+use Rattle.wasm_operators_plain.specs.Immediates.{alone, one_index}
 
 pub data Reference (R : Type 0) : Type 0 where
   ref_null : Heap R → Reference R

@@ -5,7 +5,7 @@ ghost use Rattle.wasm_spec.specs.Values.{list_at};
 ghost use Rattle.wasm_spec.specs.BinaryTypes.{val_at};
 ghost use Rattle.wasm_readers.specs.Reader.{SameInput, position_in, original, rest, RefusedFrom};
 ghost use Rattle.wasm_readers.specs.Written.{written};
-ghost use Rattle.wasm_flat_operators.specs.Refusals.{RefusedBetween};
+ghost use Rattle.wasm_operators_plain.specs.Refusals.{RefusedBetween};
 ghost use Rattle.wasm_operators.specs.Control.{block_at, catch_at, br_table_at, try_table_at, control_from, parametric_from};
 ghost use Rattle.wasm_operators.specs.SeenControl.{block_of, labels_of, catches_of, control_of, parametric_of};
 

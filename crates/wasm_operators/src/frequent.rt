@@ -3,7 +3,7 @@
 ghost use Rattle.std.specs.Prelude.{◌≡◌, ◌≤◌, ◌<◌, Some, None, IfSome, OnSome};
 ghost use Rattle.wasm_readers.specs.Reader.{SameInput, position_in, rest};
 ghost use Rattle.wasm_readers.specs.Written.{written};
-ghost use Rattle.wasm_flat_operators.specs.Memories.{memarg_at};
+ghost use Rattle.wasm_operators_plain.specs.Memories.{memarg_at};
 ghost use Rattle.wasm_operators.specs.Control.{block_at};
 ghost use Rattle.wasm_operators.specs.Instructions.{plain_from, instruction_at};
 ghost use Rattle.wasm_operators.specs.SeenControl.{block_of};
@@ -11,7 +11,7 @@ ghost use Rattle.wasm_operators.specs.SeenOperators.{operator_of};
 
 use crate::control::{BlockType, ControlOperator, ParametricOperator};
 use crate::operators::Operator;
-use wasm_flat_operators::{
+use wasm_operators_plain::{
     CallOperator, ConstantOperator, MemArg, VariableOperator, access_from_opcode,
     numeric_from_opcode,
 };
@@ -20,7 +20,7 @@ use wasm_readers_types::ValType;
 
 /// The memory argument that is next, if it is there and of the first memory.
 #[inline(always)]
-#[tactic(auto, unfolding(wasm_flat_operators::specs::Memories::memarg_at))]
+#[tactic(auto, unfolding(wasm_operators_plain::specs::Memories::memarg_at))]
 fn next_memarg(reader: &mut BinaryReader) -> Option<MemArg>
     ensures same { SameInput reader.old reader.new }
     ensures onward { position_in reader.old ≤ position_in reader.new }
@@ -80,7 +80,7 @@ fn next_block_type(reader: &mut BinaryReader) -> Option<BlockType>
 
 /// The control or parametric operator or the call of this opcode, if it is a frequent one.
 #[inline(always)]
-#[tactic(auto, unfolding(crate::specs::Instructions::plain_from, crate::specs::Control::control_from, crate::specs::Control::parametric_from, wasm_flat_operators::specs::Calls::call_from))]
+#[tactic(auto, unfolding(crate::specs::Instructions::plain_from, crate::specs::Control::control_from, crate::specs::Control::parametric_from, wasm_operators_plain::specs::Calls::call_from))]
 fn next_structural<'a>(reader: &mut BinaryReader<'a>, opcode: u8) -> Option<Operator<'a>>
     ensures same { SameInput reader.old reader.new }
     ensures onward { position_in reader.old ≤ position_in reader.new }
@@ -118,7 +118,7 @@ fn next_structural<'a>(reader: &mut BinaryReader<'a>, opcode: u8) -> Option<Oper
 
 /// The next operator, if it is a frequent one. Else the reader may stand anywhere in its input.
 #[inline(always)]
-#[tactic(auto, unfolding(crate::specs::Instructions::instruction_at, crate::specs::Instructions::plain_from, wasm_flat_operators::specs::Variables::variable_from, wasm_flat_operators::specs::Constants::constant_from))]
+#[tactic(auto, unfolding(crate::specs::Instructions::instruction_at, crate::specs::Instructions::plain_from, wasm_operators_plain::specs::Variables::variable_from, wasm_operators_plain::specs::Constants::constant_from))]
 pub(crate) fn next_frequent<'a>(reader: &mut BinaryReader<'a>) -> Option<Operator<'a>>
     ensures same { SameInput reader.old reader.new }
     ensures some { IfSome result (λ op. instruction_at written (rest reader.old)

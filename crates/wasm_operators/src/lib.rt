@@ -17,7 +17,7 @@ pub use expressions::{Nesting, nesting_of, read_expression};
 pub use lists::{Immediate, Listed, ListedItems};
 pub use operators::{Operator, read_operator};
 pub use references::{CastOperator, ReferenceOperator};
-pub use wasm_flat_operators::{
+pub use wasm_operators_plain::{
     ArrayOperator, BulkMemoryOperator, CallOperator, ConstantOperator, ConversionOperator, Ieee32,
     Ieee64, MemArg, MemoryOperator, NumericOperator, SaturatingOperator, StructOperator,
     TableOperator, V128, VariableOperator, max_align, read_memarg,

@@ -3,14 +3,14 @@
 ghost use Rattle.std.specs.Prelude.{◌≡◌, ◌≤◌, ◌<◌, ◌+◌, Some, None, IfOk, IfErr, OnOk, OnErr};
 ghost use Rattle.wasm_readers.specs.Reader.{SameInput, position_in, original, rest, RefusedFrom};
 ghost use Rattle.wasm_readers.specs.Written.{written};
-ghost use Rattle.wasm_flat_operators.specs.Refusals.{RefusedBetween};
+ghost use Rattle.wasm_operators_plain.specs.Refusals.{RefusedBetween};
 ghost use Rattle.wasm_operators.specs.Instructions.{aggregate_from, bulk_from, prefixed_from, plain_from, instruction_at};
 ghost use Rattle.wasm_operators.specs.SeenOperators.{operator_of};
 
 use crate::control::{ControlOperator, ParametricOperator, read_control, read_parametric};
 use crate::frequent::next_frequent;
 use crate::references::{CastOperator, ReferenceOperator, read_cast, read_reference};
-use wasm_flat_operators::{
+use wasm_operators_plain::{
     ArrayOperator, BulkMemoryOperator, CallOperator, ConstantOperator, ConversionOperator, MemArg,
     MemoryOperator, NumericOperator, SaturatingOperator, StructOperator, TableOperator,
     VariableOperator, access_from_opcode, conversion_from_code, numeric_from_opcode, read_array,

@@ -5,7 +5,7 @@ ghost use Rattle.wasm_readers.specs.Reader.{SameInput, position_in, original, re
 ghost use Rattle.wasm_readers.specs.Written.{written};
 ghost use Rattle.wasm_spec.specs.BinaryTypes.{heap_at};
 ghost use Rattle.wasm_readers_types.specs.SeenValues.{ref_of};
-ghost use Rattle.wasm_flat_operators.specs.Refusals.{RefusedBetween};
+ghost use Rattle.wasm_operators_plain.specs.Refusals.{RefusedBetween};
 ghost use Rattle.wasm_operators.specs.References.{cast_flags_at, branch_at, reference_from, cast_from};
 ghost use Rattle.wasm_operators.specs.SeenReferences.{reference_of, cast_of};
 

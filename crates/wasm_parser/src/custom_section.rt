@@ -1,6 +1,6 @@
 ghost use Rattle.std.specs.Prelude.{◌≡◌, ◌+◌, length, Some, None, IfOk, IfErr, OnErr};
 ghost use Rattle.wasm_spec.specs.Values.{name_at};
-ghost use Rattle.wasm_binary_reader.specs.Reader.{input, SameInput, position_in, original, rest, RefusedFrom};
+ghost use Rattle.wasm_readers_bytes.specs.Reader.{input, SameInput, position_in, original, rest, RefusedFrom};
 ghost use Rattle.wasm_parser.specs.Seen.{name_of, data_of, data_reader};
 
 use std::ops::Range;

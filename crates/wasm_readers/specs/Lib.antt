@@ -1,5 +1,5 @@
-pub use Rattle.wasm_binary_reader.specs.Reader
-pub use Rattle.wasm_binary_reader.specs.declared.binary_reader.BinaryReader
+pub use Rattle.wasm_readers_bytes.specs.Reader
+pub use Rattle.wasm_readers_bytes.specs.declared.binary_reader.BinaryReader
 pub mod Refusals
 pub mod Sections
 pub mod SectionsSeen

@@ -1,7 +1,7 @@
 -- What a reader tells of content that it refuses.
 use Rattle.std.specs.Prelude.{ℕ, ◌≡◌, ⊤}
-use Rattle.wasm_binary_reader.specs.Reader.{rest, RefusedFrom, unsigned_fault}
-use Rattle.wasm_binary_reader.specs.declared.binary_reader.BinaryReader.{BinaryReader}
+use Rattle.wasm_readers_bytes.specs.Reader.{rest, RefusedFrom, unsigned_fault}
+use Rattle.wasm_readers_bytes.specs.declared.binary_reader.BinaryReader.{BinaryReader}
 use Rattle.wasm_readers_errors.specs.declared.error.Fault.TheVariants.{Malformed}
 use Rattle.wasm_readers_errors.specs.declared.error.Refusal.{Refusal}
 use Rattle.wasm_readers_errors.specs.declared.error.Error.{Error}

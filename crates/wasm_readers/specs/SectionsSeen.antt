@@ -4,8 +4,8 @@ use Rattle.std.specs.declared.result.Result.{Result}
 use Rattle.std.specs.declared.result.Result.TheVariants.{Ok, Err}
 use Rattle.wasm_readers.specs.declared.section_limited.SectionLimited.{SectionLimited}
 use Rattle.wasm_readers.specs.declared.section_limited.SectionItems.{SectionItems}
-use Rattle.wasm_binary_reader.specs.Reader.{input, position_in, original, rest, SameInput, FailedFrom}
-use Rattle.wasm_binary_reader.specs.declared.binary_reader.BinaryReader.{BinaryReader}
+use Rattle.wasm_readers_bytes.specs.Reader.{input, position_in, original, rest, SameInput, FailedFrom}
+use Rattle.wasm_readers_bytes.specs.declared.binary_reader.BinaryReader.{BinaryReader}
 use Rattle.wasm_readers_errors.specs.declared.error.Error.{Error}
 use Rattle.wasm_readers_errors.specs.declared.error.Error.TheVariants.{Refused}
 use Rattle.wasm_readers_errors.specs.declared.error.Fault.TheVariants.{Malformed}

@@ -3,7 +3,7 @@
 ghost use Rattle.std.specs.Prelude.{◌≡◌, ◌≤◌, ◌<◌, OnOk, OnErr, IfOk, Some, None, map, IfErr};
 ghost use Rattle.wasm_spec.specs.Values.{list_at};
 ghost use Rattle.wasm_spec.specs.BinaryTypes.{index_at, func_at, comp_at, marked_at, marked_index_at, field_at, final_or_not, sub_at, rec_at};
-ghost use Rattle.wasm_binary_reader.specs.Reader.{input, SameInput, position_in, rest, RefusedFrom, FailedFrom};
+ghost use Rattle.wasm_readers_bytes.specs.Reader.{input, SameInput, position_in, rest, RefusedFrom, FailedFrom};
 ghost use Rattle.wasm_readers_errors.specs.Errors.{Reads};
 ghost use Rattle.wasm_readers.specs.Written.{written};
 ghost use Rattle.wasm_readers_types.specs.SeenTypes.{func_of, comp_of, sub_of, rec_of};
@@ -14,7 +14,7 @@ use crate::lists::read_list;
 use crate::section_limited::FromReader;
 use crate::types::read_field_type;
 use std::alloc::Allocator;
-use wasm_binary_reader::BinaryReader;
+use wasm_readers_bytes::BinaryReader;
 use wasm_readers_errors::{Error, Fault, Malformed, Refusal};
 use wasm_readers_types::{
     ArrayType, CompositeInnerType, CompositeType, ContType, FieldType, FuncType, Items,

@@ -3,7 +3,7 @@
 ghost use Rattle.std.specs.Prelude.{◌≡◌, ◌≤◌, ◌<◌, OnOk, OnErr, IfOk, Some, None, IfErr};
 ghost use Rattle.wasm_spec.specs.BinaryTypes.{flags_at, limits_at, number_if, page_size_if, table_at, memory_at, global_at, tag_at};
 ghost use Rattle.wasm_spec.specs.BinaryModules.{import_at, export_at, extern_at};
-ghost use Rattle.wasm_binary_reader.specs.Reader.{input, SameInput, position_in, rest, RefusedFrom, place_of_next, byte_fault};
+ghost use Rattle.wasm_readers_bytes.specs.Reader.{input, SameInput, position_in, rest, RefusedFrom, place_of_next, byte_fault};
 ghost use Rattle.wasm_readers_errors.specs.Refusals.{plain};
 ghost use Rattle.wasm_readers.specs.Written.{written};
 ghost use Rattle.wasm_readers.specs.Limits.{limits_of};
@@ -14,7 +14,7 @@ use crate::items::{Export, Import, TableHead};
 use crate::section_limited::FromReader;
 use crate::types::{read_ref_type, read_val_type};
 use std::alloc::Allocator;
-use wasm_binary_reader::BinaryReader;
+use wasm_readers_bytes::BinaryReader;
 use wasm_readers_errors::{Error, Fault, Malformed, Refusal};
 use wasm_readers_types::{
     ExternalKind, GlobalType, MemoryType, TableType, TagKind, TagType, TypeRef,

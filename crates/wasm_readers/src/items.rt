@@ -1,7 +1,7 @@
 //! The items of sections.
 
 use std::ops::Range;
-use wasm_binary_reader::BinaryReader;
+use wasm_readers_bytes::BinaryReader;
 use wasm_readers_types::{ExternalKind, GlobalType, RefType, TableType, TypeRef};
 
 /// An import (Core Specification 3.0, Binary Format, Import Section).

@@ -18,7 +18,7 @@ pub use items::{
 };
 pub use lists::read_list;
 pub use section_limited::{FromReader, SectionItems, SectionLimited};
-pub use wasm_binary_reader::BinaryReader;
+pub use wasm_readers_bytes::BinaryReader;
 pub use wasm_readers_errors::{
     Counted, DescriptorRule, Error, Fault, GroupRule, ItemKind, ItemRule, Malformed, OutOfOrder,
     Refusal, Rule, ValueTypeRule, WasmFeatures,

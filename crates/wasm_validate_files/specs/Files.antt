@@ -4,7 +4,7 @@ use Rattle.std.specs.Option.{is_some, unwrap_or, option_map}
 use Rattle.std.specs.List.{All, AllZip}
 use Rattle.wasm_readers_errors.specs.declared.features.TheConstants.WasmFeatures.{STANDARD}
 use Rattle.wasm_readers_types.specs.declared.indices.TheConstants.{MAX_IDS}
-use Rattle.wasm_rules.specs.FeatureFlags.{features_of}
+use Rattle.wasm_spec_rules.specs.FeatureFlags.{features_of}
 use Rattle.wasm_validator.specs.Verdict.{AreModule}
 use Rattle.wasm_validator.specs.Headline.{WritesAtMost}
 use Rattle.wasm_validate_files.specs.declared.files.Input.{Input}

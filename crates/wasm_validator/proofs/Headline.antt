@@ -14,11 +14,11 @@ use Rattle.wasm_spec.specs.Matching.{MatchesSub}
 use Rattle.wasm_spec.proofs.Matching.{accepted_types_match_ancestors}
 use Rattle.wasm_spec.proofs.Accepted.{valid_type_section_is_accepted}
 use Rattle.wasm_spec.proofs.Closing.{slice_get-append_left}
-use Rattle.wasm_rules.specs.FeatureFlags.{features_of}
-use Rattle.wasm_module_validity.specs.Modules.{IsValidUpToBodies, IsValidModule}
+use Rattle.wasm_spec_rules.specs.FeatureFlags.{features_of}
+use Rattle.wasm_spec_validity.specs.Modules.{IsValidUpToBodies, IsValidModule}
 use Rattle.wasm_readers_types.specs.declared.indices.TheConstants.{MAX_IDS}
 use Rattle.wasm_readers_errors.specs.declared.features.WasmFeatures.{WasmFeatures}
-use Rattle.wasm_grouped_list.specs.Elements.{numbers_from}
+use Rattle.wasm_validator_type_groups.specs.Elements.{numbers_from}
 use Rattle.wasm_validator_canonical.specs.Sections.{StandsFor}
 use Rattle.wasm_validator_canonical.proofs.Sections.{one_id_for_one_type}
 use Rattle.wasm_validator_type_list.specs.Listing.{Listing}

@@ -9,10 +9,10 @@ use Rattle.wasm_spec.specs.Trees.{DefType, declared}
 use Rattle.wasm_spec.specs.TypeLaws.{HasNoRepetition}
 use Rattle.wasm_spec.specs.Declared.{IsAncestor}
 use Rattle.wasm_spec.specs.Matching.{MatchesSub}
-use Rattle.wasm_rules.specs.IndexSpaces.{index_spaces}
-use Rattle.wasm_rules.specs.Modules.{IsWellFormed}
-use Rattle.wasm_module_validity.specs.Expressions.{expression_at}
-use Rattle.wasm_module_validity.specs.Modules.{IsValidUpToBodies, IsValidModule}
+use Rattle.wasm_spec_rules.specs.IndexSpaces.{index_spaces}
+use Rattle.wasm_spec_rules.specs.Modules.{IsWellFormed}
+use Rattle.wasm_spec_validity.specs.Expressions.{expression_at}
+use Rattle.wasm_spec_validity.specs.Modules.{IsValidUpToBodies, IsValidModule}
 use Rattle.wasm_readers_types.specs.declared.indices.TheConstants.{MAX_IDS}
 use Rattle.wasm_validator_type_list.specs.Listing.{Listing}
 use Rattle.wasm_validator_type_list.specs.Listable.{AreListable}

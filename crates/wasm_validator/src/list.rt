@@ -4,7 +4,7 @@ ghost use Rattle.std.specs.Prelude.{◌≡◌, true, IfOk, IfErr, OnErr};
 ghost use Rattle.wasm_validator.specs.Standing.{may_reset};
 ghost use Rattle.wasm_validator.specs.Lists.{DecidesEach, lent};
 ghost use Rattle.wasm_validator.specs.Headline.{Headline, types_held};
-ghost use Rattle.wasm_rules.specs.FeatureFlags.{features_of};
+ghost use Rattle.wasm_spec_rules.specs.FeatureFlags.{features_of};
 
 use std::alloc::Allocator;
 use wasm_validator_modules::payload::answer_all;

@@ -4,7 +4,7 @@ use Rattle.std.specs.Option.{option_map, option_and_then}
 use Rattle.std.proofs.lemmas.List.{length-map}
 use Rattle.wasm_spec.specs.Syntax.{Comp, func, array, struct, cont, map_comp, map_val, Sub, map_sub}
 use Rattle.wasm_spec.specs.Trees.{DefType, TypeUse, members, denote, declared}
-use Rattle.wasm_rules.specs.IndexSpaces.{signature}
+use Rattle.wasm_spec_rules.specs.IndexSpaces.{signature}
 use Rattle.wasm_validator_canonical.specs.Arities.{arity, type_arity, IdsKeepArities}
 
 -- by what is written

@@ -13,9 +13,9 @@ use Rattle.wasm_spec.specs.Closing.{is_closable, closed, positions, resolve, sta
 use Rattle.wasm_spec.specs.GroupRules.{IsValidType}
 use Rattle.wasm_spec.proofs.Numbering.{members-close}
 use Rattle.wasm_spec.proofs.Closing.{slice_get-append_left}
-use Rattle.wasm_rules.proofs.Tests.{guarded}
-use Rattle.wasm_grouped_list.specs.Elements.{numbers_from}
-use Rattle.wasm_grouped_list.proofs.Places.{get-map}
+use Rattle.wasm_spec_rules.proofs.Tests.{guarded}
+use Rattle.wasm_validator_type_groups.specs.Elements.{numbers_from}
+use Rattle.wasm_validator_type_groups.proofs.Places.{get-map}
 use Rattle.wasm_validator_type_list.proofs.DefTypes.{get-positions}
 use Rattle.wasm_validator_canonical.specs.Groups.{nowhere, types_at, placed, held, AreValid}
 use Rattle.wasm_validator_canonical.specs.Sections.{StandsFor}

@@ -3,7 +3,7 @@ use Rattle.std.proofs.Common.{◌≡◌, refl, sym, ap, subst, ◌∙◌, ℕ, �
 use Rattle.std.specs.declared.result.Result.{Result}
 use Rattle.std.proofs.lemmas.List.{length-map}
 use Rattle.wasm_spec.specs.Syntax.{Rec, map_sub}
-use Rattle.wasm_rules.specs.FeatureFlags.{features_of}
+use Rattle.wasm_spec_rules.specs.FeatureFlags.{features_of}
 use Rattle.wasm_readers_errors.specs.declared.error.Error.{Error}
 use Rattle.wasm_readers_errors.specs.declared.error.Error.TheVariants.{Refused, OutOfMemory}
 use Rattle.wasm_readers_errors.specs.declared.error.Refusal.{Refusal}
@@ -15,7 +15,7 @@ use Rattle.wasm_readers_types.specs.SeenTypes.{sub_of}
 use Rattle.wasm_validator_type_list.specs.Interned.{Interns}
 use Rattle.wasm_validator_type_list.specs.Listing.{Listing}
 use Rattle.wasm_validator_type_list.specs.Refused.{RefusesTooMany}
-use Rattle.wasm_group_checks.specs.Told.{ToldOfGroup}
+use Rattle.wasm_validator_type_checks.specs.Told.{ToldOfGroup}
 use Rattle.wasm_validator_canonical.specs.Answers.{IsRefusal, IsAt}
 use Rattle.wasm_validator_canonical.specs.Groups.{allows_written, closes}
 use Rattle.wasm_validator_canonical.specs.Indices.{canonical_index, canonical_group, extend_at_most_one}

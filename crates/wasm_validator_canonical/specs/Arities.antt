@@ -4,7 +4,7 @@ use Rattle.std.specs.Prelude.{ℕ, ◌≡◌, Bool, List, length, slice_get, Opt
 use Rattle.std.specs.Option.{option_map, option_and_then}
 use Rattle.wasm_spec.specs.Syntax.{Val, Sub}
 use Rattle.wasm_spec.specs.Trees.{DefType, declared}
-use Rattle.wasm_rules.specs.IndexSpaces.{signature}
+use Rattle.wasm_spec_rules.specs.IndexSpaces.{signature}
 use Rattle.wasm_validator_canonical.specs.Sections.{StandsFor}
 
 abbrev pub arity : List (Val DefType) × List (Val DefType) → ℕ × ℕ

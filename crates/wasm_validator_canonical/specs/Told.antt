@@ -2,7 +2,7 @@
 -- broken, with its fault, and where the group stands. Core Specification 3.0, Validation, Types (Recursive Types).
 use Rattle.std.specs.Prelude.{ℕ, ◌≡◌, ◌+◌, ◌<◌, ◌≤◌, Bool, true, false, List, [], ◌∷◌, ◌++◌, map, length, ⊤}
 use Rattle.wasm_spec.specs.Syntax.{Rec}
-use Rattle.wasm_rules.specs.FeatureFlags.{features_of}
+use Rattle.wasm_spec_rules.specs.FeatureFlags.{features_of}
 use Rattle.wasm_readers_errors.specs.declared.error.Error.{Error}
 use Rattle.wasm_readers_errors.specs.declared.error.Error.TheVariants.{Refused, OutOfMemory}
 use Rattle.wasm_readers_errors.specs.declared.error.Refusal.{Refusal}
@@ -13,7 +13,7 @@ use Rattle.wasm_readers_types.specs.declared.types.SubType.{SubType}
 use Rattle.wasm_readers_types.specs.SeenTypes.{sub_of}
 use Rattle.wasm_validator_type_list.specs.Listing.{Listing, types_in}
 use Rattle.wasm_validator_type_list.specs.Refused.{too_many_types}
-use Rattle.wasm_group_checks.specs.Told.{ToldOfGroup}
+use Rattle.wasm_validator_type_checks.specs.Told.{ToldOfGroup}
 use Rattle.wasm_validator_canonical.specs.declared.type_canonicalizer.TypeCanonicalizer.{TypeCanonicalizer}
 use Rattle.wasm_validator_canonical.specs.Groups.{allows_written, closes}
 use Rattle.wasm_validator_canonical.specs.Indices.{canonical_group, extend_at_most_one}

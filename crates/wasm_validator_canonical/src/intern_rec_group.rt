@@ -2,17 +2,17 @@ ghost use Rattle.std.specs.Prelude.{◌≡◌, ◌+◌, ◌<◌, ◌≤◌, ◌^
 ghost use Rattle.std.specs.Bool.{Decides};
 ghost use Rattle.std.specs.List.{All, list_all};
 ghost use Rattle.wasm_spec.specs.Features.{canonical};
-ghost use Rattle.wasm_rules.specs.FeatureFlags.{features_of};
+ghost use Rattle.wasm_spec_rules.specs.FeatureFlags.{features_of};
 ghost use Rattle.wasm_readers_types.specs.declared.indices.TheConstants.{MAX_IDS};
 ghost use Rattle.wasm_readers_types.specs.declared.indices.CoreTypeId.{CoreTypeId};
 ghost use Rattle.wasm_readers_types.specs.SeenTypes.{sub_of, rec_of};
-ghost use Rattle.wasm_grouped_list.specs.Elements.{ids_left};
+ghost use Rattle.wasm_validator_type_groups.specs.Elements.{ids_left};
 ghost use Rattle.wasm_validator_type_list.specs.Listable.{IsListable, AreListable};
 ghost use Rattle.wasm_validator_type_list.specs.Listing.{types_in};
 ghost use Rattle.wasm_validator_type_list.specs.Refused.{too_many_types};
 ghost use Rattle.wasm_validator_type_list.specs.DefTypes.{types_of_list};
-ghost use Rattle.wasm_group_checks.specs.Rules.{IsValidGroupAt};
-ghost use Rattle.wasm_group_checks.specs.Told.{ToldOfGroup};
+ghost use Rattle.wasm_validator_type_checks.specs.Rules.{IsValidGroupAt};
+ghost use Rattle.wasm_validator_type_checks.specs.Told.{ToldOfGroup};
 ghost use Rattle.wasm_validator_canonical.specs.Indices.{numbers, canonical_group, extend_at_most_one};
 ghost use Rattle.wasm_validator_canonical.specs.Groups.{has_form, allows_written, closes, AreValid};
 ghost use Rattle.wasm_validator_canonical.specs.Answers.{Says, IsRefusal, IsAt};
@@ -25,9 +25,9 @@ use crate::depths::keep_depths;
 use crate::type_canonicalizer::{TypeCanonicalizer, extend_at_most_one};
 use bitflags::Flags;
 use std::alloc::Allocator;
-use wasm_group_checks::check_rec_group;
 use wasm_readers_errors::{Error, Fault, GroupRule, Refusal, Rule, WasmFeatures};
 use wasm_readers_types::{CoreTypeId, MAX_IDS, RecGroup, SubType};
+use wasm_validator_type_checks::check_rec_group;
 use wasm_validator_type_list::{RecGroupElements, RecGroupId, TypeList};
 
 /// Whether the features ask for equal types to be one: without these features no type can refer to

@@ -3,7 +3,7 @@
 ghost use Rattle.std.specs.Prelude.{◌≡◌, ◌+◌, ◌<◌, ◌^◌, ◌++◌, true, false, Some, length, slice_get, nat_lt, is_ok, IfOk, IfErr, OnOk, IsTrue};
 ghost use Rattle.std.specs.List.{All};
 ghost use Rattle.wasm_spec.specs.Features.{canonical};
-ghost use Rattle.wasm_rules.specs.FeatureFlags.{features_of};
+ghost use Rattle.wasm_spec_rules.specs.FeatureFlags.{features_of};
 ghost use Rattle.wasm_readers_types.specs.SeenTypes.{rec_of};
 ghost use Rattle.wasm_validator_type_list.specs.Listing.{types_in};
 ghost use Rattle.wasm_validator_type_list.specs.DefTypes.{types_of_list};
@@ -24,7 +24,7 @@ use wasm_validator_type_list::{RecGroupElements, TypeList};
 pub trait InternRecGroup<A: Allocator + Copy>: Sized {
     ghost use Rattle.std.specs.Prelude.{ℕ, ◌≡◌, ◌+◌, ◌<◌, ◌^◌, ◌++◌, ◌∷◌, [], List, Some, length, slice_get, nat_lt, is_ok, IfOk, IfErr, OnOk};
     ghost use Rattle.wasm_validator_canonical.specs.Refusals.{unknown_type};
-    ghost use Rattle.wasm_grouped_list.specs.Elements.{ids_left};
+    ghost use Rattle.wasm_validator_type_groups.specs.Elements.{ids_left};
     ghost use Rattle.wasm_validator_canonical.specs.Indices.{numbers};
 
     ghost ids: { Self → List ℕ };

@@ -6,18 +6,18 @@ use Rattle.wasm_spec.specs.Syntax.{Table, Memory, Global, Extern, func_extern, f
 use Rattle.wasm_spec.specs.BinaryModules.{Import, Export}
 use Rattle.wasm_spec.specs.Features.{Features}
 use Rattle.wasm_spec.specs.Trees.{DefType}
-use Rattle.wasm_rules.specs.Limits.{most_tables, most_memories}
+use Rattle.wasm_spec_rules.specs.Limits.{most_tables, most_memories}
 use Rattle.wasm_readers_types.specs.declared.indices.UnpackedIndex.{UnpackedIndex}
 use Rattle.wasm_validator_canonical.specs.Arities.{arity_at}
 use Rattle.wasm_validator_canonical.specs.Groups.{types_at}
 use Rattle.wasm_validator_canonical.specs.Indices.{canonical_index}
-use Rattle.wasm_item_checks.specs.Items.{is_function, is_valid_defined_table, is_valid_memory, is_valid_tag, is_importable, is_movable}
+use Rattle.wasm_validator_checks.specs.Items.{is_function, is_valid_defined_table, is_valid_memory, is_valid_tag, is_importable, is_movable}
 use Rattle.wasm_validator_types.specs.Entities.{Entity}
 use Rattle.wasm_validator_types.specs.Spaces.{Spaces, with_import, is_exported, is_exact}
 use Rattle.wasm_validator_core.specs.declared.limits.TheConstants.{MAX_FUNCTIONS, MAX_GLOBALS, MAX_TAGS, MAX_DATA_SEGMENTS}
 use Rattle.wasm_validator_core.specs.Answers.{TypesSoFar}
-pub use Rattle.wasm_item_checks.specs.Listed.{listed, entity}
-pub use Rattle.wasm_item_checks.specs.Sizes.{function_size, entity_size, grown}
+pub use Rattle.wasm_validator_checks.specs.Listed.{listed, entity}
+pub use Rattle.wasm_validator_checks.specs.Sizes.{function_size, entity_size, grown}
 
 -- the module's types, in the order of their indices
 abbrev pub types_of_module : TypesSoFar → Spaces → List DefType

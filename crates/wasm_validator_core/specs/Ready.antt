@@ -2,12 +2,12 @@
 use Rattle.std.specs.Prelude.{ℕ, ◌≡◌, ◌<◌, ◌≤◌, List, length, IsTrue}
 use Rattle.std.specs.List.{All}
 use Rattle.wasm_spec.specs.Features.{canonical}
-use Rattle.wasm_rules.specs.FeatureFlags.{features_of}
+use Rattle.wasm_spec_rules.specs.FeatureFlags.{features_of}
 use Rattle.wasm_readers_errors.specs.declared.features.WasmFeatures.{WasmFeatures}
 use Rattle.wasm_validator_type_list.specs.Listing.{Listing}
 use Rattle.wasm_validator_type_list.specs.DefTypes.{types_of_list}
 use Rattle.wasm_validator_core.specs.declared.limits.TheConstants.{MAX_TYPES}
-pub use Rattle.wasm_item_checks.specs.Held.{AreSmall, IsTyped, AreHeld}
+pub use Rattle.wasm_validator_checks.specs.Held.{AreSmall, IsTyped, AreHeld}
 
 module _ {A : Type 0} where
   -- groups may be added to the list, and equal types are one there where the features ask for it

@@ -8,8 +8,8 @@ use Rattle.std.specs.declared.result.Result.{Result}
 use Rattle.std.specs.declared.result.Result.TheVariants.{Ok, Err}
 use Rattle.wasm_spec.specs.Syntax.{Rec, Table, Memory, Extern, func_extern, func_exact_extern, table_extern, memory_extern, global_extern, tag_extern}
 use Rattle.wasm_spec.specs.BinaryModules.{Import}
-use Rattle.wasm_rules.specs.FeatureFlags.{features_of}
-use Rattle.wasm_rules.specs.Limits.{most_tables, most_memories}
+use Rattle.wasm_spec_rules.specs.FeatureFlags.{features_of}
+use Rattle.wasm_spec_rules.specs.Limits.{most_tables, most_memories}
 use Rattle.wasm_readers_errors.specs.Refusals.{plain, unless, lack_if}
 use Rattle.wasm_readers_errors.specs.declared.error.Counted.{Counted}
 use Rattle.wasm_readers_errors.specs.declared.error.Counted.TheVariants.{Types, Functions, Tables, Memories, Globals, Tags}
@@ -26,7 +26,7 @@ use Rattle.wasm_readers_types.specs.declared.externs.ExternalKind.{ExternalKind}
 use Rattle.wasm_readers_types.specs.declared.externs.ExternalKind.TheVariants as external
 use Rattle.wasm_validator_type_list.specs.Listing.{Listing}
 use Rattle.wasm_validator_canonical.specs.Told.{ToldOfAdded}
-use Rattle.wasm_item_checks.specs.Told.{told_of_function, told_of_defined_table, told_of_memory, told_of_tag, told_of_movable, told_of_extern}
+use Rattle.wasm_validator_checks.specs.Told.{told_of_function, told_of_defined_table, told_of_memory, told_of_tag, told_of_movable, told_of_extern}
 use Rattle.wasm_validator_types.specs.Entities.{Entity}
 use Rattle.wasm_validator_types.specs.Spaces.{Spaces, is_exported}
 use Rattle.wasm_validator_core.specs.declared.error.Error.{Error}

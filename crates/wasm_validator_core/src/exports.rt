@@ -3,9 +3,9 @@
 ghost use Rattle.std.specs.Prelude.{◌≡◌, OnErr, IfOk, IfErr, IfSome};
 ghost use Rattle.std.specs.declared.option.Option.TheVariants.{Some, None};
 ghost use Rattle.std.specs.Option.{option_map};
-ghost use Rattle.wasm_rules.specs.FeatureFlags.{features_of};
+ghost use Rattle.wasm_spec_rules.specs.FeatureFlags.{features_of};
 ghost use Rattle.wasm_readers.specs.Items.{export_of};
-ghost use Rattle.wasm_item_checks.specs.Answers.{IsPlainRefusalAt};
+ghost use Rattle.wasm_validator_checks.specs.Answers.{IsPlainRefusalAt};
 ghost use Rattle.wasm_validator_types.specs.Entities.{entity_of, IsAmong};
 ghost use Rattle.wasm_validator_type_list.specs.DefTypes.{types_of_list};
 ghost use Rattle.wasm_validator_core.specs.Errors.{IsAt};
@@ -17,8 +17,8 @@ ghost use Rattle.wasm_readers_errors.specs.Refusals.{refused};
 use crate::error::Error;
 use bitflags::Flags;
 use std::alloc::Allocator;
-use wasm_item_checks::{check_movable_global, size_with};
 use wasm_readers::{Export, ExternalKind, Fault, ItemKind, Refusal, Rule, WasmFeatures};
+use wasm_validator_checks::{check_movable_global, size_with};
 use wasm_validator_types::{EntityType, IndexSpaces, TypeList};
 
 /// The function with this index as an entity, if there is one.

@@ -1,7 +1,7 @@
 //! What a module imports (Core Specification 3.0, Validation, Modules, Imports).
 
 ghost use Rattle.std.specs.Prelude.{◌≡◌, length, IfErr};
-ghost use Rattle.wasm_rules.specs.FeatureFlags.{features_of};
+ghost use Rattle.wasm_spec_rules.specs.FeatureFlags.{features_of};
 ghost use Rattle.wasm_readers.specs.Items.{import_of};
 ghost use Rattle.wasm_readers_types.specs.SeenExterns.{extern_of};
 ghost use Rattle.wasm_validator_types.specs.Entities.{entity_of, IsAmong};
@@ -15,8 +15,10 @@ ghost use Rattle.wasm_validator_core.specs.Told.{Tells, told_of_imported, told_o
 use crate::error::Error;
 use crate::items::{place_function, place_imported_global, place_memory, place_table, place_tag};
 use std::alloc::Allocator;
-use wasm_item_checks::{check_movable_global, entity_type, known_ids, listed_type_ref, size_with};
 use wasm_readers::{Fault, Import, Rule, TypeRef, WasmFeatures};
+use wasm_validator_checks::{
+    check_movable_global, entity_type, known_ids, listed_type_ref, size_with,
+};
 use wasm_validator_types::{EntityType, IndexSpaces, TypeList};
 
 /// One more item at the end of its index space, which is imported. Its type index is as the list of

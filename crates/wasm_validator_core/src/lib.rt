@@ -17,4 +17,4 @@ pub use limits::{
     MAX_TAGS, MAX_TYPES, check_data_count, check_max, max_memories, max_tables,
 };
 pub use module::Module;
-pub use wasm_item_checks::MAX_EFFECTIVE_SIZE;
+pub use wasm_validator_checks::MAX_EFFECTIVE_SIZE;

@@ -1,9 +1,9 @@
 //! Limits on the items of a module.
 
 ghost use Rattle.std.specs.Prelude.{◌≡◌, ◌+◌, is_ok, nat_le, IfErr};
-ghost use Rattle.wasm_rules.specs.FeatureFlags.{features_of};
-ghost use Rattle.wasm_rules.specs.Limits.{most_tables, most_memories};
-ghost use Rattle.wasm_item_checks.specs.Answers.{IsRefusalAt};
+ghost use Rattle.wasm_spec_rules.specs.FeatureFlags.{features_of};
+ghost use Rattle.wasm_spec_rules.specs.Limits.{most_tables, most_memories};
+ghost use Rattle.wasm_validator_checks.specs.Answers.{IsRefusalAt};
 ghost use Rattle.wasm_validator_core.specs.Items.{is_data_count};
 ghost use Rattle.wasm_validator_core.specs.Told.{told_of_data_count};
 ghost use Rattle.wasm_readers_errors.specs.Refusals.{refused};

@@ -3,15 +3,15 @@
 ghost use Rattle.std.specs.Prelude.{◌≡◌, ◌+◌, ◌<◌, ◌^◌, ◌++◌, ◌∷◌, [], true, length, slice_get, OnOk, OnErr, IfOk, IfErr, is_ok, is_some};
 ghost use Rattle.std.specs.Option.{option_map};
 ghost use Rattle.std.specs.declared.option.Option.TheVariants.{Some, None};
-ghost use Rattle.wasm_rules.specs.FeatureFlags.{features_of};
-ghost use Rattle.wasm_rules.specs.Limits.{most_tables, most_memories};
+ghost use Rattle.wasm_spec_rules.specs.FeatureFlags.{features_of};
+ghost use Rattle.wasm_spec_rules.specs.Limits.{most_tables, most_memories};
 ghost use Rattle.wasm_readers.specs.Items.{import_of, export_of};
 ghost use Rattle.wasm_spec.specs.Syntax.{map_table};
 ghost use Rattle.wasm_readers_types.specs.SeenExterns.{table_of, memory_of, global_of, extern_of};
 ghost use Rattle.wasm_readers_types.specs.SeenValues.{ref_of};
 ghost use Rattle.wasm_readers_types.specs.SeenTypes.{rec_of};
-ghost use Rattle.wasm_item_checks.specs.Answers.{IsRefusalAt, IsPlainRefusalAt};
-ghost use Rattle.wasm_item_checks.specs.Items.{is_valid_extern, is_valid_defined_table};
+ghost use Rattle.wasm_validator_checks.specs.Answers.{IsRefusalAt, IsPlainRefusalAt};
+ghost use Rattle.wasm_validator_checks.specs.Items.{is_valid_extern, is_valid_defined_table};
 ghost use Rattle.wasm_validator_types.specs.Entities.{entity_of};
 ghost use Rattle.wasm_validator_type_list.specs.DefTypes.{types_of_list};
 ghost use Rattle.wasm_validator_types.specs.Spaces.{no_spaces};
@@ -25,7 +25,7 @@ ghost use Rattle.wasm_validator_core.specs.Machine.{add_group};
 ghost use Rattle.wasm_validator_core.specs.Items.{types_of_module, listed, entity, exported_function, exported_entity, arity_of_function, is_startable, add_import, add_function, with_table, add_table, add_memory, with_global, add_tag, add_export};
 ghost use Rattle.wasm_validator_core.specs.Told.{Tells, TellsExport, told_of_added_function, told_of_table_limit, told_of_added_table, told_of_added_memory, told_of_limit, told_of_added_tag, ToldOfAddedGroup, told_of_import, told_of_entity_there, told_of_entity, told_of_function_type, told_of_start};
 ghost use Rattle.wasm_readers_errors.specs.Refusals.{refused};
-ghost use Rattle.wasm_item_checks.specs.Told.{told_of_extern, told_of_defined_table};
+ghost use Rattle.wasm_validator_checks.specs.Told.{told_of_extern, told_of_defined_table};
 
 use crate::error::Error;
 use crate::exports::{add_one_export, exported, function_entity};
@@ -38,13 +38,13 @@ use crate::limits::{MAX_GLOBALS, MAX_TYPES, check_max, max_memories, max_tables}
 use crate::start::{check_start_function, function_type};
 use std::alloc::{AllocError, Allocator, Global};
 use std::marker::Model;
-use wasm_item_checks::{entity_type, known_ids, listed_type_ref};
 use wasm_readers::{
     CoreTypeId, Counted, Export, FuncType, GlobalType, Import, MemoryType, RecGroup, Refusal,
     TableType, TagType, TypeRef, WasmFeatures,
 };
 use wasm_readers_types::RefType;
 use wasm_validator_canonical::{InternRecGroup, intern_rec_group_of};
+use wasm_validator_checks::{entity_type, known_ids, listed_type_ref};
 use wasm_validator_types::{EntityType, IndexSpaces, TypeList};
 
 /// A module as far as it has been read: its index spaces (Core Specification 3.0, Validation,

@@ -3,7 +3,7 @@
 
 ghost use Rattle.std.specs.Prelude.{◌≡◌, length, slice_get, is_ok, is_some, IfOk, IfErr};
 ghost use Rattle.std.specs.declared.option.Option.TheVariants.{Some, None};
-ghost use Rattle.wasm_item_checks.specs.Answers.{IsPlainRefusalAt};
+ghost use Rattle.wasm_validator_checks.specs.Answers.{IsPlainRefusalAt};
 ghost use Rattle.wasm_validator_type_list.specs.DefTypes.{types_of_list};
 ghost use Rattle.wasm_validator_core.specs.Functions.{IsTypeOfFunction, IsUnknownFunction};
 ghost use Rattle.wasm_validator_core.specs.Items.{arity_of_function, is_startable};
@@ -12,8 +12,8 @@ ghost use Rattle.wasm_validator_core.specs.Told.{told_of_function_type, told_of_
 ghost use Rattle.wasm_readers_errors.specs.Refusals.{refused};
 
 use std::alloc::Allocator;
-use wasm_item_checks::{func_type_at, known_ids};
 use wasm_readers::{Fault, FuncType, ItemRule, Refusal};
+use wasm_validator_checks::{func_type_at, known_ids};
 use wasm_validator_types::{IndexSpaces, TypeList};
 
 /// The type of the function with this index.

@@ -1,14 +1,14 @@
 -- What is read of the types of a module whose code section has started.
 use Rattle.std.proofs.Common.{◌≡◌, refl, sym, ap, subst, ◌∙◌, ℕ, ◌<◌, [], List, length, Option, None, option_map, arith, Bor}
 use Rattle.std.specs.Prelude.{IsSome, IfSome, ◌↔◌, slice_index_or}
-use Rattle.wasm_rules.specs.Contexts.{Context}
+use Rattle.wasm_spec_rules.specs.Contexts.{Context}
 use Rattle.wasm_readers_types.specs.SeenTypes.{sub_of}
 use Rattle.wasm_readers_types.specs.declared.indices.CoreTypeId.{CoreTypeId}
 use Rattle.wasm_readers_types.specs.declared.indices.UnpackedIndex.{UnpackedIndex}
 use Rattle.wasm_readers_types.specs.declared.indices.UnpackedIndex.TheVariants.{Id}
 use Rattle.wasm_readers_types.specs.declared.types.SubType.{SubType}
 use Rattle.wasm_validator_types.specs.Spaces.{no_spaces}
-use Rattle.wasm_module_resources.specs.Answers.{world}
+use Rattle.wasm_validator_resources.specs.Answers.{world}
 use Rattle.wasm_validator_core_resources.specs.declared.resources.ModuleResources.TheInside as lookups
 use Rattle.wasm_validator_core_resources.specs.Shown as lookups_shown
 use Rattle.wasm_validator_core_resources.proofs.Declared as declared

@@ -11,7 +11,7 @@ ghost use Rattle.wasm_readers_types.specs.SeenValues.{abstract_heap_of, heap_of,
 ghost use Rattle.wasm_readers_types.specs.declared.indices.TheConstants.{MAX_IDS};
 ghost use Rattle.wasm_readers_types.specs.declared.indices.UnpackedIndex.TheVariants.{Id};
 ghost use Rattle.wasm_validator_type_list.specs.DefTypes.{types_of_list};
-ghost use Rattle.wasm_module_resources.specs.Answers.{world, written_index, IsWritten};
+ghost use Rattle.wasm_validator_resources.specs.Answers.{world, written_index, IsWritten};
 ghost use Rattle.wasm_validator_core_resources.specs.ModuleContexts.{flagged_from, module_context, with_references, AreByIds, FlagsSayReferences};
 
 use crate::heaps::{
@@ -21,12 +21,12 @@ use crate::heaps::{
 use crate::types_by_ids::TypesByIds;
 use std::alloc::Allocator;
 use std::marker::Model;
-use wasm_module_resources::WasmModuleResources;
 use wasm_readers_errors::{Fault, Refusal};
 use wasm_readers_types::{
     AbstractHeapType, CompositeInnerType, CoreTypeId, FuncType, GlobalType, HeapType, MemoryType,
     RefType, SubType, TableType, UnpackedIndex, ValType,
 };
+use wasm_validator_resources::WasmModuleResources;
 use wasm_validator_type_list::{SnapshotList, TypeList};
 use wasm_validator_types::IndexSpaces;
 
@@ -43,7 +43,7 @@ pub struct ModuleResources<'a, A: Allocator> {
 }
 
 impl<'a, A: Allocator> Model for ModuleResources<'a, A> {
-    ghost use Rattle.wasm_rules.specs.Contexts.{Context};
+    ghost use Rattle.wasm_spec_rules.specs.Contexts.{Context};
     ghost use Rattle.wasm_readers_types.specs.declared.indices.UnpackedIndex.{UnpackedIndex};
 
     ghost Value = { Context UnpackedIndex };

@@ -1,8 +1,8 @@
 -- A step from bytes, on the way through the instructions of a body.
 use Rattle.std.proofs.Common.{◌≡◌, ◌≤◌, ◌<◌, ◌∙◌, refl, sym, ap, ℕ, zero, suc, false, List, length, if◌then◌else◌, Option, Some, None, Err, arith}
 use Rattle.std.specs.Option.{option_map, option_and_then}
-use Rattle.wasm_rules.specs.Attempts.{◌>>=◌}
-use Rattle.wasm_rules.specs.Contexts.{Context}
+use Rattle.wasm_spec_rules.specs.Attempts.{◌>>=◌}
+use Rattle.wasm_spec_rules.specs.Contexts.{Context}
 use Rattle.wasm_readers.specs.Written.{written}
 use Rattle.wasm_readers_errors.specs.declared.error.Error.{Error}
 use Rattle.wasm_readers_errors.specs.declared.error.Error.TheVariants.{Refused, OutOfMemory}
@@ -14,7 +14,7 @@ use Rattle.wasm_operator_steps.specs.Bodies.{Surroundings}
 use Rattle.wasm_operator_steps.specs.Machine.{State}
 use Rattle.wasm_operator_steps.specs.Steps.{step_in, is_finished}
 use Rattle.wasm_operator_fast.specs.Fused.{step_read, step_at}
-use Rattle.wasm_module_resources.specs.Answers.{world, written_index}
+use Rattle.wasm_validator_resources.specs.Answers.{world, written_index}
 use Rattle.wasm_operator_validator.specs.Checked.{ReadsTo}
 use Rattle.wasm_operator_validator.specs.Reads.{ReadsStep}
 use Rattle.wasm_validator_func.specs.Bodies.{typed_from}

@@ -6,14 +6,14 @@ use Rattle.wasm_spec.specs.Syntax.{Heap, Val, abstract_heap, concrete, exact, re
 use Rattle.wasm_spec.specs.Features.{Features}
 use Rattle.wasm_spec.specs.ValueTypes.{allows_heap, allows_val}
 use Rattle.wasm_spec.specs.Values.{u32_at}
-use Rattle.wasm_rules.specs.Contexts.{Context}
-use Rattle.wasm_rules.specs.FeatureFlags.{features_of}
+use Rattle.wasm_spec_rules.specs.Contexts.{Context}
+use Rattle.wasm_spec_rules.specs.FeatureFlags.{features_of}
 use Rattle.wasm_readers_errors.specs.declared.error.Error.{Error}
 use Rattle.wasm_readers_errors.specs.declared.error.Error.TheVariants as error
 use Rattle.wasm_readers_types.specs.declared.indices.UnpackedIndex.{UnpackedIndex}
 use Rattle.wasm_operator_steps.specs.Bodies.{Local}
-use Rattle.wasm_rules.specs.Signatures.{resolve_val}
-use Rattle.wasm_module_resources.specs.Answers.{written_index, val_in}
+use Rattle.wasm_spec_rules.specs.Signatures.{resolve_val}
+use Rattle.wasm_validator_resources.specs.Answers.{written_index, val_in}
 use Rattle.wasm_operator_checks.specs.Told.{TellsError}
 use Rattle.wasm_operator_checks.specs.declared.faults.OperatorError.{OperatorError}
 use Rattle.wasm_operator_checks.specs.declared.faults.OperatorError.TheVariants.{Refused, OutOfMemory}

@@ -10,7 +10,7 @@ use Rattle.wasm_spec.specs.MatchingTests.{World}
 use Rattle.wasm_spec.proofs.LawSet as reading
 use Rattle.wasm_operators.specs.Instructions.{Instruction, instruction_at}
 use Rattle.wasm_operators.proofs.Fronts.{instruction-reads}
-use Rattle.wasm_rules.specs.Attempts.{◌>>=◌}
+use Rattle.wasm_spec_rules.specs.Attempts.{◌>>=◌}
 use Rattle.wasm_operator_steps.specs.Bodies.{Local, Surroundings}
 use Rattle.wasm_operator_steps.specs.Machine.{Frame, State}
 use Rattle.wasm_operator_steps.specs.Steps.{step_in, steps_in, is_open, is_finished}

@@ -1,8 +1,8 @@
 -- One operator at an offset, as the step that it takes.
 use Rattle.std.proofs.Common.{◌≡◌, ◌≤◌, ap, ℕ, length, Option, Result, Ok, Err, arith}
-use Rattle.wasm_rules.specs.Contexts.{Context}
-use Rattle.wasm_binary_reader.specs.Reader.{SameInput, input, original, position_in}
-use Rattle.wasm_binary_reader.specs.declared.binary_reader.BinaryReader.{BinaryReader}
+use Rattle.wasm_spec_rules.specs.Contexts.{Context}
+use Rattle.wasm_readers_bytes.specs.Reader.{SameInput, input, original, position_in}
+use Rattle.wasm_readers_bytes.specs.declared.binary_reader.BinaryReader.{BinaryReader}
 use Rattle.wasm_readers_errors.specs.declared.error.Error.{Error}
 use Rattle.wasm_readers_errors.specs.declared.error.Error.TheVariants as error
 use Rattle.wasm_readers_types.specs.declared.indices.UnpackedIndex.{UnpackedIndex}
@@ -10,7 +10,7 @@ use Rattle.wasm_operators.specs.Instructions.{Instruction}
 use Rattle.wasm_operators.specs.Maps.{map_instruction}
 use Rattle.wasm_operator_steps.specs.Machine.{State}
 use Rattle.wasm_operator_steps.specs.Steps.{step_in}
-use Rattle.wasm_module_resources.specs.Answers.{world, written_index}
+use Rattle.wasm_validator_resources.specs.Answers.{world, written_index}
 use Rattle.wasm_operator_stacks.specs.Seen.{state_of, around}
 use Rattle.wasm_operator_stacks.specs.declared.stacks.Stacks.{Stacks}
 use Rattle.wasm_operator_checks.specs.Steps.{Took}

@@ -1,8 +1,8 @@
 -- What contracts see of the validation of a body.
 use Rattle.std.specs.Prelude.{◌≡◌, ℕ, List, Option, Some, None, Result, Ok, Err, ⊤}
 use Rattle.wasm_spec.specs.Syntax.{map_val}
-use Rattle.wasm_rules.specs.Contexts.{Context}
-use Rattle.wasm_rules.specs.FeatureFlags.{features_of}
+use Rattle.wasm_spec_rules.specs.Contexts.{Context}
+use Rattle.wasm_spec_rules.specs.FeatureFlags.{features_of}
 use Rattle.wasm_readers_errors.specs.declared.error.Error.{Error}
 use Rattle.wasm_readers_errors.specs.declared.error.Error.TheVariants.{Refused, OutOfMemory}
 use Rattle.wasm_readers_types.specs.SeenValues.{val_of}
@@ -10,7 +10,7 @@ use Rattle.wasm_readers_types.specs.declared.indices.UnpackedIndex.{UnpackedInde
 use Rattle.wasm_readers_types.specs.declared.values.ValType.{ValType}
 use Rattle.wasm_operator_steps.specs.Bodies.{Local}
 use Rattle.wasm_operator_steps.specs.Machine.{State}
-use Rattle.wasm_module_resources.specs.Answers.{world, written_index}
+use Rattle.wasm_validator_resources.specs.Answers.{world, written_index}
 use Rattle.wasm_operator_validator.specs.Typed.{typed_state, locals_in}
 use Rattle.wasm_operator_validator.specs.declared.validator.OperatorValidator.{OperatorValidator}
 use Rattle.wasm_operator_validator.specs.Checked.{within}

@@ -3,10 +3,10 @@
 
 use crate::func_validator::FuncValidator;
 use std::alloc::Allocator;
-use wasm_module_resources::WasmModuleResources;
 use wasm_operator_validator::{FrameStack, ModuleArity, func_type_of, tag_arity};
 use wasm_operators::{BlockType, FrameKind};
 use wasm_readers_types::{ContType, FuncType, RefType, SubType, UnpackedIndex};
+use wasm_validator_resources::WasmModuleResources;
 
 impl<T: WasmModuleResources, A: Allocator> ModuleArity for FuncValidator<T, A> {
     type A = T::A;

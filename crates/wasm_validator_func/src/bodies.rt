@@ -1,9 +1,9 @@
 //! Bodies, read and typed operator by operator.
 
 ghost use Rattle.std.specs.Prelude.{◌≡◌, ◌≤◌, ◌<◌, ◌||◌, not, false, is_ok, IfErr, OnOk};
-ghost use Rattle.wasm_binary_reader.specs.Reader.{SameInput, position_in, rest};
+ghost use Rattle.wasm_readers_bytes.specs.Reader.{SameInput, position_in, rest};
 ghost use Rattle.wasm_parser.specs.Seen.{body_of, body_reader};
-ghost use Rattle.wasm_module_resources.specs.Answers.{world};
+ghost use Rattle.wasm_validator_resources.specs.Answers.{world};
 ghost use Rattle.wasm_operator_stacks.specs.Seen.{Kept};
 ghost use Rattle.wasm_operator_validator.specs.Typed.{typed_state, locals_in};
 ghost use Rattle.wasm_operator_validator.specs.Checked.{within, IsRefusedAt, StandsIn, ReadsTo};
@@ -13,11 +13,11 @@ ghost use Rattle.wasm_validator_func.specs.Validated.{body_in, Goes, Validates};
 
 use crate::locals::read_declarations;
 use std::alloc::Allocator;
-use wasm_module_resources::WasmModuleResources;
 use wasm_operator_validator::OperatorValidator;
 use wasm_parser::FunctionBody;
 use wasm_readers::BinaryReader;
 use wasm_readers_errors::{Error, Fault, OperatorRule, Refusal};
+use wasm_validator_resources::WasmModuleResources;
 
 /// The refusal by a rule, at this offset.
 #[inline(never)]

@@ -4,7 +4,7 @@ ghost use Rattle.std.specs.Prelude.{◌≡◌, IfOk};
 
 use crate::func_validator::FuncValidator;
 use std::alloc::{AllocError, Allocator};
-use wasm_module_resources::WasmModuleResources;
+use wasm_validator_resources::WasmModuleResources;
 
 impl<T: WasmModuleResources + Clone, A: Allocator + Copy> FuncValidator<T, A> {
     /// A validator of the same function with the same operands, frames and locals, failed or not as

@@ -2,12 +2,12 @@
 
 ghost use Rattle.std.specs.Prelude.{◌≡◌, ◌≤◌, ◌<◌, ◌^◌, ◌||◌, true, false, not, is_ok, is_some, length, slice_get, IfOk, IfErr, OnErr};
 ghost use Rattle.std.specs.Option.{option_map};
-ghost use Rattle.wasm_binary_reader.specs.Reader.{SameInput, position_in, rest};
-ghost use Rattle.wasm_rules.specs.FeatureFlags.{features_of};
+ghost use Rattle.wasm_readers_bytes.specs.Reader.{SameInput, position_in, rest};
+ghost use Rattle.wasm_spec_rules.specs.FeatureFlags.{features_of};
 ghost use Rattle.wasm_parser.specs.Seen.{body_of, body_reader};
 ghost use Rattle.wasm_readers_types.specs.SeenValues.{val_of};
 ghost use Rattle.wasm_operators.specs.SeenOperators.{operator_of};
-ghost use Rattle.wasm_module_resources.specs.Answers.{IsWrittenVal};
+ghost use Rattle.wasm_validator_resources.specs.Answers.{IsWrittenVal};
 ghost use Rattle.wasm_operator_stacks.specs.Seen.{Kept};
 ghost use Rattle.wasm_operator_control.specs.Blocks.{function_in};
 ghost use Rattle.wasm_operator_validator.specs.Stepped.{IsWrittenInstruction};
@@ -21,7 +21,6 @@ ghost use Rattle.wasm_validator_func.specs.Validated.{declaration_of, declared_i
 use crate::bodies::{check_body, refused};
 use crate::locals::{define, read_declarations};
 use std::alloc::{Allocator, Global};
-use wasm_module_resources::WasmModuleResources;
 use wasm_operator_stacks::MAX_LOCALS;
 use wasm_operator_validator::{Frame, OperatorValidator, OperatorValidatorAllocations};
 use wasm_operators::Operator;
@@ -29,6 +28,7 @@ use wasm_parser::FunctionBody;
 use wasm_readers::BinaryReader;
 use wasm_readers_errors::{Error, Fault, OperatorRule, Refusal, WasmFeatures};
 use wasm_readers_types::{CompositeInnerType, ValType};
+use wasm_validator_resources::WasmModuleResources;
 
 /// A function whose body is to be validated: what is looked up of its module, its index, its type's
 /// index, and the features.

@@ -1,19 +1,19 @@
 //! The locals that a body declares.
 
 ghost use Rattle.std.specs.Prelude.{◌≡◌, ◌≤◌, ◌<◌, ◌||◌, true, false, not, is_ok, Some, None, IfOk, IfErr, OnOk, OnErr};
-ghost use Rattle.wasm_binary_reader.specs.Reader.{SameInput, position_in, rest, RefusedFrom};
+ghost use Rattle.wasm_readers_bytes.specs.Reader.{SameInput, position_in, rest, RefusedFrom};
 ghost use Rattle.wasm_readers_types.specs.SeenValues.{val_of};
-ghost use Rattle.wasm_module_resources.specs.Answers.{IsWrittenVal};
+ghost use Rattle.wasm_validator_resources.specs.Answers.{IsWrittenVal};
 ghost use Rattle.wasm_operator_validator.specs.Typed.{typed_state, locals_in};
 ghost use Rattle.wasm_operator_validator.specs.Checked.{StandsIn};
 ghost use Rattle.wasm_operator_steps.specs.FunctionBodies.{declaration_at};
 ghost use Rattle.wasm_validator_func.specs.Validated.{declaration_of, declared_in, counted_in, listed_in, Goes, DeclaredAt, Declares};
 
 use std::alloc::Allocator;
-use wasm_module_resources::WasmModuleResources;
 use wasm_operator_validator::OperatorValidator;
 use wasm_readers::types::read_val_type;
 use wasm_readers::{BinaryReader, Error, Refusal, ValType};
+use wasm_validator_resources::WasmModuleResources;
 
 /// A declaration: how many locals, and their type, which names type indices of the module (Core
 /// Specification 3.0, Binary Format, Modules, Code Section).

@@ -7,8 +7,8 @@ ghost use Rattle.wasm_validator_func.specs.contracts.func_validator.FuncValidato
 
 use crate::func_validator::FuncValidator;
 use std::alloc::Allocator;
-use wasm_module_resources::WasmModuleResources;
 use wasm_operator_validator::OperatorVisitor;
+use wasm_validator_resources::WasmModuleResources;
 
 impl<T: WasmModuleResources, A: Allocator> FuncValidator<T, A> {
     /// A visitor of the function's body, over what the validator looks up. It begins with the

@@ -9,14 +9,14 @@ use Rattle.wasm_spec.specs.Values.{u32_at, list_at}
 use Rattle.wasm_spec.specs.BinaryTypes.{flags_at, ref_at}
 use Rattle.wasm_spec.specs.BinarySections.{Element, functions, expressions, SegmentMode, passive, active, declarative, funcref, functions_with, expressions_with, element_from, element_at}
 use Rattle.wasm_spec.specs.Features.{Features}
-use Rattle.wasm_rules.specs.Attempts.{passes}
-use Rattle.wasm_rules.specs.Parts.{Expression}
-use Rattle.wasm_rules.specs.SegmentRules.{index_or_first}
-use Rattle.wasm_rules.proofs.Tests.{unless}
+use Rattle.wasm_spec_rules.specs.Attempts.{passes}
+use Rattle.wasm_spec_rules.specs.Parts.{Expression}
+use Rattle.wasm_spec_rules.specs.SegmentRules.{index_or_first}
+use Rattle.wasm_spec_rules.proofs.Tests.{unless}
 use Rattle.wasm_readers.specs.Written.{written}
 use Rattle.wasm_readers_types.specs.declared.indices.UnpackedIndex.{UnpackedIndex}
-use Rattle.wasm_module_resources.specs.Answers.{world}
-use Rattle.wasm_module_validity.specs.Expressions.{expression_at}
+use Rattle.wasm_validator_resources.specs.Answers.{world}
+use Rattle.wasm_spec_validity.specs.Expressions.{expression_at}
 use Rattle.wasm_validator_items.specs.Elements.{may_go, segment_table_at, items_type_at, typed_items_at, typed_element_from, typed_element_at}
 use Rattle.wasm_validator_items.specs.Offsets.{behind_table_offset}
 use Rattle.wasm_validator_types.specs.Spaces.{Spaces}

@@ -5,12 +5,12 @@ use Rattle.wasm_spec.specs.Syntax.{Sub, Global, map_global}
 use Rattle.wasm_spec.specs.BinaryTypes.{global_at}
 use Rattle.wasm_spec.specs.BinarySections.{GlobalEntry, global_entry_at}
 use Rattle.wasm_spec.specs.Features.{Features}
-use Rattle.wasm_rules.specs.Parts.{Expression}
+use Rattle.wasm_spec_rules.specs.Parts.{Expression}
 use Rattle.wasm_readers.specs.Written.{written}
 use Rattle.wasm_readers_types.specs.declared.indices.UnpackedIndex.{UnpackedIndex}
 use Rattle.wasm_validator_canonical.specs.Indices.{canonical_index}
-use Rattle.wasm_item_checks.specs.Items.{is_valid_global}
-use Rattle.wasm_module_validity.specs.Expressions.{expression_at}
+use Rattle.wasm_validator_checks.specs.Items.{is_valid_global}
+use Rattle.wasm_spec_validity.specs.Expressions.{expression_at}
 use Rattle.wasm_validator_types.specs.Spaces.{Spaces}
 use Rattle.wasm_validator_core.specs.declared.limits.TheConstants.{MAX_GLOBALS}
 use Rattle.wasm_validator_core.specs.Answers.{TypesSoFar}

@@ -5,11 +5,11 @@ use Rattle.std.proofs.lemmas.List.{nil_from_length}
 use Rattle.std.proofs.lemmas.Option.{none-some}
 use Rattle.wasm_spec.specs.Syntax.{Sub, Val}
 use Rattle.wasm_spec.specs.Features.{Features}
-use Rattle.wasm_rules.specs.Contexts.{Context}
-use Rattle.wasm_rules.specs.Parts.{Expression}
+use Rattle.wasm_spec_rules.specs.Contexts.{Context}
+use Rattle.wasm_spec_rules.specs.Parts.{Expression}
 use Rattle.wasm_readers_types.specs.declared.indices.UnpackedIndex.{UnpackedIndex}
 use Rattle.wasm_validator_types.specs.Spaces.{Spaces}
-use Rattle.wasm_module_validity.specs.Expressions.{expression_at}
+use Rattle.wasm_spec_validity.specs.Expressions.{expression_at}
 use Rattle.wasm_validator_items.specs.Expressions.{behind_expression}
 use Rattle.wasm_validator_items.proofs.Finding.{are_found}
 use Rattle.wasm_validator_items.specs.Items.{IsConstantIn, IsTypedExpressionAt}

@@ -10,14 +10,14 @@ use Rattle.wasm_spec.specs.BinaryTypes.{flags_at, ref_at}
 use Rattle.wasm_spec.specs.BinarySections.{ElementItems, functions, expressions, funcref, ref_func}
 use Rattle.wasm_spec.specs.ValueTypes.{allows_ref}
 use Rattle.wasm_spec.specs.Features.{Features}
-use Rattle.wasm_rules.specs.Contexts.{Context}
-use Rattle.wasm_rules.specs.Parts.{Expression, index}
+use Rattle.wasm_spec_rules.specs.Contexts.{Context}
+use Rattle.wasm_spec_rules.specs.Parts.{Expression, index}
 use Rattle.wasm_readers.specs.Written.{written}
 use Rattle.wasm_readers_types.specs.declared.indices.UnpackedIndex.{UnpackedIndex}
 use Rattle.wasm_validator_canonical.specs.Indices.{canonical_index}
-use Rattle.wasm_item_checks.specs.Items.{is_ref_in_range}
-use Rattle.wasm_module_resources.specs.Answers.{val_in}
-use Rattle.wasm_module_validity.specs.Expressions.{expression_at}
+use Rattle.wasm_validator_checks.specs.Items.{is_ref_in_range}
+use Rattle.wasm_validator_resources.specs.Answers.{val_in}
+use Rattle.wasm_spec_validity.specs.Expressions.{expression_at}
 use Rattle.wasm_validator_items.specs.Elements.{behind_function, may_go, reference_at}
 use Rattle.wasm_validator_items.specs.Expressions.{behind_expression}
 use Rattle.wasm_validator_items.specs.Lists.{behind_list}

@@ -7,13 +7,13 @@ use Rattle.wasm_spec.specs.Values.{u32_at, sized_at}
 use Rattle.wasm_spec.specs.BinaryTypes.{global_at}
 use Rattle.wasm_spec.specs.BinarySections.{GlobalEntry, Data, SegmentMode, passive, active, data_mode_from, data_at, global_entry_at}
 use Rattle.wasm_spec.specs.Features.{Features}
-use Rattle.wasm_rules.specs.Contexts.{Context}
-use Rattle.wasm_rules.specs.Parts.{Expression}
+use Rattle.wasm_spec_rules.specs.Contexts.{Context}
+use Rattle.wasm_spec_rules.specs.Parts.{Expression}
 use Rattle.wasm_readers.specs.Written.{written}
 use Rattle.wasm_readers_types.specs.declared.indices.UnpackedIndex.{UnpackedIndex}
-use Rattle.wasm_module_resources.specs.Answers.{world, val_in}
-use Rattle.wasm_module_validity.specs.Expressions.{expression_at}
-use Rattle.wasm_module_validity.proofs.Whole.{expressions_are_whole}
+use Rattle.wasm_validator_resources.specs.Answers.{world, val_in}
+use Rattle.wasm_spec_validity.specs.Expressions.{expression_at}
+use Rattle.wasm_spec_validity.proofs.Whole.{expressions_are_whole}
 use Rattle.wasm_validator_items.specs.Data.{behind_data_mode, behind_data}
 use Rattle.wasm_validator_items.specs.Expressions.{around_constants, behind_expression}
 use Rattle.wasm_validator_items.specs.Globals.{with_content, global_type_at, typed_global_at}

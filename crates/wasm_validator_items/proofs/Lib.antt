@@ -1,4 +1,4 @@
-pub use Rattle.wasm_constant_items.proofs.Finding
+pub use Rattle.wasm_validator_segments.proofs.Finding
 mod Loops
 mod Places
 mod Refusals

@@ -3,10 +3,10 @@ use Rattle.std.proofs.Common.{◌≡◌, refl, sym, ℕ, Bool, false, if◌then�
 use Rattle.std.specs.Option.{option_and_then}
 use Rattle.wasm_spec.specs.Syntax.{Sub, Memory, Table}
 use Rattle.wasm_spec.specs.Features.{Features}
-use Rattle.wasm_rules.specs.Attempts.{passes}
-use Rattle.wasm_rules.specs.Parts.{Expression}
+use Rattle.wasm_spec_rules.specs.Attempts.{passes}
+use Rattle.wasm_spec_rules.specs.Parts.{Expression}
 use Rattle.wasm_readers_types.specs.declared.indices.UnpackedIndex.{UnpackedIndex}
-use Rattle.wasm_module_validity.specs.Expressions.{expression_at}
+use Rattle.wasm_spec_validity.specs.Expressions.{expression_at}
 use Rattle.wasm_validator_items.specs.Expressions.{behind_expression}
 use Rattle.wasm_validator_items.specs.Offsets.{address_type, behind_table_offset, behind_memory_offset}
 use Rattle.wasm_validator_types.specs.Spaces.{Spaces}

@@ -5,12 +5,12 @@ use Rattle.std.specs.declared.result.Result.{Result}
 use Rattle.std.specs.declared.result.Result.TheVariants.{Ok, Err}
 use Rattle.wasm_readers_errors.specs.declared.error.Error as below
 use Rattle.wasm_readers_errors.specs.declared.error.Error.TheVariants as read
-use Rattle.wasm_binary_reader.specs.Reader.{SameInput, input, original, position_in}
-use Rattle.wasm_binary_reader.specs.declared.binary_reader.BinaryReader.{BinaryReader}
+use Rattle.wasm_readers_bytes.specs.Reader.{SameInput, input, original, position_in}
+use Rattle.wasm_readers_bytes.specs.declared.binary_reader.BinaryReader.{BinaryReader}
 use Rattle.wasm_validator_core.specs.declared.error.Error.{Error}
 use Rattle.wasm_validator_core.specs.declared.error.Error.TheVariants.{Refused, DuplicateExport, OutOfMemory}
 use Rattle.wasm_validator_core.specs.Errors.{IsAt, IsMemory, lifted}
-use Rattle.wasm_constant_items.specs.Checked.{StandsIn}
+use Rattle.wasm_validator_segments.specs.Checked.{StandsIn}
 use Rattle.wasm_validator_items.specs.Answers.{StandsBetween, StandsBehind}
 
 module _ {A : Type 0} where

@@ -11,7 +11,7 @@ use Rattle.wasm_validator_core.specs.declared.error.Error.TheVariants.{Refused, 
 use Rattle.wasm_validator_core.specs.Answers.{Adds}
 use Rattle.wasm_readers_errors.specs.Errors.{Reads}
 use Rattle.wasm_validator_core.specs.Errors.{IsMemory, lifted}
-use Rattle.wasm_constant_items.specs.Answers as items
+use Rattle.wasm_validator_segments.specs.Answers as items
 use Rattle.wasm_validator_items.specs.Answers.{Refuses}
 
 -- an error that is handed on

@@ -5,10 +5,10 @@ use Rattle.wasm_spec.specs.Syntax.{Sub}
 use Rattle.wasm_spec.specs.Values.{u32_at, sized_at}
 use Rattle.wasm_spec.specs.BinarySections.{Data, SegmentMode, passive, active, data_mode_from, data_at}
 use Rattle.wasm_spec.specs.Features.{Features}
-use Rattle.wasm_rules.specs.Attempts.{passes}
-use Rattle.wasm_rules.specs.Parts.{Expression}
+use Rattle.wasm_spec_rules.specs.Attempts.{passes}
+use Rattle.wasm_spec_rules.specs.Parts.{Expression}
 use Rattle.wasm_readers_types.specs.declared.indices.UnpackedIndex.{UnpackedIndex}
-use Rattle.wasm_module_validity.specs.Expressions.{expression_at}
+use Rattle.wasm_spec_validity.specs.Expressions.{expression_at}
 use Rattle.wasm_validator_items.specs.Data.{behind_data_mode, behind_data}
 use Rattle.wasm_validator_items.specs.Offsets.{behind_memory_offset}
 use Rattle.wasm_validator_types.specs.Spaces.{Spaces}

@@ -9,14 +9,14 @@ use Rattle.wasm_readers.specs.Tables.{Head, table_head_at}
 use Rattle.wasm_readers.specs.Written.{written}
 use Rattle.wasm_readers_types.specs.declared.indices.UnpackedIndex.{UnpackedIndex}
 use Rattle.wasm_validator_canonical.specs.Indices.{canonical_index}
-use Rattle.wasm_item_checks.specs.Items.{is_valid_defined_table, is_valid_global}
+use Rattle.wasm_validator_checks.specs.Items.{is_valid_defined_table, is_valid_global}
 use Rattle.wasm_validator_types.specs.Spaces.{Spaces}
 use Rattle.wasm_validator_core.specs.Answers.{TypesSoFar}
 use Rattle.wasm_validator_core.specs.Items.{types_of_module, with_table, with_global}
-use Rattle.wasm_rules.specs.Contexts.{Context}
-use Rattle.wasm_constant_items.specs.Data.{behind_data}
-use Rattle.wasm_constant_items.specs.Elements.{typed_element_at}
-use Rattle.wasm_constant_items.specs.Expressions.{behind_expression}
+use Rattle.wasm_spec_rules.specs.Contexts.{Context}
+use Rattle.wasm_validator_segments.specs.Data.{behind_data}
+use Rattle.wasm_validator_segments.specs.Elements.{typed_element_at}
+use Rattle.wasm_validator_segments.specs.Expressions.{behind_expression}
 use Rattle.wasm_validator_items.specs.Machine.{context_of, behind_initializer, with_initialized, with_written, global_step, behind_init, with_init, with_head, table_step, with_items, element_step, data_step}
 
 -- an expression in the context of the module is an initializer in it

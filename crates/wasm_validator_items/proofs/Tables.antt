@@ -4,15 +4,15 @@ use Rattle.std.specs.Option.{option_and_then}
 use Rattle.wasm_spec.specs.Syntax.{Sub, reference, Table, map_table}
 use Rattle.wasm_spec.specs.BinarySections.{TableEntry, table_entry_at}
 use Rattle.wasm_spec.specs.Features.{Features}
-use Rattle.wasm_rules.specs.Limits.{most_tables}
-use Rattle.wasm_rules.specs.Parts.{Expression}
+use Rattle.wasm_spec_rules.specs.Limits.{most_tables}
+use Rattle.wasm_spec_rules.specs.Parts.{Expression}
 use Rattle.wasm_readers.specs.Tables.{Head, table_head_at, table_behind}
 use Rattle.wasm_readers.specs.Written.{written}
 use Rattle.wasm_readers.proofs.Tables.{heads_begin_tables}
 use Rattle.wasm_readers_types.specs.declared.indices.UnpackedIndex.{UnpackedIndex}
 use Rattle.wasm_validator_canonical.specs.Indices.{canonical_index}
-use Rattle.wasm_item_checks.specs.Items.{is_valid_defined_table}
-use Rattle.wasm_module_validity.specs.Expressions.{expression_at}
+use Rattle.wasm_validator_checks.specs.Items.{is_valid_defined_table}
+use Rattle.wasm_spec_validity.specs.Expressions.{expression_at}
 use Rattle.wasm_validator_types.specs.Spaces.{Spaces}
 use Rattle.wasm_validator_core.specs.Answers.{TypesSoFar}
 use Rattle.wasm_validator_core.specs.Items.{types_of_module, with_table}

@@ -8,14 +8,14 @@ use Rattle.wasm_spec.specs.BinarySections.{TableEntry, GlobalEntry, Element, Ele
 use Rattle.wasm_spec.specs.ValueTypes.{allows_ref}
 use Rattle.wasm_spec.specs.MatchingTests.{matches_val}
 use Rattle.wasm_spec.specs.Features.{Features}
-use Rattle.wasm_rules.specs.Attempts.{passes}
-use Rattle.wasm_rules.specs.Parts.{Expression}
-use Rattle.wasm_rules.specs.SegmentRules.{index_or_first}
+use Rattle.wasm_spec_rules.specs.Attempts.{passes}
+use Rattle.wasm_spec_rules.specs.Parts.{Expression}
+use Rattle.wasm_spec_rules.specs.SegmentRules.{index_or_first}
 use Rattle.wasm_readers_types.specs.declared.indices.UnpackedIndex.{UnpackedIndex}
 use Rattle.wasm_validator_canonical.specs.Indices.{canonical_index}
-use Rattle.wasm_item_checks.specs.Items.{is_ref_in_range, is_valid_defined_table, is_valid_global}
-use Rattle.wasm_module_resources.specs.Answers.{world}
-use Rattle.wasm_constant_items.specs.Offsets.{address_type}
+use Rattle.wasm_validator_checks.specs.Items.{is_ref_in_range, is_valid_defined_table, is_valid_global}
+use Rattle.wasm_validator_resources.specs.Answers.{world}
+use Rattle.wasm_validator_segments.specs.Offsets.{address_type}
 use Rattle.wasm_validator_types.specs.Spaces.{Spaces}
 use Rattle.wasm_validator_core.specs.Answers.{TypesSoFar}
 use Rattle.wasm_validator_core.specs.Items.{types_of_module, with_table, with_global}

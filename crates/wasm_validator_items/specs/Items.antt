@@ -4,17 +4,17 @@ use Rattle.std.specs.Prelude.{◌≡◌, ◌↔◌, ℕ, List, [], slice_get, So
 use Rattle.wasm_spec.specs.Syntax.{Val, Memory, Global}
 use Rattle.wasm_spec.specs.BinarySections.{GlobalEntry, Data, SegmentMode, passive, active, declarative, global_entry_at, data_at}
 use Rattle.wasm_spec.specs.Features.{Features}
-use Rattle.wasm_rules.specs.Contexts.{Context}
-use Rattle.wasm_rules.specs.Parts.{Expression}
-use Rattle.wasm_rules.specs.SegmentRules.{index_or_first}
+use Rattle.wasm_spec_rules.specs.Contexts.{Context}
+use Rattle.wasm_spec_rules.specs.Parts.{Expression}
+use Rattle.wasm_spec_rules.specs.SegmentRules.{index_or_first}
 use Rattle.wasm_readers.specs.Written.{written}
 use Rattle.wasm_readers_types.specs.declared.indices.UnpackedIndex.{UnpackedIndex}
 use Rattle.wasm_operators.specs.Control.{value_block}
 use Rattle.wasm_operator_steps.specs.ConstantRules.{IsConstantExpression}
 use Rattle.wasm_operator_steps.specs.Machine.{State}
 use Rattle.wasm_operator_steps.specs.Steps.{start}
-use Rattle.wasm_module_resources.specs.Answers.{world, val_in}
-use Rattle.wasm_module_validity.specs.Expressions.{expression_at}
+use Rattle.wasm_validator_resources.specs.Answers.{world, val_in}
+use Rattle.wasm_spec_validity.specs.Expressions.{expression_at}
 use Rattle.wasm_validator_items.specs.Data.{behind_data}
 use Rattle.wasm_validator_items.specs.Expressions.{around_constants, behind_expression}
 use Rattle.wasm_validator_items.specs.Globals.{with_content, typed_global_at}

@@ -1,9 +1,9 @@
-pub use Rattle.wasm_constant_items.specs.Globals
-pub use Rattle.wasm_constant_items.specs.Data
-pub use Rattle.wasm_constant_items.specs.Elements
-pub use Rattle.wasm_constant_items.specs.Lists
-pub use Rattle.wasm_constant_items.specs.Offsets
-pub use Rattle.wasm_constant_items.specs.Expressions
+pub use Rattle.wasm_validator_segments.specs.Globals
+pub use Rattle.wasm_validator_segments.specs.Data
+pub use Rattle.wasm_validator_segments.specs.Elements
+pub use Rattle.wasm_validator_segments.specs.Lists
+pub use Rattle.wasm_validator_segments.specs.Offsets
+pub use Rattle.wasm_validator_segments.specs.Expressions
 pub mod Machine
 pub mod Answers
 pub mod Sections

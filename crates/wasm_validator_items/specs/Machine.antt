@@ -6,22 +6,22 @@ use Rattle.std.specs.Option.{option_map, option_and_then}
 use Rattle.wasm_spec.specs.Syntax.{Ref, Sub, Val, reference, Table, Global, map_table, map_global}
 use Rattle.wasm_spec.specs.BinaryTypes.{global_at}
 use Rattle.wasm_spec.specs.Features.{Features}
-use Rattle.wasm_rules.specs.Contexts.{Context}
-use Rattle.wasm_rules.specs.Limits.{most_tables}
+use Rattle.wasm_spec_rules.specs.Contexts.{Context}
+use Rattle.wasm_spec_rules.specs.Limits.{most_tables}
 use Rattle.wasm_readers.specs.Tables.{Head, table_head_at}
 use Rattle.wasm_readers.specs.Written.{written}
 use Rattle.wasm_readers_types.specs.declared.indices.UnpackedIndex.{UnpackedIndex}
 use Rattle.wasm_validator_canonical.specs.Indices.{canonical_index}
-use Rattle.wasm_item_checks.specs.Items.{is_valid_defined_table, is_valid_global}
+use Rattle.wasm_validator_checks.specs.Items.{is_valid_defined_table, is_valid_global}
 use Rattle.wasm_validator_types.specs.Spaces.{Spaces}
 use Rattle.wasm_validator_core.specs.declared.limits.TheConstants.{MAX_GLOBALS, MAX_ELEMENT_SEGMENTS, MAX_DATA_SEGMENTS}
 use Rattle.wasm_validator_core.specs.Answers.{TypesSoFar}
 use Rattle.wasm_validator_core.specs.Items.{types_of_module, with_table, with_global}
 use Rattle.wasm_validator_core_resources.specs.IndexContexts.{id_of}
 use Rattle.wasm_validator_core_resources.specs.ModuleContexts.{exact_flags, numbers_from}
-use Rattle.wasm_constant_items.specs.Data.{behind_data}
-use Rattle.wasm_constant_items.specs.Elements.{typed_element_at}
-use Rattle.wasm_constant_items.specs.Expressions.{behind_expression}
+use Rattle.wasm_validator_segments.specs.Data.{behind_data}
+use Rattle.wasm_validator_segments.specs.Elements.{typed_element_at}
+use Rattle.wasm_validator_segments.specs.Expressions.{behind_expression}
 
 module _ {S : Type 0} (step : S → List ℕ → Option (S × List ℕ)) where
   -- so many items one after another, each read in the state that those before it left, and nothing behind the last

@@ -5,19 +5,19 @@ use Rattle.std.specs.Option.{option_map}
 use Rattle.wasm_spec.specs.Syntax.{Sub}
 use Rattle.wasm_spec.specs.BinarySections.{table_entry_at, global_entry_at, element_at, data_at}
 use Rattle.wasm_spec.specs.Features.{Features}
-use Rattle.wasm_rules.specs.Limits.{most_tables}
-use Rattle.wasm_rules.specs.Parts.{Expression}
+use Rattle.wasm_spec_rules.specs.Limits.{most_tables}
+use Rattle.wasm_spec_rules.specs.Parts.{Expression}
 use Rattle.wasm_readers.specs.Written.{written}
 use Rattle.wasm_readers_types.specs.declared.indices.UnpackedIndex.{UnpackedIndex}
 use Rattle.wasm_validator_types.specs.Spaces.{Spaces}
 use Rattle.wasm_validator_core.specs.declared.limits.TheConstants.{MAX_GLOBALS, MAX_ELEMENT_SEGMENTS, MAX_DATA_SEGMENTS}
 use Rattle.wasm_validator_core.specs.Answers.{TypesSoFar}
-use Rattle.wasm_module_validity.specs.Expressions.{expression_at}
+use Rattle.wasm_spec_validity.specs.Expressions.{expression_at}
 use Rattle.wasm_validator_items.specs.Machine.{items_from, table_step, table_items, global_step, global_items, element_step, element_items, data_step, data_items}
 use Rattle.wasm_validator_items.specs.Sections.{read_one, read_each, read_section}
 use Rattle.wasm_validator_items.specs.Entries.{add_table_entry, add_global_entry, add_element, add_data}
 use Rattle.wasm_validator_items.specs.Maps.{map_table_entry, map_global_entry, map_element}
-use Rattle.wasm_rules.specs.Parts as parts
+use Rattle.wasm_spec_rules.specs.Parts as parts
 
 -- what each of the ids of a list declares
 abbrev pub Declared : Type 0

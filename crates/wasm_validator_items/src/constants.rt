@@ -8,8 +8,8 @@ ghost use Rattle.wasm_validator_core_resources.specs.ById.{AreFirstByIds};
 ghost use Rattle.wasm_validator_core_resources.specs.ModuleContexts.{AreByIds};
 
 use std::alloc::{AllocError, Allocator, Global};
-use wasm_constant_items::ExpressionMemory;
 use wasm_validator_core_resources::TypesByIds;
+use wasm_validator_segments::ExpressionMemory;
 use wasm_validator_types::TypeList;
 
 /// The types of a list with ids in the place of positions in their groups, which follow the list as

@@ -2,8 +2,8 @@
 
 ghost use Rattle.std.specs.Prelude.{◌≡◌, ◌≤◌, ◌+◌, length, IfOk, IfErr};
 ghost use Rattle.std.specs.declared.option.Option.TheVariants.{Some};
-ghost use Rattle.wasm_rules.specs.FeatureFlags.{features_of};
-ghost use Rattle.wasm_binary_reader.specs.Reader.{SameInput, input, original, position_in, rest};
+ghost use Rattle.wasm_spec_rules.specs.FeatureFlags.{features_of};
+ghost use Rattle.wasm_readers_bytes.specs.Reader.{SameInput, input, original, position_in, rest};
 ghost use Rattle.wasm_validator_core.specs.Answers.{Adds};
 ghost use Rattle.wasm_validator_core.specs.Ready.{AreHeld};
 ghost use Rattle.wasm_validator_core_resources.specs.IndexContexts.{id_of};
@@ -13,11 +13,11 @@ ghost use Rattle.wasm_validator_items.specs.Answers.{Refuses, StandsBetween, Sta
 ghost use Rattle.wasm_validator_items.specs.Machine.{data_step, items_from, data_items};
 
 use std::alloc::Allocator;
-use wasm_constant_items::{ExpressionMemory, check_data};
 use wasm_readers::BinaryReader;
 use wasm_readers_errors::{Counted, Fault, Malformed, Refusal, WasmFeatures};
 use wasm_validator_core::{Error, MAX_DATA_SEGMENTS, check_max};
 use wasm_validator_core_resources::{ModuleResources, TypesByIds};
+use wasm_validator_segments::{ExpressionMemory, check_data};
 use wasm_validator_types::{IndexSpaces, TypeList};
 
 /// Reads and types the data segment that the bytes begin with, in the module as far as it has been

@@ -2,8 +2,8 @@
 
 ghost use Rattle.std.specs.Prelude.{◌≡◌, ◌≤◌, ◌+◌, ◌<◌, ◌^◌, length, IfOk, OnOk, IfErr};
 ghost use Rattle.std.specs.declared.option.Option.TheVariants.{Some};
-ghost use Rattle.wasm_rules.specs.FeatureFlags.{features_of};
-ghost use Rattle.wasm_binary_reader.specs.Reader.{SameInput, input, original, position_in, rest};
+ghost use Rattle.wasm_spec_rules.specs.FeatureFlags.{features_of};
+ghost use Rattle.wasm_readers_bytes.specs.Reader.{SameInput, input, original, position_in, rest};
 ghost use Rattle.wasm_readers_types.specs.SeenValues.{val_of};
 ghost use Rattle.wasm_validator_core.specs.Answers.{Adds};
 ghost use Rattle.wasm_validator_core.specs.Errors.{IsMemory};
@@ -11,17 +11,17 @@ ghost use Rattle.wasm_validator_core.specs.Ready.{AreHeld};
 ghost use Rattle.wasm_validator_core_resources.specs.IndexContexts.{id_of};
 ghost use Rattle.wasm_validator_core_resources.specs.ListContexts.{list_declares};
 ghost use Rattle.wasm_validator_core_resources.specs.ModuleContexts.{AreByIds};
-ghost use Rattle.wasm_constant_items.specs.Elements.{typed_element_at};
+ghost use Rattle.wasm_validator_segments.specs.Elements.{typed_element_at};
 ghost use Rattle.wasm_validator_items.specs.Answers.{Refuses, StandsBetween, StandsBehind};
 ghost use Rattle.wasm_validator_items.specs.Machine.{context_of, with_items, element_step, items_from, element_items};
 
 use std::alloc::Allocator;
-use wasm_constant_items::{ExpressionMemory, check_element};
 use wasm_readers::BinaryReader;
 use wasm_readers_errors::{Counted, Fault, Malformed, Refusal, WasmFeatures};
 use wasm_readers_types::ValType;
 use wasm_validator_core::{Error, MAX_ELEMENT_SEGMENTS, Module, check_max};
 use wasm_validator_core_resources::{ModuleResources, TypesByIds};
+use wasm_validator_segments::{ExpressionMemory, check_element};
 use wasm_validator_types::TypeList;
 
 /// Reads and types an element segment in the module as far as it has been read, and gives the type

@@ -3,13 +3,13 @@
 ghost use Rattle.std.specs.Prelude.{◌≡◌, ◌≤◌, ◌+◌, is_ok, length, IfOk, IfErr};
 ghost use Rattle.std.specs.declared.option.Option.TheVariants.{Some};
 ghost use Rattle.wasm_spec.specs.Syntax.{map_global};
-ghost use Rattle.wasm_rules.specs.FeatureFlags.{features_of};
-ghost use Rattle.wasm_binary_reader.specs.Reader.{SameInput, input, original, position_in, rest};
+ghost use Rattle.wasm_spec_rules.specs.FeatureFlags.{features_of};
+ghost use Rattle.wasm_readers_bytes.specs.Reader.{SameInput, input, original, position_in, rest};
 ghost use Rattle.wasm_readers_types.specs.SeenExterns.{global_of};
 ghost use Rattle.wasm_validator_type_list.specs.DefTypes.{types_of_list};
 ghost use Rattle.wasm_validator_canonical.specs.Indices.{canonical_index};
-ghost use Rattle.wasm_item_checks.specs.Answers.{IsRefusalAt};
-ghost use Rattle.wasm_item_checks.specs.Items.{is_valid_global};
+ghost use Rattle.wasm_validator_checks.specs.Answers.{IsRefusalAt};
+ghost use Rattle.wasm_validator_checks.specs.Items.{is_valid_global};
 ghost use Rattle.wasm_validator_core.specs.Answers.{Adds};
 ghost use Rattle.wasm_validator_core.specs.Items.{types_of_module};
 ghost use Rattle.wasm_validator_core.specs.Ready.{AreHeld};
@@ -21,13 +21,13 @@ ghost use Rattle.wasm_validator_items.specs.Machine.{global_step, items_from, gl
 
 use crate::initializers::check_initializer;
 use std::alloc::Allocator;
-use wasm_constant_items::ExpressionMemory;
 use wasm_readers::BinaryReader;
 use wasm_readers::externs::read_global_type;
 use wasm_readers_errors::{Counted, Fault, Malformed, Refusal, WasmFeatures};
 use wasm_readers_types::{GlobalType, TypeRef, ValType};
 use wasm_validator_core::{Error, MAX_GLOBALS, Module, check_max};
 use wasm_validator_core_resources::TypesByIds;
+use wasm_validator_segments::ExpressionMemory;
 use wasm_validator_types::{EntityType, TypeList};
 
 /// Accepts the type of a global, and gives it as the list of types has it.

@@ -2,8 +2,8 @@
 
 ghost use Rattle.std.specs.Prelude.{◌≡◌, ◌≤◌, IfOk, IfErr};
 ghost use Rattle.std.specs.declared.option.Option.TheVariants.{Some};
-ghost use Rattle.wasm_rules.specs.FeatureFlags.{features_of};
-ghost use Rattle.wasm_binary_reader.specs.Reader.{SameInput, position_in, rest};
+ghost use Rattle.wasm_spec_rules.specs.FeatureFlags.{features_of};
+ghost use Rattle.wasm_readers_bytes.specs.Reader.{SameInput, position_in, rest};
 ghost use Rattle.wasm_readers_types.specs.SeenValues.{val_of};
 ghost use Rattle.wasm_validator_core.specs.Ready.{AreHeld};
 ghost use Rattle.wasm_validator_core_resources.specs.IndexContexts.{id_of};
@@ -13,12 +13,12 @@ ghost use Rattle.wasm_validator_items.specs.Answers.{Refuses, StandsBehind};
 ghost use Rattle.wasm_validator_items.specs.Machine.{behind_initializer};
 
 use std::alloc::Allocator;
-use wasm_constant_items::{ExpressionMemory, check_expression_of_type};
 use wasm_readers::BinaryReader;
 use wasm_readers_errors::WasmFeatures;
 use wasm_readers_types::ValType;
 use wasm_validator_core::{Error, Module};
 use wasm_validator_core_resources::{ModuleResources, TypesByIds};
+use wasm_validator_segments::{ExpressionMemory, check_expression_of_type};
 use wasm_validator_types::TypeList;
 
 /// Reads and types the constant expression of this type that the bytes begin with, in the module as

@@ -10,7 +10,7 @@
 
 ghost use Rattle.std.specs.Prelude.{ℕ};
 ghost use Rattle.wasm_spec.specs.Features.{Features};
-ghost use Rattle.wasm_rules.specs.Contexts.{Context};
+ghost use Rattle.wasm_spec_rules.specs.Contexts.{Context};
 ghost use Rattle.wasm_readers_types.specs.declared.indices.UnpackedIndex.{UnpackedIndex};
 ghost use Rattle.wasm_validator_items.specs.Items.{ExpressionsAreTyped, GlobalsAreTyped, DataAreTyped};
 ghost use Rattle.wasm_validator_items.specs.Reading.{TablesAreReadAndAdded, GlobalsAreReadAndAdded, ElementsAreReadAndAdded, DataAreReadAndAdded, ItemsAreReadAndAdded, SectionsAddSingleItems, EntriesAreRenamed};
@@ -27,7 +27,7 @@ pub use data::{add_data_segments, check_next_data};
 pub use elements::{add_elements, add_next_element};
 pub use globals::{add_globals, add_next_global};
 pub use tables::{add_next_table, add_tables};
-pub use wasm_constant_items::ExpressionMemory;
+pub use wasm_validator_segments::ExpressionMemory;
 
 /// Expressions, globals and data segments that are read and typed in one pass are those of the
 /// grammar whose expressions are typed, and each of these is found.

@@ -2,8 +2,8 @@
 
 ghost use Rattle.std.specs.Prelude.{◌≡◌, ◌≤◌, ◌+◌, length, IfOk, IfErr};
 ghost use Rattle.std.specs.declared.option.Option.TheVariants.{Some};
-ghost use Rattle.wasm_rules.specs.FeatureFlags.{features_of};
-ghost use Rattle.wasm_binary_reader.specs.Reader.{SameInput, input, original, position_in, rest};
+ghost use Rattle.wasm_spec_rules.specs.FeatureFlags.{features_of};
+ghost use Rattle.wasm_readers_bytes.specs.Reader.{SameInput, input, original, position_in, rest};
 ghost use Rattle.wasm_readers_types.specs.SeenExterns.{table_of};
 ghost use Rattle.wasm_validator_type_list.specs.DefTypes.{types_of_list};
 ghost use Rattle.wasm_validator_core.specs.Answers.{Adds};
@@ -16,13 +16,13 @@ ghost use Rattle.wasm_validator_items.specs.Machine.{behind_init, table_step, it
 
 use crate::initializers::check_initializer;
 use std::alloc::Allocator;
-use wasm_constant_items::ExpressionMemory;
 use wasm_readers::BinaryReader;
 use wasm_readers::externs::read_table_head;
 use wasm_readers_errors::{Counted, Fault, Malformed, Refusal, WasmFeatures};
 use wasm_readers_types::{TableType, ValType};
 use wasm_validator_core::{Error, Module, check_max, max_tables};
 use wasm_validator_core_resources::TypesByIds;
+use wasm_validator_segments::ExpressionMemory;
 use wasm_validator_types::TypeList;
 
 /// Reads and types what the entries of a table of this type begin with, if that is written.

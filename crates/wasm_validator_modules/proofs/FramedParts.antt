@@ -8,9 +8,9 @@ use Rattle.wasm_spec.specs.BinaryModules.{import_at, export_at}
 use Rattle.wasm_spec.specs.BinarySections.{table_entry_at, global_entry_at, element_at, data_at}
 use Rattle.wasm_spec.specs.Features.{Features}
 use Rattle.wasm_spec.specs.Framing.{Piece, Version, End}
-use Rattle.wasm_rules.specs.Parts.{Parts, HasParts, index, starts_of, data_counts_of, bodies_of}
-use Rattle.wasm_rules.specs.Modules.{IsAllowedPiece}
-use Rattle.wasm_module_validity.specs.Expressions.{expression_at}
+use Rattle.wasm_spec_rules.specs.Parts.{Parts, HasParts, index, starts_of, data_counts_of, bodies_of}
+use Rattle.wasm_spec_rules.specs.Modules.{IsAllowedPiece}
+use Rattle.wasm_spec_validity.specs.Expressions.{expression_at}
 use Rattle.wasm_validator_modules.proofs.ModuleRun.{framed_items}
 
 -- the pieces of a module: its header, what is between, and the end

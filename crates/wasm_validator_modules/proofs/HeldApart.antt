@@ -1,7 +1,7 @@
 -- The types that a validator holds are told apart.
 use Rattle.std.proofs.Common.{◌≡◌, subst, ℕ}
 use Rattle.wasm_spec.specs.Features.{canonical}
-use Rattle.wasm_rules.specs.FeatureFlags.{features_of}
+use Rattle.wasm_spec_rules.specs.FeatureFlags.{features_of}
 use Rattle.wasm_readers_errors.specs.declared.features.WasmFeatures.{WasmFeatures}
 use Rattle.wasm_validator_type_list.specs.DefTypes.{types_of_list}
 use Rattle.wasm_validator_type_list.specs.Listing.{Listing}

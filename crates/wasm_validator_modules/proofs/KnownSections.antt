@@ -7,10 +7,10 @@ use Rattle.std.proofs.lemmas.List.Elements.{All-head, All-tail}
 use Rattle.wasm_spec.specs.Features.{Features}
 use Rattle.wasm_spec.specs.Values.{name_at, u32_at, sized_at, items_at}
 use Rattle.wasm_spec.specs.Framing.{Piece, Version, Custom, Counted, Start, DataCount, CodeStart, CodeEntry, Unknown, End, piece_of, number_of, code_pieces, pieces_of, all_pieces, IsFramed}
-use Rattle.wasm_rules.specs.FeatureFlags.{features_of}
-use Rattle.wasm_rules.specs.Modules.{IsAllowedPiece}
-use Rattle.wasm_rules.proofs.FramedOrder.{AreInner, others_inner}
-use Rattle.wasm_rules.proofs.Tests.{then_some, map_some, chosen}
+use Rattle.wasm_spec_rules.specs.FeatureFlags.{features_of}
+use Rattle.wasm_spec_rules.specs.Modules.{IsAllowedPiece}
+use Rattle.wasm_spec_rules.proofs.FramedOrder.{AreInner, others_inner}
+use Rattle.wasm_spec_rules.proofs.Tests.{then_some, map_some, chosen}
 use Rattle.wasm_readers_errors.specs.declared.features.WasmFeatures.{WasmFeatures}
 use Rattle.wasm_validator_types.specs.Spaces.{Spaces}
 use Rattle.wasm_validator_core.specs.Answers.{TypesSoFar}

@@ -7,14 +7,14 @@ use Rattle.std.proofs.lemmas.List.Elements.{All-nil, All-cons}
 use Rattle.std.proofs.lemmas.Bool.{eqb-true, eqb-false, eq-eqb, ne_eqb}
 use Rattle.wasm_spec.specs.Values.{items_at}
 use Rattle.wasm_spec.specs.Framing.{Piece, Version, Custom, Counted, Start, DataCount, CodeStart, CodeEntry, Unknown, End, place}
-use Rattle.wasm_rules.specs.Sections.{each, rank, rank_of_section, ranks, at_rank, by_rank}
-use Rattle.wasm_rules.specs.Parts.{items_of, all_items, starts_of, data_counts_of}
-use Rattle.wasm_rules.specs.FeatureFlags.{features_of}
-use Rattle.wasm_rules.specs.Modules.{IsAllowedPiece}
+use Rattle.wasm_spec_rules.specs.Sections.{each, rank, rank_of_section, ranks, at_rank, by_rank}
+use Rattle.wasm_spec_rules.specs.Parts.{items_of, all_items, starts_of, data_counts_of}
+use Rattle.wasm_spec_rules.specs.FeatureFlags.{features_of}
+use Rattle.wasm_spec_rules.specs.Modules.{IsAllowedPiece}
 use Rattle.wasm_spec.specs.Features.{Features}
-use Rattle.wasm_rules.proofs.Ordered.{Follows, AreRanks, LeavesFree, IsOne, one_at_most, by_ranks}
-use Rattle.wasm_rules.proofs.FramedOrder.{IsInner, AreInner}
-use Rattle.wasm_rules.proofs.Tests.{truth, when, unless, guarded, then_some}
+use Rattle.wasm_spec_rules.proofs.Ordered.{Follows, AreRanks, LeavesFree, IsOne, one_at_most, by_ranks}
+use Rattle.wasm_spec_rules.proofs.FramedOrder.{IsInner, AreInner}
+use Rattle.wasm_spec_rules.proofs.Tests.{truth, when, unless, guarded, then_some}
 use Rattle.wasm_readers_errors.specs.declared.features.WasmFeatures.{WasmFeatures}
 use Rattle.wasm_validator_types.specs.Spaces.{Spaces}
 use Rattle.wasm_validator_core.specs.declared.limits.TheConstants.{MAX_DATA_SEGMENTS}

@@ -7,13 +7,13 @@ use Rattle.std.proofs.lemmas.List.Elements.{All-nil, All-cons, All-head, All-tai
 use Rattle.std.proofs.lemmas.Option.{same_Some}
 use Rattle.wasm_spec.specs.Framing as parts
 use Rattle.wasm_spec.specs.Framing.{Piece, Version, Custom, Counted, Start, DataCount, CodeStart, CodeEntry, Unknown, place}
-use Rattle.wasm_rules.specs.FeatureFlags.{features_of}
-use Rattle.wasm_rules.specs.Parts.{bodies_of}
-use Rattle.wasm_rules.specs.Sections.{each, rank_of_section}
-use Rattle.wasm_rules.proofs.FramedOrder.{AreInner}
-use Rattle.wasm_rules.proofs.Tests.{truth, when, unless, then_some}
+use Rattle.wasm_spec_rules.specs.FeatureFlags.{features_of}
+use Rattle.wasm_spec_rules.specs.Parts.{bodies_of}
+use Rattle.wasm_spec_rules.specs.Sections.{each, rank_of_section}
+use Rattle.wasm_spec_rules.proofs.FramedOrder.{AreInner}
+use Rattle.wasm_spec_rules.proofs.Tests.{truth, when, unless, then_some}
 use Rattle.wasm_readers_errors.specs.declared.features.WasmFeatures.{WasmFeatures}
-use Rattle.wasm_referenced_functions.specs.References.{section_names}
+use Rattle.wasm_validator_references.specs.References.{section_names}
 use Rattle.wasm_validator_types.specs.Spaces.{Spaces}
 use Rattle.wasm_validator_core.specs.Answers.{TypesSoFar}
 use Rattle.wasm_validator_sections.specs.Bodies.{expected_bodies}

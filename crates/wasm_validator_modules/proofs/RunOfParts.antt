@@ -17,40 +17,40 @@ use Rattle.wasm_spec.specs.Features.{Features, canonical}
 use Rattle.wasm_spec.specs.TypeLaws.{HasNoRepetition}
 use Rattle.wasm_spec.proofs.LawSet.{rec_renames, import_renames}
 use Rattle.wasm_spec.specs.Framing.{Piece, Counted, Start, DataCount, place}
-use Rattle.wasm_rules.specs.FeatureFlags.{features_of}
-use Rattle.wasm_rules.specs.Limits.{most_tables, most_memories}
-use Rattle.wasm_rules.specs.Sections.{each, rank, ranks, at_rank, by_rank}
-use Rattle.wasm_rules.specs.Parts.{Parts, HasParts, index, all_items, starts_of, data_counts_of, bodies_of}
-use Rattle.wasm_rules.specs.IndexSpaces.{index_spaces, imported, functions_in, tables_in, memories_in, globals_in, tags_in, table_type, global_type}
-use Rattle.wasm_rules.specs.LinkRules.{IsValidStart}
-use Rattle.wasm_rules.specs.Modules.{IsAllowedPiece}
-use Rattle.wasm_rules.proofs.Ordered.{Follows}
-use Rattle.wasm_rules.proofs.Tests.{then_some, guarded, truth, when, unless}
+use Rattle.wasm_spec_rules.specs.FeatureFlags.{features_of}
+use Rattle.wasm_spec_rules.specs.Limits.{most_tables, most_memories}
+use Rattle.wasm_spec_rules.specs.Sections.{each, rank, ranks, at_rank, by_rank}
+use Rattle.wasm_spec_rules.specs.Parts.{Parts, HasParts, index, all_items, starts_of, data_counts_of, bodies_of}
+use Rattle.wasm_spec_rules.specs.IndexSpaces.{index_spaces, imported, functions_in, tables_in, memories_in, globals_in, tags_in, table_type, global_type}
+use Rattle.wasm_spec_rules.specs.LinkRules.{IsValidStart}
+use Rattle.wasm_spec_rules.specs.Modules.{IsAllowedPiece}
+use Rattle.wasm_spec_rules.proofs.Ordered.{Follows}
+use Rattle.wasm_spec_rules.proofs.Tests.{then_some, guarded, truth, when, unless}
 use Rattle.wasm_readers.specs.Written.{written}
 use Rattle.wasm_readers_errors.specs.declared.features.WasmFeatures.{WasmFeatures}
-use Rattle.wasm_grouped_list.specs.Elements.{numbers_from}
+use Rattle.wasm_validator_type_groups.specs.Elements.{numbers_from}
 use Rattle.wasm_validator_types.specs.Spaces.{Spaces, no_spaces}
 use Rattle.wasm_validator_core.specs.declared.limits.TheConstants.{MAX_TYPES, MAX_IMPORTS, MAX_FUNCTIONS, MAX_GLOBALS, MAX_TAGS, MAX_EXPORTS, MAX_ELEMENT_SEGMENTS, MAX_DATA_SEGMENTS}
 use Rattle.wasm_validator_core.specs.Answers.{TypesSoFar, HasValidTypes}
 use Rattle.wasm_validator_core.specs.Machine.{add_group}
 use Rattle.wasm_validator_core.specs.Items.{is_startable, is_data_count, add_import, add_function, add_memory, add_tag, add_export}
-use Rattle.wasm_validator_core_laws.specs.Shown.{listed_table, listed_global, spaces_of}
-use Rattle.wasm_validator_core_laws.specs.Lists.{only_types, only_imports, up_to_functions, add_imports, add_functions, add_memories, add_tags, add_exports}
-use Rattle.wasm_validator_core_laws.proofs.AddedItems.{for_each}
-use Rattle.wasm_validator_core_laws.proofs.Starts.{starts_are_decided}
-use Rattle.wasm_context_laws.specs.ListedTypes.{types_declare}
-use Rattle.wasm_module_validity.specs.Expressions.{expression_at}
-use Rattle.wasm_module_validity.specs.Modules.{Numbering}
-use Rattle.wasm_module_validity.proofs.Numbered.{types_are_numbered}
-use Rattle.wasm_module_list_laws.proofs.SectionTypes.{sections_give_module_types}
-use Rattle.wasm_module_list_laws.specs.Contexts.{HasOwnIds}
+use Rattle.wasm_laws_core.specs.Shown.{listed_table, listed_global, spaces_of}
+use Rattle.wasm_laws_core.specs.Lists.{only_types, only_imports, up_to_functions, add_imports, add_functions, add_memories, add_tags, add_exports}
+use Rattle.wasm_laws_core.proofs.AddedItems.{for_each}
+use Rattle.wasm_laws_core.proofs.Starts.{starts_are_decided}
+use Rattle.wasm_laws_contexts.specs.ListedTypes.{types_declare}
+use Rattle.wasm_spec_validity.specs.Expressions.{expression_at}
+use Rattle.wasm_spec_validity.specs.Modules.{Numbering}
+use Rattle.wasm_spec_validity.proofs.Numbered.{types_are_numbered}
+use Rattle.wasm_laws_modules.proofs.SectionTypes.{sections_give_module_types}
+use Rattle.wasm_laws_modules.specs.Contexts.{HasOwnIds}
 use Rattle.wasm_validator_sections.specs.Sections.{read_section}
 use Rattle.wasm_validator_sections.specs.Entries.{add_table_entry, add_global_entry, add_element, add_data}
-use Rattle.wasm_module_list_laws.specs.Maps.{map_table_entry, map_global_entry, map_element}
-use Rattle.wasm_module_list_laws.specs.Reading.{EntriesAreRenamed}
+use Rattle.wasm_laws_modules.specs.Maps.{map_table_entry, map_global_entry, map_element}
+use Rattle.wasm_laws_modules.specs.Reading.{EntriesAreRenamed}
 use Rattle.wasm_validator_canonical.specs.Apart.{AreApart}
-use Rattle.wasm_module_list_laws.specs.Lists.{add_table_entries, add_global_entries, add_elements, add_segments, add_all_lists, up_to_tables, up_to_memories, up_to_tags, up_to_globals, up_to_exports, AreValidModuleLists}
-use Rattle.wasm_module_list_laws.specs.Laws.{AreTypedConstants}
+use Rattle.wasm_laws_modules.specs.Lists.{add_table_entries, add_global_entries, add_elements, add_segments, add_all_lists, up_to_tables, up_to_memories, up_to_tags, up_to_globals, up_to_exports, AreValidModuleLists}
+use Rattle.wasm_laws_modules.specs.Laws.{AreTypedConstants}
 use Rattle.wasm_validator_sections.specs.Machine.{start_item, data_count_item, beside}
 use Rattle.wasm_validator_modules.proofs.AddedTypes.{TypesAdded, section, type_space, list_after, ids, as_many_types, runs_to, ends_at}
 use Rattle.wasm_validator_sections.proofs.ItemSteps.{each_back}

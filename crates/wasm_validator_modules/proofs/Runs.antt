@@ -15,7 +15,7 @@ use Rattle.std.specs.declared.result.Result.{Result}
 use Rattle.std.specs.declared.result.Result.TheVariants as results
 use Rattle.wasm_validator_core.specs.declared.error.Error.{Error}
 use Rattle.wasm_validator_core.specs.declared.error.Error.TheVariants.{Refused, DuplicateExport, OutOfMemory}
-use Rattle.wasm_rules.proofs.Tests.{then_some}
+use Rattle.wasm_spec_rules.proofs.Tests.{then_some}
 use Rattle.wasm_validator_core.specs.Answers.{IsNowhere}
 use Rattle.wasm_validator_modules.specs.Standing.{Stage, unparsed, in_module, in_code, ended, failed, Standing, at_stage, HoldsValid, Leaves}
 use Rattle.wasm_validator_modules.specs.States.{after_piece, BodyToValidate, body_taken, body_at, handed, IsBeforeEnd, left_by}

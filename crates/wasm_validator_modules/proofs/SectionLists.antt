@@ -2,10 +2,10 @@
 use Rattle.std.proofs.Common.{◌≡◌, refl, sym, ap, subst, ◌∙◌, inl, inr, ℕ, zero, suc, ◌+◌, Bool, true, false, cond, eqb, leb, ◌≤◌, List, [], ◌∷◌, map, length, Option, Some, None, arith}
 use Rattle.std.specs.Option.{option_and_then}
 use Rattle.std.proofs.lemmas.Bool.{le-leb, leb-true}
-use Rattle.wasm_rules.proofs.Tests.{then_some, guarded}
+use Rattle.wasm_spec_rules.proofs.Tests.{then_some, guarded}
 use Rattle.wasm_spec.specs.Framing.{Piece, Counted}
-use Rattle.wasm_rules.specs.Sections.{each}
-use Rattle.wasm_rules.specs.Parts.{all_items}
+use Rattle.wasm_spec_rules.specs.Sections.{each}
+use Rattle.wasm_spec_rules.specs.Parts.{all_items}
 use Rattle.wasm_readers_errors.specs.declared.features.WasmFeatures.{WasmFeatures}
 use Rattle.wasm_validator_types.specs.Spaces.{Spaces}
 use Rattle.wasm_validator_core.specs.Answers.{TypesSoFar}

@@ -1,6 +1,6 @@
 -- How the items of a section that are added where types are valid move a validator.
 use Rattle.std.proofs.Common.{◌≡◌, refl, sym, ap, subst, ◌∙◌, ℕ, true, not, cond, Option, Some}
-use Rattle.wasm_rules.specs.FeatureFlags.{features_of}
+use Rattle.wasm_spec_rules.specs.FeatureFlags.{features_of}
 use Rattle.std.specs.Option.{option_and_then}
 use Rattle.std.specs.Prelude.{OnOk}
 use Rattle.std.specs.declared.result.Result.{Result}

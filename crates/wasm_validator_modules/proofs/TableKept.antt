@@ -3,13 +3,13 @@ use Rattle.std.proofs.Common.{◌≡◌, refl, sym, ap, subst, ◌∙◌, inl, i
 use Rattle.std.specs.Option.{option_and_then}
 use Rattle.std.proofs.lemmas.Bool.{eqb-true, eq-eqb, ne_eqb, not-true}
 use Rattle.std.proofs.lemmas.Option.{same_Some}
-use Rattle.wasm_rules.proofs.Tests.{truth, when, unless, guarded, then_some}
+use Rattle.wasm_spec_rules.proofs.Tests.{truth, when, unless, guarded, then_some}
 use Rattle.wasm_spec.specs.Framing as parts
 use Rattle.wasm_spec.specs.Framing.{Piece, Version, Custom, Counted, Start, DataCount, CodeStart, CodeEntry, Unknown}
-use Rattle.wasm_rules.specs.StateTable as table
-use Rattle.wasm_rules.specs.StateTable.{Phase, Call, section, barred_section, data_section, code_start, accepted_to, refused_to}
+use Rattle.wasm_spec_rules.specs.StateTable as table
+use Rattle.wasm_spec_rules.specs.StateTable.{Phase, Call, section, barred_section, data_section, code_start, accepted_to, refused_to}
 use Rattle.wasm_validator_sections.specs.Bodies.{expected_bodies}
-use Rattle.wasm_rules.specs.FeatureFlags.{features_of}
+use Rattle.wasm_spec_rules.specs.FeatureFlags.{features_of}
 use Rattle.wasm_readers_errors.specs.declared.features.WasmFeatures.{WasmFeatures}
 use Rattle.wasm_validator_types.specs.Spaces.{Spaces, no_spaces}
 use Rattle.wasm_validator_core.specs.declared.limits.TheConstants.{MAX_TAGS, MAX_DATA_SEGMENTS}
@@ -18,18 +18,18 @@ use Rattle.wasm_validator_canonical.proofs.Canonical.{and_left, and_right}
 use Rattle.wasm_spec.specs.BinaryTypes.{tag_at}
 use Rattle.wasm_spec.specs.BinarySections.{Data, data_at}
 use Rattle.wasm_spec.specs.Features.{Features}
-use Rattle.wasm_rules.specs.Parts.{Expression}
+use Rattle.wasm_spec_rules.specs.Parts.{Expression}
 use Rattle.wasm_validator_core.specs.Answers.{TypesSoFar}
 use Rattle.wasm_validator_sections.specs.Noted.{Noted, nothing_noted, naming, counting, noting_nothing}
 use Rattle.wasm_validator_sections.specs.Started.{Started, starting, taking, bodies_left}
 use Rattle.wasm_validator_modules.specs.Standing.{Stage, unparsed, in_module, in_code, ended, failed, Standing, refused_at, read_refused_at, body_refused_at, ended_at, within, within_all, at_stage}
 use Rattle.wasm_validator_modules.specs.States.{begun, code_started, body_taken, module_ended, after_piece, is_barred}
-use Rattle.wasm_referenced_functions.specs.References.{section_names}
+use Rattle.wasm_validator_references.specs.References.{section_names}
 use Rattle.wasm_validator_modules.proofs.Growing.{body_some}
 use Rattle.wasm_validator_sections.specs.Sections.{read_each, read_section}
 use Rattle.wasm_validator_sections.specs.Entries.{may_be_stored, add_data}
-use Rattle.wasm_context_laws.specs.ListedTypes.{types_declare}
-use Rattle.wasm_module_validity.specs.Expressions.{expression_at}
+use Rattle.wasm_laws_contexts.specs.ListedTypes.{types_declare}
+use Rattle.wasm_spec_validity.specs.Expressions.{expression_at}
 use Rattle.wasm_validator_sections.specs.Machine.{data_items, section_items, start_item, data_count_item, beside}
 use Rattle.wasm_validator_sections.proofs.ItemSteps.{read_back}
 use Rattle.wasm_validator_modules.specs.Table.{phase_of, bodies_at, call_of, AcceptedByTable, RefusedByTable}

@@ -9,30 +9,30 @@ use Rattle.wasm_spec.specs.Syntax.{Extern, func_extern, func_exact_extern, table
 use Rattle.wasm_spec.specs.BinaryModules.{Import}
 use Rattle.wasm_spec.specs.Features.{Features, canonical}
 use Rattle.wasm_spec.specs.Framing.{Piece, Version, Custom, Counted, Start, DataCount, CodeStart, CodeEntry, Unknown, End}
-use Rattle.wasm_rules.specs.Attempts.{among}
-use Rattle.wasm_rules.specs.Contexts.{Context, exact_in}
-use Rattle.wasm_rules.specs.FeatureFlags.{features_of}
-use Rattle.wasm_rules.specs.IndexSpaces.{IndexSpaces, index_spaces, imported, functions_in}
-use Rattle.wasm_rules.specs.LinkRules.{referenced}
-use Rattle.wasm_rules.specs.Modules.{IsAllowedPiece}
-use Rattle.wasm_rules.specs.Parts.{Parts, bodies_of, data_counts_of}
-use Rattle.wasm_rules.specs.Sections.{ranks, at_rank}
-use Rattle.wasm_rules.proofs.Ordered.{Follows}
+use Rattle.wasm_spec_rules.specs.Attempts.{among}
+use Rattle.wasm_spec_rules.specs.Contexts.{Context, exact_in}
+use Rattle.wasm_spec_rules.specs.FeatureFlags.{features_of}
+use Rattle.wasm_spec_rules.specs.IndexSpaces.{IndexSpaces, index_spaces, imported, functions_in}
+use Rattle.wasm_spec_rules.specs.LinkRules.{referenced}
+use Rattle.wasm_spec_rules.specs.Modules.{IsAllowedPiece}
+use Rattle.wasm_spec_rules.specs.Parts.{Parts, bodies_of, data_counts_of}
+use Rattle.wasm_spec_rules.specs.Sections.{ranks, at_rank}
+use Rattle.wasm_spec_rules.proofs.Ordered.{Follows}
 use Rattle.wasm_readers_errors.specs.declared.features.WasmFeatures.{WasmFeatures}
 use Rattle.wasm_readers_types.specs.declared.indices.UnpackedIndex.{UnpackedIndex}
-use Rattle.wasm_grouped_list.proofs.Places.{get-right}
-use Rattle.wasm_module_resources.specs.Answers.{same_index}
-use Rattle.wasm_module_validity.specs.Expressions.{named}
-use Rattle.wasm_module_validity.specs.Typing.{HasTypedBodies}
-use Rattle.wasm_module_validity.specs.Modules.{context_of}
-use Rattle.wasm_referenced_functions.specs.References.{section_names, piece_names, marked}
+use Rattle.wasm_validator_type_groups.proofs.Places.{get-right}
+use Rattle.wasm_validator_resources.specs.Answers.{same_index}
+use Rattle.wasm_spec_validity.specs.Expressions.{named}
+use Rattle.wasm_spec_validity.specs.Typing.{HasTypedBodies}
+use Rattle.wasm_spec_validity.specs.Modules.{context_of}
+use Rattle.wasm_validator_references.specs.References.{section_names, piece_names, marked}
 use Rattle.wasm_validator_core_resources.specs.ModuleContexts.{flagged_from}
-use Rattle.wasm_validator_core_laws.specs.Shown.{spaces_of}
+use Rattle.wasm_laws_core.specs.Shown.{spaces_of}
 use Rattle.wasm_validator_func.specs.Functions.{IsFunctionBody}
 use Rattle.wasm_validator_types.specs.Spaces.{Spaces}
 use Rattle.wasm_validator_core.specs.Answers.{TypesSoFar}
-use Rattle.wasm_module_list_laws.proofs.SectionTypes.{sections_give_module_types}
-use Rattle.wasm_module_list_laws.specs.BodyContexts.{code_context}
+use Rattle.wasm_laws_modules.proofs.SectionTypes.{sections_give_module_types}
+use Rattle.wasm_laws_modules.specs.BodyContexts.{code_context}
 use Rattle.wasm_validator_canonical.specs.Apart.{AreApart}
 use Rattle.wasm_validator_sections.specs.Noted.{Noted, nothing_noted, naming, counting}
 use Rattle.wasm_validator_sections.specs.Started.{Started, starting, taking}

@@ -12,10 +12,10 @@ use Rattle.wasm_spec.specs.Features.{Features, canonical}
 use Rattle.wasm_spec.specs.GroupRules.{IsValidType}
 use Rattle.wasm_spec.specs.Trees.{declared}
 use Rattle.wasm_spec.proofs.LawSet.{rec_renames}
-use Rattle.wasm_rules.specs.FeatureFlags.{features_of}
-use Rattle.wasm_rules.specs.Parts.{index}
-use Rattle.wasm_rules.specs.Sections.{each}
-use Rattle.wasm_rules.proofs.Tests.{then_some, guarded}
+use Rattle.wasm_spec_rules.specs.FeatureFlags.{features_of}
+use Rattle.wasm_spec_rules.specs.Parts.{index}
+use Rattle.wasm_spec_rules.specs.Sections.{each}
+use Rattle.wasm_spec_rules.proofs.Tests.{then_some, guarded}
 use Rattle.wasm_readers.specs.Written.{written}
 use Rattle.wasm_readers_errors.specs.declared.features.WasmFeatures.{WasmFeatures}
 use Rattle.wasm_validator_canonical.specs.Groups.{placed, AreValid}
@@ -24,11 +24,11 @@ use Rattle.wasm_validator_canonical.proofs.Kept.{length_held, all_held}
 use Rattle.wasm_validator_canonical.proofs.Steps.{fits_added, added_fits, written_length}
 use Rattle.wasm_validator_canonical.proofs.StoodFor.{held_stand, valid_placed}
 use Rattle.wasm_validator_canonical.specs.Sections.{StandsFor}
-use Rattle.wasm_item_checks.specs.Laws.{Stand}
+use Rattle.wasm_validator_checks.specs.Laws.{Stand}
 use Rattle.wasm_validator_types.specs.Spaces.{Spaces}
 use Rattle.wasm_validator_core.specs.Answers.{TypesSoFar}
 use Rattle.wasm_validator_core.specs.Machine.{with_ids, add_group}
-use Rattle.wasm_validator_core_laws.proofs.AddedItems.{each_changed}
+use Rattle.wasm_laws_core.proofs.AddedItems.{each_changed}
 use Rattle.wasm_validator_sections.specs.Machine.{type_items}
 use Rattle.wasm_validator_sections.specs.Noted.{Noted, naming}
 use Rattle.wasm_validator_modules.specs.Standing.{Stage, Standing, in_module, HoldsAt, HoldsValid, within, at_stage}

@@ -1,20 +1,20 @@
 -- The laws of lower crates from which it is proved that a run decides whether bytes are a valid module.
 use Rattle.wasm_validator_canonical.specs.Apart.{AddedTypesStayApart, ApartTypesAreDistinct}
-use Rattle.wasm_module_list_laws.specs.Laws.{AllListsAreAdded}
-use Rattle.wasm_module_list_laws.specs.Reading.{EntriesAreRenamed}
+use Rattle.wasm_laws_modules.specs.Laws.{AllListsAreAdded}
+use Rattle.wasm_laws_modules.specs.Reading.{EntriesAreRenamed}
 use Rattle.wasm_validator_canonical.proofs.Apart.{added_types_stay_apart, apart_types_are_distinct}
-use Rattle.wasm_module_list_laws.proofs.ConstantsOverNumbers.{constants_are_over_numbers}
-use Rattle.wasm_module_list_laws.proofs.MatchingOverIds.{references_match_over_ids}
-use Rattle.wasm_module_list_laws.proofs.AllModuleLists.{all_lists_added}
-use Rattle.wasm_module_list_laws.proofs.RenamedEntries.{entries}
-use Rattle.wasm_module_list_laws.specs.BodyContexts.{BodiesAreOverNumbers}
-use Rattle.wasm_module_list_laws.proofs.Bodies.{bodies_are_over_numbers}
-use Rattle.wasm_rules.specs.Bodies.{BodiesAreAsManyAsFunctions}
-use Rattle.wasm_rules.proofs.Bodies.{bodies_are_as_many_as_functions}
-use Rattle.wasm_referenced_functions.specs.Naming.{PiecesNameWhatIsReferenced}
-use Rattle.wasm_referenced_functions.proofs.Referenced.{pieces_name_what_is_referenced}
-use Rattle.wasm_referenced_functions.specs.Marks.{MarkedFlagsSayNames}
-use Rattle.wasm_referenced_functions.proofs.Marks.{flags_say_names}
+use Rattle.wasm_laws_modules.proofs.ConstantsOverNumbers.{constants_are_over_numbers}
+use Rattle.wasm_laws_modules.proofs.MatchingOverIds.{references_match_over_ids}
+use Rattle.wasm_laws_modules.proofs.AllModuleLists.{all_lists_added}
+use Rattle.wasm_laws_modules.proofs.RenamedEntries.{entries}
+use Rattle.wasm_laws_modules.specs.BodyContexts.{BodiesAreOverNumbers}
+use Rattle.wasm_laws_modules.proofs.Bodies.{bodies_are_over_numbers}
+use Rattle.wasm_spec_rules.specs.Bodies.{BodiesAreAsManyAsFunctions}
+use Rattle.wasm_spec_rules.proofs.Bodies.{bodies_are_as_many_as_functions}
+use Rattle.wasm_validator_references.specs.Naming.{PiecesNameWhatIsReferenced}
+use Rattle.wasm_validator_references.proofs.Referenced.{pieces_name_what_is_referenced}
+use Rattle.wasm_validator_references.specs.Marks.{MarkedFlagsSayNames}
+use Rattle.wasm_validator_references.proofs.Marks.{flags_say_names}
 use Rattle.wasm_validator_core_resources.specs.ModuleContexts.{FlagsSayReferences}
 use Rattle.wasm_validator_core_resources.proofs.Lists.{flags_say_references}
 

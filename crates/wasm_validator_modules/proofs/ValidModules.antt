@@ -9,15 +9,15 @@ use Rattle.wasm_spec.specs.Features.{Features, canonical}
 use Rattle.wasm_spec.specs.Trees.{DefType}
 use Rattle.wasm_spec.specs.GroupRules.{IsValidTypeSection}
 use Rattle.wasm_spec.specs.Framing.{Piece, Version, End, IsFramed}
-use Rattle.wasm_rules.specs.FeatureFlags.{features_of}
-use Rattle.wasm_rules.specs.Parts.{Parts, HasParts}
-use Rattle.wasm_rules.specs.IndexSpaces.{IndexSpaces, index_spaces}
-use Rattle.wasm_rules.specs.Modules.{IsAllowedPiece, AreValidParts, IsWellFormed}
+use Rattle.wasm_spec_rules.specs.FeatureFlags.{features_of}
+use Rattle.wasm_spec_rules.specs.Parts.{Parts, HasParts}
+use Rattle.wasm_spec_rules.specs.IndexSpaces.{IndexSpaces, index_spaces}
+use Rattle.wasm_spec_rules.specs.Modules.{IsAllowedPiece, AreValidParts, IsWellFormed}
 use Rattle.wasm_readers_types.specs.declared.indices.TheConstants.{MAX_IDS}
 use Rattle.wasm_readers_errors.specs.declared.features.WasmFeatures.{WasmFeatures}
-use Rattle.wasm_module_validity.specs.Expressions.{expression_at}
-use Rattle.wasm_module_validity.specs.Typing.{HasTypedConstants, HasTypedBodies}
-use Rattle.wasm_module_validity.specs.Modules.{Numbering, IsValidUpToBodies, IsValidModule, context_of, imported_globals, number_at}
+use Rattle.wasm_spec_validity.specs.Expressions.{expression_at}
+use Rattle.wasm_spec_validity.specs.Typing.{HasTypedConstants, HasTypedBodies}
+use Rattle.wasm_spec_validity.specs.Modules.{Numbering, IsValidUpToBodies, IsValidModule, context_of, imported_globals, number_at}
 use Rattle.wasm_validator_canonical.specs.Sections.{StandsFor}
 use Rattle.wasm_validator_canonical.proofs.Sections.{added_sections_are_valid, valid_sections_are_added}
 use Rattle.wasm_validator_canonical.specs.Groups.{AreValid}

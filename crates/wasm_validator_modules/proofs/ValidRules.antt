@@ -2,11 +2,11 @@
 use Rattle.std.proofs.Common.{ℕ, ◌≤◌, List, length}
 use Rattle.std.specs.List.{All}
 use Rattle.wasm_spec.specs.Features.{Features}
-use Rattle.wasm_rules.specs.Parts.{Parts}
-use Rattle.wasm_rules.specs.IndexSpaces.{IndexSpaces}
-use Rattle.wasm_rules.specs.LinkRules.{IsValidStart}
-use Rattle.wasm_rules.specs.Modules.{AreValidParts}
-use Rattle.wasm_module_list_laws.specs.Lists.{AreValidModuleLists}
+use Rattle.wasm_spec_rules.specs.Parts.{Parts}
+use Rattle.wasm_spec_rules.specs.IndexSpaces.{IndexSpaces}
+use Rattle.wasm_spec_rules.specs.LinkRules.{IsValidStart}
+use Rattle.wasm_spec_rules.specs.Modules.{AreValidParts}
+use Rattle.wasm_laws_modules.specs.Lists.{AreValidModuleLists}
 use Rattle.wasm_validator_sections.specs.declared.code_state.TheConstants.{MAX_FUNCTION_SIZE}
 
 -- no body is too long

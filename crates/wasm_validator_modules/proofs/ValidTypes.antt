@@ -1,6 +1,6 @@
 -- Where the types of all modules are valid after a step, they were before it.
 use Rattle.std.proofs.Common.{◌≡◌, sym, ap, subst, ℕ, List, Option, Some}
-use Rattle.wasm_rules.specs.FeatureFlags.{features_of}
+use Rattle.wasm_spec_rules.specs.FeatureFlags.{features_of}
 use Rattle.wasm_spec.specs.Framing.{Piece}
 use Rattle.wasm_readers_errors.specs.declared.features.WasmFeatures.{WasmFeatures}
 use Rattle.wasm_validator_canonical.specs.Groups.{AreValid}

@@ -10,11 +10,11 @@ use Rattle.wasm_spec.specs.Framing.{Piece, Version, Custom, Counted, Start, Data
 use Rattle.wasm_spec.specs.Features.{Features, canonical}
 use Rattle.wasm_spec.specs.Trees.{DefType}
 use Rattle.wasm_spec.specs.TypeLaws.{HasNoRepetition}
-use Rattle.wasm_rules.specs.FeatureFlags.{features_of}
-use Rattle.wasm_rules.specs.IndexSpaces.{IndexSpaces, index_spaces, imported, functions_in}
-use Rattle.wasm_rules.specs.Sections.{each}
-use Rattle.wasm_rules.proofs.FramedOrder.{IsInner, AreInner, others_inner, others_follow}
-use Rattle.wasm_rules.proofs.Tests.{then_some}
+use Rattle.wasm_spec_rules.specs.FeatureFlags.{features_of}
+use Rattle.wasm_spec_rules.specs.IndexSpaces.{IndexSpaces, index_spaces, imported, functions_in}
+use Rattle.wasm_spec_rules.specs.Sections.{each}
+use Rattle.wasm_spec_rules.proofs.FramedOrder.{IsInner, AreInner, others_inner, others_follow}
+use Rattle.wasm_spec_rules.proofs.Tests.{then_some}
 use Rattle.wasm_readers_errors.specs.declared.features.WasmFeatures.{WasmFeatures}
 use Rattle.wasm_validator_types.specs.Spaces.{Spaces, no_spaces}
 use Rattle.wasm_validator_type_list.specs.DefTypes.{def_types, types_of_list}
@@ -47,13 +47,13 @@ use Rattle.wasm_validator_modules.proofs.ValidRules.{AreSmall}
 use Rattle.wasm_validator_modules.proofs.Runs.{refusal}
 use Rattle.wasm_parser.specs.Machine.{State, start, Run}
 use Rattle.wasm_parser.proofs.Law.{framed_run}
-use Rattle.wasm_rules.specs.Parts.{bodies_of}
+use Rattle.wasm_spec_rules.specs.Parts.{bodies_of}
 use Rattle.wasm_readers_types.specs.declared.indices.TheConstants.{MAX_IDS}
 use Rattle.wasm_readers_errors.specs.declared.error.Error as reading
 use Rattle.wasm_readers_errors.specs.declared.error.Error.TheVariants as reading_error
 use Rattle.wasm_validator_core.specs.Errors.{lifted}
-use Rattle.wasm_module_validity.specs.Modules.{IsValidUpToBodies, IsValidModule, up_to_bodies}
-use Rattle.wasm_module_validity.specs.Expressions.{expression_at}
+use Rattle.wasm_spec_validity.specs.Modules.{IsValidUpToBodies, IsValidModule, up_to_bodies}
+use Rattle.wasm_spec_validity.specs.Expressions.{expression_at}
 use Rattle.std.proofs.lemmas.List.{length-append}
 use Rattle.std.proofs.lemmas.Option.{same_Some}
 use Rattle.wasm_validator_func.specs.Functions.{Refuses}

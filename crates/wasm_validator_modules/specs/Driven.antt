@@ -2,8 +2,8 @@
 use Rattle.std.specs.Prelude.{ℕ, ◌≡◌, ◌≤◌, ◌+◌, List, length, Some}
 use Rattle.std.specs.List.{All}
 use Rattle.wasm_spec.specs.Framing.{Piece, IsFramed}
-use Rattle.wasm_rules.specs.FeatureFlags.{features_of}
-use Rattle.wasm_module_validity.specs.Modules.{IsValidModule}
+use Rattle.wasm_spec_rules.specs.FeatureFlags.{features_of}
+use Rattle.wasm_spec_validity.specs.Modules.{IsValidModule}
 use Rattle.wasm_readers_types.specs.declared.indices.TheConstants.{MAX_IDS}
 use Rattle.wasm_validator_core.specs.Answers.{TypesSoFar}
 use Rattle.wasm_validator_modules.specs.Standing.{Standing, unparsed, HoldsValid}

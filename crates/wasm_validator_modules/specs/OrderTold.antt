@@ -1,6 +1,6 @@
 -- What is told where a section, a body or the end may not come, and of a header. Core Specification 3.0, Binary Format, Modules.
 use Rattle.std.specs.Prelude.{ℕ, ◌≡◌, ◌==◌, if◌then◌else◌, Bool}
-use Rattle.wasm_rules.specs.FeatureFlags.{features_of}
+use Rattle.wasm_spec_rules.specs.FeatureFlags.{features_of}
 use Rattle.wasm_readers_errors.specs.Refusals.{plain, lacking}
 use Rattle.wasm_readers_errors.specs.declared.error.Counted.TheVariants as counted
 use Rattle.wasm_readers_errors.specs.declared.error.Fault.{Fault}

@@ -1,6 +1,6 @@
 -- What a payload that is accepted gives.
 use Rattle.std.specs.Prelude.{ℕ, ◌≡◌, ◌≤◌, ◌⊎◌, ◌+◌, ◌++◌, true, List, [], ◌∷◌, map, Option, Some, None, ⊤}
-use Rattle.wasm_rules.specs.Contexts.{Context}
+use Rattle.wasm_spec_rules.specs.Contexts.{Context}
 use Rattle.wasm_readers_types.specs.declared.indices.UnpackedIndex.{UnpackedIndex}
 use Rattle.std.specs.Option.{option_and_then}
 use Rattle.std.specs.declared.result.Result.{Result}
@@ -8,10 +8,10 @@ use Rattle.std.specs.declared.result.Result.TheVariants as results
 use Rattle.wasm_spec.specs.Framing as parts
 use Rattle.wasm_spec.specs.Framing.{Piece, IsFramed}
 use Rattle.wasm_parser.specs.Machine.{State, start, next_of, Given}
-use Rattle.wasm_parser.specs.Places.{IsFormat}
+use Rattle.wasm_parser.specs.Places.{IsFormat, reader_end}
 use Rattle.wasm_readers_errors.specs.declared.error.Refusal.{Refusal}
 use Rattle.wasm_spec.specs.Features.{canonical}
-use Rattle.wasm_rules.specs.FeatureFlags.{features_of}
+use Rattle.wasm_spec_rules.specs.FeatureFlags.{features_of}
 use Rattle.wasm_validator_type_list.specs.Interned.{AreOnce}
 use Rattle.wasm_validator_type_list.specs.DefTypes.{types_of_list}
 use Rattle.wasm_validator_types.specs.Shown.{shown_of, HoldsIds}
@@ -24,8 +24,7 @@ use Rattle.wasm_validator_modules.specs.declared.payload.ValidPayload.{ValidPayl
 use Rattle.wasm_validator_modules.specs.declared.payload.ValidPayload.TheVariants.{Ok, Func, End}
 use Rattle.wasm_parser.specs.declared.function_body.FunctionBody.{FunctionBody}
 use Rattle.wasm_parser.specs.Seen.{body_of, body_reader}
-use Rattle.wasm_binary_reader.specs.Reader.{original, position_in}
-use Rattle.wasm_parser.specs.Places.{reader_end}
+use Rattle.wasm_readers_bytes.specs.Reader.{original, position_in}
 use Rattle.wasm_readers_errors.specs.declared.error.Error as reading
 use Rattle.wasm_readers_errors.specs.declared.error.Error.TheVariants as reading_error
 use Rattle.std.specs.List.{All}

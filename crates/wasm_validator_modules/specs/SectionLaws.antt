@@ -12,28 +12,28 @@ use Rattle.wasm_spec.specs.Closing.{closed, positions}
 use Rattle.wasm_spec.specs.Features.{Features, canonical}
 use Rattle.wasm_spec.specs.GroupRules.{IsValidType}
 use Rattle.wasm_spec.specs.Trees.{RecTree, DefType, declared}
-use Rattle.wasm_rules.specs.FeatureFlags.{features_of}
-use Rattle.wasm_rules.specs.Parts.{Expression, index}
-use Rattle.wasm_rules.specs.IndexSpaces.{IndexSpaces, IsFunctionType}
-use Rattle.wasm_rules.specs.ItemRules.{IsValidTableEntry, IsValidMemory, IsValidTag, IsValidGlobal}
-use Rattle.wasm_rules.specs.LinkRules.{IsValidExport}
-use Rattle.wasm_rules.specs.Limits.{most_tables, most_memories}
+use Rattle.wasm_spec_rules.specs.FeatureFlags.{features_of}
+use Rattle.wasm_spec_rules.specs.Parts.{Expression, index}
+use Rattle.wasm_spec_rules.specs.IndexSpaces.{IndexSpaces, IsFunctionType}
+use Rattle.wasm_spec_rules.specs.ItemRules.{IsValidTableEntry, IsValidMemory, IsValidTag, IsValidGlobal}
+use Rattle.wasm_spec_rules.specs.LinkRules.{IsValidExport}
+use Rattle.wasm_spec_rules.specs.Limits.{most_tables, most_memories}
 use Rattle.wasm_readers_types.specs.declared.indices.TheConstants.{MAX_IDS}
 use Rattle.wasm_readers.specs.Written.{written}
 use Rattle.wasm_validator_canonical.specs.Groups.{placed, held}
-use Rattle.wasm_item_checks.specs.Laws.{Stand}
+use Rattle.wasm_validator_checks.specs.Laws.{Stand}
 use Rattle.wasm_validator_types.specs.Spaces.{Spaces}
 use Rattle.wasm_validator_core.specs.Answers.{TypesSoFar}
-use Rattle.wasm_validator_core_laws.specs.Exports.{HasSpaces, FitExports, with_exports}
-use Rattle.wasm_validator_core_laws.specs.Imports.{KeepsLimits, FitsImport, with_entry}
-use Rattle.wasm_validator_core_laws.specs.Shown.{listed, listed_table, listed_global, listed_element}
-use Rattle.wasm_context_laws.specs.ListedTypes.{types_declare}
-use Rattle.wasm_module_validity.specs.Expressions.{expression_at}
+use Rattle.wasm_laws_core.specs.Exports.{HasSpaces, FitExports, with_exports}
+use Rattle.wasm_laws_core.specs.Imports.{KeepsLimits, FitsImport, with_entry}
+use Rattle.wasm_laws_core.specs.Shown.{listed, listed_table, listed_global, listed_element}
+use Rattle.wasm_laws_contexts.specs.ListedTypes.{types_declare}
+use Rattle.wasm_spec_validity.specs.Expressions.{expression_at}
 use Rattle.wasm_validator_sections.specs.Entries.{is_constant_of, is_constant_or_none, are_items, may_be_placed, may_be_stored}
-use Rattle.wasm_module_list_laws.specs.Maps.{map_items}
+use Rattle.wasm_laws_modules.specs.Maps.{map_items}
 use Rattle.wasm_validator_sections.specs.Noted.{Noted, naming}
 use Rattle.wasm_validator_modules.specs.Standing.{Standing, in_module, HoldsValid}
-use Rattle.wasm_referenced_functions.specs.References.{names_of_tables, names_of_globals, names_of_exports, names_of_elements}
+use Rattle.wasm_validator_references.specs.References.{names_of_tables, names_of_globals, names_of_exports, names_of_elements}
 use Rattle.wasm_validator_modules.specs.States.{after_section}
 
 -- A module is being read, before the start of its code: the types of all modules, its lists, what is noted of it, and its own types,

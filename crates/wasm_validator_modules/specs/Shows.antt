@@ -4,13 +4,13 @@ use Rattle.std.specs.List.{AllZip, flat_map}
 use Rattle.wasm_spec.specs.BinaryModules.{Import}
 use Rattle.wasm_spec.specs.Features.{Features, canonical}
 use Rattle.wasm_spec.specs.TypeLaws.{HasNoRepetition}
-use Rattle.wasm_rules.specs.Contexts.{exact_in}
-use Rattle.wasm_rules.specs.Parts.{Parts}
-use Rattle.wasm_rules.specs.IndexSpaces.{IndexSpaces}
+use Rattle.wasm_spec_rules.specs.Contexts.{exact_in}
+use Rattle.wasm_spec_rules.specs.Parts.{Parts}
+use Rattle.wasm_spec_rules.specs.IndexSpaces.{IndexSpaces}
 use Rattle.wasm_validator_canonical.specs.Sections.{StandsFor}
 use Rattle.wasm_validator_types.specs.Spaces.{Spaces}
 use Rattle.wasm_validator_core.specs.Answers.{TypesSoFar}
-use Rattle.wasm_validator_core_laws.specs.Shown.{listed_table, listed_global, listed_element, import_rows, export_rows, exact_functions}
+use Rattle.wasm_laws_core.specs.Shown.{listed_table, listed_global, listed_element, import_rows, export_rows, exact_functions}
 
 -- The list of types and the lists of a module show its index spaces: each type under an id that stands for it, in a
 -- list where no type has two ids if equal types are one; each function and tag with its type's index, each imported function with whether it is

@@ -3,7 +3,7 @@ use Rattle.std.specs.Prelude.{ℕ, ◌+◌, ◌==◌, nat_le, Bool, true, false,
 use Rattle.wasm_readers_errors.specs.declared.features.WasmFeatures.{WasmFeatures}
 use Rattle.wasm_readers_errors.specs.declared.error.OutOfOrder.{OutOfOrder}
 use Rattle.wasm_readers_errors.specs.declared.error.OutOfOrder.TheVariants.{SectionBeforeHeader, SectionAfterEnd, EndBeforeHeader, EndAfterEnd, SectionAfterFailure, SectionAfterCodeStart, CodeEntryBeforeCodeStart, CodeEntryWithoutFunction}
-use Rattle.wasm_rules.specs.FeatureFlags.{features_of}
+use Rattle.wasm_spec_rules.specs.FeatureFlags.{features_of}
 use Rattle.wasm_validator_type_list.specs.DefTypes.{types_of_list}
 use Rattle.wasm_validator_types.specs.Spaces.{Spaces, no_spaces}
 use Rattle.std.specs.declared.result.Result.{Result}
@@ -14,9 +14,9 @@ use Rattle.wasm_parser.specs.declared.payload.Encoding.TheVariants as encodings
 use Rattle.wasm_spec.specs.Framing as parts
 use Rattle.wasm_spec.specs.Framing.{Piece, Version, Custom, Counted, Start, DataCount, CodeStart, CodeEntry, Unknown}
 use Rattle.wasm_validator_modules.specs.declared.validator.State.{State}
-use Rattle.wasm_rules.specs.Contexts.{Context}
+use Rattle.wasm_spec_rules.specs.Contexts.{Context}
 use Rattle.wasm_readers_types.specs.declared.indices.UnpackedIndex.{UnpackedIndex}
-use Rattle.wasm_referenced_functions.specs.References.{section_names}
+use Rattle.wasm_validator_references.specs.References.{section_names}
 use Rattle.wasm_validator_sections.specs.declared.module_state.ModuleState.{ModuleState}
 use Rattle.wasm_validator_sections.specs.declared.code_state.TheConstants.{MAX_FUNCTION_SIZE}
 use Rattle.wasm_validator_modules.specs.declared.validator.EndedSpaces.{EndedSpaces}

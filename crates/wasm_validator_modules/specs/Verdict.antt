@@ -5,10 +5,10 @@ use Rattle.std.specs.declared.result.Result.TheVariants as results
 use Rattle.wasm_readers_types.specs.declared.indices.TheConstants.{MAX_IDS}
 use Rattle.wasm_readers_errors.specs.declared.features.WasmFeatures.{WasmFeatures}
 use Rattle.wasm_spec.specs.Features.{canonical}
-use Rattle.wasm_rules.specs.FeatureFlags.{features_of}
-use Rattle.wasm_rules.specs.IndexSpaces.{index_spaces}
-use Rattle.wasm_module_validity.specs.Modules.{IsValidModule, IsValidUpToBodies}
-use Rattle.wasm_grouped_list.specs.Elements.{numbers_from}
+use Rattle.wasm_spec_rules.specs.FeatureFlags.{features_of}
+use Rattle.wasm_spec_rules.specs.IndexSpaces.{index_spaces}
+use Rattle.wasm_spec_validity.specs.Modules.{IsValidModule, IsValidUpToBodies}
+use Rattle.wasm_validator_type_groups.specs.Elements.{numbers_from}
 use Rattle.wasm_validator_type_list.specs.DefTypes.{types_of_list}
 use Rattle.wasm_validator_canonical.specs.Apart.{AreApart}
 use Rattle.wasm_validator_types.specs.Shown.{shown_of}

@@ -12,7 +12,6 @@ pub mod validator;
 pub use bitflags::Flags;
 pub use payload::{ValidPayload, validate};
 pub use validator::Validator;
-pub use wasm_group_checks::{check_composite_type, check_descriptors, check_subtype};
 pub use wasm_parser::{CustomSectionReader, Encoding, FunctionBody, ParseAll, Parser, Payload};
 pub use wasm_readers::{
     AbstractHeapType, ArrayType, BinaryReader, CompositeInnerType, CompositeType, ConstExpr,
@@ -33,6 +32,7 @@ pub use wasm_validator_matches::{Matches, WithRecGroup, func_signature_matches};
 pub use wasm_validator_sections::{
     CodeState, Constants, MAX_FUNCTION_SIZE, MaybeOwned, ModuleState,
 };
+pub use wasm_validator_type_checks::{check_composite_type, check_descriptors, check_subtype};
 pub use wasm_validator_type_list::LinkCount;
 pub use wasm_validator_types::{
     CoreExports, CoreImports, EntityType, RecGroupElements, RecGroupId, SnapshotList, TypeAlloc,

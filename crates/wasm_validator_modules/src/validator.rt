@@ -1,9 +1,9 @@
 ghost use Rattle.wasm_readers_errors.specs.declared.features.TheConstants.WasmFeatures.{STANDARD};
 ghost use Rattle.std.specs.Prelude.{◌≡◌, List, ◌∷◌, ◌-◌, not, [], IfOk, IfErr, IfSome, IfNone, IsSome, IsErr, OnOk, OnErr, Some, None, true, is_ok, ◌↔◌, ◌+◌};
 ghost use Rattle.wasm_validator_core.specs.Errors.{IsContent, offset_of};
-ghost use Rattle.wasm_binary_reader.specs.Reader.{original, position_in};
+ghost use Rattle.wasm_readers_bytes.specs.Reader.{original, position_in};
 ghost use Rattle.wasm_readers_errors.specs.Refusals.{plain};
-ghost use Rattle.wasm_rules.specs.FeatureFlags.{features_of};
+ghost use Rattle.wasm_spec_rules.specs.FeatureFlags.{features_of};
 ghost use Rattle.wasm_readers.specs.SectionsSeen.{count_of, bytes_of, section_start, section_end};
 ghost use Rattle.wasm_parser.specs.Seen.{body_of, body_reader};
 ghost use Rattle.wasm_validator_core.specs.Answers.{TypesSoFar};

@@ -6,7 +6,7 @@ use Rattle.wasm_spec.specs.BinarySections.{table_entry_at, global_entry_at, elem
 use Rattle.wasm_spec.specs.Features.{Features}
 use Rattle.wasm_spec.specs.Syntax.{Sub}
 use Rattle.wasm_spec.specs.TypeLaws.{HasNoRepetition}
-use Rattle.wasm_rules.specs.Limits.{most_tables}
+use Rattle.wasm_spec_rules.specs.Limits.{most_tables}
 use Rattle.wasm_readers.specs.Written.{written}
 use Rattle.wasm_readers_types.specs.declared.indices.UnpackedIndex.{UnpackedIndex}
 use Rattle.wasm_readers_types.specs.declared.types.SubType.{SubType}
@@ -18,16 +18,16 @@ use Rattle.wasm_validator_core.specs.declared.error.Error.{Error}
 use Rattle.wasm_validator_core.specs.declared.limits.TheConstants.{MAX_GLOBALS, MAX_ELEMENT_SEGMENTS, MAX_DATA_SEGMENTS}
 use Rattle.wasm_validator_core_resources.specs.IndexContexts.{id_of}
 use Rattle.wasm_validator_core_resources.specs.ListContexts.{list_declares}
-use Rattle.wasm_module_validity.specs.Expressions.{expression_at}
-use Rattle.wasm_context_laws.specs.ListedTypes.{types_declare}
-use Rattle.wasm_context_laws.proofs.ListedTypes.{lists_declare_their_types}
+use Rattle.wasm_spec_validity.specs.Expressions.{expression_at}
+use Rattle.wasm_laws_contexts.specs.ListedTypes.{types_declare}
+use Rattle.wasm_laws_contexts.proofs.ListedTypes.{lists_declare_their_types}
 use Rattle.wasm_validator_sections.specs.ItemsMachine as one_pass
 use Rattle.wasm_validator_sections.specs.Sections.{read_section}
 use Rattle.wasm_validator_sections.specs.Entries.{add_table_entry, add_global_entry, add_element, add_data}
-use Rattle.wasm_module_list_laws.proofs.Tables.{tables_are_added}
-use Rattle.wasm_module_list_laws.proofs.Globals.{globals_are_added}
-use Rattle.wasm_module_list_laws.proofs.Elements.{elements_are_added}
-use Rattle.wasm_module_list_laws.proofs.Segments.{data_are_added}
+use Rattle.wasm_laws_modules.proofs.Tables.{tables_are_added}
+use Rattle.wasm_laws_modules.proofs.Globals.{globals_are_added}
+use Rattle.wasm_laws_modules.proofs.Elements.{elements_are_added}
+use Rattle.wasm_laws_modules.proofs.Segments.{data_are_added}
 use Rattle.wasm_validator_sections.specs.Machine.{table_items, global_items, element_items, data_items}
 
 -- the answer says the same in other words for what is added

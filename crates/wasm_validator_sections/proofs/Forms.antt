@@ -4,7 +4,7 @@ use Rattle.std.specs.Option.{option_map}
 use Rattle.wasm_spec.specs.Syntax.{Sub, Rec}
 use Rattle.wasm_spec.specs.BinaryTypes.{sub_at, rec_from, rec_at}
 use Rattle.wasm_spec.specs.Values.{byte_at, list_at}
-use Rattle.wasm_rules.proofs.Tests.{map_some, then_some}
+use Rattle.wasm_spec_rules.proofs.Tests.{map_some, then_some}
 use Rattle.wasm_readers.specs.Sections.{next_item}
 use Rattle.wasm_validator_canonical.specs.Groups.{has_form}
 use Rattle.wasm_validator_sections.proofs.ItemSteps.{item_read}

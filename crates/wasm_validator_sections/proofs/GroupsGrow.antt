@@ -5,8 +5,8 @@ use Rattle.wasm_spec.specs.Features.{Features}
 use Rattle.wasm_spec.specs.Syntax.{Rec}
 use Rattle.wasm_spec.specs.GroupRules.{IsValidType}
 use Rattle.wasm_spec.specs.Trees.{declared}
-use Rattle.wasm_rules.specs.FeatureFlags.{features_of}
-use Rattle.wasm_rules.proofs.Tests.{guarded, map_some}
+use Rattle.wasm_spec_rules.specs.FeatureFlags.{features_of}
+use Rattle.wasm_spec_rules.proofs.Tests.{guarded, map_some}
 use Rattle.wasm_readers_errors.specs.declared.features.WasmFeatures.{WasmFeatures}
 use Rattle.wasm_readers_types.specs.declared.indices.UnpackedIndex.{UnpackedIndex}
 use Rattle.wasm_validator_type_list.proofs.Grouped.{all-left}

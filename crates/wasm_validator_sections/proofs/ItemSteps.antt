@@ -5,8 +5,8 @@ use Rattle.std.proofs.lemmas.Option.{none-some, same_Some}
 use Rattle.std.specs.Result.{IsErrAnd}
 use Rattle.std.specs.declared.result.Result.{Result}
 use Rattle.std.specs.declared.result.Result.TheVariants as results
-use Rattle.wasm_rules.specs.Sections.{each}
-use Rattle.wasm_rules.proofs.Tests.{guarded, then_some}
+use Rattle.wasm_spec_rules.specs.Sections.{each}
+use Rattle.wasm_spec_rules.proofs.Tests.{guarded, then_some}
 use Rattle.wasm_readers.specs.Sections.{next_item}
 use Rattle.wasm_validator_core.proofs.AddedGroups.{refusal}
 use Rattle.wasm_validator_core.specs.declared.error.Error.{Error}

@@ -1,9 +1,9 @@
 -- What is noted of a section that was accepted: the functions that its items name.
 use Rattle.std.proofs.Common.{◌≡◌, sym, ap, ◌∙◌, ℕ, Bool, List, Option, Some}
 use Rattle.std.specs.List.{flat_map}
-use Rattle.wasm_rules.proofs.Tests.{then_some}
+use Rattle.wasm_spec_rules.proofs.Tests.{then_some}
 use Rattle.wasm_spec.specs.Values.{items_at}
-use Rattle.wasm_referenced_functions.specs.References.{marked, names_or_none, names_in}
+use Rattle.wasm_validator_references.specs.References.{marked, names_or_none, names_in}
 use Rattle.wasm_validator_sections.specs.Sections.{read_section}
 use Rattle.wasm_validator_sections.proofs.SectionEntries.{same_item, renames_nothing, limited, section_entries}
 

@@ -2,7 +2,7 @@
 use Rattle.std.proofs.Common.{◌≡◌, refl, sym, ap, subst, ◌∙◌, ℕ, zero, suc, Bool, true, false, cond, List, [], ◌∷◌, map, length, Option, Some, None, arith}
 use Rattle.std.specs.Option.{option_map, option_and_then}
 use Rattle.wasm_spec.specs.Values.{items_at}
-use Rattle.wasm_rules.specs.Sections.{each}
+use Rattle.wasm_spec_rules.specs.Sections.{each}
 use Rattle.wasm_validator_sections.specs.Sections.{read_each}
 
 module _ {S V : Type 0} (encoded : List ℕ → Option (V × List ℕ)) (add : S → V → Option S) where

@@ -2,7 +2,7 @@
 use Rattle.std.proofs.Common.{◌≡◌, refl, sym, ap, ◌∙◌, ℕ, ◌+◌, Bool, true, false, cond, leb, List, [], ◌∷◌, map, length, Option, Some, None}
 use Rattle.std.specs.Option.{option_map, option_and_then}
 use Rattle.wasm_spec.specs.Values.{items_at}
-use Rattle.wasm_rules.specs.Sections.{each}
+use Rattle.wasm_spec_rules.specs.Sections.{each}
 use Rattle.wasm_validator_sections.specs.Sections.{read_section}
 use Rattle.wasm_validator_sections.proofs.Reading.{read_then_added, items_renamed, as_many_as_counted}
 

@@ -1,4 +1,4 @@
-pub use Rattle.wasm_context_laws.specs.ListedTypes
+pub use Rattle.wasm_laws_contexts.specs.ListedTypes
 pub use Rattle.wasm_validator_items.specs.Answers
 pub use Rattle.wasm_validator_items.specs.Entries
 pub use Rattle.wasm_validator_items.specs.Machine as ItemsMachine

@@ -6,9 +6,9 @@ use Rattle.wasm_spec.specs.Values.{u32_at}
 use Rattle.wasm_spec.specs.BinaryModules.{Import, Export, import_at, export_at}
 use Rattle.wasm_spec.specs.Syntax.{Memory, Rec}
 use Rattle.wasm_spec.specs.BinaryTypes.{rec_at, memory_at, tag_at}
-use Rattle.wasm_rules.specs.FeatureFlags.{features_of}
-use Rattle.wasm_rules.specs.Limits.{most_tables, most_memories}
-use Rattle.wasm_binary_reader.specs.Reader.{IsMalformed}
+use Rattle.wasm_spec_rules.specs.FeatureFlags.{features_of}
+use Rattle.wasm_spec_rules.specs.Limits.{most_tables, most_memories}
+use Rattle.wasm_readers_bytes.specs.Reader.{IsMalformed}
 use Rattle.wasm_readers_errors.specs.Refusals.{plain}
 use Rattle.wasm_readers_errors.specs.declared.error.Counted.{Counted}
 use Rattle.wasm_readers_errors.specs.declared.error.Counted.TheVariants as counted

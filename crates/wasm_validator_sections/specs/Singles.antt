@@ -8,9 +8,9 @@ use Rattle.wasm_readers.specs.Written.{written}
 use Rattle.wasm_validator_types.specs.Spaces.{Spaces}
 use Rattle.wasm_validator_core.specs.declared.limits.TheConstants.{MAX_ELEMENT_SEGMENTS}
 use Rattle.wasm_validator_core.specs.Answers.{TypesSoFar}
-use Rattle.wasm_context_laws.specs.ListedTypes.{types_declare}
-use Rattle.wasm_referenced_functions.specs.Expressions.{expression_at}
-use Rattle.wasm_referenced_functions.specs.References.{names_at, table_names, global_names, element_names}
+use Rattle.wasm_laws_contexts.specs.ListedTypes.{types_declare}
+use Rattle.wasm_validator_references.specs.Expressions.{expression_at}
+use Rattle.wasm_validator_references.specs.References.{names_at, table_names, global_names, element_names}
 use Rattle.wasm_validator_items.specs.Entries.{add_table_entry, add_global_entry, add_element, add_data}
 use Rattle.wasm_validator_items.specs.Sections.{read_one, read_one_of}
 

@@ -1,7 +1,7 @@
 //! The code section of a module: its start, and the bodies that are handed out.
 
 ghost use Rattle.std.specs.Prelude.{◌≡◌, ◌+◌, ◌-◌, ◌==◌, not, nat_le, length, true, false, IfOk, IfErr, OnOk};
-ghost use Rattle.wasm_binary_reader.specs.Reader.{original, position_in};
+ghost use Rattle.wasm_readers_bytes.specs.Reader.{original, position_in};
 ghost use Rattle.wasm_parser.specs.Seen.{body_of, body_reader};
 ghost use Rattle.wasm_readers_errors.specs.Refusals.{plain};
 ghost use Rattle.wasm_validator_core.specs.Ready.{AreHeld};

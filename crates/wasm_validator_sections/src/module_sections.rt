@@ -1,9 +1,9 @@
 //! The items of a module's sections, one by one.
 
 ghost use Rattle.std.specs.Prelude.{◌≡◌, OnOk, IfErr, IsTrue};
-ghost use Rattle.wasm_rules.specs.FeatureFlags.{features_of};
+ghost use Rattle.wasm_spec_rules.specs.FeatureFlags.{features_of};
 ghost use Rattle.wasm_readers.specs.SectionsSeen.{count_of, bytes_of, section_start, section_end};
-ghost use Rattle.wasm_referenced_functions.specs.References.{names_of_tables, names_of_globals, names_of_exports, names_of_elements};
+ghost use Rattle.wasm_validator_references.specs.References.{names_of_tables, names_of_globals, names_of_exports, names_of_elements};
 ghost use Rattle.wasm_validator_sections.specs.Noted.{naming, noted_of};
 ghost use Rattle.wasm_validator_type_list.specs.DefTypes.{types_of_list};
 ghost use Rattle.wasm_validator_canonical.specs.Groups.{AreValid};
@@ -19,11 +19,11 @@ use wasm_readers::{
     Counted, Data, Element, Export, Global, Import, MemoryType, RecGroup, SectionLimited, Table,
     TagType, WasmFeatures,
 };
-use wasm_referenced_functions::{mark_elements, mark_exports, mark_globals, mark_tables};
 use wasm_validator_core::{
     Error, MAX_DATA_SEGMENTS, MAX_ELEMENT_SEGMENTS, MAX_EXPORTS, MAX_FUNCTIONS, MAX_GLOBALS,
     MAX_IMPORTS, MAX_TAGS, MAX_TYPES, Module, check_max,
 };
+use wasm_validator_references::{mark_elements, mark_exports, mark_globals, mark_tables};
 use wasm_validator_types::{IndexSpaces, TypeList};
 
 /// Adds the types of a type section.

@@ -7,8 +7,8 @@ use Rattle.wasm_spec.specs.Declared.{supertype}
 use Rattle.wasm_readers_types.specs.SeenValues.{index_of}
 use Rattle.wasm_readers_types.specs.declared.indices.PackedIndex.{PackedIndex}
 use Rattle.wasm_readers_types.specs.declared.types.SubType.{SubType}
-use Rattle.wasm_grouped_list.specs.Groups.{all_in}
-use Rattle.wasm_ancestor_lists.specs.Supers.{leads_to, extended_in, ExtendEarlier, Tells}
+use Rattle.wasm_validator_type_groups.specs.Groups.{all_in}
+use Rattle.wasm_validator_type_ancestors.specs.Supers.{leads_to, extended_in, ExtendEarlier, Tells}
 use Rattle.wasm_validator_type_list.specs.declared.type_list.TypeList.TheInside.{Inside}
 use Rattle.wasm_validator_type_list.specs.Listing.{Listing}
 use Rattle.wasm_validator_type_list.specs.Listable.{IsKnown, IsListable}

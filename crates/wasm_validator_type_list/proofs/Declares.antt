@@ -12,11 +12,11 @@ use Rattle.wasm_readers_types.specs.declared.indices.PackedIndex.{PackedIndex}
 use Rattle.wasm_readers_types.specs.declared.indices.UnpackedIndex.{UnpackedIndex}
 use Rattle.wasm_readers_types.specs.declared.indices.UnpackedIndex.TheVariants.{Module, RecGroup, Id}
 use Rattle.wasm_readers_types.specs.declared.types.SubType.{SubType}
-use Rattle.wasm_grouped_list.specs.Groups.{all_in, first_of, IsInGroup}
+use Rattle.wasm_validator_type_groups.specs.Groups.{all_in, first_of, IsInGroup}
 use Rattle.wasm_validator_type_list.specs.Listable.{IsKnown, AreListable}
 use Rattle.wasm_validator_type_list.specs.Lookups.{leads_to, IsSupertypeAt}
 use Rattle.wasm_validator_type_list.specs.Declares.{sub_by_ids, subs_by_ids, declares}
-use Rattle.wasm_grouped_list.proofs.Places.{get-left, get-right, get-map, get-append, first_of-suc}
+use Rattle.wasm_validator_type_groups.proofs.Places.{get-left, get-right, get-map, get-append, first_of-suc}
 use Rattle.wasm_validator_type_list.proofs.Lookups.{member_at}
 
 -- an element of a mapped list comes from one of the list

@@ -14,10 +14,10 @@ use Rattle.wasm_spec.specs.TypeLaws.{IsKnownUse, MentionsKnown}
 use Rattle.wasm_spec.proofs.Agreement.{agree_sub}
 use Rattle.wasm_spec.proofs.Listed.{appended_listed_group}
 use Rattle.wasm_readers_types.specs.declared.types.SubType.{SubType}
-use Rattle.wasm_grouped_list.specs.Groups.{all_in, first_of}
+use Rattle.wasm_validator_type_groups.specs.Groups.{all_in, first_of}
 use Rattle.wasm_validator_type_list.specs.Listable.{IsListable, AreListable}
 use Rattle.wasm_validator_type_list.specs.DefTypes.{listed_sub, listed_group, def_types, tree_behind}
-use Rattle.wasm_grouped_list.proofs.Places.{get-left, get-append, first_of-suc}
+use Rattle.wasm_validator_type_groups.proofs.Places.{get-left, get-append, first_of-suc}
 use Rattle.wasm_validator_type_list.proofs.Listed.{mentions_known}
 
 -- places in a recursive type

@@ -5,7 +5,7 @@ use Rattle.std.specs.List.{AllZip, flat_map, slice_index_or}
 use Rattle.std.proofs.lemmas.List.Elements.{All-head, All-tail, All-cons, All-nil, All-weaker, AllZip-get_or, at_read}
 use Rattle.std.proofs.lemmas.Bool.{cases_lt}
 use Rattle.std.specs.declared.ops.Range.{Range}
-use Rattle.wasm_spec.specs.Syntax.{Field}
+use Rattle.wasm_spec.specs.Syntax.{Field, Sub}
 use Rattle.wasm_readers_types.specs.Indices.{number_of}
 use Rattle.wasm_readers_types.specs.declared.indices.TheConstants.{MAX_IDS}
 use Rattle.wasm_readers_types.specs.declared.indices.CoreTypeId.{CoreTypeId}
@@ -21,15 +21,14 @@ use Rattle.wasm_readers_types.specs.declared.types.CompositeInnerType.{Composite
 use Rattle.wasm_readers_types.specs.declared.types.CompositeInnerType.TheVariants.{Func, Struct}
 use Rattle.wasm_readers_types.specs.declared.types.SubType.{SubType}
 use Rattle.wasm_validator_type_list.specs.declared.type_list.TypeList.TheInside.{Inside}
-use Rattle.wasm_grouped_list.specs.Groups.{all_in, first_of}
-use Rattle.wasm_grouped_list.specs.Spans.{span}
+use Rattle.wasm_validator_type_groups.specs.Groups.{all_in, first_of}
+use Rattle.wasm_validator_type_groups.specs.Spans.{span}
 use Rattle.wasm_validator_type_list.specs.Listing.{Listing, types_in}
 use Rattle.wasm_validator_type_list.specs.Lookups.{leads_to}
 use Rattle.wasm_validator_type_list.specs.Grouped.{leads_in, IsKnownIn, AreIn}
 use Rattle.wasm_validator_type_list.specs.Sound.{shown, IsSound}
 use Rattle.wasm_validator_type_list.proofs.DefTypes.{first_of-within}
 use Rattle.wasm_spec.specs.Matching.{MatchesField, MatchesFields}
-use Rattle.wasm_spec.specs.Syntax.{Sub}
 use Rattle.wasm_spec.specs.References.{refs_val, refs_field, refs_comp}
 
 -- all of two lists, one behind the other

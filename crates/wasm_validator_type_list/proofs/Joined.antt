@@ -17,13 +17,13 @@ use Rattle.wasm_readers_types.specs.SeenTypes.{sub_of}
 use Rattle.wasm_readers_types.specs.declared.indices.UnpackedIndex.{UnpackedIndex}
 use Rattle.wasm_readers_types.specs.declared.indices.UnpackedIndex.TheVariants.{Module, RecGroup, Id}
 use Rattle.wasm_readers_types.specs.declared.types.SubType.{SubType}
-use Rattle.wasm_grouped_list.specs.Groups.{all_in, first_of}
+use Rattle.wasm_validator_type_groups.specs.Groups.{all_in, first_of}
 use Rattle.wasm_validator_type_list.specs.Listable.{IsKnown, AreListable}
 use Rattle.wasm_validator_type_list.specs.Lookups.{leads_to}
 use Rattle.wasm_validator_type_list.specs.DefTypes.{listed_ref, listed_sub, listed_group, def_types, tree_behind}
 use Rattle.wasm_validator_type_list.specs.Declares.{sub_by_ids, subs_by_ids, declares}
 use Rattle.wasm_validator_type_list.specs.Laws.{TypesDeclareWhatIdsDeclare}
-use Rattle.wasm_grouped_list.proofs.Places.{get-left, get-right, get-map, split-at}
+use Rattle.wasm_validator_type_groups.proofs.Places.{get-left, get-right, get-map, split-at}
 use Rattle.wasm_validator_type_list.proofs.Lookups.{group_found}
 use Rattle.wasm_validator_type_list.proofs.DefTypes.{place_in, get-positions, def_types-push, length-def_types, front}
 use Rattle.wasm_validator_type_list.proofs.Declares.{IsDeclared, declared_by, declares-member}

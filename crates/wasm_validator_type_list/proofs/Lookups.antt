@@ -8,9 +8,9 @@ use Rattle.wasm_readers_types.specs.declared.indices.PackedIndex.{PackedIndex}
 use Rattle.wasm_readers_types.specs.declared.indices.UnpackedIndex.{UnpackedIndex}
 use Rattle.wasm_readers_types.specs.declared.indices.UnpackedIndex.TheVariants.{Module, RecGroup, Id}
 use Rattle.wasm_readers_types.specs.declared.types.SubType.{SubType}
-use Rattle.wasm_grouped_list.specs.Groups.{all_in, first_of, IsInGroup}
+use Rattle.wasm_validator_type_groups.specs.Groups.{all_in, first_of, IsInGroup}
 use Rattle.wasm_validator_type_list.specs.Listable.{IsKnown, AreListable}
-use Rattle.wasm_grouped_list.proofs.Places.{get-left, get-right, split-at, first_of-suc}
+use Rattle.wasm_validator_type_groups.proofs.Places.{get-left, get-right, split-at, first_of-suc}
 
 -- what a known reference is not
 pub not_module : (n m : ℕ) (r : UnpackedIndex) → IsKnown n m r → module_of r ≡ None

@@ -15,11 +15,11 @@ use Rattle.wasm_readers_types.specs.SeenValues.{abstract_heap_of}
 use Rattle.wasm_readers_types.specs.SeenTypes.{comp_of}
 use Rattle.wasm_readers_types.specs.declared.values.AbstractHeapType.{AbstractHeapType}
 use Rattle.wasm_readers_types.specs.declared.types.SubType.{SubType}
-use Rattle.wasm_grouped_list.specs.Groups.{all_in}
+use Rattle.wasm_validator_type_groups.specs.Groups.{all_in}
 use Rattle.wasm_validator_type_list.specs.Listing.{Listing, types_in}
 use Rattle.wasm_validator_type_list.specs.Lookups.{leads_to}
 use Rattle.wasm_validator_type_list.specs.Declares.{sub_by_ids, subs_by_ids, declares}
-use Rattle.wasm_grouped_list.proofs.Places.{get-left, get-right, get-map, get-append}
+use Rattle.wasm_validator_type_groups.proofs.Places.{get-left, get-right, get-map, get-append}
 
 pub kind_kept : {R S : Type 0} (f : R → S) (c : Comp R) → kind_of (map_comp f c) ≡ kind_of c
 kind_kept f (func ps rs) = refl

@@ -15,7 +15,7 @@ use Rattle.wasm_validator_type_list.specs.DefTypes.{listed_group, def_types}
 use Rattle.wasm_validator_type_list.specs.Interned.{AreOnce}
 use Rattle.wasm_validator_type_list.specs.Laws.{TypesHaveTheirPlaces}
 use Rattle.wasm_validator_type_list.specs.Sound.{shown, IsSound}
-use Rattle.wasm_grouped_list.proofs.Places.{get-append}
+use Rattle.wasm_validator_type_groups.proofs.Places.{get-append}
 use Rattle.wasm_validator_type_list.proofs.DefTypes.{from-positions}
 
 -- the type's place is where its recursive type begins, and its position behind

@@ -6,7 +6,7 @@ use Rattle.std.proofs.lemmas.Option.{same_Some, slice_get_within, option_and_the
 use Rattle.wasm_spec.specs.Syntax.{Sub}
 use Rattle.wasm_spec.specs.Declared.{supertype, supertype_of, ancestor_at, IsAncestor}
 use Rattle.wasm_readers_types.specs.declared.types.SubType.{SubType}
-use Rattle.wasm_grouped_list.specs.Groups.{all_in}
+use Rattle.wasm_validator_type_groups.specs.Groups.{all_in}
 use Rattle.wasm_validator_type_list.specs.Listable.{AreListable}
 use Rattle.wasm_validator_type_list.specs.Declares.{subs_by_ids, declares}
 use Rattle.wasm_validator_type_list.specs.Worlds.{ids_world}

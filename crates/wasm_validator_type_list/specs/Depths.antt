@@ -5,7 +5,7 @@ use Rattle.std.specs.FinMap as map
 use Rattle.std.specs.declared.option.Option.TheVariants.{Some}
 use Rattle.wasm_spec.specs.Declared.{IsDepth}
 use Rattle.wasm_readers_types.specs.declared.types.SubType.{SubType}
-use Rattle.wasm_grouped_list.specs.Groups.{all_in}
+use Rattle.wasm_validator_type_groups.specs.Groups.{all_in}
 use Rattle.wasm_validator_type_list.specs.Declares.{declares}
 
 -- the number that is kept of the id, if one is

@@ -14,7 +14,7 @@ use Rattle.wasm_readers_types.specs.declared.values.ValType.{ValType}
 use Rattle.wasm_readers_types.specs.declared.values.FieldType.{FieldType}
 use Rattle.wasm_readers_types.specs.SeenValues.{heap_of, ref_of, val_of, storage_of, field_of}
 use Rattle.wasm_readers_types.specs.SeenTypes.{comp_of, sub_of}
-use Rattle.wasm_grouped_list.specs.Groups.{first_of}
+use Rattle.wasm_validator_type_groups.specs.Groups.{first_of}
 use Rattle.wasm_validator_type_list.specs.Listable.{IsKnown}
 use Rattle.wasm_validator_type_list.specs.Lookups.{leads_to}
 use Rattle.wasm_validator_type_list.specs.Declares.{declares}

@@ -6,8 +6,8 @@ use Rattle.wasm_spec.specs.TypeLaws.{HasNoRepetition}
 use Rattle.wasm_readers_types.specs.declared.indices.UnpackedIndex.{UnpackedIndex}
 use Rattle.wasm_readers_types.specs.SeenTypes.{sub_of}
 use Rattle.wasm_readers_types.specs.declared.types.SubType.{SubType}
-use Rattle.wasm_grouped_list.specs.Places.{IsNew}
-use Rattle.wasm_grouped_list.specs.Groups.{all_in, first_of}
+use Rattle.wasm_validator_type_groups.specs.Places.{IsNew}
+use Rattle.wasm_validator_type_groups.specs.Groups.{all_in, first_of}
 use Rattle.wasm_validator_type_list.specs.Listing.{Listing}
 use Rattle.wasm_validator_type_list.specs.DefTypes.{def_types, tree_behind, IsTreeOfOne, StandFor}
 

@@ -8,7 +8,7 @@ use Rattle.wasm_readers_types.specs.declared.indices.UnpackedIndex.{UnpackedInde
 use Rattle.wasm_readers_types.specs.declared.indices.UnpackedIndex.TheVariants.{Module, RecGroup, Id}
 use Rattle.wasm_readers_types.specs.declared.types.SubType.{SubType}
 use Rattle.wasm_readers_types.specs.SeenTypes.{sub_of}
-use Rattle.wasm_grouped_list.specs.Groups.{first_of}
+use Rattle.wasm_validator_type_groups.specs.Groups.{first_of}
 
 -- the reference is the id of one of so many types, or one of so many positions
 abbrev pub IsKnown : ℕ → ℕ → UnpackedIndex → Type 0

@@ -1,5 +1,5 @@
 -- Where references in a list lead.
-pub use Rattle.wasm_ancestor_lists.specs.Supers.{leads_to}
+pub use Rattle.wasm_validator_type_ancestors.specs.Supers.{leads_to}
 use Rattle.std.specs.Prelude.{ℕ, ◌≡◌, ◌+◌, ◌<◌, ⊤, List, slice_get, Option, option_map}
 use Rattle.std.specs.declared.ops.Range.{Range}
 use Rattle.std.specs.declared.option.Option.TheVariants.{Some}
@@ -9,8 +9,8 @@ use Rattle.wasm_readers_types.specs.declared.indices.PackedIndex.{PackedIndex}
 use Rattle.wasm_readers_types.specs.declared.indices.UnpackedIndex.{UnpackedIndex}
 use Rattle.wasm_readers_types.specs.declared.indices.UnpackedIndex.TheVariants.{Module, RecGroup, Id}
 use Rattle.wasm_readers_types.specs.declared.types.SubType.{SubType}
-use Rattle.wasm_grouped_list.specs.Groups.{all_in, first_of, IsInGroup}
-use Rattle.wasm_grouped_list.specs.Spans.{span}
+use Rattle.wasm_validator_type_groups.specs.Groups.{all_in, first_of, IsInGroup}
+use Rattle.wasm_validator_type_groups.specs.Spans.{span}
 
 -- the reference leads to an id, where the group's ids have the numbers from start to below end
 abbrev pub Leads : ℕ → ℕ → UnpackedIndex → Type 0

@@ -5,7 +5,7 @@ use Rattle.wasm_readers_types.specs.declared.indices.TheConstants.{MAX_IDS}
 use Rattle.wasm_spec.specs.Declared.{supertype}
 use Rattle.wasm_readers_types.specs.declared.types.SubType.{SubType}
 use Rattle.wasm_validator_type_list.specs.declared.type_list.TypeList.TheInside.{Inside}
-use Rattle.wasm_grouped_list.specs.Groups.{all_in}
+use Rattle.wasm_validator_type_groups.specs.Groups.{all_in}
 use Rattle.wasm_validator_type_list.specs.Listing.{Listing}
 use Rattle.wasm_validator_type_list.specs.Listable.{AreListable}
 use Rattle.wasm_validator_type_list.specs.Declares.{subs_by_ids}

@@ -17,5 +17,5 @@ pub use laws::{
 pub use type_alloc::TypeAlloc;
 pub use type_info::{TypeData, TypeIdentifier, TypeInfo};
 pub use type_list::TypeList;
-pub use wasm_ancestor_lists::LinkCount;
-pub use wasm_grouped_list::{RecGroupElements, RecGroupId, SnapshotList};
+pub use wasm_validator_type_ancestors::LinkCount;
+pub use wasm_validator_type_groups::{RecGroupElements, RecGroupId, SnapshotList};

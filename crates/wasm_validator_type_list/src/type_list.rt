@@ -3,9 +3,9 @@ ghost use Rattle.std.specs.declared.option.Option.TheVariants.{None};
 ghost use Rattle.wasm_readers_types.specs.SeenValues.{index_of};
 ghost use Rattle.wasm_readers_types.specs.Indices.{number_of, module_of};
 ghost use Rattle.wasm_readers_types.specs.declared.indices.TheConstants.{MAX_IDS};
-ghost use Rattle.wasm_grouped_list.specs.Groups.{first_of, IsInGroup};
-ghost use Rattle.wasm_grouped_list.specs.Spans.{spans_of};
-ghost use Rattle.wasm_grouped_list.specs.Elements.{ids_left, ids_of_group};
+ghost use Rattle.wasm_validator_type_groups.specs.Groups.{first_of, IsInGroup};
+ghost use Rattle.wasm_validator_type_groups.specs.Spans.{spans_of};
+ghost use Rattle.wasm_validator_type_groups.specs.Elements.{ids_left, ids_of_group};
 ghost use Rattle.wasm_validator_type_list.specs.Refused.{not_in_group};
 ghost use Rattle.wasm_validator_type_list.specs.Lookups.{leads_to, Leads, group_span};
 
@@ -14,10 +14,10 @@ use std::collections::HashMap;
 use std::hash::{BuildHasherDefault, FoldHasher};
 use std::marker::Model;
 use std::ops::{Index, Range};
-use wasm_ancestor_lists::AncestorLists;
-use wasm_grouped_list::{GroupTable, RecGroupElements, RecGroupId, SnapshotList};
 use wasm_readers_errors::{Fault, Refusal};
 use wasm_readers_types::{CoreTypeId, PackedIndex, SubType, UnpackedIndex};
+use wasm_validator_type_ancestors::AncestorLists;
+use wasm_validator_type_groups::{GroupTable, RecGroupElements, RecGroupId, SnapshotList};
 
 mod depths;
 mod interning;
@@ -343,7 +343,7 @@ impl<A: Allocator + Copy> Index<RecGroupId> for TypeList<A> {
     type Output = Range<CoreTypeId>;
 
     ghost use Rattle.std.specs.Prelude.{◌≡◌, ◌<◌, ◌+◌, length};
-    ghost use Rattle.wasm_grouped_list.specs.Groups.{first_of};
+    ghost use Rattle.wasm_validator_type_groups.specs.Groups.{first_of};
     ghost use Rattle.wasm_validator_type_list.specs.Lookups.{group_span};
 
     ghost can_index = { λ list group. group.index < length list.groups };

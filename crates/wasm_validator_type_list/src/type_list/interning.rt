@@ -1,8 +1,8 @@
 ghost use Rattle.std.specs.Prelude.{◌≡◌, ◌+◌, ◌<◌, ◌∷◌, [], true, false, length, IfOk, OnErr, IsTrue};
 ghost use Rattle.std.specs.List.{All};
 ghost use Rattle.std.specs.declared.option.Option.TheVariants.{None};
-ghost use Rattle.wasm_grouped_list.specs.Known.{group_hash};
-ghost use Rattle.wasm_grouped_list.specs.Places.{IsPlaceOf};
+ghost use Rattle.wasm_validator_type_groups.specs.Known.{group_hash};
+ghost use Rattle.wasm_validator_type_groups.specs.Places.{IsPlaceOf};
 ghost use Rattle.wasm_spec.specs.References.{refs_comp};
 ghost use Rattle.wasm_readers_types.specs.SeenTypes.{func_of, final_func};
 ghost use Rattle.wasm_validator_type_list.specs.Listing.{types_in};
@@ -13,9 +13,9 @@ ghost use Rattle.wasm_validator_type_list.specs.Refused.{RefusesTooMany};
 use crate::type_list::TypeList;
 use std::alloc::Allocator;
 use std::hash::Hash;
-use wasm_grouped_list::{GroupTable, RecGroupId};
 use wasm_readers_errors::{Error, Fault, Refusal, Rule};
 use wasm_readers_types::{CoreTypeId, FuncType, MAX_IDS, RecGroup, SubType};
+use wasm_validator_type_groups::{GroupTable, RecGroupId};
 
 impl<A: Allocator + Copy> TypeList<A> {
     /// Adds the group, or finds it: says whether it is new, and its id. `is_canonical` is the

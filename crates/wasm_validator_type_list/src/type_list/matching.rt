@@ -12,11 +12,11 @@ ghost use Rattle.wasm_validator_type_list.specs.Grouped.{leads_in, heap_in, IsKn
 use crate::type_list::{TypeList, id_from};
 use crate::with_rec_group::WithRecGroup;
 use std::alloc::Allocator;
-use wasm_grouped_list::RecGroupId;
 use wasm_readers_types::{
     CompositeInnerType, CoreTypeId, FieldType, HeapType, RefType, StorageType, SubType,
     UnpackedIndex, ValType,
 };
+use wasm_validator_type_groups::RecGroupId;
 
 impl<A: Allocator + Copy> TypeList<A> {
     /// The id that a reference in the group leads to.

@@ -13,8 +13,8 @@ ghost use Rattle.wasm_validator_type_list.specs.Subtyping.{IsHeapOver, IsRefOver
 use crate::subtyping::{abstract_is_subtype, abstract_top, id_in, is_bottom, kind};
 use crate::type_list::TypeList;
 use std::alloc::Allocator;
-use wasm_ancestor_lists::LinkCount;
 use wasm_readers_types::{AbstractHeapType, CoreTypeId, HeapType, RefType, ValType};
+use wasm_validator_type_ancestors::LinkCount;
 
 impl<A: Allocator + Copy> TypeList<A> {
     /// Whether the second type is the first or one of its declared ancestors (Core Specification

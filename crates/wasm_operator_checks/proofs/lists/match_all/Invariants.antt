@@ -1,7 +1,7 @@
 use Rattle.std.proofs.Common.{◌≡◌, length, drop, map}
 use Rattle.wasm_readers_types.specs.SeenValues.{val_of}
 use Rattle.wasm_operator_stacks.specs.Matching.{matches_vals}
-use Rattle.wasm_module_resources.specs.Answers.{world}
+use Rattle.wasm_validator_resources.specs.Answers.{world}
 use Rattle.wasm_operator_checks.proofs.lists.match_all.Given as goal
 
 abbrev pub invariant-matching : goal.invariant-matching

@@ -1,4 +1,4 @@
-use Rattle.wasm_binary_reader.specs.Reader.{rest}
+use Rattle.wasm_readers_bytes.specs.Reader.{rest}
 use Rattle.wasm_operator_fast.proofs.BlockTypes.{of_nothing, of_i32, of_i64, of_f32, of_f64}
 use Rattle.wasm_operator_fast.proofs.immediates.next_block.Goals as goal
 

@@ -1,4 +1,4 @@
-use Rattle.wasm_binary_reader.specs.Reader.{rest}
+use Rattle.wasm_readers_bytes.specs.Reader.{rest}
 use Rattle.wasm_operator_stacks.specs.Seen.{state_of}
 use Rattle.wasm_operator_fast.proofs.Fusing.{is_taken}
 use Rattle.wasm_operator_fast.proofs.steps.next_step.Goals as goal

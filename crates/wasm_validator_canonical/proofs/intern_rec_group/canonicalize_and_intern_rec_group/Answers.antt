@@ -1,12 +1,12 @@
 use Rattle.std.proofs.Common.{◌≡◌, sym, ap, subst, ◌∙◌, ◌+◌, ◌<◌, true, List, ◌++◌, length, Some, arith, All}
 use Rattle.std.specs.declared.result.Result.TheVariants as results
 use Rattle.std.proofs.lemmas.List.{length-map}
-use Rattle.wasm_rules.specs.FeatureFlags.{features_of}
+use Rattle.wasm_spec_rules.specs.FeatureFlags.{features_of}
 use Rattle.wasm_readers_types.specs.SeenTypes.{sub_of, rec_of}
 use Rattle.wasm_readers_types.specs.declared.indices.CoreTypeId.{CoreTypeId}
 use Rattle.wasm_readers_types.specs.declared.indices.TheConstants.{MAX_IDS}
 use Rattle.wasm_readers_types.specs.declared.types.SubType.{SubType}
-use Rattle.wasm_grouped_list.specs.Elements.{ids_left}
+use Rattle.wasm_validator_type_groups.specs.Elements.{ids_left}
 use Rattle.wasm_validator_type_list.specs.Listing.{types_in}
 use Rattle.wasm_validator_type_list.specs.Listable.{IsListable}
 use Rattle.wasm_validator_type_list.specs.DefTypes.{def_types}

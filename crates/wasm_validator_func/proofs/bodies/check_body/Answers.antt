@@ -1,7 +1,7 @@
 use Rattle.std.proofs.Common.{◌≡◌, ◌==◌, ap, subst, Some, Err, true, false, length}
-use Rattle.wasm_binary_reader.specs.Reader.{rest}
+use Rattle.wasm_readers_bytes.specs.Reader.{rest}
 use Rattle.wasm_parser.specs.Seen.{body_of}
-use Rattle.wasm_module_resources.specs.Answers.{world}
+use Rattle.wasm_validator_resources.specs.Answers.{world}
 use Rattle.wasm_operator_validator.specs.Typed.{typed_state, locals_in}
 use Rattle.wasm_operator_validator.specs.Checked.{within}
 use Rattle.wasm_validator_func.specs.Bodies.{instructions_from}

@@ -1,6 +1,6 @@
 use Rattle.std.proofs.Common.{◌≡◌, ◌<◌, ◌∙◌, ◌||◌, ap, subst, Some, None, false, arith, rules}
-use Rattle.wasm_rules.specs.FeatureFlags.{features_of}
-use Rattle.wasm_binary_reader.specs.Reader.{position_in, rest}
+use Rattle.wasm_spec_rules.specs.FeatureFlags.{features_of}
+use Rattle.wasm_readers_bytes.specs.Reader.{position_in, rest}
 use Rattle.wasm_operator_validator.specs.Typed.{locals_in}
 use Rattle.wasm_validator_func.specs.Bodies.{more_locals, declared_from}
 use Rattle.wasm_validator_func.specs.Validated.{declaration_of, declared_in}

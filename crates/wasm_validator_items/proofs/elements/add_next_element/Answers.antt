@@ -1,9 +1,9 @@
-use Rattle.wasm_rules.specs.FeatureFlags.{features_of}
-use Rattle.wasm_binary_reader.specs.Reader.{rest}
+use Rattle.wasm_spec_rules.specs.FeatureFlags.{features_of}
+use Rattle.wasm_readers_bytes.specs.Reader.{rest}
 use Rattle.wasm_validator_core_resources.specs.IndexContexts.{id_of}
 use Rattle.wasm_validator_core_resources.specs.ListContexts.{list_declares}
 use Rattle.wasm_validator_core.specs.declared.error.Error.{Error}
-use Rattle.wasm_constant_items.specs.Elements.{typed_element_at}
+use Rattle.wasm_validator_segments.specs.Elements.{typed_element_at}
 use Rattle.wasm_validator_items.specs.Answers.{Refuses, StandsBehind}
 use Rattle.wasm_validator_items.specs.Machine.{context_of, element_step}
 use Rattle.wasm_validator_items.proofs.Places.{memory_behind}

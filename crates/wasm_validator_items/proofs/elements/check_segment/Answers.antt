@@ -1,13 +1,13 @@
 use Rattle.std.proofs.Common.{subst, List, ℕ, Option}
-use Rattle.wasm_rules.specs.FeatureFlags.{features_of}
-use Rattle.wasm_binary_reader.specs.Reader.{rest}
+use Rattle.wasm_spec_rules.specs.FeatureFlags.{features_of}
+use Rattle.wasm_readers_bytes.specs.Reader.{rest}
 use Rattle.wasm_spec.specs.Syntax.{Val}
 use Rattle.wasm_readers_types.specs.declared.indices.UnpackedIndex.{UnpackedIndex}
 use Rattle.wasm_validator_core_resources.specs.IndexContexts.{id_of}
 use Rattle.wasm_validator_core_resources.specs.ListContexts.{list_declares}
 use Rattle.wasm_validator_core.specs.declared.error.Error.{Error}
 use Rattle.wasm_validator_core.specs.Errors.{lifted}
-use Rattle.wasm_constant_items.specs.Elements.{typed_element_at}
+use Rattle.wasm_validator_segments.specs.Elements.{typed_element_at}
 use Rattle.wasm_validator_items.specs.Answers.{Refuses, StandsBehind}
 use Rattle.wasm_validator_items.specs.Machine.{context_of}
 use Rattle.wasm_validator_items.proofs.Places.{lifted_behind}

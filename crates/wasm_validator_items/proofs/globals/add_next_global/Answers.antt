@@ -1,6 +1,6 @@
 use Rattle.std.proofs.Common.{◌+◌, ◌≤◌, length, arith}
-use Rattle.wasm_rules.specs.FeatureFlags.{features_of}
-use Rattle.wasm_binary_reader.specs.Reader.{input, original, position_in, rest}
+use Rattle.wasm_spec_rules.specs.FeatureFlags.{features_of}
+use Rattle.wasm_readers_bytes.specs.Reader.{input, original, position_in, rest}
 use Rattle.wasm_readers_types.specs.SeenExterns.{global_of}
 use Rattle.wasm_readers_types.specs.SeenValues.{val_of}
 use Rattle.wasm_validator_type_list.specs.DefTypes.{types_of_list}

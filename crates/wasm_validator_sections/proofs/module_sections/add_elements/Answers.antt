@@ -1,6 +1,6 @@
 use Rattle.wasm_readers.specs.SectionsSeen.{count_of, bytes_of}
-use Rattle.wasm_binary_reader.specs.Reader.{rest}
-use Rattle.wasm_rules.specs.FeatureFlags.{features_of}
+use Rattle.wasm_readers_bytes.specs.Reader.{rest}
+use Rattle.wasm_spec_rules.specs.FeatureFlags.{features_of}
 use Rattle.wasm_validator_sections.proofs.ConstantSections.{elements_added}
 use Rattle.wasm_validator_sections.proofs.module_sections.add_elements.Goals as goal
 

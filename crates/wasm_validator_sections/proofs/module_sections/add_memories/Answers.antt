@@ -1,9 +1,9 @@
 use Rattle.std.proofs.Common.{◌≡◌, ◌∙◌, ℕ, ◌+◌, ◌≤◌, true, false, leb, length, arith}
-use Rattle.wasm_binary_reader.specs.Reader.{input, position_in}
+use Rattle.wasm_readers_bytes.specs.Reader.{input, position_in}
 use Rattle.wasm_spec.specs.Syntax.{Memory}
 use Rattle.wasm_spec.specs.BinaryTypes.{memory_at}
-use Rattle.wasm_rules.specs.FeatureFlags.{features_of}
-use Rattle.wasm_rules.specs.Limits.{most_memories}
+use Rattle.wasm_spec_rules.specs.FeatureFlags.{features_of}
+use Rattle.wasm_spec_rules.specs.Limits.{most_memories}
 use Rattle.wasm_readers.specs.SectionsSeen.{count_of, bytes_of, section_start, section_end, items_left, items_rest}
 use Rattle.wasm_readers_types.specs.SeenExterns.{memory_of}
 use Rattle.wasm_validator_core.specs.Items.{add_memory}

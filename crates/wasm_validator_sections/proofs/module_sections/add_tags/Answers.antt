@@ -1,7 +1,7 @@
 use Rattle.std.proofs.Common.{◌≡◌, sym, subst, ◌∙◌, ℕ, ◌+◌, ◌≤◌, true, false, leb, length, arith}
-use Rattle.wasm_binary_reader.specs.Reader.{input, position_in}
+use Rattle.wasm_readers_bytes.specs.Reader.{input, position_in}
 use Rattle.wasm_spec.specs.BinaryTypes.{tag_at}
-use Rattle.wasm_rules.specs.FeatureFlags.{features_of}
+use Rattle.wasm_spec_rules.specs.FeatureFlags.{features_of}
 use Rattle.wasm_validator_core.specs.declared.limits.TheConstants.{MAX_TAGS}
 use Rattle.wasm_readers.specs.SectionsSeen.{count_of, bytes_of, section_start, section_end, items_left, items_rest}
 use Rattle.wasm_readers_types.specs.declared.externs.TagType.{TagType}

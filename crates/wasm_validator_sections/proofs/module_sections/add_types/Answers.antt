@@ -1,5 +1,5 @@
 use Rattle.std.proofs.Common.{◌≡◌, refl, subst, ◌∙◌, ◌+◌, ◌≤◌, true, false, length, leb, arith}
-use Rattle.wasm_binary_reader.specs.Reader.{input, position_in}
+use Rattle.wasm_readers_bytes.specs.Reader.{input, position_in}
 use Rattle.wasm_readers_errors.specs.declared.error.Counted.TheVariants as counted
 use Rattle.wasm_spec.specs.BinaryTypes.{rec_at}
 use Rattle.wasm_readers.specs.Written.{written}

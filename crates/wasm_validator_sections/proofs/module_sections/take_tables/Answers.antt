@@ -1,13 +1,13 @@
 use Rattle.std.proofs.Common.{length}
 use Rattle.wasm_spec.specs.BinarySections.{table_entry_at}
-use Rattle.wasm_rules.specs.Limits.{most_tables}
+use Rattle.wasm_spec_rules.specs.Limits.{most_tables}
 use Rattle.wasm_readers.specs.Written.{written}
-use Rattle.wasm_module_validity.specs.Expressions.{expression_at}
-use Rattle.wasm_context_laws.specs.ListedTypes.{types_declare}
+use Rattle.wasm_spec_validity.specs.Expressions.{expression_at}
+use Rattle.wasm_laws_contexts.specs.ListedTypes.{types_declare}
 use Rattle.wasm_validator_sections.specs.Entries.{add_table_entry}
-use Rattle.wasm_referenced_functions.specs.References.{table_names}
+use Rattle.wasm_validator_references.specs.References.{table_names}
 use Rattle.wasm_readers.specs.SectionsSeen.{count_of, bytes_of}
-use Rattle.wasm_rules.specs.FeatureFlags.{features_of}
+use Rattle.wasm_spec_rules.specs.FeatureFlags.{features_of}
 use Rattle.wasm_validator_type_list.specs.DefTypes.{types_of_list}
 use Rattle.wasm_validator_sections.proofs.NotedNames.{has_items, names_marked}
 use Rattle.wasm_validator_sections.proofs.module_sections.take_tables.Goals as goal

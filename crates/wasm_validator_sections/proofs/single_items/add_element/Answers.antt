@@ -1,6 +1,6 @@
 use Rattle.std.proofs.Common.{sym}
-use Rattle.wasm_binary_reader.specs.Reader.{rest}
-use Rattle.wasm_rules.specs.FeatureFlags.{features_of}
+use Rattle.wasm_readers_bytes.specs.Reader.{rest}
+use Rattle.wasm_spec_rules.specs.FeatureFlags.{features_of}
 use Rattle.wasm_validator_sections.proofs.Singles.{element_added}
 use Rattle.wasm_validator_sections.proofs.single_items.add_element.Goals as goal
 

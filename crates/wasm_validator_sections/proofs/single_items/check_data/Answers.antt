@@ -1,5 +1,5 @@
-use Rattle.wasm_binary_reader.specs.Reader.{rest}
-use Rattle.wasm_rules.specs.FeatureFlags.{features_of}
+use Rattle.wasm_readers_bytes.specs.Reader.{rest}
+use Rattle.wasm_spec_rules.specs.FeatureFlags.{features_of}
 use Rattle.wasm_validator_sections.proofs.Singles.{data_checked}
 use Rattle.wasm_validator_sections.proofs.single_items.check_data.Goals as goal
 

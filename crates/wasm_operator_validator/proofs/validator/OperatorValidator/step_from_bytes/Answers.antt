@@ -1,5 +1,5 @@
 use Rattle.std.proofs.Common.{◌∙◌}
-use Rattle.wasm_binary_reader.specs.Reader.{rest}
+use Rattle.wasm_readers_bytes.specs.Reader.{rest}
 use Rattle.wasm_operator_validator.specs.Typed.{typed_state}
 use Rattle.wasm_operator_validator.proofs.Reading.{from_the_same}
 use Rattle.wasm_operator_validator.proofs.validator.OperatorValidator.step_from_bytes.Goals as goal

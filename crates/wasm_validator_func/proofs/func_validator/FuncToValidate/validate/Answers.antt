@@ -1,5 +1,5 @@
 use Rattle.std.proofs.Common.{◌≡◌, ap, subst, Some, Err}
-use Rattle.wasm_rules.specs.FeatureFlags.{features_of}
+use Rattle.wasm_spec_rules.specs.FeatureFlags.{features_of}
 use Rattle.wasm_parser.specs.Seen.{body_of}
 use Rattle.wasm_operator_validator.specs.Typed.{typed_state, locals_in}
 use Rattle.wasm_validator_func.specs.Validated.{body_in, Validates}

@@ -1,5 +1,5 @@
 use Rattle.std.proofs.Common.{sym, subst}
-use Rattle.wasm_rules.specs.FeatureFlags.{features_of}
+use Rattle.wasm_spec_rules.specs.FeatureFlags.{features_of}
 use Rattle.wasm_validator_type_list.specs.DefTypes.{types_of_list}
 use Rattle.wasm_validator_types.specs.Spaces.{Spaces}
 use Rattle.wasm_validator_canonical.specs.Groups.{AreValid}

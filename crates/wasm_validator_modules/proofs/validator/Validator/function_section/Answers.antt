@@ -1,25 +1,22 @@
 use Rattle.std.proofs.Common.{refl, ap, ◌∙◌, sym, subst}
-use Rattle.wasm_readers.specs.SectionsSeen.{count_of, bytes_of}
+use Rattle.wasm_readers.specs.SectionsSeen.{count_of, bytes_of, section_start}
 use Rattle.wasm_validator_type_list.specs.DefTypes.{types_of_list}
-use Rattle.wasm_validator_core.specs.Answers.{HasValidTypes}
+use Rattle.wasm_validator_core.specs.Answers.{HasValidTypes, TypesSoFar}
 use Rattle.wasm_validator_core.specs.Ready.{AreIdsOf}
-use Rattle.wasm_rules.specs.FeatureFlags.{features_of}
+use Rattle.wasm_spec_rules.specs.FeatureFlags.{features_of}
 use Rattle.wasm_validator_sections.specs.Machine.{other_items, section_items}
 use Rattle.wasm_validator_modules.specs.Ready.{AreIdsIn, AreValidIn, AreFirstIn}
-use Rattle.wasm_referenced_functions.specs.References.{section_names}
+use Rattle.wasm_validator_references.specs.References.{section_names}
 use Rattle.wasm_validator_sections.specs.Noted.{naming}
 use Rattle.wasm_validator_modules.specs.Standing.{Standing, Moves}
-use Rattle.wasm_validator_modules.specs.States.{stage_of, after_section}
+use Rattle.wasm_validator_modules.specs.States.{stage_of, after_section, order_at}
 use Rattle.wasm_validator_modules.proofs.SectionMoves.{adds_beside, section_moves, nothing_more}
 use Rattle.wasm_validator_modules.proofs.Sections.{open-ids, open-valid, open-first, kept-ids, kept-valid, kept-first}
-use Rattle.wasm_readers.specs.SectionsSeen.{section_start}
 use Rattle.wasm_readers_errors.specs.declared.features.WasmFeatures.{WasmFeatures}
 use Rattle.wasm_validator_types.specs.Spaces.{Spaces}
 use Rattle.wasm_validator_core.specs.declared.error.Error.{Error}
-use Rattle.wasm_validator_core.specs.Answers.{TypesSoFar}
 use Rattle.wasm_readers_errors.specs.Refusals.{plain}
 use Rattle.wasm_readers_errors.specs.declared.error.Fault.TheVariants as fault
-use Rattle.wasm_validator_modules.specs.States.{order_at}
 use Rattle.wasm_validator_sections.specs.SectionsTold.{TellsFunctions}
 use Rattle.wasm_validator_modules.proofs.ToldMoves.{told_within, order_within}
 use Rattle.wasm_validator_modules.proofs.validator.Validator.function_section.Goals as goal

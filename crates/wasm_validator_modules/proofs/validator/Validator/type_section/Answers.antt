@@ -2,7 +2,7 @@ use Rattle.std.proofs.Common.{refl, ap, ◌∙◌, sym, subst}
 use Rattle.wasm_readers.specs.SectionsSeen.{count_of, bytes_of, section_start, section_end}
 use Rattle.wasm_validator_type_list.specs.DefTypes.{types_of_list}
 use Rattle.wasm_validator_sections.specs.Machine.{section_items}
-use Rattle.wasm_referenced_functions.specs.References.{section_names}
+use Rattle.wasm_validator_references.specs.References.{section_names}
 use Rattle.wasm_validator_sections.specs.Noted.{naming}
 use Rattle.wasm_validator_modules.specs.Standing.{Standing, Moves}
 use Rattle.wasm_validator_modules.specs.States.{stage_of, after_section, order_at}

@@ -1,11 +1,11 @@
 use Rattle.wasm_spec.specs.BinarySections.{table_entry_at}
-use Rattle.wasm_rules.specs.FeatureFlags.{features_of}
-use Rattle.wasm_binary_reader.specs.Reader.{rest}
+use Rattle.wasm_spec_rules.specs.FeatureFlags.{features_of}
+use Rattle.wasm_readers_bytes.specs.Reader.{rest}
 use Rattle.wasm_readers.specs.Written.{written}
 use Rattle.wasm_validator_type_list.specs.DefTypes.{types_of_list}
-use Rattle.wasm_context_laws.specs.ListedTypes.{types_declare}
-use Rattle.wasm_referenced_functions.specs.Expressions.{expression_at}
-use Rattle.wasm_referenced_functions.specs.References.{table_names}
+use Rattle.wasm_laws_contexts.specs.ListedTypes.{types_declare}
+use Rattle.wasm_validator_references.specs.Expressions.{expression_at}
+use Rattle.wasm_validator_references.specs.References.{table_names}
 use Rattle.wasm_validator_items.specs.Entries.{add_table_entry}
 use Rattle.wasm_validator_sections.proofs.Singles.{names_marked}
 use Rattle.wasm_validator_sections.proofs.module_state.ModuleState.add_table.Goals as goal

@@ -1,7 +1,7 @@
 use Rattle.std.proofs.Common.{arith, ap, subst, sym, ◌∙◌, ◌≤◌, ◌-◌, ◌++◌, ◌∷◌, [], length, refl}
 use Rattle.wasm_readers_types.specs.declared.indices.TheConstants.{MAX_IDS}
-use Rattle.wasm_grouped_list.specs.Groups.{all_in}
-use Rattle.wasm_ancestor_lists.specs.Supers.{extended_in}
+use Rattle.wasm_validator_type_groups.specs.Groups.{all_in}
+use Rattle.wasm_validator_type_ancestors.specs.Supers.{extended_in}
 use Rattle.wasm_validator_type_list.specs.Listable.{IsListable}
 use Rattle.wasm_validator_type_list.proofs.Ancestors.{as_many, extend_earlier}
 use Rattle.wasm_validator_type_list.proofs.Sound.{group_room, room_of, mode_of, next_of, on_err, only_once, place_found, place_missed, sound_same, sound_push, shown_same, interned_found, interned_new}

@@ -1,0 +1,191 @@
+use crate::features::{name_of, parse_features};
+use crate::sample::Sample;
+use std::alloc::{AllocError, AllocFailed, Global};
+use std::fmt::Write;
+use test_resources::SampleResources;
+use wasm_parser::FunctionBody;
+use wasm_readers::{BinaryReader, Error};
+use wasm_readers_errors::WasmFeatures;
+use wasm_validator_func::{FuncToValidate, FuncValidatorAllocations};
+
+/// Why nothing can be said of a row.
+#[derive(Clone, Copy)]
+pub enum Trouble {
+    OutOfMemory,
+    /// The row isn't one, for this reason.
+    Malformed(&'static str),
+}
+
+impl From<AllocError> for Trouble {
+    fn from(_: AllocError) -> Trouble {
+        Trouble::OutOfMemory
+    }
+}
+
+impl<T: Drop> From<AllocFailed<T>> for Trouble {
+    fn from(_: AllocFailed<T>) -> Trouble {
+        Trouble::OutOfMemory
+    }
+}
+
+impl Trouble {
+    pub fn text(self) -> &'static str {
+        match self {
+            Trouble::OutOfMemory => "out of memory",
+            Trouble::Malformed(text) => text,
+        }
+    }
+}
+
+/// A row: the features, the index of the function's type, its body, and the answer that is wanted.
+#[derive(Clone, Copy)]
+struct Row<'a> {
+    features: &'a str,
+    type_index: &'a str,
+    body: &'a str,
+    wanted: &'a str,
+}
+
+impl<'a> Row<'a> {
+    /// The row that this line is.
+    fn of(line: &'a str) -> Result<Row<'a>, Trouble> {
+        let Some((_name, rest)) = line.split_once(" | ") else {
+            return Err(Trouble::Malformed("a row without features"));
+        };
+        let Some((features, rest)) = rest.split_once(" | ") else {
+            return Err(Trouble::Malformed("a row without a type"));
+        };
+        let Some((type_index, rest)) = rest.split_once(" | ") else {
+            return Err(Trouble::Malformed("a row without a body"));
+        };
+        let Some((body, wanted)) = rest.split_once(" | ") else {
+            return Err(Trouble::Malformed("a body without a wanted answer"));
+        };
+        Ok(Row {
+            features: features.trim(),
+            type_index: type_index.trim(),
+            body: body.trim(),
+            wanted: wanted.trim(),
+        })
+    }
+}
+
+/// An answer that isn't right: not the wanted one, or the one that must not be given.
+#[derive(Drop)]
+pub struct Difference<'a> {
+    pub wanted: &'a str,
+    pub given: String,
+}
+
+/// What stands before an answer that must not be given.
+const NOT: &str = "not ";
+
+/// What stands before the feature that a refusal says is missing.
+const MISSING: &str = "; missing ";
+
+/// The answer to the row that this line is, where it isn't right.
+pub fn judge<'a>(
+    alloc: Global,
+    sample: &Sample,
+    line: &'a str,
+) -> Result<Option<Difference<'a>>, Trouble> {
+    let row = Row::of(line)?;
+    let features = parse_features(row.features)?;
+    let bytes = parse_bytes(alloc, row.body)?;
+    let Ok(type_index) = row.type_index.parse::<u32>() else {
+        return Err(Trouble::Malformed("a type index that isn't a number"));
+    };
+    let (is_wanted, named) = match row.wanted.strip_prefix(NOT) {
+        Some(unwanted) => (false, unwanted),
+        None => (true, row.wanted),
+    };
+    let answer = validate(alloc, sample, features, type_index, bytes.as_slice())?;
+    let mut given = String::new(alloc);
+    push_answer(&mut given, &answer, named)?;
+    if (given.as_str() == named) == is_wanted {
+        return Ok(None);
+    }
+    Ok(Some(Difference {
+        wanted: row.wanted,
+        given,
+    }))
+}
+
+/// The bytes that these hexadecimal digits stand for, and none for `-`.
+pub fn parse_bytes(alloc: Global, text: &str) -> Result<Vec<u8>, Trouble> {
+    if text == "-" {
+        return Ok(Vec::new(alloc));
+    }
+    match hex::decode(alloc, text) {
+        Ok(bytes) => Ok(bytes),
+        Err(hex::FromHexError::OutOfMemory) => Err(Trouble::OutOfMemory),
+        Err(_) => Err(Trouble::Malformed("bytes that aren't hexadecimal")),
+    }
+}
+
+/// The index of the function whose body a row has: it stands behind those of the sample.
+const VALIDATED: u32 = 8;
+
+/// What is said of the body of a function of this type.
+fn validate(
+    alloc: Global,
+    sample: &Sample,
+    features: WasmFeatures,
+    type_index: u32,
+    bytes: &[u8],
+) -> Result<Result<(), Error>, Trouble> {
+    let Some(resources) = SampleResources::new(sample.parts()) else {
+        return Err(Trouble::Malformed("a sample with too many types"));
+    };
+    let body = FunctionBody::new(BinaryReader::new(bytes, 0));
+    let function = FuncToValidate {
+        resources: &resources,
+        index: VALIDATED,
+        ty: type_index,
+        features,
+    };
+    match function.validate(&body, FuncValidatorAllocations::new(alloc)) {
+        Ok(_) => Ok(Ok(())),
+        Err(error) => Ok(Err(error)),
+    }
+}
+
+/// Adds `ok`, or `refused` with as much of the offset, the message and the missing feature as the
+/// named answer has.
+fn push_answer(text: &mut String, answer: &Result<(), Error>, named: &str) -> Result<(), Trouble> {
+    let error = match answer {
+        Ok(()) => {
+            text.push_str("ok")?;
+            return Ok(());
+        }
+        Err(error) => error,
+    };
+    if error.is_out_of_memory() {
+        return Err(Trouble::OutOfMemory);
+    }
+    text.push_str("refused")?;
+    if named == "refused" {
+        return Ok(());
+    }
+    let offset = error.offset();
+    write!(text, " {offset}")?;
+    if named != text.as_str() {
+        write!(text, " {error}")?;
+    }
+    if named.contains(MISSING) {
+        push_missing(text, error)?;
+    }
+    Ok(())
+}
+
+/// Adds the feature that would lift the refusal.
+fn push_missing(text: &mut String, error: &Error) -> Result<(), AllocError> {
+    text.push_str(MISSING)?;
+    let Some(feature) = error.missing_features() else {
+        return text.push_str("nothing");
+    };
+    for character in name_of(feature).chars() {
+        text.push(character.to_ascii_lowercase())?;
+    }
+    Ok(())
+}

@@ -1,5 +1,0 @@
-use Rattle.wasm_binary_reader.proofs.Texts.{past_is_empty}
-use Rattle.wasm_binary_reader.proofs.binary_reader.BinaryReader.is_empty.Goals as goal
-
-pub returns : goal.returns
-returns c = past_is_empty c.args.self.now.position c.args.self.now.buffer.now

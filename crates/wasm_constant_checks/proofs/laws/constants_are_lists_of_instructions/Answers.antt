@@ -1,8 +1,0 @@
-use Rattle.wasm_constant_checks.proofs.Finding.{finds, are_found}
-use Rattle.wasm_constant_checks.proofs.laws.constants_are_lists_of_instructions.Goals as goal
-
-pub returns-clause-found : goal.returns-clause-found
-returns-clause-found g c = finds
-
-pub returns-clause-all : goal.returns-clause-all
-returns-clause-all g c = are_found

@@ -1,6 +1,0 @@
-use Rattle.wasm_binary_reader.specs.Reader.{rest}
-use Rattle.wasm_constant_items.proofs.Anywhere.{ends}
-use Rattle.wasm_constant_items.proofs.numbers.next_end.Goals as goal
-
-pub returns-then-branch-eq11-clause-some : goal.returns-then-branch-eq11-clause-some
-returns-then-branch-eq11-clause-some c = ends c.in_ok-next_u8.field-0 (rest c.args.reader.now) (rest c.next_u8.new.self) c.in_ok-next_u8.ensures.some c.if-branch-eq11.true

@@ -1,9 +1,0 @@
-use Rattle.std.proofs.Common.{ℕ, ◌≤◌, ◌<◌}
-use Rattle.wasm_spec.specs.GroupRules.{IsValidType}
-use Rattle.wasm_rules.specs.FeatureFlags.{features_of}
-use Rattle.wasm_grouped_list.specs.Groups.{first_of}
-use Rattle.wasm_validator_type_list.specs.Declares.{declares}
-use Rattle.wasm_group_checks.proofs.groups.check_rec_group.Given as goal
-
-abbrev pub invariant-members : goal.invariant-members
-invariant-members g l = (id : ℕ) → first_of l.types.groups l.fn.group.index ≤ id → id < l.index → IsValidType (features_of l.features) (declares l.types.groups) id

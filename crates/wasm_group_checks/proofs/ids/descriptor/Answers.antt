@@ -1,5 +1,0 @@
-use Rattle.wasm_group_checks.proofs.Listed.{listed_descriptor}
-use Rattle.wasm_group_checks.proofs.ids.descriptor.Goals as goal
-
-pub optional_id_at-requires-clause-known : goal.optional_id_at-requires-clause-known
-optional_id_at-requires-clause-known g c = listed_descriptor c.args.types.now.groups c.args.id.index c.group_of-group.result.index c.index.result.now (c.group_of-group.ensures.listed c.index.result.now c.index.ensures)

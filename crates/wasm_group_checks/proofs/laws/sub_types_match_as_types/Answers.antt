@@ -1,5 +1,0 @@
-use Rattle.wasm_group_checks.proofs.IdsAndTypes.{sub_types_match_as_types}
-use Rattle.wasm_group_checks.proofs.laws.sub_types_match_as_types.Goals as goal
-
-pub returns : goal.returns
-returns g c = sub_types_match_as_types

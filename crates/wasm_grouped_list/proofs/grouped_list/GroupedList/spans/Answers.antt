@@ -1,9 +1,0 @@
-use Rattle.std.proofs.Common.{ap, ◌∙◌}
-use Rattle.wasm_grouped_list.specs.Spans.{spans_of}
-use Rattle.wasm_grouped_list.proofs.Flat.{spans_are}
-use Rattle.wasm_grouped_list.proofs.grouped_list.GroupedList.spans.Goals as goal
-
-pub returns : goal.returns
-returns g c =
-    let a = c.self.inside in
-    spans_are a.items a.spans a.owners c.self.invariant ∙ ap spans_of c.self.view_is

@@ -1,8 +1,0 @@
-use Rattle.wasm_grouped_list.proofs.Finding.{IsLeft, steps_left}
-use Rattle.wasm_grouped_list.proofs.known_groups.KnownGroups.find.Given as goal
-
-abbrev pub invariant-numbers : goal.invariant-numbers
-invariant-numbers g l = IsLeft g.T.Hash.hash_input l.groups l.group l.next
-
-abbrev pub decreases-numbers : goal.decreases-numbers
-decreases-numbers g l = steps_left l.next

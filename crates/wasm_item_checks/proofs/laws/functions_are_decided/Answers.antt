@@ -1,8 +1,0 @@
-use Rattle.wasm_item_checks.proofs.laws.functions_are_decided.Goals as goal
-use Rattle.wasm_item_checks.proofs.Decided as decided
-
-pub returns-clause-functions : goal.returns-clause-functions
-returns-clause-functions c = decided.functions_are_decided
-
-pub returns-clause-arities : goal.returns-clause-arities
-returns-clause-arities c = decided.arities_are_kept

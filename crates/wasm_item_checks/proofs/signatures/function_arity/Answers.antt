@@ -1,6 +1,0 @@
-use Rattle.std.proofs.Common.{◌∙◌}
-use Rattle.wasm_item_checks.proofs.Arities.{written_arities}
-use Rattle.wasm_item_checks.proofs.signatures.function_arity.Goals as goal
-
-pub returns : goal.returns
-returns g c = c.written_arity.ensures ∙ written_arities c.args.list.now.is_canonical c.args.list.now.groups c.len-count.ensures.listable c.args.id.index

@@ -1,0 +1,5 @@
+use Rattle.wasm_laws_core.proofs.Starts.{starts_are_decided}
+use Rattle.wasm_laws_core.proofs.starts_are_decided.Goals as goal
+
+pub returns : goal.returns
+returns c = starts_are_decided

@@ -1,5 +1,0 @@
-use Rattle.wasm_module_list_laws.proofs.SectionTypes.{sections_give_module_types}
-use Rattle.wasm_module_list_laws.proofs.sections_give_module_types.Goals as goal
-
-pub returns : goal.returns
-returns c = sections_give_module_types

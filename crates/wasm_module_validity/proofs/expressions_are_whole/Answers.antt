@@ -1,5 +1,0 @@
-use Rattle.wasm_module_validity.proofs.Whole.{expressions_are_whole}
-use Rattle.wasm_module_validity.proofs.expressions_are_whole.Goals as goal
-
-pub returns : goal.returns
-returns g c = record { whole = expressions_are_whole }

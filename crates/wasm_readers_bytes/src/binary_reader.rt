@@ -1,0 +1,622 @@
+ghost use Rattle.std.specs.Prelude.{◌≡◌, ◌==◌, ◌≤◌, ◌<◌, ◌^◌, ◌-◌, ◌+◌, ◌≤ℤ◌, ◌<ℤ◌, ◌-ℤ◌, pos, IfOk, OnOk, OnErr, IfSome, OnSome, IfNone, length, take, drop, slice_range, [], ◌∷◌, ◌++◌, Some, None, IfErr};
+ghost use Rattle.wasm_spec.specs.Values.{byte_at, u32_at, u64_at, s33_index_at, bytes_at, sized_at, name_at, signed_at as integer_at, unsigned_at};
+
+use crate::leb128::{long_signed_at, signed_at};
+use std::ops::Range;
+use wasm_readers_errors::{Fault, Malformed, Refusal};
+
+/// Bytes that are read from their front. A reader that has refused bytes stands somewhere behind
+/// where it stood before, or there, in the same bytes.
+#[derive(Clone, Copy, Debug)]
+pub struct BinaryReader<'a> {
+    buffer: &'a [u8],
+    original_offset: u64,
+    position: usize,
+    ghost within: { position ≤ length buffer.now },
+    ghost addressed: { original_offset + length buffer.now < 2 ^ 64 },
+}
+
+impl<'a> BinaryReader<'a> {
+    ghost use Rattle.wasm_readers_bytes.specs.Reader.{input, SameInput, position_in, original, rest, RefusedFrom, place_of_next, unsigned_fault, index_fault, sized_fault, name_fault};
+    ghost use Rattle.wasm_readers_errors.specs.Refusals.{plain};
+
+    /// A reader of these bytes, the first of which stands at this offset of the whole input.
+    pub fn new(buffer: &'a [u8], original_offset: u64) -> Self
+        requires { original_offset + length buffer.now < 2 ^ 64 }
+        ensures input { input result ≡ buffer.now }
+        ensures rest { rest result ≡ buffer.now }
+        ensures position { original result ≡ original_offset }
+    {
+        BinaryReader {
+            buffer,
+            position: 0,
+            original_offset,
+        }
+    }
+
+    /// The offset in the whole input of the next byte.
+    pub fn original_position(&self) -> u64
+        ensures { result ≡ original self.now + position_in self.now }
+    {
+        self.original_offset + self.position as u64
+    }
+
+    /// The offsets in the whole input of its first byte, read or not, and of the byte behind its
+    /// last.
+    pub fn range(&self) -> Range<u64>
+        ensures start { result.start ≡ original self.now }
+        ensures end { result.end ≡ original self.now + length (input self.now) }
+    {
+        self.original_offset..self.original_offset + self.buffer.len() as u64
+    }
+
+    /// Whether nothing is left to read.
+    pub fn is_empty(&self) -> bool
+        ensures { result ≡ (length (rest self.now) == 0) }
+    {
+        self.position >= self.buffer.len()
+    }
+
+    /// The bytes that are left.
+    pub fn remaining(&self) -> &'a [u8]
+        ensures { result.now ≡ rest self.now }
+    {
+        &self.buffer[self.position..]
+    }
+
+    /// Goes on where this reader of the same bytes stands.
+    #[inline(always)]
+    pub fn go_on_from(&mut self, ahead: &BinaryReader)
+        requires { SameInput self.old ahead.now }
+        ensures same { SameInput self.old self.new }
+        ensures position { position_in self.new ≡ position_in ahead.now }
+        ensures rest { rest self.new ≡ rest ahead.now }
+    {
+        self.position = ahead.position;
+    }
+
+    /// A refusal at the next byte.
+    fn refusal(&self, malformed: Malformed) -> Refusal
+        ensures { result ≡ record {
+          fault = Fault.Malformed malformed;
+          offset = original self.now +
+              position_in self.now;
+          missing = None;
+        } }
+    {
+        Refusal::new(Fault::Malformed(malformed), self.original_position())
+    }
+
+    /// The next byte, and without a refusal where there is none.
+    #[inline(always)]
+    fn next_byte(&mut self) -> Result<u8, Malformed>
+        ensures same { SameInput self.old self.new }
+        ensures ok { IfOk result (λ byte. rest self.old ≡ byte ∷ rest self.new) }
+        ensures further { OnOk result (position_in self.new ≡ position_in self.old + 1) }
+        ensures err { OnErr result (rest self.old ≡ []) }
+        ensures unread { OnErr result (self.new ≡ self.old) }
+        ensures told { IfErr result (λ m. m ≡ Malformed.UnexpectedEnd) }
+    {
+        if self.position < self.buffer.len() {
+            let byte = self.buffer[self.position];
+            self.position += 1;
+            Ok(byte)
+        } else {
+            Err(Malformed::UnexpectedEnd)
+        }
+    }
+
+    /// The next byte, if there is one.
+    #[inline(always)]
+    pub fn next_u8(&mut self) -> Option<u8>
+        ensures same { SameInput self.old self.new }
+        ensures some { IfSome result (λ byte. rest self.old ≡ byte ∷ rest self.new) }
+        ensures further { OnSome result (position_in self.new ≡ position_in self.old + 1) }
+        ensures none { IfNone result (rest self.old ≡ []) }
+        ensures unread { IfNone result (self.new ≡ self.old) }
+    {
+        self.next_byte().ok()
+    }
+
+    /// The next byte where it is below 128, as the last byte of a number is.
+    #[inline(always)]
+    fn next_last_byte(&mut self) -> Option<u8>
+        ensures same { SameInput self.old self.new }
+        ensures some { IfSome result (λ byte. rest self.old ≡ byte ∷ rest self.new) }
+        ensures last { IfSome result (λ byte. byte < 2 ^ 7) }
+        ensures further { OnSome result (position_in self.new ≡ position_in self.old + 1) }
+        ensures none { IfNone result (self.new ≡ self.old) }
+    {
+        if self.position < self.buffer.len() && self.buffer[self.position] < 128 {
+            self.next_u8()
+        } else {
+            None
+        }
+    }
+
+    /// The next byte.
+    ///
+    /// # Errors
+    ///
+    /// Refused as cut off where there is none, at the offset of the end. The reader stays where it
+    /// stood.
+    #[inline]
+    pub fn read_u8(&mut self) -> Result<u8, Refusal>
+        ensures same { SameInput self.old self.new }
+        ensures onward { position_in self.old ≤ position_in self.new }
+        ensures refusal { IfErr result (RefusedFrom self.old) }
+        ensures ok { IfOk result (λ byte. rest self.old ≡ byte ∷ rest self.new) }
+        ensures further { OnOk result (position_in self.new ≡ position_in self.old + 1) }
+        ensures err { OnErr result (rest self.old ≡ []) }
+        ensures told { IfErr result (λ r. r ≡ plain (Fault.Malformed Malformed.UnexpectedEnd)
+            (place_of_next self.old)) }
+    {
+        match self.next_byte() {
+            Ok(byte) => Ok(byte),
+            Err(malformed) => Err(self.refusal(malformed)),
+        }
+    }
+
+    /// An unsigned number of at most 32 bits, in at most five bytes (Core Specification 3.0, Binary
+    /// Format, Values, Integers).
+    ///
+    /// # Errors
+    ///
+    /// Refused where the bytes encode none: the end comes first, the last byte that is allowed has
+    /// bits beyond the width, or a byte follows it. The offset is that of the byte behind those
+    /// that were read, and the reader stands there.
+    pub fn read_var_u32(&mut self) -> Result<u32, Refusal>
+        ensures same { SameInput self.old self.new }
+        ensures onward { position_in self.old ≤ position_in self.new }
+        ensures refusal { IfErr result (RefusedFrom self.old) }
+        ensures ok { IfOk result (λ n. u32_at (rest self.old) ≡ Some (n, rest self.new)) }
+        ensures further { OnOk result (position_in self.old < position_in self.new) }
+        ensures err { OnErr result (u32_at (rest self.old) ≡ None) }
+        ensures told { IfErr result (λ r. r ≡ plain
+            (Fault.Malformed (unsigned_fault 32 (rest self.old))) (place_of_next self.new)) }
+    {
+        match self.next_u32() {
+            Ok(number) => Ok(number),
+            Err(malformed) => Err(self.refusal(malformed)),
+        }
+    }
+
+    /// The same, if it is there, and without a refusal where it isn't.
+    #[inline(always)]
+    pub fn next_var_u32(&mut self) -> Option<u32>
+        ensures same { SameInput self.old self.new }
+        ensures onward { position_in self.old ≤ position_in self.new }
+        ensures some { IfSome result (λ n. u32_at (rest self.old) ≡ Some (n, rest self.new)) }
+        ensures further { OnSome result (position_in self.old < position_in self.new) }
+        ensures none { IfNone result (u32_at (rest self.old) ≡ None) }
+    {
+        self.next_u32().ok()
+    }
+
+    /// The same, and why it isn't there.
+    #[inline(always)]
+    fn next_u32(&mut self) -> Result<u32, Malformed>
+        ensures same { SameInput self.old self.new }
+        ensures onward { position_in self.old ≤ position_in self.new }
+        ensures ok { IfOk result (λ n. u32_at (rest self.old) ≡ Some (n, rest self.new)) }
+        ensures further { OnOk result (position_in self.old < position_in self.new) }
+        ensures err { OnErr result (u32_at (rest self.old) ≡ None) }
+        ensures told { IfErr result (λ m. m ≡ unsigned_fault 32 (rest self.old)) }
+    {
+        match self.next_last_byte() {
+            Some(byte) => Ok(u32::from(byte)),
+            None => {
+                // The reader itself is not lent, so that it can be kept in registers.
+                let mut behind = *self;
+                let number = behind.next_long_u32();
+                self.go_on_from(&behind);
+                number
+            }
+        }
+    }
+
+    /// The same, of more than one byte or none, and why it isn't there.
+    #[inline(never)]
+    fn next_long_u32(&mut self) -> Result<u32, Malformed>
+        ensures same { SameInput self.old self.new }
+        ensures onward { position_in self.old ≤ position_in self.new }
+        ensures ok { IfOk result (λ n. u32_at (rest self.old) ≡ Some (n, rest self.new)) }
+        ensures further { OnOk result (position_in self.old < position_in self.new) }
+        ensures err { OnErr result (u32_at (rest self.old) ≡ None) }
+        ensures told { IfErr result (λ m. m ≡ unsigned_fault 32 (rest self.old)) }
+    {
+        let first = self.next_byte()?;
+        if first < 128 {
+            return Ok(u32::from(first));
+        }
+        let second = self.next_byte()?;
+        if second < 128 {
+            return Ok(u32::from(first - 128) + (u32::from(second) << 7));
+        }
+        let third = self.next_byte()?;
+        let low = u32::from(first - 128) + (u32::from(second - 128) << 7);
+        if third < 128 {
+            return Ok(low + (u32::from(third) << 14));
+        }
+        let fourth = self.next_byte()?;
+        let low = low + (u32::from(third - 128) << 14);
+        if fourth < 128 {
+            return Ok(low + (u32::from(fourth) << 21));
+        }
+        let fifth = self.next_byte()?;
+        let low = low + (u32::from(fourth - 128) << 21);
+        if fifth < 16 {
+            Ok(low + (u32::from(fifth) << 28))
+        } else {
+            Err(if fifth < 128 {
+                Malformed::IntegerTooLarge
+            } else {
+                Malformed::IntegerTooLong
+            })
+        }
+    }
+
+    /// An unsigned number of at most 64 bits, in at most ten bytes (Core Specification 3.0, Binary
+    /// Format, Values, Integers).
+    ///
+    /// # Errors
+    ///
+    /// Refused where the bytes encode none: the end comes first, the last byte that is allowed has
+    /// bits beyond the width, or a byte follows it. The offset is that of the byte behind those
+    /// that were read, and the reader stands there.
+    pub fn read_var_u64(&mut self) -> Result<u64, Refusal>
+        ensures same { SameInput self.old self.new }
+        ensures onward { position_in self.old ≤ position_in self.new }
+        ensures refusal { IfErr result (RefusedFrom self.old) }
+        ensures ok { IfOk result (λ n. u64_at (rest self.old) ≡ Some (n, rest self.new)) }
+        ensures further { OnOk result (position_in self.old < position_in self.new) }
+        ensures err { OnErr result (u64_at (rest self.old) ≡ None) }
+        ensures told { IfErr result (λ r. r ≡ plain
+            (Fault.Malformed (unsigned_fault 64 (rest self.old))) (place_of_next self.new)) }
+    {
+        match self.next_u64() {
+            Ok(number) => Ok(number),
+            Err(malformed) => Err(self.refusal(malformed)),
+        }
+    }
+
+    /// The same, if it is there, and without a refusal where it isn't.
+    #[inline(always)]
+    pub fn next_var_u64(&mut self) -> Option<u64>
+        ensures same { SameInput self.old self.new }
+        ensures onward { position_in self.old ≤ position_in self.new }
+        ensures some { IfSome result (λ n. u64_at (rest self.old) ≡ Some (n, rest self.new)) }
+        ensures further { OnSome result (position_in self.old < position_in self.new) }
+        ensures none { IfNone result (u64_at (rest self.old) ≡ None) }
+    {
+        self.next_u64().ok()
+    }
+
+    /// The same, and why it isn't there.
+    #[inline(always)]
+    fn next_u64(&mut self) -> Result<u64, Malformed>
+        ensures same { SameInput self.old self.new }
+        ensures onward { position_in self.old ≤ position_in self.new }
+        ensures ok { IfOk result (λ n. u64_at (rest self.old) ≡ Some (n, rest self.new)) }
+        ensures further { OnOk result (position_in self.old < position_in self.new) }
+        ensures err { OnErr result (u64_at (rest self.old) ≡ None) }
+        ensures told { IfErr result (λ m. m ≡ unsigned_fault 64 (rest self.old)) }
+    {
+        match self.next_last_byte() {
+            Some(byte) => Ok(u64::from(byte)),
+            None => {
+                // The reader itself is not lent, so that it can be kept in registers.
+                let mut behind = *self;
+                let number = behind.next_long_u64();
+                self.go_on_from(&behind);
+                number
+            }
+        }
+    }
+
+    /// The same, of more than one byte or none, and why it isn't there.
+    #[inline(never)]
+    fn next_long_u64(&mut self) -> Result<u64, Malformed>
+        ensures same { SameInput self.old self.new }
+        ensures onward { position_in self.old ≤ position_in self.new }
+        ensures ok { IfOk result (λ n. u64_at (rest self.old) ≡ Some (n, rest self.new)) }
+        ensures further { OnOk result (position_in self.old < position_in self.new) }
+        ensures err { OnErr result (u64_at (rest self.old) ≡ None) }
+        ensures told { IfErr result (λ m. m ≡ unsigned_fault 64 (rest self.old)) }
+    {
+        let first = self.next_byte()?;
+        if first < 128 {
+            return Ok(u64::from(first));
+        }
+        let second = self.next_byte()?;
+        let low = u64::from(first - 128);
+        if second < 128 {
+            return Ok(low + (u64::from(second) << 7));
+        }
+        let third = self.next_byte()?;
+        let low = low + (u64::from(second - 128) << 7);
+        if third < 128 {
+            return Ok(low + (u64::from(third) << 14));
+        }
+        let fourth = self.next_byte()?;
+        let low = low + (u64::from(third - 128) << 14);
+        if fourth < 128 {
+            return Ok(low + (u64::from(fourth) << 21));
+        }
+        let low = low + (u64::from(fourth - 128) << 21);
+        Ok(low + (self.next_upper_bits()? << 28))
+    }
+
+    /// The bits of such a number behind its first 28, and why they aren't there.
+    fn next_upper_bits(&mut self) -> Result<u64, Malformed>
+        ensures same { SameInput self.old self.new }
+        ensures onward { position_in self.old ≤ position_in self.new }
+        ensures ok { IfOk result (λ n. unsigned_at 36 (rest self.old) ≡ Some (n, rest self.new)) }
+        ensures fits { IfOk result (λ n. n < 2 ^ 36) }
+        ensures further { OnOk result (position_in self.old < position_in self.new) }
+        ensures err { OnErr result (unsigned_at 36 (rest self.old) ≡ None) }
+        ensures told { IfErr result (λ m. m ≡ unsigned_fault 36 (rest self.old)) }
+    {
+        let first = self.next_byte()?;
+        if first < 128 {
+            return Ok(u64::from(first));
+        }
+        let second = self.next_byte()?;
+        let low = u64::from(first - 128);
+        if second < 128 {
+            return Ok(low + (u64::from(second) << 7));
+        }
+        let third = self.next_byte()?;
+        let low = low + (u64::from(second - 128) << 7);
+        if third < 128 {
+            return Ok(low + (u64::from(third) << 14));
+        }
+        let fourth = self.next_byte()?;
+        let low = low + (u64::from(third - 128) << 14);
+        if fourth < 128 {
+            return Ok(low + (u64::from(fourth) << 21));
+        }
+        let fifth = self.next_byte()?;
+        let low = low + (u64::from(fourth - 128) << 21);
+        if fifth < 128 {
+            return Ok(low + (u64::from(fifth) << 28));
+        }
+        let sixth = self.next_byte()?;
+        let low = low + (u64::from(fifth - 128) << 28);
+        if sixth < 2 {
+            Ok(low + (u64::from(sixth) << 35))
+        } else {
+            Err(if sixth < 128 {
+                Malformed::IntegerTooLarge
+            } else {
+                Malformed::IntegerTooLong
+            })
+        }
+    }
+
+    /// A type index where a heap type may stand: a signed number of 33 bits that is not negative
+    /// (Core Specification 3.0, Binary Format, Types, Heap Types).
+    ///
+    /// # Errors
+    ///
+    /// Refused, at the offset of its first byte, as no heap type where the number is negative, and
+    /// as too long where the bytes encode none. The reader stays where it stood.
+    pub fn read_var_s33_index(&mut self) -> Result<u32, Refusal>
+        ensures same { SameInput self.old self.new }
+        ensures onward { position_in self.old ≤ position_in self.new }
+        ensures refusal { IfErr result (RefusedFrom self.old) }
+        ensures ok { IfOk result (λ n. s33_index_at (rest self.old) ≡ Some (n, rest self.new)) }
+        ensures further { OnOk result (position_in self.old < position_in self.new) }
+        ensures err { OnErr result ((s33_index_at (rest self.old) ≡ None) × (self.new ≡ self.old)) }
+        ensures told { IfErr result (λ r. r ≡ plain
+            (Fault.Malformed (index_fault (integer_at 33 (rest self.old))))
+            (place_of_next self.old)) }
+    {
+        match signed_at(self.remaining(), 33) {
+            Some((value, used)) => {
+                if value < 0 {
+                    return Err(self.refusal(Malformed::HeapType));
+                }
+                self.position += used;
+                Ok(value as u32)
+            }
+            None => Err(self.refusal(Malformed::IntegerTooLong)),
+        }
+    }
+
+    /// A signed number of at most `bits` bits, of more than one byte or none.
+    #[inline(always)]
+    fn next_long_signed(&mut self, bits: u8) -> Option<i64>
+        requires low { 0 < bits }
+        requires high { bits ≤ 64 }
+        ensures same { SameInput self.old self.new }
+        ensures some { IfSome result (λ n. integer_at bits (rest self.old)
+            ≡ Some (n, rest self.new)) }
+        ensures at_least { IfSome result (λ n. (pos 0 -ℤ pos (2 ^ (bits - 1))) ≤ℤ n) }
+        ensures below { IfSome result (λ n. n <ℤ pos (2 ^ (bits - 1))) }
+        ensures further { OnSome result (position_in self.old < position_in self.new) }
+        ensures none { IfNone result ((integer_at bits (rest self.old) ≡ None)
+            × (self.new ≡ self.old)) }
+    {
+        let (value, used) = long_signed_at(self.remaining(), bits)?;
+        self.position += used;
+        Some(value)
+    }
+
+    /// A signed number of at most 32 bits, in at most five bytes (Core Specification 3.0, Binary
+    /// Format, Values, Integers).
+    ///
+    /// # Errors
+    ///
+    /// Refused as too long, at the offset of its first byte, where the bytes encode none, whatever
+    /// the cause. The reader stays where it stood.
+    pub fn read_var_i32(&mut self) -> Result<i32, Refusal>
+        ensures same { SameInput self.old self.new }
+        ensures onward { position_in self.old ≤ position_in self.new }
+        ensures refusal { IfErr result (RefusedFrom self.old) }
+        ensures ok { IfOk result (λ n. integer_at 32 (rest self.old) ≡ Some (n, rest self.new)) }
+        ensures further { OnOk result (position_in self.old < position_in self.new) }
+        ensures err { OnErr result (integer_at 32 (rest self.old) ≡ None) }
+        ensures told { IfErr result (λ r. r ≡ plain (Fault.Malformed Malformed.IntegerTooLong)
+            (place_of_next self.old)) }
+    {
+        match self.next_var_i32() {
+            Some(value) => Ok(value),
+            None => Err(self.refusal(Malformed::IntegerTooLong)),
+        }
+    }
+
+    /// The same, if it is there, and without a refusal where it isn't.
+    #[inline(always)]
+    pub fn next_var_i32(&mut self) -> Option<i32>
+        ensures same { SameInput self.old self.new }
+        ensures onward { position_in self.old ≤ position_in self.new }
+        ensures some { IfSome result (λ n. integer_at 32 (rest self.old)
+            ≡ Some (n, rest self.new)) }
+        ensures further { OnSome result (position_in self.old < position_in self.new) }
+        ensures none { IfNone result ((integer_at 32 (rest self.old) ≡ None)
+            × (self.new ≡ self.old)) }
+    {
+        match self.next_last_byte() {
+            Some(byte) if byte < 64 => Some(i32::from(byte)),
+            Some(byte) => Some(i32::from(byte) - 128),
+            None => match self.next_long_signed(32) {
+                Some(value) => Some(value as i32),
+                None => None,
+            },
+        }
+    }
+
+    /// A signed number of at most 64 bits, in at most ten bytes (Core Specification 3.0, Binary
+    /// Format, Values, Integers).
+    ///
+    /// # Errors
+    ///
+    /// Refused as too long, at the offset of its first byte, where the bytes encode none, whatever
+    /// the cause. The reader stays where it stood.
+    pub fn read_var_i64(&mut self) -> Result<i64, Refusal>
+        ensures same { SameInput self.old self.new }
+        ensures onward { position_in self.old ≤ position_in self.new }
+        ensures refusal { IfErr result (RefusedFrom self.old) }
+        ensures ok { IfOk result (λ n. integer_at 64 (rest self.old) ≡ Some (n, rest self.new)) }
+        ensures further { OnOk result (position_in self.old < position_in self.new) }
+        ensures err { OnErr result (integer_at 64 (rest self.old) ≡ None) }
+        ensures told { IfErr result (λ r. r ≡ plain (Fault.Malformed Malformed.IntegerTooLong)
+            (place_of_next self.old)) }
+    {
+        match self.next_var_i64() {
+            Some(value) => Ok(value),
+            None => Err(self.refusal(Malformed::IntegerTooLong)),
+        }
+    }
+
+    /// The same, if it is there, and without a refusal where it isn't.
+    #[inline(always)]
+    pub fn next_var_i64(&mut self) -> Option<i64>
+        ensures same { SameInput self.old self.new }
+        ensures onward { position_in self.old ≤ position_in self.new }
+        ensures some { IfSome result (λ n. integer_at 64 (rest self.old)
+            ≡ Some (n, rest self.new)) }
+        ensures further { OnSome result (position_in self.old < position_in self.new) }
+        ensures none { IfNone result ((integer_at 64 (rest self.old) ≡ None)
+            × (self.new ≡ self.old)) }
+    {
+        match self.next_last_byte() {
+            Some(byte) if byte < 64 => Some(i64::from(byte)),
+            Some(byte) => Some(i64::from(byte) - 128),
+            None => match self.next_long_signed(64) {
+                Some(value) => Some(value),
+                None => None,
+            },
+        }
+    }
+
+    /// The next bytes, so many of them, as a reader of their own.
+    ///
+    /// # Errors
+    ///
+    /// Refused as cut off, at the offset of the next byte, where fewer bytes are left. The reader
+    /// stays where it stood.
+    pub fn read_reader(&mut self, size: usize) -> Result<BinaryReader<'a>, Refusal>
+        ensures same { SameInput self.old self.new }
+        ensures onward { position_in self.old ≤ position_in self.new }
+        ensures refusal { IfErr result (RefusedFrom self.old) }
+        ensures start { IfOk result (λ part. original part
+            ≡ original self.old + position_in self.old) }
+        ensures end { IfOk result (λ part. original part + length (input part)
+            ≡ original self.new + position_in self.new) }
+        ensures whole { IfOk result (λ part. input part ≡ rest part) }
+        ensures ok { IfOk result (λ part. bytes_at size (rest self.old)
+            ≡ Some (rest part, rest self.new)) }
+        ensures err { OnErr result (bytes_at size (rest self.old) ≡ None) }
+        ensures told { IfErr result (λ r. r ≡ plain (Fault.Malformed Malformed.UnexpectedEnd)
+            (place_of_next self.old)) }
+    {
+        if size > self.buffer.len() - self.position {
+            return Err(self.refusal(Malformed::UnexpectedEnd));
+        }
+        let original_offset = self.original_position();
+        let start = self.position;
+        self.position += size;
+        Ok(BinaryReader {
+            buffer: &self.buffer[start..start + size],
+            position: 0,
+            original_offset,
+        })
+    }
+
+    /// A size, and that many bytes, as a reader of their own.
+    ///
+    /// # Errors
+    ///
+    /// Refused where the size is, as by [`BinaryReader::read_var_u32`], and behind the size where
+    /// fewer bytes are left, as by [`BinaryReader::read_reader`].
+    pub fn read_sized(&mut self) -> Result<BinaryReader<'a>, Refusal>
+        ensures same { SameInput self.old self.new }
+        ensures onward { position_in self.old ≤ position_in self.new }
+        ensures refusal { IfErr result (RefusedFrom self.old) }
+        ensures start { IfOk result (λ part. original self.old + position_in
+            self.old ≤ original part) }
+        ensures end { IfOk result (λ part. original part + length (input part)
+            ≡ original self.new + position_in self.new) }
+        ensures whole { IfOk result (λ part. input part ≡ rest part) }
+        ensures ok { IfOk result (λ part. sized_at (rest self.old)
+            ≡ Some (rest part, rest self.new)) }
+        ensures further { OnOk result (position_in self.old < position_in self.new) }
+        ensures err { OnErr result (sized_at (rest self.old) ≡ None) }
+        ensures told { IfErr result (λ r. r.fault
+            ≡ Fault.Malformed (sized_fault (unsigned_fault 32 (rest self.old))
+            (u32_at (rest self.old)))) }
+    {
+        let size = self.read_var_u32()?;
+        self.read_reader(size as usize)
+    }
+
+    /// A name: a size, and that many bytes of text in UTF-8 (Core Specification 3.0, Binary Format,
+    /// Values, Names).
+    ///
+    /// # Errors
+    ///
+    /// Refused as by [`BinaryReader::read_sized`]; and where the bytes are no text, at the offset
+    /// of the first of them.
+    #[tactic(auto, using(crate::proofs::Texts::name_from_text, crate::proofs::Texts::no_name_from_no_text))]
+    pub fn read_string(&mut self) -> Result<&'a str, Refusal>
+        ensures same { SameInput self.old self.new }
+        ensures onward { position_in self.old ≤ position_in self.new }
+        ensures refusal { IfErr result (RefusedFrom self.old) }
+        ensures ok { IfOk result (λ name. name_at (rest self.old)
+            ≡ Some (name.now, rest self.new)) }
+        ensures further { OnOk result (position_in self.old < position_in self.new) }
+        ensures err { OnErr result (name_at (rest self.old) ≡ None) }
+        ensures told { IfErr result (λ r. r.fault
+            ≡ Fault.Malformed (name_fault
+            (sized_fault (unsigned_fault 32 (rest self.old)) (u32_at (rest self.old)))
+            (sized_at (rest self.old)))) }
+    {
+        let part = self.read_sized()?;
+        match std::str::from_utf8(part.remaining()) {
+            Ok(name) => Ok(name),
+            Err(_) => Err(part.refusal(Malformed::NotUtf8)),
+        }
+    }
+}

@@ -1,5 +1,0 @@
-use Rattle.wasm_referenced_functions.proofs.Constants.{numbers_name_no_functions}
-use Rattle.wasm_referenced_functions.proofs.numbers_name_no_functions.Goals as goal
-
-pub returns : goal.returns
-returns g c = record { names = numbers_name_no_functions }

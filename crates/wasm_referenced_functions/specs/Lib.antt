@@ -1,7 +1,0 @@
-pub use Rattle.wasm_module_validity.specs.Expressions
-pub mod References
-pub mod Marks
-pub mod Marking
-pub mod Operators
-pub mod Nameless
-pub mod Naming

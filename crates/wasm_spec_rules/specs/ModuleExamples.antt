@@ -1,0 +1,158 @@
+-- Worked examples of the rules of modules, as facts that a contract can name: for each kind of item one that keeps its
+-- rules, or one that doesn't and the rule that it breaks.
+use Rattle.std.specs.Prelude.{ℕ, ◌≡◌, true, false, List, [], ◌∷◌, Option, Some, None}
+use Rattle.wasm_spec.specs.Syntax.{i32, i64, Table, Memory, global_extern, func, Rec}
+use Rattle.wasm_spec.specs.BinaryModules.{Import, Export}
+use Rattle.wasm_spec.specs.BinarySections.{funcref, ref_func, passive, active, functions, expressions}
+use Rattle.wasm_spec.specs.Features.{Features}
+use Rattle.wasm_spec.specs.Trees.{DefType}
+use Rattle.wasm_spec.specs.Closing.{type_space}
+use Rattle.wasm_spec_rules.specs.Parts.{Parts, Expression}
+use Rattle.wasm_spec_rules.specs.IndexSpaces.{IndexSpaces}
+use Rattle.wasm_spec_rules.specs.ItemRules.{IsValidTable, IsValidTableEntry, IsValidMemory, IsValidTag, IsValidGlobal}
+use Rattle.wasm_spec_rules.specs.LinkRules.{IsValidImport, IsValidExport, HasDistinctNames, effective_size, IsValidStart, referenced}
+use Rattle.wasm_spec_rules.specs.SegmentRules.{IsValidElement, IsValidData}
+use Rattle.wasm_spec_rules.specs.Limits.{KeepsLimits}
+use Rattle.wasm_spec_rules.specs.Modules.{IsValid}
+
+-- the first version of the standard: floating-point numbers, and nothing that came later
+abbrev pub first_version : Features
+first_version = record {
+  mutable_global = false;
+  reference_types = false;
+  multi_value = false;
+  bulk_memory = false;
+  simd = false;
+  threads = false;
+  shared_everything_threads = false;
+  floats = true;
+  multi_memory = false;
+  exceptions = false;
+  memory64 = false;
+  extended_const = false;
+  function_references = false;
+  gc = false;
+  gc_types = true;
+  custom_page_sizes = false;
+  custom_descriptors = false;
+  stack_switching = false;
+  component_model = false;
+}
+
+-- a table of so many entries
+abbrev pub table_of : ℕ → Option ℕ → Table ℕ
+table_of minimum maximum = record { element = funcref; is_64 = false; minimum = minimum; maximum = maximum; shared = false }
+
+abbrev pub TableOfOneOrTwo : Type 0
+TableOfOneOrTwo = IsValidTable first_version [] (table_of 1 (Some 2))
+
+-- breaks `minimum_at_most_maximum`
+abbrev pub NoTableOfTwoToOne : Type 0
+NoTableOfTwoToOne = IsValidTable first_version [] (table_of 2 (Some 1)) → ⊥
+
+-- breaks `without_init_may_be_null`
+abbrev pub NoTableWithoutEntries : Type 0
+NoTableWithoutEntries =
+    (F : Features) → IsValidTableEntry F [] (record { ty = record { element = ref_func; is_64 = false; minimum = 1; maximum = None; shared = false }; init = None }) → ⊥
+
+-- a memory of so many pages of the usual size
+abbrev pub memory_of : ℕ → Memory
+memory_of pages = record { is_64 = false; shared = false; minimum = pages; maximum = None; page_size_log2 = None }
+
+abbrev pub MemoryOfAllAddresses : Type 0
+MemoryOfAllAddresses = IsValidMemory first_version (memory_of 65536)
+
+-- breaks `minimum_is_small`
+abbrev pub NoMemoryPastAllAddresses : Type 0
+NoMemoryPastAllAddresses = (F : Features) → IsValidMemory F (memory_of 65537) → ⊥
+
+-- breaks `shared_needs_shared_everything_threads`
+abbrev pub NoSharedGlobal : Type 0
+NoSharedGlobal = IsValidGlobal first_version [] (record { content = i32; mutable = false; shared = true }) → ⊥
+
+-- breaks `needs_exceptions`
+abbrev pub NoTagWithoutExceptions : Type 0
+NoTagWithoutExceptions = (types : List DefType) (x : ℕ) → IsValidTag first_version types x → ⊥
+
+-- an import of a mutable global, which breaks the last rule of `IsValidExtern`
+abbrev pub counter : Import ℕ
+counter = record { module_name = []; item_name = []; ty = global_extern (record { content = i64; mutable = true; shared = false }) }
+
+abbrev pub NoMutableImport : Type 0
+NoMutableImport = IsValidImport first_version [] counter → ⊥
+
+-- index spaces of one memory alone
+abbrev pub one_memory : IndexSpaces
+one_memory = record { types = []; functions = []; tables = []; memories = memory_of 1 ∷ []; globals = []; tags = [] }
+
+abbrev pub export_of : ℕ → ℕ → Export
+export_of kind index = record { name = 97 ∷ []; kind = kind; index = index }
+
+abbrev pub MemoryIsExported : Type 0
+MemoryIsExported = IsValidExport first_version one_memory (export_of 2 0)
+
+-- breaks `exports`: there is no second memory
+abbrev pub NoSecondMemory : Type 0
+NoSecondMemory = (F : Features) → IsValidExport F one_memory (export_of 2 1) → ⊥
+
+abbrev pub NoNameTwice : Type 0
+NoNameTwice = HasDistinctNames (export_of 2 0 ∷ export_of 2 0 ∷ []) → ⊥
+
+-- one, one for the import and one for the export
+abbrev pub SizeIsThree : Type 0
+SizeIsThree = effective_size one_memory (counter ∷ []) (export_of 2 0 ∷ []) ≡ 3
+
+-- a module with one function type from i32 to nothing, and one import of that type
+abbrev pub taking_type : Rec ℕ
+taking_type = record { is_explicit = false; types = record { is_final = true; supers = []; shared = false; comp = func (i32 ∷ []) []; descriptor = None; describes = None } ∷ [] }
+
+-- breaks `takes_and_gives_nothing`
+abbrev pub NoStartWithParameter : Type 0
+NoStartWithParameter =
+    (types : List DefType) → type_space first_version (taking_type ∷ []) ≡ Some types
+    → IsValidStart (record { types = types; functions = 0 ∷ []; tables = []; memories = []; globals = []; tags = [] }) 0 → ⊥
+
+-- breaks `mode`: passive segments need bulk memory
+abbrev pub NoPassiveElements : Type 0
+NoPassiveElements = (C : IndexSpaces) → IsValidElement first_version C (record { mode = passive; items = functions [] }) → ⊥
+
+-- breaks `items`: a type that is written needs reference types, also `funcref`, which only a table may always have
+abbrev pub NoWrittenElements : Type 0
+NoWrittenElements = (C : IndexSpaces) → IsValidElement first_version C (record { mode = active None []; items = expressions funcref [] }) → ⊥
+
+-- a module of one data segment, whose offset is the expression of the one byte 7
+abbrev pub data_behind_seven : Parts
+data_behind_seven = record {
+  groups = [];
+  imports = [];
+  functions = [];
+  tables = [];
+  memories = [];
+  tags = [];
+  globals = [];
+  exports = [];
+  starts = [];
+  elements = [];
+  data_counts = [];
+  bodies = [];
+  segments = record { mode = active None (7 ∷ []); bytes = [] } ∷ [];
+}
+
+-- where an expression names the functions that its bytes are
+abbrev pub OffsetsReference : Type 0
+OffsetsReference = referenced (λ e. e) data_behind_seven ≡ 7 ∷ []
+
+abbrev pub NoPassiveData : Type 0
+NoPassiveData = (C : IndexSpaces) → IsValidData first_version C (record { mode = passive; bytes = [] }) → ⊥
+
+-- breaks `memories`: two need multi-memory
+abbrev pub NoTwoMemories : Type 0
+NoTwoMemories = (parts : Parts) → KeepsLimits first_version (record { types = []; functions = []; tables = []; memories = memory_of 1 ∷ memory_of 1 ∷ []; globals = []; tags = [] }) parts → ⊥
+
+-- a header alone
+abbrev pub HeaderIsModule : Type 0
+HeaderIsModule = (expression_at : List ℕ → Option (Expression × List ℕ)) → IsValid expression_at first_version (0x00 ∷ 0x61 ∷ 0x73 ∷ 0x6d ∷ 1 ∷ 0 ∷ 0 ∷ 0 ∷ [])
+
+-- breaks `first`: the version is 2
+abbrev pub NoVersionTwo : Type 0
+NoVersionTwo = (expression_at : List ℕ → Option (Expression × List ℕ)) (F : Features) → IsValid expression_at F (0x00 ∷ 0x61 ∷ 0x73 ∷ 0x6d ∷ 2 ∷ 0 ∷ 0 ∷ 0 ∷ []) → ⊥

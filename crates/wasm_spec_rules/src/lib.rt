@@ -1,0 +1,56 @@
+//! When a module is valid: definitions in the words and the order of the WebAssembly Core
+//! Specification 3.0, chapter Validation. Contracts of the validator cite them.
+#![tactic(auto)]
+
+ghost use Rattle.wasm_spec_rules.specs.Contexts.{ContextsAreRenamed, RepeatedTypeIsOne};
+ghost use Rattle.wasm_spec_rules.specs.Totals.{TotalsGoOn};
+ghost use Rattle.wasm_spec_rules.specs.ModuleExamples.{TableOfOneOrTwo, NoTableOfTwoToOne, NoTableWithoutEntries, MemoryOfAllAddresses, NoMemoryPastAllAddresses, NoSharedGlobal, NoTagWithoutExceptions, NoMutableImport, MemoryIsExported, NoSecondMemory, NoNameTwice, SizeIsThree, NoStartWithParameter, NoPassiveElements, NoWrittenElements, OffsetsReference, NoPassiveData, NoTwoMemories, HeaderIsModule, NoVersionTwo};
+ghost use Rattle.wasm_spec_rules.specs.Bodies.{BodiesAreAsManyAsFunctions};
+
+/// Worked examples of the rules of modules.
+#[tactic(auto, using(crate::proofs::ModuleExamples::examples))]
+pub fn module_examples()
+    ensures table { TableOfOneOrTwo }
+    ensures no_table { NoTableOfTwoToOne }
+    ensures no_entries { NoTableWithoutEntries }
+    ensures memory { MemoryOfAllAddresses }
+    ensures no_memory { NoMemoryPastAllAddresses }
+    ensures no_global { NoSharedGlobal }
+    ensures no_tag { NoTagWithoutExceptions }
+    ensures no_import { NoMutableImport }
+    ensures export { MemoryIsExported }
+    ensures no_export { NoSecondMemory }
+    ensures no_name { NoNameTwice }
+    ensures size { SizeIsThree }
+    ensures no_start { NoStartWithParameter }
+    ensures no_elements { NoPassiveElements }
+    ensures no_written { NoWrittenElements }
+    ensures offsets { OffsetsReference }
+    ensures no_data { NoPassiveData }
+    ensures no_memories { NoTwoMemories }
+    ensures header { HeaderIsModule }
+    ensures no_version { NoVersionTwo }
+{}
+
+/// A context over other identities of types is the context with each identity renamed.
+#[tactic(auto, using(crate::proofs::Contexts::contexts_are_renamed))]
+pub fn contexts_are_renamed<R, S>()
+    ensures renamed { ContextsAreRenamed R S }
+{}
+
+/// A type that a module has twice is numbered once.
+pub fn repeated_types_are_numbered_once()
+    ensures once { RepeatedTypeIsOne }
+{}
+
+/// The types of a run of modules behind another are added to those of that one.
+#[tactic(auto, using(crate::proofs::Totals::totals_go_on))]
+pub fn totals_go_on()
+    ensures total { TotalsGoOn }
+{}
+
+/// A framed module has as many bodies as functions that it declares (Core Specification 3.0, Binary
+/// Format, Modules).
+pub fn bodies_are_as_many_as_functions()
+    ensures { BodiesAreAsManyAsFunctions }
+{}

@@ -1,0 +1,49 @@
+-- The typing of a constant expression, instruction by instruction.
+use Rattle.std.proofs.Common.{◌≡◌, ◌≤◌, ◌<◌, ◌∙◌, refl, sym, ap, ℕ, zero, suc, Bool, true, false, List, length, Option, Some, None, arith}
+use Rattle.wasm_spec.specs.MatchingTests.{World}
+use Rattle.wasm_operators.specs.Instructions.{Instruction, instruction_at}
+use Rattle.wasm_operator_steps.specs.Bodies.{Surroundings}
+use Rattle.wasm_operator_steps.specs.Machine.{State}
+use Rattle.wasm_operator_steps.specs.Steps.{is_finished}
+use Rattle.wasm_validator_constants.specs.Constants.{constant_step, typed_from, constant_from}
+
+module _ {R : Type 0} (W : World R) (B : Surroundings R) (imported : ℕ) where
+  -- a step from one state to the next
+  pub one_step : (most : ℕ) (s t : State R) (bytes more : List ℕ) (i : Instruction ℕ) → is_finished s ≡ false → instruction_at (λ n. n) bytes ≡ Some (i, more)
+      → constant_step W B imported i s ≡ Some t → typed_from W B imported (suc most) s bytes ≡ typed_from W B imported most t more
+  one_step most s t bytes more i open_ e d = rw (open_, e, d) refl
+
+  no_step : (most : ℕ) (s : State R) (bytes more : List ℕ) (i : Instruction ℕ) → is_finished s ≡ false → instruction_at (λ n. n) bytes ≡ Some (i, more)
+      → constant_step W B imported i s ≡ None → typed_from W B imported (suc most) s bytes ≡ None
+  no_step most s bytes more i open_ e d = rw (open_, e, d) refl
+
+  -- an instruction that is typed
+  pub go_one : (most : ℕ) (s t : State R) (bytes more : List ℕ) (i : Instruction ℕ) (all : Option (State R × List ℕ))
+      → length bytes ≤ most → length more < length bytes → is_finished s ≡ false → instruction_at (λ n. n) bytes ≡ Some (i, more) → constant_step W B imported i s ≡ Some t
+      → typed_from W B imported most s bytes ≡ all → (m : ℕ) × (length more ≤ m) × (typed_from W B imported m t more ≡ all)
+  go_one zero s t bytes more i all enough less open_ e d so_far = absurd (omega arith)
+  go_one (suc m) s t bytes more i all enough less open_ e d so_far = (m, omega arith, sym (one_step m s t bytes more i open_ e d) ∙ so_far)
+
+  -- one that isn't
+  pub refused_here : (most : ℕ) (s : State R) (bytes more : List ℕ) (i : Instruction ℕ) (all : Option (State R × List ℕ))
+      → length bytes ≤ most → length more < length bytes → is_finished s ≡ false → instruction_at (λ n. n) bytes ≡ Some (i, more) → constant_step W B imported i s ≡ None
+      → typed_from W B imported most s bytes ≡ all → all ≡ None
+  refused_here zero s bytes more i all enough less open_ e d so_far = absurd (omega arith)
+  refused_here (suc m) s bytes more i all enough less open_ e d so_far = sym so_far ∙ no_step m s bytes more i open_ e d
+
+  -- none that can be read
+  pub none_here : (most : ℕ) (s : State R) (bytes : List ℕ) (all : Option (State R × List ℕ))
+      → is_finished s ≡ false → instruction_at (λ n. n) bytes ≡ None → typed_from W B imported most s bytes ≡ all → all ≡ None
+  none_here zero s bytes all open_ e so_far = let none : typed_from W B imported zero s bytes ≡ None = rw open_ refl in sym so_far ∙ none
+  none_here (suc m) s bytes all open_ e so_far = let none : typed_from W B imported (suc m) s bytes ≡ None = rw (open_, e) refl in sym so_far ∙ none
+
+  -- the end
+  pub end_here : (most : ℕ) (s : State R) (bytes : List ℕ) (all : Option (State R × List ℕ))
+      → is_finished s ≡ true → typed_from W B imported most s bytes ≡ all → all ≡ Some (s, bytes)
+  end_here zero s bytes all closed so_far = let done : typed_from W B imported zero s bytes ≡ Some (s, bytes) = rw closed refl in sym so_far ∙ done
+  end_here (suc m) s bytes all closed so_far = let done : typed_from W B imported (suc m) s bytes ≡ Some (s, bytes) = rw closed refl in sym so_far ∙ done
+
+  -- the whole way
+  pub all_of : (s : State R) (bytes : List ℕ) → typed_from W B imported (length bytes) s bytes ≡ constant_from W B imported s bytes
+  unfolding constant_from
+  all_of s bytes = refl

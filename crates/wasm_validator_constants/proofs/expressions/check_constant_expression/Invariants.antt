@@ -1,0 +1,22 @@
+use Rattle.std.proofs.Common.{◌≡◌, ◌≤◌, ℕ, false, length}
+use Rattle.wasm_readers_bytes.specs.Reader.{SameInput, position_in, rest}
+use Rattle.wasm_validator_resources.specs.Answers.{world}
+use Rattle.wasm_operator_stacks.specs.Seen.{Kept}
+use Rattle.wasm_operator_validator.specs.Typed.{typed_state}
+use Rattle.wasm_validator_constants.specs.Constants.{typed_from, constant_from}
+use Rattle.wasm_operator_validator.specs.Checked.{within}
+use Rattle.wasm_validator_constants.proofs.expressions.check_constant_expression.Given as goal
+
+abbrev pub invariant-operators : goal.invariant-operators
+invariant-operators g l = record {
+  same : SameInput l.initial.reader l.reader;
+  onward : position_in l.initial.reader ≤ position_in l.reader;
+  kept : Kept l.initial.validator.stacks l.validator.stacks;
+  going : l.validator.failed ≡ false;
+  so_far : (most : ℕ) × (length (rest l.reader) ≤ most)
+      × (typed_from (world (g.T.WasmModuleResources.context l.resources)) (within l.initial.validator (g.T.WasmModuleResources.context l.resources)) l.imported_globals most (typed_state l.validator) (rest l.reader)
+      ≡ constant_from (world (g.T.WasmModuleResources.context l.resources)) (within l.initial.validator (g.T.WasmModuleResources.context l.resources)) l.imported_globals (typed_state l.initial.validator) (rest l.initial.reader));
+}
+
+abbrev pub decreases-operators : goal.decreases-operators
+decreases-operators g l = length (rest l.reader)

@@ -1,0 +1,7 @@
+pub use Rattle.wasm_spec_validity.specs.Expressions
+pub mod References
+pub mod Marks
+pub mod Marking
+pub mod Operators
+pub mod Nameless
+pub mod Naming

@@ -1,0 +1,73 @@
+-- An integer alone is a constant expression of its type, whatever the module.
+use Rattle.std.proofs.Common.{◌≡◌, refl, ℕ, ℤ, true, List, [], ◌∷◌, Some}
+use Rattle.std.proofs.lemmas.List.Elements.{All-nil, All-cons}
+use Rattle.wasm_spec.specs.Syntax.{Val, i32, i64}
+use Rattle.wasm_spec.specs.Values.{signed_at}
+use Rattle.wasm_spec.specs.Features.{Features}
+use Rattle.wasm_spec_rules.specs.Contexts.{Context}
+use Rattle.wasm_readers_types.specs.declared.indices.UnpackedIndex.{UnpackedIndex}
+use Rattle.wasm_operators.specs.Constants.{constant_from}
+use Rattle.wasm_operators.specs.ConstantOperator.{ConstantOperator}
+use Rattle.wasm_operators.specs.ConstantOperator.TheVariants.{I32Const, I64Const}
+use Rattle.wasm_operators.specs.Control.{end_, control_from, value_block}
+use Rattle.wasm_operators.specs.Instructions.{Instruction, control, constant, plain_from, instruction_at}
+use Rattle.wasm_operator_steps.specs.ConstantRules.{is_allowed}
+use Rattle.wasm_operator_steps.specs.Machine.{State, known}
+use Rattle.wasm_operator_steps.specs.Steps.{start, steps_in}
+use Rattle.wasm_validator_resources.specs.Answers.{world}
+use Rattle.wasm_validator_segments.specs.Expressions.{around_constants, IsExpressionOf}
+use Rattle.wasm_validator_segments.specs.Numbers.{IsAnywhere}
+use Rattle.wasm_validator_segments.proofs.Finding.{are_found}
+
+-- behind the end
+abbrev ended : Val UnpackedIndex → State UnpackedIndex
+ended v = record { operands = known v ∷ []; frames = []; inits = [] }
+
+abbrev alone : ConstantOperator → List (Instruction ℕ)
+alone op = constant op ∷ control end_ ∷ []
+
+module _ (C : Context UnpackedIndex) (F : Features) (imported : ℕ) where
+  i32_typed : (n : ℤ) → steps_in (world C) (around_constants C F) (alone (I32Const n)) (start (value_block i32)) ≡ Some (ended i32)
+  i32_typed n = refl
+
+  i64_typed : (n : ℤ) → steps_in (world C) (around_constants C F) (alone (I64Const n)) (start (value_block i64)) ≡ Some (ended i64)
+  i64_typed n = refl
+
+  is_expression : (op : ConstantOperator) (v : Val UnpackedIndex) (bytes second more : List ℕ) → instruction_at (λ n. n) bytes ≡ Some (constant op, second)
+      → instruction_at (λ n. n) second ≡ Some (control end_, more) → steps_in (world C) (around_constants C F) (alone op) (start (value_block v)) ≡ Some (ended v)
+      → IsExpressionOf C F imported v bytes more
+  is_expression op v bytes second more e f t = record {
+    last = ended v;
+    is = record {
+      instructions = alone op;
+      written = (second, e, (more, f, refl));
+      allowed =
+          All-cons (λ i. is_allowed (around_constants C F) imported i ≡ true) (constant op) (control end_ ∷ []) refl
+          (All-cons (λ i. is_allowed (around_constants C F) imported i ≡ true) (control end_) [] refl (All-nil (λ i. is_allowed (around_constants C F) imported i ≡ true)));
+      typed = t;
+      finished = refl;
+    };
+  }
+
+pub ends : (b : ℕ) (bytes more : List ℕ) → bytes ≡ b ∷ more → b ≡ 0x0b → instruction_at (λ n. n) bytes ≡ Some (control end_, more)
+unfolding instruction_at plain_from control_from
+ends b bytes more e f = rw (e, f) refl
+
+module _ (b : ℕ) (bytes second third more : List ℕ) (n : ℤ) where
+  read_i32 : bytes ≡ b ∷ second → b ≡ 0x41 → signed_at 32 second ≡ Some (n, third) → instruction_at (λ n. n) bytes ≡ Some (constant (I32Const n), third)
+  unfolding instruction_at plain_from constant_from
+  read_i32 e f r = rw (e, f, r) refl
+
+  read_i64 : bytes ≡ b ∷ second → b ≡ 0x42 → signed_at 64 second ≡ Some (n, third) → instruction_at (λ n. n) bytes ≡ Some (constant (I64Const n), third)
+  unfolding instruction_at plain_from constant_from
+  read_i64 e f r = rw (e, f, r) refl
+
+  pub i32_anywhere : bytes ≡ b ∷ second → b ≡ 0x41 → signed_at 32 second ≡ Some (n, third) → instruction_at (λ n. n) third ≡ Some (control end_, more) → IsAnywhere i32 bytes more
+  i32_anywhere e f r g C F imported =
+      (are_found C F imported i32 bytes more).1 (is_expression C F imported (I32Const n) i32 bytes third more (read_i32 e f r) g (i32_typed C F imported n))
+
+  pub i64_anywhere : bytes ≡ b ∷ second → b ≡ 0x42 → signed_at 64 second ≡ Some (n, third) → instruction_at (λ n. n) third ≡ Some (control end_, more) → IsAnywhere i64 bytes more
+  i64_anywhere e f r g C F imported =
+      (are_found C F imported i64 bytes more).1 (is_expression C F imported (I64Const n) i64 bytes third more (read_i64 e f r) g (i64_typed C F imported n))
+
+pub ruleset anywhere = (i32_anywhere, i64_anywhere)

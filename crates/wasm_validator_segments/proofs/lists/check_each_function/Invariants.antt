@@ -1,0 +1,16 @@
+use Rattle.std.proofs.Common.{◌≡◌, ◌≤◌}
+use Rattle.wasm_readers_bytes.specs.Reader.{SameInput, position_in, rest}
+use Rattle.wasm_validator_segments.specs.Elements.{behind_function}
+use Rattle.wasm_validator_segments.specs.Lists.{behind_many}
+use Rattle.wasm_validator_segments.proofs.lists.check_each_function.Given as goal
+
+abbrev pub invariant-items : goal.invariant-items
+invariant-items g l = record {
+  same : SameInput l.fn.reader l.reader;
+  onward : position_in l.fn.reader ≤ position_in l.reader;
+  so_far : behind_many (behind_function (g.T.WasmModuleResources.context l.fn.resources)) l.left (rest l.reader)
+      ≡ behind_many (behind_function (g.T.WasmModuleResources.context l.fn.resources)) l.fn.count (rest l.fn.reader);
+}
+
+abbrev pub decreases-items : goal.decreases-items
+decreases-items g l = l.left

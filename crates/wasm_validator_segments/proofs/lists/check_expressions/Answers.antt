@@ -1,0 +1,14 @@
+use Rattle.std.proofs.Common.{◌∙◌, arith, rules}
+use Rattle.wasm_spec_rules.specs.FeatureFlags.{features_of}
+use Rattle.wasm_readers_bytes.specs.Reader.{rest}
+use Rattle.wasm_readers_types.specs.SeenValues.{val_of}
+use Rattle.wasm_validator_segments.specs.Expressions.{behind_expression}
+use Rattle.wasm_validator_segments.proofs.Loops.{one_less}
+use Rattle.wasm_validator_segments.proofs.lists.check_expressions.Goals as goal
+
+pub items-preserved : goal.items-preserved
+items-preserved g c = record {
+  same = search rules;
+  onward = omega arith;
+  so_far = one_less (behind_expression (g.T.WasmModuleResources.context c.args.resources.now) (features_of c.args.features) c.args.imported_globals (val_of c.args.ty)) c.items.left (rest c.items.reader) (rest c.check_expression_of_type.new.reader) (omega arith) c.in_ok-check_expression_of_type.ensures.past ∙ c.items.invariant.so_far;
+}

@@ -1,0 +1,18 @@
+use Rattle.std.proofs.Common.{◌≡◌, ◌≤◌}
+use Rattle.wasm_spec_rules.specs.FeatureFlags.{features_of}
+use Rattle.wasm_readers_types.specs.SeenValues.{val_of}
+use Rattle.wasm_readers_bytes.specs.Reader.{SameInput, position_in, rest}
+use Rattle.wasm_validator_segments.specs.Expressions.{behind_expression}
+use Rattle.wasm_validator_segments.specs.Lists.{behind_many}
+use Rattle.wasm_validator_segments.proofs.lists.check_expressions.Given as goal
+
+abbrev pub invariant-items : goal.invariant-items
+invariant-items g l = record {
+  same : SameInput l.fn.reader l.reader;
+  onward : position_in l.fn.reader ≤ position_in l.reader;
+  so_far : behind_many (behind_expression (g.T.WasmModuleResources.context l.fn.resources) (features_of l.fn.features) l.fn.imported_globals (val_of l.fn.ty)) l.left (rest l.reader)
+      ≡ behind_many (behind_expression (g.T.WasmModuleResources.context l.fn.resources) (features_of l.fn.features) l.fn.imported_globals (val_of l.fn.ty)) l.fn.count (rest l.fn.reader);
+}
+
+abbrev pub decreases-items : goal.decreases-items
+decreases-items g l = l.left

@@ -1,0 +1,17 @@
+use Rattle.std.proofs.Common.{◌≡◌, ◌≤◌}
+use Rattle.wasm_readers_bytes.specs.Reader.{SameInput, position_in, rest}
+use Rattle.wasm_validator_segments.specs.Elements.{behind_function}
+use Rattle.wasm_validator_segments.specs.Lists.{behind_many}
+use Rattle.wasm_validator_segments.proofs.lists.pass_functions.Given as goal
+
+abbrev pub invariant-items : goal.invariant-items
+invariant-items g l = record {
+  held : SameInput l.fn.reader l.reader;
+  same : SameInput l.reader l.ahead;
+  onward : position_in l.fn.reader ≤ position_in l.ahead;
+  so_far : behind_many (behind_function (g.T.WasmModuleResources.context l.fn.resources)) l.left (rest l.ahead)
+      ≡ behind_many (behind_function (g.T.WasmModuleResources.context l.fn.resources)) l.fn.count (rest l.fn.reader);
+}
+
+abbrev pub decreases-items : goal.decreases-items
+decreases-items g l = l.left

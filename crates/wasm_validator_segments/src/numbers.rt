@@ -1,0 +1,74 @@
+//! Constant expressions of one integer.
+
+ghost use Rattle.std.specs.Prelude.{◌≡◌, ◌≤◌, Some, OnSome};
+ghost use Rattle.wasm_spec.specs.Syntax.{i32, i64};
+ghost use Rattle.wasm_readers_bytes.specs.Reader.{SameInput, position_in, rest};
+ghost use Rattle.wasm_readers_types.specs.SeenValues.{val_of};
+ghost use Rattle.wasm_operators.specs.Control.{end_};
+ghost use Rattle.wasm_operators.specs.Instructions.{control, instruction_at};
+ghost use Rattle.wasm_validator_segments.specs.Numbers.{IsAnywhere};
+
+use wasm_readers::BinaryReader;
+use wasm_readers_types::ValType;
+
+/// Goes past an `end`, if it is next. Else the reader may stand further on.
+#[inline(always)]
+fn next_end(reader: &mut BinaryReader<'_>) -> Option<()>
+    ensures same { SameInput reader.old reader.new }
+    ensures onward { OnSome result (position_in reader.old ≤ position_in reader.new) }
+    ensures some { OnSome result (instruction_at (λ n. n) (rest reader.old)
+        ≡ Some (control end_, rest reader.new)) }
+{
+    if reader.next_u8()? == 0x0b {
+        Some(())
+    } else {
+        None
+    }
+}
+
+/// Goes past a constant expression of one integer of 32 bits, if it is next. Else the reader may
+/// stand further on.
+#[inline(always)]
+#[tactic(auto, using(crate::proofs::Anywhere::anywhere))]
+fn next_i32(reader: &mut BinaryReader<'_>) -> Option<()>
+    ensures same { SameInput reader.old reader.new }
+    ensures onward { OnSome result (position_in reader.old ≤ position_in reader.new) }
+    ensures some { OnSome result (IsAnywhere i32 (rest reader.old) (rest reader.new)) }
+{
+    if reader.next_u8()? != 0x41 {
+        return None;
+    }
+    reader.next_var_i32()?;
+    next_end(reader)
+}
+
+/// Goes past a constant expression of one integer of 64 bits, if it is next. Else the reader may
+/// stand further on.
+#[inline(always)]
+#[tactic(auto, using(crate::proofs::Anywhere::anywhere))]
+fn next_i64(reader: &mut BinaryReader<'_>) -> Option<()>
+    ensures same { SameInput reader.old reader.new }
+    ensures onward { OnSome result (position_in reader.old ≤ position_in reader.new) }
+    ensures some { OnSome result (IsAnywhere i64 (rest reader.old) (rest reader.new)) }
+{
+    if reader.next_u8()? != 0x42 {
+        return None;
+    }
+    reader.next_var_i64()?;
+    next_end(reader)
+}
+
+/// Goes past a constant expression of one integer of this type, if it is next. Else the reader may
+/// stand further on.
+#[inline(always)]
+pub(crate) fn next_number(ty: ValType, reader: &mut BinaryReader<'_>) -> Option<()>
+    ensures same { SameInput reader.old reader.new }
+    ensures onward { OnSome result (position_in reader.old ≤ position_in reader.new) }
+    ensures some { OnSome result (IsAnywhere (val_of ty) (rest reader.old) (rest reader.new)) }
+{
+    match ty {
+        ValType::I32 => next_i32(reader),
+        ValType::I64 => next_i64(reader),
+        _ => None,
+    }
+}

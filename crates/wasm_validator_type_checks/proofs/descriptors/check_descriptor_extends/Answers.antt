@@ -1,0 +1,19 @@
+use Rattle.std.proofs.Common.{◌≡◌, refl, is_ok, true}
+use Rattle.wasm_spec.specs.Declared.{supertype_of, descriptor_of}
+use Rattle.wasm_validator_type_list.specs.Declares.{declares}
+use Rattle.wasm_validator_type_checks.specs.Listed.{number}
+use Rattle.wasm_validator_type_checks.proofs.Decided.{on_none, on_some, is_decided, same_ids}
+use Rattle.wasm_validator_type_checks.proofs.descriptors.check_descriptor_extends.Goals as goal
+
+pub returns-in-Some-clause-decided : goal.returns-in-Some-clause-decided
+returns-in-Some-clause-decided g c =
+    let D = declares c.args.types.now.groups in
+    let a = c.args.id.index in
+    on_some number (λ d. supertype_of D d ≡ descriptor_of D c.args.extended.index) c.descriptor.result (descriptor_of D a) c.in-Some.of_type (is_ok c.hold.result) c.descriptor.ensures.leads c.in-Some.is
+    (is_decided (is_ok c.hold.result) c.are_same-extends.result c.hold.ensures.allowed (same_ids c.supertype.result c.descriptor-in-Some.result (supertype_of D c.in-Some.of_type.index) (descriptor_of D c.args.extended.index) c.are_same-extends.result c.supertype.ensures.leads c.descriptor-in-Some.ensures.leads c.are_same-extends.ensures))
+
+pub returns-in-None-clause-decided : goal.returns-in-None-clause-decided
+returns-in-None-clause-decided g c =
+    let D = declares c.args.types.now.groups in
+    let a = c.args.id.index in
+    on_none number (λ d. supertype_of D d ≡ descriptor_of D c.args.extended.index) c.descriptor.result (descriptor_of D a) true c.descriptor.ensures.leads c.in-None.is refl

@@ -1,0 +1,20 @@
+use Rattle.std.proofs.Common.{refl, is_ok, true}
+use Rattle.wasm_spec.specs.Declared.{descriptor_of}
+use Rattle.wasm_validator_type_list.specs.Declares.{declares}
+use Rattle.wasm_validator_type_checks.specs.Listed.{number}
+use Rattle.wasm_validator_type_checks.specs.Rules.{HasSameFinality}
+use Rattle.wasm_validator_type_checks.proofs.Decided.{on_none, on_some, is_decided}
+use Rattle.wasm_validator_type_checks.proofs.descriptors.check_finality.Goals as goal
+
+pub returns-in-Some-clause-decided : goal.returns-in-Some-clause-decided
+returns-in-Some-clause-decided g c =
+    let D = declares c.args.types.now.groups in
+    let a = c.args.id.index in
+    on_some number (HasSameFinality D a) c.descriptor.result (descriptor_of D a) c.in-Some.of_type (is_ok c.hold.result) c.descriptor.ensures.leads c.in-Some.is
+    (is_decided (is_ok c.hold.result) c.have_same_finality.result c.hold.ensures.allowed c.have_same_finality.ensures)
+
+pub returns-in-None-clause-decided : goal.returns-in-None-clause-decided
+returns-in-None-clause-decided g c =
+    let D = declares c.args.types.now.groups in
+    let a = c.args.id.index in
+    on_none number (HasSameFinality D a) c.descriptor.result (descriptor_of D a) true c.descriptor.ensures.leads c.in-None.is refl
