@@ -6,8 +6,6 @@ mod files;
 #[cfg(test)]
 mod items;
 #[cfg(test)]
-mod linking;
-#[cfg(test)]
 mod owned;
 #[cfg(test)]
 mod types;

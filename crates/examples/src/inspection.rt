@@ -1,5 +1,4 @@
 //! An inspection tool shows the index spaces of a module.
-#![tactic(auto)]
 
 use std::io;
 use wasm_validator::{ValidatorId, validate};
@@ -8,7 +7,8 @@ use wasm_validator::{ValidatorId, validate};
 const BYTES: &[u8] =
     b"\0asm\x01\0\0\0\x01\x05\x01\x60\x01\x7f\0\x02\x16\x03\x01a\x01f\0\0\x01a\x01m\x02\0\x01\x01a\x01t\x01\x70\0\x05\x07\x05\x01\x01c\0\0";
 
-fn main(rt: HostRuntime) -> io::Result<()> {
+/// Prints the functions, memories and tables of a module.
+pub fn run<R: Print + AllocGlobal>(rt: &R) -> io::Result<()> {
     let types = match validate(rt.alloc(), BYTES, ValidatorId::from_number(0)) {
         Ok(types) => types,
         Err(error) => return println!(rt; "refused at {}: {error}", error.offset()),

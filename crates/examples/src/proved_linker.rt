@@ -1,14 +1,20 @@
 //! A client of the theorem on lists of modules: a linker that gives a function of one module where
 //! another asks for one, by their ids alone.
-#![tactic(auto)]
-
 ghost use Rattle.std.specs.Prelude.{◌≡◌, true, IfOk};
 ghost use Rattle.wasm_validator.specs.Lists.{lent};
 ghost use Rattle.wasm_validator_types.specs.Shown.{shown_of};
-ghost use Rattle.wasm_linking_tests.specs.Links.{HaveOneId, MayLink};
+ghost use Rattle.examples.specs.Links.{HaveOneId, MayLink};
 
 use std::alloc::Allocator;
+use std::io;
 use wasm_validator::{Error, Types, Validator, ValidatorId, validate_list};
+
+/// A module that exports the function `f`, of type `[i32] -> []`.
+const EXPORTER: &[u8] =
+    b"\0asm\x01\0\0\0\x01\x05\x01\x60\x01\x7f\0\x02\x07\x01\x01x\x01f\0\0\x07\x05\x01\x01f\0\0";
+/// A module that imports the function `m.f`, of its second type, which is `[i32] -> []`.
+const IMPORTER: &[u8] =
+    b"\0asm\x01\0\0\0\x01\x08\x02\x60\0\0\x60\x01\x7f\0\x02\x07\x01\x01m\x01f\0\x01";
 
 /// Whether the functions with these indices are there, and their types have one id.
 fn have_one_id<A: Allocator + Copy>(
@@ -43,5 +49,13 @@ pub fn may_link<A: Allocator + Copy>(
             Ok(have_one_id(exporter, given, importer, wanted))
         }
         _ => Ok(false),
+    }
+}
+
+/// Prints whether the first function of one module may be given for the first one of another.
+pub fn run<R: Print + AllocGlobal>(rt: &R) -> io::Result<()> {
+    match may_link(rt.alloc(), &[EXPORTER, IMPORTER], 0, 0) {
+        Ok(linked) => println!(rt; "may be given: {linked}"),
+        Err(error) => println!(rt; "no memory, at {}: {error}", error.offset()),
     }
 }

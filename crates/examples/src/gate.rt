@@ -1,5 +1,4 @@
 //! An admission gate: a module is let in exactly where it is valid.
-#![tactic(auto)]
 
 use std::io;
 use wasm_validator::{ValidatorId, validate};
@@ -9,7 +8,8 @@ const ONE_TYPE: &[u8] = b"\0asm\x01\0\0\0\x01\x06\x01\x60\x01\x7f\x01\x7c";
 /// A module whose memory has more pages than it may grow to.
 const SHRINKING_MEMORY: &[u8] = b"\0asm\x01\0\0\0\x05\x04\x01\x01\x02\x01";
 
-fn main(rt: HostRuntime) -> io::Result<()> {
+/// Lets two modules in, or turns them away.
+pub fn run<R: Print + AllocGlobal>(rt: &R) -> io::Result<()> {
     for bytes in [ONE_TYPE, SHRINKING_MEMORY] {
         match validate(rt.alloc(), bytes, ValidatorId::from_number(0)) {
             Ok(_types) => println!(rt; "let in")?,

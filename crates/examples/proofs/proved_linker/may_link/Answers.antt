@@ -6,8 +6,8 @@ use Rattle.wasm_spec_rules.specs.FeatureFlags.{features_of}
 use Rattle.wasm_validator.specs.Standing.{Standing}
 use Rattle.wasm_validator.specs.Headline.{Headline, types_held}
 use Rattle.wasm_validator.specs.Lists.{lent}
-use Rattle.wasm_linking_tests.proofs.Linked.{linked}
-use Rattle.wasm_linking_tests.proofs.may_link.Goals as goal
+use Rattle.examples.proofs.Linked.{linked}
+use Rattle.examples.proofs.proved_linker.may_link.Goals as goal
 
 pub returns-in-Some-Ok-Some-Ok : goal.returns-in-Some-Ok-Some-Ok
 returns-in-Some-Ok-Some-Ok g c = λ yes.

@@ -19,7 +19,7 @@ use Rattle.wasm_validator_types.specs.Shown.{shown_of}
 use Rattle.wasm_validator_types.specs.declared.shown.Types as shown
 use Rattle.wasm_validator_core.specs.declared.error.Error.{Error}
 use Rattle.wasm_validator.specs.Headline.{Headline, IsAnswered, IsShown, IsTypeOf}
-use Rattle.wasm_linking_tests.specs.Links.{HasFunction, MayLink, HaveOneId}
+use Rattle.examples.specs.Links.{HasFunction, MayLink, HaveOneId}
 
 abbrev F : Features
 F = features_of STANDARD

@@ -1,4 +1,5 @@
 //! An interpreter reads sections and bodies as they come, and has each checked before it uses it.
+
 use std::alloc::{Allocator, Global};
 use std::io;
 use wasm_validator::{
@@ -39,7 +40,8 @@ fn load<A: Allocator + Copy>(alloc: A, bytes: &[u8]) -> Result<Option<Loaded<A>>
     Ok(None)
 }
 
-fn main(rt: HostRuntime) -> io::Result<()> {
+/// Loads a module, and prints what is kept of it.
+pub fn run<R: Print + AllocGlobal>(rt: &R) -> io::Result<()> {
     match load(rt.alloc(), BYTES) {
         Ok(Some(loaded)) => {
             let functions = loaded.types.as_ref().function_count();

@@ -1,5 +1,4 @@
 //! A component validator keeps its own types beside those of its modules: equal types have one id.
-#![tactic(auto)]
 
 use std::alloc::Allocator;
 use std::io;
@@ -16,7 +15,8 @@ fn intern_three<A: Allocator + Copy>(alloc: A) -> Result<[CoreTypeId; 3], Error<
     Ok([first, second, third])
 }
 
-fn main(rt: HostRuntime) -> io::Result<()> {
+/// Prints the ids of three types, of which two are equal.
+pub fn run<R: Print + AllocGlobal>(rt: &R) -> io::Result<()> {
     match intern_three(rt.alloc()) {
         Ok(ids) => {
             let [first, second, third] = ids;

@@ -1,7 +1,6 @@
 //! A linker compares the ids of types across the modules of one validator: where equal types are
 //! one, two ids are equal exactly where the types are, and a function may be imported where its
 //! type is a subtype of the one that is asked for.
-#![tactic(auto)]
 
 use std::alloc::Allocator;
 use std::io;
@@ -55,7 +54,8 @@ fn link<A: Allocator + Copy>(alloc: A) -> Result<bool, Error<A>> {
     }
 }
 
-fn main(rt: HostRuntime) -> io::Result<()> {
+/// Prints whether the export of one module may be linked to the import of another.
+pub fn run<R: Print + AllocGlobal>(rt: &R) -> io::Result<()> {
     match link(rt.alloc()) {
         Ok(linked) => println!(rt; "may be linked: {linked}"),
         Err(error) => println!(rt; "refused at {}: {error}", error.offset()),

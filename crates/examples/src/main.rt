@@ -1,0 +1,20 @@
+//! How the validator is used, a file for each kind of user.
+#![tactic(auto)]
+
+mod gate;
+mod inspection;
+mod interning;
+mod interpreter;
+mod linker;
+mod proved_linker;
+
+use std::io;
+
+fn main(rt: HostRuntime) -> io::Result<()> {
+    gate::run(&rt)?;
+    interpreter::run(&rt)?;
+    linker::run(&rt)?;
+    proved_linker::run(&rt)?;
+    inspection::run(&rt)?;
+    interning::run(&rt)
+}
