@@ -8,16 +8,9 @@ pub use Rattle.wasm_operators_plain.specs.declared.memories.MemoryOperator
 pub use Rattle.wasm_operators_plain.specs.declared.structs.StructOperator
 pub use Rattle.wasm_operators_plain.specs.declared.tables.TableOperator
 pub use Rattle.wasm_operators_plain.specs.declared.variables.VariableOperator
-pub use Rattle.wasm_operators_plain.specs.Immediates
-pub use Rattle.wasm_operators_plain.specs.Refusals
-pub use Rattle.wasm_operators_plain.specs.Calls
 pub use Rattle.wasm_operators_plain.specs.Variables
-pub use Rattle.wasm_operators_plain.specs.Tables
 pub use Rattle.wasm_operators_plain.specs.Memories
 pub use Rattle.wasm_operators_plain.specs.Constants
-pub use Rattle.wasm_operators_plain.specs.Conversions
-pub use Rattle.wasm_operators_plain.specs.Structs
-pub use Rattle.wasm_operators_plain.specs.Arrays
 pub mod References
 pub mod SeenReferences
 pub mod SeenLists

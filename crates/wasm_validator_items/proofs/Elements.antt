@@ -17,8 +17,8 @@ use Rattle.wasm_readers.specs.Written.{written}
 use Rattle.wasm_readers_types.specs.declared.indices.UnpackedIndex.{UnpackedIndex}
 use Rattle.wasm_validator_resources.specs.Answers.{world}
 use Rattle.wasm_spec_validity.specs.Expressions.{expression_at}
-use Rattle.wasm_validator_items.specs.Elements.{may_go, segment_table_at, items_type_at, typed_items_at, typed_element_from, typed_element_at}
-use Rattle.wasm_validator_items.specs.Offsets.{behind_table_offset}
+use Rattle.wasm_validator_segments.specs.Elements.{may_go, segment_table_at, items_type_at, typed_items_at, typed_element_from, typed_element_at}
+use Rattle.wasm_validator_segments.specs.Offsets.{behind_table_offset}
 use Rattle.wasm_validator_types.specs.Spaces.{Spaces}
 use Rattle.wasm_validator_core.specs.declared.limits.TheConstants.{MAX_ELEMENT_SEGMENTS}
 use Rattle.wasm_validator_items.specs.Machine.{with_element, with_items, element_step}

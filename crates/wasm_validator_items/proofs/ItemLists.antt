@@ -18,9 +18,9 @@ use Rattle.wasm_validator_canonical.specs.Indices.{canonical_index}
 use Rattle.wasm_validator_checks.specs.Items.{is_ref_in_range}
 use Rattle.wasm_validator_resources.specs.Answers.{val_in}
 use Rattle.wasm_spec_validity.specs.Expressions.{expression_at}
-use Rattle.wasm_validator_items.specs.Elements.{behind_function, may_go, reference_at}
+use Rattle.wasm_validator_segments.specs.Elements.{behind_function, may_go, reference_at}
 use Rattle.wasm_validator_items.specs.Expressions.{behind_expression}
-use Rattle.wasm_validator_items.specs.Lists.{behind_list}
+use Rattle.wasm_validator_segments.specs.Lists.{behind_list}
 use Rattle.wasm_validator_types.specs.Spaces.{Spaces}
 use Rattle.wasm_validator_items.specs.Machine.{context_of}
 use Rattle.wasm_validator_items.specs.Entries.{listed_items_type, is_constant_of, are_items}

@@ -14,10 +14,10 @@ use Rattle.wasm_readers_types.specs.declared.indices.UnpackedIndex.{UnpackedInde
 use Rattle.wasm_validator_resources.specs.Answers.{world, val_in}
 use Rattle.wasm_spec_validity.specs.Expressions.{expression_at}
 use Rattle.wasm_spec_validity.proofs.Whole.{expressions_are_whole}
-use Rattle.wasm_validator_items.specs.Data.{behind_data_mode, behind_data}
+use Rattle.wasm_validator_segments.specs.Data.{behind_data_mode, behind_data}
 use Rattle.wasm_validator_items.specs.Expressions.{around_constants, behind_expression}
-use Rattle.wasm_validator_items.specs.Globals.{with_content, global_type_at, typed_global_at}
-use Rattle.wasm_validator_items.specs.Offsets.{address_type, behind_memory_offset}
+use Rattle.wasm_validator_segments.specs.Globals.{with_content, global_type_at, typed_global_at}
+use Rattle.wasm_validator_segments.specs.Offsets.{address_type, behind_memory_offset}
 use Rattle.wasm_validator_items.proofs.Finding.{are_found}
 use Rattle.wasm_validator_items.specs.Items.{IsTypedExpressionAt, ExpressionsAreTyped, IsTypedGlobalAt, GlobalsAreTyped, IsTypedDataModeIn, IsTypedDataAt, DataAreTyped}
 

@@ -5,7 +5,7 @@ use Rattle.std.specs.Option.{option_and_then}
 use Rattle.std.proofs.lemmas.Option.{same_Some}
 use Rattle.wasm_spec.specs.Values.{u32_at, many_at, list_at}
 use Rattle.wasm_spec_rules.proofs.Tests.{then_some, map_some}
-use Rattle.wasm_validator_items.specs.Lists.{behind_many, behind_list}
+use Rattle.wasm_validator_segments.specs.Lists.{behind_many, behind_list}
 use Rattle.wasm_validator_items.proofs.Attempts.{behind_where, always_none, then_mapped, then_then, then_same}
 
 -- lists of as many items as their count says

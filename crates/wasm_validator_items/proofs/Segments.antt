@@ -9,8 +9,8 @@ use Rattle.wasm_spec_rules.specs.Attempts.{passes}
 use Rattle.wasm_spec_rules.specs.Parts.{Expression}
 use Rattle.wasm_readers_types.specs.declared.indices.UnpackedIndex.{UnpackedIndex}
 use Rattle.wasm_spec_validity.specs.Expressions.{expression_at}
-use Rattle.wasm_validator_items.specs.Data.{behind_data_mode, behind_data}
-use Rattle.wasm_validator_items.specs.Offsets.{behind_memory_offset}
+use Rattle.wasm_validator_segments.specs.Data.{behind_data_mode, behind_data}
+use Rattle.wasm_validator_segments.specs.Offsets.{behind_memory_offset}
 use Rattle.wasm_validator_types.specs.Spaces.{Spaces}
 use Rattle.wasm_validator_core.specs.declared.limits.TheConstants.{MAX_DATA_SEGMENTS}
 use Rattle.wasm_validator_items.specs.Machine.{context_of, items_from, data_step}

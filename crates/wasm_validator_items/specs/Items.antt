@@ -15,10 +15,10 @@ use Rattle.wasm_operator_steps.specs.Machine.{State}
 use Rattle.wasm_operator_steps.specs.Steps.{start}
 use Rattle.wasm_validator_resources.specs.Answers.{world, val_in}
 use Rattle.wasm_spec_validity.specs.Expressions.{expression_at}
-use Rattle.wasm_validator_items.specs.Data.{behind_data}
+use Rattle.wasm_validator_segments.specs.Data.{behind_data}
 use Rattle.wasm_validator_items.specs.Expressions.{around_constants, behind_expression}
-use Rattle.wasm_validator_items.specs.Globals.{with_content, typed_global_at}
-use Rattle.wasm_validator_items.specs.Offsets.{address_type}
+use Rattle.wasm_validator_segments.specs.Globals.{with_content, typed_global_at}
+use Rattle.wasm_validator_segments.specs.Offsets.{address_type}
 
 module _ (C : Context UnpackedIndex) (F : Features) (imported : ℕ) where
   -- the bytes of an expression are a constant expression of this type

@@ -1,8 +1,3 @@
-pub use Rattle.wasm_validator_segments.specs.Globals
-pub use Rattle.wasm_validator_segments.specs.Data
-pub use Rattle.wasm_validator_segments.specs.Elements
-pub use Rattle.wasm_validator_segments.specs.Lists
-pub use Rattle.wasm_validator_segments.specs.Offsets
 pub use Rattle.wasm_validator_segments.specs.Expressions
 pub mod Machine
 pub mod Answers

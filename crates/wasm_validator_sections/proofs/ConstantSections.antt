@@ -21,7 +21,7 @@ use Rattle.wasm_validator_core_resources.specs.ListContexts.{list_declares}
 use Rattle.wasm_spec_validity.specs.Expressions.{expression_at}
 use Rattle.wasm_laws_contexts.specs.ListedTypes.{types_declare}
 use Rattle.wasm_laws_contexts.proofs.ListedTypes.{lists_declare_their_types}
-use Rattle.wasm_validator_sections.specs.ItemsMachine as one_pass
+use Rattle.wasm_validator_items.specs.Machine as one_pass
 use Rattle.wasm_validator_sections.specs.Sections.{read_section}
 use Rattle.wasm_validator_sections.specs.Entries.{add_table_entry, add_global_entry, add_element, add_data}
 use Rattle.wasm_laws_modules.proofs.Tables.{tables_are_added}
