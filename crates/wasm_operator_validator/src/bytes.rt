@@ -82,34 +82,4 @@ impl<A: Allocator> OperatorValidator<A> {
             Err(error) => Err(error.at(offset)),
         }
     }
-
-    /// Reads the next operator and takes its step: [`OperatorValidator::frequent_op`], and
-    /// [`OperatorValidator::read_op`] where that leaves the operator. A loop that calls these two
-    /// itself has no place for a refusal to be kept while there is none.
-    ///
-    /// # Errors
-    ///
-    /// Refuses bytes that aren't an operator, and at its offset an operator that isn't valid here;
-    /// and all once something was refused. Answers want of memory.
-    #[inline]
-    pub fn step_from_bytes<'a, T: WasmModuleResources>(
-        &mut self,
-        resources: &T,
-        reader: &mut BinaryReader<'a>,
-    ) -> Result<(), Error>
-        ensures took { self.old.failed ≡ false → ReadsStep result
-            (stepped (T.context resources.now) self.old.stacks reader.old)
-            (typed_state self.new) (rest reader.new) }
-        ensures input { SameInput reader.old reader.new }
-        ensures onward { position_in reader.old ≤ position_in reader.new }
-        ensures further { OnOk result (position_in reader.old < position_in reader.new) }
-        ensures same { Kept self.old.stacks self.new.stacks }
-        ensures failed { self.new.failed ≡ (self.old.failed || not (is_ok result)) }
-        ensures place { IfErr result (StandsIn reader.old) }
-    {
-        match self.frequent_op(resources, reader) {
-            Ok(()) => Ok(()),
-            Err(_) => self.read_op(resources, reader),
-        }
-    }
 }

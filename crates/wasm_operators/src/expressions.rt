@@ -23,7 +23,7 @@ pub enum Nesting {
 }
 
 /// Whether an operator begins a block or ends one.
-pub fn nesting_of(operator: &Operator) -> Nesting
+fn nesting_of(operator: &Operator) -> Nesting
     ensures { result ≡ nesting_of (operator_of operator.now) }
 {
     match operator {

@@ -13,7 +13,7 @@ pub use control::{
     BlockType, BrTable, Catch, ControlOperator, FrameKind, ParametricOperator, TryTable,
     read_block_type,
 };
-pub use expressions::{Nesting, nesting_of, read_expression};
+pub use expressions::read_expression;
 pub use lists::{Immediate, Listed, ListedItems};
 pub use operators::{Operator, read_operator};
 pub use references::{CastOperator, ReferenceOperator};

@@ -6,7 +6,6 @@ ghost use Rattle.wasm_readers_errors.specs.Errors.{Reads};
 ghost use Rattle.wasm_readers.specs.Sections.{next_item, NextItem};
 ghost use Rattle.wasm_readers.specs.Refusals.{Telling, Tells, NumberRefused};
 
-use crate::items::{Table, TableHead};
 use std::alloc::{Allocator, Global};
 use std::marker::PhantomData;
 use std::ops::Range;
@@ -149,26 +148,6 @@ impl<'a, T, A: Allocator + Copy> SectionLimited<'a, T, A> {
             reader: self.reader,
             left: self.count,
             done: false,
-            alloc: self.alloc,
-            of: PhantomData,
-        }
-    }
-}
-
-impl<'a, A: Allocator + Copy> SectionLimited<'a, Table<'a>, A> {
-    ghost use Rattle.wasm_readers.specs.SectionsSeen.{count_of, bytes_of, section_start, section_end, first_item_at};
-
-    /// The section over the same bytes, as the first parts of its tables.
-    pub fn heads(&self) -> SectionLimited<'a, TableHead, A>
-        ensures count { count_of result ≡ count_of self.now }
-        ensures bytes { bytes_of result ≡ bytes_of self.now }
-        ensures start { section_start result ≡ section_start self.now }
-        ensures end { section_end result ≡ section_end self.now }
-        ensures first { first_item_at result ≡ first_item_at self.now }
-    {
-        SectionLimited {
-            reader: self.reader,
-            count: self.count,
             alloc: self.alloc,
             of: PhantomData,
         }

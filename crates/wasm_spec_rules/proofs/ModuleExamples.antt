@@ -97,63 +97,59 @@ no_spaces = record { types = []; functions = []; tables = []; memories = []; glo
 -- no items, and no rules that they could break
 pub header_is_module : HeaderIsModule
 header_is_module expression_at = record {
-  well_formed = record {
-    pieces = Version 1 0 ∷ End ∷ [];
-    framed = record {
-      numbered = 1 ∷ 0 ∷ 0 ∷ 0 ∷ [];
-      number = 1;
-      kinded = 0 ∷ 0 ∷ [];
-      kind = 0;
-      rest = [];
-      sections = [];
-      others = [];
-      begins = refl;
-      has_number = refl;
-      has_kind = refl;
-      known_kind = omega arith;
-      frames = refl;
-      in_order = tt;
-      made = refl;
-      all = refl;
-      agree = refl;
-    };
-    first = refl;
-    allowed = All-cons (IsAllowedPiece first_version) (Version 1 0) (End ∷ []) tt (All-cons (IsAllowedPiece first_version) End [] tt (All-nil (IsAllowedPiece first_version)));
-    parts = no_parts;
-    has_parts = record { groups = refl; imports = refl; functions = refl; tables = refl; memories = refl; globals = refl; exports = refl; starts = refl; elements = refl; bodies = refl; segments = refl; data_counts = refl; tags = refl };
-    types = record { types = []; gives = refl; valid = All-nil (IsValidType first_version declared) };
-    rules = record {
-      imports = All-nil (IsValidImport first_version []);
-      functions = All-nil (IsFunctionType []);
-      tables = All-nil (IsValidTableEntry first_version []);
-      memories = All-nil (IsValidMemory first_version);
-      tags = All-nil (IsValidTag first_version []);
-      globals = All-nil (λ (g : GlobalEntry Expression ℕ). IsValidGlobal first_version [] g.ty);
-      exports = All-nil (IsValidExport first_version no_spaces);
-      export_names = IsDistinct-from_count nat_list_eq_equiv [] refl;
-      size = omega arith;
-      starts = All-nil (IsValidStart no_spaces);
-      elements = All-nil (IsValidElement first_version no_spaces);
-      segments = All-nil (IsValidData first_version no_spaces);
-      limits = record {
-        groups = omega arith;
-        types = omega arith;
-        imports = omega arith;
-        functions = omega arith;
-        tables = omega arith;
-        memories = omega arith;
-        globals = omega arith;
-        tags = omega arith;
-        exports = omega arith;
-        elements = omega arith;
-        segments = omega arith;
-        data_counts = All-nil (λ n. n ≤ 100000);
-        bodies = All-nil (λ (b : List ℕ). length b ≤ 7654321);
-      };
+  pieces = Version 1 0 ∷ End ∷ [];
+  framed = record {
+    numbered = 1 ∷ 0 ∷ 0 ∷ 0 ∷ [];
+    number = 1;
+    kinded = 0 ∷ 0 ∷ [];
+    kind = 0;
+    rest = [];
+    sections = [];
+    others = [];
+    begins = refl;
+    has_number = refl;
+    has_kind = refl;
+    known_kind = omega arith;
+    frames = refl;
+    in_order = tt;
+    made = refl;
+    all = refl;
+    agree = refl;
+  };
+  first = refl;
+  allowed = All-cons (IsAllowedPiece first_version) (Version 1 0) (End ∷ []) tt (All-cons (IsAllowedPiece first_version) End [] tt (All-nil (IsAllowedPiece first_version)));
+  parts = no_parts;
+  has_parts = record { groups = refl; imports = refl; functions = refl; tables = refl; memories = refl; globals = refl; exports = refl; starts = refl; elements = refl; bodies = refl; segments = refl; data_counts = refl; tags = refl };
+  types = record { types = []; gives = refl; valid = All-nil (IsValidType first_version declared) };
+  rules = record {
+    imports = All-nil (IsValidImport first_version []);
+    functions = All-nil (IsFunctionType []);
+    tables = All-nil (IsValidTableEntry first_version []);
+    memories = All-nil (IsValidMemory first_version);
+    tags = All-nil (IsValidTag first_version []);
+    globals = All-nil (λ (g : GlobalEntry Expression ℕ). IsValidGlobal first_version [] g.ty);
+    exports = All-nil (IsValidExport first_version no_spaces);
+    export_names = IsDistinct-from_count nat_list_eq_equiv [] refl;
+    size = omega arith;
+    starts = All-nil (IsValidStart no_spaces);
+    elements = All-nil (IsValidElement first_version no_spaces);
+    segments = All-nil (IsValidData first_version no_spaces);
+    limits = record {
+      groups = omega arith;
+      types = omega arith;
+      imports = omega arith;
+      functions = omega arith;
+      tables = omega arith;
+      memories = omega arith;
+      globals = omega arith;
+      tags = omega arith;
+      exports = omega arith;
+      elements = omega arith;
+      segments = omega arith;
+      data_counts = All-nil (λ n. n ≤ 100000);
+      bodies = All-nil (λ (b : List ℕ). length b ≤ 7654321);
     };
   };
-  no_expressions = refl;
-  no_bodies = refl;
 }
 
 number_of : (number kind : ℕ) → Some (Version number kind) ≡ Some (Version 1 0) → number ≡ 1
@@ -171,8 +167,8 @@ read_number number kinded e =
 
 pub no_version_two : NoVersionTwo
 no_version_two expression_at F v =
-    let f = v.well_formed.framed in
-    let one : f.number ≡ 1 = number_of f.number f.kind (sym (ap (λ (ps : List Piece). slice_get ps 0) f.all) ∙ v.well_formed.first) in
+    let f = v.framed in
+    let one : f.number ≡ 1 = number_of f.number f.kind (sym (ap (λ (ps : List Piece). slice_get ps 0) f.all) ∙ v.first) in
     let numbered : 2 ∷ 0 ∷ 0 ∷ 0 ∷ [] ≡ f.numbered = ap (drop 4) f.begins in
     let two : f.number ≡ 2 = read_number f.number f.kinded (ap u16_at numbered ∙ f.has_number) in
     omega (arith, one, two)

@@ -13,7 +13,7 @@ use Rattle.wasm_spec_rules.specs.ItemRules.{IsValidTable, IsValidTableEntry, IsV
 use Rattle.wasm_spec_rules.specs.LinkRules.{IsValidImport, IsValidExport, HasDistinctNames, effective_size, IsValidStart, referenced}
 use Rattle.wasm_spec_rules.specs.SegmentRules.{IsValidElement, IsValidData}
 use Rattle.wasm_spec_rules.specs.Limits.{KeepsLimits}
-use Rattle.wasm_spec_rules.specs.Modules.{IsValid}
+use Rattle.wasm_spec_rules.specs.Modules.{IsWellFormed}
 
 -- the first version of the standard: floating-point numbers, and nothing that came later
 abbrev pub first_version : Features
@@ -151,8 +151,8 @@ NoTwoMemories = (parts : Parts) → KeepsLimits first_version (record { types = 
 
 -- a header alone
 abbrev pub HeaderIsModule : Type 0
-HeaderIsModule = (expression_at : List ℕ → Option (Expression × List ℕ)) → IsValid expression_at first_version (0x00 ∷ 0x61 ∷ 0x73 ∷ 0x6d ∷ 1 ∷ 0 ∷ 0 ∷ 0 ∷ [])
+HeaderIsModule = (expression_at : List ℕ → Option (Expression × List ℕ)) → IsWellFormed expression_at first_version (0x00 ∷ 0x61 ∷ 0x73 ∷ 0x6d ∷ 1 ∷ 0 ∷ 0 ∷ 0 ∷ [])
 
 -- breaks `first`: the version is 2
 abbrev pub NoVersionTwo : Type 0
-NoVersionTwo = (expression_at : List ℕ → Option (Expression × List ℕ)) (F : Features) → IsValid expression_at F (0x00 ∷ 0x61 ∷ 0x73 ∷ 0x6d ∷ 2 ∷ 0 ∷ 0 ∷ 0 ∷ []) → ⊥
+NoVersionTwo = (expression_at : List ℕ → Option (Expression × List ℕ)) (F : Features) → IsWellFormed expression_at F (0x00 ∷ 0x61 ∷ 0x73 ∷ 0x6d ∷ 2 ∷ 0 ∷ 0 ∷ 0 ∷ []) → ⊥

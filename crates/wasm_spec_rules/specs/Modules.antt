@@ -1,11 +1,11 @@
 -- When a module is valid. Core Specification 3.0, Validation, Modules.
-use Rattle.std.specs.Prelude.{ℕ, ◌≡◌, ◌<◌, ◌==◌, List, [], slice_get, Option, Some, IsTrue, ⊤}
+use Rattle.std.specs.Prelude.{ℕ, ◌≡◌, ◌<◌, ◌==◌, List, slice_get, Option, Some, IsTrue, ⊤}
 use Rattle.std.specs.List.{All}
 use Rattle.wasm_spec.specs.Features.{Features}
 use Rattle.wasm_spec.specs.BinarySections.{GlobalEntry}
 use Rattle.wasm_spec.specs.GroupRules.{IsValidTypeSection}
 use Rattle.wasm_spec.specs.Framing.{Piece, Version, Counted, DataCount, Unknown, IsFramed}
-use Rattle.wasm_spec_rules.specs.Parts.{Parts, Expression, HasParts, expressions_of}
+use Rattle.wasm_spec_rules.specs.Parts.{Parts, Expression, HasParts}
 use Rattle.wasm_spec_rules.specs.IndexSpaces.{IndexSpaces, index_spaces, IsFunctionType}
 use Rattle.wasm_spec_rules.specs.ItemRules.{IsValidTableEntry, IsValidMemory, IsValidTag, IsValidGlobal}
 use Rattle.wasm_spec_rules.specs.LinkRules.{IsValidImport, IsValidExport, HasDistinctNames, effective_size, IsValidStart}
@@ -46,10 +46,3 @@ pub record IsWellFormed (expression_at : List ℕ → Option (Expression × List
   pub has_parts : HasParts expression_at pieces parts
   pub types : IsValidTypeSection F parts.groups
   pub rules : AreValidParts F (index_spaces types.types parts) parts
-
--- The bytes are a valid module without constant expressions and bodies. The typing of these isn't defined yet, so
--- a module that has any is spoken of by no theorem.
-pub record IsValid (expression_at : List ℕ → Option (Expression × List ℕ)) (F : Features) (bytes : List ℕ) : Type 0 where
-  pub well_formed : IsWellFormed expression_at F bytes
-  pub no_expressions : expressions_of well_formed.parts ≡ []
-  pub no_bodies : well_formed.parts.bodies ≡ []

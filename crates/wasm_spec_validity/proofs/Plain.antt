@@ -69,15 +69,14 @@ no_bodies : {R : Type 0} (same : R → R → Bool) (F : Features) (C : Context R
 no_bodies same F C parts e i x bytes s b = let n : None ≡ Some bytes = sym (ap (λ (bs : List (List ℕ)). slice_get bs i) e) ∙ b in absurd (none bytes n)
 
 pub plain_modules_are_valid : PlainModulesAreValid
-plain_modules_are_valid F bytes v =
-    let w = v.well_formed in
+plain_modules_are_valid F bytes w no_expressions no_bodies_there =
     let C = index_spaces w.types.types w.parts in
     let n = types_are_numbered C.types in
     record {
       well_formed = w;
       typed = record {
         numbering = n;
-        constants = no_constants _ F (context_of C n w.parts) (imported_globals w.parts) (number_at n) w.parts v.no_expressions;
-        bodies = no_bodies _ F (context_of C n w.parts) w.parts v.no_bodies;
+        constants = no_constants _ F (context_of C n w.parts) (imported_globals w.parts) (number_at n) w.parts no_expressions;
+        bodies = no_bodies _ F (context_of C n w.parts) w.parts no_bodies_there;
       };
     }

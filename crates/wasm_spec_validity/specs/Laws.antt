@@ -8,7 +8,7 @@ use Rattle.wasm_spec.specs.Trees.{DefType}
 use Rattle.wasm_operators.specs.Control.{value_block}
 use Rattle.wasm_spec_rules.specs.Contexts.{Context}
 use Rattle.wasm_spec_rules.specs.IndexSpaces.{IndexSpaces}
-use Rattle.wasm_spec_rules.specs.Modules.{IsValid}
+use Rattle.wasm_spec_rules.specs.Modules.{IsWellFormed}
 use Rattle.wasm_spec_rules.specs.Parts.{Parts, Expression, expressions_of}
 use Rattle.wasm_spec_rules.specs.Worlds.{world_of}
 use Rattle.wasm_operator_steps.specs.Bodies.{Surroundings}
@@ -27,9 +27,10 @@ TypesAreNumbered = (types : List DefType) → Numbering types
 abbrev pub NumbersTellTypesApart : Type 0
 NumbersTellTypesApart = (types : List DefType) (n : Numbering types) (a b : DefType) → Contains types a → Contains types b → n.number a ≡ n.number b → a ≡ b
 
--- A valid module without constant expressions and bodies is a valid module.
+-- Where nothing has to be typed, the other rules suffice.
 abbrev pub PlainModulesAreValid : Type 0
-PlainModulesAreValid = (F : Features) (bytes : List ℕ) → IsValid expression_at F bytes → IsValidModule F bytes
+PlainModulesAreValid = (F : Features) (bytes : List ℕ) (m : IsWellFormed expression_at F bytes)
+    → expressions_of m.parts ≡ [] → m.parts.bodies ≡ [] → IsValidModule F bytes
 
 -- An expression is read whole: what the bytes begin with is a constant expression of a type exactly where the bytes of an expression,
 -- as they are read in a module's sections, are one by themselves; and what follows is the same.

@@ -16,7 +16,7 @@ pub fn types_are_numbered()
     ensures apart { NumbersTellTypesApart }
 {}
 
-/// A valid module without constant expressions and bodies is a valid module.
+/// A module without constant expressions and bodies is valid where its other rules hold.
 #[tactic(auto, using(crate::proofs::Plain::plain_modules_are_valid))]
 pub fn plain_modules_are_valid()
     ensures valid { PlainModulesAreValid }
