@@ -1,0 +1,96 @@
+#!/usr/bin/env python3
+"""check_crates.py: checks the graph of crates.txt, and the sizes of crates, in a second. .ci/run calls it first.
+
+`rt` follows each walk down from a crate through the graph before it checks that crate, so each crate may have at most 3,000 walks. A crate
+names the layers it uses and passes on what is below them, by `pub use` lines of its specs/Lib.antt and proofs/Lib.antt and by `pub mod`
+blocks at the end of its src/lib.rt; each such line must be used by a crate above. A crate of laws (wasm_laws_..) passes on no code."""
+import os
+import re
+import sys
+
+ROOT = os.path.dirname(os.path.dirname(os.path.abspath(__file__)))
+MOST_WALKS, MOST_CRATES, MOST_LINES, MOST_FUNCTIONS = 3_000, 60, 1_500, 110
+LAYERS = ("wasm_spec", "wasm_readers", "wasm_operator", "wasm_parser", "wasm_validat", "wasm_laws_", "rows_", "test_", "bench_", "examples")
+
+
+def read(path):
+    with open(path, encoding="utf-8") as it:
+        return it.read()
+
+
+def read_graph():
+    """The crates of crates.txt, each with those of the repository that it names."""
+    rows = (row.split("#")[0].partition(":") for row in read(f"{ROOT}/crates.txt").split("\n"))
+    graph = {head.split()[0]: words.split() for head, colon, words in rows if colon}
+    return {name: [it for it in words if it in graph] for name, words in graph.items()}
+
+
+def count_walks(graph):
+    """How many walks lead down from each crate, the empty one among them."""
+    counts = {}
+
+    def count(name):
+        if name not in counts:
+            counts[name] = 1 + sum(count(it) for it in graph[name])
+        return counts[name]
+
+    for name in graph:
+        count(name)
+    return counts
+
+
+def read_sources(name):
+    """The text of each file of a crate's src, specs and proofs, by its path in the crate."""
+    texts = {}
+    for part in ("src", "specs", "proofs"):
+        for top, _, files in os.walk(f"{ROOT}/crates/{name}/{part}"):
+            texts.update({os.path.relpath(f"{top}/{it}", f"{ROOT}/crates/{name}"): read(f"{top}/{it}") for it in files if it.endswith((".rt", ".antt"))})
+    return texts
+
+
+def passed_on(name, texts):
+    """What a crate passes on of others, each with what a crate above writes that names it."""
+    found = []
+    camel = "".join(it.capitalize() for it in name.split("_"))
+    for part in ("specs", "proofs"):
+        for row in texts.get(f"{part}/Lib.antt", "").split("\n"):
+            use = re.match(r"pub use Rattle\.([\w.]+)(?: as (\w+))?$", row)
+            if use:
+                what = use[2] or use[1].rsplit(".", 1)[1]
+                found.append((f"{part}/{what}", rf"\b(?:Rattle\.{name}\.{part}|{part}\.(?:\w+\.)*{camel})\.{what}\b"))
+    return found + [(f"code/{it}", rf"\b{name}::{it}\b") for it in re.findall(r"(?m)^pub mod (\w+) \{$", texts.get("src/lib.rt", ""))]
+
+
+def main():
+    graph = read_graph()
+    sources = {name: read_sources(name) for name in graph}
+    walks, wrong = count_walks(graph), []
+    wrong += [f"{name}: {count} walks lead down from it, more than {MOST_WALKS}" for name, count in walks.items() if count > MOST_WALKS]
+    if len(graph) > MOST_CRATES:
+        wrong.append(f"{len(graph)} crates, more than {MOST_CRATES}")
+    whole = {name: "\n".join(texts.values()) for name, texts in sources.items()}
+    count_passed = 0
+    for name, texts in sources.items():
+        code = [text for path, text in texts.items() if path.startswith("src/")]
+        lines, functions = sum(it.count("\n") for it in code), sum(len(re.findall(r"\bfn [a-z_0-9]+", it)) for it in code)
+        if not name.startswith(LAYERS):
+            wrong.append(f"{name}: its name begins with no layer's")
+        if lines > MOST_LINES or functions > MOST_FUNCTIONS:
+            wrong.append(f"{name}: {lines} lines and {functions} functions, more than {MOST_LINES} or {MOST_FUNCTIONS}")
+        wrong += [f"{name}: it names {it}, and no file of it does" for it in graph[name] if it not in whole[name]]
+        passed = passed_on(name, texts)
+        count_passed += len(passed)
+        if name.startswith("wasm_laws_") and any(it.startswith("code/") for it, _ in passed):
+            wrong.append(f"{name}: a crate of laws passes on code")
+        for it, named in passed:
+            if not any(re.search(named, text) for other, text in whole.items() if other != name):
+                wrong.append(f"{name}: it passes on {it}, which no other crate names")
+    worst = max(walks, key=walks.get)
+    print(f"{len(graph)} crates, {sum(map(len, graph.values()))} edges, {count_passed} lines that pass on; {walks[worst]} walks at most, from {worst}")
+    for it in wrong:
+        print(f"check_crates: {it}", file=sys.stderr)
+    return 1 if wrong else 0
+
+
+if __name__ == "__main__":
+    sys.exit(main())
