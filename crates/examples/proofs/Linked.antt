@@ -14,10 +14,10 @@ use Rattle.wasm_spec.specs.Trees.{DefType, declared}
 use Rattle.wasm_spec_rules.specs.FeatureFlags.{features_of}
 use Rattle.wasm_spec_rules.specs.IndexSpaces.{index_spaces, imported, functions_in, signature, IsFunctionType}
 use Rattle.wasm_validator_canonical.specs.Sections.{StandsFor}
-use Rattle.wasm_laws_core.proofs.AllLists.{function_of_extern, all_imported}
-use Rattle.wasm_validator_types.specs.Shown.{shown_of}
-use Rattle.wasm_validator_types.specs.declared.shown.Types as shown
-use Rattle.wasm_validator_core.specs.declared.error.Error.{Error}
+use Rattle.wasm_validator.proofs.WasmLawsCore.AllLists.{function_of_extern, all_imported}
+use Rattle.wasm_validator.specs.WasmValidatorTypes.Shown.{shown_of}
+use Rattle.wasm_validator.specs.WasmValidatorTypes.declared.shown.Types as shown
+use Rattle.wasm_validator.specs.WasmValidatorCore.declared.error.Error.{Error}
 use Rattle.wasm_validator.specs.Headline.{Headline, IsAnswered, IsShown, IsTypeOf}
 use Rattle.examples.specs.Links.{HasFunction, MayLink, HaveOneId}
 

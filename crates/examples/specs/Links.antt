@@ -6,8 +6,8 @@ use Rattle.wasm_spec.specs.Features.{Features}
 use Rattle.wasm_spec.specs.Trees.{DefType}
 use Rattle.wasm_spec_rules.specs.FeatureFlags.{features_of}
 use Rattle.wasm_spec_rules.specs.IndexSpaces.{index_spaces}
-use Rattle.wasm_spec_validity.specs.Modules.{IsValidModule}
-use Rattle.wasm_validator_types.specs.Shown.{Shown}
+use Rattle.wasm_validator.specs.WasmSpecValidity.Modules.{IsValidModule}
+use Rattle.wasm_validator.specs.WasmValidatorTypes.Shown.{Shown}
 
 -- The bytes are a valid module, and the function with this index is there and has this type.
 pub record HasFunction (F : Features) (bytes : List ℕ) (x : ℕ) (d : DefType) : Type 0 where

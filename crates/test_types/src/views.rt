@@ -5,8 +5,10 @@ use std::test::Fail;
 use wasm_readers::{Export, Import};
 use wasm_readers_errors::WasmFeatures;
 use wasm_readers_types::{CoreTypeId, ExternalKind, TypeRef};
+use wasm_validator_checks::validator_types::{
+    EntityType, IndexSpaces, SnapshotList, Types, ValidatorId,
+};
 use wasm_validator_type_list::TypeList;
-use wasm_validator_types::{EntityType, IndexSpaces, SnapshotList, Types, ValidatorId};
 
 /// What can't be copied.
 #[derive(Drop)]

@@ -2,7 +2,7 @@
 
 use std::rc::Rc;
 use std::test::Fail;
-use wasm_validator::MaybeOwned;
+use wasm_validate_files::validator::MaybeOwned;
 
 #[test]
 fn a_value_is_written_while_it_is_owned(rt: HostRuntime) -> Result<(), Fail> {

@@ -2,17 +2,17 @@
 
 ghost use Rattle.std.specs.Prelude.{◌≡◌, [], length, IfSome};
 ghost use Rattle.wasm_spec.specs.References.{refs_heap};
-ghost use Rattle.wasm_readers_types.specs.SeenValues.{ref_of};
+ghost use Rattle.wasm_readers.specs.WasmReadersTypes.SeenValues.{ref_of};
 ghost use Rattle.wasm_validator_type_list.specs.Listing.{types_in};
 ghost use Rattle.wasm_validator_type_list.specs.Subtyping.{IsRefOver};
 
 use std::alloc::{AllocError, Global};
 use std::test::Fail;
-use wasm_readers::{BinaryReader, FromReader};
-use wasm_readers_types::{
+use wasm_readers::readers_types::{
     AbstractHeapType, CoreTypeId, HeapType, RecGroup, RefType, UnpackedIndex,
 };
-use wasm_validator::{
+use wasm_readers::{BinaryReader, FromReader};
+use wasm_validate_files::validator::{
     Error, TypeList, Types, ValidatorId, WasmFeatures, canonicalize_and_intern_rec_group, validate,
 };
 use wasm_validator_canonical::needs_type_canonicalization;

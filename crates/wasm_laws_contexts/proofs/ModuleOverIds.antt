@@ -18,7 +18,7 @@ use Rattle.wasm_validator_type_list.specs.DefTypes.{def_types}
 use Rattle.wasm_validator_type_list.proofs.Lookups.{group_found}
 use Rattle.wasm_validator_canonical.specs.Indices.{use_of_index, canonical_index}
 use Rattle.wasm_validator_canonical.specs.Sections.{written, StandsFor}
-use Rattle.wasm_validator_types.specs.Spaces.{Spaces}
+use Rattle.wasm_validator_core_resources.specs.WasmValidatorTypes.Spaces.{Spaces}
 use Rattle.wasm_operator_steps.specs.Bodies.{map_local}
 use Rattle.wasm_operator_steps.specs.Steps.{is_typed}
 use Rattle.wasm_operators.specs.Maps.{map_block}

@@ -1,3 +1,4 @@
+pub use Rattle.wasm_validator_core_resources.specs as WasmValidatorCoreResources
 pub mod Declaring
 pub mod Numbered
 pub mod ModuleOverIds

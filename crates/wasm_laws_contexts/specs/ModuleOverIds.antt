@@ -19,7 +19,7 @@ use Rattle.wasm_validator_type_list.specs.Listable.{AreListable}
 use Rattle.wasm_validator_type_list.specs.DefTypes.{def_types}
 use Rattle.wasm_validator_canonical.specs.Indices.{canonical_index}
 use Rattle.wasm_validator_canonical.specs.Sections.{written, StandsFor}
-use Rattle.wasm_validator_types.specs.Spaces.{Spaces}
+use Rattle.wasm_validator_core_resources.specs.WasmValidatorTypes.Spaces.{Spaces}
 use Rattle.wasm_operator_steps.specs.Bodies.{Local, Surroundings, map_local}
 use Rattle.wasm_operator_steps.specs.Steps.{is_typed}
 use Rattle.wasm_validator_core_resources.specs.ListContexts.{list_declares}

@@ -17,12 +17,12 @@ use Rattle.wasm_spec_rules.specs.ItemRules.{IsValidTableEntry, IsValidMemory, Is
 use Rattle.wasm_spec_rules.specs.Limits.{most_tables, most_memories}
 use Rattle.wasm_spec_rules.specs.Sections.{each}
 use Rattle.wasm_readers_types.specs.declared.indices.UnpackedIndex.{UnpackedIndex}
-use Rattle.wasm_validator_canonical.specs.Groups.{types_at}
-use Rattle.wasm_validator_canonical.specs.Indices.{canonical_index}
-use Rattle.wasm_validator_canonical.specs.Sections.{written}
-use Rattle.wasm_validator_checks.specs.Items.{is_function, is_valid_defined_table, is_valid_memory, is_valid_tag}
-use Rattle.wasm_validator_checks.specs.Laws.{Stand}
-use Rattle.wasm_validator_checks.proofs.Decided.{functions_are_decided, defined_tables_are_decided, memories_are_decided, tags_are_decided}
+use Rattle.wasm_validator_core.specs.WasmValidatorCanonical.Groups.{types_at}
+use Rattle.wasm_validator_core.specs.WasmValidatorCanonical.Indices.{canonical_index}
+use Rattle.wasm_validator_core.specs.WasmValidatorCanonical.Sections.{written}
+use Rattle.wasm_validator_core.specs.WasmValidatorChecks.Items.{is_function, is_valid_defined_table, is_valid_memory, is_valid_tag}
+use Rattle.wasm_validator_core.specs.WasmValidatorChecks.Laws.{Stand}
+use Rattle.wasm_validator_core.proofs.WasmValidatorChecks.Decided.{functions_are_decided, defined_tables_are_decided, memories_are_decided, tags_are_decided}
 use Rattle.wasm_validator_types.specs.Spaces.{Spaces}
 use Rattle.wasm_validator_core.specs.Items.{add_function, add_table, add_memory, add_tag}
 use Rattle.wasm_laws_core.specs.Shown.{spaces_of, listed_table}

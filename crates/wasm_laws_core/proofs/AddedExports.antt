@@ -16,8 +16,8 @@ use Rattle.wasm_spec_rules.specs.Sections.{each}
 use Rattle.wasm_spec_rules.specs.IndexSpaces.{IndexSpaces, index_spaces}
 use Rattle.wasm_spec_rules.specs.LinkRules.{exported, export_name, extern_size, size_if, import_size, export_size, effective_size, sum, IsMovableExtern, IsValidExport, HasDistinctNames}
 use Rattle.wasm_spec_rules.proofs.Verdicts.{Verdict, then_verdict, if_verdict, verdict_as, verdict_to, verdict_of, always}
-use Rattle.wasm_validator_checks.specs.Items.{is_movable}
-use Rattle.wasm_validator_checks.specs.Laws.{Stand}
+use Rattle.wasm_validator_core.specs.WasmValidatorChecks.Items.{is_movable}
+use Rattle.wasm_validator_core.specs.WasmValidatorChecks.Laws.{Stand}
 use Rattle.wasm_validator_types.specs.Entities.{Entity}
 use Rattle.wasm_validator_types.specs.Spaces.{Spaces, is_exported}
 use Rattle.wasm_validator_core.specs.Items.{grown, entity_size, export_movable, add_export}

@@ -16,12 +16,12 @@ use Rattle.wasm_spec_rules.specs.Contexts.{exact_in}
 use Rattle.wasm_spec_rules.specs.Limits.{most_tables, most_memories}
 use Rattle.wasm_spec_rules.specs.LinkRules.{IsValidImport, extern_size, import_size, sum}
 use Rattle.wasm_spec_rules.proofs.Verdicts.{Verdict, then_verdict, if_verdict, verdict_as, verdict_to, verdict_of, always}
-use Rattle.wasm_validator_canonical.specs.Groups.{types_at}
-use Rattle.wasm_validator_canonical.specs.Indices.{canonical_index}
-use Rattle.wasm_validator_canonical.specs.Sections.{written}
-use Rattle.wasm_validator_checks.specs.Items.{is_importable}
-use Rattle.wasm_validator_checks.specs.Laws.{Stand}
-use Rattle.wasm_validator_checks.proofs.Decided.{externs_are_decided}
+use Rattle.wasm_validator_core.specs.WasmValidatorCanonical.Groups.{types_at}
+use Rattle.wasm_validator_core.specs.WasmValidatorCanonical.Indices.{canonical_index}
+use Rattle.wasm_validator_core.specs.WasmValidatorCanonical.Sections.{written}
+use Rattle.wasm_validator_core.specs.WasmValidatorChecks.Items.{is_importable}
+use Rattle.wasm_validator_core.specs.WasmValidatorChecks.Laws.{Stand}
+use Rattle.wasm_validator_core.proofs.WasmValidatorChecks.Decided.{externs_are_decided}
 use Rattle.wasm_validator_types.specs.Spaces.{Spaces, with_import}
 use Rattle.wasm_validator_types.specs.Entities.{Entity}
 use Rattle.wasm_validator_core.specs.Items as machine

@@ -13,8 +13,8 @@ use Rattle.wasm_spec_rules.specs.Contexts.{is_exact}
 use Rattle.wasm_spec_rules.specs.IndexSpaces.{IndexSpaces, signature_at, IsFunctionType}
 use Rattle.wasm_spec_rules.specs.LinkRules.{exported, signature_size, extern_size, IsMovableExtern}
 use Rattle.wasm_spec_rules.proofs.Tests.{chosen, map_some}
-use Rattle.wasm_validator_checks.specs.Items.{is_movable}
-use Rattle.wasm_validator_checks.specs.Laws.{Stand}
+use Rattle.wasm_validator_core.specs.WasmValidatorChecks.Items.{is_movable}
+use Rattle.wasm_validator_core.specs.WasmValidatorChecks.Laws.{Stand}
 use Rattle.wasm_validator_types.specs.Entities.{Entity}
 use Rattle.wasm_validator_types.specs.Spaces.{Spaces}
 use Rattle.wasm_validator_core.specs.Items.{entity_size, function_entity, exported_function, exported_table, exported_memory, exported_global, exported_tag, exported_entity}

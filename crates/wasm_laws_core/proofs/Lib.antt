@@ -1,3 +1,5 @@
+pub use Rattle.wasm_validator_core.proofs.WasmValidatorCanonical as WasmValidatorCanonical
+pub use Rattle.wasm_validator_core.proofs.WasmValidatorChecks as WasmValidatorChecks
 pub mod Steps
 pub mod Fronts
 pub mod Sizes

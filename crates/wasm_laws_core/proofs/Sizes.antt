@@ -6,9 +6,9 @@ use Rattle.wasm_spec.specs.Features.{Features}
 use Rattle.wasm_spec.specs.Trees.{DefType}
 use Rattle.wasm_spec_rules.specs.IndexSpaces.{signature_at, IsFunctionType}
 use Rattle.wasm_spec_rules.specs.LinkRules.{IsValidExtern, signature_size, extern_size}
-use Rattle.wasm_validator_canonical.specs.Arities.{arity, arity_at}
-use Rattle.wasm_validator_canonical.proofs.Arities.{ids_keep_arities}
-use Rattle.wasm_validator_checks.specs.Laws.{Stand}
+use Rattle.wasm_validator_core.specs.WasmValidatorCanonical.Arities.{arity, arity_at}
+use Rattle.wasm_validator_core.proofs.WasmValidatorCanonical.Arities.{ids_keep_arities}
+use Rattle.wasm_validator_core.specs.WasmValidatorChecks.Laws.{Stand}
 use Rattle.wasm_validator_core.specs.Items.{function_size, entity_size}
 use Rattle.wasm_laws_core.specs.Shown.{entity_in}
 

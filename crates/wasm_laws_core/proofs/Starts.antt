@@ -9,10 +9,10 @@ use Rattle.wasm_spec.specs.Trees.{DefType, declared}
 use Rattle.wasm_spec_rules.specs.Parts.{Parts}
 use Rattle.wasm_spec_rules.specs.IndexSpaces.{index_spaces, signature, signature_at}
 use Rattle.wasm_spec_rules.specs.LinkRules.{IsValidStart}
-use Rattle.wasm_validator_canonical.specs.Arities.{arity, type_arity, arity_at}
-use Rattle.wasm_validator_canonical.specs.Groups.{types_at}
-use Rattle.wasm_validator_checks.specs.Laws.{Stand}
-use Rattle.wasm_validator_checks.proofs.Decided.{arities_are_kept}
+use Rattle.wasm_validator_core.specs.WasmValidatorCanonical.Arities.{arity, type_arity, arity_at}
+use Rattle.wasm_validator_core.specs.WasmValidatorCanonical.Groups.{types_at}
+use Rattle.wasm_validator_core.specs.WasmValidatorChecks.Laws.{Stand}
+use Rattle.wasm_validator_core.proofs.WasmValidatorChecks.Decided.{arities_are_kept}
 use Rattle.wasm_validator_core.specs.Items.{takes_and_gives_nothing}
 use Rattle.wasm_laws_core.specs.Laws.{StartsAreDecided}
 

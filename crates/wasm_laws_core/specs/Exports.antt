@@ -8,7 +8,7 @@ use Rattle.wasm_spec.specs.Features.{Features, canonical}
 use Rattle.wasm_spec.specs.Trees.{DefType}
 use Rattle.wasm_spec_rules.specs.IndexSpaces.{IndexSpaces, IsFunctionType}
 use Rattle.wasm_spec_rules.specs.LinkRules.{IsValidExport, export_name, export_size, sum}
-use Rattle.wasm_validator_checks.specs.Laws.{Stand}
+use Rattle.wasm_validator_core.specs.WasmValidatorChecks.Laws.{Stand}
 use Rattle.wasm_validator_types.specs.Entities.{Entity}
 use Rattle.wasm_validator_types.specs.Spaces.{Spaces}
 use Rattle.wasm_laws_core.specs.Lists.{add_exports}

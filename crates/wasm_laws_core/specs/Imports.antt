@@ -9,8 +9,8 @@ use Rattle.wasm_spec_rules.specs.Contexts.{exact_in}
 use Rattle.wasm_spec_rules.specs.IndexSpaces.{functions_in, tables_in, memories_in, globals_in, tags_in}
 use Rattle.wasm_spec_rules.specs.Limits.{most_tables, most_memories}
 use Rattle.wasm_spec_rules.specs.LinkRules.{IsValidImport, extern_size}
-use Rattle.wasm_validator_checks.specs.Laws.{Stand}
-use Rattle.wasm_validator_canonical.specs.Sections.{written}
+use Rattle.wasm_validator_core.specs.WasmValidatorChecks.Laws.{Stand}
+use Rattle.wasm_validator_core.specs.WasmValidatorCanonical.Sections.{written}
 use Rattle.wasm_validator_types.specs.Spaces.{Spaces, with_import}
 use Rattle.wasm_validator_core.specs.Items.{add_import}
 use Rattle.wasm_laws_core.specs.Shown.{entity_in, listed_table, listed_global}

@@ -14,7 +14,7 @@ use Rattle.wasm_spec_rules.specs.IndexSpaces.{index_spaces, imported, functions_
 use Rattle.wasm_spec_rules.specs.ItemRules.{IsValidTableEntry, IsValidMemory, IsValidTag}
 use Rattle.wasm_spec_rules.specs.LinkRules.{IsValidImport, IsValidExport, HasDistinctNames, effective_size, IsValidStart}
 use Rattle.wasm_spec_rules.specs.Limits.{most_tables, most_memories}
-use Rattle.wasm_validator_checks.specs.Laws.{Stand}
+use Rattle.wasm_validator_core.specs.WasmValidatorChecks.Laws.{Stand}
 use Rattle.wasm_validator_types.specs.Spaces.{Spaces}
 use Rattle.wasm_validator_core.specs.Items.{is_startable}
 use Rattle.wasm_laws_core.specs.Shown.{spaces_of}

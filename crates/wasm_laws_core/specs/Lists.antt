@@ -13,7 +13,7 @@ use Rattle.wasm_spec_rules.specs.ItemRules.{IsValidTableEntry, IsValidMemory, Is
 use Rattle.wasm_spec_rules.specs.LinkRules.{IsValidImport, IsValidExport, HasDistinctNames, effective_size}
 use Rattle.wasm_spec_rules.specs.Limits.{most_tables, most_memories}
 use Rattle.wasm_spec_rules.specs.Sections.{each}
-use Rattle.wasm_validator_canonical.specs.Sections.{written}
+use Rattle.wasm_validator_core.specs.WasmValidatorCanonical.Sections.{written}
 use Rattle.wasm_validator_types.specs.Spaces.{Spaces, no_spaces}
 use Rattle.wasm_validator_core.specs.Answers.{TypesSoFar}
 use Rattle.wasm_validator_core.specs.Items.{add_import, add_function, add_table, add_memory, add_tag, add_export}

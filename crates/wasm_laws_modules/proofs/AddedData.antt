@@ -14,8 +14,8 @@ use Rattle.wasm_spec_rules.specs.Parts.{Parts, Expression}
 use Rattle.wasm_spec_rules.specs.IndexSpaces.{index_spaces}
 use Rattle.wasm_spec_rules.specs.SegmentRules.{index_or_first, IsValidDataMode, IsValidData}
 use Rattle.wasm_spec_rules.proofs.Verdicts.{Verdict, verdict_as}
-use Rattle.wasm_operator_steps.specs.Meanings.{address}
-use Rattle.wasm_validator_types.specs.Spaces.{Spaces}
+use Rattle.wasm_spec_validity.specs.WasmOperatorSteps.Meanings.{address}
+use Rattle.wasm_laws_core.specs.WasmValidatorTypes.Spaces.{Spaces}
 use Rattle.wasm_laws_core.specs.Shown.{spaces_of}
 use Rattle.wasm_laws_contexts.specs.ListedTypes.{types_declare}
 use Rattle.wasm_spec_validity.specs.Typing.{IsConstant, IsTypedDataMode, IsTypedData}

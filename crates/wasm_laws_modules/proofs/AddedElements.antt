@@ -25,15 +25,15 @@ use Rattle.wasm_spec_rules.specs.LinkRules.{IsValidExtern, IsValidImport}
 use Rattle.wasm_spec_rules.specs.SegmentRules.{items_type, items_count, AreValidItems, index_or_first, GoesToTable, IsValidElementMode, IsValidElement}
 use Rattle.wasm_spec_rules.specs.Sections.{each}
 use Rattle.wasm_spec_rules.proofs.Verdicts.{Verdict, verdict_as, verdict_of}
-use Rattle.wasm_operator_steps.specs.Meanings.{address}
+use Rattle.wasm_spec_validity.specs.WasmOperatorSteps.Meanings.{address}
 use Rattle.wasm_readers_types.specs.declared.indices.UnpackedIndex.{UnpackedIndex}
-use Rattle.wasm_validator_canonical.specs.Groups.{nowhere}
-use Rattle.wasm_validator_canonical.specs.Indices.{canonical_index}
-use Rattle.wasm_validator_canonical.specs.Sections.{written}
-use Rattle.wasm_validator_checks.specs.Items.{is_ref_in_range}
-use Rattle.wasm_validator_checks.proofs.Kept.{length_kept}
+use Rattle.wasm_laws_core.specs.WasmValidatorCanonical.Groups.{nowhere}
+use Rattle.wasm_laws_core.specs.WasmValidatorCanonical.Indices.{canonical_index}
+use Rattle.wasm_laws_core.specs.WasmValidatorCanonical.Sections.{written}
+use Rattle.wasm_laws_core.specs.WasmValidatorChecks.Items.{is_ref_in_range}
+use Rattle.wasm_laws_core.proofs.WasmValidatorChecks.Kept.{length_kept}
 use Rattle.wasm_validator_resources.specs.Answers.{world}
-use Rattle.wasm_validator_types.specs.Spaces.{Spaces}
+use Rattle.wasm_laws_core.specs.WasmValidatorTypes.Spaces.{Spaces}
 use Rattle.wasm_laws_core.specs.Shown.{listed, listed_table, listed_element, spaces_of}
 use Rattle.wasm_laws_core.proofs.AddedItems.{for_each, each_changed}
 use Rattle.wasm_laws_contexts.specs.ListedTypes.{types_declare}

@@ -18,12 +18,12 @@ use Rattle.wasm_spec_rules.specs.LinkRules.{IsValidExtern, IsValidImport}
 use Rattle.wasm_spec_rules.specs.Sections.{each}
 use Rattle.wasm_spec_rules.proofs.Verdicts.{Verdict, verdict_as, verdict_of}
 use Rattle.wasm_readers_types.specs.declared.indices.UnpackedIndex.{UnpackedIndex}
-use Rattle.wasm_validator_canonical.specs.Groups.{types_at}
-use Rattle.wasm_validator_canonical.specs.Indices.{canonical_index}
-use Rattle.wasm_validator_canonical.specs.Sections.{written}
-use Rattle.wasm_validator_checks.specs.Items.{is_valid_global}
-use Rattle.wasm_validator_checks.proofs.Decided.{globals_are_decided}
-use Rattle.wasm_validator_types.specs.Spaces.{Spaces}
+use Rattle.wasm_laws_core.specs.WasmValidatorCanonical.Groups.{types_at}
+use Rattle.wasm_laws_core.specs.WasmValidatorCanonical.Indices.{canonical_index}
+use Rattle.wasm_laws_core.specs.WasmValidatorCanonical.Sections.{written}
+use Rattle.wasm_laws_core.specs.WasmValidatorChecks.Items.{is_valid_global}
+use Rattle.wasm_laws_core.proofs.WasmValidatorChecks.Decided.{globals_are_decided}
+use Rattle.wasm_laws_core.specs.WasmValidatorTypes.Spaces.{Spaces}
 use Rattle.wasm_laws_core.specs.Shown.{listed_global, spaces_of}
 use Rattle.wasm_laws_core.proofs.AddedItems.{for_each, each_changed}
 use Rattle.wasm_laws_contexts.specs.ListedTypes.{types_declare}

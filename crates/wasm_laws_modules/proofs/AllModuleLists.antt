@@ -12,7 +12,7 @@ use Rattle.wasm_spec_rules.specs.ItemRules.{IsValidTableEntry, IsValidMemory, Is
 use Rattle.wasm_spec_rules.specs.LinkRules.{IsValidExport, HasDistinctNames, effective_size, sum, import_size, export_size}
 use Rattle.wasm_spec_rules.specs.SegmentRules.{IsValidElement, IsValidData}
 use Rattle.wasm_spec_rules.specs.Limits.{most_tables, most_memories}
-use Rattle.wasm_validator_types.specs.Spaces.{Spaces}
+use Rattle.wasm_laws_core.specs.WasmValidatorTypes.Spaces.{Spaces}
 use Rattle.wasm_laws_core.specs.Shown.{spaces_of}
 use Rattle.wasm_laws_core.specs.Lists.{only_types, only_imports, up_to_functions, add_imports, add_functions, add_memories, add_tags, add_exports}
 use Rattle.wasm_laws_core.specs.Laws.{AreValidImports}

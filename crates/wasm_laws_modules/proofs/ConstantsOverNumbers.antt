@@ -14,19 +14,19 @@ use Rattle.wasm_spec_rules.specs.IndexSpaces.{IndexSpaces, IsValInRange}
 use Rattle.wasm_spec_rules.specs.Parts.{Parts, Expression}
 use Rattle.wasm_spec_rules.specs.Worlds.{world_of}
 use Rattle.wasm_readers_types.specs.declared.indices.UnpackedIndex.{UnpackedIndex}
-use Rattle.wasm_validator_canonical.specs.Groups.{AreValid}
-use Rattle.wasm_validator_canonical.specs.Sections.{StandsFor}
-use Rattle.wasm_operators.specs.Control.{value_block}
-use Rattle.wasm_operator_steps.specs.Bodies.{Surroundings, map_surroundings}
-use Rattle.wasm_operator_steps.specs.ConstantRules.{IsConstantExpression}
-use Rattle.wasm_operator_steps.specs.Machine.{map_state}
-use Rattle.wasm_operator_steps.specs.Renaming.{Renames}
-use Rattle.wasm_operator_steps.specs.Steps.{start}
-use Rattle.wasm_validator_core_resources.specs.IndexContexts.{id_of}
+use Rattle.wasm_laws_core.specs.WasmValidatorCanonical.Groups.{AreValid}
+use Rattle.wasm_laws_core.specs.WasmValidatorCanonical.Sections.{StandsFor}
+use Rattle.wasm_spec_validity.specs.WasmOperators.Control.{value_block}
+use Rattle.wasm_spec_validity.specs.WasmOperatorSteps.Bodies.{Surroundings, map_surroundings}
+use Rattle.wasm_spec_validity.specs.WasmOperatorSteps.ConstantRules.{IsConstantExpression}
+use Rattle.wasm_spec_validity.specs.WasmOperatorSteps.Machine.{map_state}
+use Rattle.wasm_spec_validity.specs.WasmOperatorSteps.Renaming.{Renames}
+use Rattle.wasm_spec_validity.specs.WasmOperatorSteps.Steps.{start}
+use Rattle.wasm_laws_contexts.specs.WasmValidatorCoreResources.IndexContexts.{id_of}
 use Rattle.wasm_validator_resources.specs.Answers.{world}
-use Rattle.wasm_validator_types.specs.Spaces.{Spaces}
+use Rattle.wasm_laws_core.specs.WasmValidatorTypes.Spaces.{Spaces}
 use Rattle.wasm_laws_core.specs.Shown.{listed}
-use Rattle.wasm_validator_core_resources.specs.ModuleContexts.{exact_flags, numbers_from}
+use Rattle.wasm_laws_contexts.specs.WasmValidatorCoreResources.ModuleContexts.{exact_flags, numbers_from}
 use Rattle.wasm_validator_items.specs.Expressions.{around_constants, behind_expression}
 use Rattle.wasm_validator_items.proofs.Finding.{are_found}
 use Rattle.wasm_laws_contexts.specs.ListedTypes.{types_declare}

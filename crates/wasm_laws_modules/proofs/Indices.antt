@@ -5,8 +5,8 @@ use Rattle.std.proofs.lemmas.Option.{get_or_from_slice_get}
 use Rattle.wasm_spec.specs.Trees.{DefType}
 use Rattle.wasm_spec_rules.specs.IndexSpaces.{nowhere, type_at}
 use Rattle.wasm_validator_type_list.proofs.Lookups.{group_found}
-use Rattle.wasm_validator_canonical.specs.Indices.{use_of_index}
-use Rattle.wasm_validator_canonical.specs.Sections.{StandsFor}
+use Rattle.wasm_laws_core.specs.WasmValidatorCanonical.Indices.{use_of_index}
+use Rattle.wasm_laws_core.specs.WasmValidatorCanonical.Sections.{StandsFor}
 use Rattle.wasm_laws_core.specs.Shown.{listed}
 use Rattle.wasm_laws_contexts.specs.Numbered.{identity_at}
 use Rattle.wasm_laws_contexts.proofs.InRange.{zip_at}

@@ -14,7 +14,7 @@ use Rattle.wasm_spec.specs.Trees.{DefType, declared}
 use Rattle.wasm_spec_rules.specs.Attempts.{◌>>=◌}
 use Rattle.wasm_spec_rules.specs.Contexts.{Context}
 use Rattle.wasm_spec_rules.specs.Worlds.{declared_in, world_of}
-use Rattle.wasm_operator_steps.proofs.WorldsDecided.{worlds_are_right}
+use Rattle.wasm_spec_validity.proofs.WasmOperatorSteps.WorldsDecided.{worlds_are_right}
 use Rattle.wasm_laws_contexts.specs.Numbered.{AreNumbered, same_number}
 use Rattle.wasm_laws_contexts.proofs.Counted.{count_below, count-most, count-more}
 use Rattle.wasm_laws_contexts.proofs.Numbered.{other_number, place_of, contains_at, value_of}

@@ -13,8 +13,8 @@ use Rattle.wasm_spec_rules.specs.Worlds.{declared_in, is_below, world_of}
 use Rattle.wasm_readers_types.specs.declared.indices.UnpackedIndex.{UnpackedIndex}
 use Rattle.wasm_readers_types.specs.declared.indices.UnpackedIndex.TheVariants.{Module}
 use Rattle.wasm_validator_type_list.proofs.Lookups.{group_found}
-use Rattle.wasm_operator_steps.specs.Renaming.{Renames}
-use Rattle.wasm_validator_core_resources.specs.IndexContexts.{id_of, same_index}
+use Rattle.wasm_spec_validity.specs.WasmOperatorSteps.Renaming.{Renames}
+use Rattle.wasm_laws_contexts.specs.WasmValidatorCoreResources.IndexContexts.{id_of, same_index}
 use Rattle.wasm_laws_contexts.specs.ListedTypes.{number_in, id_in, types_declare}
 use Rattle.wasm_laws_contexts.specs.Numbered.{AreNumbered, same_number, identity_or, identity_at}
 use Rattle.wasm_laws_contexts.proofs.Counted.{count_below, count-most, count-more}

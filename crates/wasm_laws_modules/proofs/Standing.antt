@@ -19,11 +19,11 @@ use Rattle.wasm_spec_rules.specs.Worlds.{world_of}
 use Rattle.wasm_readers_types.specs.declared.indices.UnpackedIndex.{UnpackedIndex}
 use Rattle.wasm_validator_type_groups.specs.Elements.{numbers_from}
 use Rattle.wasm_validator_type_list.proofs.Lookups.{group_found}
-use Rattle.wasm_validator_canonical.specs.Groups.{AreValid}
-use Rattle.wasm_validator_canonical.specs.Sections.{StandsFor}
-use Rattle.wasm_validator_canonical.proofs.ValidAlone.{valid_alone, alone_before, alone_same}
-use Rattle.wasm_operator_steps.specs.Renaming.{Renames}
-use Rattle.wasm_validator_core_resources.specs.IndexContexts.{id_of, same_index}
+use Rattle.wasm_laws_core.specs.WasmValidatorCanonical.Groups.{AreValid}
+use Rattle.wasm_laws_core.specs.WasmValidatorCanonical.Sections.{StandsFor}
+use Rattle.wasm_laws_core.proofs.WasmValidatorCanonical.ValidAlone.{valid_alone, alone_before, alone_same}
+use Rattle.wasm_spec_validity.specs.WasmOperatorSteps.Renaming.{Renames}
+use Rattle.wasm_laws_contexts.specs.WasmValidatorCoreResources.IndexContexts.{id_of, same_index}
 use Rattle.wasm_laws_contexts.specs.ListedTypes.{id_in, types_declare}
 use Rattle.wasm_laws_contexts.specs.Numbered.{AreNumbered, same_number, identity_or, identity_at}
 use Rattle.wasm_laws_contexts.proofs.AcceptedNumbered.{all_of, accepted_types_are_numbered}

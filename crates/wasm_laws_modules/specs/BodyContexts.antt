@@ -11,12 +11,12 @@ use Rattle.wasm_spec_rules.specs.LinkRules.{referenced}
 use Rattle.wasm_spec_rules.specs.Modules.{AreValidParts}
 use Rattle.wasm_spec_rules.specs.Parts.{Parts}
 use Rattle.wasm_readers_types.specs.declared.indices.UnpackedIndex.{UnpackedIndex}
-use Rattle.wasm_validator_canonical.specs.Groups.{AreValid}
-use Rattle.wasm_validator_checks.specs.Laws.{Stand}
-use Rattle.wasm_validator_types.specs.Spaces.{Spaces}
+use Rattle.wasm_laws_core.specs.WasmValidatorCanonical.Groups.{AreValid}
+use Rattle.wasm_laws_core.specs.WasmValidatorChecks.Laws.{Stand}
+use Rattle.wasm_laws_core.specs.WasmValidatorTypes.Spaces.{Spaces}
 use Rattle.wasm_laws_core.specs.Shown.{spaces_of}
-use Rattle.wasm_validator_core_resources.specs.ModuleContexts.{exact_flags}
-use Rattle.wasm_validator_core_resources.specs.IndexContexts.{id_of}
+use Rattle.wasm_laws_contexts.specs.WasmValidatorCoreResources.ModuleContexts.{exact_flags}
+use Rattle.wasm_laws_contexts.specs.WasmValidatorCoreResources.IndexContexts.{id_of}
 use Rattle.wasm_validator_resources.specs.Answers.{same_index}
 use Rattle.wasm_laws_contexts.specs.ListedTypes.{types_declare}
 use Rattle.wasm_spec_validity.specs.Expressions.{named}

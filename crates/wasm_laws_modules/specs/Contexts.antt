@@ -15,10 +15,10 @@ use Rattle.wasm_spec_rules.specs.Parts.{Parts, Expression}
 use Rattle.wasm_spec_rules.specs.IndexSpaces.{IndexSpaces, ref_over, IsRefInRange, IsValInRange}
 use Rattle.wasm_spec_rules.specs.Contexts.{exact_in}
 use Rattle.wasm_validator_type_groups.specs.Elements.{numbers_from}
-use Rattle.wasm_validator_canonical.specs.Groups.{AreValid}
-use Rattle.wasm_validator_checks.specs.Laws.{Stand}
+use Rattle.wasm_laws_core.specs.WasmValidatorCanonical.Groups.{AreValid}
+use Rattle.wasm_laws_core.specs.WasmValidatorChecks.Laws.{Stand}
 use Rattle.wasm_validator_resources.specs.Answers.{world}
-use Rattle.wasm_validator_types.specs.Spaces.{Spaces}
+use Rattle.wasm_laws_core.specs.WasmValidatorTypes.Spaces.{Spaces}
 use Rattle.wasm_laws_core.specs.Shown.{listed, listed_global}
 use Rattle.wasm_laws_contexts.specs.ListedTypes.{types_declare}
 use Rattle.wasm_spec_validity.specs.Typing.{IsConstant}

@@ -7,9 +7,9 @@ use Rattle.wasm_spec.specs.Trees.{DefType}
 use Rattle.wasm_spec.specs.TypeLaws.{HasNoRepetition}
 use Rattle.wasm_spec_rules.specs.Parts.{Parts}
 use Rattle.wasm_spec_rules.specs.IndexSpaces.{index_spaces}
-use Rattle.wasm_validator_canonical.specs.Groups.{AreValid}
-use Rattle.wasm_validator_checks.specs.Laws.{Stand}
-use Rattle.wasm_validator_types.specs.Spaces.{Spaces}
+use Rattle.wasm_laws_core.specs.WasmValidatorCanonical.Groups.{AreValid}
+use Rattle.wasm_laws_core.specs.WasmValidatorChecks.Laws.{Stand}
+use Rattle.wasm_laws_core.specs.WasmValidatorTypes.Spaces.{Spaces}
 use Rattle.wasm_laws_core.specs.Shown.{spaces_of}
 use Rattle.wasm_laws_core.specs.Lists.{only_types}
 use Rattle.wasm_spec_validity.specs.Typing.{HasTypedConstants}

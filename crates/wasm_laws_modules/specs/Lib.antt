@@ -1,3 +1,5 @@
+pub use Rattle.wasm_laws_core.specs as WasmLawsCore
+pub use Rattle.wasm_laws_contexts.specs as WasmLawsContexts
 pub use Rattle.wasm_validator_items.specs.Maps
 pub use Rattle.wasm_validator_items.specs.Reading
 pub mod Contexts

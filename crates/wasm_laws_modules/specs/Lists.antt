@@ -12,9 +12,9 @@ use Rattle.wasm_spec_rules.specs.LinkRules.{IsValidImport, IsValidExport, HasDis
 use Rattle.wasm_spec_rules.specs.SegmentRules.{IsValidElement, IsValidData}
 use Rattle.wasm_spec_rules.specs.Limits.{most_tables, most_memories}
 use Rattle.wasm_spec_rules.specs.Sections.{each}
-use Rattle.wasm_validator_canonical.specs.Sections.{written}
-use Rattle.wasm_validator_types.specs.Spaces.{Spaces}
-use Rattle.wasm_validator_core.specs.Answers.{TypesSoFar}
+use Rattle.wasm_laws_core.specs.WasmValidatorCanonical.Sections.{written}
+use Rattle.wasm_laws_core.specs.WasmValidatorTypes.Spaces.{Spaces}
+use Rattle.wasm_laws_core.specs.WasmValidatorCore.Answers.{TypesSoFar}
 use Rattle.wasm_laws_core.specs.Lists.{up_to_functions, add_imports, add_functions, add_memories, add_tags, add_exports}
 use Rattle.wasm_laws_contexts.specs.ListedTypes.{types_declare}
 use Rattle.wasm_validator_items.specs.Entries.{add_table_entry, add_global_entry, add_element, add_data}

@@ -4,16 +4,16 @@ use Rattle.std.specs.Option.{option_map}
 use Rattle.std.specs.Prelude.{Option, Some, None, slice_get, Err}
 use Rattle.wasm_spec.specs.MatchingTests.{World, same_flag, matches_val}
 use Rattle.wasm_spec.specs.Syntax.{Ref, Val, i32, concrete, reference, Field}
-use Rattle.wasm_spec_rules.specs.Contexts.{Context}
+use Rattle.wasm_operator_checks.specs.WasmSpecRules.Contexts.{Context}
 use Rattle.wasm_readers_types.specs.declared.indices.UnpackedIndex.{UnpackedIndex}
-use Rattle.wasm_spec_rules.specs.Attempts.{passes}
-use Rattle.wasm_operator_steps.specs.Actions.{gc, has, Action, need, these, element, segment, repeated, each_matches, element_is_mutable, element_has_default, element_is_number, element_is_packed, element_is_storable, reaches_type}
-use Rattle.wasm_operator_steps.specs.Machine.{State, same_number}
-use Rattle.wasm_operator_steps.specs.Matching.{matches_vals, matches_storage}
-use Rattle.wasm_operator_steps.specs.Meanings.{one, copies, ref_to, has_default, is_packed, unpack_field}
-use Rattle.wasm_operator_steps.specs.Shapes.{nullable_to}
-use Rattle.wasm_validator_resources.specs.Answers.{world}
-use Rattle.wasm_operator_stacks.specs.declared.stacks.Stacks.{Stacks}
+use Rattle.wasm_operator_checks.specs.WasmSpecRules.Attempts.{passes}
+use Rattle.wasm_operator_checks.specs.WasmOperatorSteps.Actions.{gc, has, Action, need, these, element, segment, repeated, each_matches, element_is_mutable, element_has_default, element_is_number, element_is_packed, element_is_storable, reaches_type}
+use Rattle.wasm_operator_checks.specs.WasmOperatorSteps.Machine.{State, same_number}
+use Rattle.wasm_operator_checks.specs.WasmOperatorSteps.Matching.{matches_vals, matches_storage}
+use Rattle.wasm_operator_checks.specs.WasmOperatorSteps.Meanings.{one, copies, ref_to, has_default, is_packed, unpack_field}
+use Rattle.wasm_operator_checks.specs.WasmOperatorSteps.Shapes.{nullable_to}
+use Rattle.wasm_operator_checks.specs.WasmValidatorResources.Answers.{world}
+use Rattle.wasm_operator_checks.specs.WasmOperatorStacks.declared.stacks.Stacks.{Stacks}
 use Rattle.wasm_operator_checks.specs.Steps.{Took, acted, typed, held}
 use Rattle.wasm_operator_checks.specs.declared.faults.OperatorFault.{OperatorFault}
 use Rattle.wasm_operator_checks.specs.declared.faults.OperatorError.TheVariants.{Refused}

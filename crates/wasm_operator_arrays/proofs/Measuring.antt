@@ -5,16 +5,16 @@ use Rattle.wasm_spec.specs.Matching.{is_shared_heap}
 use Rattle.wasm_spec.specs.MatchingTests.{World, matches_val}
 use Rattle.wasm_spec.specs.Syntax.{AbstractHeap, abstract_heap, Ref, i32, i64, f32, f64, v128, reference}
 use Rattle.wasm_spec.specs.ValueTypes.{implies}
-use Rattle.wasm_spec_rules.specs.Contexts.{Context}
+use Rattle.wasm_operator_checks.specs.WasmSpecRules.Contexts.{Context}
 use Rattle.wasm_readers_types.specs.declared.indices.UnpackedIndex.{UnpackedIndex}
-use Rattle.wasm_operator_steps.specs.Actions.{Action, take_below, give, these}
-use Rattle.wasm_spec_rules.specs.Attempts.{◌>>=◌, guard}
-use Rattle.wasm_operator_steps.specs.Bodies.{Surroundings}
-use Rattle.wasm_operator_steps.specs.Machine.{Operand, bottom, bottom_reference, open_reference, known, State, push_operand, pop_any, as_reference}
-use Rattle.wasm_operator_steps.specs.Meanings.{is_below_either, act, run}
-use Rattle.wasm_validator_resources.specs.Answers.{world}
-use Rattle.wasm_operator_stacks.specs.Seen.{state_of, around}
-use Rattle.wasm_operator_stacks.specs.declared.stacks.Stacks.{Stacks}
+use Rattle.wasm_operator_checks.specs.WasmOperatorSteps.Actions.{Action, take_below, give, these}
+use Rattle.wasm_operator_checks.specs.WasmSpecRules.Attempts.{◌>>=◌, guard}
+use Rattle.wasm_operator_checks.specs.WasmOperatorSteps.Bodies.{Surroundings}
+use Rattle.wasm_operator_checks.specs.WasmOperatorSteps.Machine.{Operand, bottom, bottom_reference, open_reference, known, State, push_operand, pop_any, as_reference}
+use Rattle.wasm_operator_checks.specs.WasmOperatorSteps.Meanings.{is_below_either, act, run}
+use Rattle.wasm_operator_checks.specs.WasmValidatorResources.Answers.{world}
+use Rattle.wasm_operator_checks.specs.WasmOperatorStacks.Seen.{state_of, around}
+use Rattle.wasm_operator_checks.specs.WasmOperatorStacks.declared.stacks.Stacks.{Stacks}
 use Rattle.wasm_operator_checks.specs.Steps.{acted}
 use Rattle.wasm_operator_arrays.specs.Lengths.{is_reference_below}
 

@@ -4,8 +4,8 @@ use Rattle.std.specs.Prelude.{zero, suc, Some, None, Option}
 use Rattle.wasm_spec.specs.MatchingTests.{World}
 use Rattle.wasm_spec.specs.Syntax.{Val}
 use Rattle.wasm_readers_types.specs.declared.indices.UnpackedIndex.{UnpackedIndex}
-use Rattle.wasm_operator_steps.specs.Machine.{State, pop_val, pop_vals}
-use Rattle.wasm_operator_steps.specs.Meanings.{copies}
+use Rattle.wasm_operator_checks.specs.WasmOperatorSteps.Machine.{State, pop_val, pop_vals}
+use Rattle.wasm_operator_checks.specs.WasmOperatorSteps.Meanings.{copies}
 
 module _ (W : World UnpackedIndex) (v : Val UnpackedIndex) where
   -- so many operands of one type

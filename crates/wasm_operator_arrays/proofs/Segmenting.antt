@@ -4,13 +4,13 @@ use Rattle.std.specs.Option.{option_map}
 use Rattle.std.specs.Prelude.{Option, Some, None, slice_get}
 use Rattle.wasm_spec.specs.MatchingTests.{World, matches_val}
 use Rattle.wasm_spec.specs.Syntax.{Ref, Val, i32, i64, f32, f64, v128, reference}
-use Rattle.wasm_spec_rules.specs.Contexts.{Context}
+use Rattle.wasm_operator_checks.specs.WasmSpecRules.Contexts.{Context}
 use Rattle.wasm_readers_types.specs.SeenValues.{ref_of}
 use Rattle.wasm_readers_types.specs.declared.indices.UnpackedIndex.{UnpackedIndex}
 use Rattle.wasm_readers_types.specs.declared.values.RefType.{RefType}
-use Rattle.wasm_spec_rules.specs.Attempts.{passes}
-use Rattle.wasm_operator_steps.specs.Machine.{same_number}
-use Rattle.wasm_validator_resources.specs.Answers.{world}
+use Rattle.wasm_operator_checks.specs.WasmSpecRules.Attempts.{passes}
+use Rattle.wasm_operator_checks.specs.WasmOperatorSteps.Machine.{same_number}
+use Rattle.wasm_operator_checks.specs.WasmValidatorResources.Answers.{world}
 use Rattle.wasm_operator_arrays.specs.Segments.{segment_matches}
 
 -- no reference is a number

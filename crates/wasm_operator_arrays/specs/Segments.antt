@@ -2,10 +2,10 @@
 use Rattle.std.specs.Prelude.{ℕ, Bool, slice_get}
 use Rattle.wasm_spec.specs.MatchingTests.{matches_val}
 use Rattle.wasm_spec.specs.Syntax.{Val, reference}
-use Rattle.wasm_spec_rules.specs.Contexts.{Context}
+use Rattle.wasm_operator_checks.specs.WasmSpecRules.Contexts.{Context}
 use Rattle.wasm_readers_types.specs.declared.indices.UnpackedIndex.{UnpackedIndex}
-use Rattle.wasm_spec_rules.specs.Attempts.{passes}
-use Rattle.wasm_validator_resources.specs.Answers.{world}
+use Rattle.wasm_operator_checks.specs.WasmSpecRules.Attempts.{passes}
+use Rattle.wasm_operator_checks.specs.WasmValidatorResources.Answers.{world}
 
 -- an element segment is there, and its references are of a type
 abbrev pub segment_matches : Context UnpackedIndex → ℕ → Val UnpackedIndex → Bool

@@ -2,19 +2,19 @@
 
 ghost use Rattle.std.specs.Prelude.{◌≡◌};
 ghost use Rattle.wasm_operators_plain.specs.declared.arrays.ArrayOperator.TheVariants.{ArrayGet, ArrayGetS, ArrayGetU, ArraySet};
-ghost use Rattle.wasm_operator_steps.specs.Shapes.{array_shape, item};
-ghost use Rattle.wasm_operator_stacks.specs.Seen.{Kept};
+ghost use Rattle.wasm_operator_checks.specs.WasmOperatorSteps.Shapes.{array_shape, item};
+ghost use Rattle.wasm_operator_checks.specs.WasmOperatorStacks.Seen.{Kept};
 ghost use Rattle.wasm_operator_checks.specs.Steps.{Performs};
 
 use crate::reached::{reach_elements, reach_mutable};
 use std::alloc::Allocator;
+use wasm_operator_checks::operator_stacks::{Stacks, TypeWord};
+use wasm_operator_checks::validator_resources::WasmModuleResources;
 use wasm_operator_checks::{
     OperatorError, OperatorFault, OperatorRule, Takes, ValTypes, is_packed, nullable, plain,
     same_flag, unpack,
 };
-use wasm_operator_stacks::{Stacks, TypeWord};
 use wasm_operators_plain::NumberType;
-use wasm_validator_resources::WasmModuleResources;
 
 /// The rule that what an array holds is packed, or that it isn't.
 fn packed_rule(packed: bool) -> OperatorRule {

@@ -2,18 +2,18 @@
 
 ghost use Rattle.std.specs.Prelude.{◌≡◌};
 ghost use Rattle.wasm_operators_plain.specs.declared.arrays.ArrayOperator.TheVariants.{ArrayFill, ArrayCopy, ArrayInitData, ArrayInitElem};
-ghost use Rattle.wasm_operator_steps.specs.Shapes.{array_shape};
-ghost use Rattle.wasm_operator_stacks.specs.Seen.{Kept};
+ghost use Rattle.wasm_operator_checks.specs.WasmOperatorSteps.Shapes.{array_shape};
+ghost use Rattle.wasm_operator_checks.specs.WasmOperatorStacks.Seen.{Kept};
 ghost use Rattle.wasm_operator_checks.specs.Steps.{Performs};
 
 use crate::reached::{reach_elements, reach_mutable};
 use crate::segments::{check_data, check_elements, is_number, is_storable};
 use crate::taken::{take_five, take_four};
 use std::alloc::Allocator;
+use wasm_operator_checks::operator_stacks::{Stacks, TypeWord};
+use wasm_operator_checks::validator_resources::WasmModuleResources;
 use wasm_operator_checks::{OperatorError, OperatorFault, OperatorRule, nullable, unpack};
-use wasm_operator_stacks::{Stacks, TypeWord};
 use wasm_operators_plain::NumberType;
-use wasm_validator_resources::WasmModuleResources;
 
 /// `array.fill`: takes an array that can be written, an index, an element, and a number of elements
 /// on top (Core Specification 3.0, Validation, Aggregate Instructions).

@@ -4,20 +4,20 @@ ghost use Rattle.std.specs.Prelude.{◌≡◌, true};
 ghost use Rattle.wasm_spec.specs.Syntax.{abstract_heap};
 ghost use Rattle.wasm_operators_plain.specs.declared.arrays.ArrayOperator.TheVariants.{ArrayLen};
 ghost use Rattle.wasm_readers_types.specs.SeenValues.{abstract_heap_of, ref_of};
-ghost use Rattle.wasm_operator_steps.specs.Shapes.{array_shape};
-ghost use Rattle.wasm_validator_resources.specs.Answers.{world};
-ghost use Rattle.wasm_operator_stacks.specs.Seen.{Kept};
-ghost use Rattle.wasm_operator_stacks.specs.SeenOperands.{operand_seen};
+ghost use Rattle.wasm_operator_checks.specs.WasmOperatorSteps.Shapes.{array_shape};
+ghost use Rattle.wasm_operator_checks.specs.WasmValidatorResources.Answers.{world};
+ghost use Rattle.wasm_operator_checks.specs.WasmOperatorStacks.Seen.{Kept};
+ghost use Rattle.wasm_operator_checks.specs.WasmOperatorStacks.SeenOperands.{operand_seen};
 ghost use Rattle.wasm_operator_checks.specs.Steps.{Performs};
 ghost use Rattle.wasm_operator_arrays.specs.Lengths.{is_reference_below};
 
 use std::alloc::Allocator;
+use wasm_operator_checks::operator_stacks::{Operand, Stacks, TypeWord, Word};
+use wasm_operator_checks::validator_resources::WasmModuleResources;
 use wasm_operator_checks::{OperatorError, OperatorFault, OperatorRule, has, look};
-use wasm_operator_stacks::{Operand, Stacks, TypeWord, Word};
 use wasm_operators_plain::NumberType;
-use wasm_readers_errors::WasmFeatures;
+use wasm_operators_plain::readers_errors::WasmFeatures;
 use wasm_readers_types::{AbstractHeapType, HeapType, RefType, ValType};
-use wasm_validator_resources::WasmModuleResources;
 
 /// A reference, or null, to an abstract heap type.
 fn reference_to(shared: bool, heap: AbstractHeapType) -> RefType

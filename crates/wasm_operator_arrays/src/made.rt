@@ -2,21 +2,21 @@
 
 ghost use Rattle.std.specs.Prelude.{◌≡◌};
 ghost use Rattle.wasm_operators_plain.specs.declared.arrays.ArrayOperator.TheVariants.{ArrayNew, ArrayNewDefault, ArrayNewFixed, ArrayNewData, ArrayNewElem};
-ghost use Rattle.wasm_operator_steps.specs.Shapes.{array_shape};
-ghost use Rattle.wasm_operator_stacks.specs.Seen.{Kept};
+ghost use Rattle.wasm_operator_checks.specs.WasmOperatorSteps.Shapes.{array_shape};
+ghost use Rattle.wasm_operator_checks.specs.WasmOperatorStacks.Seen.{Kept};
 ghost use Rattle.wasm_operator_checks.specs.Steps.{Performs};
 
 use crate::reached::reach_elements;
 use crate::segments::{check_data, check_elements, is_number};
 use crate::taken::exchange_repeated;
 use std::alloc::Allocator;
+use wasm_operator_checks::operator_stacks::{Stacks, TypeWord};
+use wasm_operator_checks::validator_resources::WasmModuleResources;
 use wasm_operator_checks::{
     OperatorError, OperatorFault, OperatorRule, Takes, ValTypes, has_default, new_reference, plain,
     unpack,
 };
-use wasm_operator_stacks::{Stacks, TypeWord};
 use wasm_operators_plain::NumberType;
-use wasm_validator_resources::WasmModuleResources;
 
 /// `array.new`: takes an element, and a length on top, and gives a new array (Core Specification
 /// 3.0, Validation, Aggregate Instructions).

@@ -2,16 +2,16 @@
 
 ghost use Rattle.std.specs.Prelude.{◌≡◌, Some, None, true, false, slice_get, IfOk, OnOk, OnErr};
 ghost use Rattle.wasm_readers_types.specs.SeenValues.{index_of, field_of};
-ghost use Rattle.wasm_operator_steps.specs.Actions.{gc, has, reaches_type, element_is_mutable};
+ghost use Rattle.wasm_operator_checks.specs.WasmOperatorSteps.Actions.{gc, has, reaches_type, element_is_mutable};
 ghost use Rattle.wasm_operator_checks.specs.Steps.{held};
 ghost use Rattle.wasm_operator_checks.specs.Declared.{element_in, Barred};
 
 use std::alloc::Allocator;
+use wasm_operator_checks::operator_stacks::Stacks;
+use wasm_operator_checks::validator_resources::WasmModuleResources;
 use wasm_operator_checks::{OperatorFault, OperatorRule, has, identity, reaches};
-use wasm_operator_stacks::Stacks;
-use wasm_readers_errors::WasmFeatures;
+use wasm_operators_plain::readers_errors::WasmFeatures;
 use wasm_readers_types::{CompositeInnerType, FieldType, PackedIndex};
-use wasm_validator_resources::WasmModuleResources;
 
 /// What the places of arrays hold, and which array type they are of.
 #[derive(Clone, Copy)]

@@ -2,15 +2,15 @@
 
 ghost use Rattle.std.specs.Prelude.{◌≡◌, true, false, nat_lt, OnOk, OnErr};
 ghost use Rattle.wasm_readers_types.specs.SeenValues.{val_of, storage_of};
-ghost use Rattle.wasm_spec_rules.specs.Attempts.{passes};
-ghost use Rattle.wasm_operator_steps.specs.Machine.{same_number};
-ghost use Rattle.wasm_operator_steps.specs.Matching.{matches_storage};
-ghost use Rattle.wasm_validator_resources.specs.Answers.{world};
+ghost use Rattle.wasm_operator_checks.specs.WasmSpecRules.Attempts.{passes};
+ghost use Rattle.wasm_operator_checks.specs.WasmOperatorSteps.Machine.{same_number};
+ghost use Rattle.wasm_operator_checks.specs.WasmOperatorSteps.Matching.{matches_storage};
+ghost use Rattle.wasm_operator_checks.specs.WasmValidatorResources.Answers.{world};
 ghost use Rattle.wasm_operator_arrays.specs.Segments.{segment_matches};
 
+use wasm_operator_checks::validator_resources::WasmModuleResources;
 use wasm_operator_checks::{OperatorFault, OperatorRule};
 use wasm_readers_types::{StorageType, ValType};
-use wasm_validator_resources::WasmModuleResources;
 
 /// Whether a type is one of numbers or vectors.
 pub fn is_number(ty: ValType) -> bool

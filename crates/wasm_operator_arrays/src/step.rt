@@ -1,8 +1,8 @@
 //! All operators on arrays.
 
 ghost use Rattle.std.specs.Prelude.{◌≡◌};
-ghost use Rattle.wasm_operator_steps.specs.Shapes.{array_shape};
-ghost use Rattle.wasm_operator_stacks.specs.Seen.{Kept};
+ghost use Rattle.wasm_operator_checks.specs.WasmOperatorSteps.Shapes.{array_shape};
+ghost use Rattle.wasm_operator_checks.specs.WasmOperatorStacks.Seen.{Kept};
 ghost use Rattle.wasm_operator_checks.specs.Steps.{Performs};
 
 use crate::accesses::{array_get, array_get_s, array_get_u, array_set};
@@ -11,9 +11,9 @@ use crate::lengths::array_len;
 use crate::made::{array_new, array_new_data, array_new_default, array_new_elem, array_new_fixed};
 use std::alloc::Allocator;
 use wasm_operator_checks::OperatorError;
-use wasm_operator_stacks::Stacks;
+use wasm_operator_checks::operator_stacks::Stacks;
+use wasm_operator_checks::validator_resources::WasmModuleResources;
 use wasm_operators_plain::ArrayOperator;
-use wasm_validator_resources::WasmModuleResources;
 
 /// An operator on arrays (Core Specification 3.0, Validation, Instructions, Aggregate
 /// Instructions).

@@ -1,18 +1,18 @@
 //! Many operands, and like ones.
 
 ghost use Rattle.std.specs.Prelude.{◌≡◌, ◌∷◌, []};
-ghost use Rattle.wasm_operator_stacks.specs.SeenTypeWords.{val_in};
-ghost use Rattle.wasm_operator_steps.specs.Machine.{pop_vals};
-ghost use Rattle.wasm_operator_steps.specs.Meanings.{copies};
-ghost use Rattle.wasm_validator_resources.specs.Answers.{world};
-ghost use Rattle.wasm_operator_stacks.specs.Seen.{state_of, Kept};
+ghost use Rattle.wasm_operator_checks.specs.WasmOperatorStacks.SeenTypeWords.{val_in};
+ghost use Rattle.wasm_operator_checks.specs.WasmOperatorSteps.Machine.{pop_vals};
+ghost use Rattle.wasm_operator_checks.specs.WasmOperatorSteps.Meanings.{copies};
+ghost use Rattle.wasm_operator_checks.specs.WasmValidatorResources.Answers.{world};
+ghost use Rattle.wasm_operator_checks.specs.WasmOperatorStacks.Seen.{state_of, Kept};
 ghost use Rattle.wasm_operator_checks.specs.Steps.{Checked, Turns};
 ghost use Rattle.wasm_operator_checks.specs.SeenTypes.{exchanged};
 
 use std::alloc::Allocator;
+use wasm_operator_checks::operator_stacks::{Stacks, TypeWord, Word};
+use wasm_operator_checks::validator_resources::WasmModuleResources;
 use wasm_operator_checks::{OperatorError, OperatorFault, Takes, check_takes, check_type};
-use wasm_operator_stacks::{Stacks, TypeWord, Word};
-use wasm_validator_resources::WasmModuleResources;
 
 /// Takes operands of four types. Where that can't be, all stays.
 #[tactic(auto, using(crate::proofs::Many::many), unfolding(wasm_operator_checks::specs::Steps::Took))]

@@ -7,14 +7,14 @@ use Rattle.wasm_readers_types.specs.declared.indices.UnpackedIndex.{UnpackedInde
 use Rattle.wasm_operators.specs.SeenLists.{GivesFront}
 use Rattle.wasm_operators.specs.declared.control.Catch.{Catch}
 use Rattle.wasm_operators.specs.declared.control.Catch.TheVariants as catch
-use Rattle.wasm_operator_steps.specs.Actions.{OperandTypes, of_tag, params, label, joined, is_exception, each_matches}
+use Rattle.wasm_operator_checks.specs.WasmOperatorSteps.Actions.{OperandTypes, of_tag, params, label, joined, is_exception, each_matches}
 use Rattle.wasm_spec_rules.specs.Attempts.{passes}
-use Rattle.wasm_operator_steps.specs.Matching.{matches_vals}
-use Rattle.wasm_operator_steps.specs.Meanings.{types_at, holds}
-use Rattle.wasm_operator_steps.specs.Shapes.{nothing, exception, catch_checks}
-use Rattle.wasm_validator_resources.specs.Answers.{world}
-use Rattle.wasm_operator_stacks.specs.Seen.{state_of, around}
-use Rattle.wasm_operator_stacks.specs.declared.stacks.Stacks.{Stacks}
+use Rattle.wasm_operator_checks.specs.WasmOperatorSteps.Matching.{matches_vals}
+use Rattle.wasm_operator_checks.specs.WasmOperatorSteps.Meanings.{types_at, holds}
+use Rattle.wasm_operator_checks.specs.WasmOperatorSteps.Shapes.{nothing, exception, catch_checks}
+use Rattle.wasm_operator_checks.specs.WasmValidatorResources.Answers.{world}
+use Rattle.wasm_operator_checks.specs.WasmOperatorStacks.Seen.{state_of, around}
+use Rattle.wasm_operator_checks.specs.WasmOperatorStacks.declared.stacks.Stacks.{Stacks}
 use Rattle.wasm_operator_checks.specs.Steps.{typed, held}
 use Rattle.wasm_operator_blocks.specs.Known.{hold_all, all_held}
 use Rattle.wasm_operator_blocks.specs.Sent.{thrown_in, exception_val, sends}

@@ -10,11 +10,11 @@ use Rattle.wasm_readers.specs.Written.{written}
 use Rattle.wasm_readers_types.specs.declared.indices.UnpackedIndex.{UnpackedIndex}
 use Rattle.wasm_operators.specs.Control.{select_of}
 use Rattle.wasm_operators.specs.SeenLists.{begun_by, first_items, GivesFront}
-use Rattle.wasm_operator_steps.specs.Machine.{State}
-use Rattle.wasm_operator_steps.specs.Shapes.{parametric_shape}
-use Rattle.wasm_operator_steps.specs.Steps.{actions_of}
-use Rattle.wasm_validator_resources.specs.Answers.{written_index, IsWrittenHeap, IsWrittenVal}
-use Rattle.wasm_operator_stacks.specs.declared.stacks.Stacks.{Stacks}
+use Rattle.wasm_operator_checks.specs.WasmOperatorSteps.Machine.{State}
+use Rattle.wasm_operator_checks.specs.WasmOperatorSteps.Shapes.{parametric_shape}
+use Rattle.wasm_operator_checks.specs.WasmOperatorSteps.Steps.{actions_of}
+use Rattle.wasm_operator_checks.specs.WasmValidatorResources.Answers.{written_index, IsWrittenHeap, IsWrittenVal}
+use Rattle.wasm_operator_checks.specs.WasmOperatorStacks.declared.stacks.Stacks.{Stacks}
 use Rattle.wasm_operator_checks.specs.Steps.{Took, acted}
 use Rattle.wasm_operator_checks.specs.declared.faults.OperatorError.{OperatorError}
 use Rattle.wasm_operator_blocks.proofs.Given.{front_given, none_left}

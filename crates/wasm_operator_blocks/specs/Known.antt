@@ -7,15 +7,15 @@ use Rattle.wasm_spec_rules.specs.Contexts.{Context}
 use Rattle.wasm_readers_types.specs.declared.indices.UnpackedIndex.{UnpackedIndex}
 use Rattle.wasm_operators.specs.Control.{Block}
 use Rattle.wasm_spec_rules.specs.Attempts.{◌>>=◌}
-use Rattle.wasm_operator_steps.specs.Actions.{Check}
-use Rattle.wasm_operator_steps.specs.Bodies.{Surroundings}
-use Rattle.wasm_operator_steps.specs.Machine.{State}
-use Rattle.wasm_operator_steps.specs.Meanings.{resolve_block, holds}
-use Rattle.wasm_operator_steps.specs.Shapes.{block_checks}
-use Rattle.wasm_validator_resources.specs.Answers.{world}
-use Rattle.wasm_operator_stacks.specs.Seen.{state_of, around}
-use Rattle.wasm_operator_stacks.specs.SeenBlocks.{block_in}
-use Rattle.wasm_operator_stacks.specs.declared.stacks.Stacks.{Stacks}
+use Rattle.wasm_operator_checks.specs.WasmOperatorSteps.Actions.{Check}
+use Rattle.wasm_operator_checks.specs.WasmOperatorSteps.Bodies.{Surroundings}
+use Rattle.wasm_operator_checks.specs.WasmOperatorSteps.Machine.{State}
+use Rattle.wasm_operator_checks.specs.WasmOperatorSteps.Meanings.{resolve_block, holds}
+use Rattle.wasm_operator_checks.specs.WasmOperatorSteps.Shapes.{block_checks}
+use Rattle.wasm_operator_checks.specs.WasmValidatorResources.Answers.{world}
+use Rattle.wasm_operator_checks.specs.WasmOperatorStacks.Seen.{state_of, around}
+use Rattle.wasm_operator_checks.specs.WasmOperatorStacks.SeenBlocks.{block_in}
+use Rattle.wasm_operator_checks.specs.WasmOperatorStacks.declared.stacks.Stacks.{Stacks}
 use Rattle.wasm_operator_checks.specs.SeenTypes.{types_seen}
 use Rattle.wasm_operator_checks.specs.declared.faults.OperatorFault.{OperatorFault}
 use Rattle.wasm_operator_control.specs.Blocks.{signature_in}

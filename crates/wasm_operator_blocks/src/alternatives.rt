@@ -2,21 +2,21 @@
 
 ghost use Rattle.std.specs.Prelude.{◌≡◌, true};
 ghost use Rattle.wasm_operators.specs.Control.{else_};
-ghost use Rattle.wasm_operator_steps.specs.Machine.{is_if};
-ghost use Rattle.wasm_operator_steps.specs.Shapes.{control_shape};
-ghost use Rattle.wasm_operator_stacks.specs.Seen.{state_of, Kept};
-ghost use Rattle.wasm_operator_stacks.specs.SeenBlocks.{kind_of};
+ghost use Rattle.wasm_operator_checks.specs.WasmOperatorSteps.Machine.{is_if};
+ghost use Rattle.wasm_operator_checks.specs.WasmOperatorSteps.Shapes.{control_shape};
+ghost use Rattle.wasm_operator_checks.specs.WasmOperatorStacks.Seen.{state_of, Kept};
+ghost use Rattle.wasm_operator_checks.specs.WasmOperatorStacks.SeenBlocks.{kind_of};
 ghost use Rattle.wasm_operator_checks.specs.Steps.{Performs};
 ghost use Rattle.wasm_operator_blocks.specs.Again.{again};
 
 use std::alloc::Allocator;
+use wasm_operator_checks::operator_stacks::Stacks;
+use wasm_operator_checks::validator_resources::WasmModuleResources;
 use wasm_operator_checks::{
     OperatorError, OperatorFault, OperatorRule, check_types, exchange_types,
 };
 use wasm_operator_control::{block_gives, block_takes};
-use wasm_operator_stacks::Stacks;
 use wasm_operators::FrameKind;
-use wasm_validator_resources::WasmModuleResources;
 
 /// Whether it is an `if` without its `else`.
 fn is_if(kind: FrameKind) -> bool

@@ -3,20 +3,20 @@
 ghost use Rattle.std.specs.Prelude.{◌≡◌};
 ghost use Rattle.wasm_operators.specs.Control.{block, loop, if_};
 ghost use Rattle.wasm_operators.specs.SeenControl.{block_of};
-ghost use Rattle.wasm_operator_steps.specs.Shapes.{control_shape, opening, block_checks, nothing};
-ghost use Rattle.wasm_operator_stacks.specs.Seen.{Kept};
-ghost use Rattle.wasm_operator_stacks.specs.SeenBlocks.{kind_of};
+ghost use Rattle.wasm_operator_checks.specs.WasmOperatorSteps.Shapes.{control_shape, opening, block_checks, nothing};
+ghost use Rattle.wasm_operator_checks.specs.WasmOperatorStacks.Seen.{Kept};
+ghost use Rattle.wasm_operator_checks.specs.WasmOperatorStacks.SeenBlocks.{kind_of};
 ghost use Rattle.wasm_operator_checks.specs.Steps.{Performs};
 ghost use Rattle.wasm_operator_blocks.specs.Written.{block_written, IsWrittenBlock};
 
 use crate::openings::resolve;
 use std::alloc::Allocator;
+use wasm_operator_checks::operator_stacks::{Stacks, TypeWord};
+use wasm_operator_checks::validator_resources::WasmModuleResources;
 use wasm_operator_checks::{OperatorError, check_type};
 use wasm_operator_control::open_frame;
-use wasm_operator_stacks::{Stacks, TypeWord};
+use wasm_operators::operators_plain::NumberType;
 use wasm_operators::{BlockType, FrameKind};
-use wasm_operators_plain::NumberType;
-use wasm_validator_resources::WasmModuleResources;
 
 /// Opens a frame of this kind, over what its type takes.
 #[tactic(auto, using(wasm_operator_checks::proofs::Acting::acts, crate::proofs::Entering::enters))]

@@ -4,21 +4,21 @@ ghost use Rattle.std.specs.Prelude.{◌≡◌, ◌∷◌, ◌++◌, [], is_ok, m
 ghost use Rattle.wasm_readers_types.specs.SeenValues.{val_of};
 ghost use Rattle.wasm_operators.specs.Control.{catch_at};
 ghost use Rattle.wasm_operators.specs.SeenLists.{listed};
-ghost use Rattle.wasm_operator_steps.specs.Matching.{matches_vals};
-ghost use Rattle.wasm_operator_steps.specs.Shapes.{catch_checks};
-ghost use Rattle.wasm_validator_resources.specs.Answers.{world};
+ghost use Rattle.wasm_operator_checks.specs.WasmOperatorSteps.Matching.{matches_vals};
+ghost use Rattle.wasm_operator_checks.specs.WasmOperatorSteps.Shapes.{catch_checks};
+ghost use Rattle.wasm_operator_checks.specs.WasmValidatorResources.Answers.{world};
 ghost use Rattle.wasm_operator_checks.specs.SeenTypes.{types_seen};
 ghost use Rattle.wasm_operator_blocks.specs.Known.{all_held};
 ghost use Rattle.wasm_operator_blocks.specs.Sent.{exception_val, sends};
 
 use crate::exceptions::thrown_types;
 use std::alloc::Allocator;
+use wasm_operator_checks::operator_stacks::Stacks;
+use wasm_operator_checks::validator_resources::WasmModuleResources;
 use wasm_operator_checks::{OperatorFault, OperatorRule, ValTypes, match_all};
 use wasm_operator_control::{label_types, match_types};
-use wasm_operator_stacks::Stacks;
 use wasm_operators::{Catch, Listed};
 use wasm_readers_types::{AbstractHeapType, HeapType, RefType, ValType};
-use wasm_validator_resources::WasmModuleResources;
 
 /// Whether these types, and one more behind them, match those of a list.
 #[tactic(auto, using(crate::proofs::Sending::listings))]

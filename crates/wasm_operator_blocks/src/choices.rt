@@ -8,23 +8,23 @@ ghost use Rattle.wasm_readers.specs.Written.{written};
 ghost use Rattle.wasm_readers_types.specs.SeenValues.{val_of};
 ghost use Rattle.wasm_operators.specs.Control.{select, select_of};
 ghost use Rattle.wasm_operators.specs.SeenLists.{listed};
-ghost use Rattle.wasm_operator_steps.specs.Machine.{chosen, same_number};
-ghost use Rattle.wasm_operator_steps.specs.Shapes.{parametric_shape};
-ghost use Rattle.wasm_validator_resources.specs.Answers.{written_index, IsWrittenVal};
-ghost use Rattle.wasm_operator_stacks.specs.Seen.{Kept};
-ghost use Rattle.wasm_operator_stacks.specs.SeenOperands.{operand_of};
+ghost use Rattle.wasm_operator_checks.specs.WasmOperatorSteps.Machine.{chosen, same_number};
+ghost use Rattle.wasm_operator_checks.specs.WasmOperatorSteps.Shapes.{parametric_shape};
+ghost use Rattle.wasm_operator_checks.specs.WasmValidatorResources.Answers.{written_index, IsWrittenVal};
+ghost use Rattle.wasm_operator_checks.specs.WasmOperatorStacks.Seen.{Kept};
+ghost use Rattle.wasm_operator_checks.specs.WasmOperatorStacks.SeenOperands.{operand_of};
 ghost use Rattle.wasm_operator_checks.specs.Steps.{Performs};
 
 use std::alloc::Allocator;
+use wasm_operator_checks::operator_stacks::{Operand, Stacks, TypeWord, Word};
+use wasm_operator_checks::validator_resources::WasmModuleResources;
 use wasm_operator_checks::{
     OperatorError, OperatorFault, OperatorRule, Takes, ValTypes, check_type, has, look, plain,
 };
-use wasm_operator_stacks::{Operand, Stacks, TypeWord, Word};
 use wasm_operators::Listed;
-use wasm_operators_plain::NumberType;
-use wasm_readers_errors::WasmFeatures;
+use wasm_operators::operators_plain::NumberType;
+use wasm_readers::readers_errors::WasmFeatures;
 use wasm_readers_types::ValType;
-use wasm_validator_resources::WasmModuleResources;
 
 /// Whether these are the same number type or vector type.
 fn is_same_number(ty: ValType, other: ValType) -> bool

@@ -1,8 +1,8 @@
 //! Control, parametric and variable operators by their name.
 
 ghost use Rattle.wasm_operators.specs.SeenControl.{control_of};
-ghost use Rattle.wasm_operator_steps.specs.Shapes.{control_shape, parametric_shape, variable_shape};
-ghost use Rattle.wasm_operator_stacks.specs.Seen.{Kept};
+ghost use Rattle.wasm_operator_checks.specs.WasmOperatorSteps.Shapes.{control_shape, parametric_shape, variable_shape};
+ghost use Rattle.wasm_operator_checks.specs.WasmOperatorStacks.Seen.{Kept};
 ghost use Rattle.wasm_operator_checks.specs.Steps.{Performs};
 ghost use Rattle.wasm_operator_blocks.specs.Written.{control_written, parametric_written, IsWrittenControl};
 
@@ -14,13 +14,13 @@ use crate::tables::branch_by_table;
 use crate::tries::open_try_table;
 use std::alloc::Allocator;
 use wasm_operator_checks::OperatorError;
+use wasm_operator_checks::operator_stacks::Stacks;
+use wasm_operator_checks::validator_resources::WasmModuleResources;
 use wasm_operator_control::{
     branch, branch_if, do_nothing, drop_any, end, give_back, global_get, global_set, local_get,
     local_set, local_tee, trap,
 };
-use wasm_operator_stacks::Stacks;
 use wasm_operators::{ControlOperator, ParametricOperator, VariableOperator};
-use wasm_validator_resources::WasmModuleResources;
 
 /// A control operator, calls aside (Core Specification 3.0, Validation, Instructions, Control
 /// Instructions), as it is written in a module.

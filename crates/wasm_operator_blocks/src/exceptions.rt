@@ -3,17 +3,17 @@
 ghost use Rattle.std.specs.Prelude.{◌≡◌, Some, None, IfOk, OnErr, map};
 ghost use Rattle.wasm_operators.specs.Control.{throw, throw_ref};
 ghost use Rattle.wasm_readers_types.specs.SeenValues.{val_of};
-ghost use Rattle.wasm_operator_steps.specs.Shapes.{control_shape};
-ghost use Rattle.wasm_operator_stacks.specs.Seen.{Kept};
+ghost use Rattle.wasm_operator_checks.specs.WasmOperatorSteps.Shapes.{control_shape};
+ghost use Rattle.wasm_operator_checks.specs.WasmOperatorStacks.Seen.{Kept};
 ghost use Rattle.wasm_operator_checks.specs.Steps.{Performs};
 ghost use Rattle.wasm_operator_blocks.specs.Sent.{thrown_in};
 
 use std::alloc::Allocator;
+use wasm_operator_checks::operator_stacks::{Stacks, TypeWord};
+use wasm_operator_checks::validator_resources::WasmModuleResources;
 use wasm_operator_checks::{OperatorError, OperatorFault, OperatorRule, ValTypes, halt, has};
-use wasm_operator_stacks::{Stacks, TypeWord};
-use wasm_readers_errors::WasmFeatures;
+use wasm_readers::readers_errors::WasmFeatures;
 use wasm_readers_types::{RefType, ValType};
-use wasm_validator_resources::WasmModuleResources;
 
 /// What an exception of this tag holds.
 #[tactic(auto, using(crate::proofs::Throwing::tags))]

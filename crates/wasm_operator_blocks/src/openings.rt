@@ -5,18 +5,18 @@ ghost use Rattle.wasm_operators.specs.Control.{value_block, func_block};
 ghost use Rattle.wasm_operators.specs.SeenControl.{block_of};
 ghost use Rattle.wasm_readers_types.specs.SeenValues.{val_of};
 ghost use Rattle.wasm_spec.specs.Syntax.{map_val};
-ghost use Rattle.wasm_validator_resources.specs.Answers.{written_index, IsWrittenVal};
+ghost use Rattle.wasm_operator_checks.specs.WasmValidatorResources.Answers.{written_index, IsWrittenVal};
 ghost use Rattle.wasm_operator_blocks.specs.Written.{block_written, IsWrittenBlock};
 ghost use Rattle.wasm_operator_blocks.specs.Known.{Opens, block_known};
 
 use std::alloc::Allocator;
+use wasm_operator_checks::operator_stacks::{BlockWord, Stacks, TypeWord};
+use wasm_operator_checks::validator_resources::WasmModuleResources;
 use wasm_operator_checks::{OperatorFault, OperatorRule, ValTypes, has};
 use wasm_operator_control::type_reached;
-use wasm_operator_stacks::{BlockWord, Stacks, TypeWord};
 use wasm_operators::BlockType;
-use wasm_readers_errors::WasmFeatures;
+use wasm_readers::readers_errors::WasmFeatures;
 use wasm_readers_types::ValType;
-use wasm_validator_resources::WasmModuleResources;
 
 /// A block type by identities, and what the block takes.
 #[derive(Clone, Copy)]

@@ -4,21 +4,21 @@ ghost use Rattle.std.specs.Prelude.{◌≡◌, ◌≤◌, true, Some, is_ok, len
 ghost use Rattle.wasm_spec.specs.Values.{u32_at};
 ghost use Rattle.wasm_operators.specs.Control.{br_table};
 ghost use Rattle.wasm_operators.specs.SeenLists.{listed};
-ghost use Rattle.wasm_operator_steps.specs.Shapes.{control_shape};
-ghost use Rattle.wasm_operator_stacks.specs.Seen.{state_of, Kept};
+ghost use Rattle.wasm_operator_checks.specs.WasmOperatorSteps.Shapes.{control_shape};
+ghost use Rattle.wasm_operator_checks.specs.WasmOperatorStacks.Seen.{state_of, Kept};
 ghost use Rattle.wasm_operator_checks.specs.Steps.{Performs};
 ghost use Rattle.wasm_operator_checks.specs.SeenTypes.{types_seen};
 ghost use Rattle.wasm_operator_blocks.specs.Fitting.{fits, all_fit, LastPasses};
 
 use std::alloc::Allocator;
+use wasm_operator_checks::operator_stacks::{Stacks, TypeWord};
+use wasm_operator_checks::validator_resources::WasmModuleResources;
 use wasm_operator_checks::{
     OperatorError, OperatorFault, OperatorRule, ValTypes, check_type, check_types,
 };
 use wasm_operator_control::label_types;
-use wasm_operator_stacks::{Stacks, TypeWord};
+use wasm_operators::operators_plain::NumberType;
 use wasm_operators::{BrTable, Listed};
-use wasm_operators_plain::NumberType;
-use wasm_validator_resources::WasmModuleResources;
 
 /// How many types these are.
 #[tactic(auto, using(crate::proofs::Tabled::counts))]

@@ -4,20 +4,20 @@ ghost use Rattle.std.specs.Prelude.{◌≡◌};
 ghost use Rattle.wasm_operators.specs.Control.{try_table, catch_at};
 ghost use Rattle.wasm_operators.specs.SeenControl.{block_of};
 ghost use Rattle.wasm_operators.specs.SeenLists.{listed};
-ghost use Rattle.wasm_operator_steps.specs.Shapes.{control_shape};
-ghost use Rattle.wasm_operator_stacks.specs.Seen.{Kept};
+ghost use Rattle.wasm_operator_checks.specs.WasmOperatorSteps.Shapes.{control_shape};
+ghost use Rattle.wasm_operator_checks.specs.WasmOperatorStacks.Seen.{Kept};
 ghost use Rattle.wasm_operator_checks.specs.Steps.{Performs};
 ghost use Rattle.wasm_operator_blocks.specs.Written.{block_written, IsWrittenBlock};
 
 use crate::catches::check_catches;
 use crate::openings::resolve;
 use std::alloc::Allocator;
+use wasm_operator_checks::operator_stacks::Stacks;
+use wasm_operator_checks::validator_resources::WasmModuleResources;
 use wasm_operator_checks::{OperatorError, OperatorFault, OperatorRule, has};
 use wasm_operator_control::open_frame;
-use wasm_operator_stacks::Stacks;
 use wasm_operators::{FrameKind, TryTable};
-use wasm_readers_errors::WasmFeatures;
-use wasm_validator_resources::WasmModuleResources;
+use wasm_readers::readers_errors::WasmFeatures;
 
 /// `try_table` (Core Specification 3.0, Validation, Instructions, Control Instructions): a frame
 /// whose catch clauses branch to labels around it. Each label takes what its clause sends.

@@ -5,13 +5,13 @@ use Rattle.wasm_spec.specs.MatchingTests.{World, matches_val}
 use Rattle.wasm_spec.specs.Syntax.{Ref, Val, reference}
 use Rattle.wasm_spec_rules.specs.Contexts.{Context}
 use Rattle.wasm_readers_types.specs.declared.indices.UnpackedIndex.{UnpackedIndex}
-use Rattle.wasm_operator_steps.specs.Actions.{has, gc, allows, may_be_cast, each_matches, these, front, last, label, joined, Action, need, take, give}
+use Rattle.wasm_operator_checks.specs.WasmOperatorSteps.Actions.{has, gc, allows, may_be_cast, each_matches, these, front, last, label, joined, Action, need, take, give}
 use Rattle.wasm_spec_rules.specs.Attempts.{◌>>=◌, guard, last_of, front_of}
-use Rattle.wasm_operator_steps.specs.Machine.{State}
-use Rattle.wasm_operator_steps.specs.Shapes.{difference}
-use Rattle.wasm_validator_resources.specs.Answers.{world}
-use Rattle.wasm_operator_stacks.specs.Seen.{state_of}
-use Rattle.wasm_operator_stacks.specs.declared.stacks.Stacks.{Stacks}
+use Rattle.wasm_operator_checks.specs.WasmOperatorSteps.Machine.{State}
+use Rattle.wasm_operator_checks.specs.WasmOperatorSteps.Shapes.{difference}
+use Rattle.wasm_operator_checks.specs.WasmValidatorResources.Answers.{world}
+use Rattle.wasm_operator_checks.specs.WasmOperatorStacks.Seen.{state_of}
+use Rattle.wasm_operator_checks.specs.WasmOperatorStacks.declared.stacks.Stacks.{Stacks}
 use Rattle.wasm_operator_checks.proofs.Acting.{needed, plainly, took_along}
 use Rattle.wasm_operator_checks.proofs.Typing.{both_typed}
 use Rattle.wasm_operator_checks.specs.Steps.{Took, acted, typed, held}

@@ -7,10 +7,10 @@ use Rattle.wasm_spec.specs.MatchingTests.{same_abstract}
 use Rattle.wasm_spec.specs.Syntax.{AbstractHeap, cont_heap, abstract_heap, concrete, exact, Ref, Sub, Val, reference}
 use Rattle.wasm_spec_rules.specs.Contexts.{Context}
 use Rattle.wasm_readers_types.specs.declared.indices.UnpackedIndex.{UnpackedIndex}
-use Rattle.wasm_operator_steps.specs.Actions.{top, can_be_tested}
+use Rattle.wasm_operator_checks.specs.WasmOperatorSteps.Actions.{top, can_be_tested}
 use Rattle.wasm_spec_rules.specs.Attempts.{◌>>=◌}
-use Rattle.wasm_validator_resources.specs.Answers.{world, sub_in}
-use Rattle.wasm_operator_stacks.specs.declared.stacks.Stacks.{Stacks}
+use Rattle.wasm_operator_checks.specs.WasmValidatorResources.Answers.{world, sub_in}
+use Rattle.wasm_operator_checks.specs.WasmOperatorStacks.declared.stacks.Stacks.{Stacks}
 use Rattle.wasm_operator_checks.specs.Steps.{typed, held}
 use Rattle.wasm_operator_casts.specs.Tops.{top_in}
 

@@ -6,12 +6,12 @@ use Rattle.wasm_spec_rules.specs.Contexts.{Context}
 use Rattle.wasm_readers_types.specs.SeenValues.{ref_of}
 use Rattle.wasm_readers_types.specs.declared.indices.UnpackedIndex.{UnpackedIndex}
 use Rattle.wasm_readers_types.specs.declared.values.RefType.{RefType}
-use Rattle.wasm_operator_steps.specs.Actions.{has, gc, allows, may_be_cast, Action, need}
+use Rattle.wasm_operator_checks.specs.WasmOperatorSteps.Actions.{has, gc, allows, may_be_cast, Action, need}
 use Rattle.wasm_spec_rules.specs.Attempts.{◌>>=◌, guard, last_of, front_of}
-use Rattle.wasm_operator_steps.specs.Machine.{State}
+use Rattle.wasm_operator_checks.specs.WasmOperatorSteps.Machine.{State}
 use Rattle.wasm_spec_rules.specs.Signatures.{resolve_ref}
-use Rattle.wasm_operator_stacks.specs.Seen.{state_of}
-use Rattle.wasm_operator_stacks.specs.declared.stacks.Stacks.{Stacks}
+use Rattle.wasm_operator_checks.specs.WasmOperatorStacks.Seen.{state_of}
+use Rattle.wasm_operator_checks.specs.WasmOperatorStacks.declared.stacks.Stacks.{Stacks}
 use Rattle.wasm_operator_checks.specs.Steps.{Took, acted, held}
 use Rattle.wasm_operator_checks.specs.SeenTypes.{exchanged}
 use Rattle.wasm_operator_checks.specs.declared.faults.OperatorFault.{OperatorFault}

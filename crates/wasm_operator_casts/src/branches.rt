@@ -8,22 +8,22 @@ ghost use Rattle.wasm_spec_rules.specs.FeatureFlags.{features_of};
 ghost use Rattle.wasm_readers_types.specs.SeenValues.{ref_of};
 ghost use Rattle.wasm_operators.specs.References.{br_on_cast, br_on_cast_fail};
 ghost use Rattle.wasm_spec_rules.specs.Signatures.{resolve_ref};
-ghost use Rattle.wasm_operator_steps.specs.Meanings.{casts};
-ghost use Rattle.wasm_operator_steps.specs.Shapes.{cast_shape};
-ghost use Rattle.wasm_validator_resources.specs.Answers.{IsWrittenHeap, world, written_index};
-ghost use Rattle.wasm_operator_stacks.specs.Seen.{around, Kept};
+ghost use Rattle.wasm_operator_checks.specs.WasmOperatorSteps.Meanings.{casts};
+ghost use Rattle.wasm_operator_checks.specs.WasmOperatorSteps.Shapes.{cast_shape};
+ghost use Rattle.wasm_operator_checks.specs.WasmValidatorResources.Answers.{IsWrittenHeap, world, written_index};
+ghost use Rattle.wasm_operator_checks.specs.WasmOperatorStacks.Seen.{around, Kept};
 ghost use Rattle.wasm_operator_checks.specs.Steps.{Performs};
 ghost use Rattle.wasm_operator_casts.specs.Sent.{Castable};
 
 use crate::sends::send;
 use crate::tops::top_of;
 use std::alloc::Allocator;
+use wasm_operator_checks::operator_stacks::Stacks;
+use wasm_operator_checks::validator_resources::{WasmModuleResources, check_ref_type};
 use wasm_operator_checks::{OperatorError, OperatorFault, OperatorRule, has};
 use wasm_operator_references::{matches_abstract, unknown_type};
-use wasm_operator_stacks::Stacks;
 use wasm_readers_errors::WasmFeatures;
 use wasm_readers_types::{RefType, ValType};
-use wasm_validator_resources::{WasmModuleResources, check_ref_type};
 
 /// Whether the features allow a reference type as it is written.
 #[tactic(auto, using(crate::proofs::Casting::allowances))]

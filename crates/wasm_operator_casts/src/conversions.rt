@@ -4,28 +4,28 @@ ghost use Rattle.std.specs.Prelude.{◌≡◌, ◌∷◌, [], true, false};
 ghost use Rattle.wasm_spec.specs.Syntax.{abstract_heap, i32};
 ghost use Rattle.wasm_readers_types.specs.SeenValues.{abstract_heap_of};
 ghost use Rattle.wasm_readers_types.specs.declared.indices.UnpackedIndex.{UnpackedIndex};
-ghost use Rattle.wasm_operators_plain.specs.declared.conversions.ConversionOperator.TheVariants.{AnyConvertExtern, ExternConvertAny, RefI31, I31GetS, RefI31Shared};
-ghost use Rattle.wasm_operator_steps.specs.Actions.{has as has_check, gc, allows};
-ghost use Rattle.wasm_operator_steps.specs.Bodies.{Surroundings};
-ghost use Rattle.wasm_operator_steps.specs.Meanings.{converted};
-ghost use Rattle.wasm_operator_steps.specs.Shapes.{conversion_shape, converting, plain, one, reference_to, small_integer};
-ghost use Rattle.wasm_validator_resources.specs.Answers.{world};
-ghost use Rattle.wasm_operator_stacks.specs.SeenOperands.{operand_of};
-ghost use Rattle.wasm_operator_stacks.specs.Seen.{Kept};
+ghost use Rattle.wasm_operators.specs.WasmOperatorsPlain.declared.conversions.ConversionOperator.TheVariants.{AnyConvertExtern, ExternConvertAny, RefI31, I31GetS, RefI31Shared};
+ghost use Rattle.wasm_operator_checks.specs.WasmOperatorSteps.Actions.{has as has_check, gc, allows};
+ghost use Rattle.wasm_operator_checks.specs.WasmOperatorSteps.Bodies.{Surroundings};
+ghost use Rattle.wasm_operator_checks.specs.WasmOperatorSteps.Meanings.{converted};
+ghost use Rattle.wasm_operator_checks.specs.WasmOperatorSteps.Shapes.{conversion_shape, converting, plain, one, reference_to, small_integer};
+ghost use Rattle.wasm_operator_checks.specs.WasmValidatorResources.Answers.{world};
+ghost use Rattle.wasm_operator_checks.specs.WasmOperatorStacks.SeenOperands.{operand_of};
+ghost use Rattle.wasm_operator_checks.specs.WasmOperatorStacks.Seen.{Kept};
 ghost use Rattle.wasm_operator_checks.specs.Steps.{Performs};
 ghost use Rattle.wasm_operator_references.specs.SeenReferences.{reference_seen};
 
 use crate::tops::abstract_to;
 use std::alloc::Allocator;
+use wasm_operator_checks::operator_stacks::{Stacks, TypeWord, Word};
+use wasm_operator_checks::validator_resources::WasmModuleResources;
 use wasm_operator_checks::{
     OperatorError, OperatorFault, OperatorRule, Takes, ValTypes, has, plain,
 };
 use wasm_operator_references::{Referenced, allows_heap, look_below};
-use wasm_operator_stacks::{Stacks, TypeWord, Word};
-use wasm_operators_plain::NumberType;
+use wasm_operators::operators_plain::NumberType;
 use wasm_readers_errors::WasmFeatures;
 use wasm_readers_types::{AbstractHeapType, HeapType};
-use wasm_validator_resources::WasmModuleResources;
 
 /// A reference of another hierarchy, null and shared as this one.
 #[tactic(auto, using(crate::proofs::Converting::words))]

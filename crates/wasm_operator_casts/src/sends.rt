@@ -3,23 +3,23 @@
 ghost use Rattle.std.specs.Prelude.{◌++◌, ◌∷◌, []};
 ghost use Rattle.wasm_spec.specs.Syntax.{reference};
 ghost use Rattle.wasm_readers_types.specs.SeenValues.{ref_of};
-ghost use Rattle.wasm_operator_stacks.specs.SeenTypeWords.{val_in};
-ghost use Rattle.wasm_operator_steps.specs.Actions.{label};
-ghost use Rattle.wasm_validator_resources.specs.Answers.{world};
-ghost use Rattle.wasm_operator_stacks.specs.Seen.{Kept};
+ghost use Rattle.wasm_operator_checks.specs.WasmOperatorStacks.SeenTypeWords.{val_in};
+ghost use Rattle.wasm_operator_checks.specs.WasmOperatorSteps.Actions.{label};
+ghost use Rattle.wasm_operator_checks.specs.WasmValidatorResources.Answers.{world};
+ghost use Rattle.wasm_operator_checks.specs.WasmOperatorStacks.Seen.{Kept};
 ghost use Rattle.wasm_operator_checks.specs.Steps.{Turns, typed};
 ghost use Rattle.wasm_operator_checks.specs.SeenTypes.{exchanged, types_seen};
 ghost use Rattle.wasm_operator_casts.specs.Sent.{sending};
 
 use std::alloc::Allocator;
+use wasm_operator_checks::operator_stacks::{Stacks, TypeWord, Word};
+use wasm_operator_checks::validator_resources::WasmModuleResources;
 use wasm_operator_checks::{
     OperatorError, OperatorFault, OperatorRule, ValTypes, check_type, check_types,
 };
-use wasm_operator_control::label_types;
+use wasm_operator_references::operator_control::label_types;
 use wasm_operator_references::{exchange_with, front_types, last_type};
-use wasm_operator_stacks::{Stacks, TypeWord, Word};
 use wasm_readers_types::{RefType, ValType};
-use wasm_validator_resources::WasmModuleResources;
 
 /// Takes operands of some types with one of another type on top, and gives the same types with one
 /// of a third type on top. Where that can't be, all stays.

@@ -2,9 +2,9 @@
 
 ghost use Rattle.wasm_operators.specs.Maps.{map_cast};
 ghost use Rattle.wasm_operators.specs.SeenReferences.{cast_of};
-ghost use Rattle.wasm_operator_steps.specs.Shapes.{cast_shape, conversion_shape};
-ghost use Rattle.wasm_validator_resources.specs.Answers.{written_index};
-ghost use Rattle.wasm_operator_stacks.specs.Seen.{Kept};
+ghost use Rattle.wasm_operator_checks.specs.WasmOperatorSteps.Shapes.{cast_shape, conversion_shape};
+ghost use Rattle.wasm_operator_checks.specs.WasmValidatorResources.Answers.{written_index};
+ghost use Rattle.wasm_operator_checks.specs.WasmOperatorStacks.Seen.{Kept};
 ghost use Rattle.wasm_operator_checks.specs.Steps.{Performs};
 ghost use Rattle.wasm_operator_casts.specs.Written.{IsWrittenCast};
 
@@ -15,9 +15,9 @@ use crate::conversions::{
 };
 use std::alloc::Allocator;
 use wasm_operator_checks::OperatorError;
-use wasm_operator_stacks::Stacks;
+use wasm_operator_checks::operator_stacks::Stacks;
+use wasm_operator_checks::validator_resources::WasmModuleResources;
 use wasm_operators::{CastOperator, ConversionOperator};
-use wasm_validator_resources::WasmModuleResources;
 
 /// A test or cast of a reference (Core Specification 3.0, Validation, Instructions, Reference
 /// Instructions), or a branch on a cast, as it is written in a module.

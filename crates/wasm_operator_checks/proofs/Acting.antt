@@ -2,18 +2,18 @@
 -- finds them by what is written.
 use Rattle.std.proofs.Common.{◌≡◌, ℕ, Bool, true, false, List, [], ◌∷◌, refl, sym, subst}
 use Rattle.std.specs.Prelude.{Some, None, Option, Result, Ok, Err}
-use Rattle.wasm_spec.specs.Syntax.{Val}
-use Rattle.wasm_spec.specs.ValueTypes.{allows_val}
-use Rattle.wasm_spec.specs.MatchingTests.{World}
-use Rattle.wasm_spec_rules.specs.Contexts.{Context}
-use Rattle.wasm_spec_rules.specs.FeatureFlags.{features_of}
-use Rattle.wasm_readers_types.specs.declared.indices.UnpackedIndex.{UnpackedIndex}
-use Rattle.wasm_spec_rules.specs.Attempts.{◌>>=◌, guard}
-use Rattle.wasm_operator_stacks.specs.Bodies.{Surroundings}
-use Rattle.wasm_operator_stacks.specs.Actions.{OperandTypes, Needed, Check, has, allows, Action, need, take, give, stop}
-use Rattle.wasm_operator_stacks.specs.Meanings.{run, types_at, holds, is_on}
-use Rattle.wasm_operator_stacks.specs.Machine.{State, become_unreachable, pop_vals, push_vals}
-use Rattle.wasm_operator_stacks.proofs.TakenInTurn.{types_at-frames, pop_vals-frames}
+use Rattle.wasm_validator_resources.specs.WasmSpec.Syntax.{Val}
+use Rattle.wasm_validator_resources.specs.WasmSpec.ValueTypes.{allows_val}
+use Rattle.wasm_validator_resources.specs.WasmSpec.MatchingTests.{World}
+use Rattle.wasm_validator_resources.specs.WasmSpecRules.Contexts.{Context}
+use Rattle.wasm_validator_resources.specs.WasmSpecRules.FeatureFlags.{features_of}
+use Rattle.wasm_validator_resources.specs.WasmReadersTypes.declared.indices.UnpackedIndex.{UnpackedIndex}
+use Rattle.wasm_validator_resources.specs.WasmSpecRules.Attempts.{◌>>=◌, guard}
+use Rattle.wasm_operator_stacks.specs.WasmOperatorSteps.Bodies.{Surroundings}
+use Rattle.wasm_operator_stacks.specs.WasmOperatorSteps.Actions.{OperandTypes, Needed, Check, has, allows, Action, need, take, give, stop}
+use Rattle.wasm_operator_stacks.specs.WasmOperatorSteps.Meanings.{run, types_at, holds, is_on}
+use Rattle.wasm_operator_stacks.specs.WasmOperatorSteps.Machine.{State, become_unreachable, pop_vals, push_vals}
+use Rattle.wasm_operator_stacks.proofs.WasmOperatorSteps.TakenInTurn.{types_at-frames, pop_vals-frames}
 use Rattle.wasm_validator_resources.specs.Answers.{world}
 use Rattle.wasm_operator_stacks.specs.Seen.{state_of, around}
 use Rattle.wasm_operator_stacks.specs.declared.stacks.Stacks.{Stacks}

@@ -2,16 +2,16 @@
 use Rattle.std.proofs.Common.{◌≡◌, ℕ, Bool, true, false, ◌==◌, List, length, refl, sym, arith}
 use Rattle.std.specs.Prelude.{zero, suc}
 use Rattle.std.proofs.lemmas.Bool.Decides.{nat_tests}
-use Rattle.wasm_spec.specs.Syntax.{AbstractHeap, any_heap, eq_heap, i31_heap, struct_heap, array_heap, none_heap, func_heap, nofunc_heap, extern_heap, noextern_heap, exn_heap, noexn_heap, cont_heap, nocont_heap, Heap, abstract_heap, concrete, exact, Ref, Val, i32, i64, f32, f64, v128, reference, Sub}
-use Rattle.wasm_spec.specs.MatchingTests.{matches_heap, matches_val, matches_abstract, same_flag}
-use Rattle.wasm_spec_rules.specs.Contexts.{Context}
-use Rattle.wasm_readers_types.specs.declared.indices.UnpackedIndex.{UnpackedIndex}
-use Rattle.wasm_readers_types.specs.declared.indices.UnpackedIndex.TheVariants.{Module, RecGroup, Id}
-use Rattle.wasm_spec_rules.specs.Worlds.{is_below}
-use Rattle.wasm_operator_stacks.specs.Machine.{Operand, known, open_reference, matches_operand}
+use Rattle.wasm_validator_resources.specs.WasmSpec.Syntax.{AbstractHeap, any_heap, eq_heap, i31_heap, struct_heap, array_heap, none_heap, func_heap, nofunc_heap, extern_heap, noextern_heap, exn_heap, noexn_heap, cont_heap, nocont_heap, Heap, abstract_heap, concrete, exact, Ref, Val, i32, i64, f32, f64, v128, reference, Sub}
+use Rattle.wasm_validator_resources.specs.WasmSpec.MatchingTests.{matches_heap, matches_val, matches_abstract, same_flag}
+use Rattle.wasm_validator_resources.specs.WasmSpecRules.Contexts.{Context}
+use Rattle.wasm_validator_resources.specs.WasmReadersTypes.declared.indices.UnpackedIndex.{UnpackedIndex}
+use Rattle.wasm_validator_resources.specs.WasmReadersTypes.declared.indices.UnpackedIndex.TheVariants.{Module, RecGroup, Id}
+use Rattle.wasm_validator_resources.specs.WasmSpecRules.Worlds.{is_below}
+use Rattle.wasm_operator_stacks.specs.WasmOperatorSteps.Machine.{Operand, known, open_reference, matches_operand}
 use Rattle.wasm_validator_resources.specs.Answers.{same_index, world}
-use Rattle.wasm_spec.specs.Matching.{is_shared_heap}
-use Rattle.wasm_spec.specs.ValueTypes.{implies}
+use Rattle.wasm_validator_resources.specs.WasmSpec.Matching.{is_shared_heap}
+use Rattle.wasm_validator_resources.specs.WasmSpec.ValueTypes.{implies}
 
 same_number : (n : ℕ) → (n == n) ≡ true
 same_number n = grind (arith, nat_tests)

@@ -1,3 +1,4 @@
+pub use Rattle.wasm_operator_stacks.proofs.WasmOperatorSteps as WasmOperatorSteps
 pub mod Agreeing
 pub mod Looking
 pub mod Listing

@@ -2,12 +2,12 @@
 use Rattle.std.proofs.Common.{◌≡◌, ℕ, ◌-◌, ◌+◌, ◌<◌, List, [], ◌∷◌, length, drop, map, get_or, refl, arith, sym, ◌∙◌, ap}
 use Rattle.std.specs.Prelude.{zero, suc, Some, None}
 use Rattle.std.proofs.lemmas.Option.{slice_get-get_or}
-use Rattle.wasm_spec.specs.MatchingTests.{World}
-use Rattle.wasm_spec.specs.Syntax.{Val}
-use Rattle.wasm_readers_types.specs.SeenValues.{val_of}
-use Rattle.wasm_readers_types.specs.declared.indices.UnpackedIndex.{UnpackedIndex}
-use Rattle.wasm_readers_types.specs.declared.values.ValType.{ValType}
-use Rattle.wasm_operator_stacks.specs.Machine.{State, pop_val, pop_vals}
+use Rattle.wasm_validator_resources.specs.WasmSpec.MatchingTests.{World}
+use Rattle.wasm_validator_resources.specs.WasmSpec.Syntax.{Val}
+use Rattle.wasm_validator_resources.specs.WasmReadersTypes.SeenValues.{val_of}
+use Rattle.wasm_validator_resources.specs.WasmReadersTypes.declared.indices.UnpackedIndex.{UnpackedIndex}
+use Rattle.wasm_validator_resources.specs.WasmReadersTypes.declared.values.ValType.{ValType}
+use Rattle.wasm_operator_stacks.specs.WasmOperatorSteps.Machine.{State, pop_val, pop_vals}
 use Rattle.wasm_operator_checks.proofs.Looking.{from_on}
 
 -- one type more from the end, that matches or doesn't

@@ -1,16 +1,16 @@
 -- Types that a type index names, and what bars an operator.
 use Rattle.std.proofs.Common.{◌≡◌, ℕ, Bool, true, false, List, [], ◌∷◌, refl}
 use Rattle.std.specs.Prelude.{Some, slice_get, Err}
-use Rattle.wasm_spec.specs.Syntax.{Val, i32, concrete, Sub}
-use Rattle.wasm_spec.specs.ValueTypes.{implies}
-use Rattle.wasm_spec_rules.specs.Contexts.{Context}
-use Rattle.wasm_spec_rules.specs.FeatureFlags.{features_of}
-use Rattle.wasm_readers_types.specs.declared.indices.UnpackedIndex.{UnpackedIndex}
-use Rattle.wasm_operator_steps.specs.Actions.{Needed, has, reaches_type, these, new_reference, Action, need}
-use Rattle.wasm_operator_steps.specs.Machine.{State}
-use Rattle.wasm_spec_rules.specs.Signatures.{resolve_val}
-use Rattle.wasm_operator_steps.specs.Meanings.{ref_to}
-use Rattle.wasm_operator_steps.specs.Shapes.{nullable_to}
+use Rattle.wasm_validator_resources.specs.WasmSpec.Syntax.{Val, i32, concrete, Sub}
+use Rattle.wasm_validator_resources.specs.WasmSpec.ValueTypes.{implies}
+use Rattle.wasm_validator_resources.specs.WasmSpecRules.Contexts.{Context}
+use Rattle.wasm_validator_resources.specs.WasmSpecRules.FeatureFlags.{features_of}
+use Rattle.wasm_validator_resources.specs.WasmReadersTypes.declared.indices.UnpackedIndex.{UnpackedIndex}
+use Rattle.wasm_operator_stacks.specs.WasmOperatorSteps.Actions.{Needed, has, reaches_type, these, new_reference, Action, need}
+use Rattle.wasm_operator_stacks.specs.WasmOperatorSteps.Machine.{State}
+use Rattle.wasm_validator_resources.specs.WasmSpecRules.Signatures.{resolve_val}
+use Rattle.wasm_operator_stacks.specs.WasmOperatorSteps.Meanings.{ref_to}
+use Rattle.wasm_operator_stacks.specs.WasmOperatorSteps.Shapes.{nullable_to}
 use Rattle.wasm_validator_resources.specs.Answers.{sub_in}
 use Rattle.wasm_operator_stacks.specs.declared.stacks.Stacks.{Stacks}
 use Rattle.wasm_operator_checks.specs.Steps.{Took, acted, typed, held}

@@ -1,11 +1,11 @@
 -- Operands that are taken and others that are given.
 use Rattle.std.proofs.Common.{◌≡◌, ℕ, false, List, [], ◌∷◌, ◌++◌, refl, sym, ◌∙◌, ap}
 use Rattle.std.specs.Prelude.{Some, None}
-use Rattle.wasm_spec.specs.MatchingTests.{World}
-use Rattle.wasm_spec.specs.Syntax.{Val}
-use Rattle.wasm_readers_types.specs.declared.indices.UnpackedIndex.{UnpackedIndex}
-use Rattle.wasm_operator_stacks.specs.Machine.{State, become_unreachable, pop_val, pop_vals, push_vals}
-use Rattle.wasm_operator_stacks.proofs.TakenInTurn.{pop_vals-append}
+use Rattle.wasm_validator_resources.specs.WasmSpec.MatchingTests.{World}
+use Rattle.wasm_validator_resources.specs.WasmSpec.Syntax.{Val}
+use Rattle.wasm_validator_resources.specs.WasmReadersTypes.declared.indices.UnpackedIndex.{UnpackedIndex}
+use Rattle.wasm_operator_stacks.specs.WasmOperatorSteps.Machine.{State, become_unreachable, pop_val, pop_vals, push_vals}
+use Rattle.wasm_operator_stacks.proofs.WasmOperatorSteps.TakenInTurn.{pop_vals-append}
 use Rattle.wasm_operator_stacks.specs.Seen.{state_of, below}
 use Rattle.wasm_operator_stacks.specs.declared.stacks.Stacks.{Stacks}
 use Rattle.wasm_operator_checks.specs.SeenTypes.{exchanged, halted}

@@ -2,22 +2,22 @@
 use Rattle.std.proofs.Common.{◌≡◌, ℕ, Bool, false, ◌&&◌, ◌||◌, ◌^◌, List, [], ◌∷◌, ◌++◌, refl}
 use Rattle.std.specs.Option.{option_map}
 use Rattle.std.specs.Prelude.{Option, Some, None, slice_get, nat_le, nat_lt}
-use Rattle.wasm_spec.specs.Syntax.{Val, i32}
-use Rattle.wasm_spec_rules.specs.Contexts.{Context}
-use Rattle.wasm_operators_plain.specs.declared.signatures.NumberType.{NumberType}
-use Rattle.wasm_operators_plain.specs.declared.signatures.NumberType.TheVariants as number
-use Rattle.wasm_readers_types.specs.SeenExterns.{memory_of}
-use Rattle.wasm_readers_types.specs.declared.externs.MemoryType.{MemoryType}
-use Rattle.wasm_readers_types.specs.declared.indices.UnpackedIndex.{UnpackedIndex}
-use Rattle.wasm_operators_plain.specs.Memories.{max_align_of}
-use Rattle.wasm_operators_plain.specs.declared.memories.MemoryOperator.{MemoryOperator}
-use Rattle.wasm_operators_plain.specs.declared.memories.MemArg.{MemArg}
+use Rattle.wasm_validator_resources.specs.WasmSpec.Syntax.{Val, i32}
+use Rattle.wasm_validator_resources.specs.WasmSpecRules.Contexts.{Context}
+use Rattle.wasm_operator_stacks.specs.WasmOperatorsPlain.declared.signatures.NumberType.{NumberType}
+use Rattle.wasm_operator_stacks.specs.WasmOperatorsPlain.declared.signatures.NumberType.TheVariants as number
+use Rattle.wasm_validator_resources.specs.WasmReadersTypes.SeenExterns.{memory_of}
+use Rattle.wasm_validator_resources.specs.WasmReadersTypes.declared.externs.MemoryType.{MemoryType}
+use Rattle.wasm_validator_resources.specs.WasmReadersTypes.declared.indices.UnpackedIndex.{UnpackedIndex}
+use Rattle.wasm_operator_stacks.specs.WasmOperatorsPlain.Memories.{max_align_of}
+use Rattle.wasm_operator_stacks.specs.WasmOperatorsPlain.declared.memories.MemoryOperator.{MemoryOperator}
+use Rattle.wasm_operator_stacks.specs.WasmOperatorsPlain.declared.memories.MemArg.{MemArg}
 use Rattle.wasm_operator_stacks.specs.SeenTypeWords.{number_val}
-use Rattle.wasm_operator_stacks.specs.Actions.{OperandTypes, Check, these, memory_address, lesser_memory_address, joined, is_aligned, data_is_there}
-use Rattle.wasm_spec_rules.specs.Attempts.{◌>>=◌, passes}
-use Rattle.wasm_spec_rules.specs.Signatures.{resolve_val}
-use Rattle.wasm_operator_stacks.specs.Meanings.{types_at, holds, address}
-use Rattle.wasm_operator_stacks.specs.Shapes.{number_type}
+use Rattle.wasm_operator_stacks.specs.WasmOperatorSteps.Actions.{OperandTypes, Check, these, memory_address, lesser_memory_address, joined, is_aligned, data_is_there}
+use Rattle.wasm_validator_resources.specs.WasmSpecRules.Attempts.{◌>>=◌, passes}
+use Rattle.wasm_validator_resources.specs.WasmSpecRules.Signatures.{resolve_val}
+use Rattle.wasm_operator_stacks.specs.WasmOperatorSteps.Meanings.{types_at, holds, address}
+use Rattle.wasm_operator_stacks.specs.WasmOperatorSteps.Shapes.{number_type}
 use Rattle.wasm_validator_resources.specs.Answers.{world}
 use Rattle.wasm_operator_stacks.specs.Seen.{state_of, around}
 use Rattle.wasm_operator_stacks.specs.declared.stacks.Stacks.{Stacks}

@@ -2,12 +2,12 @@
 -- Core Specification 3.0, Validation, Instructions (Aggregate Instructions).
 use Rattle.std.specs.Prelude.{◌≡◌, ℕ, Bool, false, List, Option, if◌then◌else◌}
 use Rattle.std.specs.Option.{option_map}
-use Rattle.wasm_spec.specs.Syntax.{Heap, concrete, exact, Field}
-use Rattle.wasm_spec_rules.specs.Contexts.{Context}
-use Rattle.wasm_readers_types.specs.declared.indices.UnpackedIndex.{UnpackedIndex}
-use Rattle.wasm_operator_steps.specs.Actions.{Needed, has, reaches_type}
-use Rattle.wasm_spec_rules.specs.Attempts.{◌>>=◌}
-use Rattle.wasm_operator_steps.specs.Meanings.{fields_of, element_of}
+use Rattle.wasm_validator_resources.specs.WasmSpec.Syntax.{Heap, concrete, exact, Field}
+use Rattle.wasm_validator_resources.specs.WasmSpecRules.Contexts.{Context}
+use Rattle.wasm_validator_resources.specs.WasmReadersTypes.declared.indices.UnpackedIndex.{UnpackedIndex}
+use Rattle.wasm_operator_stacks.specs.WasmOperatorSteps.Actions.{Needed, has, reaches_type}
+use Rattle.wasm_validator_resources.specs.WasmSpecRules.Attempts.{◌>>=◌}
+use Rattle.wasm_operator_stacks.specs.WasmOperatorSteps.Meanings.{fields_of, element_of}
 use Rattle.wasm_validator_resources.specs.Answers.{sub_in}
 use Rattle.wasm_operator_stacks.specs.declared.stacks.Stacks.{Stacks}
 use Rattle.wasm_operator_checks.specs.Steps.{held}

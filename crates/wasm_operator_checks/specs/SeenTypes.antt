@@ -1,12 +1,12 @@
 -- What contracts see of lists of types.
 use Rattle.std.specs.Prelude.{List, [], ◌∷◌, map, Option, Some}
-use Rattle.wasm_spec.specs.Syntax.{Val}
-use Rattle.wasm_spec.specs.MatchingTests.{World}
-use Rattle.wasm_readers_types.specs.SeenValues.{val_of}
-use Rattle.wasm_readers_types.specs.declared.indices.UnpackedIndex.{UnpackedIndex}
+use Rattle.wasm_validator_resources.specs.WasmSpec.Syntax.{Val}
+use Rattle.wasm_validator_resources.specs.WasmSpec.MatchingTests.{World}
+use Rattle.wasm_validator_resources.specs.WasmReadersTypes.SeenValues.{val_of}
+use Rattle.wasm_validator_resources.specs.WasmReadersTypes.declared.indices.UnpackedIndex.{UnpackedIndex}
 use Rattle.wasm_operator_stacks.specs.SeenTypeWords.{val_in}
-use Rattle.wasm_spec_rules.specs.Attempts.{◌>>=◌}
-use Rattle.wasm_operator_stacks.specs.Machine.{State, become_unreachable, pop_vals, push_vals}
+use Rattle.wasm_validator_resources.specs.WasmSpecRules.Attempts.{◌>>=◌}
+use Rattle.wasm_operator_stacks.specs.WasmOperatorSteps.Machine.{State, become_unreachable, pop_vals, push_vals}
 use Rattle.wasm_operator_checks.specs.declared.types.ValTypes.{ValTypes}
 use Rattle.wasm_operator_checks.specs.declared.types.ValTypes.TheVariants as types
 use Rattle.wasm_operator_checks.specs.declared.types.Takes.{Takes}

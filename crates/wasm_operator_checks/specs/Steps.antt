@@ -1,14 +1,14 @@
 -- The words for what operators do.
 use Rattle.std.specs.Prelude.{◌≡◌, ◌≤◌, ℕ, Bool, List, length, Option, Some, None, Result, Ok, Err}
-use Rattle.wasm_spec.specs.Syntax.{Val}
-use Rattle.wasm_spec_rules.specs.Contexts.{Context}
-use Rattle.wasm_readers_types.specs.declared.indices.UnpackedIndex.{UnpackedIndex}
-use Rattle.wasm_operator_stacks.specs.Actions.{Action, Check, OperandTypes}
-use Rattle.wasm_operator_stacks.specs.Meanings.{run, holds, types_at}
-use Rattle.wasm_operator_stacks.specs.Shapes.{Shape}
-use Rattle.wasm_operator_stacks.specs.Steps.{actions_of}
-use Rattle.wasm_operator_stacks.specs.Machine as machine
-use Rattle.wasm_operator_stacks.specs.Machine.{State}
+use Rattle.wasm_validator_resources.specs.WasmSpec.Syntax.{Val}
+use Rattle.wasm_validator_resources.specs.WasmSpecRules.Contexts.{Context}
+use Rattle.wasm_validator_resources.specs.WasmReadersTypes.declared.indices.UnpackedIndex.{UnpackedIndex}
+use Rattle.wasm_operator_stacks.specs.WasmOperatorSteps.Actions.{Action, Check, OperandTypes}
+use Rattle.wasm_operator_stacks.specs.WasmOperatorSteps.Meanings.{run, holds, types_at}
+use Rattle.wasm_operator_stacks.specs.WasmOperatorSteps.Shapes.{Shape}
+use Rattle.wasm_operator_stacks.specs.WasmOperatorSteps.Steps.{actions_of}
+use Rattle.wasm_operator_stacks.specs.WasmOperatorSteps.Machine as machine
+use Rattle.wasm_operator_stacks.specs.WasmOperatorSteps.Machine.{State}
 use Rattle.wasm_validator_resources.specs.Answers.{world}
 use Rattle.wasm_operator_stacks.specs.SeenOperands.{operand_of}
 use Rattle.wasm_operator_stacks.specs.Seen.{state_of, around, below}

@@ -1,20 +1,20 @@
 -- What the refusal of an operator says: where, which rule is broken, and the proposal that would lift it.
 use Rattle.std.specs.Prelude.{◌≡◌, ℕ, Bool, true, false, Option, Some, None, ⊤}
 use Rattle.std.specs.Option.{option_map}
-use Rattle.wasm_spec.specs.Syntax.{Val}
-use Rattle.wasm_readers_types.specs.SeenValues.{val_of}
-use Rattle.wasm_readers_types.specs.declared.indices.UnpackedIndex.{UnpackedIndex}
-use Rattle.wasm_readers_errors.specs.declared.error.Error.{Error}
-use Rattle.wasm_readers_errors.specs.declared.error.Error.TheVariants as error
-use Rattle.wasm_readers_errors.specs.declared.error.Fault.{Fault}
-use Rattle.wasm_readers_errors.specs.declared.error.Fault.TheVariants as fault
-use Rattle.wasm_readers_errors.specs.declared.error.Refusal.{Refusal}
-use Rattle.wasm_readers_errors.specs.Lifting.{lifting}
-use Rattle.wasm_readers_errors.specs.declared.operator_rules.OperatorRule.{OperatorRule}
-use Rattle.wasm_readers_errors.specs.declared.operator_rules.OperatorRule.TheVariants as rule
+use Rattle.wasm_validator_resources.specs.WasmSpec.Syntax.{Val}
+use Rattle.wasm_validator_resources.specs.WasmReadersTypes.SeenValues.{val_of}
+use Rattle.wasm_validator_resources.specs.WasmReadersTypes.declared.indices.UnpackedIndex.{UnpackedIndex}
+use Rattle.wasm_validator_resources.specs.WasmReadersErrors.declared.error.Error.{Error}
+use Rattle.wasm_validator_resources.specs.WasmReadersErrors.declared.error.Error.TheVariants as error
+use Rattle.wasm_validator_resources.specs.WasmReadersErrors.declared.error.Fault.{Fault}
+use Rattle.wasm_validator_resources.specs.WasmReadersErrors.declared.error.Fault.TheVariants as fault
+use Rattle.wasm_validator_resources.specs.WasmReadersErrors.declared.error.Refusal.{Refusal}
+use Rattle.wasm_validator_resources.specs.WasmReadersErrors.Lifting.{lifting}
+use Rattle.wasm_validator_resources.specs.WasmReadersErrors.declared.operator_rules.OperatorRule.{OperatorRule}
+use Rattle.wasm_validator_resources.specs.WasmReadersErrors.declared.operator_rules.OperatorRule.TheVariants as rule
 use Rattle.wasm_operator_stacks.specs.SeenTypeWords.{val_in}
-use Rattle.wasm_operator_stacks.specs.Machine as machine
-use Rattle.wasm_operator_stacks.specs.Machine.{known}
+use Rattle.wasm_operator_stacks.specs.WasmOperatorSteps.Machine as machine
+use Rattle.wasm_operator_stacks.specs.WasmOperatorSteps.Machine.{known}
 use Rattle.wasm_operator_stacks.specs.SeenOperands.{operand_of}
 use Rattle.wasm_operator_checks.specs.declared.faults.OperatorFault.{OperatorFault}
 use Rattle.wasm_operator_checks.specs.declared.faults.OperatorError.{OperatorError}

@@ -5,9 +5,9 @@ ghost use Rattle.wasm_operator_checks.specs.declared.faults.OperatorError.TheVar
 ghost use Rattle.wasm_operator_checks.specs.Told.{is_operand};
 
 use std::alloc::AllocError;
+use wasm_operator_stacks::operators_plain::NumberType;
 use wasm_operator_stacks::{Operand, TypeWord, Word};
-use wasm_operators_plain::NumberType;
-use wasm_readers_errors::{Error, Fault, OperatorRule, Refusal};
+use wasm_validator_resources::readers_errors::{Error, Fault, OperatorRule, Refusal};
 
 /// A rule that is broken, with a number that belongs to it, the type that is expected, and the
 /// operand that is found in its place, if there is one.

@@ -1,11 +1,11 @@
 //! What fields hold.
 
 ghost use Rattle.std.specs.Prelude.{◌≡◌};
-ghost use Rattle.wasm_spec.specs.MatchingTests.{same_flag as agree};
-ghost use Rattle.wasm_readers_types.specs.SeenValues.{val_of, storage_of};
-ghost use Rattle.wasm_operator_steps.specs.Meanings.{has_default as defaults, is_packed as packed, unpack as unpacked_as};
+ghost use Rattle.wasm_validator_resources.specs.WasmSpec.MatchingTests.{same_flag as agree};
+ghost use Rattle.wasm_validator_resources.specs.WasmReadersTypes.SeenValues.{val_of, storage_of};
+ghost use Rattle.wasm_operator_stacks.specs.WasmOperatorSteps.Meanings.{has_default as defaults, is_packed as packed, unpack as unpacked_as};
 
-use wasm_readers_types::{StorageType, ValType};
+use wasm_validator_resources::readers_types::{StorageType, ValType};
 
 /// What a field holds as a value: an integer of 32 bits, where it is packed.
 pub fn unpack(storage: StorageType) -> ValType

@@ -21,4 +21,16 @@ pub use named::{exact_or_null, identity, new_reference, nullable};
 pub use reach::{address, has, lesser, reaches};
 pub use steps::{halt, plain, plain_with};
 pub use types::{Takes, ValTypes, check_takes, check_types, exchange_types};
-pub use wasm_readers_errors::OperatorRule;
+pub use wasm_validator_resources::readers_errors::OperatorRule;
+
+/// Passed on from `wasm_validator_resources`.
+pub mod validator_resources {
+    pub use wasm_validator_resources::{WasmModuleResources, check_ref_type};
+}
+
+/// Passed on from `wasm_operator_stacks`.
+pub mod operator_stacks {
+    pub use wasm_operator_stacks::{
+        Block, BlockWord, Frame, LocalWord, Locals, MAX_LOCALS, Operand, Stacks, TypeWord, Word,
+    };
+}

@@ -1,12 +1,12 @@
 //! Lists of types that match.
 
 ghost use Rattle.std.specs.Prelude.{◌≡◌, map};
-ghost use Rattle.wasm_readers_types.specs.SeenValues.{val_of};
-ghost use Rattle.wasm_operator_stacks.specs.Matching.{matches_vals};
+ghost use Rattle.wasm_validator_resources.specs.WasmReadersTypes.SeenValues.{val_of};
+ghost use Rattle.wasm_operator_stacks.specs.WasmOperatorSteps.Matching.{matches_vals};
 ghost use Rattle.wasm_validator_resources.specs.Answers.{world};
 
-use wasm_readers_types::ValType;
 use wasm_validator_resources::WasmModuleResources;
+use wasm_validator_resources::readers_types::ValType;
 
 /// Whether these types match those, place by place, and are equally many.
 #[tactic(auto, using(crate::proofs::Comparing::lists))]

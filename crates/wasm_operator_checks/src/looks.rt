@@ -1,9 +1,9 @@
 //! Looks at operands below others that count as taken.
 
 ghost use Rattle.std.specs.Prelude.{◌≡◌, ◌≤◌, length, map};
-ghost use Rattle.wasm_readers_types.specs.SeenValues.{val_of};
+ghost use Rattle.wasm_validator_resources.specs.WasmReadersTypes.SeenValues.{val_of};
 ghost use Rattle.wasm_operator_stacks.specs.SeenTypeWords.{val_in};
-ghost use Rattle.wasm_operator_stacks.specs.Machine.{pop_any, pop_val, pop_vals};
+ghost use Rattle.wasm_operator_stacks.specs.WasmOperatorSteps.Machine.{pop_any, pop_val, pop_vals};
 ghost use Rattle.wasm_validator_resources.specs.Answers.{world};
 ghost use Rattle.wasm_operator_stacks.specs.Seen.{state_of, below};
 ghost use Rattle.wasm_operator_checks.specs.Steps.{Looked, Checked};
@@ -12,9 +12,9 @@ use crate::faults::OperatorFault;
 use crate::matching::matches;
 use std::alloc::Allocator;
 use wasm_operator_stacks::{Stacks, TypeWord, Word};
-use wasm_readers_errors::OperatorRule;
-use wasm_readers_types::ValType;
 use wasm_validator_resources::WasmModuleResources;
+use wasm_validator_resources::readers_errors::OperatorRule;
+use wasm_validator_resources::readers_types::ValType;
 
 /// The operand below so many that are taken already, and how many are taken with it.
 #[inline(always)]

@@ -2,14 +2,14 @@
 
 ghost use Rattle.std.specs.Prelude.{◌≡◌};
 ghost use Rattle.wasm_operator_stacks.specs.SeenTypeWords.{val_in};
-ghost use Rattle.wasm_readers_types.specs.SeenValues.{val_of, abstract_heap_of};
-ghost use Rattle.wasm_operator_stacks.specs.Machine.{matches_operand, open_reference};
+ghost use Rattle.wasm_validator_resources.specs.WasmReadersTypes.SeenValues.{val_of, abstract_heap_of};
+ghost use Rattle.wasm_operator_stacks.specs.WasmOperatorSteps.Machine.{matches_operand, open_reference};
 ghost use Rattle.wasm_operator_stacks.specs.SeenOperands.{operand_of, operand_seen};
 ghost use Rattle.wasm_validator_resources.specs.Answers.{world};
 
 use wasm_operator_stacks::{Operand, TypeWord, Word};
-use wasm_readers_types::{AbstractHeapType, HeapType, RefType, ValType};
 use wasm_validator_resources::WasmModuleResources;
+use wasm_validator_resources::readers_types::{AbstractHeapType, HeapType, RefType, ValType};
 
 /// Whether a reference to an abstract heap type whose shared flag is open is of a type.
 #[tactic(auto, using(crate::proofs::Agreeing::opens))]

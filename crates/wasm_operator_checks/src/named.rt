@@ -1,19 +1,19 @@
 //! Types that operators name.
 
 ghost use Rattle.std.specs.Prelude.{◌≡◌, true, false, slice_get, option_map};
-ghost use Rattle.wasm_spec.specs.Syntax.{concrete, exact};
-ghost use Rattle.wasm_readers_types.specs.SeenValues.{index_of};
-ghost use Rattle.wasm_spec_rules.specs.FeatureFlags.{features_of};
+ghost use Rattle.wasm_validator_resources.specs.WasmSpec.Syntax.{concrete, exact};
+ghost use Rattle.wasm_validator_resources.specs.WasmReadersTypes.SeenValues.{index_of};
+ghost use Rattle.wasm_validator_resources.specs.WasmSpecRules.FeatureFlags.{features_of};
 ghost use Rattle.wasm_operator_stacks.specs.SeenTypeWords.{val_in};
-ghost use Rattle.wasm_operator_steps.specs.Meanings.{ref_to};
+ghost use Rattle.wasm_operator_stacks.specs.WasmOperatorSteps.Meanings.{ref_to};
 ghost use Rattle.wasm_operator_checks.specs.Declared.{new_heap};
 
 use bitflags::Flags;
 use std::alloc::Allocator;
 use wasm_operator_stacks::{Stacks, TypeWord};
-use wasm_readers_errors::WasmFeatures;
-use wasm_readers_types::{HeapType, PackedIndex, RefType, UnpackedIndex};
 use wasm_validator_resources::WasmModuleResources;
+use wasm_validator_resources::readers_errors::WasmFeatures;
+use wasm_validator_resources::readers_types::{HeapType, PackedIndex, RefType, UnpackedIndex};
 
 /// The identity of the type of this type index, if there is one.
 pub fn identity<T: WasmModuleResources>(resources: &T, type_index: u32) -> Option<PackedIndex>

@@ -1,17 +1,17 @@
 //! What a body may reach, and what addresses it.
 
 ghost use Rattle.std.specs.Prelude.{◌≡◌, ◌&&◌};
-ghost use Rattle.wasm_spec.specs.ValueTypes.{implies};
-ghost use Rattle.wasm_readers_errors.specs.On.{has_flag};
-ghost use Rattle.wasm_readers_types.specs.declared.indices.UnpackedIndex.{UnpackedIndex};
+ghost use Rattle.wasm_validator_resources.specs.WasmSpec.ValueTypes.{implies};
+ghost use Rattle.wasm_validator_resources.specs.WasmReadersErrors.On.{has_flag};
+ghost use Rattle.wasm_validator_resources.specs.WasmReadersTypes.declared.indices.UnpackedIndex.{UnpackedIndex};
 ghost use Rattle.wasm_operator_stacks.specs.SeenTypeWords.{val_in};
-ghost use Rattle.wasm_operator_stacks.specs.Meanings.{address as address_by};
+ghost use Rattle.wasm_operator_stacks.specs.WasmOperatorSteps.Meanings.{address as address_by};
 
 use bitflags::Flags;
 use std::alloc::Allocator;
+use wasm_operator_stacks::operators_plain::NumberType;
 use wasm_operator_stacks::{Stacks, TypeWord};
-use wasm_operators_plain::NumberType;
-use wasm_readers_errors::WasmFeatures;
+use wasm_validator_resources::readers_errors::WasmFeatures;
 
 /// Whether a proposal is on.
 #[inline(always)]

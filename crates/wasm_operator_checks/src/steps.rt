@@ -12,8 +12,8 @@ use crate::looks::check_type;
 use crate::types::{Takes, ValTypes, check_takes, check_types, exchange_types};
 use std::alloc::Allocator;
 use wasm_operator_stacks::{Stacks, TypeWord};
-use wasm_readers_errors::OperatorRule;
 use wasm_validator_resources::WasmModuleResources;
+use wasm_validator_resources::readers_errors::OperatorRule;
 
 /// Takes operands of some types, and gives others. Where that can't be, all stays.
 #[inline(always)]

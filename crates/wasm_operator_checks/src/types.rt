@@ -2,7 +2,7 @@
 
 ghost use Rattle.std.specs.Prelude.{◌≡◌, ◌≤◌, ◌∷◌, [], length, map, OnOk, OnErr};
 ghost use Rattle.wasm_operator_stacks.specs.SeenTypeWords.{val_in};
-ghost use Rattle.wasm_operator_stacks.specs.Machine.{pop_vals, push_vals};
+ghost use Rattle.wasm_operator_stacks.specs.WasmOperatorSteps.Machine.{pop_vals, push_vals};
 ghost use Rattle.wasm_validator_resources.specs.Answers.{world};
 ghost use Rattle.wasm_operator_stacks.specs.Seen.{state_of, below, Kept};
 ghost use Rattle.wasm_operator_checks.specs.Steps.{Checked};
@@ -12,8 +12,8 @@ use crate::faults::OperatorFault;
 use crate::looks::{check_many, check_type};
 use std::alloc::{AllocError, Allocator};
 use wasm_operator_stacks::{Stacks, TypeWord, Word};
-use wasm_readers_types::ValType;
 use wasm_validator_resources::WasmModuleResources;
+use wasm_validator_resources::readers_types::ValType;
 
 /// None, one or many value types.
 #[derive(Clone, Copy)]

@@ -2,29 +2,29 @@
 use Rattle.std.proofs.Common.{◌≡◌, ◌⊎◌, inl, inr, ℕ, Bool, true, false, List, [], ◌∷◌, refl, sym, ◌∙◌, ap}
 use Rattle.std.specs.Option.{option_map}
 use Rattle.std.specs.Prelude.{Option, Some, None, Err, slice_get}
-use Rattle.wasm_spec.specs.Syntax.{Val, Ref, reference, abstract_heap, func_heap, Sub}
-use Rattle.wasm_spec.specs.MatchingTests.{matches_val}
-use Rattle.wasm_spec.specs.ValueTypes.{implies}
-use Rattle.wasm_spec_rules.specs.Contexts.{Context}
+use Rattle.wasm_readers_types.specs.WasmSpec.Syntax.{Val, Ref, reference, abstract_heap, func_heap, Sub}
+use Rattle.wasm_readers_types.specs.WasmSpec.MatchingTests.{matches_val}
+use Rattle.wasm_readers_types.specs.WasmSpec.ValueTypes.{implies}
+use Rattle.wasm_validator_resources.specs.WasmSpecRules.Contexts.{Context}
 use Rattle.wasm_readers_types.specs.SeenTypes.{comp_of}
 use Rattle.wasm_readers_types.specs.declared.indices.UnpackedIndex.{UnpackedIndex}
 use Rattle.wasm_readers_types.specs.declared.types.FuncType.{FuncType}
 use Rattle.wasm_readers_types.specs.declared.types.CompositeInnerType.{CompositeInnerType}
 use Rattle.wasm_readers_types.specs.declared.types.CompositeInnerType.TheVariants.{Func, Array, Struct, Cont}
-use Rattle.wasm_operator_steps.specs.Actions.{Action, need, these, params, results, of_type, of_function, table_element, reaches_type, reaches_function}
-use Rattle.wasm_spec_rules.specs.Attempts.{◌>>=◌, guard, passes}
-use Rattle.wasm_operator_steps.specs.Machine.{State}
-use Rattle.wasm_spec_rules.specs.Signatures.{Signature, signature_of, resolve_val}
-use Rattle.wasm_operator_steps.specs.Shapes.{nullable_to, holds_functions}
-use Rattle.wasm_operator_stacks.specs.SeenTypeWords.{val_in}
-use Rattle.wasm_operator_stacks.specs.declared.type_word.TypeWord.{TypeWord}
+use Rattle.wasm_operator_numbers.specs.WasmOperatorSteps.Actions.{Action, need, these, params, results, of_type, of_function, table_element, reaches_type, reaches_function}
+use Rattle.wasm_validator_resources.specs.WasmSpecRules.Attempts.{◌>>=◌, guard, passes}
+use Rattle.wasm_operator_numbers.specs.WasmOperatorSteps.Machine.{State}
+use Rattle.wasm_validator_resources.specs.WasmSpecRules.Signatures.{Signature, signature_of, resolve_val}
+use Rattle.wasm_operator_numbers.specs.WasmOperatorSteps.Shapes.{nullable_to, holds_functions}
+use Rattle.wasm_operator_numbers.specs.WasmOperatorStacks.SeenTypeWords.{val_in}
+use Rattle.wasm_operator_numbers.specs.WasmOperatorStacks.declared.type_word.TypeWord.{TypeWord}
 use Rattle.wasm_validator_resources.specs.Answers.{world, sub_in}
-use Rattle.wasm_operator_stacks.specs.declared.stacks.Stacks.{Stacks}
-use Rattle.wasm_operator_checks.specs.Steps.{Took, acted, typed, held}
-use Rattle.wasm_operator_checks.specs.declared.faults.OperatorFault.{OperatorFault}
-use Rattle.wasm_operator_checks.specs.declared.faults.OperatorError.TheVariants.{Refused}
-use Rattle.wasm_operator_checks.proofs.Acting.{needed, refused_here}
-use Rattle.wasm_operator_checks.proofs.Typing.{written_typed}
+use Rattle.wasm_operator_numbers.specs.WasmOperatorStacks.declared.stacks.Stacks.{Stacks}
+use Rattle.wasm_operator_numbers.specs.WasmOperatorChecks.Steps.{Took, acted, typed, held}
+use Rattle.wasm_operator_numbers.specs.WasmOperatorChecks.declared.faults.OperatorFault.{OperatorFault}
+use Rattle.wasm_operator_numbers.specs.WasmOperatorChecks.declared.faults.OperatorError.TheVariants.{Refused}
+use Rattle.wasm_operator_numbers.proofs.WasmOperatorChecks.Acting.{needed, refused_here}
+use Rattle.wasm_operator_numbers.proofs.WasmOperatorChecks.Typing.{written_typed}
 use Rattle.wasm_operator_numbers.proofs.Comparing.{one_held}
 use Rattle.wasm_operator_control.specs.Callees.{type_in, function_in}
 

@@ -4,26 +4,26 @@ use Rattle.std.specs.Option.{option_map}
 use Rattle.std.specs.Prelude.{Option, Some, None}
 use Rattle.std.proofs.lemmas.Bool.Decides.{nat_tests}
 use Rattle.std.proofs.lemmas.List.{length-drop, length-map}
-use Rattle.wasm_spec.specs.MatchingTests.{World}
-use Rattle.wasm_spec.specs.Syntax.{Val}
-use Rattle.wasm_spec_rules.specs.Contexts.{Context}
+use Rattle.wasm_readers_types.specs.WasmSpec.MatchingTests.{World}
+use Rattle.wasm_readers_types.specs.WasmSpec.Syntax.{Val}
+use Rattle.wasm_validator_resources.specs.WasmSpecRules.Contexts.{Context}
 use Rattle.wasm_readers_types.specs.declared.indices.UnpackedIndex.{UnpackedIndex}
 use Rattle.wasm_operators.specs.Control.{Block, empty_block, value_block, func_block}
-use Rattle.wasm_spec_rules.specs.Attempts.{◌>>=◌}
-use Rattle.wasm_operator_steps.specs.Actions.{leave}
-use Rattle.wasm_operator_steps.specs.Bodies.{Surroundings}
-use Rattle.wasm_operator_steps.specs.Matching.{matches_vals}
-use Rattle.wasm_operator_steps.specs.Machine as machine
-use Rattle.wasm_operator_steps.specs.Machine.{Kind, block_kind, loop_kind, if_kind, else_kind, try_table_kind, State, pop_vals, push_vals}
-use Rattle.wasm_spec_rules.specs.Signatures.{Signature}
-use Rattle.wasm_operator_steps.specs.Meanings.{block_signature, leave_in, may_end}
+use Rattle.wasm_validator_resources.specs.WasmSpecRules.Attempts.{◌>>=◌}
+use Rattle.wasm_operator_numbers.specs.WasmOperatorSteps.Actions.{leave}
+use Rattle.wasm_operator_numbers.specs.WasmOperatorSteps.Bodies.{Surroundings}
+use Rattle.wasm_operator_numbers.specs.WasmOperatorSteps.Matching.{matches_vals}
+use Rattle.wasm_operator_numbers.specs.WasmOperatorSteps.Machine as machine
+use Rattle.wasm_operator_numbers.specs.WasmOperatorSteps.Machine.{Kind, block_kind, loop_kind, if_kind, else_kind, try_table_kind, State, pop_vals, push_vals}
+use Rattle.wasm_validator_resources.specs.WasmSpecRules.Signatures.{Signature}
+use Rattle.wasm_operator_numbers.specs.WasmOperatorSteps.Meanings.{block_signature, leave_in, may_end}
 use Rattle.wasm_validator_resources.specs.Answers.{world}
-use Rattle.wasm_operator_stacks.specs.Seen.{state_of, around, below}
-use Rattle.wasm_operator_stacks.specs.SeenOperands.{operand_of}
-use Rattle.wasm_operator_stacks.specs.SeenBlocks.{block_in, kind_of, frame_of}
-use Rattle.wasm_operator_stacks.specs.declared.word.Word.{Word}
-use Rattle.wasm_operator_stacks.specs.declared.stacks.Stacks.{Stacks}
-use Rattle.wasm_operator_checks.specs.Steps.{acted}
+use Rattle.wasm_operator_numbers.specs.WasmOperatorStacks.Seen.{state_of, around, below}
+use Rattle.wasm_operator_numbers.specs.WasmOperatorStacks.SeenOperands.{operand_of}
+use Rattle.wasm_operator_numbers.specs.WasmOperatorStacks.SeenBlocks.{block_in, kind_of, frame_of}
+use Rattle.wasm_operator_numbers.specs.WasmOperatorStacks.declared.word.Word.{Word}
+use Rattle.wasm_operator_numbers.specs.WasmOperatorStacks.declared.stacks.Stacks.{Stacks}
+use Rattle.wasm_operator_numbers.specs.WasmOperatorChecks.Steps.{acted}
 use Rattle.wasm_operator_control.specs.Blocks.{function_in, signature_in, ends_in}
 
 some_same : {X : Type 0} (x y : X) → Some x ≡ Some y → x ≡ y

@@ -2,16 +2,16 @@
 use Rattle.std.proofs.Common.{◌≡◌, ℕ, Bool, true, false, not, [], ◌∷◌, refl}
 use Rattle.std.specs.Option.{option_map}
 use Rattle.std.specs.Prelude.{Some, None, slice_get}
-use Rattle.wasm_spec.specs.Syntax.{Val}
-use Rattle.wasm_spec.specs.ValueTypes.{implies}
-use Rattle.wasm_spec_rules.specs.Contexts.{Context}
+use Rattle.wasm_readers_types.specs.WasmSpec.Syntax.{Val}
+use Rattle.wasm_readers_types.specs.WasmSpec.ValueTypes.{implies}
+use Rattle.wasm_validator_resources.specs.WasmSpecRules.Contexts.{Context}
 use Rattle.wasm_readers_types.specs.SeenExterns.{global_of}
 use Rattle.wasm_readers_types.specs.SeenValues.{val_of}
 use Rattle.wasm_readers_types.specs.declared.externs.GlobalType.{GlobalType}
 use Rattle.wasm_readers_types.specs.declared.indices.UnpackedIndex.{UnpackedIndex}
-use Rattle.wasm_operator_steps.specs.Actions.{global, global_is_mutable, reaches_global}
-use Rattle.wasm_operator_stacks.specs.declared.stacks.Stacks.{Stacks}
-use Rattle.wasm_operator_checks.specs.Steps.{typed, held}
+use Rattle.wasm_operator_numbers.specs.WasmOperatorSteps.Actions.{global, global_is_mutable, reaches_global}
+use Rattle.wasm_operator_numbers.specs.WasmOperatorStacks.declared.stacks.Stacks.{Stacks}
+use Rattle.wasm_operator_numbers.specs.WasmOperatorChecks.Steps.{typed, held}
 
 module _ {A : Type 0} (v : Stacks A) (C : Context UnpackedIndex) where
   pub global_typed : (n : ℕ) (g : GlobalType) (x : Val UnpackedIndex) → option_map global_of (Some g) ≡ slice_get C.globals n → x ≡ val_of g.content_type → typed v C (global n) ≡ Some (x ∷ [])

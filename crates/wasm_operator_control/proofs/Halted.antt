@@ -1,14 +1,14 @@
 -- Operands of some types with one on top, behind which code isn't reached.
 use Rattle.std.proofs.Common.{◌≡◌, ℕ, false, List, [], ◌∷◌, ◌++◌, refl, sym, ◌∙◌, ap}
 use Rattle.std.specs.Prelude.{Some, None}
-use Rattle.wasm_spec.specs.MatchingTests.{World}
-use Rattle.wasm_spec.specs.Syntax.{Val}
+use Rattle.wasm_readers_types.specs.WasmSpec.MatchingTests.{World}
+use Rattle.wasm_readers_types.specs.WasmSpec.Syntax.{Val}
 use Rattle.wasm_readers_types.specs.declared.indices.UnpackedIndex.{UnpackedIndex}
-use Rattle.wasm_operator_steps.specs.Machine.{State, become_unreachable, pop_val, pop_vals}
-use Rattle.wasm_operator_steps.proofs.TakenInTurn.{pop_vals-append}
-use Rattle.wasm_operator_stacks.specs.Seen.{state_of, below}
-use Rattle.wasm_operator_stacks.specs.declared.stacks.Stacks.{Stacks}
-use Rattle.wasm_operator_checks.specs.SeenTypes.{halted}
+use Rattle.wasm_operator_numbers.specs.WasmOperatorSteps.Machine.{State, become_unreachable, pop_val, pop_vals}
+use Rattle.wasm_operator_numbers.proofs.WasmOperatorSteps.TakenInTurn.{pop_vals-append}
+use Rattle.wasm_operator_numbers.specs.WasmOperatorStacks.Seen.{state_of, below}
+use Rattle.wasm_operator_numbers.specs.WasmOperatorStacks.declared.stacks.Stacks.{Stacks}
+use Rattle.wasm_operator_numbers.specs.WasmOperatorChecks.SeenTypes.{halted}
 
 module _ (W : World UnpackedIndex) where
   pub top_missing : (vs : List (Val UnpackedIndex)) (v : Val UnpackedIndex) (s : State UnpackedIndex) → pop_val W v s ≡ None → halted W (vs ++ v ∷ []) s ≡ None

@@ -3,22 +3,22 @@ use Rattle.std.proofs.Common.{◌≡◌, ◌≢◌, ℕ, ◌-◌, Bool, true, fa
 use Rattle.std.specs.Option.{option_map}
 use Rattle.std.specs.Prelude.{zero, suc, Option, Some, None, slice_get}
 use Rattle.std.proofs.lemmas.Option.{slice_get-map}
-use Rattle.wasm_spec.specs.Syntax.{Val}
-use Rattle.wasm_spec_rules.specs.Contexts.{Context}
+use Rattle.wasm_readers_types.specs.WasmSpec.Syntax.{Val}
+use Rattle.wasm_validator_resources.specs.WasmSpecRules.Contexts.{Context}
 use Rattle.wasm_readers_types.specs.declared.indices.UnpackedIndex.{UnpackedIndex}
 use Rattle.wasm_operators.specs.Control.{Block, empty_block, value_block, func_block}
-use Rattle.wasm_spec_rules.specs.Attempts.{last_of}
-use Rattle.wasm_operator_steps.specs.Actions.{label, returned}
-use Rattle.wasm_spec_rules.specs.Signatures.{Signature}
-use Rattle.wasm_operator_steps.specs.Meanings.{block_signature, label_by}
+use Rattle.wasm_validator_resources.specs.WasmSpecRules.Attempts.{last_of}
+use Rattle.wasm_operator_numbers.specs.WasmOperatorSteps.Actions.{label, returned}
+use Rattle.wasm_validator_resources.specs.WasmSpecRules.Signatures.{Signature}
+use Rattle.wasm_operator_numbers.specs.WasmOperatorSteps.Meanings.{block_signature, label_by}
 use Rattle.wasm_validator_resources.specs.Answers.{world}
-use Rattle.wasm_operator_stacks.specs.Seen.{state_of, around}
-use Rattle.wasm_operator_stacks.specs.SeenBlocks.{block_in, kind_of, frame_of, frames_seen}
-use Rattle.wasm_operator_stacks.specs.declared.stacks.Frame.{Frame}
-use Rattle.wasm_operator_stacks.specs.declared.stacks.Stacks.{Stacks}
-use Rattle.wasm_operator_checks.specs.Steps.{typed}
-use Rattle.wasm_operator_checks.specs.SeenTypes.{types_seen}
-use Rattle.wasm_operator_checks.specs.declared.types.ValTypes as listed
+use Rattle.wasm_operator_numbers.specs.WasmOperatorStacks.Seen.{state_of, around}
+use Rattle.wasm_operator_numbers.specs.WasmOperatorStacks.SeenBlocks.{block_in, kind_of, frame_of, frames_seen}
+use Rattle.wasm_operator_numbers.specs.WasmOperatorStacks.declared.stacks.Frame.{Frame}
+use Rattle.wasm_operator_numbers.specs.WasmOperatorStacks.declared.stacks.Stacks.{Stacks}
+use Rattle.wasm_operator_numbers.specs.WasmOperatorChecks.Steps.{typed}
+use Rattle.wasm_operator_numbers.specs.WasmOperatorChecks.SeenTypes.{types_seen}
+use Rattle.wasm_operator_numbers.specs.WasmOperatorChecks.declared.types.ValTypes as listed
 use Rattle.wasm_operator_control.specs.Blocks.{function_in, signature_in}
 
 -- what stands for a block type is the block type

@@ -6,3 +6,4 @@ pub mod Opened
 pub mod Returned
 pub mod Halted
 pub mod Called
+pub mod Cited

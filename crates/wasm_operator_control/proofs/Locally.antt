@@ -2,18 +2,18 @@
 use Rattle.std.proofs.Common.{◌≡◌, ℕ, Bool, true, false, ◌||◌, List, [], ◌∷◌, refl, sym, ◌∙◌, ap}
 use Rattle.std.specs.Option.{option_map}
 use Rattle.std.specs.Prelude.{Some, None, slice_get}
-use Rattle.wasm_spec.specs.Syntax.{Val}
-use Rattle.wasm_spec_rules.specs.Contexts.{Context}
+use Rattle.wasm_readers_types.specs.WasmSpec.Syntax.{Val}
+use Rattle.wasm_validator_resources.specs.WasmSpecRules.Contexts.{Context}
 use Rattle.wasm_readers_types.specs.declared.indices.UnpackedIndex.{UnpackedIndex}
-use Rattle.wasm_spec_rules.specs.Attempts.{among}
-use Rattle.wasm_operator_steps.specs.Actions.{Action, local, local_is_set, take, give, take_any, set}
-use Rattle.wasm_operator_steps.specs.Machine.{Operand, Frame, State, pop_any, pop_val, push_operand, set_local, known}
+use Rattle.wasm_validator_resources.specs.WasmSpecRules.Attempts.{among}
+use Rattle.wasm_operator_numbers.specs.WasmOperatorSteps.Actions.{Action, local, local_is_set, take, give, take_any, set}
+use Rattle.wasm_operator_numbers.specs.WasmOperatorSteps.Machine.{Operand, Frame, State, pop_any, pop_val, push_operand, set_local, known}
 use Rattle.wasm_validator_resources.specs.Answers.{world}
-use Rattle.wasm_operator_stacks.specs.Locals.{local_of}
-use Rattle.wasm_operator_stacks.specs.Seen.{state_of, below}
-use Rattle.wasm_operator_stacks.specs.declared.local_word.LocalWord.{LocalWord}
-use Rattle.wasm_operator_stacks.specs.declared.stacks.Stacks.{Stacks}
-use Rattle.wasm_operator_checks.specs.Steps.{acted, typed, held}
+use Rattle.wasm_operator_numbers.specs.WasmOperatorStacks.Locals.{local_of}
+use Rattle.wasm_operator_numbers.specs.WasmOperatorStacks.Seen.{state_of, below}
+use Rattle.wasm_operator_numbers.specs.WasmOperatorStacks.declared.local_word.LocalWord.{LocalWord}
+use Rattle.wasm_operator_numbers.specs.WasmOperatorStacks.declared.stacks.Stacks.{Stacks}
+use Rattle.wasm_operator_numbers.specs.WasmOperatorChecks.Steps.{acted, typed, held}
 
 -- the state after a local is set
 pub set_as : (b : Bool) (n : ℕ) (ops : List (Operand UnpackedIndex)) (frames : List (Frame UnpackedIndex)) (inits inits' : List ℕ) → b ≡ true → inits' ≡ inits → record { operands = ops; frames = frames; inits = inits' } ≡ set_local b n (record { operands = ops; frames = frames; inits = inits })

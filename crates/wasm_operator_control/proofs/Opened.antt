@@ -2,12 +2,12 @@
 use Rattle.std.proofs.Common.{◌≡◌, ℕ, ◌-◌, List, length, drop, refl, ap, arith}
 use Rattle.std.specs.Prelude.{Some, None}
 use Rattle.std.proofs.lemmas.List.{length-drop}
-use Rattle.wasm_spec.specs.Syntax.{Val}
-use Rattle.wasm_spec.specs.MatchingTests.{World}
+use Rattle.wasm_readers_types.specs.WasmSpec.Syntax.{Val}
+use Rattle.wasm_readers_types.specs.WasmSpec.MatchingTests.{World}
 use Rattle.wasm_readers_types.specs.declared.indices.UnpackedIndex.{UnpackedIndex}
 use Rattle.wasm_operators.specs.Control.{Block}
-use Rattle.wasm_operator_steps.specs.Machine.{Kind, State, pop_vals, push_vals}
-use Rattle.wasm_operator_stacks.specs.Seen.{below, with_frame}
+use Rattle.wasm_operator_numbers.specs.WasmOperatorSteps.Machine.{Kind, State, pop_vals, push_vals}
+use Rattle.wasm_operator_numbers.specs.WasmOperatorStacks.Seen.{below, with_frame}
 use Rattle.wasm_operator_control.specs.Entered.{entered}
 
 module _ (W : World UnpackedIndex) (k : Kind) (b : Block UnpackedIndex) (vs : List (Val UnpackedIndex)) where

@@ -2,13 +2,13 @@
 use Rattle.std.proofs.Common.{◌≡◌, ◌≢◌, ℕ, Bool, true, false, ◌&&◌, List, [], ◌∷◌, length, map, get_or, refl, sym, ◌∙◌, ap, arith}
 use Rattle.std.specs.Option.{option_map}
 use Rattle.std.specs.Prelude.{Option, Some, None}
-use Rattle.wasm_spec.specs.Syntax.{Val}
-use Rattle.wasm_spec.specs.MatchingTests.{World, matches_val}
+use Rattle.wasm_readers_types.specs.WasmSpec.Syntax.{Val}
+use Rattle.wasm_readers_types.specs.WasmSpec.MatchingTests.{World, matches_val}
 use Rattle.wasm_readers_types.specs.SeenValues.{val_of}
 use Rattle.wasm_readers_types.specs.declared.indices.UnpackedIndex.{UnpackedIndex}
 use Rattle.wasm_readers_types.specs.declared.values.ValType.{ValType}
-use Rattle.wasm_spec_rules.specs.Attempts.{passes}
-use Rattle.wasm_operator_steps.specs.Matching.{matches_vals}
+use Rattle.wasm_validator_resources.specs.WasmSpecRules.Attempts.{passes}
+use Rattle.wasm_operator_numbers.specs.WasmOperatorSteps.Matching.{matches_vals}
 
 -- none, and one
 pub none_listed : (ts : List ValType) → length ts ≡ 0 → [] ≡ map val_of ts

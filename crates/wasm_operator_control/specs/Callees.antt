@@ -1,10 +1,10 @@
 -- What a body may call.
 use Rattle.std.specs.Prelude.{ℕ, Bool, Option, slice_get}
-use Rattle.wasm_spec.specs.ValueTypes.{implies}
-use Rattle.wasm_spec_rules.specs.Contexts.{Context}
+use Rattle.wasm_readers_types.specs.WasmSpec.ValueTypes.{implies}
+use Rattle.wasm_validator_resources.specs.WasmSpecRules.Contexts.{Context}
 use Rattle.wasm_readers_types.specs.declared.indices.UnpackedIndex.{UnpackedIndex}
-use Rattle.wasm_spec_rules.specs.Attempts.{◌>>=◌, guard}
-use Rattle.wasm_spec_rules.specs.Signatures.{Signature, signature_of}
+use Rattle.wasm_validator_resources.specs.WasmSpecRules.Attempts.{◌>>=◌, guard}
+use Rattle.wasm_validator_resources.specs.WasmSpecRules.Signatures.{Signature, signature_of}
 use Rattle.wasm_validator_resources.specs.Answers.{sub_in}
 
 -- the function type of a type index, and that of a function, from a shared function or from another

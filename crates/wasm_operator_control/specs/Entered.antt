@@ -1,11 +1,11 @@
 -- A frame that is opened over what it takes.
 use Rattle.std.specs.Prelude.{List, Option, Some}
-use Rattle.wasm_spec.specs.Syntax.{Val}
-use Rattle.wasm_spec.specs.MatchingTests.{World}
+use Rattle.wasm_readers_types.specs.WasmSpec.Syntax.{Val}
+use Rattle.wasm_readers_types.specs.WasmSpec.MatchingTests.{World}
 use Rattle.wasm_readers_types.specs.declared.indices.UnpackedIndex.{UnpackedIndex}
 use Rattle.wasm_operators.specs.Control.{Block}
-use Rattle.wasm_spec_rules.specs.Attempts.{◌>>=◌}
-use Rattle.wasm_operator_steps.specs.Machine.{Kind, State, pop_vals, push_frame}
+use Rattle.wasm_validator_resources.specs.WasmSpecRules.Attempts.{◌>>=◌}
+use Rattle.wasm_operator_numbers.specs.WasmOperatorSteps.Machine.{Kind, State, pop_vals, push_frame}
 
 unfoldable pub entered : World UnpackedIndex → Kind → Block UnpackedIndex → List (Val UnpackedIndex) → State UnpackedIndex → Option (State UnpackedIndex)
 entered W k b vs s = pop_vals W vs s >>= λ t. Some (push_frame k b vs t)

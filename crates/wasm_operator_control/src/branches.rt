@@ -2,22 +2,22 @@
 
 ghost use Rattle.std.specs.Prelude.{◌≡◌};
 ghost use Rattle.wasm_operators.specs.Control.{br, br_if, return_, unreachable, nop};
-ghost use Rattle.wasm_operator_steps.specs.Shapes.{control_shape};
-ghost use Rattle.wasm_operator_stacks.specs.Seen.{Kept};
-ghost use Rattle.wasm_operator_checks.specs.Steps.{Performs};
+ghost use Rattle.wasm_operator_numbers.specs.WasmOperatorSteps.Shapes.{control_shape};
+ghost use Rattle.wasm_operator_numbers.specs.WasmOperatorStacks.Seen.{Kept};
+ghost use Rattle.wasm_operator_numbers.specs.WasmOperatorChecks.Steps.{Performs};
 ghost use Rattle.wasm_readers_types.specs.declared.indices.UnpackedIndex.{UnpackedIndex};
 
 use crate::labels::{label_types, returned_types};
 use std::alloc::Allocator;
-use wasm_operator_checks::{
+use wasm_operator_numbers::operator_checks::{
     OperatorError, OperatorFault, OperatorRule, Takes, ValTypes, halt, plain, plain_with,
 };
-use wasm_operator_stacks::{Stacks, TypeWord};
-use wasm_operators_plain::NumberType;
+use wasm_operator_numbers::operator_stacks::{Stacks, TypeWord};
+use wasm_operators::operators_plain::NumberType;
 use wasm_validator_resources::WasmModuleResources;
 
 /// `nop`.
-#[tactic(auto, using(wasm_operator_checks::proofs::Acting::acts, wasm_operator_checks::proofs::Typing::types))]
+#[tactic(auto, using(crate::proofs::Cited::acts, crate::proofs::Cited::types))]
 pub fn do_nothing<A: Allocator, T: WasmModuleResources>(
     stacks: &mut Stacks<A>,
     resources: &T,
@@ -30,7 +30,7 @@ pub fn do_nothing<A: Allocator, T: WasmModuleResources>(
 }
 
 /// `unreachable`.
-#[tactic(auto, using(wasm_operator_checks::proofs::Acting::acts, wasm_operator_checks::proofs::Typing::types))]
+#[tactic(auto, using(crate::proofs::Cited::acts, crate::proofs::Cited::types))]
 pub fn trap<A: Allocator, T: WasmModuleResources>(
     stacks: &mut Stacks<A>,
     resources: &T,
@@ -43,7 +43,7 @@ pub fn trap<A: Allocator, T: WasmModuleResources>(
 }
 
 /// `br`.
-#[tactic(auto, using(wasm_operator_checks::proofs::Acting::acts, wasm_operator_checks::proofs::Typing::types))]
+#[tactic(auto, using(crate::proofs::Cited::acts, crate::proofs::Cited::types))]
 pub fn branch<A: Allocator, T: WasmModuleResources>(
     stacks: &mut Stacks<A>,
     resources: &T,
@@ -60,7 +60,7 @@ pub fn branch<A: Allocator, T: WasmModuleResources>(
 }
 
 /// `br_if`.
-#[tactic(auto, using(wasm_operator_checks::proofs::Acting::acts, wasm_operator_checks::proofs::Typing::types))]
+#[tactic(auto, using(crate::proofs::Cited::acts, crate::proofs::Cited::types))]
 pub fn branch_if<A: Allocator, T: WasmModuleResources>(
     stacks: &mut Stacks<A>,
     resources: &T,
@@ -80,7 +80,7 @@ pub fn branch_if<A: Allocator, T: WasmModuleResources>(
 }
 
 /// `return`.
-#[tactic(auto, using(wasm_operator_checks::proofs::Acting::acts, wasm_operator_checks::proofs::Typing::types))]
+#[tactic(auto, using(crate::proofs::Cited::acts, crate::proofs::Cited::types))]
 pub fn give_back<A: Allocator, T: WasmModuleResources>(
     stacks: &mut Stacks<A>,
     resources: &T,

@@ -1,22 +1,22 @@
 //! The end of a frame.
 
 ghost use Rattle.std.specs.Prelude.{◌≡◌, Some};
-ghost use Rattle.wasm_operator_steps.specs.Matching.{matches_vals};
-ghost use Rattle.wasm_spec_rules.specs.Signatures.{Signature};
-ghost use Rattle.wasm_operator_steps.specs.Shapes.{closing};
+ghost use Rattle.wasm_operator_numbers.specs.WasmOperatorSteps.Matching.{matches_vals};
+ghost use Rattle.wasm_validator_resources.specs.WasmSpecRules.Signatures.{Signature};
+ghost use Rattle.wasm_operator_numbers.specs.WasmOperatorSteps.Shapes.{closing};
 ghost use Rattle.wasm_validator_resources.specs.Answers.{world};
 ghost use Rattle.wasm_readers_types.specs.declared.indices.UnpackedIndex.{UnpackedIndex};
-ghost use Rattle.wasm_operator_stacks.specs.Seen.{Kept};
-ghost use Rattle.wasm_operator_stacks.specs.SeenBlocks.{block_in, kind_of};
-ghost use Rattle.wasm_operator_checks.specs.Steps.{Performs};
+ghost use Rattle.wasm_operator_numbers.specs.WasmOperatorStacks.Seen.{Kept};
+ghost use Rattle.wasm_operator_numbers.specs.WasmOperatorStacks.SeenBlocks.{block_in, kind_of};
+ghost use Rattle.wasm_operator_numbers.specs.WasmOperatorChecks.Steps.{Performs};
 ghost use Rattle.wasm_operator_control.specs.Blocks.{signature_in, ends_in};
 
 use crate::labels::{block_gives, function_type};
 use std::alloc::Allocator;
-use wasm_operator_checks::{
+use wasm_operator_numbers::operator_checks::{
     OperatorError, OperatorFault, OperatorRule, check_types, exchange_types, match_all,
 };
-use wasm_operator_stacks::{Block, BlockWord, Stacks};
+use wasm_operator_numbers::operator_stacks::{Block, BlockWord, Stacks};
 use wasm_operators::FrameKind;
 use wasm_validator_resources::WasmModuleResources;
 
@@ -53,7 +53,7 @@ fn may_end<T: WasmModuleResources>(resources: &T, kind: FrameKind, block: BlockW
 }
 
 /// `end`.
-#[tactic(auto, using(wasm_operator_checks::proofs::Acting::acts, crate::proofs::Ended::leaves))]
+#[tactic(auto, using(crate::proofs::Cited::acts, crate::proofs::Ended::leaves))]
 pub fn end<A: Allocator, T: WasmModuleResources>(
     stacks: &mut Stacks<A>,
     resources: &T,

@@ -2,21 +2,23 @@
 
 ghost use Rattle.std.specs.Prelude.{◌≤◌, length};
 ghost use Rattle.wasm_validator_resources.specs.Answers.{world};
-ghost use Rattle.wasm_operator_stacks.specs.Seen.{state_of, below, Kept};
-ghost use Rattle.wasm_operator_stacks.specs.SeenBlocks.{block_in, kind_of};
-ghost use Rattle.wasm_operator_checks.specs.Steps.{Turns};
-ghost use Rattle.wasm_operator_checks.specs.SeenTypes.{types_seen};
+ghost use Rattle.wasm_operator_numbers.specs.WasmOperatorStacks.Seen.{state_of, below, Kept};
+ghost use Rattle.wasm_operator_numbers.specs.WasmOperatorStacks.SeenBlocks.{block_in, kind_of};
+ghost use Rattle.wasm_operator_numbers.specs.WasmOperatorChecks.Steps.{Turns};
+ghost use Rattle.wasm_operator_numbers.specs.WasmOperatorChecks.SeenTypes.{types_seen};
 ghost use Rattle.wasm_operator_control.specs.Entered.{entered};
 
 use std::alloc::Allocator;
-use wasm_operator_checks::{OperatorError, ValTypes, check_types, exchange_types};
-use wasm_operator_stacks::{BlockWord, Stacks};
+use wasm_operator_numbers::operator_checks::{
+    OperatorError, ValTypes, check_types, exchange_types,
+};
+use wasm_operator_numbers::operator_stacks::{BlockWord, Stacks};
 use wasm_operators::FrameKind;
 use wasm_validator_resources::WasmModuleResources;
 
 /// Opens a frame of this kind and type, by identities, over what it takes, below so many operands
 /// that are taken already. Where that can't be, all stays.
-#[tactic(auto, using(wasm_operator_checks::proofs::Acting::acts, crate::proofs::Opened::enters))]
+#[tactic(auto, using(crate::proofs::Cited::acts, crate::proofs::Opened::enters))]
 pub fn open_frame<'a, A: Allocator, T: WasmModuleResources>(
     stacks: &mut Stacks<A>,
     resources: &T,

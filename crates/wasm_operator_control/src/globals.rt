@@ -1,21 +1,21 @@
 //! Operators on globals.
 
 ghost use Rattle.std.specs.Prelude.{◌≡◌, slice_get};
-ghost use Rattle.wasm_operators_plain.specs.declared.variables.VariableOperator.TheVariants.{GlobalGet, GlobalSet};
-ghost use Rattle.wasm_operator_steps.specs.Shapes.{variable_shape};
-ghost use Rattle.wasm_operator_stacks.specs.Seen.{Kept};
-ghost use Rattle.wasm_operator_checks.specs.Steps.{Performs};
+ghost use Rattle.wasm_operators.specs.WasmOperatorsPlain.declared.variables.VariableOperator.TheVariants.{GlobalGet, GlobalSet};
+ghost use Rattle.wasm_operator_numbers.specs.WasmOperatorSteps.Shapes.{variable_shape};
+ghost use Rattle.wasm_operator_numbers.specs.WasmOperatorStacks.Seen.{Kept};
+ghost use Rattle.wasm_operator_numbers.specs.WasmOperatorChecks.Steps.{Performs};
 
 use std::alloc::Allocator;
-use wasm_operator_checks::{
+use wasm_operator_numbers::operator_checks::{
     OperatorError, OperatorFault, OperatorRule, Takes, ValTypes, plain, reaches,
 };
-use wasm_operator_stacks::{Stacks, TypeWord};
+use wasm_operator_numbers::operator_stacks::{Stacks, TypeWord};
 use wasm_readers_types::GlobalType;
 use wasm_validator_resources::WasmModuleResources;
 
 /// `global.get`.
-#[tactic(auto, using(wasm_operator_checks::proofs::Acting::acts, crate::proofs::Globally::globals))]
+#[tactic(auto, using(crate::proofs::Cited::acts, crate::proofs::Globally::globals))]
 pub fn global_get<A: Allocator, T: WasmModuleResources>(
     stacks: &mut Stacks<A>,
     resources: &T,
@@ -42,7 +42,7 @@ pub fn global_get<A: Allocator, T: WasmModuleResources>(
 }
 
 /// `global.set`.
-#[tactic(auto, using(wasm_operator_checks::proofs::Acting::acts, crate::proofs::Globally::globals))]
+#[tactic(auto, using(crate::proofs::Cited::acts, crate::proofs::Globally::globals))]
 pub fn global_set<A: Allocator, T: WasmModuleResources>(
     stacks: &mut Stacks<A>,
     resources: &T,

@@ -1,22 +1,22 @@
 //! Operators behind which code isn't reached.
 
 ghost use Rattle.std.specs.Prelude.{◌++◌, ◌∷◌, []};
-ghost use Rattle.wasm_operator_stacks.specs.SeenTypeWords.{val_in};
+ghost use Rattle.wasm_operator_numbers.specs.WasmOperatorStacks.SeenTypeWords.{val_in};
 ghost use Rattle.wasm_validator_resources.specs.Answers.{world};
-ghost use Rattle.wasm_operator_stacks.specs.Seen.{Kept};
-ghost use Rattle.wasm_operator_checks.specs.Steps.{Turns};
-ghost use Rattle.wasm_operator_checks.specs.SeenTypes.{types_seen, halted};
+ghost use Rattle.wasm_operator_numbers.specs.WasmOperatorStacks.Seen.{Kept};
+ghost use Rattle.wasm_operator_numbers.specs.WasmOperatorChecks.Steps.{Turns};
+ghost use Rattle.wasm_operator_numbers.specs.WasmOperatorChecks.SeenTypes.{types_seen, halted};
 
 use std::alloc::Allocator;
-use wasm_operator_checks::{
+use wasm_operator_numbers::operator_checks::{
     OperatorError, OperatorFault, OperatorRule, ValTypes, check_type, check_types,
 };
-use wasm_operator_stacks::{Stacks, TypeWord};
+use wasm_operator_numbers::operator_stacks::{Stacks, TypeWord};
 use wasm_validator_resources::WasmModuleResources;
 
 /// Takes operands of some types with one of another type on top, and leaves the rest of the
 /// innermost frame's code unreached. Where that can't be, all stays.
-#[tactic(auto, using(crate::proofs::Halted::halts), unfolding(wasm_operator_checks::specs::Steps::Took))]
+#[tactic(auto, using(crate::proofs::Halted::halts), unfolding(crate::proofs::Cited::Took))]
 pub fn halt_with<'a, A: Allocator, T: WasmModuleResources>(
     stacks: &mut Stacks<A>,
     resources: &T,

@@ -2,19 +2,19 @@
 
 ghost use Rattle.std.specs.Prelude.{◌≡◌, slice_get};
 ghost use Rattle.std.specs.Option.{option_map};
-ghost use Rattle.wasm_operator_steps.specs.Actions.{label, returned};
-ghost use Rattle.wasm_spec_rules.specs.Attempts.{last_of};
-ghost use Rattle.wasm_operator_steps.specs.Meanings.{label_by};
+ghost use Rattle.wasm_operator_numbers.specs.WasmOperatorSteps.Actions.{label, returned};
+ghost use Rattle.wasm_validator_resources.specs.WasmSpecRules.Attempts.{last_of};
+ghost use Rattle.wasm_operator_numbers.specs.WasmOperatorSteps.Meanings.{label_by};
 ghost use Rattle.wasm_validator_resources.specs.Answers.{signature_seen};
-ghost use Rattle.wasm_operator_stacks.specs.Seen.{state_of};
-ghost use Rattle.wasm_operator_stacks.specs.SeenBlocks.{block_in, kind_of, frame_of};
-ghost use Rattle.wasm_operator_checks.specs.Steps.{typed};
-ghost use Rattle.wasm_operator_checks.specs.SeenTypes.{types_seen};
+ghost use Rattle.wasm_operator_numbers.specs.WasmOperatorStacks.Seen.{state_of};
+ghost use Rattle.wasm_operator_numbers.specs.WasmOperatorStacks.SeenBlocks.{block_in, kind_of, frame_of};
+ghost use Rattle.wasm_operator_numbers.specs.WasmOperatorChecks.Steps.{typed};
+ghost use Rattle.wasm_operator_numbers.specs.WasmOperatorChecks.SeenTypes.{types_seen};
 ghost use Rattle.wasm_operator_control.specs.Blocks.{function_in, signature_in};
 
 use std::alloc::Allocator;
-use wasm_operator_checks::ValTypes;
-use wasm_operator_stacks::{Block, BlockWord, Frame, Stacks};
+use wasm_operator_numbers::operator_checks::ValTypes;
+use wasm_operator_numbers::operator_stacks::{Block, BlockWord, Frame, Stacks};
 use wasm_operators::FrameKind;
 use wasm_readers_types::{CompositeInnerType, FuncType};
 use wasm_validator_resources::WasmModuleResources;

@@ -26,3 +26,10 @@ pub use reach::{function_reached, null_or, type_reached};
 pub use results::{match_types, returns};
 pub use step::step_call;
 pub use tails::{return_call, return_call_indirect, return_call_ref};
+
+/// Passed on from `wasm_operator_numbers`.
+pub mod operator_numbers {
+    pub use wasm_operator_numbers::{
+        access_memory, allows_number, bulk_memory, compute, constant, step_table,
+    };
+}

@@ -2,19 +2,19 @@
 
 ghost use Rattle.std.specs.Prelude.{◌≡◌, ◌||◌, OnOk, OnErr, IsSome, Some, slice_get};
 ghost use Rattle.std.specs.Option.{option_map};
-ghost use Rattle.wasm_operators_plain.specs.declared.variables.VariableOperator.TheVariants.{LocalGet, LocalSet, LocalTee};
-ghost use Rattle.wasm_spec_rules.specs.Attempts.{among};
-ghost use Rattle.wasm_operator_steps.specs.Machine.{set_local};
-ghost use Rattle.wasm_operator_steps.specs.Shapes.{variable_shape, dropping};
-ghost use Rattle.wasm_operator_stacks.specs.Locals.{local_of};
-ghost use Rattle.wasm_operator_stacks.specs.Seen.{state_of, Kept};
-ghost use Rattle.wasm_operator_checks.specs.Steps.{Performs};
+ghost use Rattle.wasm_operators.specs.WasmOperatorsPlain.declared.variables.VariableOperator.TheVariants.{LocalGet, LocalSet, LocalTee};
+ghost use Rattle.wasm_validator_resources.specs.WasmSpecRules.Attempts.{among};
+ghost use Rattle.wasm_operator_numbers.specs.WasmOperatorSteps.Machine.{set_local};
+ghost use Rattle.wasm_operator_numbers.specs.WasmOperatorSteps.Shapes.{variable_shape, dropping};
+ghost use Rattle.wasm_operator_numbers.specs.WasmOperatorStacks.Locals.{local_of};
+ghost use Rattle.wasm_operator_numbers.specs.WasmOperatorStacks.Seen.{state_of, Kept};
+ghost use Rattle.wasm_operator_numbers.specs.WasmOperatorChecks.Steps.{Performs};
 
 use std::alloc::{AllocError, Allocator};
-use wasm_operator_checks::{
+use wasm_operator_numbers::operator_checks::{
     OperatorError, OperatorFault, OperatorRule, Takes, ValTypes, check_type, look, plain,
 };
-use wasm_operator_stacks::{LocalWord, Locals, Stacks, Word};
+use wasm_operator_numbers::operator_stacks::{LocalWord, Locals, Stacks, Word};
 use wasm_validator_resources::WasmModuleResources;
 
 /// Whether a local is set by now.
@@ -47,7 +47,7 @@ fn mark<A: Allocator>(
 }
 
 /// `local.get`.
-#[tactic(auto, using(wasm_operator_checks::proofs::Acting::acts, crate::proofs::Locally::locals))]
+#[tactic(auto, using(crate::proofs::Cited::acts, crate::proofs::Locally::locals))]
 pub fn local_get<A: Allocator, T: WasmModuleResources>(
     stacks: &mut Stacks<A>,
     resources: &T,
@@ -72,7 +72,7 @@ pub fn local_get<A: Allocator, T: WasmModuleResources>(
 }
 
 /// `local.set`.
-#[tactic(auto, using(wasm_operator_checks::proofs::Acting::acts, crate::proofs::Locally::locals))]
+#[tactic(auto, using(crate::proofs::Cited::acts, crate::proofs::Locally::locals))]
 pub fn local_set<A: Allocator, T: WasmModuleResources>(
     stacks: &mut Stacks<A>,
     resources: &T,
@@ -105,7 +105,7 @@ pub fn local_set<A: Allocator, T: WasmModuleResources>(
 }
 
 /// `local.tee`.
-#[tactic(auto, using(wasm_operator_checks::proofs::Acting::acts, crate::proofs::Locally::locals))]
+#[tactic(auto, using(crate::proofs::Cited::acts, crate::proofs::Locally::locals))]
 pub fn local_tee<A: Allocator, T: WasmModuleResources>(
     stacks: &mut Stacks<A>,
     resources: &T,
@@ -142,7 +142,7 @@ pub fn local_tee<A: Allocator, T: WasmModuleResources>(
 }
 
 /// `drop`.
-#[tactic(auto, using(wasm_operator_checks::proofs::Acting::acts, crate::proofs::Locally::drops))]
+#[tactic(auto, using(crate::proofs::Cited::acts, crate::proofs::Locally::drops))]
 pub fn drop_any<A: Allocator, T: WasmModuleResources>(
     stacks: &mut Stacks<A>,
     _resources: &T,

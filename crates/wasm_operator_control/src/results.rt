@@ -2,17 +2,17 @@
 
 ghost use Rattle.std.specs.Prelude.{◌≡◌, map};
 ghost use Rattle.wasm_readers_types.specs.SeenValues.{val_of};
-ghost use Rattle.wasm_operator_steps.specs.Actions.{returned};
-ghost use Rattle.wasm_spec_rules.specs.Attempts.{passes};
-ghost use Rattle.wasm_operator_steps.specs.Matching.{matches_vals};
+ghost use Rattle.wasm_operator_numbers.specs.WasmOperatorSteps.Actions.{returned};
+ghost use Rattle.wasm_validator_resources.specs.WasmSpecRules.Attempts.{passes};
+ghost use Rattle.wasm_operator_numbers.specs.WasmOperatorSteps.Matching.{matches_vals};
 ghost use Rattle.wasm_validator_resources.specs.Answers.{world};
-ghost use Rattle.wasm_operator_checks.specs.Steps.{typed};
-ghost use Rattle.wasm_operator_checks.specs.SeenTypes.{types_seen};
+ghost use Rattle.wasm_operator_numbers.specs.WasmOperatorChecks.Steps.{typed};
+ghost use Rattle.wasm_operator_numbers.specs.WasmOperatorChecks.SeenTypes.{types_seen};
 
 use crate::returned_types;
 use std::alloc::Allocator;
-use wasm_operator_checks::{ValTypes, match_all};
-use wasm_operator_stacks::{Stacks, TypeWord};
+use wasm_operator_numbers::operator_checks::{ValTypes, match_all};
+use wasm_operator_numbers::operator_stacks::{Stacks, TypeWord};
 use wasm_readers_types::ValType;
 use wasm_validator_resources::WasmModuleResources;
 

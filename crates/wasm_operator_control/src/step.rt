@@ -1,15 +1,15 @@
 //! Any call.
 
-ghost use Rattle.wasm_operator_steps.specs.Shapes.{call_shape};
-ghost use Rattle.wasm_operator_stacks.specs.Seen.{Kept};
-ghost use Rattle.wasm_operator_checks.specs.Steps.{Performs};
+ghost use Rattle.wasm_operator_numbers.specs.WasmOperatorSteps.Shapes.{call_shape};
+ghost use Rattle.wasm_operator_numbers.specs.WasmOperatorStacks.Seen.{Kept};
+ghost use Rattle.wasm_operator_numbers.specs.WasmOperatorChecks.Steps.{Performs};
 
 use crate::calls::{call, call_indirect, call_ref};
 use crate::tails::{return_call, return_call_indirect, return_call_ref};
 use std::alloc::Allocator;
-use wasm_operator_checks::OperatorError;
-use wasm_operator_stacks::Stacks;
-use wasm_operators_plain::CallOperator;
+use wasm_operator_numbers::operator_checks::OperatorError;
+use wasm_operator_numbers::operator_stacks::Stacks;
+use wasm_operators::operators_plain::CallOperator;
 use wasm_validator_resources::WasmModuleResources;
 
 /// A call or a tail call (Core Specification 3.0, Validation, Control Instructions).

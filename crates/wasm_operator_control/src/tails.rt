@@ -1,26 +1,26 @@
 //! Tail calls: the callee gives what the body gives, and takes its place.
 
-ghost use Rattle.wasm_operators_plain.specs.declared.calls.CallOperator.TheVariants.{ReturnCall, ReturnCallIndirect, ReturnCallRef};
-ghost use Rattle.wasm_operator_steps.specs.Shapes.{call_shape};
-ghost use Rattle.wasm_operator_stacks.specs.Seen.{Kept};
-ghost use Rattle.wasm_operator_checks.specs.Steps.{Performs};
+ghost use Rattle.wasm_operators.specs.WasmOperatorsPlain.declared.calls.CallOperator.TheVariants.{ReturnCall, ReturnCallIndirect, ReturnCallRef};
+ghost use Rattle.wasm_operator_numbers.specs.WasmOperatorSteps.Shapes.{call_shape};
+ghost use Rattle.wasm_operator_numbers.specs.WasmOperatorStacks.Seen.{Kept};
+ghost use Rattle.wasm_operator_numbers.specs.WasmOperatorChecks.Steps.{Performs};
 
 use crate::halts::halt_with;
 use crate::reach::{function_reached, null_or, type_reached};
 use crate::results::returns;
 use std::alloc::Allocator;
-use wasm_operator_checks::{
+use wasm_operator_numbers::operator_checks::{
     OperatorError, OperatorFault, OperatorRule, ValTypes, address, halt, has,
 };
+use wasm_operator_numbers::operator_stacks::Stacks;
 use wasm_operator_numbers::table_reached;
-use wasm_operator_stacks::Stacks;
-use wasm_readers_errors::WasmFeatures;
 use wasm_readers_types::ValType;
 use wasm_validator_resources::WasmModuleResources;
+use wasm_validator_resources::readers_errors::WasmFeatures;
 
 /// `return_call`: takes a function's parameters, and what follows isn't reached (Core Specification
 /// 3.0, Validation, Control Instructions).
-#[tactic(auto, using(wasm_operator_checks::proofs::Acting::acts, wasm_operator_checks::proofs::Typing::types, crate::proofs::Called::calls))]
+#[tactic(auto, using(crate::proofs::Cited::acts, crate::proofs::Cited::types, crate::proofs::Called::calls))]
 pub fn return_call<A: Allocator, T: WasmModuleResources>(
     stacks: &mut Stacks<A>,
     resources: &T,
@@ -43,7 +43,7 @@ pub fn return_call<A: Allocator, T: WasmModuleResources>(
 /// `return_call_indirect`: takes the parameters of a function type with a place in a table of
 /// functions on top, and what follows isn't reached (Core Specification 3.0, Validation, Control
 /// Instructions).
-#[tactic(auto, using(wasm_operator_checks::proofs::Acting::acts, wasm_operator_checks::proofs::Typing::types, crate::proofs::Called::calls))]
+#[tactic(auto, using(crate::proofs::Cited::acts, crate::proofs::Cited::types, crate::proofs::Called::calls))]
 pub fn return_call_indirect<A: Allocator, T: WasmModuleResources>(
     stacks: &mut Stacks<A>,
     resources: &T,
@@ -82,7 +82,7 @@ pub fn return_call_indirect<A: Allocator, T: WasmModuleResources>(
 /// `return_call_ref`: takes the parameters of a function type with a reference to such a function,
 /// or null, on top, and what follows isn't reached (Core Specification 3.0, Validation, Control
 /// Instructions).
-#[tactic(auto, using(wasm_operator_checks::proofs::Acting::acts, wasm_operator_checks::proofs::Typing::types, crate::proofs::Called::calls))]
+#[tactic(auto, using(crate::proofs::Cited::acts, crate::proofs::Cited::types, crate::proofs::Called::calls))]
 pub fn return_call_ref<A: Allocator, T: WasmModuleResources>(
     stacks: &mut Stacks<A>,
     resources: &T,

@@ -3,7 +3,7 @@ use Rattle.std.proofs.Common.{◌≡◌, ℕ, List, ◌∷◌, refl}
 use Rattle.std.specs.Prelude.{Some}
 use Rattle.wasm_spec.specs.Syntax.{i32, i64, f32, f64}
 use Rattle.wasm_spec.specs.BinaryTypes.{val_at}
-use Rattle.wasm_readers.specs.Written.{written}
+use Rattle.wasm_operators_plain.specs.WasmReaders.Written.{written}
 use Rattle.wasm_operators.specs.Control.{empty_block, value_block, block_at}
 
 module _ (b : ℕ) (bytes more : List ℕ) where

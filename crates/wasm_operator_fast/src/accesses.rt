@@ -2,19 +2,19 @@
 
 ghost use Rattle.std.specs.Prelude.{◌≡◌, ◌&&◌, ◌||◌, ◌^◌, nat_le, nat_lt, true};
 ghost use Rattle.wasm_operators_plain.specs.Memories.{max_align_of};
-ghost use Rattle.wasm_operator_steps.specs.Shapes.{access_shape, loading, storing, number_type};
-ghost use Rattle.wasm_operator_stacks.specs.Seen.{Kept};
+ghost use Rattle.wasm_operator_checks.specs.WasmOperatorSteps.Shapes.{access_shape, loading, storing, number_type};
+ghost use Rattle.wasm_operator_checks.specs.WasmOperatorStacks.Seen.{Kept};
 ghost use Rattle.wasm_operator_fast.specs.Fast.{Performs};
 
 use crate::not_taken::NotTaken;
 use crate::plain::plain;
 use std::alloc::Allocator;
+use wasm_operator_checks::operator_stacks::{Stacks, TypeWord};
+use wasm_operator_checks::validator_resources::WasmModuleResources;
 use wasm_operator_checks::{Takes, ValTypes, address};
-use wasm_operator_numbers::allows_number;
-use wasm_operator_stacks::{Stacks, TypeWord};
+use wasm_operator_control::operator_numbers::allows_number;
 use wasm_operators_plain::{MemArg, MemoryOperator, NumberType, max_align};
 use wasm_readers_types::MemoryType;
-use wasm_validator_resources::WasmModuleResources;
 
 /// Whether a memory has 32-bit addresses and may be accessed so.
 #[inline(always)]

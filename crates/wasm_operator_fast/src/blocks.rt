@@ -3,24 +3,24 @@
 ghost use Rattle.std.specs.Prelude.{◌≡◌, ◌≤◌, IfOk, OnOk, true, length};
 ghost use Rattle.std.specs.declared.option.Option.TheVariants.{Some};
 ghost use Rattle.wasm_spec.specs.Syntax.{i32};
-ghost use Rattle.wasm_spec_rules.specs.FeatureFlags.{features_of};
-ghost use Rattle.wasm_validator_resources.specs.Answers.{world};
-ghost use Rattle.wasm_operator_steps.specs.Machine.{pop_val};
+ghost use Rattle.wasm_operator_checks.specs.WasmSpecRules.FeatureFlags.{features_of};
+ghost use Rattle.wasm_operator_checks.specs.WasmValidatorResources.Answers.{world};
+ghost use Rattle.wasm_operator_checks.specs.WasmOperatorSteps.Machine.{pop_val};
 ghost use Rattle.wasm_operators.specs.Control.{block, loop, if_};
-ghost use Rattle.wasm_operator_steps.specs.Shapes.{control_shape, opening, block_checks, nothing};
-ghost use Rattle.wasm_operator_stacks.specs.Seen.{state_of, below, Kept};
-ghost use Rattle.wasm_operator_stacks.specs.SeenBlocks.{block_in, kind_of};
+ghost use Rattle.wasm_operator_checks.specs.WasmOperatorSteps.Shapes.{control_shape, opening, block_checks, nothing};
+ghost use Rattle.wasm_operator_checks.specs.WasmOperatorStacks.Seen.{state_of, below, Kept};
+ghost use Rattle.wasm_operator_checks.specs.WasmOperatorStacks.SeenBlocks.{block_in, kind_of};
 ghost use Rattle.wasm_operator_fast.specs.Blocks.{block_giving, block_named, allows_giving};
 ghost use Rattle.wasm_operator_fast.specs.Fast.{Performs};
 
 use crate::not_taken::NotTaken;
 use crate::peeks::peek;
 use std::alloc::Allocator;
-use wasm_operator_numbers::allows_number;
-use wasm_operator_stacks::{BlockWord, Stacks, TypeWord};
+use wasm_operator_checks::operator_stacks::{BlockWord, Stacks, TypeWord};
+use wasm_operator_checks::validator_resources::WasmModuleResources;
+use wasm_operator_control::operator_numbers::allows_number;
 use wasm_operators::FrameKind;
 use wasm_operators_plain::NumberType;
-use wasm_validator_resources::WasmModuleResources;
 
 /// The block type that gives nothing or this number, where the features allow it.
 #[inline(always)]

@@ -1,15 +1,15 @@
 //! `select` between numbers.
 
-ghost use Rattle.wasm_operator_steps.specs.Shapes.{choosing};
-ghost use Rattle.wasm_operator_stacks.specs.Seen.{Kept};
+ghost use Rattle.wasm_operator_checks.specs.WasmOperatorSteps.Shapes.{choosing};
+ghost use Rattle.wasm_operator_checks.specs.WasmOperatorStacks.Seen.{Kept};
 ghost use Rattle.wasm_operator_fast.specs.Fast.{Performs};
 
 use crate::not_taken::NotTaken;
 use crate::peeks::peek;
 use std::alloc::Allocator;
-use wasm_operator_stacks::{Stacks, TypeWord};
+use wasm_operator_checks::operator_stacks::{Stacks, TypeWord};
+use wasm_operator_checks::validator_resources::WasmModuleResources;
 use wasm_operators_plain::NumberType;
-use wasm_validator_resources::WasmModuleResources;
 
 /// `select` between two numbers of this type, of which the lower one stays.
 #[inline(always)]

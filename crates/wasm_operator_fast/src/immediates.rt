@@ -4,14 +4,14 @@ ghost use Rattle.std.specs.Prelude.{◌≡◌, ◌≤◌, ◌<◌, ◌∷◌, So
 ghost use Rattle.wasm_readers_bytes.specs.Reader.{SameInput, position_in, rest};
 ghost use Rattle.wasm_spec.specs.Values.{u32_at, u64_at};
 ghost use Rattle.wasm_operators_plain.specs.Memories.{memarg_at};
-ghost use Rattle.wasm_readers.specs.Written.{written};
+ghost use Rattle.wasm_operators_plain.specs.WasmReaders.Written.{written};
 ghost use Rattle.wasm_operators.specs.Control.{block_at};
 ghost use Rattle.wasm_operator_fast.specs.Blocks.{block_named};
 ghost use Rattle.wasm_operator_fast.specs.Passed.{behind_signed, Passed};
 
 use crate::not_taken::NotTaken;
+use wasm_operators_plain::readers::BinaryReader;
 use wasm_operators_plain::{MemArg, NumberType};
-use wasm_readers::BinaryReader;
 
 /// The next byte.
 #[inline(always)]

@@ -17,3 +17,15 @@ mod steps;
 
 pub use not_taken::NotTaken;
 pub use steps::fast_step;
+
+/// Passed on from `wasm_operator_numbers`.
+pub mod operator_numbers {
+    pub use wasm_operator_control::operator_numbers::{
+        access_memory, bulk_memory, compute, constant, step_table,
+    };
+}
+
+/// Passed on from `wasm_operator_control`.
+pub mod operator_control {
+    pub use wasm_operator_control::frame_at;
+}

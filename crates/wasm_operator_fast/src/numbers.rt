@@ -2,19 +2,19 @@
 
 ghost use Rattle.std.specs.Prelude.{◌≡◌, ◌∷◌, []};
 ghost use Rattle.wasm_operators_plain.specs.declared.signatures.Signature.TheVariants.{Unary, Binary};
-ghost use Rattle.wasm_operator_steps.specs.Actions.{allows};
-ghost use Rattle.wasm_operator_steps.specs.Shapes.{computing, number_type, nothing, one, plain as plain_shape};
-ghost use Rattle.wasm_operator_stacks.specs.Seen.{Kept};
+ghost use Rattle.wasm_operator_checks.specs.WasmOperatorSteps.Actions.{allows};
+ghost use Rattle.wasm_operator_checks.specs.WasmOperatorSteps.Shapes.{computing, number_type, nothing, one, plain as plain_shape};
+ghost use Rattle.wasm_operator_checks.specs.WasmOperatorStacks.Seen.{Kept};
 ghost use Rattle.wasm_operator_fast.specs.Fast.{Performs};
 
 use crate::not_taken::NotTaken;
 use crate::plain::plain;
 use std::alloc::Allocator;
+use wasm_operator_checks::operator_stacks::{Stacks, TypeWord};
+use wasm_operator_checks::validator_resources::WasmModuleResources;
 use wasm_operator_checks::{Takes, ValTypes};
-use wasm_operator_numbers::allows_number;
-use wasm_operator_stacks::{Stacks, TypeWord};
+use wasm_operator_control::operator_numbers::allows_number;
 use wasm_operators_plain::{NumberType, Signature};
-use wasm_validator_resources::WasmModuleResources;
 
 /// An operator that takes a number and gives one.
 #[inline(always)]

@@ -2,9 +2,9 @@
 
 ghost use Rattle.std.specs.Prelude.{◌≡◌, Option};
 ghost use Rattle.wasm_readers_types.specs.declared.indices.UnpackedIndex.{UnpackedIndex};
-ghost use Rattle.wasm_operator_steps.specs.Machine.{State};
-ghost use Rattle.wasm_validator_resources.specs.Answers.{world};
-ghost use Rattle.wasm_operator_stacks.specs.Seen.{state_of, Kept};
+ghost use Rattle.wasm_operator_checks.specs.WasmOperatorSteps.Machine.{State};
+ghost use Rattle.wasm_operator_checks.specs.WasmValidatorResources.Answers.{world};
+ghost use Rattle.wasm_operator_checks.specs.WasmOperatorStacks.Seen.{state_of, Kept};
 ghost use Rattle.wasm_operator_checks.specs.Steps.{Took};
 ghost use Rattle.wasm_operator_checks.specs.SeenTypes.{types_seen, takes_seen, exchanged};
 ghost use Rattle.wasm_operator_fast.specs.Fast.{Fast};
@@ -12,9 +12,9 @@ ghost use Rattle.wasm_operator_fast.specs.Fast.{Fast};
 use crate::not_taken::NotTaken;
 use crate::peeks::peek_takes;
 use std::alloc::Allocator;
+use wasm_operator_checks::operator_stacks::Stacks;
+use wasm_operator_checks::validator_resources::WasmModuleResources;
 use wasm_operator_checks::{OperatorError, Takes, ValTypes, exchange_types};
-use wasm_operator_stacks::Stacks;
-use wasm_validator_resources::WasmModuleResources;
 
 /// Takes operands of some types, and gives others.
 #[inline(always)]

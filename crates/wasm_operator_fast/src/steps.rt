@@ -2,8 +2,8 @@
 
 ghost use Rattle.std.specs.Prelude.{◌≡◌, ◌≤◌, ◌<◌, Some, OnOk, OnErr};
 ghost use Rattle.wasm_readers_bytes.specs.Reader.{SameInput, position_in, rest};
-ghost use Rattle.wasm_validator_resources.specs.Answers.{world};
-ghost use Rattle.wasm_operator_stacks.specs.Seen.{state_of, around, Kept};
+ghost use Rattle.wasm_operator_checks.specs.WasmValidatorResources.Answers.{world};
+ghost use Rattle.wasm_operator_checks.specs.WasmOperatorStacks.Seen.{state_of, around, Kept};
 ghost use Rattle.wasm_operator_fast.specs.Fused.{Fuses, step_at};
 
 use crate::accesses::access;
@@ -19,10 +19,10 @@ use crate::not_taken::NotTaken;
 use crate::numbers::{compute, constant};
 use crate::signatures::signature;
 use std::alloc::Allocator;
-use wasm_operator_stacks::Stacks;
+use wasm_operator_checks::operator_stacks::Stacks;
+use wasm_operator_checks::validator_resources::WasmModuleResources;
+use wasm_operators_plain::readers::BinaryReader;
 use wasm_operators_plain::{NumberType, access_from_opcode, numeric_from_opcode};
-use wasm_readers::BinaryReader;
-use wasm_validator_resources::WasmModuleResources;
 
 /// A numeric operator, a load or a store.
 #[inline(always)]

@@ -1,15 +1,15 @@
 -- Checks that compare types.
 use Rattle.std.proofs.Common.{◌≡◌, Bool, true, false, ◌&&◌, List, [], ◌∷◌, refl, ◌∙◌}
 use Rattle.std.specs.Prelude.{Option, Some, None}
-use Rattle.wasm_spec.specs.Syntax.{Val}
-use Rattle.wasm_spec.specs.MatchingTests.{matches_val}
-use Rattle.wasm_spec_rules.specs.Contexts.{Context}
-use Rattle.wasm_readers_types.specs.declared.indices.UnpackedIndex.{UnpackedIndex}
-use Rattle.wasm_operator_steps.specs.Actions.{OperandTypes, each_matches}
-use Rattle.wasm_spec_rules.specs.Attempts.{passes}
-use Rattle.wasm_operator_steps.specs.Matching.{matches_vals}
-use Rattle.wasm_validator_resources.specs.Answers.{world}
-use Rattle.wasm_operator_stacks.specs.declared.stacks.Stacks.{Stacks}
+use Rattle.wasm_readers_errors.specs.WasmSpec.Syntax.{Val}
+use Rattle.wasm_readers_errors.specs.WasmSpec.MatchingTests.{matches_val}
+use Rattle.wasm_operator_checks.specs.WasmSpecRules.Contexts.{Context}
+use Rattle.wasm_readers_errors.specs.WasmReadersTypes.declared.indices.UnpackedIndex.{UnpackedIndex}
+use Rattle.wasm_operator_checks.specs.WasmOperatorSteps.Actions.{OperandTypes, each_matches}
+use Rattle.wasm_operator_checks.specs.WasmSpecRules.Attempts.{passes}
+use Rattle.wasm_operator_checks.specs.WasmOperatorSteps.Matching.{matches_vals}
+use Rattle.wasm_operator_checks.specs.WasmValidatorResources.Answers.{world}
+use Rattle.wasm_operator_checks.specs.WasmOperatorStacks.declared.stacks.Stacks.{Stacks}
 use Rattle.wasm_operator_checks.specs.Steps.{typed, held}
 
 and_true : (b : Bool) → (b && true) ≡ b

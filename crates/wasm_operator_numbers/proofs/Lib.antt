@@ -1,2 +1,4 @@
+pub use Rattle.wasm_operator_checks.proofs.WasmOperatorSteps as WasmOperatorSteps
+pub use Rattle.wasm_operator_checks.proofs as WasmOperatorChecks
 pub mod Comparing
 pub mod Tabled

@@ -2,19 +2,19 @@
 use Rattle.std.proofs.Common.{◌≡◌, ◌⊎◌, inl, inr, ℕ, Bool, true, false, ◌&&◌, List, [], ◌∷◌, refl, sym, ◌∙◌, ap}
 use Rattle.std.specs.Option.{option_map}
 use Rattle.std.specs.Prelude.{Option, Some, None, Err, slice_get}
-use Rattle.wasm_spec.specs.Syntax.{Val, reference, Table}
-use Rattle.wasm_spec.specs.ValueTypes.{implies}
-use Rattle.wasm_spec_rules.specs.Contexts.{Context}
-use Rattle.wasm_readers_types.specs.SeenExterns.{table_of}
-use Rattle.wasm_readers_types.specs.SeenValues.{ref_of}
-use Rattle.wasm_readers_types.specs.declared.externs.TableType.{TableType}
-use Rattle.wasm_readers_types.specs.declared.values.RefType.{RefType}
-use Rattle.wasm_readers_types.specs.declared.indices.UnpackedIndex.{UnpackedIndex}
-use Rattle.wasm_operator_steps.specs.Actions.{Action, need, table_address, lesser_table_address, table_element, segment, segment_is_there, reaches_table}
-use Rattle.wasm_spec_rules.specs.Attempts.{◌>>=◌, guard, passes}
-use Rattle.wasm_operator_steps.specs.Machine.{State}
-use Rattle.wasm_operator_steps.specs.Meanings.{address}
-use Rattle.wasm_operator_stacks.specs.declared.stacks.Stacks.{Stacks}
+use Rattle.wasm_readers_errors.specs.WasmSpec.Syntax.{Val, reference, Table}
+use Rattle.wasm_readers_errors.specs.WasmSpec.ValueTypes.{implies}
+use Rattle.wasm_operator_checks.specs.WasmSpecRules.Contexts.{Context}
+use Rattle.wasm_readers_errors.specs.WasmReadersTypes.SeenExterns.{table_of}
+use Rattle.wasm_readers_errors.specs.WasmReadersTypes.SeenValues.{ref_of}
+use Rattle.wasm_readers_errors.specs.WasmReadersTypes.declared.externs.TableType.{TableType}
+use Rattle.wasm_readers_errors.specs.WasmReadersTypes.declared.values.RefType.{RefType}
+use Rattle.wasm_readers_errors.specs.WasmReadersTypes.declared.indices.UnpackedIndex.{UnpackedIndex}
+use Rattle.wasm_operator_checks.specs.WasmOperatorSteps.Actions.{Action, need, table_address, lesser_table_address, table_element, segment, segment_is_there, reaches_table}
+use Rattle.wasm_operator_checks.specs.WasmSpecRules.Attempts.{◌>>=◌, guard, passes}
+use Rattle.wasm_operator_checks.specs.WasmOperatorSteps.Machine.{State}
+use Rattle.wasm_operator_checks.specs.WasmOperatorSteps.Meanings.{address}
+use Rattle.wasm_operator_checks.specs.WasmOperatorStacks.declared.stacks.Stacks.{Stacks}
 use Rattle.wasm_operator_checks.specs.Steps.{Took, acted, typed, held}
 use Rattle.wasm_operator_checks.specs.declared.faults.OperatorFault.{OperatorFault}
 use Rattle.wasm_operator_checks.specs.declared.faults.OperatorError.TheVariants.{Refused}

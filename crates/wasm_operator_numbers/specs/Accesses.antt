@@ -1,7 +1,7 @@
 -- Loads and stores by what they give or take.
-use Rattle.wasm_operators_plain.specs.declared.memories.MemoryOperator.{MemoryOperator}
-use Rattle.wasm_operators_plain.specs.declared.memories.MemArg.{MemArg}
-use Rattle.wasm_operator_steps.specs.Shapes.{Shape, loading, storing, number_type}
+use Rattle.wasm_operators.specs.WasmOperatorsPlain.declared.memories.MemoryOperator.{MemoryOperator}
+use Rattle.wasm_operators.specs.WasmOperatorsPlain.declared.memories.MemArg.{MemArg}
+use Rattle.wasm_operator_checks.specs.WasmOperatorSteps.Shapes.{Shape, loading, storing, number_type}
 use Rattle.wasm_operator_numbers.specs.declared.accesses.Access.{Access}
 use Rattle.wasm_operator_numbers.specs.declared.accesses.Access.TheVariants.{Load, Store}
 

@@ -1,10 +1,10 @@
 -- What a body reaches of its module's tables.
 use Rattle.std.specs.Prelude.{ℕ, Bool, Option, slice_get}
-use Rattle.wasm_spec.specs.Syntax.{Table}
-use Rattle.wasm_spec.specs.ValueTypes.{implies}
-use Rattle.wasm_spec_rules.specs.Contexts.{Context}
-use Rattle.wasm_readers_types.specs.declared.indices.UnpackedIndex.{UnpackedIndex}
-use Rattle.wasm_spec_rules.specs.Attempts.{◌>>=◌, guard}
+use Rattle.wasm_readers_errors.specs.WasmSpec.Syntax.{Table}
+use Rattle.wasm_readers_errors.specs.WasmSpec.ValueTypes.{implies}
+use Rattle.wasm_operator_checks.specs.WasmSpecRules.Contexts.{Context}
+use Rattle.wasm_readers_errors.specs.WasmReadersTypes.declared.indices.UnpackedIndex.{UnpackedIndex}
+use Rattle.wasm_operator_checks.specs.WasmSpecRules.Attempts.{◌>>=◌, guard}
 
 -- the table of an index, from a shared function or from another
 unfoldable pub table_in : Context UnpackedIndex → Bool → ℕ → Option (Table UnpackedIndex)

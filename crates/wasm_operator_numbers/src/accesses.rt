@@ -1,23 +1,23 @@
 //! Loads and stores.
 
 ghost use Rattle.std.specs.Prelude.{◌≡◌, ◌&&◌, ◌||◌, ◌^◌, nat_le, nat_lt};
-ghost use Rattle.wasm_operators_plain.specs.Memories.{max_align_of};
-ghost use Rattle.wasm_operators_plain.specs.declared.memories.MemArg.{MemArg};
-ghost use Rattle.wasm_operator_steps.specs.Shapes.{access_shape, loading, storing, number_type};
-ghost use Rattle.wasm_operator_stacks.specs.Seen.{Kept};
+ghost use Rattle.wasm_operators.specs.WasmOperatorsPlain.Memories.{max_align_of};
+ghost use Rattle.wasm_operators.specs.WasmOperatorsPlain.declared.memories.MemArg.{MemArg};
+ghost use Rattle.wasm_operator_checks.specs.WasmOperatorSteps.Shapes.{access_shape, loading, storing, number_type};
+ghost use Rattle.wasm_operator_checks.specs.WasmOperatorStacks.Seen.{Kept};
 ghost use Rattle.wasm_operator_checks.specs.Steps.{Performs};
 ghost use Rattle.wasm_operator_numbers.specs.Accesses.{accessing};
 
 use crate::allowed::allows_number;
 use std::alloc::Allocator;
+use wasm_operator_checks::operator_stacks::{Stacks, TypeWord};
+use wasm_operator_checks::validator_resources::WasmModuleResources;
 use wasm_operator_checks::{
     OperatorError, OperatorFault, OperatorRule, Takes, ValTypes, address, plain,
 };
-use wasm_operator_stacks::{Stacks, TypeWord};
+use wasm_operators::operators_plain::{NumberType, max_align};
 use wasm_operators::{MemArg, MemoryOperator};
-use wasm_operators_plain::{NumberType, max_align};
-use wasm_readers_types::MemoryType;
-use wasm_validator_resources::WasmModuleResources;
+use wasm_readers_errors::readers_types::MemoryType;
 
 /// Whether it is a load or a store, and of what.
 #[derive(Clone, Copy)]

@@ -1,14 +1,14 @@
 //! Number types by features.
 
 ghost use Rattle.std.specs.Prelude.{◌≡◌, ℕ};
-ghost use Rattle.wasm_spec.specs.ValueTypes.{allows_val};
-ghost use Rattle.wasm_spec_rules.specs.FeatureFlags.{features_of};
-ghost use Rattle.wasm_operator_steps.specs.Shapes.{number_type};
+ghost use Rattle.wasm_readers_errors.specs.WasmSpec.ValueTypes.{allows_val};
+ghost use Rattle.wasm_operator_checks.specs.WasmSpecRules.FeatureFlags.{features_of};
+ghost use Rattle.wasm_operator_checks.specs.WasmOperatorSteps.Shapes.{number_type};
 
 use bitflags::Flags;
 use std::alloc::Allocator;
-use wasm_operator_stacks::Stacks;
-use wasm_operators_plain::NumberType;
+use wasm_operator_checks::operator_stacks::Stacks;
+use wasm_operators::operators_plain::NumberType;
 use wasm_readers_errors::WasmFeatures;
 
 /// Whether the features allow this number type.

@@ -1,24 +1,24 @@
 //! Operators on many elements of tables and on element segments.
 
 ghost use Rattle.std.specs.Prelude.{◌≡◌, ◌&&◌, is_some, slice_get};
-ghost use Rattle.wasm_operators_plain.specs.declared.tables.TableOperator.TheVariants.{TableCopy, TableInit, ElemDrop};
-ghost use Rattle.wasm_readers_types.specs.declared.indices.UnpackedIndex.{UnpackedIndex};
-ghost use Rattle.wasm_operator_stacks.specs.SeenTypeWords.{val_in};
-ghost use Rattle.wasm_operator_steps.specs.Meanings.{address as address_by};
-ghost use Rattle.wasm_operator_steps.specs.Shapes.{table_shape};
-ghost use Rattle.wasm_operator_stacks.specs.Seen.{Kept};
+ghost use Rattle.wasm_operators.specs.WasmOperatorsPlain.declared.tables.TableOperator.TheVariants.{TableCopy, TableInit, ElemDrop};
+ghost use Rattle.wasm_readers_errors.specs.WasmReadersTypes.declared.indices.UnpackedIndex.{UnpackedIndex};
+ghost use Rattle.wasm_operator_checks.specs.WasmOperatorStacks.SeenTypeWords.{val_in};
+ghost use Rattle.wasm_operator_checks.specs.WasmOperatorSteps.Meanings.{address as address_by};
+ghost use Rattle.wasm_operator_checks.specs.WasmOperatorSteps.Shapes.{table_shape};
+ghost use Rattle.wasm_operator_checks.specs.WasmOperatorStacks.Seen.{Kept};
 ghost use Rattle.wasm_operator_checks.specs.Steps.{Performs};
 
 use crate::reach::table_reached;
 use std::alloc::Allocator;
+use wasm_operator_checks::operator_stacks::{Stacks, TypeWord};
+use wasm_operator_checks::validator_resources::WasmModuleResources;
 use wasm_operator_checks::{
     OperatorError, OperatorFault, OperatorRule, Takes, ValTypes, address, has, lesser, plain,
 };
-use wasm_operator_stacks::{Stacks, TypeWord};
-use wasm_operators_plain::NumberType;
+use wasm_operators::operators_plain::NumberType;
 use wasm_readers_errors::WasmFeatures;
-use wasm_readers_types::ValType;
-use wasm_validator_resources::WasmModuleResources;
+use wasm_readers_errors::readers_types::ValType;
 
 /// `table.copy`: takes an address in each of two tables, the one that is read on top, and a number
 /// of elements above them (Core Specification 3.0, Validation, Table Instructions).

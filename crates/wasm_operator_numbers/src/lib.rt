@@ -18,3 +18,18 @@ pub use numbers::{compute, constant};
 pub use reach::table_reached;
 pub use step::step_table;
 pub use tables::{table_fill, table_get, table_grow, table_set, table_size};
+
+/// Passed on from `wasm_operator_stacks`.
+pub mod operator_stacks {
+    pub use wasm_operator_checks::operator_stacks::{
+        Block, BlockWord, Frame, LocalWord, Locals, Stacks, TypeWord, Word,
+    };
+}
+
+/// Passed on from `wasm_operator_checks`.
+pub mod operator_checks {
+    pub use wasm_operator_checks::{
+        OperatorError, OperatorFault, OperatorRule, Takes, ValTypes, address, check_type,
+        check_types, exchange_types, halt, has, look, match_all, plain, plain_with, reaches,
+    };
+}

@@ -1,23 +1,23 @@
 //! Operators on memories, loads and stores aside.
 
 ghost use Rattle.std.specs.Prelude.{◌≡◌, ◌&&◌, nat_lt};
-ghost use Rattle.wasm_operators_plain.specs.declared.memories.BulkMemoryOperator.TheVariants.{MemorySize, MemoryGrow, MemoryFill, MemoryCopy, MemoryInit, DataDrop};
-ghost use Rattle.wasm_readers_types.specs.declared.indices.UnpackedIndex.{UnpackedIndex};
-ghost use Rattle.wasm_operator_stacks.specs.SeenTypeWords.{val_in};
-ghost use Rattle.wasm_spec_rules.specs.Attempts.{passes};
-ghost use Rattle.wasm_operator_steps.specs.Meanings.{address as address_by};
-ghost use Rattle.wasm_operator_steps.specs.Shapes.{memory_shape};
-ghost use Rattle.wasm_operator_stacks.specs.Seen.{Kept};
+ghost use Rattle.wasm_operators.specs.WasmOperatorsPlain.declared.memories.BulkMemoryOperator.TheVariants.{MemorySize, MemoryGrow, MemoryFill, MemoryCopy, MemoryInit, DataDrop};
+ghost use Rattle.wasm_readers_errors.specs.WasmReadersTypes.declared.indices.UnpackedIndex.{UnpackedIndex};
+ghost use Rattle.wasm_operator_checks.specs.WasmOperatorStacks.SeenTypeWords.{val_in};
+ghost use Rattle.wasm_operator_checks.specs.WasmSpecRules.Attempts.{passes};
+ghost use Rattle.wasm_operator_checks.specs.WasmOperatorSteps.Meanings.{address as address_by};
+ghost use Rattle.wasm_operator_checks.specs.WasmOperatorSteps.Shapes.{memory_shape};
+ghost use Rattle.wasm_operator_checks.specs.WasmOperatorStacks.Seen.{Kept};
 ghost use Rattle.wasm_operator_checks.specs.Steps.{Performs};
 
 use std::alloc::Allocator;
+use wasm_operator_checks::operator_stacks::{Stacks, TypeWord};
+use wasm_operator_checks::validator_resources::WasmModuleResources;
 use wasm_operator_checks::{
     OperatorError, OperatorFault, OperatorRule, Takes, ValTypes, address, has, lesser, plain,
 };
-use wasm_operator_stacks::{Stacks, TypeWord};
-use wasm_operators_plain::{BulkMemoryOperator, NumberType};
+use wasm_operators::operators_plain::{BulkMemoryOperator, NumberType};
 use wasm_readers_errors::WasmFeatures;
-use wasm_validator_resources::WasmModuleResources;
 
 /// Whether a data segment is there, by the number that the module tells in front of its code.
 fn has_data<T: WasmModuleResources>(resources: &T, data_index: u32) -> bool

@@ -1,24 +1,24 @@
 //! Constants and numeric operators.
 
 ghost use Rattle.std.specs.Prelude.{◌≡◌, ◌∷◌, []};
-ghost use Rattle.wasm_spec.specs.Syntax.{v128};
-ghost use Rattle.wasm_operators_plain.specs.declared.signatures.Signature.TheVariants.{Unary, Binary};
-ghost use Rattle.wasm_operator_steps.specs.Actions.{allows};
-ghost use Rattle.wasm_operator_steps.specs.Shapes.{computing, constant_shape, number_type, plain, nothing, one};
-ghost use Rattle.wasm_operator_stacks.specs.Seen.{Kept};
+ghost use Rattle.wasm_readers_errors.specs.WasmSpec.Syntax.{v128};
+ghost use Rattle.wasm_operators.specs.WasmOperatorsPlain.declared.signatures.Signature.TheVariants.{Unary, Binary};
+ghost use Rattle.wasm_operator_checks.specs.WasmOperatorSteps.Actions.{allows};
+ghost use Rattle.wasm_operator_checks.specs.WasmOperatorSteps.Shapes.{computing, constant_shape, number_type, plain, nothing, one};
+ghost use Rattle.wasm_operator_checks.specs.WasmOperatorStacks.Seen.{Kept};
 ghost use Rattle.wasm_operator_checks.specs.Steps.{Performs};
 
 use crate::allowed::allows_number;
 use std::alloc::Allocator;
+use wasm_operator_checks::operator_stacks::{Stacks, TypeWord};
+use wasm_operator_checks::validator_resources::WasmModuleResources;
 use wasm_operator_checks::{
     OperatorError, OperatorFault, OperatorRule, Takes, ValTypes, has, plain,
 };
-use wasm_operator_stacks::{Stacks, TypeWord};
 use wasm_operators::ConstantOperator;
-use wasm_operators_plain::{NumberType, Signature};
+use wasm_operators::operators_plain::{NumberType, Signature};
 use wasm_readers_errors::WasmFeatures;
-use wasm_readers_types::ValType;
-use wasm_validator_resources::WasmModuleResources;
+use wasm_readers_errors::readers_types::ValType;
 
 /// An operator that takes a number and gives one.
 #[tactic(auto, using(wasm_operator_checks::proofs::Acting::acts, wasm_operator_checks::proofs::Typing::types))]

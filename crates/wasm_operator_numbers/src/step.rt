@@ -1,16 +1,16 @@
 //! Any operator on tables.
 
-ghost use Rattle.wasm_operator_steps.specs.Shapes.{table_shape};
-ghost use Rattle.wasm_operator_stacks.specs.Seen.{Kept};
+ghost use Rattle.wasm_operator_checks.specs.WasmOperatorSteps.Shapes.{table_shape};
+ghost use Rattle.wasm_operator_checks.specs.WasmOperatorStacks.Seen.{Kept};
 ghost use Rattle.wasm_operator_checks.specs.Steps.{Performs};
 
 use crate::bulk::{elem_drop, table_copy, table_init};
 use crate::tables::{table_fill, table_get, table_grow, table_set, table_size};
 use std::alloc::Allocator;
 use wasm_operator_checks::OperatorError;
-use wasm_operator_stacks::Stacks;
-use wasm_operators_plain::TableOperator;
-use wasm_validator_resources::WasmModuleResources;
+use wasm_operator_checks::operator_stacks::Stacks;
+use wasm_operator_checks::validator_resources::WasmModuleResources;
+use wasm_operators::operators_plain::TableOperator;
 
 /// An operator on tables (Core Specification 3.0, Validation, Table Instructions).
 ///

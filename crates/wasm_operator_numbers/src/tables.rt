@@ -1,18 +1,18 @@
 //! Operators on a table's elements and its size.
 
-ghost use Rattle.wasm_operators_plain.specs.declared.tables.TableOperator.TheVariants.{TableGet, TableSet, TableSize, TableGrow, TableFill};
-ghost use Rattle.wasm_operator_steps.specs.Shapes.{table_shape};
-ghost use Rattle.wasm_operator_stacks.specs.Seen.{Kept};
+ghost use Rattle.wasm_operators.specs.WasmOperatorsPlain.declared.tables.TableOperator.TheVariants.{TableGet, TableSet, TableSize, TableGrow, TableFill};
+ghost use Rattle.wasm_operator_checks.specs.WasmOperatorSteps.Shapes.{table_shape};
+ghost use Rattle.wasm_operator_checks.specs.WasmOperatorStacks.Seen.{Kept};
 ghost use Rattle.wasm_operator_checks.specs.Steps.{Performs};
 
 use crate::reach::table_reached;
 use std::alloc::Allocator;
+use wasm_operator_checks::operator_stacks::{Stacks, TypeWord};
+use wasm_operator_checks::validator_resources::WasmModuleResources;
 use wasm_operator_checks::{
     OperatorError, OperatorFault, OperatorRule, Takes, ValTypes, address, has, plain,
 };
-use wasm_operator_stacks::{Stacks, TypeWord};
 use wasm_readers_errors::WasmFeatures;
-use wasm_validator_resources::WasmModuleResources;
 
 /// `table.get`: takes an address, and gives an element (Core Specification 3.0, Validation, Table
 /// Instructions).

@@ -3,14 +3,14 @@ use Rattle.std.proofs.Common.{◌≡◌, ℕ, Bool, true, false, ◌&&◌, [], �
 use Rattle.std.specs.Option.{option_map}
 use Rattle.std.specs.Prelude.{Some, None, Option, IsSome, slice_get, if◌then◌else◌}
 use Rattle.wasm_spec.specs.Syntax.{Heap, concrete, exact, Ref, Val, reference}
-use Rattle.wasm_spec_rules.specs.Contexts.{Context}
-use Rattle.wasm_spec_rules.specs.FeatureFlags.{features_of}
+use Rattle.wasm_operator_checks.specs.WasmSpecRules.Contexts.{Context}
+use Rattle.wasm_operator_checks.specs.WasmSpecRules.FeatureFlags.{features_of}
 use Rattle.wasm_readers_types.specs.declared.indices.UnpackedIndex.{UnpackedIndex}
-use Rattle.wasm_operator_steps.specs.Actions.{function_reference, function_is_referenced}
-use Rattle.wasm_spec_rules.specs.Attempts.{◌>>=◌, passes, among}
-use Rattle.wasm_spec_rules.specs.Signatures.{resolve_ref}
-use Rattle.wasm_operator_steps.specs.Meanings.{one, ref_to}
-use Rattle.wasm_operator_stacks.specs.declared.stacks.Stacks.{Stacks}
+use Rattle.wasm_operator_checks.specs.WasmOperatorSteps.Actions.{function_reference, function_is_referenced}
+use Rattle.wasm_operator_checks.specs.WasmSpecRules.Attempts.{◌>>=◌, passes, among}
+use Rattle.wasm_operator_checks.specs.WasmSpecRules.Signatures.{resolve_ref}
+use Rattle.wasm_operator_checks.specs.WasmOperatorSteps.Meanings.{one, ref_to}
+use Rattle.wasm_operator_checks.specs.WasmOperatorStacks.declared.stacks.Stacks.{Stacks}
 use Rattle.wasm_operator_checks.specs.Steps.{typed, held}
 
 -- by whether the function is exact, and custom descriptors are on

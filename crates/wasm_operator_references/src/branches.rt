@@ -1,20 +1,20 @@
 //! Branches on null.
 
 ghost use Rattle.wasm_operators.specs.References.{br_on_null, br_on_non_null};
-ghost use Rattle.wasm_operator_steps.specs.Shapes.{reference_shape};
-ghost use Rattle.wasm_operator_stacks.specs.Seen.{Kept};
+ghost use Rattle.wasm_operator_checks.specs.WasmOperatorSteps.Shapes.{reference_shape};
+ghost use Rattle.wasm_operator_checks.specs.WasmOperatorStacks.Seen.{Kept};
 ghost use Rattle.wasm_operator_checks.specs.Steps.{Performs};
 
 use crate::given::{exchange_with, front_types, last_type};
 use crate::referenced::{look_reference, non_null};
 use std::alloc::Allocator;
+use wasm_operator_checks::operator_stacks::Stacks;
+use wasm_operator_checks::validator_resources::WasmModuleResources;
 use wasm_operator_checks::{
     OperatorError, OperatorFault, OperatorRule, check_types, exchange_types, has, matches,
 };
 use wasm_operator_control::label_types;
-use wasm_operator_stacks::Stacks;
 use wasm_readers_errors::WasmFeatures;
-use wasm_validator_resources::WasmModuleResources;
 
 /// `br_on_null` (Core Specification 3.0, Validation, Instructions, Control Instructions).
 ///

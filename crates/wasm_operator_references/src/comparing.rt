@@ -6,22 +6,22 @@ ghost use Rattle.wasm_spec.specs.Syntax.{abstract_heap};
 ghost use Rattle.wasm_readers_types.specs.SeenValues.{abstract_heap_of, ref_of};
 ghost use Rattle.wasm_readers_types.specs.declared.indices.UnpackedIndex.{UnpackedIndex};
 ghost use Rattle.wasm_operators.specs.References.{ref_eq};
-ghost use Rattle.wasm_operator_steps.specs.Bodies.{Surroundings};
-ghost use Rattle.wasm_operator_steps.specs.Meanings.{is_below_either, agree};
-ghost use Rattle.wasm_operator_steps.specs.Shapes.{reference_shape};
-ghost use Rattle.wasm_validator_resources.specs.Answers.{world};
-ghost use Rattle.wasm_operator_stacks.specs.Seen.{state_of, around, below, Kept};
+ghost use Rattle.wasm_operator_checks.specs.WasmOperatorSteps.Bodies.{Surroundings};
+ghost use Rattle.wasm_operator_checks.specs.WasmOperatorSteps.Meanings.{is_below_either, agree};
+ghost use Rattle.wasm_operator_checks.specs.WasmOperatorSteps.Shapes.{reference_shape};
+ghost use Rattle.wasm_operator_checks.specs.WasmValidatorResources.Answers.{world};
+ghost use Rattle.wasm_operator_checks.specs.WasmOperatorStacks.Seen.{state_of, around, below, Kept};
 ghost use Rattle.wasm_operator_checks.specs.Steps.{Performs};
 ghost use Rattle.wasm_operator_references.specs.SeenReferences.{reference_seen, LookedAt, pop_below};
 
 use crate::referenced::{Referenced, look_reference};
 use std::alloc::Allocator;
+use wasm_operator_checks::operator_stacks::{Stacks, Word};
+use wasm_operator_checks::validator_resources::WasmModuleResources;
 use wasm_operator_checks::{OperatorError, OperatorFault, OperatorRule, has};
-use wasm_operator_stacks::{Stacks, Word};
-use wasm_operators_plain::NumberType;
+use wasm_operators::operators_plain::NumberType;
 use wasm_readers_errors::WasmFeatures;
 use wasm_readers_types::{AbstractHeapType, HeapType, RefType, ValType};
-use wasm_validator_resources::WasmModuleResources;
 
 /// Whether what a reference type points to matches an abstract heap type (Core Specification 3.0,
 /// Validation, Matching, Heap Types).

@@ -2,24 +2,24 @@
 
 ghost use Rattle.std.specs.Prelude.{◌≡◌, ◌&&◌, if◌then◌else◌, IsSome, slice_get};
 ghost use Rattle.wasm_spec.specs.Syntax.{concrete, exact, map_heap};
-ghost use Rattle.wasm_spec_rules.specs.FeatureFlags.{features_of};
+ghost use Rattle.wasm_operator_checks.specs.WasmSpecRules.FeatureFlags.{features_of};
 ghost use Rattle.wasm_readers_types.specs.SeenValues.{heap_of};
 ghost use Rattle.wasm_operators.specs.References.{ref_func};
-ghost use Rattle.wasm_spec_rules.specs.Attempts.{passes};
-ghost use Rattle.wasm_operator_steps.specs.Shapes.{reference_shape};
-ghost use Rattle.wasm_validator_resources.specs.Answers.{IsWrittenHeap, written_index};
-ghost use Rattle.wasm_operator_stacks.specs.Seen.{Kept};
+ghost use Rattle.wasm_operator_checks.specs.WasmSpecRules.Attempts.{passes};
+ghost use Rattle.wasm_operator_checks.specs.WasmOperatorSteps.Shapes.{reference_shape};
+ghost use Rattle.wasm_operator_checks.specs.WasmValidatorResources.Answers.{IsWrittenHeap, written_index};
+ghost use Rattle.wasm_operator_checks.specs.WasmOperatorStacks.Seen.{Kept};
 ghost use Rattle.wasm_operator_checks.specs.Steps.{Performs};
 
 use crate::written::resolve;
 use std::alloc::Allocator;
+use wasm_operator_checks::operator_stacks::{Stacks, TypeWord};
+use wasm_operator_checks::validator_resources::WasmModuleResources;
 use wasm_operator_checks::{
     OperatorError, OperatorFault, OperatorRule, Takes, ValTypes, has, plain,
 };
-use wasm_operator_stacks::{Stacks, TypeWord};
 use wasm_readers_errors::WasmFeatures;
 use wasm_readers_types::{HeapType, UnpackedIndex};
-use wasm_validator_resources::WasmModuleResources;
 
 /// Whether a reference to a function is exactly to its type: where the function is, and descriptors
 /// can tell.

@@ -2,16 +2,16 @@
 
 ghost use Rattle.std.specs.Prelude.{◌≡◌, ◌≤◌, length, OnOk, OnErr};
 ghost use Rattle.std.specs.Option.{option_map};
-ghost use Rattle.wasm_operator_stacks.specs.SeenTypeWords.{val_in};
-ghost use Rattle.wasm_spec_rules.specs.Attempts.{last_of, front_of};
-ghost use Rattle.wasm_operator_steps.specs.Machine.{push_operand, push_vals};
-ghost use Rattle.wasm_operator_stacks.specs.SeenOperands.{operand_of};
-ghost use Rattle.wasm_operator_stacks.specs.Seen.{state_of, below, Kept};
+ghost use Rattle.wasm_operator_checks.specs.WasmOperatorStacks.SeenTypeWords.{val_in};
+ghost use Rattle.wasm_operator_checks.specs.WasmSpecRules.Attempts.{last_of, front_of};
+ghost use Rattle.wasm_operator_checks.specs.WasmOperatorSteps.Machine.{push_operand, push_vals};
+ghost use Rattle.wasm_operator_checks.specs.WasmOperatorStacks.SeenOperands.{operand_of};
+ghost use Rattle.wasm_operator_checks.specs.WasmOperatorStacks.Seen.{state_of, below, Kept};
 ghost use Rattle.wasm_operator_checks.specs.SeenTypes.{types_seen};
 
 use std::alloc::{AllocError, Allocator};
+use wasm_operator_checks::operator_stacks::{Stacks, TypeWord, Word};
 use wasm_operator_checks::{ValTypes, exchange_types};
-use wasm_operator_stacks::{Stacks, TypeWord, Word};
 
 /// The last of some types, if there is one.
 #[tactic(auto, using(crate::proofs::Giving::lists))]

@@ -3,22 +3,22 @@
 ghost use Rattle.wasm_spec.specs.Syntax.{map_heap};
 ghost use Rattle.wasm_readers_types.specs.SeenValues.{heap_of};
 ghost use Rattle.wasm_operators.specs.References.{ref_null, ref_is_null, ref_as_non_null};
-ghost use Rattle.wasm_operator_steps.specs.Shapes.{reference_shape};
-ghost use Rattle.wasm_validator_resources.specs.Answers.{IsWrittenHeap, written_index};
-ghost use Rattle.wasm_operator_stacks.specs.Seen.{Kept};
+ghost use Rattle.wasm_operator_checks.specs.WasmOperatorSteps.Shapes.{reference_shape};
+ghost use Rattle.wasm_operator_checks.specs.WasmValidatorResources.Answers.{IsWrittenHeap, written_index};
+ghost use Rattle.wasm_operator_checks.specs.WasmOperatorStacks.Seen.{Kept};
 ghost use Rattle.wasm_operator_checks.specs.Steps.{Performs};
 
 use crate::referenced::{look_reference, non_null};
 use crate::written::{allows_heap, resolve, unknown_type};
 use std::alloc::Allocator;
+use wasm_operator_checks::operator_stacks::{Stacks, TypeWord, Word};
+use wasm_operator_checks::validator_resources::WasmModuleResources;
 use wasm_operator_checks::{
     OperatorError, OperatorFault, OperatorRule, Takes, ValTypes, has, plain,
 };
-use wasm_operator_stacks::{Stacks, TypeWord, Word};
-use wasm_operators_plain::NumberType;
+use wasm_operators::operators_plain::NumberType;
 use wasm_readers_errors::WasmFeatures;
 use wasm_readers_types::HeapType;
-use wasm_validator_resources::WasmModuleResources;
 
 /// `ref.null` (Core Specification 3.0, Validation, Instructions, Reference Instructions).
 ///

@@ -2,9 +2,9 @@
 
 ghost use Rattle.wasm_operators.specs.Maps.{map_reference};
 ghost use Rattle.wasm_operators.specs.SeenReferences.{reference_of};
-ghost use Rattle.wasm_operator_steps.specs.Shapes.{reference_shape};
-ghost use Rattle.wasm_validator_resources.specs.Answers.{written_index};
-ghost use Rattle.wasm_operator_stacks.specs.Seen.{Kept};
+ghost use Rattle.wasm_operator_checks.specs.WasmOperatorSteps.Shapes.{reference_shape};
+ghost use Rattle.wasm_operator_checks.specs.WasmValidatorResources.Answers.{written_index};
+ghost use Rattle.wasm_operator_checks.specs.WasmOperatorStacks.Seen.{Kept};
 ghost use Rattle.wasm_operator_checks.specs.Steps.{Performs};
 ghost use Rattle.wasm_operator_references.specs.Written.{IsWrittenReference};
 
@@ -14,9 +14,9 @@ use crate::functions::ref_func;
 use crate::nulls::{ref_as_non_null, ref_is_null, ref_null};
 use std::alloc::Allocator;
 use wasm_operator_checks::OperatorError;
-use wasm_operator_stacks::Stacks;
+use wasm_operator_checks::operator_stacks::Stacks;
+use wasm_operator_checks::validator_resources::WasmModuleResources;
 use wasm_operators::ReferenceOperator;
-use wasm_validator_resources::WasmModuleResources;
 
 /// An operator on references (Core Specification 3.0, Validation, Instructions, Reference
 /// Instructions), with the branches on null, as it is written in a module.

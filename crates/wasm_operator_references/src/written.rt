@@ -4,19 +4,19 @@ ghost use Rattle.std.specs.Prelude.{◌≡◌, ◌&&◌, ◌||◌};
 ghost use Rattle.std.specs.Option.{option_map};
 ghost use Rattle.wasm_spec.specs.Syntax.{map_heap};
 ghost use Rattle.wasm_spec.specs.ValueTypes.{allows_val};
-ghost use Rattle.wasm_spec_rules.specs.FeatureFlags.{features_of};
+ghost use Rattle.wasm_operator_checks.specs.WasmSpecRules.FeatureFlags.{features_of};
 ghost use Rattle.wasm_readers_types.specs.SeenValues.{heap_of, ref_of};
 ghost use Rattle.wasm_operators.specs.References.{reference_to};
-ghost use Rattle.wasm_spec_rules.specs.Signatures.{resolve_ref};
-ghost use Rattle.wasm_operator_steps.specs.Shapes.{reference_to as val_to};
-ghost use Rattle.wasm_validator_resources.specs.Answers.{IsWrittenHeap, written_index};
+ghost use Rattle.wasm_operator_checks.specs.WasmSpecRules.Signatures.{resolve_ref};
+ghost use Rattle.wasm_operator_checks.specs.WasmOperatorSteps.Shapes.{reference_to as val_to};
+ghost use Rattle.wasm_operator_checks.specs.WasmValidatorResources.Answers.{IsWrittenHeap, written_index};
 
 use std::alloc::Allocator;
+use wasm_operator_checks::operator_stacks::Stacks;
+use wasm_operator_checks::validator_resources::{WasmModuleResources, check_ref_type};
 use wasm_operator_checks::{OperatorFault, OperatorRule, has};
-use wasm_operator_stacks::Stacks;
 use wasm_readers_errors::WasmFeatures;
 use wasm_readers_types::{HeapType, RefType, UnpackedIndex};
-use wasm_validator_resources::{WasmModuleResources, check_ref_type};
 
 /// Whether the features allow references to this heap type, with null or without.
 #[tactic(auto, using(crate::proofs::Writing::allowed))]

@@ -1,4 +1,4 @@
-pub use Rattle.wasm_operator_steps.proofs.TakenInTurn
+pub use Rattle.wasm_operator_steps.proofs as WasmOperatorSteps
 pub mod TypeWording
 pub mod Reversing
 pub mod Marking

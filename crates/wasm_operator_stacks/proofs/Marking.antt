@@ -5,7 +5,7 @@ use Rattle.std.proofs.Math.ListN.{set}
 use Rattle.std.proofs.lemmas.Bool.Decides.{nat_tests}
 use Rattle.std.proofs.lemmas.Option.{slice_get-get_or}
 use Rattle.std.proofs.lemmas.List.{get_or-set_same, get_or-set_other, get_or_past}
-use Rattle.wasm_spec_rules.specs.Attempts.{among}
+use Rattle.wasm_operator_steps.specs.WasmSpecRules.Attempts.{among}
 use Rattle.wasm_operator_stacks.specs.Marked.{is_marked, Stands, SameMarks}
 
 -- two numbers are the same or not

@@ -2,9 +2,9 @@
 use Rattle.std.proofs.Common.{◌≡◌, ◌≢◌, ℕ, ◌+◌, ◌-◌, ◌*◌, ◌/◌, ◌%◌, ◌<◌, ◌≤◌, ◌==◌, true, false, refl, sym, ◌∙◌, ap, arith, lit<}
 use Rattle.std.specs.Prelude.{zero, suc, nat_lt}
 use Rattle.std.proofs.lemmas.Bool.Decides.{nat_tests}
-use Rattle.wasm_spec.specs.Syntax.{AbstractHeap, Val}
-use Rattle.wasm_readers_types.specs.declared.indices.UnpackedIndex.{UnpackedIndex}
-use Rattle.wasm_readers_types.specs.declared.indices.TheConstants.{MAX_IDS}
+use Rattle.wasm_operators_plain.specs.WasmSpec.Syntax.{AbstractHeap, Val}
+use Rattle.wasm_operators_plain.specs.WasmReadersTypes.declared.indices.UnpackedIndex.{UnpackedIndex}
+use Rattle.wasm_operators_plain.specs.WasmReadersTypes.declared.indices.TheConstants.{MAX_IDS}
 use Rattle.wasm_operator_stacks.specs.TypeWords.{abstract_at, val_at, val_number}
 use Rattle.wasm_operator_steps.specs.Machine.{bottom, bottom_reference, open_reference, known}
 use Rattle.wasm_operator_steps.specs.Control.{empty_block, value_block, func_block}

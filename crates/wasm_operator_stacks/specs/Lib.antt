@@ -1,10 +1,5 @@
-pub use Rattle.wasm_operator_steps.specs.Actions
-pub use Rattle.wasm_operator_steps.specs.Bodies
-pub use Rattle.wasm_operator_steps.specs.Machine
-pub use Rattle.wasm_operator_steps.specs.Matching
-pub use Rattle.wasm_operator_steps.specs.Meanings
-pub use Rattle.wasm_operator_steps.specs.Shapes
-pub use Rattle.wasm_operator_steps.specs.Steps
+pub use Rattle.wasm_operators_plain.specs as WasmOperatorsPlain
+pub use Rattle.wasm_operator_steps.specs as WasmOperatorSteps
 pub mod TypeWords
 pub mod SeenTypeWords
 pub mod Marked

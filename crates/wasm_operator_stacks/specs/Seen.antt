@@ -1,9 +1,9 @@
 -- What contracts see of the stacks of a body.
 use Rattle.std.specs.Prelude.{◌≡◌, ℕ, Bool, List, map, drop, false, ◌∷◌, ◌-◌, length}
-use Rattle.wasm_spec.specs.Features.{Features}
-use Rattle.wasm_spec_rules.specs.Contexts.{Context}
-use Rattle.wasm_spec_rules.specs.FeatureFlags.{features_of}
-use Rattle.wasm_readers_types.specs.declared.indices.UnpackedIndex.{UnpackedIndex}
+use Rattle.wasm_operators_plain.specs.WasmSpec.Features.{Features}
+use Rattle.wasm_operator_steps.specs.WasmSpecRules.Contexts.{Context}
+use Rattle.wasm_operator_steps.specs.WasmSpecRules.FeatureFlags.{features_of}
+use Rattle.wasm_operators_plain.specs.WasmReadersTypes.declared.indices.UnpackedIndex.{UnpackedIndex}
 use Rattle.wasm_operator_steps.specs.Control.{Block}
 use Rattle.wasm_operator_steps.specs.Bodies.{Local, Surroundings}
 use Rattle.wasm_operator_steps.specs.Machine.{Kind, State}

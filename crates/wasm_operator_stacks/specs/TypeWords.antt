@@ -2,10 +2,10 @@
 -- 0 numbers and vectors; 1 to 4 references, where the quotient's remainder by 2 says whether they may be null, and what is left of it
 -- names an abstract heap type that isn't shared (1) or is (2), or an index that is concrete (3) or exact (4).
 use Rattle.std.specs.Prelude.{ℕ, true, false, zero, suc, ◌==◌, ◌/◌, ◌%◌}
-use Rattle.wasm_spec.specs.Syntax.{AbstractHeap, any_heap, eq_heap, i31_heap, struct_heap, array_heap, none_heap, func_heap, nofunc_heap, extern_heap, noextern_heap, exn_heap, noexn_heap, cont_heap, nocont_heap, Heap, abstract_heap, concrete, exact, Ref, Val, i32, i64, f32, f64, v128, reference}
-use Rattle.wasm_readers_types.specs.Indices.{number_of}
-use Rattle.wasm_readers_types.specs.declared.indices.UnpackedIndex.{UnpackedIndex}
-use Rattle.wasm_readers_types.specs.declared.indices.UnpackedIndex.TheVariants.{Module, RecGroup, Id}
+use Rattle.wasm_operators_plain.specs.WasmSpec.Syntax.{AbstractHeap, any_heap, eq_heap, i31_heap, struct_heap, array_heap, none_heap, func_heap, nofunc_heap, extern_heap, noextern_heap, exn_heap, noexn_heap, cont_heap, nocont_heap, Heap, abstract_heap, concrete, exact, Ref, Val, i32, i64, f32, f64, v128, reference}
+use Rattle.wasm_operators_plain.specs.WasmReadersTypes.Indices.{number_of}
+use Rattle.wasm_operators_plain.specs.WasmReadersTypes.declared.indices.UnpackedIndex.{UnpackedIndex}
+use Rattle.wasm_operators_plain.specs.WasmReadersTypes.declared.indices.UnpackedIndex.TheVariants.{Module, RecGroup, Id}
 
 abbrev pub number_at : ℕ → Val UnpackedIndex
 number_at zero = i32

@@ -25,3 +25,8 @@ pub use stack::Stack;
 pub use stacks::{Frame, Stacks};
 pub use type_word::TypeWord;
 pub use word::{Operand, Word};
+
+/// Passed on from `wasm_operators_plain`.
+pub mod operators_plain {
+    pub use wasm_operators_plain::NumberType;
+}

@@ -2,7 +2,7 @@
 
 ghost use Rattle.std.specs.Prelude.{◌≡◌, ◌+◌, ◌-◌, ◌^◌, ◌<◌, ◌≤◌, ◌∷◌, ◌++◌, [], false, length, drop, slice_get, map, nat_le, replicate, vec_len, IfOk, OnOk, OnErr, IsTrue, ◌↔◌};
 ghost use Rattle.std.specs.Option.{option_map};
-ghost use Rattle.wasm_spec_rules.specs.Attempts.{among};
+ghost use Rattle.wasm_operator_steps.specs.WasmSpecRules.Attempts.{among};
 ghost use Rattle.wasm_operator_stacks.specs.Locals.{local_of};
 
 use crate::local_word::LocalWord;

@@ -1,7 +1,7 @@
 //! Numbers that were marked, the latest first.
 
 ghost use Rattle.std.specs.Prelude.{◌≡◌, ◌-◌, ◌+◌, ◌^◌, ◌<◌, ◌∷◌, [], false, length, drop, vec_len, IfOk, OnOk, OnErr};
-ghost use Rattle.wasm_spec_rules.specs.Attempts.{among};
+ghost use Rattle.wasm_operator_steps.specs.WasmSpecRules.Attempts.{among};
 ghost use Rattle.wasm_operator_stacks.specs.Marked.{SameMarks};
 
 use crate::stack::Stack;

@@ -6,7 +6,7 @@ use crate::stack::Stack;
 use crate::word::Word;
 use std::alloc::{Allocator, Global};
 use wasm_operator_steps::FrameKind;
-use wasm_readers_errors::WasmFeatures;
+use wasm_operators_plain::readers_errors::WasmFeatures;
 
 /// A frame: what opened it, its block type, how many operands stood below and how many locals were
 /// set before, and whether the rest of its code isn't reached.

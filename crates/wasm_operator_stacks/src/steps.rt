@@ -2,7 +2,7 @@
 
 ghost use Rattle.std.specs.Prelude.{◌≡◌, ◌≤◌, ◌-◌, ◌∷◌, [], true, false, Some, length, drop, replicate, ◌++◌, ◌+◌, map, OnOk, OnErr};
 ghost use Rattle.wasm_operator_steps.specs.Machine.{push_operand, pushed_onto, push_vals, push_frame, become_unreachable};
-ghost use Rattle.wasm_readers_types.specs.SeenValues.{val_of};
+ghost use Rattle.wasm_operators_plain.specs.WasmReadersTypes.SeenValues.{val_of};
 ghost use Rattle.wasm_operator_stacks.specs.SeenOperands.{operand_of};
 ghost use Rattle.wasm_operator_stacks.specs.SeenBlocks.{block_in, kind_of, frame_of};
 ghost use Rattle.wasm_operator_stacks.specs.Seen.{state_of, below, with_frame, Kept};
@@ -15,8 +15,8 @@ use crate::stacks::{Frame, Stacks};
 use crate::word::Word;
 use std::alloc::{AllocError, Allocator};
 use wasm_operator_steps::FrameKind;
-use wasm_readers_errors::WasmFeatures;
-use wasm_readers_types::ValType;
+use wasm_operators_plain::readers_errors::WasmFeatures;
+use wasm_operators_plain::readers_types::ValType;
 
 impl<A: Allocator + Copy> Stacks<A> {
     /// Stacks without frames. They take no memory.

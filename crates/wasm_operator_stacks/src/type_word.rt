@@ -1,12 +1,12 @@
 //! Value types as words.
 
 ghost use Rattle.std.specs.Prelude.{◌<◌, ◌^◌, ◌%◌};
-ghost use Rattle.wasm_readers_types.specs.declared.indices.TheConstants.{MAX_IDS};
+ghost use Rattle.wasm_operators_plain.specs.WasmReadersTypes.declared.indices.TheConstants.{MAX_IDS};
 ghost use Rattle.wasm_operator_stacks.specs.TypeWords.{val_at, val_number};
 
 use crate::codes::{ref_code, ref_from_code};
 use wasm_operators_plain::NumberType;
-use wasm_readers_types::{RefType, ValType};
+use wasm_operators_plain::readers_types::{RefType, ValType};
 
 /// A value type as one number: two are the same type exactly where the numbers are equal.
 #[derive(Clone, Copy)]
@@ -19,8 +19,8 @@ pub struct TypeWord {
 
 impl TypeWord {
     ghost use Rattle.std.specs.Prelude.{◌≡◌, true};
-    ghost use Rattle.wasm_readers_types.specs.SeenValues.{ref_of, val_of};
-    ghost use Rattle.wasm_spec.specs.Syntax.{reference};
+    ghost use Rattle.wasm_operators_plain.specs.WasmReadersTypes.SeenValues.{ref_of, val_of};
+    ghost use Rattle.wasm_operators_plain.specs.WasmSpec.Syntax.{reference};
     ghost use Rattle.wasm_operator_stacks.specs.SeenTypeWords.{val_in, number_val};
 
     /// A number type.

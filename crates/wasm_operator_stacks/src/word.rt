@@ -1,12 +1,12 @@
 //! Operands as words.
 
 ghost use Rattle.std.specs.Prelude.{◌<◌, ◌^◌};
-ghost use Rattle.wasm_readers_types.specs.declared.indices.TheConstants.{MAX_IDS};
+ghost use Rattle.wasm_operators_plain.specs.WasmReadersTypes.declared.indices.TheConstants.{MAX_IDS};
 ghost use Rattle.wasm_operator_stacks.specs.Words.{operand_at, operand_number};
 
 use crate::{TypeWord, abstract_code, abstract_from_code};
 use wasm_operators_plain::NumberType;
-use wasm_readers_types::{AbstractHeapType, ValType};
+use wasm_operators_plain::readers_types::{AbstractHeapType, ValType};
 
 /// The number of an operand of any type.
 const BOTTOM: u64 = 5;
@@ -32,7 +32,7 @@ pub enum Operand {
 impl Word {
     ghost use Rattle.std.specs.Prelude.{◌≡◌, true};
     ghost use Rattle.std.specs.Bool.{Decides};
-    ghost use Rattle.wasm_readers_types.specs.SeenValues.{abstract_heap_of};
+    ghost use Rattle.wasm_operators_plain.specs.WasmReadersTypes.SeenValues.{abstract_heap_of};
     ghost use Rattle.wasm_operator_stacks.specs.SeenTypeWords.{val_in, number_val};
     ghost use Rattle.wasm_operator_steps.specs.Machine.{bottom, bottom_reference, open_reference, known};
     ghost use Rattle.wasm_operator_stacks.specs.SeenOperands.{operand_of, operand_seen};

@@ -1,8 +1,8 @@
 -- Equal types match.
 use Rattle.std.proofs.Common.{◌≡◌, refl, ap, ℕ, zero, suc, Bool, true, false, ◌&&◌, ◌||◌, List, [], ◌∷◌, length}
-use Rattle.wasm_spec.specs.Syntax.{AbstractHeap, any_heap, eq_heap, i31_heap, struct_heap, array_heap, none_heap, func_heap, nofunc_heap, extern_heap, noextern_heap, exn_heap, noexn_heap, cont_heap, nocont_heap, Heap, abstract_heap, concrete, exact, Val, i32, i64, f32, f64, v128, reference, Sub}
-use Rattle.wasm_spec.specs.ValueTypes.{implies}
-use Rattle.wasm_spec.specs.MatchingTests.{World, same_flag, matches_abstract, matches_heap, matches_val}
+use Rattle.wasm_spec_rules.specs.WasmSpec.Syntax.{AbstractHeap, any_heap, eq_heap, i31_heap, struct_heap, array_heap, none_heap, func_heap, nofunc_heap, extern_heap, noextern_heap, exn_heap, noexn_heap, cont_heap, nocont_heap, Heap, abstract_heap, concrete, exact, Val, i32, i64, f32, f64, v128, reference, Sub}
+use Rattle.wasm_spec_rules.specs.WasmSpec.ValueTypes.{implies}
+use Rattle.wasm_spec_rules.specs.WasmSpec.MatchingTests.{World, same_flag, matches_abstract, matches_heap, matches_val}
 use Rattle.wasm_spec_rules.specs.Worlds.{is_below}
 use Rattle.wasm_operator_steps.specs.Matching.{matches_vals}
 use Rattle.wasm_operator_steps.specs.StackLaws.{EqualTypesMatch, EqualTypesMatchInContexts}

@@ -2,10 +2,10 @@
 use Rattle.std.proofs.Common.{◌≡◌, refl, ◌∙◌, ℕ, Bool, true, false, ◌==◌, ◌-◌, List, [], ◌∷◌, map, length, drop, Some, option_map, slice_get}
 use Rattle.std.proofs.lemmas.List.{length-map, drop-map}
 use Rattle.std.proofs.lemmas.Option.{slice_get-map}
-use Rattle.wasm_spec.specs.Syntax.{abstract_heap, Val, i32, i64, f32, f64, v128, reference, map_heap, map_val}
-use Rattle.wasm_spec.specs.Matching.{is_shared_heap}
-use Rattle.wasm_spec.specs.MatchingTests.{World}
-use Rattle.wasm_spec.specs.MatchingTests.{matches_heap}
+use Rattle.wasm_spec_rules.specs.WasmSpec.Syntax.{abstract_heap, Val, i32, i64, f32, f64, v128, reference, map_heap, map_val}
+use Rattle.wasm_spec_rules.specs.WasmSpec.Matching.{is_shared_heap}
+use Rattle.wasm_spec_rules.specs.WasmSpec.MatchingTests.{World}
+use Rattle.wasm_spec_rules.specs.WasmSpec.MatchingTests.{matches_heap}
 use Rattle.wasm_operators.specs.Control.{Block}
 use Rattle.wasm_operators.specs.Maps.{map_block}
 use Rattle.wasm_operator_steps.specs.Machine.{Operand, bottom, bottom_reference, open_reference, known, Kind, Frame, State, map_operand, map_frame, map_state, map_popped, pushed_onto, push_vals, popped, pop_any, as_reference, pop_reference, non_null, same_number, chosen, unreachable_in, become_unreachable, push_frame, set_local, matches_operand, pop_val, pop_vals}

@@ -1,9 +1,9 @@
 -- Matching, renamed.
 use Rattle.std.proofs.Common.{◌≡◌, refl, ap, ◌∙◌, Bool, ◌&&◌, List, [], ◌∷◌, map, Option, Some, None, option_map}
-use Rattle.wasm_spec.specs.Syntax.{AbstractHeap, Heap, abstract_heap, concrete, exact, Ref, Val, i32, i64, f32, f64, v128, reference, Storage, i8, i16, unpacked, Comp, func, array, struct, cont, Sub, map_heap, map_ref, map_val, map_storage, map_comp, map_sub}
-use Rattle.wasm_spec.specs.Matching.{kind_of, bottom_of, top_of, top_of_heap, shared_flag, is_shared_heap}
-use Rattle.wasm_spec.specs.ValueTypes.{implies}
-use Rattle.wasm_spec.specs.MatchingTests.{World, same_flag, same_abstract, matches_abstract, matches_kind, is_above_bottom, matches_heap, matches_ref, matches_val}
+use Rattle.wasm_spec_rules.specs.WasmSpec.Syntax.{AbstractHeap, Heap, abstract_heap, concrete, exact, Ref, Val, i32, i64, f32, f64, v128, reference, Storage, i8, i16, unpacked, Comp, func, array, struct, cont, Sub, map_heap, map_ref, map_val, map_storage, map_comp, map_sub}
+use Rattle.wasm_spec_rules.specs.WasmSpec.Matching.{kind_of, bottom_of, top_of, top_of_heap, shared_flag, is_shared_heap}
+use Rattle.wasm_spec_rules.specs.WasmSpec.ValueTypes.{implies}
+use Rattle.wasm_spec_rules.specs.WasmSpec.MatchingTests.{World, same_flag, same_abstract, matches_abstract, matches_kind, is_above_bottom, matches_heap, matches_ref, matches_val}
 use Rattle.wasm_operator_steps.specs.Matching.{matches_vals, matches_storage}
 use Rattle.wasm_operator_steps.specs.Renaming.{Renames}
 use Rattle.wasm_operator_steps.proofs.Attempts.{then-map}

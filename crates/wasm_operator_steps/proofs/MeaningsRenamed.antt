@@ -2,10 +2,10 @@
 use Rattle.std.proofs.Common.{◌≡◌, refl, sym, ap, ◌∙◌, ℕ, zero, suc, Bool, true, false, not, ◌&&◌, ◌||◌, ◌==◌, List, [], ◌∷◌, ◌++◌, map, length, drop, ◌-◌, Option, Some, None, option_map, is_some, slice_get, if◌then◌else◌}
 use Rattle.std.proofs.lemmas.List.{length-map, map-append}
 use Rattle.std.proofs.lemmas.Option.{slice_get-map}
-use Rattle.wasm_spec.specs.Syntax.{AbstractHeap, eq_heap, Heap, abstract_heap, concrete, exact, Ref, Val, i32, i64, f32, f64, v128, reference, Storage, i8, i16, unpacked, Field, Comp, func, array, struct, cont, Table, map_heap, map_ref, map_val, map_storage, map_field, map_comp, map_sub, map_table, map_global}
-use Rattle.wasm_spec.specs.ValueTypes.{implies}
-use Rattle.wasm_spec.specs.Matching.{top_of_heap, is_shared_heap}
-use Rattle.wasm_spec.specs.MatchingTests.{same_flag, World, matches_heap}
+use Rattle.wasm_spec_rules.specs.WasmSpec.Syntax.{AbstractHeap, eq_heap, Heap, abstract_heap, concrete, exact, Ref, Val, i32, i64, f32, f64, v128, reference, Storage, i8, i16, unpacked, Field, Comp, func, array, struct, cont, Table, map_heap, map_ref, map_val, map_storage, map_field, map_comp, map_sub, map_table, map_global}
+use Rattle.wasm_spec_rules.specs.WasmSpec.ValueTypes.{implies}
+use Rattle.wasm_spec_rules.specs.WasmSpec.Matching.{top_of_heap, is_shared_heap}
+use Rattle.wasm_spec_rules.specs.WasmSpec.MatchingTests.{same_flag, World, matches_heap}
 use Rattle.wasm_operators.specs.Control.{Block, empty_block, value_block, func_block}
 use Rattle.wasm_operators.specs.Maps.{map_block}
 use Rattle.wasm_spec_rules.specs.Attempts.{◌>>=◌, guard, among, passes, last_of, front_of, list_of}

@@ -1,6 +1,6 @@
 -- The shapes of numeric instructions, by their opcodes.
 use Rattle.std.proofs.Common.{ap, option_map}
-use Rattle.wasm_operators_plain.proofs.OpcodeSignatures.{signatures-by_opcode}
+use Rattle.wasm_operators.proofs.WasmOperatorsPlain.OpcodeSignatures.{signatures-by_opcode}
 use Rattle.wasm_operator_steps.specs.Shapes.{computing}
 use Rattle.wasm_operator_steps.specs.Laws.{NumericShapesByOpcode}
 

@@ -1,6 +1,6 @@
 -- Steps, runs of steps and finishes, renamed.
 use Rattle.std.proofs.Common.{◌≡◌, refl, ℕ, Bool, List, [], ◌∷◌, map, option_map}
-use Rattle.wasm_spec.specs.MatchingTests.{World}
+use Rattle.wasm_spec_rules.specs.WasmSpec.MatchingTests.{World}
 use Rattle.wasm_operators.specs.Control.{Block}
 use Rattle.wasm_operators.specs.Maps.{map_block}
 use Rattle.wasm_operators.specs.Instructions.{Instruction}

@@ -2,9 +2,9 @@
 use Rattle.std.proofs.Common.{◌≡◌, refl, ap, zero, suc, arith, List, [], ◌∷◌, ◌++◌, map, Option, Some, None, option_map}
 use Rattle.std.specs.List.{flat_map, Contains}
 use Rattle.std.proofs.lemmas.List.Elements.{Contains-append_left, Contains-append_right}
-use Rattle.wasm_spec.specs.Syntax.{Heap, abstract_heap, concrete, exact, Ref, Val, i32, i64, f32, f64, v128, reference, Storage, i8, i16, unpacked, Field, Comp, func, array, struct, cont, Sub, Table, Global, map_heap, map_ref, map_val, map_storage, map_field, map_comp, map_sub, map_table, map_global}
-use Rattle.wasm_spec.specs.References.{refs_option, refs_heap, refs_val, refs_storage, refs_field, refs_comp, refs_sub}
-use Rattle.wasm_spec.proofs.SyntaxMaps.{map-map_by, map_ref-map, map_val-map, map_table-map, map_global-map, map_sub-map}
+use Rattle.wasm_spec_rules.specs.WasmSpec.Syntax.{Heap, abstract_heap, concrete, exact, Ref, Val, i32, i64, f32, f64, v128, reference, Storage, i8, i16, unpacked, Field, Comp, func, array, struct, cont, Sub, Table, Global, map_heap, map_ref, map_val, map_storage, map_field, map_comp, map_sub, map_table, map_global}
+use Rattle.wasm_spec_rules.specs.WasmSpec.References.{refs_option, refs_heap, refs_val, refs_storage, refs_field, refs_comp, refs_sub}
+use Rattle.wasm_spec_rules.proofs.WasmSpec.SyntaxMaps.{map-map_by, map_ref-map, map_val-map, map_table-map, map_global-map, map_sub-map}
 use Rattle.wasm_spec_rules.specs.Contexts.{Context, renamed_declared, map_context}
 use Rattle.wasm_operators.specs.Control.{Block, empty_block, value_block, func_block}
 use Rattle.wasm_operators.specs.Maps.{map_block}

@@ -1,8 +1,8 @@
 -- Operands taken and given one by one, and list by list.
 use Rattle.std.proofs.Common.{◌≡◌, refl, sym, ap, ◌∙◌, ℕ, Bool, true, false, ◌==◌, List, [], ◌∷◌, ◌++◌, length, Option, Some, None, option_map, is_some, slice_get}
 use Rattle.std.proofs.lemmas.Bool.Decides.{Decides-eqb}
-use Rattle.wasm_spec.specs.Syntax.{Val}
-use Rattle.wasm_spec.specs.MatchingTests.{World}
+use Rattle.wasm_spec_rules.specs.WasmSpec.Syntax.{Val}
+use Rattle.wasm_spec_rules.specs.WasmSpec.MatchingTests.{World}
 use Rattle.wasm_operators.specs.Instructions.{Instruction}
 use Rattle.wasm_spec_rules.specs.Attempts.{◌>>=◌, guard, last_of, front_of}
 use Rattle.wasm_operator_steps.specs.Bodies.{Surroundings}

@@ -2,8 +2,8 @@
 use Rattle.std.proofs.Common.{◌≡◌, ◌⊎◌, inl, inr, ⊎_elim, refl, sym, ap, ◌∙◌, ℕ, zero, suc, ◌≤◌, Bool, true, false, ◌||◌, List, length, Option, Some, None, arith}
 use Rattle.std.specs.Bool.{Decides}
 use Rattle.std.specs.Option.{option_and_then}
-use Rattle.wasm_spec.specs.Syntax.{Sub}
-use Rattle.wasm_spec.specs.Declared.{supertype, ancestor_at, IsAncestor}
+use Rattle.wasm_spec_rules.specs.WasmSpec.Syntax.{Sub}
+use Rattle.wasm_spec_rules.specs.WasmSpec.Declared.{supertype, ancestor_at, IsAncestor}
 use Rattle.wasm_spec_rules.specs.Attempts.{◌>>=◌, passes}
 use Rattle.wasm_spec_rules.specs.Worlds.{declared_in, is_below}
 use Rattle.wasm_operator_steps.specs.Laws.{WorldsAreRight}

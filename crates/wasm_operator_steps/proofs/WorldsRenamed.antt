@@ -2,8 +2,8 @@
 use Rattle.std.proofs.Common.{◌≡◌, refl, ◌∙◌, ℕ, zero, suc, Bool, ◌||◌, List, [], ◌∷◌, map, length, option_map}
 use Rattle.std.proofs.lemmas.List.{length-map}
 use Rattle.std.proofs.lemmas.Option.{slice_get-map}
-use Rattle.wasm_spec.specs.Syntax.{Sub, map_sub}
-use Rattle.wasm_spec.specs.Declared.{supertype}
+use Rattle.wasm_spec_rules.specs.WasmSpec.Syntax.{Sub, map_sub}
+use Rattle.wasm_spec_rules.specs.WasmSpec.Declared.{supertype}
 use Rattle.wasm_spec_rules.specs.Contexts.{Context, renamed_declared, map_context}
 use Rattle.wasm_spec_rules.specs.Attempts.{◌>>=◌}
 use Rattle.wasm_spec_rules.specs.Worlds.{declared_in, is_below, world_of}

@@ -1,10 +1,10 @@
 -- The small language that instructions are told in: types by what names them, checks, and actions on the two stacks. It is over
 -- type indices alone, and gets its meaning over identities elsewhere.
 use Rattle.std.specs.Prelude.{ℕ, Bool, List}
-use Rattle.wasm_spec.specs.Syntax.{AbstractHeap, Ref, Val}
+use Rattle.wasm_spec_rules.specs.WasmSpec.Syntax.{AbstractHeap, Ref, Val}
 use Rattle.wasm_operators.specs.Control.{Block}
-use Rattle.wasm_operators.specs.MemoryOperator.{MemoryOperator}
-use Rattle.wasm_operators.specs.MemArg.{MemArg}
+use Rattle.wasm_operators.specs.WasmOperatorsPlain.declared.memories.MemoryOperator.{MemoryOperator}
+use Rattle.wasm_operators.specs.WasmOperatorsPlain.declared.memories.MemArg.{MemArg}
 use Rattle.wasm_operator_steps.specs.Machine.{Kind}
 
 -- what has a signature, by its index

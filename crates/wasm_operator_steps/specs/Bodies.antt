@@ -1,8 +1,8 @@
 -- What a body or a constant expression is checked in: the features, the context of the module, the locals of the function, and whether
 -- the function is shared, so that it reaches only what is; a constant expression isn't. All over any kind of identity R of types. Core Specification 3.0, Validation, Conventions (Contexts) and Types (Local Types).
 use Rattle.std.specs.Prelude.{Bool, List, map}
-use Rattle.wasm_spec.specs.Syntax.{Val, map_val}
-use Rattle.wasm_spec.specs.Features.{Features}
+use Rattle.wasm_spec_rules.specs.WasmSpec.Syntax.{Val, map_val}
+use Rattle.wasm_spec_rules.specs.WasmSpec.Features.{Features}
 use Rattle.wasm_spec_rules.specs.Contexts.{Context, map_context}
 
 -- a local, and whether it is set from the start

@@ -1,21 +1,21 @@
 -- Which instructions a constant expression may have, and what references they take and give.
 -- Core Specification 3.0, Validation, Instructions (Expressions, Constant Expressions).
 use Rattle.std.specs.Prelude.{◌≡◌, ℕ, Bool, true, false, not, ◌&&◌, List, ◌∷◌}
-use Rattle.wasm_spec.specs.Syntax.{i32, i64, f32, f64, v128}
-use Rattle.wasm_spec.specs.Features.{Features}
-use Rattle.wasm_operators_plain.specs.declared.numeric.NumericOperator.{NumericOperator}
-use Rattle.wasm_operators_plain.specs.declared.numeric.NumericOperator.TheVariants.{I32Add, I32Sub, I32Mul, I64Add, I64Sub, I64Mul}
+use Rattle.wasm_spec_rules.specs.WasmSpec.Syntax.{i32, i64, f32, f64, v128}
+use Rattle.wasm_spec_rules.specs.WasmSpec.Features.{Features}
+use Rattle.wasm_operators.specs.WasmOperatorsPlain.declared.numeric.NumericOperator.{NumericOperator}
+use Rattle.wasm_operators.specs.WasmOperatorsPlain.declared.numeric.NumericOperator.TheVariants.{I32Add, I32Sub, I32Mul, I64Add, I64Sub, I64Mul}
 use Rattle.wasm_operators.specs.Control.{end_}
 use Rattle.wasm_operators.specs.References.{ref_null, ref_func}
 use Rattle.wasm_operators.specs.Instructions as instruction
 use Rattle.wasm_operators.specs.Instructions.{Instruction, control, variable, constant, numeric, conversion, structure, array}
-use Rattle.wasm_operators.specs.VariableOperator.TheVariants.{GlobalGet}
-use Rattle.wasm_operators.specs.ConversionOperator.{ConversionOperator}
-use Rattle.wasm_operators.specs.ConversionOperator.TheVariants.{AnyConvertExtern, ExternConvertAny, RefI31, RefI31Shared}
-use Rattle.wasm_operators.specs.StructOperator.{StructOperator}
-use Rattle.wasm_operators.specs.StructOperator.TheVariants.{StructNew, StructNewDefault, StructNewDesc, StructNewDefaultDesc}
-use Rattle.wasm_operators.specs.ArrayOperator.{ArrayOperator}
-use Rattle.wasm_operators.specs.ArrayOperator.TheVariants.{ArrayNew, ArrayNewDefault, ArrayNewFixed}
+use Rattle.wasm_operators.specs.WasmOperatorsPlain.declared.variables.VariableOperator.TheVariants.{GlobalGet}
+use Rattle.wasm_operators.specs.WasmOperatorsPlain.declared.conversions.ConversionOperator.{ConversionOperator}
+use Rattle.wasm_operators.specs.WasmOperatorsPlain.declared.conversions.ConversionOperator.TheVariants.{AnyConvertExtern, ExternConvertAny, RefI31, RefI31Shared}
+use Rattle.wasm_operators.specs.WasmOperatorsPlain.declared.structs.StructOperator.{StructOperator}
+use Rattle.wasm_operators.specs.WasmOperatorsPlain.declared.structs.StructOperator.TheVariants.{StructNew, StructNewDefault, StructNewDesc, StructNewDefaultDesc}
+use Rattle.wasm_operators.specs.WasmOperatorsPlain.declared.arrays.ArrayOperator.{ArrayOperator}
+use Rattle.wasm_operators.specs.WasmOperatorsPlain.declared.arrays.ArrayOperator.TheVariants.{ArrayNew, ArrayNewDefault, ArrayNewFixed}
 use Rattle.wasm_operator_steps.specs.Machine.{Operand, bottom, known}
 
 -- the arithmetic of extended constant expressions

@@ -2,11 +2,11 @@
 -- Core Specification 3.0, Validation, Instructions (Constant Expressions), and Binary Format, Instructions (Expressions).
 use Rattle.std.specs.Prelude.{◌≡◌, ℕ, Bool, true, false, not, nat_lt, ◌&&◌, ◌||◌, List, slice_get, Option, Some, None}
 use Rattle.std.specs.List.{All}
-use Rattle.wasm_spec.specs.Syntax.{Global}
-use Rattle.wasm_spec.specs.Features.{Features}
-use Rattle.wasm_spec.specs.MatchingTests.{World}
+use Rattle.wasm_spec_rules.specs.WasmSpec.Syntax.{Global}
+use Rattle.wasm_spec_rules.specs.WasmSpec.Features.{Features}
+use Rattle.wasm_spec_rules.specs.WasmSpec.MatchingTests.{World}
 use Rattle.wasm_operators.specs.Instructions.{Instruction, variable}
-use Rattle.wasm_operators.specs.VariableOperator.TheVariants.{GlobalGet}
+use Rattle.wasm_operators.specs.WasmOperatorsPlain.declared.variables.VariableOperator.TheVariants.{GlobalGet}
 use Rattle.wasm_operator_steps.specs.Bodies.{Surroundings}
 use Rattle.wasm_operator_steps.specs.Machine.{State}
 use Rattle.wasm_operator_steps.specs.ConstantExpressions.{is_constant}

@@ -1,19 +1,19 @@
 -- Bodies that are valid and bodies that aren't: control, parametric and variable instructions, and constant expressions. In each pair
 -- of statements, what the first accepts and what the second refuses differ in one place.
 use Rattle.std.specs.Prelude.{ℕ, ◌≡◌, true, false, [], ◌∷◌}
-use Rattle.wasm_spec.specs.Syntax.{func_heap, exn_heap, extern_heap, concrete, i32, i64, f32}
-use Rattle.wasm_spec.specs.TypeExamples.{features}
-use Rattle.wasm_operators_plain.specs.declared.numeric.NumericOperator.TheVariants.{I32Add, I64Add, F32Add, I64Eqz}
+use Rattle.wasm_spec_rules.specs.WasmSpec.Syntax.{func_heap, exn_heap, extern_heap, concrete, i32, i64, f32}
+use Rattle.wasm_spec_rules.specs.WasmSpec.TypeExamples.{features}
+use Rattle.wasm_operators.specs.WasmOperatorsPlain.declared.numeric.NumericOperator.TheVariants.{I32Add, I64Add, F32Add, I64Eqz}
 use Rattle.wasm_operators.specs.Control.{empty_block, value_block, func_block, nop, else_, throw_ref, return_, loop, if_, try_table, throw, br, br_if, br_table, select, select_of}
 use Rattle.wasm_operators.specs.References as references
 use Rattle.wasm_operators.specs.Instructions.{Instruction, control, call, parametric, variable, numeric, reference, conversion, structure, array}
-use Rattle.wasm_operators.specs.ConversionOperator.TheVariants.{RefI31, I31GetS, RefI31Shared}
-use Rattle.wasm_operators.specs.StructOperator.TheVariants.{StructNewDefault, StructGet}
-use Rattle.wasm_operators.specs.ArrayOperator.TheVariants.{ArrayNewFixed, ArrayLen}
+use Rattle.wasm_operators.specs.WasmOperatorsPlain.declared.conversions.ConversionOperator.TheVariants.{RefI31, I31GetS, RefI31Shared}
+use Rattle.wasm_operators.specs.WasmOperatorsPlain.declared.structs.StructOperator.TheVariants.{StructNewDefault, StructGet}
+use Rattle.wasm_operators.specs.WasmOperatorsPlain.declared.arrays.ArrayOperator.TheVariants.{ArrayNewFixed, ArrayLen}
 use Rattle.wasm_operator_steps.specs.ConstantExpressions.{is_constant}
 use Rattle.wasm_operators.specs.declared.control.Catch.TheVariants as catch
-use Rattle.wasm_operators.specs.CallOperator.TheVariants.{Call, CallIndirect, ReturnCall, ReturnCallIndirect, CallRef, ReturnCallRef}
-use Rattle.wasm_operators.specs.VariableOperator.TheVariants.{LocalGet, LocalSet, LocalTee, GlobalGet, GlobalSet}
+use Rattle.wasm_operators.specs.WasmOperatorsPlain.declared.calls.CallOperator.TheVariants.{Call, CallIndirect, ReturnCall, ReturnCallIndirect, CallRef, ReturnCallRef}
+use Rattle.wasm_operators.specs.WasmOperatorsPlain.declared.variables.VariableOperator.TheVariants.{LocalGet, LocalSet, LocalTee, GlobalGet, GlobalSet}
 use Rattle.wasm_operator_steps.specs.Samples.{ref, ref_null, plain_heap, body, runs, gives_i32, constant_of, an_i32, an_i64, an_f32, dropped, trap, an_end, in_block, all_pass, none_pass}
 
 abbrev pub null : Instruction ℕ

@@ -2,12 +2,12 @@
 -- Core Specification 3.0, Validation, Modules (Functions), and Binary Format, Modules (Code Section).
 use Rattle.std.specs.Prelude.{◌≡◌, ◌≤◌, ◌++◌, ℕ, Bool, true, if◌then◌else◌, List, [], ◌∷◌, map, length, replicate, slice_get, Option, Some, None}
 use Rattle.std.specs.Option.{option_map, option_and_then}
-use Rattle.wasm_spec.specs.Syntax.{Val, Sub}
-use Rattle.wasm_spec.specs.Features.{Features}
-use Rattle.wasm_spec.specs.ValueTypes.{allows_val}
-use Rattle.wasm_spec.specs.Values.{u32_at, list_at}
-use Rattle.wasm_spec.specs.BinaryTypes.{val_at}
-use Rattle.wasm_spec.specs.MatchingTests.{World}
+use Rattle.wasm_spec_rules.specs.WasmSpec.Syntax.{Val, Sub}
+use Rattle.wasm_spec_rules.specs.WasmSpec.Features.{Features}
+use Rattle.wasm_spec_rules.specs.WasmSpec.ValueTypes.{allows_val}
+use Rattle.wasm_spec_rules.specs.WasmSpec.Values.{u32_at, list_at}
+use Rattle.wasm_spec_rules.specs.WasmSpec.BinaryTypes.{val_at}
+use Rattle.wasm_spec_rules.specs.WasmSpec.MatchingTests.{World}
 use Rattle.wasm_spec_rules.specs.Attempts.{◌>>=◌}
 use Rattle.wasm_spec_rules.specs.Contexts.{Context}
 use Rattle.wasm_spec_rules.specs.Signatures.{Signature, signature_of, resolve_val}

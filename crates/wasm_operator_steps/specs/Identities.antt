@@ -1,8 +1,8 @@
 -- The identities of types that stand in what code is checked in, and in a state.
 use Rattle.std.specs.Prelude.{◌≡◌, Bool, List, [], ◌∷◌, ◌++◌}
 use Rattle.std.specs.List.{flat_map, Contains}
-use Rattle.wasm_spec.specs.Syntax.{Ref, Sub, Table, Global}
-use Rattle.wasm_spec.specs.References.{refs_heap, refs_val, refs_sub}
+use Rattle.wasm_spec_rules.specs.WasmSpec.Syntax.{Ref, Sub, Table, Global}
+use Rattle.wasm_spec_rules.specs.WasmSpec.References.{refs_heap, refs_val, refs_sub}
 use Rattle.wasm_spec_rules.specs.Contexts.{Context}
 use Rattle.wasm_operators.specs.Control.{Block, empty_block, value_block, func_block}
 use Rattle.wasm_operator_steps.specs.Bodies.{Local, Surroundings}

@@ -2,13 +2,13 @@
 use Rattle.std.specs.Prelude.{◌≡◌, ◌≤◌, ℕ, Bool, true, List, ◌++◌, length, Option, Some, is_some}
 use Rattle.std.specs.Bool.{Decides}
 use Rattle.std.specs.Option.{option_map}
-use Rattle.wasm_spec.specs.Syntax.{Sub}
-use Rattle.wasm_spec.specs.Declared.{ancestor_at, IsAncestor}
-use Rattle.wasm_spec.specs.MatchingTests.{IsWorld}
+use Rattle.wasm_spec_rules.specs.WasmSpec.Syntax.{Sub}
+use Rattle.wasm_spec_rules.specs.WasmSpec.Declared.{ancestor_at, IsAncestor}
+use Rattle.wasm_spec_rules.specs.WasmSpec.MatchingTests.{IsWorld}
 use Rattle.wasm_spec_rules.specs.Contexts.{Context}
-use Rattle.wasm_operators_plain.specs.Numeric.{numeric_opcode}
-use Rattle.wasm_operators_plain.specs.Signatures.{signature_at}
-use Rattle.wasm_operators_plain.specs.declared.numeric.NumericOperator.{NumericOperator}
+use Rattle.wasm_operators.specs.WasmOperatorsPlain.Numeric.{numeric_opcode}
+use Rattle.wasm_operators.specs.WasmOperatorsPlain.Signatures.{signature_at}
+use Rattle.wasm_operators.specs.WasmOperatorsPlain.declared.numeric.NumericOperator.{NumericOperator}
 use Rattle.wasm_operators.specs.Control.{Block}
 use Rattle.wasm_operators.specs.Maps.{map_block}
 use Rattle.wasm_operators.specs.Instructions.{Instruction, numeric}

@@ -1,3 +1,4 @@
+pub use Rattle.wasm_spec_rules.specs as WasmSpecRules
 pub use Rattle.wasm_operators.specs.Control
 pub use Rattle.wasm_operators.specs.SeenControl
 pub use Rattle.wasm_operators.specs.declared.control.FrameKind

@@ -1,9 +1,9 @@
 -- The two stacks of the validation algorithm, operands and control frames, the innermost first.
 -- Core Specification 3.0, Appendix, Validation Algorithm (Data Structures).
 use Rattle.std.specs.Prelude.{ℕ, Bool, true, false, ◌==◌, ◌-◌, List, [], ◌∷◌, map, length, drop, Option, Some, None, slice_get, if◌then◌else◌}
-use Rattle.wasm_spec.specs.Syntax.{AbstractHeap, abstract_heap, Ref, Val, i32, i64, f32, f64, v128, reference, map_val}
-use Rattle.wasm_spec.specs.Matching.{is_shared_heap}
-use Rattle.wasm_spec.specs.MatchingTests.{World, matches_heap, matches_val}
+use Rattle.wasm_spec_rules.specs.WasmSpec.Syntax.{AbstractHeap, abstract_heap, Ref, Val, i32, i64, f32, f64, v128, reference, map_val}
+use Rattle.wasm_spec_rules.specs.WasmSpec.Matching.{is_shared_heap}
+use Rattle.wasm_spec_rules.specs.WasmSpec.MatchingTests.{World, matches_heap, matches_val}
 use Rattle.wasm_operators.specs.Control.{Block}
 use Rattle.wasm_operators.specs.Maps.{map_block}
 use Rattle.wasm_spec_rules.specs.Attempts.{◌>>=◌, guard}

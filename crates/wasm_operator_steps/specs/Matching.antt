@@ -1,8 +1,8 @@
 -- Matching of lists of value types and of storage types, as tests over any kind of identity.
 -- Core Specification 3.0, Validation, Matching (Result Types, Field Types).
 use Rattle.std.specs.Prelude.{Bool, true, false, ◌&&◌, List, [], ◌∷◌}
-use Rattle.wasm_spec.specs.Syntax.{Val, Storage, i8, i16, unpacked}
-use Rattle.wasm_spec.specs.MatchingTests.{World, matches_val}
+use Rattle.wasm_spec_rules.specs.WasmSpec.Syntax.{Val, Storage, i8, i16, unpacked}
+use Rattle.wasm_spec_rules.specs.WasmSpec.MatchingTests.{World, matches_val}
 
 module _ {R : Type 0} (W : World R) where
   -- place by place, equally many

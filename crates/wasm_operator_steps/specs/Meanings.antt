@@ -2,15 +2,15 @@
 -- Core Specification 3.0, Appendix, Validation Algorithm, and Validation, Instructions.
 use Rattle.std.specs.Prelude.{ℕ, zero, suc, Bool, true, false, not, ◌&&◌, ◌||◌, ◌==◌, ◌^◌, ◌-◌, nat_lt, nat_le, List, [], ◌∷◌, ◌++◌, map, length, drop, Option, Some, None, is_some, slice_get, if◌then◌else◌}
 use Rattle.std.specs.Option.{option_map}
-use Rattle.wasm_spec.specs.Syntax.{AbstractHeap, eq_heap, cont_heap, Heap, abstract_heap, concrete, exact, Ref, Val, i32, i64, f32, f64, v128, reference, Storage, i8, i16, unpacked, Field, Comp, array, struct, Sub, Memory}
-use Rattle.wasm_spec.specs.Features.{Features}
-use Rattle.wasm_spec.specs.ValueTypes.{implies, allows_val}
-use Rattle.wasm_spec.specs.Matching.{top_of_heap, is_shared_heap}
-use Rattle.wasm_spec.specs.MatchingTests.{same_flag, same_abstract, World, matches_heap, matches_ref}
+use Rattle.wasm_spec_rules.specs.WasmSpec.Syntax.{AbstractHeap, eq_heap, cont_heap, Heap, abstract_heap, concrete, exact, Ref, Val, i32, i64, f32, f64, v128, reference, Storage, i8, i16, unpacked, Field, Comp, array, struct, Sub, Memory}
+use Rattle.wasm_spec_rules.specs.WasmSpec.Features.{Features}
+use Rattle.wasm_spec_rules.specs.WasmSpec.ValueTypes.{implies, allows_val}
+use Rattle.wasm_spec_rules.specs.WasmSpec.Matching.{top_of_heap, is_shared_heap}
+use Rattle.wasm_spec_rules.specs.WasmSpec.MatchingTests.{same_flag, same_abstract, World, matches_heap, matches_ref}
 use Rattle.wasm_operators.specs.Control.{Block, empty_block, value_block, func_block}
-use Rattle.wasm_operators.specs.Memories.{max_align_of}
-use Rattle.wasm_operators.specs.MemoryOperator.{MemoryOperator}
-use Rattle.wasm_operators.specs.MemArg.{MemArg}
+use Rattle.wasm_operators.specs.WasmOperatorsPlain.Memories.{max_align_of}
+use Rattle.wasm_operators.specs.WasmOperatorsPlain.declared.memories.MemoryOperator.{MemoryOperator}
+use Rattle.wasm_operators.specs.WasmOperatorsPlain.declared.memories.MemArg.{MemArg}
 use Rattle.wasm_spec_rules.specs.Attempts.{◌>>=◌, guard, passes, among, last_of, front_of, list_of}
 use Rattle.wasm_spec_rules.specs.Signatures.{Signature, signature_of, resolve_heap, resolve_ref, resolve_val, resolve_vals}
 use Rattle.wasm_operator_steps.specs.Matching.{matches_vals, matches_storage}

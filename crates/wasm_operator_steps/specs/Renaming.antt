@@ -1,8 +1,8 @@
 -- What it means that one numbering of types is another with each identity renamed.
 use Rattle.std.specs.Prelude.{◌≡◌}
 use Rattle.std.specs.Option.{option_map}
-use Rattle.wasm_spec.specs.Syntax.{map_sub}
-use Rattle.wasm_spec.specs.MatchingTests.{World}
+use Rattle.wasm_spec_rules.specs.WasmSpec.Syntax.{map_sub}
+use Rattle.wasm_spec_rules.specs.WasmSpec.MatchingTests.{World}
 
 -- what one world says of renamed identities is what the other says of them, renamed
 pub record Renames {R S : Type 0} (f : R → S) (W : World R) (V : World S) : Type 0 where

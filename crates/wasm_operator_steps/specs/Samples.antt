@@ -1,13 +1,13 @@
 -- A module to try steps in: its identities of types are numbers, and not those of its type indices.
 use Rattle.std.specs.Prelude.{ℕ, Bool, true, false, not, ◌&&◌, nat_eq, pos, List, [], ◌∷◌, ◌++◌, Some, None}
-use Rattle.wasm_spec.specs.Syntax.{AbstractHeap, func_heap, Heap, abstract_heap, concrete, Ref, Val, i32, i64, reference, Storage, i8, unpacked, Field, Comp, func, array, struct, cont, Sub, Table, Memory, Global}
-use Rattle.wasm_spec.specs.Features.{Features}
-use Rattle.wasm_spec.specs.TypeExamples.{features}
+use Rattle.wasm_spec_rules.specs.WasmSpec.Syntax.{AbstractHeap, func_heap, Heap, abstract_heap, concrete, Ref, Val, i32, i64, reference, Storage, i8, unpacked, Field, Comp, func, array, struct, cont, Sub, Table, Memory, Global}
+use Rattle.wasm_spec_rules.specs.WasmSpec.Features.{Features}
+use Rattle.wasm_spec_rules.specs.WasmSpec.TypeExamples.{features}
 use Rattle.wasm_spec_rules.specs.Contexts.{Context}
 use Rattle.wasm_operators.specs.Control as control
 use Rattle.wasm_operators.specs.Instructions as instruction
 use Rattle.wasm_operators.specs.Instructions.{Instruction}
-use Rattle.wasm_operators.specs.ConstantOperator.TheVariants.{I32Const, I64Const, F32Const}
+use Rattle.wasm_operators.specs.WasmOperatorsPlain.declared.constants.ConstantOperator.TheVariants.{I32Const, I64Const, F32Const}
 use Rattle.wasm_operator_steps.specs.Bodies.{Local, Surroundings}
 use Rattle.wasm_operator_steps.specs.Steps.{locals_of, is_typed_body, is_typed_constant}
 

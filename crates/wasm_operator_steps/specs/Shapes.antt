@@ -1,12 +1,12 @@
 -- The first table: each instruction has one of few shapes, with what it checks, takes and gives.
 -- Core Specification 3.0, Validation, Instructions, and the proposals for shared references and for custom descriptors.
 use Rattle.std.specs.Prelude.{ℕ, Bool, true, false, if◌then◌else◌, List, [], ◌∷◌, ◌++◌}
-use Rattle.wasm_spec.specs.Syntax.{AbstractHeap, any_heap, i31_heap, array_heap, func_heap, extern_heap, exn_heap, Heap, abstract_heap, concrete, Ref, Val, i32, i64, f32, f64, v128, reference}
-use Rattle.wasm_operators_plain.specs.Signatures.{signature_of, saturating_signature_of}
-use Rattle.wasm_operators_plain.specs.declared.signatures.NumberType.{NumberType}
-use Rattle.wasm_operators_plain.specs.declared.signatures.NumberType.TheVariants as number
-use Rattle.wasm_operators_plain.specs.declared.signatures.Signature.{Signature}
-use Rattle.wasm_operators_plain.specs.declared.signatures.Signature.TheVariants.{Unary, Binary}
+use Rattle.wasm_spec_rules.specs.WasmSpec.Syntax.{AbstractHeap, any_heap, i31_heap, array_heap, func_heap, extern_heap, exn_heap, Heap, abstract_heap, concrete, Ref, Val, i32, i64, f32, f64, v128, reference}
+use Rattle.wasm_operators.specs.WasmOperatorsPlain.Signatures.{signature_of, saturating_signature_of}
+use Rattle.wasm_operators.specs.WasmOperatorsPlain.declared.signatures.NumberType.{NumberType}
+use Rattle.wasm_operators.specs.WasmOperatorsPlain.declared.signatures.NumberType.TheVariants as number
+use Rattle.wasm_operators.specs.WasmOperatorsPlain.declared.signatures.Signature.{Signature}
+use Rattle.wasm_operators.specs.WasmOperatorsPlain.declared.signatures.Signature.TheVariants.{Unary, Binary}
 use Rattle.wasm_operators.specs.Control as control
 use Rattle.wasm_operators.specs.Control.{Block, empty_block, value_block, func_block, Control, Parametric}
 use Rattle.wasm_operators.specs.References as references
@@ -15,25 +15,25 @@ use Rattle.wasm_operators.specs.Instructions as instruction
 use Rattle.wasm_operators.specs.Instructions.{Instruction}
 use Rattle.wasm_operators.specs.declared.control.Catch.{Catch}
 use Rattle.wasm_operators.specs.declared.control.Catch.TheVariants as catch
-use Rattle.wasm_operators.specs.CallOperator.{CallOperator}
-use Rattle.wasm_operators.specs.CallOperator.TheVariants.{Call, CallIndirect, ReturnCall, ReturnCallIndirect, CallRef, ReturnCallRef}
-use Rattle.wasm_operators.specs.VariableOperator.{VariableOperator}
-use Rattle.wasm_operators.specs.VariableOperator.TheVariants.{LocalGet, LocalSet, LocalTee, GlobalGet, GlobalSet}
-use Rattle.wasm_operators.specs.TableOperator.{TableOperator}
-use Rattle.wasm_operators.specs.TableOperator.TheVariants.{TableGet, TableSet, TableInit, ElemDrop, TableCopy, TableGrow, TableSize, TableFill}
-use Rattle.wasm_operators.specs.MemoryOperator.{MemoryOperator}
-use Rattle.wasm_operators.specs.MemoryOperator.TheVariants.{I32Load, I64Load, F32Load, F64Load, I32Load8S, I32Load8U, I32Load16S, I32Load16U, I64Load8S, I64Load8U, I64Load16S, I64Load16U, I64Load32S, I64Load32U, I32Store, I64Store, F32Store, F64Store, I32Store8, I32Store16, I64Store8, I64Store16, I64Store32}
-use Rattle.wasm_operators.specs.MemArg.{MemArg}
-use Rattle.wasm_operators.specs.BulkMemoryOperator.{BulkMemoryOperator}
-use Rattle.wasm_operators.specs.BulkMemoryOperator.TheVariants.{MemorySize, MemoryGrow, MemoryInit, DataDrop, MemoryCopy, MemoryFill}
-use Rattle.wasm_operators.specs.ConstantOperator.{ConstantOperator}
-use Rattle.wasm_operators.specs.ConstantOperator.TheVariants.{I32Const, I64Const, F32Const, F64Const, V128Const}
-use Rattle.wasm_operators.specs.ConversionOperator.{ConversionOperator}
-use Rattle.wasm_operators.specs.ConversionOperator.TheVariants.{AnyConvertExtern, ExternConvertAny, RefI31, I31GetS, I31GetU, RefI31Shared}
-use Rattle.wasm_operators.specs.StructOperator.{StructOperator}
-use Rattle.wasm_operators.specs.StructOperator.TheVariants.{StructNew, StructNewDefault, StructGet, StructGetS, StructGetU, StructSet, StructNewDesc, StructNewDefaultDesc}
-use Rattle.wasm_operators.specs.ArrayOperator.{ArrayOperator}
-use Rattle.wasm_operators.specs.ArrayOperator.TheVariants.{ArrayNew, ArrayNewDefault, ArrayNewFixed, ArrayNewData, ArrayNewElem, ArrayGet, ArrayGetS, ArrayGetU, ArraySet, ArrayLen, ArrayFill, ArrayCopy, ArrayInitData, ArrayInitElem}
+use Rattle.wasm_operators.specs.WasmOperatorsPlain.declared.calls.CallOperator.{CallOperator}
+use Rattle.wasm_operators.specs.WasmOperatorsPlain.declared.calls.CallOperator.TheVariants.{Call, CallIndirect, ReturnCall, ReturnCallIndirect, CallRef, ReturnCallRef}
+use Rattle.wasm_operators.specs.WasmOperatorsPlain.declared.variables.VariableOperator.{VariableOperator}
+use Rattle.wasm_operators.specs.WasmOperatorsPlain.declared.variables.VariableOperator.TheVariants.{LocalGet, LocalSet, LocalTee, GlobalGet, GlobalSet}
+use Rattle.wasm_operators.specs.WasmOperatorsPlain.declared.tables.TableOperator.{TableOperator}
+use Rattle.wasm_operators.specs.WasmOperatorsPlain.declared.tables.TableOperator.TheVariants.{TableGet, TableSet, TableInit, ElemDrop, TableCopy, TableGrow, TableSize, TableFill}
+use Rattle.wasm_operators.specs.WasmOperatorsPlain.declared.memories.MemoryOperator.{MemoryOperator}
+use Rattle.wasm_operators.specs.WasmOperatorsPlain.declared.memories.MemoryOperator.TheVariants.{I32Load, I64Load, F32Load, F64Load, I32Load8S, I32Load8U, I32Load16S, I32Load16U, I64Load8S, I64Load8U, I64Load16S, I64Load16U, I64Load32S, I64Load32U, I32Store, I64Store, F32Store, F64Store, I32Store8, I32Store16, I64Store8, I64Store16, I64Store32}
+use Rattle.wasm_operators.specs.WasmOperatorsPlain.declared.memories.MemArg.{MemArg}
+use Rattle.wasm_operators.specs.WasmOperatorsPlain.declared.memories.BulkMemoryOperator.{BulkMemoryOperator}
+use Rattle.wasm_operators.specs.WasmOperatorsPlain.declared.memories.BulkMemoryOperator.TheVariants.{MemorySize, MemoryGrow, MemoryInit, DataDrop, MemoryCopy, MemoryFill}
+use Rattle.wasm_operators.specs.WasmOperatorsPlain.declared.constants.ConstantOperator.{ConstantOperator}
+use Rattle.wasm_operators.specs.WasmOperatorsPlain.declared.constants.ConstantOperator.TheVariants.{I32Const, I64Const, F32Const, F64Const, V128Const}
+use Rattle.wasm_operators.specs.WasmOperatorsPlain.declared.conversions.ConversionOperator.{ConversionOperator}
+use Rattle.wasm_operators.specs.WasmOperatorsPlain.declared.conversions.ConversionOperator.TheVariants.{AnyConvertExtern, ExternConvertAny, RefI31, I31GetS, I31GetU, RefI31Shared}
+use Rattle.wasm_operators.specs.WasmOperatorsPlain.declared.structs.StructOperator.{StructOperator}
+use Rattle.wasm_operators.specs.WasmOperatorsPlain.declared.structs.StructOperator.TheVariants.{StructNew, StructNewDefault, StructGet, StructGetS, StructGetU, StructSet, StructNewDesc, StructNewDefaultDesc}
+use Rattle.wasm_operators.specs.WasmOperatorsPlain.declared.arrays.ArrayOperator.{ArrayOperator}
+use Rattle.wasm_operators.specs.WasmOperatorsPlain.declared.arrays.ArrayOperator.TheVariants.{ArrayNew, ArrayNewDefault, ArrayNewFixed, ArrayNewData, ArrayNewElem, ArrayGet, ArrayGetS, ArrayGetU, ArraySet, ArrayLen, ArrayFill, ArrayCopy, ArrayInitData, ArrayInitElem}
 use Rattle.wasm_operator_steps.specs.Machine.{Kind, block_kind, loop_kind, if_kind, try_table_kind}
 use Rattle.wasm_operator_steps.specs.Actions.{of_type, of_function, of_tag, OperandTypes, these, params, results, label, returned, local, global, function_reference, new_reference, fields, element, field, table_address, memory_address, table_element, segment, lesser_table_address, lesser_memory_address, top, descriptor_of, repeated, front, last, joined, Needed, multi_value, reference_types, bulk_memory, exceptions, function_references, gc, shared_everything_threads, custom_descriptors, Check, has, allows, global_is_mutable, local_is_set, function_is_referenced, is_exception, each_matches, may_be_cast, can_be_tested, is_aligned, fields_have_defaults, has_no_descriptor, field_is_mutable, field_is_packed, element_is_mutable, element_has_default, element_is_number, element_is_packed, element_is_storable, data_is_there, segment_is_there, reaches_global, reaches_table, reaches_type, reaches_function}
 

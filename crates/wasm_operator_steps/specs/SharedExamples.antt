@@ -1,21 +1,21 @@
 -- Bodies of shared functions, which reach only what is shared. Proposal for shared-everything threads.
 use Rattle.std.specs.Prelude.{ℕ, ◌≡◌, true, false, not, ◌&&◌, Bool, nat_eq, List, [], ◌∷◌, ◌++◌, if◌then◌else◌, Some, None}
-use Rattle.wasm_spec.specs.Syntax.{func_heap, abstract_heap, concrete, Ref, i32, i8, unpacked, Comp, func, struct, Sub}
-use Rattle.wasm_spec.specs.Syntax as syntax
-use Rattle.wasm_spec.specs.TypeExamples.{features}
+use Rattle.wasm_spec_rules.specs.WasmSpec.Syntax.{func_heap, abstract_heap, concrete, Ref, i32, i8, unpacked, Comp, func, struct, Sub}
+use Rattle.wasm_spec_rules.specs.WasmSpec.Syntax as syntax
+use Rattle.wasm_spec_rules.specs.WasmSpec.TypeExamples.{features}
 use Rattle.wasm_spec_rules.specs.Contexts.{Context}
 use Rattle.wasm_operators.specs.Control.{value_block, func_block, loop, if_, try_table, throw}
 use Rattle.wasm_operators.specs.References.{ref_func, ref_test, ref_cast}
 use Rattle.wasm_operators.specs.References as references
 use Rattle.wasm_operators.specs.Instructions.{Instruction, control, call, variable, table, access, memory, reference, cast, conversion, structure, array}
-use Rattle.wasm_operators.specs.CallOperator.TheVariants.{Call, CallIndirect, ReturnCall, ReturnCallIndirect, CallRef, ReturnCallRef}
-use Rattle.wasm_operators.specs.VariableOperator.TheVariants.{LocalGet, GlobalGet, GlobalSet}
-use Rattle.wasm_operators.specs.TableOperator.TheVariants.{TableGet, TableSet, TableInit, ElemDrop, TableCopy, TableGrow, TableSize, TableFill}
-use Rattle.wasm_operators.specs.MemoryOperator.TheVariants.{I32Load}
-use Rattle.wasm_operators.specs.BulkMemoryOperator.TheVariants.{MemorySize, DataDrop}
-use Rattle.wasm_operators.specs.ConversionOperator.TheVariants.{RefI31}
-use Rattle.wasm_operators.specs.StructOperator.TheVariants.{StructNew, StructNewDefault, StructGet, StructGetS, StructGetU, StructSet, StructNewDesc, StructNewDefaultDesc}
-use Rattle.wasm_operators.specs.ArrayOperator.TheVariants.{ArrayNew, ArrayNewDefault, ArrayNewFixed, ArrayNewData, ArrayNewElem, ArrayGet, ArrayGetS, ArrayGetU, ArraySet, ArrayLen, ArrayFill, ArrayCopy, ArrayInitData, ArrayInitElem}
+use Rattle.wasm_operators.specs.WasmOperatorsPlain.declared.calls.CallOperator.TheVariants.{Call, CallIndirect, ReturnCall, ReturnCallIndirect, CallRef, ReturnCallRef}
+use Rattle.wasm_operators.specs.WasmOperatorsPlain.declared.variables.VariableOperator.TheVariants.{LocalGet, GlobalGet, GlobalSet}
+use Rattle.wasm_operators.specs.WasmOperatorsPlain.declared.tables.TableOperator.TheVariants.{TableGet, TableSet, TableInit, ElemDrop, TableCopy, TableGrow, TableSize, TableFill}
+use Rattle.wasm_operators.specs.WasmOperatorsPlain.declared.memories.MemoryOperator.TheVariants.{I32Load}
+use Rattle.wasm_operators.specs.WasmOperatorsPlain.declared.memories.BulkMemoryOperator.TheVariants.{MemorySize, DataDrop}
+use Rattle.wasm_operators.specs.WasmOperatorsPlain.declared.conversions.ConversionOperator.TheVariants.{RefI31}
+use Rattle.wasm_operators.specs.WasmOperatorsPlain.declared.structs.StructOperator.TheVariants.{StructNew, StructNewDefault, StructGet, StructGetS, StructGetU, StructSet, StructNewDesc, StructNewDefaultDesc}
+use Rattle.wasm_operators.specs.WasmOperatorsPlain.declared.arrays.ArrayOperator.TheVariants.{ArrayNew, ArrayNewDefault, ArrayNewFixed, ArrayNewData, ArrayNewElem, ArrayGet, ArrayGetS, ArrayGetU, ArraySet, ArrayLen, ArrayFill, ArrayCopy, ArrayInitData, ArrayInitElem}
 use Rattle.wasm_operator_steps.specs.Steps.{is_typed_body}
 use Rattle.wasm_operator_steps.specs.Samples.{ref_null, ref_of, field_of, declares, table_of, global_of, context, locals, an_i32, dropped, trap, an_end, in_block, all_pass}
 

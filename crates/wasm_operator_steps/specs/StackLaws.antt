@@ -1,7 +1,7 @@
 -- Laws of what is taken and given: what code stands on that takes and gives operands one by one. As facts that a contract can name.
 use Rattle.std.specs.Prelude.{ℕ, ◌≡◌, Bool, true, List, ◌++◌, length, Some, None, is_some, slice_get}
-use Rattle.wasm_spec.specs.Syntax.{Val}
-use Rattle.wasm_spec.specs.MatchingTests.{World, matches_val}
+use Rattle.wasm_spec_rules.specs.WasmSpec.Syntax.{Val}
+use Rattle.wasm_spec_rules.specs.WasmSpec.MatchingTests.{World, matches_val}
 use Rattle.wasm_spec_rules.specs.Contexts.{Context}
 use Rattle.wasm_operators.specs.Instructions.{Instruction}
 use Rattle.wasm_spec_rules.specs.Attempts.{◌>>=◌, last_of, front_of}

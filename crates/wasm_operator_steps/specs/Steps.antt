@@ -1,8 +1,8 @@
 -- The second table, from a shape to its actions; steps, runs of steps, and their finish; bodies and constant expressions.
 -- Core Specification 3.0, Validation, Instructions (Expressions), Modules (Functions), and Appendix, Validation Algorithm.
 use Rattle.std.specs.Prelude.{ℕ, Bool, true, false, List, [], ◌∷◌, ◌++◌, map, Option, Some}
-use Rattle.wasm_spec.specs.MatchingTests.{World}
-use Rattle.wasm_spec.specs.Syntax.{Val, i32}
+use Rattle.wasm_spec_rules.specs.WasmSpec.MatchingTests.{World}
+use Rattle.wasm_spec_rules.specs.WasmSpec.Syntax.{Val, i32}
 use Rattle.wasm_operators.specs.Control.{Block, value_block, func_block}
 use Rattle.wasm_operators.specs.Instructions.{Instruction}
 use Rattle.wasm_spec_rules.specs.Attempts.{◌>>=◌, guard, passes}

@@ -3,7 +3,7 @@ use Rattle.std.proofs.Common.{◌≡◌, ℕ, ◌+◌, ◌<◌, ◌≤◌, Bool,
 use Rattle.std.specs.Prelude.{zero, suc}
 use Rattle.wasm_readers_types.specs.SeenValues.{field_of}
 use Rattle.wasm_readers_types.specs.declared.values.FieldType.{FieldType}
-use Rattle.wasm_operator_steps.specs.Meanings.{has_default, unpack_field, all_have_defaults}
+use Rattle.wasm_operator_checks.specs.WasmOperatorSteps.Meanings.{has_default, unpack_field, all_have_defaults}
 
 -- the fields from a place on
 abbrev pub from_on : List FieldType → ℕ → Bool

@@ -7,9 +7,9 @@ use Rattle.wasm_spec.specs.Syntax.{Val}
 use Rattle.wasm_readers_types.specs.SeenValues.{field_of}
 use Rattle.wasm_readers_types.specs.declared.indices.UnpackedIndex.{UnpackedIndex}
 use Rattle.wasm_readers_types.specs.declared.values.FieldType.{FieldType}
-use Rattle.wasm_operator_steps.specs.Machine.{State, pop_val, pop_vals}
-use Rattle.wasm_operator_steps.specs.Meanings.{unpack_field}
-use Rattle.wasm_operator_steps.proofs.TakenInTurn.{pop_vals-append}
+use Rattle.wasm_operator_checks.specs.WasmOperatorSteps.Machine.{State, pop_val, pop_vals}
+use Rattle.wasm_operator_checks.specs.WasmOperatorSteps.Meanings.{unpack_field}
+use Rattle.wasm_operator_checks.proofs.WasmOperatorSteps.TakenInTurn.{pop_vals-append}
 use Rattle.wasm_operator_checks.specs.Steps.{Took}
 use Rattle.wasm_operator_checks.specs.SeenTypes.{exchanged}
 use Rattle.wasm_operator_checks.specs.declared.faults.OperatorError.{OperatorError}

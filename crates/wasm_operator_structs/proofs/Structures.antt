@@ -5,16 +5,16 @@ use Rattle.std.specs.Prelude.{Option, Some, None, is_some, slice_get}
 use Rattle.std.proofs.lemmas.Option.{slice_get-map, slice_get_read, slice_get_past}
 use Rattle.wasm_spec.specs.MatchingTests.{same_flag}
 use Rattle.wasm_spec.specs.Syntax.{Val, exact, Field, Sub}
-use Rattle.wasm_spec_rules.specs.Contexts.{Context}
+use Rattle.wasm_operator_checks.specs.WasmSpecRules.Contexts.{Context}
 use Rattle.wasm_readers_types.specs.SeenValues.{field_of, index_of}
 use Rattle.wasm_readers_types.specs.declared.indices.PackedIndex.{PackedIndex}
 use Rattle.wasm_readers_types.specs.declared.values.FieldType.{FieldType}
 use Rattle.wasm_readers_types.specs.declared.indices.UnpackedIndex.{UnpackedIndex}
-use Rattle.wasm_spec_rules.specs.Attempts.{◌>>=◌, passes}
-use Rattle.wasm_operator_steps.specs.Actions.{gc, fields, field, descriptor_of, fields_have_defaults, has_no_descriptor, field_is_mutable, field_is_packed}
-use Rattle.wasm_operator_steps.specs.Meanings.{ref_to, is_packed, unpack_field, all_have_defaults, one}
-use Rattle.wasm_validator_resources.specs.Answers.{sub_in}
-use Rattle.wasm_operator_stacks.specs.declared.stacks.Stacks.{Stacks}
+use Rattle.wasm_operator_checks.specs.WasmSpecRules.Attempts.{◌>>=◌, passes}
+use Rattle.wasm_operator_checks.specs.WasmOperatorSteps.Actions.{gc, fields, field, descriptor_of, fields_have_defaults, has_no_descriptor, field_is_mutable, field_is_packed}
+use Rattle.wasm_operator_checks.specs.WasmOperatorSteps.Meanings.{ref_to, is_packed, unpack_field, all_have_defaults, one}
+use Rattle.wasm_operator_checks.specs.WasmValidatorResources.Answers.{sub_in}
+use Rattle.wasm_operator_checks.specs.WasmOperatorStacks.declared.stacks.Stacks.{Stacks}
 use Rattle.wasm_operator_checks.specs.Steps.{typed, held}
 use Rattle.wasm_operator_checks.specs.Declared.{fields_in, descriptor_in, Barred, is_off, is_unreached, is_missing}
 use Rattle.wasm_operator_structs.specs.Fields.{field_in}

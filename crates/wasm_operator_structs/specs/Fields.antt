@@ -1,13 +1,13 @@
 -- Fields of structures, and the proposals that operators on structures are of.
 use Rattle.std.specs.Prelude.{ℕ, List, map, Option, slice_get}
 use Rattle.wasm_spec.specs.Syntax.{Val, Field}
-use Rattle.wasm_spec_rules.specs.Contexts.{Context}
+use Rattle.wasm_operator_checks.specs.WasmSpecRules.Contexts.{Context}
 use Rattle.wasm_readers_types.specs.SeenValues.{field_of}
 use Rattle.wasm_readers_types.specs.declared.indices.UnpackedIndex.{UnpackedIndex}
 use Rattle.wasm_readers_types.specs.declared.values.FieldType.{FieldType}
-use Rattle.wasm_operator_steps.specs.Actions.{Needed, gc, custom_descriptors}
-use Rattle.wasm_spec_rules.specs.Attempts.{◌>>=◌}
-use Rattle.wasm_operator_steps.specs.Meanings.{unpack_field}
+use Rattle.wasm_operator_checks.specs.WasmOperatorSteps.Actions.{Needed, gc, custom_descriptors}
+use Rattle.wasm_operator_checks.specs.WasmSpecRules.Attempts.{◌>>=◌}
+use Rattle.wasm_operator_checks.specs.WasmOperatorSteps.Meanings.{unpack_field}
 use Rattle.wasm_operator_checks.specs.Declared.{fields_in}
 use Rattle.wasm_operator_structs.specs.declared.reached.Proposal.{Proposal}
 use Rattle.wasm_operator_structs.specs.declared.reached.Proposal.TheVariants as proposal

@@ -2,18 +2,18 @@
 
 ghost use Rattle.std.specs.Prelude.{◌≡◌};
 ghost use Rattle.wasm_operators_plain.specs.declared.structs.StructOperator.TheVariants.{StructGet, StructGetS, StructGetU, StructSet};
-ghost use Rattle.wasm_operator_steps.specs.Shapes.{getting, struct_shape};
-ghost use Rattle.wasm_operator_stacks.specs.Seen.{Kept};
+ghost use Rattle.wasm_operator_checks.specs.WasmOperatorSteps.Shapes.{getting, struct_shape};
+ghost use Rattle.wasm_operator_checks.specs.WasmOperatorStacks.Seen.{Kept};
 ghost use Rattle.wasm_operator_checks.specs.Steps.{Performs};
 
 use crate::reached::reach_member;
 use std::alloc::Allocator;
+use wasm_operator_checks::operator_stacks::{Stacks, TypeWord};
+use wasm_operator_checks::validator_resources::WasmModuleResources;
 use wasm_operator_checks::{
     OperatorError, OperatorFault, OperatorRule, Takes, ValTypes, is_packed, nullable, plain,
     same_flag, unpack,
 };
-use wasm_operator_stacks::{Stacks, TypeWord};
-use wasm_validator_resources::WasmModuleResources;
 
 /// The rule that a field is packed, or that it isn't.
 fn packed_rule(packed: bool) -> OperatorRule {

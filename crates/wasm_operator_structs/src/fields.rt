@@ -2,20 +2,20 @@
 
 ghost use Rattle.std.specs.Prelude.{◌≡◌, ◌≤◌, ◌∷◌, [], length, map};
 ghost use Rattle.wasm_readers_types.specs.SeenValues.{field_of};
-ghost use Rattle.wasm_operator_stacks.specs.SeenTypeWords.{val_in};
-ghost use Rattle.wasm_operator_steps.specs.Machine.{pop_vals};
-ghost use Rattle.wasm_operator_steps.specs.Meanings.{all_have_defaults};
-ghost use Rattle.wasm_validator_resources.specs.Answers.{world};
-ghost use Rattle.wasm_operator_stacks.specs.Seen.{state_of, below, Kept};
+ghost use Rattle.wasm_operator_checks.specs.WasmOperatorStacks.SeenTypeWords.{val_in};
+ghost use Rattle.wasm_operator_checks.specs.WasmOperatorSteps.Machine.{pop_vals};
+ghost use Rattle.wasm_operator_checks.specs.WasmOperatorSteps.Meanings.{all_have_defaults};
+ghost use Rattle.wasm_operator_checks.specs.WasmValidatorResources.Answers.{world};
+ghost use Rattle.wasm_operator_checks.specs.WasmOperatorStacks.Seen.{state_of, below, Kept};
 ghost use Rattle.wasm_operator_checks.specs.Steps.{Checked, Took};
 ghost use Rattle.wasm_operator_checks.specs.SeenTypes.{exchanged};
 ghost use Rattle.wasm_operator_structs.specs.Fields.{unpacked_types};
 
 use std::alloc::Allocator;
+use wasm_operator_checks::operator_stacks::{Stacks, TypeWord, Word};
+use wasm_operator_checks::validator_resources::WasmModuleResources;
 use wasm_operator_checks::{OperatorError, OperatorFault, check_type, has_default, unpack};
-use wasm_operator_stacks::{Stacks, TypeWord, Word};
 use wasm_readers_types::FieldType;
-use wasm_validator_resources::WasmModuleResources;
 
 /// Whether all fields have a default.
 #[tactic(auto, using(crate::proofs::Defaulting::defaults))]

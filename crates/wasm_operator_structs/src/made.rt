@@ -2,19 +2,19 @@
 
 ghost use Rattle.std.specs.Prelude.{◌≡◌};
 ghost use Rattle.wasm_operators_plain.specs.declared.structs.StructOperator.TheVariants.{StructNew, StructNewDefault, StructNewDesc, StructNewDefaultDesc};
-ghost use Rattle.wasm_operator_steps.specs.Shapes.{struct_shape};
-ghost use Rattle.wasm_operator_stacks.specs.Seen.{Kept};
+ghost use Rattle.wasm_operator_checks.specs.WasmOperatorSteps.Shapes.{struct_shape};
+ghost use Rattle.wasm_operator_checks.specs.WasmOperatorStacks.Seen.{Kept};
 ghost use Rattle.wasm_operator_checks.specs.Steps.{Performs};
 
 use crate::fields::{exchange_fields, have_defaults};
 use crate::reached::{Proposal, reach_structure};
 use std::alloc::Allocator;
+use wasm_operator_checks::operator_stacks::Stacks;
+use wasm_operator_checks::validator_resources::WasmModuleResources;
 use wasm_operator_checks::{
     OperatorError, OperatorFault, OperatorRule, Takes, ValTypes, check_type, exact_or_null,
     new_reference, plain,
 };
-use wasm_operator_stacks::Stacks;
-use wasm_validator_resources::WasmModuleResources;
 
 /// `struct.new`.
 #[tactic(auto, using(wasm_operator_checks::proofs::Acting::acts, crate::proofs::Structures::structures))]

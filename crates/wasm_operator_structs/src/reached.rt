@@ -2,19 +2,19 @@
 
 ghost use Rattle.std.specs.Prelude.{◌≡◌, Some, None, true, map, option_map, slice_get, IfOk, OnOk, OnErr};
 ghost use Rattle.wasm_readers_types.specs.SeenValues.{index_of, field_of};
-ghost use Rattle.wasm_operator_steps.specs.Actions.{gc, has, reaches_type};
-ghost use Rattle.wasm_operator_steps.specs.Meanings.{is_on as allowed};
-ghost use Rattle.wasm_spec_rules.specs.FeatureFlags.{features_of};
+ghost use Rattle.wasm_operator_checks.specs.WasmOperatorSteps.Actions.{gc, has, reaches_type};
+ghost use Rattle.wasm_operator_checks.specs.WasmOperatorSteps.Meanings.{is_on as allowed};
+ghost use Rattle.wasm_operator_checks.specs.WasmSpecRules.FeatureFlags.{features_of};
 ghost use Rattle.wasm_operator_checks.specs.Steps.{held};
 ghost use Rattle.wasm_operator_checks.specs.Declared.{fields_in, descriptor_in, Barred};
 ghost use Rattle.wasm_operator_structs.specs.Fields.{needed_of, field_in};
 
 use std::alloc::Allocator;
+use wasm_operator_checks::operator_stacks::Stacks;
+use wasm_operator_checks::validator_resources::WasmModuleResources;
 use wasm_operator_checks::{OperatorFault, OperatorRule, has, identity, reaches};
-use wasm_operator_stacks::Stacks;
-use wasm_readers_errors::WasmFeatures;
+use wasm_operators_plain::readers_errors::WasmFeatures;
 use wasm_readers_types::{CompositeInnerType, FieldType, PackedIndex};
-use wasm_validator_resources::WasmModuleResources;
 
 /// The proposal that an operator on structures is of.
 #[derive(Clone, Copy)]

@@ -1,17 +1,17 @@
 //! All operators on structures.
 
 ghost use Rattle.std.specs.Prelude.{◌≡◌};
-ghost use Rattle.wasm_operator_steps.specs.Shapes.{struct_shape};
-ghost use Rattle.wasm_operator_stacks.specs.Seen.{Kept};
+ghost use Rattle.wasm_operator_checks.specs.WasmOperatorSteps.Shapes.{struct_shape};
+ghost use Rattle.wasm_operator_checks.specs.WasmOperatorStacks.Seen.{Kept};
 ghost use Rattle.wasm_operator_checks.specs.Steps.{Performs};
 
 use crate::accesses::{struct_get, struct_get_s, struct_get_u, struct_set};
 use crate::made::{struct_new, struct_new_default, struct_new_default_desc, struct_new_desc};
 use std::alloc::Allocator;
 use wasm_operator_checks::OperatorError;
-use wasm_operator_stacks::Stacks;
+use wasm_operator_checks::operator_stacks::Stacks;
+use wasm_operator_checks::validator_resources::WasmModuleResources;
 use wasm_operators_plain::StructOperator;
-use wasm_validator_resources::WasmModuleResources;
 
 /// An operator on structures (Core Specification 3.0, Validation, Instructions, Aggregate
 /// Instructions), or one of the proposal for custom descriptors.

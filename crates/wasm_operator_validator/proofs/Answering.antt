@@ -6,11 +6,11 @@ use Rattle.wasm_readers_types.specs.declared.indices.UnpackedIndex.{UnpackedInde
 use Rattle.wasm_operators.specs.Control.{Block}
 use Rattle.wasm_operators.specs.declared.control.FrameKind.{FrameKind}
 use Rattle.wasm_operators.specs.declared.control.FrameKind.TheVariants as frame
-use Rattle.wasm_operator_steps.specs.Machine as machine
+use Rattle.wasm_operator_checks.specs.WasmOperatorSteps.Machine as machine
 use Rattle.wasm_operator_validator.specs.Asked.{kind_of}
-use Rattle.wasm_operator_stacks.specs.SeenBlocks as stacks
-use Rattle.wasm_operator_stacks.specs.SeenBlocks.{frame_of, frames_seen}
-use Rattle.wasm_operator_stacks.specs.declared.stacks.Frame.{Frame}
+use Rattle.wasm_operator_checks.specs.WasmOperatorStacks.SeenBlocks as stacks
+use Rattle.wasm_operator_checks.specs.WasmOperatorStacks.SeenBlocks.{frame_of, frames_seen}
+use Rattle.wasm_operator_checks.specs.WasmOperatorStacks.declared.stacks.Frame.{Frame}
 use Rattle.wasm_operator_validator.specs.Answered.{label_seen}
 
 -- kinds of frames are the same to both layers

@@ -4,18 +4,18 @@ use Rattle.std.proofs.lemmas.List.{length-map}
 use Rattle.std.specs.Option.{option_map}
 use Rattle.std.specs.Prelude.{Option, Some, Err}
 use Rattle.wasm_spec.specs.Syntax.{Val, Sub}
-use Rattle.wasm_spec_rules.specs.Contexts.{Context}
+use Rattle.wasm_operator_checks.specs.WasmSpecRules.Contexts.{Context}
 use Rattle.wasm_readers_types.specs.declared.indices.UnpackedIndex.{UnpackedIndex}
 use Rattle.wasm_readers_types.specs.SeenValues.{val_of}
 use Rattle.wasm_readers_types.specs.declared.values.ValType.{ValType}
 use Rattle.wasm_operators.specs.Control.{Block}
-use Rattle.wasm_spec_rules.specs.Attempts.{◌>>=◌}
-use Rattle.wasm_operator_steps.specs.Bodies.{Local}
-use Rattle.wasm_operator_steps.specs.Machine.{State, block_kind, push_frame}
-use Rattle.wasm_spec_rules.specs.Signatures.{Signature, signature_of}
-use Rattle.wasm_operator_steps.specs.Steps.{start}
-use Rattle.wasm_validator_resources.specs.Answers.{sub_in}
-use Rattle.wasm_operator_control.specs.Blocks.{function_in}
+use Rattle.wasm_operator_checks.specs.WasmSpecRules.Attempts.{◌>>=◌}
+use Rattle.wasm_operator_checks.specs.WasmOperatorSteps.Bodies.{Local}
+use Rattle.wasm_operator_checks.specs.WasmOperatorSteps.Machine.{State, block_kind, push_frame}
+use Rattle.wasm_operator_checks.specs.WasmSpecRules.Signatures.{Signature, signature_of}
+use Rattle.wasm_operator_checks.specs.WasmOperatorSteps.Steps.{start}
+use Rattle.wasm_operator_checks.specs.WasmValidatorResources.Answers.{sub_in}
+use Rattle.wasm_operator_fast.specs.WasmOperatorControl.Blocks.{function_in}
 use Rattle.wasm_operator_checks.specs.declared.faults.OperatorError.{OperatorError}
 use Rattle.wasm_operator_checks.specs.declared.faults.OperatorError.TheVariants.{Refused, OutOfMemory}
 use Rattle.wasm_operator_validator.specs.Typed.{parameter, HasMany, IsRefused}

@@ -5,9 +5,9 @@ use Rattle.wasm_spec.specs.Syntax.{Val}
 use Rattle.wasm_readers_types.specs.SeenValues.{val_of}
 use Rattle.wasm_readers_types.specs.declared.indices.UnpackedIndex.{UnpackedIndex}
 use Rattle.wasm_readers_types.specs.declared.values.ValType.{ValType}
-use Rattle.wasm_operator_steps.specs.Bodies.{Local}
-use Rattle.wasm_operator_stacks.specs.Locals.{local_of}
-use Rattle.wasm_operator_stacks.specs.declared.local_word.LocalWord.{LocalWord}
+use Rattle.wasm_operator_checks.specs.WasmOperatorSteps.Bodies.{Local}
+use Rattle.wasm_operator_checks.specs.WasmOperatorStacks.Locals.{local_of}
+use Rattle.wasm_operator_checks.specs.WasmOperatorStacks.declared.local_word.LocalWord.{LocalWord}
 use Rattle.wasm_operator_validator.specs.Typed.{parameter}
 
 -- parameters, one after another

@@ -1,18 +1,18 @@
 -- One step by any operator is the step of its family, where the code still stands in a frame.
 use Rattle.std.proofs.Common.{◌≡◌, ℕ, Bool, true, false, List, [], ◌∷◌, refl, sym, subst}
 use Rattle.std.specs.Prelude.{Some, None, Option, Result, Ok, Err, map}
-use Rattle.wasm_spec_rules.specs.Contexts.{Context}
+use Rattle.wasm_operator_checks.specs.WasmSpecRules.Contexts.{Context}
 use Rattle.wasm_readers_types.specs.declared.indices.UnpackedIndex.{UnpackedIndex}
 use Rattle.wasm_operators.specs.Instructions.{Instruction}
 use Rattle.wasm_operators.specs.Maps.{map_instruction}
-use Rattle.wasm_spec_rules.specs.Attempts.{◌>>=◌, guard}
-use Rattle.wasm_operator_steps.specs.Machine.{State}
-use Rattle.wasm_operator_steps.specs.Meanings.{run}
-use Rattle.wasm_operator_steps.specs.Shapes.{shape_of}
-use Rattle.wasm_operator_steps.specs.Steps.{step_in, actions_of, is_open}
-use Rattle.wasm_validator_resources.specs.Answers.{world, written_index}
-use Rattle.wasm_operator_stacks.specs.Seen.{state_of, around}
-use Rattle.wasm_operator_stacks.specs.declared.stacks.Stacks.{Stacks}
+use Rattle.wasm_operator_checks.specs.WasmSpecRules.Attempts.{◌>>=◌, guard}
+use Rattle.wasm_operator_checks.specs.WasmOperatorSteps.Machine.{State}
+use Rattle.wasm_operator_checks.specs.WasmOperatorSteps.Meanings.{run}
+use Rattle.wasm_operator_checks.specs.WasmOperatorSteps.Shapes.{shape_of}
+use Rattle.wasm_operator_checks.specs.WasmOperatorSteps.Steps.{step_in, actions_of, is_open}
+use Rattle.wasm_operator_checks.specs.WasmValidatorResources.Answers.{world, written_index}
+use Rattle.wasm_operator_checks.specs.WasmOperatorStacks.Seen.{state_of, around}
+use Rattle.wasm_operator_checks.specs.WasmOperatorStacks.declared.stacks.Stacks.{Stacks}
 use Rattle.wasm_operator_checks.specs.Steps.{Took, acted, Performs}
 use Rattle.wasm_operator_checks.specs.declared.faults.OperatorError.{OperatorError}
 use Rattle.wasm_operator_checks.specs.declared.faults.OperatorError.TheVariants.{Refused, OutOfMemory}

@@ -1,3 +1,8 @@
+pub use Rattle.wasm_operator_checks.specs.WasmOperatorSteps as WasmOperatorSteps
+pub use Rattle.wasm_operator_checks.specs.WasmOperatorStacks as WasmOperatorStacks
+pub use Rattle.wasm_operator_checks.specs as WasmOperatorChecks
+pub use Rattle.wasm_operator_fast.specs.WasmOperatorControl as WasmOperatorControl
+pub use Rattle.wasm_operator_fast.specs as WasmOperatorFast
 pub mod Asked
 pub mod Arities
 pub mod Sizes

@@ -4,9 +4,9 @@ use Rattle.std.specs.Prelude.{Option, Some, None}
 use Rattle.wasm_spec.specs.Syntax.{Val}
 use Rattle.wasm_readers_types.specs.declared.indices.UnpackedIndex.{UnpackedIndex}
 use Rattle.wasm_operators.specs.SeenControl.{block_of}
-use Rattle.wasm_operator_steps.specs.Machine as machine
-use Rattle.wasm_operator_steps.specs.Machine.{Operand, known}
-use Rattle.wasm_operator_stacks.specs.SeenBlocks.{kind_of}
+use Rattle.wasm_operator_checks.specs.WasmOperatorSteps.Machine as machine
+use Rattle.wasm_operator_checks.specs.WasmOperatorSteps.Machine.{Operand, known}
+use Rattle.wasm_operator_checks.specs.WasmOperatorStacks.SeenBlocks.{kind_of}
 use Rattle.wasm_operator_validator.specs.declared.queries.Frame.{Frame}
 
 -- the type of an operand, where it is known

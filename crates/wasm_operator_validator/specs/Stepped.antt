@@ -1,14 +1,14 @@
 -- One operator on the stacks of a body, by the table of steps.
 -- Core Specification 3.0, Validation, Instructions.
 use Rattle.std.specs.Prelude.{Result, ⊤}
-use Rattle.wasm_spec_rules.specs.Contexts.{Context}
+use Rattle.wasm_operator_checks.specs.WasmSpecRules.Contexts.{Context}
 use Rattle.wasm_readers_types.specs.declared.indices.UnpackedIndex.{UnpackedIndex}
 use Rattle.wasm_operators.specs.Instructions.{Instruction, control, reference, cast}
 use Rattle.wasm_operators.specs.Maps.{map_instruction}
-use Rattle.wasm_operator_steps.specs.Steps.{step_in}
-use Rattle.wasm_validator_resources.specs.Answers.{world, written_index}
-use Rattle.wasm_operator_stacks.specs.Seen.{state_of, around}
-use Rattle.wasm_operator_stacks.specs.declared.stacks.Stacks.{Stacks}
+use Rattle.wasm_operator_checks.specs.WasmOperatorSteps.Steps.{step_in}
+use Rattle.wasm_operator_checks.specs.WasmValidatorResources.Answers.{world, written_index}
+use Rattle.wasm_operator_checks.specs.WasmOperatorStacks.Seen.{state_of, around}
+use Rattle.wasm_operator_checks.specs.WasmOperatorStacks.declared.stacks.Stacks.{Stacks}
 use Rattle.wasm_operator_casts.specs.WrittenReferences.{IsWrittenReference}
 use Rattle.wasm_operator_casts.specs.Written.{IsWrittenCast}
 use Rattle.wasm_operator_checks.specs.Steps.{Took}

@@ -12,10 +12,10 @@ use crate::validator::OperatorValidator;
 use crate::visitor::OperatorVisitor;
 use crate::{FrameStack, ModuleArity};
 use std::alloc::Allocator;
-use wasm_operator_control::frame_at;
+use wasm_operator_checks::validator_resources::WasmModuleResources;
+use wasm_operator_fast::operator_control::frame_at;
 use wasm_operators::{BlockType, FrameKind};
 use wasm_readers_types::{CompositeInnerType, ContType, FuncType, RefType, SubType, UnpackedIndex};
-use wasm_validator_resources::WasmModuleResources;
 
 /// How many parameters and results the type of this tag has, if there is one and both numbers have
 /// 32 bits.

@@ -1,19 +1,19 @@
 //! Steps from bytes.
 
 ghost use Rattle.std.specs.Prelude.{◌≡◌, ◌≤◌, ◌<◌, ◌||◌, Some, false, not, is_ok, IfErr, OnOk, OnErr};
-ghost use Rattle.wasm_readers_bytes.specs.Reader.{SameInput, position_in, rest};
-ghost use Rattle.wasm_operator_stacks.specs.Seen.{Kept};
+ghost use Rattle.wasm_readers.specs.WasmReadersBytes.Reader.{SameInput, position_in, rest};
+ghost use Rattle.wasm_operator_checks.specs.WasmOperatorStacks.Seen.{Kept};
 ghost use Rattle.wasm_operator_validator.specs.Typed.{typed_state};
 ghost use Rattle.wasm_operator_validator.specs.Checked.{StandsIn};
 ghost use Rattle.wasm_operator_validator.specs.Reads.{ReadsStep, stepped};
 
 use crate::validator::OperatorValidator;
 use std::alloc::Allocator;
+use wasm_operator_checks::validator_resources::WasmModuleResources;
 use wasm_operator_fast::{NotTaken, fast_step};
 use wasm_operators::read_operator;
 use wasm_readers::BinaryReader;
-use wasm_readers_errors::Error;
-use wasm_validator_resources::WasmModuleResources;
+use wasm_readers::readers_errors::Error;
 
 impl<A: Allocator> OperatorValidator<A> {
     /// Reads the next operator and takes its step, where it is a frequent one, its operands are of

@@ -8,10 +8,10 @@ ghost use Rattle.wasm_operator_validator.specs.Shown.{known_type, shown_frame};
 
 use crate::validator::OperatorValidator;
 use std::alloc::Allocator;
-use wasm_operator_control::frame_at;
-use wasm_operator_stacks::Operand;
+use wasm_operator_checks::operator_stacks::Operand;
+use wasm_operator_fast::operator_control::frame_at;
 use wasm_operators::{BlockType, FrameKind};
-use wasm_readers_errors::WasmFeatures;
+use wasm_readers::readers_errors::WasmFeatures;
 use wasm_readers_types::ValType;
 
 /// A control frame (Core Specification 3.0, Appendix, Validation Algorithm): what opened it, its

@@ -1,20 +1,22 @@
 //! One step by any operator.
 
 ghost use Rattle.wasm_operators.specs.SeenOperators.{operator_of};
-ghost use Rattle.wasm_operator_stacks.specs.Seen.{Kept};
+ghost use Rattle.wasm_operator_checks.specs.WasmOperatorStacks.Seen.{Kept};
 ghost use Rattle.wasm_operator_validator.specs.Stepped.{Steps, IsWrittenInstruction};
 
 use std::alloc::Allocator;
 use wasm_operator_arrays::step_array;
 use wasm_operator_blocks::{step_call, step_control, step_parametric, step_variable};
 use wasm_operator_casts::{step_cast, step_conversion, step_reference};
+use wasm_operator_checks::operator_stacks::Stacks;
+use wasm_operator_checks::validator_resources::WasmModuleResources;
 use wasm_operator_checks::{OperatorError, OperatorFault, OperatorRule};
-use wasm_operator_numbers::{access_memory, bulk_memory, compute, constant, step_table};
-use wasm_operator_stacks::Stacks;
+use wasm_operator_fast::operator_numbers::{
+    access_memory, bulk_memory, compute, constant, step_table,
+};
 use wasm_operator_structs::step_struct;
 use wasm_operators::Operator;
-use wasm_operators_plain::{numeric_signature, saturating_signature};
-use wasm_validator_resources::WasmModuleResources;
+use wasm_operators::operators_plain::{numeric_signature, saturating_signature};
 
 /// Takes one step by an operator, where its types name type indices of the module. Where that can't
 /// be, all stays.

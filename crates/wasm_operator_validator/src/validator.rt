@@ -1,26 +1,28 @@
 //! The validator of operators.
 
 ghost use Rattle.std.specs.Prelude.{◌≡◌, ◌≤◌, ◌+◌, ◌++◌, [], true, false, not, ◌||◌, length, map, is_ok, IfErr, IfOk, OnOk, IsSome};
-ghost use Rattle.wasm_spec_rules.specs.FeatureFlags.{features_of};
+ghost use Rattle.wasm_operator_checks.specs.WasmSpecRules.FeatureFlags.{features_of};
 ghost use Rattle.wasm_readers_types.specs.SeenValues.{val_of};
 ghost use Rattle.wasm_operators.specs.SeenOperators.{operator_of};
-ghost use Rattle.wasm_operator_steps.specs.Meanings.{has_default};
-ghost use Rattle.wasm_operator_steps.specs.Steps.{is_finished};
-ghost use Rattle.wasm_validator_resources.specs.Answers.{val_in, IsWrittenVal};
-ghost use Rattle.wasm_operator_stacks.specs.Seen.{Kept};
-ghost use Rattle.wasm_operator_control.specs.Blocks.{function_in};
+ghost use Rattle.wasm_operator_checks.specs.WasmOperatorSteps.Meanings.{has_default};
+ghost use Rattle.wasm_operator_checks.specs.WasmOperatorSteps.Steps.{is_finished};
+ghost use Rattle.wasm_operator_checks.specs.WasmValidatorResources.Answers.{val_in, IsWrittenVal};
+ghost use Rattle.wasm_operator_checks.specs.WasmOperatorStacks.Seen.{Kept};
+ghost use Rattle.wasm_operator_fast.specs.WasmOperatorControl.Blocks.{function_in};
 ghost use Rattle.wasm_operator_validator.specs.Stepped.{Steps, IsWrittenInstruction};
 ghost use Rattle.wasm_operator_validator.specs.Visited.{IsToldAt, StepsAt};
 ghost use Rattle.wasm_operator_validator.specs.Typed.{typed_state, parameter, BeginsBody, BeginsConstant, Defines, HasMany, IsRefused};
 
 use crate::steps::step;
 use std::alloc::{AllocError, Allocator, Global};
+use wasm_operator_checks::operator_stacks::{
+    BlockWord, LocalWord, Locals, MAX_LOCALS, Stacks, TypeWord,
+};
+use wasm_operator_checks::validator_resources::WasmModuleResources;
 use wasm_operator_checks::{OperatorError, OperatorFault, OperatorRule};
-use wasm_operator_stacks::{BlockWord, LocalWord, Locals, MAX_LOCALS, Stacks, TypeWord};
 use wasm_operators::{FrameKind, Operator};
-use wasm_readers_errors::{Error, WasmFeatures};
+use wasm_readers::readers_errors::{Error, WasmFeatures};
 use wasm_readers_types::{CompositeInnerType, ValType};
-use wasm_validator_resources::WasmModuleResources;
 
 /// The typing of one function body or one constant expression, operator by operator (Core
 /// Specification 3.0, Appendix, Validation Algorithm). It keeps operands, frames and locals; what

@@ -2,16 +2,16 @@
 //! index tells.
 
 ghost use Rattle.std.specs.Prelude.{◌≡◌, Some};
-ghost use Rattle.wasm_operator_steps.specs.Shapes.{variable_shape, table_shape, access_shape, memory_shape, computing};
+ghost use Rattle.wasm_operator_checks.specs.WasmOperatorSteps.Shapes.{variable_shape, table_shape, access_shape, memory_shape, computing};
 ghost use Rattle.wasm_operator_validator.specs.Arities.{arity};
 ghost use Rattle.wasm_operator_validator.specs.Asked.{Asked};
-ghost use Rattle.wasm_operators_plain.specs.Signatures.{signature_of, saturating_signature_of};
+ghost use Rattle.wasm_operators.specs.WasmOperatorsPlain.Signatures.{signature_of, saturating_signature_of};
 
+use wasm_operators::operators_plain::{Signature, numeric_signature, saturating_signature};
 use wasm_operators::{
     BulkMemoryOperator, MemArg, MemoryOperator, NumericOperator, SaturatingOperator, TableOperator,
     VariableOperator,
 };
-use wasm_operators_plain::{Signature, numeric_signature, saturating_signature};
 
 /// How many operands an operator on a local or a global takes and gives.
 pub(crate) fn variable_arity(op: &VariableOperator) -> (u128, u128)

@@ -1,9 +1,9 @@
 -- What an instruction is read from stands at the front of the bytes: what is left is a rest of them, and bytes behind them change
 -- only that.
 use Rattle.std.proofs.Common.{ℕ, nat_lt, ◌==◌, List, [], ◌∷◌, ◌++◌, Option, Some, None}
-use Rattle.wasm_spec.specs.Values.{u32_at, s33_index_at, not_negative}
-use Rattle.wasm_spec.specs.BinaryTypes.{val_at}
-use Rattle.wasm_spec.proofs.Front.{Reads, reads_none, reads_here, reads_value, reads_behind, reads_weaken, reads_if, reads_map, reads_then, reads_list, signed-reads, heap-reads, val-reads}
+use Rattle.wasm_operators_plain.specs.WasmSpec.Values.{u32_at, s33_index_at, not_negative}
+use Rattle.wasm_operators_plain.specs.WasmSpec.BinaryTypes.{val_at}
+use Rattle.wasm_operators_plain.proofs.WasmSpec.Front.{Reads, reads_none, reads_here, reads_value, reads_behind, reads_weaken, reads_if, reads_map, reads_then, reads_list, signed-reads, heap-reads, val-reads}
 use Rattle.wasm_operators_plain.specs.Numeric.{numeric_from, saturating_from}
 use Rattle.wasm_operators_plain.specs.Memories.{access_from}
 use Rattle.wasm_operators_plain.specs.Conversions.{conversion_from, shared_from}

@@ -1,7 +1,7 @@
 -- What reading of lists keeps.
 use Rattle.std.proofs.Common.{◌≡◌, refl, ap, ◌∙◌, ℕ, zero, suc, ◌-◌, ◌<◌, List, [], ◌∷◌, Option, Some, None, arith}
 use Rattle.std.specs.Option.{option_map, option_and_then}
-use Rattle.wasm_spec.specs.Values.{u32_at, many_at, list_at}
+use Rattle.wasm_operators_plain.specs.WasmSpec.Values.{u32_at, many_at, list_at}
 use Rattle.wasm_operators.specs.SeenLists.{begun_by, first_items, GivesFront, behind}
 
 -- what is read behind an item, with that item

@@ -1,7 +1,7 @@
 -- Reading with a renamed index map gives what reading gives, renamed.
 use Rattle.std.proofs.Common.{refl, ℕ, nat_lt, ◌==◌, List, Option, Some, None}
-use Rattle.wasm_spec.specs.Values.{byte_at, u32_at, s33_index_at, list_at}
-use Rattle.wasm_spec.proofs.Renaming.{Renames, renames_none, renames_some, renames_if, renames_then, renames_map, renames_same_then, renames_same_map, renames_list, heap-renames, val-renames}
+use Rattle.wasm_operators_plain.specs.WasmSpec.Values.{byte_at, u32_at, s33_index_at, list_at}
+use Rattle.wasm_operators_plain.proofs.WasmSpec.Renaming.{Renames, renames_none, renames_some, renames_if, renames_then, renames_map, renames_same_then, renames_same_map, renames_list, heap-renames, val-renames}
 use Rattle.wasm_operators_plain.specs.Numeric.{numeric_from, saturating_from}
 use Rattle.wasm_operators_plain.specs.Calls.{call_from}
 use Rattle.wasm_operators_plain.specs.Variables.{variable_from}

@@ -2,7 +2,7 @@
 -- with their bodies. A type index x in a type is read as what it stands for, `to x`.
 use Rattle.std.specs.Prelude.{ℕ, ◌==◌, nat_lt, if◌then◌else◌, List, Option, Some, None}
 use Rattle.std.specs.Option.{option_map, option_and_then}
-use Rattle.wasm_spec.specs.Values.{byte_at, u32_at}
+use Rattle.wasm_operators_plain.specs.WasmSpec.Values.{byte_at, u32_at}
 use Rattle.wasm_operators.specs.Control.{Control, Parametric, control_from, parametric_from}
 use Rattle.wasm_operators_plain.specs.Calls.{call_from}
 use Rattle.wasm_operators_plain.specs.Variables.{variable_from}

@@ -1,16 +1,4 @@
-pub use Rattle.wasm_operators_plain.specs.declared.arrays.ArrayOperator
-pub use Rattle.wasm_operators_plain.specs.declared.calls.CallOperator
-pub use Rattle.wasm_operators_plain.specs.declared.constants.ConstantOperator
-pub use Rattle.wasm_operators_plain.specs.declared.conversions.ConversionOperator
-pub use Rattle.wasm_operators_plain.specs.declared.memories.BulkMemoryOperator
-pub use Rattle.wasm_operators_plain.specs.declared.memories.MemArg
-pub use Rattle.wasm_operators_plain.specs.declared.memories.MemoryOperator
-pub use Rattle.wasm_operators_plain.specs.declared.structs.StructOperator
-pub use Rattle.wasm_operators_plain.specs.declared.tables.TableOperator
-pub use Rattle.wasm_operators_plain.specs.declared.variables.VariableOperator
-pub use Rattle.wasm_operators_plain.specs.Variables
-pub use Rattle.wasm_operators_plain.specs.Memories
-pub use Rattle.wasm_operators_plain.specs.Constants
+pub use Rattle.wasm_operators_plain.specs as WasmOperatorsPlain
 pub mod References
 pub mod SeenReferences
 pub mod SeenLists

@@ -2,9 +2,9 @@
 -- references. A type index x is read as what it stands for, `to x`.
 use Rattle.std.specs.Prelude.{ℕ, Bool, true, false, ◌==◌, if◌then◌else◌, List, Option, Some, None}
 use Rattle.std.specs.Option.{option_map, option_and_then}
-use Rattle.wasm_spec.specs.Syntax.{Heap, Ref}
-use Rattle.wasm_spec.specs.Values.{byte_at, u32_at}
-use Rattle.wasm_spec.specs.BinaryTypes.{heap_at}
+use Rattle.wasm_operators_plain.specs.WasmSpec.Syntax.{Heap, Ref}
+use Rattle.wasm_operators_plain.specs.WasmSpec.Values.{byte_at, u32_at}
+use Rattle.wasm_operators_plain.specs.WasmSpec.BinaryTypes.{heap_at}
 use Rattle.wasm_operators_plain.specs.Immediates.{alone, one_index}
 
 pub data Reference (R : Type 0) : Type 0 where

@@ -1,10 +1,10 @@
 -- What contracts see of control and parametric operators.
 use Rattle.std.specs.Prelude.{ℕ, List}
-use Rattle.wasm_spec.specs.Values.{u32_at}
-use Rattle.wasm_spec.specs.BinaryTypes.{val_at}
-use Rattle.wasm_readers.specs.Written.{written}
-use Rattle.wasm_readers_types.specs.SeenValues.{val_of}
-use Rattle.wasm_readers_types.specs.declared.indices.UnpackedIndex.{UnpackedIndex}
+use Rattle.wasm_operators_plain.specs.WasmSpec.Values.{u32_at}
+use Rattle.wasm_operators_plain.specs.WasmSpec.BinaryTypes.{val_at}
+use Rattle.wasm_operators_plain.specs.WasmReaders.Written.{written}
+use Rattle.wasm_operators_plain.specs.WasmReadersTypes.SeenValues.{val_of}
+use Rattle.wasm_operators_plain.specs.WasmReadersTypes.declared.indices.UnpackedIndex.{UnpackedIndex}
 use Rattle.wasm_operators.specs.Control as syntax
 use Rattle.wasm_operators.specs.Control.{Block, Control, Parametric, catch_at}
 use Rattle.wasm_operators.specs.SeenLists.{listed}

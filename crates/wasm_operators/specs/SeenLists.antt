@@ -1,6 +1,6 @@
 -- What contracts see of lists that are borrowed from the bytes.
 use Rattle.std.specs.Prelude.{◌≡◌, ℕ, zero, suc, List, [], ◌∷◌, Option, Some, None}
-use Rattle.wasm_readers.specs.Reader.{rest}
+use Rattle.wasm_operators_plain.specs.WasmReaders.WasmReadersBytes.Reader.{rest}
 use Rattle.wasm_operators.specs.declared.lists.Listed.{Listed}
 use Rattle.wasm_operators.specs.declared.lists.ListedItems.{ListedItems}
 

@@ -1,19 +1,19 @@
 //! Control operators, calls aside, and parametric operators.
 
 ghost use Rattle.std.specs.Prelude.{◌≡◌, ◌≤◌, ◌<◌, ◌+◌, Some, None, IfOk, IfErr, OnOk, OnErr};
-ghost use Rattle.wasm_spec.specs.Values.{list_at};
-ghost use Rattle.wasm_spec.specs.BinaryTypes.{val_at};
-ghost use Rattle.wasm_readers.specs.Reader.{SameInput, position_in, original, rest, RefusedFrom};
-ghost use Rattle.wasm_readers.specs.Written.{written};
+ghost use Rattle.wasm_operators_plain.specs.WasmSpec.Values.{list_at};
+ghost use Rattle.wasm_operators_plain.specs.WasmSpec.BinaryTypes.{val_at};
+ghost use Rattle.wasm_operators_plain.specs.WasmReaders.WasmReadersBytes.Reader.{SameInput, position_in, original, rest, RefusedFrom};
+ghost use Rattle.wasm_operators_plain.specs.WasmReaders.Written.{written};
 ghost use Rattle.wasm_operators_plain.specs.Refusals.{RefusedBetween};
 ghost use Rattle.wasm_operators.specs.Control.{block_at, catch_at, br_table_at, try_table_at, control_from, parametric_from};
 ghost use Rattle.wasm_operators.specs.SeenControl.{block_of, labels_of, catches_of, control_of, parametric_of};
 
 use crate::lists::{Immediate, Listed, read_listed};
-use wasm_readers::BinaryReader;
-use wasm_readers::types::read_val_type;
-use wasm_readers_errors::{Fault, Malformed, Refusal};
-use wasm_readers_types::ValType;
+use wasm_operators_plain::readers::BinaryReader;
+use wasm_operators_plain::readers::types::read_val_type;
+use wasm_operators_plain::readers_errors::{Fault, Malformed, Refusal};
+use wasm_operators_plain::readers_types::ValType;
 
 /// The type of a block (Core Specification 3.0, Binary Format, Instructions, Control Instructions).
 #[derive(Clone, Copy, PartialEq, Eq, Debug)]
@@ -136,9 +136,9 @@ impl<'a> Immediate<'a> for Catch {
 }
 
 impl<'a> Immediate<'a> for ValType {
-    ghost use Rattle.wasm_spec.specs.Syntax.{Val};
-    ghost use Rattle.wasm_readers_types.specs.SeenValues.{val_of};
-    ghost use Rattle.wasm_readers_types.specs.declared.indices.UnpackedIndex.{UnpackedIndex};
+    ghost use Rattle.wasm_operators_plain.specs.WasmSpec.Syntax.{Val};
+    ghost use Rattle.wasm_operators_plain.specs.WasmReadersTypes.SeenValues.{val_of};
+    ghost use Rattle.wasm_operators_plain.specs.WasmReadersTypes.declared.indices.UnpackedIndex.{UnpackedIndex};
 
     ghost Value = { Val UnpackedIndex };
 

@@ -1,8 +1,8 @@
 //! The operators that bodies are mostly made of, without refusals.
 
 ghost use Rattle.std.specs.Prelude.{◌≡◌, ◌≤◌, ◌<◌, Some, None, IfSome, OnSome};
-ghost use Rattle.wasm_readers.specs.Reader.{SameInput, position_in, rest};
-ghost use Rattle.wasm_readers.specs.Written.{written};
+ghost use Rattle.wasm_operators_plain.specs.WasmReaders.WasmReadersBytes.Reader.{SameInput, position_in, rest};
+ghost use Rattle.wasm_operators_plain.specs.WasmReaders.Written.{written};
 ghost use Rattle.wasm_operators_plain.specs.Memories.{memarg_at};
 ghost use Rattle.wasm_operators.specs.Control.{block_at};
 ghost use Rattle.wasm_operators.specs.Instructions.{plain_from, instruction_at};
@@ -11,12 +11,12 @@ ghost use Rattle.wasm_operators.specs.SeenOperators.{operator_of};
 
 use crate::control::{BlockType, ControlOperator, ParametricOperator};
 use crate::operators::Operator;
+use wasm_operators_plain::readers::BinaryReader;
+use wasm_operators_plain::readers_types::ValType;
 use wasm_operators_plain::{
     CallOperator, ConstantOperator, MemArg, VariableOperator, access_from_opcode,
     numeric_from_opcode,
 };
-use wasm_readers::BinaryReader;
-use wasm_readers_types::ValType;
 
 /// The memory argument that is next, if it is there and of the first memory.
 #[inline(always)]
@@ -61,7 +61,7 @@ fn next_by_table<'a>(reader: &mut BinaryReader<'a>, opcode: u8) -> Option<Operat
 
 /// The block type that is next, if it is there and has no value or one of a number.
 #[inline(always)]
-#[tactic(auto, unfolding(crate::specs::Control::block_at, wasm_spec::specs::BinaryTypes::val_at))]
+#[tactic(auto, unfolding(crate::specs::Control::block_at, crate::proofs::Cited::val_at))]
 fn next_block_type(reader: &mut BinaryReader) -> Option<BlockType>
     ensures same { SameInput reader.old reader.new }
     ensures onward { position_in reader.old ≤ position_in reader.new }

@@ -1,7 +1,7 @@
 //! Laws of the definitions.
 
 ghost use Rattle.std.specs.Prelude.{ℕ};
-ghost use Rattle.wasm_spec.specs.Laws.{ReadingRenames, ReadingGoesOn, ReadingIgnoresWhatFollows};
+ghost use Rattle.wasm_operators_plain.specs.WasmSpec.Laws.{ReadingRenames, ReadingGoesOn, ReadingIgnoresWhatFollows};
 ghost use Rattle.wasm_operators.specs.Instructions.{instruction_at};
 ghost use Rattle.wasm_operators.specs.Expressions.{expression_at};
 ghost use Rattle.wasm_operators.specs.Maps.{map_instruction};

@@ -22,3 +22,12 @@ pub use wasm_operators_plain::{
     Ieee64, MemArg, MemoryOperator, NumericOperator, SaturatingOperator, StructOperator,
     TableOperator, V128, VariableOperator, max_align, read_memarg,
 };
+
+/// Passed on from `wasm_operators_plain`.
+pub mod operators_plain {
+    pub use wasm_operators_plain::{
+        ArrayOperator, BulkMemoryOperator, CallOperator, ConversionOperator, NumberType,
+        NumericOperator, Signature, StructOperator, TableOperator, VariableOperator, max_align,
+        numeric_signature, saturating_signature,
+    };
+}

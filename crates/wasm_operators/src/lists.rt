@@ -1,13 +1,13 @@
 //! Lists of immediates that are borrowed from the bytes.
 
 ghost use Rattle.std.specs.Prelude.{◌≡◌, ◌≤◌, ◌<◌, ℕ, List, Option, Some, None, IfOk, IfErr, OnOk, OnErr, length};
-ghost use Rattle.wasm_spec.specs.Values.{list_at, many_at, u32_at};
-ghost use Rattle.wasm_readers.specs.Reader.{SameInput, position_in, rest, RefusedFrom};
+ghost use Rattle.wasm_operators_plain.specs.WasmSpec.Values.{list_at, many_at, u32_at};
+ghost use Rattle.wasm_operators_plain.specs.WasmReaders.WasmReadersBytes.Reader.{SameInput, position_in, rest, RefusedFrom};
 ghost use Rattle.wasm_operators.specs.SeenLists.{listed, items_left, behind};
 
 use std::marker::PhantomData;
-use wasm_readers::BinaryReader;
-use wasm_readers_errors::Refusal;
+use wasm_operators_plain::readers::BinaryReader;
+use wasm_operators_plain::readers_errors::Refusal;
 
 /// What a borrowed list may hold.
 pub trait Immediate<'a>: Sized + Copy {

@@ -1,8 +1,8 @@
 //! Operators and their reading.
 
 ghost use Rattle.std.specs.Prelude.{◌≡◌, ◌≤◌, ◌<◌, ◌+◌, Some, None, IfOk, IfErr, OnOk, OnErr};
-ghost use Rattle.wasm_readers.specs.Reader.{SameInput, position_in, original, rest, RefusedFrom};
-ghost use Rattle.wasm_readers.specs.Written.{written};
+ghost use Rattle.wasm_operators_plain.specs.WasmReaders.WasmReadersBytes.Reader.{SameInput, position_in, original, rest, RefusedFrom};
+ghost use Rattle.wasm_operators_plain.specs.WasmReaders.Written.{written};
 ghost use Rattle.wasm_operators_plain.specs.Refusals.{RefusedBetween};
 ghost use Rattle.wasm_operators.specs.Instructions.{aggregate_from, bulk_from, prefixed_from, plain_from, instruction_at};
 ghost use Rattle.wasm_operators.specs.SeenOperators.{operator_of};
@@ -10,6 +10,8 @@ ghost use Rattle.wasm_operators.specs.SeenOperators.{operator_of};
 use crate::control::{ControlOperator, ParametricOperator, read_control, read_parametric};
 use crate::frequent::next_frequent;
 use crate::references::{CastOperator, ReferenceOperator, read_cast, read_reference};
+use wasm_operators_plain::readers::BinaryReader;
+use wasm_operators_plain::readers_errors::{Fault, Malformed, Refusal};
 use wasm_operators_plain::{
     ArrayOperator, BulkMemoryOperator, CallOperator, ConstantOperator, ConversionOperator, MemArg,
     MemoryOperator, NumericOperator, SaturatingOperator, StructOperator, TableOperator,
@@ -17,8 +19,6 @@ use wasm_operators_plain::{
     read_call, read_constant, read_memarg, read_memory, read_memory_size, read_struct, read_table,
     read_table_access, read_variable, read_vector, saturating_from_code, shared_from_code,
 };
-use wasm_readers::BinaryReader;
-use wasm_readers_errors::{Fault, Malformed, Refusal};
 
 /// An operator, by its family (Core Specification 3.0, Binary Format, Instructions).
 #[derive(Clone, Copy, Debug)]

@@ -1,18 +1,18 @@
 //! Operators on references, and casts.
 
 ghost use Rattle.std.specs.Prelude.{◌≡◌, ◌≤◌, ◌+◌, Some, None, IfOk, IfErr, OnErr};
-ghost use Rattle.wasm_readers.specs.Reader.{SameInput, position_in, original, rest, RefusedFrom};
-ghost use Rattle.wasm_readers.specs.Written.{written};
-ghost use Rattle.wasm_spec.specs.BinaryTypes.{heap_at};
-ghost use Rattle.wasm_readers_types.specs.SeenValues.{ref_of};
+ghost use Rattle.wasm_operators_plain.specs.WasmReaders.WasmReadersBytes.Reader.{SameInput, position_in, original, rest, RefusedFrom};
+ghost use Rattle.wasm_operators_plain.specs.WasmReaders.Written.{written};
+ghost use Rattle.wasm_operators_plain.specs.WasmSpec.BinaryTypes.{heap_at};
+ghost use Rattle.wasm_operators_plain.specs.WasmReadersTypes.SeenValues.{ref_of};
 ghost use Rattle.wasm_operators_plain.specs.Refusals.{RefusedBetween};
 ghost use Rattle.wasm_operators.specs.References.{cast_flags_at, branch_at, reference_from, cast_from};
 ghost use Rattle.wasm_operators.specs.SeenReferences.{reference_of, cast_of};
 
-use wasm_readers::BinaryReader;
-use wasm_readers::types::read_heap_type;
-use wasm_readers_errors::{Fault, Malformed, Refusal};
-use wasm_readers_types::{HeapType, RefType};
+use wasm_operators_plain::readers::BinaryReader;
+use wasm_operators_plain::readers::types::read_heap_type;
+use wasm_operators_plain::readers_errors::{Fault, Malformed, Refusal};
+use wasm_operators_plain::readers_types::{HeapType, RefType};
 
 /// Operators on references (Core Specification 3.0, Binary Format, Instructions, Reference
 /// Instructions), with the branches on null.

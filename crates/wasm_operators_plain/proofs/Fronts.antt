@@ -1,8 +1,8 @@
 -- What an instruction of these families is read from stands at the front of the bytes: what is left is a rest of them, and bytes
 -- behind them change only that.
 use Rattle.std.proofs.Common.{ℕ, zero, suc, ◌-◌, nat_lt, ◌==◌, List, [], ◌∷◌, ◌++◌}
-use Rattle.wasm_spec.specs.Values.{u32_at, u64_at}
-use Rattle.wasm_spec.proofs.Front.{Reads, reads_none, reads_here, reads_behind, reads_weaken, reads_if, reads_map, reads_then, unsigned-reads, signed-reads}
+use Rattle.wasm_readers.specs.WasmSpec.Values.{u32_at, u64_at}
+use Rattle.wasm_readers.proofs.WasmSpec.Front.{Reads, reads_none, reads_here, reads_behind, reads_weaken, reads_if, reads_map, reads_then, unsigned-reads, signed-reads}
 use Rattle.wasm_operators_plain.specs.Immediates.{one_index, two_indices}
 use Rattle.wasm_operators_plain.specs.Calls.{call_from}
 use Rattle.wasm_operators_plain.specs.Variables.{variable_from}

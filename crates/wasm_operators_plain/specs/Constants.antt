@@ -1,7 +1,7 @@
 -- Core Specification 3.0, Binary Format, Instructions: the constants of numeric and vector instructions.
 use Rattle.std.specs.Prelude.{ℕ, zero, suc, ◌+◌, ◌*◌, ◌^◌, ◌==◌, if◌then◌else◌, List, [], ◌∷◌, Option, Some, None}
 use Rattle.std.specs.Option.{option_map, option_and_then}
-use Rattle.wasm_spec.specs.Values.{signed_at}
+use Rattle.wasm_readers.specs.WasmSpec.Values.{signed_at}
 use Rattle.wasm_operators_plain.specs.declared.constants.V128.{V128}
 use Rattle.wasm_operators_plain.specs.declared.constants.ConstantOperator.{ConstantOperator}
 use Rattle.wasm_operators_plain.specs.declared.constants.ConstantOperator.TheVariants.{I32Const, I64Const, F32Const, F64Const, V128Const}

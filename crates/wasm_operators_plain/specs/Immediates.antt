@@ -1,7 +1,7 @@
 -- What may follow the opcode of an operator. Core Specification 3.0, Binary Format, Instructions.
 use Rattle.std.specs.Prelude.{ℕ, List, Option, Some}
 use Rattle.std.specs.Option.{option_map, option_and_then}
-use Rattle.wasm_spec.specs.Values.{u32_at}
+use Rattle.wasm_readers.specs.WasmSpec.Values.{u32_at}
 
 -- nothing
 abbrev pub alone : {X : Type 0} → X → List ℕ → Option (X × List ℕ)

@@ -1,3 +1,6 @@
+pub use Rattle.wasm_readers.specs.WasmSpec as WasmSpec
+pub use Rattle.wasm_readers.specs.WasmReadersTypes as WasmReadersTypes
+pub use Rattle.wasm_readers.specs as WasmReaders
 pub mod Opcodes
 pub mod Numeric
 pub mod Signatures

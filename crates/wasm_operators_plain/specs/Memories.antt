@@ -1,7 +1,7 @@
 -- Core Specification 3.0, Binary Format, Instructions, Memory Instructions.
 use Rattle.std.specs.Prelude.{ℕ, ◌-◌, ◌==◌, nat_lt, if◌then◌else◌, List, [], ◌∷◌, Option, None}
 use Rattle.std.specs.Option.{option_map, option_and_then}
-use Rattle.wasm_spec.specs.Values.{u32_at, u64_at}
+use Rattle.wasm_readers.specs.WasmSpec.Values.{u32_at, u64_at}
 use Rattle.wasm_operators_plain.specs.Opcodes.{counted_from}
 use Rattle.wasm_operators_plain.specs.Immediates.{one_index, two_indices}
 use Rattle.wasm_operators_plain.specs.declared.memories.MemoryOperator.{MemoryOperator}

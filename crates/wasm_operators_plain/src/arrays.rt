@@ -1,12 +1,12 @@
 //! Operators on arrays.
 
 ghost use Rattle.std.specs.Prelude.{◌≡◌, ◌≤◌, ◌+◌, Some, None, IfOk, IfErr, OnErr};
-ghost use Rattle.wasm_readers.specs.Reader.{SameInput, position_in, original, rest};
+ghost use Rattle.wasm_readers.specs.WasmReadersBytes.Reader.{SameInput, position_in, original, rest};
 ghost use Rattle.wasm_operators_plain.specs.Refusals.{RefusedBetween};
 ghost use Rattle.wasm_operators_plain.specs.Arrays.{array_from};
 
 use wasm_readers::BinaryReader;
-use wasm_readers_errors::{Fault, Malformed, Refusal};
+use wasm_readers::readers_errors::{Fault, Malformed, Refusal};
 
 /// Operators on arrays (Core Specification 3.0, Binary Format, Instructions, Aggregate
 /// Instructions).

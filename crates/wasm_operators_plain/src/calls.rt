@@ -1,12 +1,12 @@
 //! Calls and tail calls.
 
 ghost use Rattle.std.specs.Prelude.{◌≡◌, ◌≤◌, ◌+◌, Some, None, IfOk, IfErr, OnErr};
-ghost use Rattle.wasm_readers.specs.Reader.{SameInput, position_in, original, rest};
+ghost use Rattle.wasm_readers.specs.WasmReadersBytes.Reader.{SameInput, position_in, original, rest};
 ghost use Rattle.wasm_operators_plain.specs.Refusals.{RefusedBetween};
 ghost use Rattle.wasm_operators_plain.specs.Calls.{call_from};
 
 use wasm_readers::BinaryReader;
-use wasm_readers_errors::{Fault, Malformed, Refusal};
+use wasm_readers::readers_errors::{Fault, Malformed, Refusal};
 
 /// Calls and tail calls (Core Specification 3.0, Binary Format, Instructions, Control
 /// Instructions).

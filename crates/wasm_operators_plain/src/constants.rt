@@ -1,12 +1,12 @@
 //! Constants.
 
 ghost use Rattle.std.specs.Prelude.{◌≡◌, ◌≤◌, ◌<◌, ◌+◌, Some, None, IfOk, IfErr, OnErr};
-ghost use Rattle.wasm_readers.specs.Reader.{SameInput, position_in, original, rest, RefusedFrom};
+ghost use Rattle.wasm_readers.specs.WasmReadersBytes.Reader.{SameInput, position_in, original, rest, RefusedFrom};
 ghost use Rattle.wasm_operators_plain.specs.Refusals.{RefusedBetween};
 ghost use Rattle.wasm_operators_plain.specs.Constants.{bits_32_at, bits_64_at, bits_128_at, constant_from, vector_from};
 
 use wasm_readers::BinaryReader;
-use wasm_readers_errors::{Fault, Malformed, Refusal};
+use wasm_readers::readers_errors::{Fault, Malformed, Refusal};
 
 /// A floating-point number of 32 bits, as its bits.
 #[derive(Clone, Copy, PartialEq, Eq, Debug)]

@@ -46,3 +46,20 @@ pub fn laws()
 pub fn accesses_are_a_table()
     ensures { IsTableOf access_opcode access_from }
 {}
+
+/// Passed on from `wasm_readers_types`.
+pub mod readers_types {
+    pub use wasm_readers::readers_types::{
+        AbstractHeapType, CoreTypeId, HeapType, RefType, UnpackedIndex, ValType,
+    };
+}
+
+/// Passed on from `wasm_readers_errors`.
+pub mod readers_errors {
+    pub use wasm_readers::readers_errors::{Fault, Malformed, Refusal, WasmFeatures};
+}
+
+/// Passed on from `wasm_readers`.
+pub mod readers {
+    pub use wasm_readers::{BinaryReader, types};
+}

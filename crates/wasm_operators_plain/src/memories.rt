@@ -1,13 +1,13 @@
 //! Operators on memories.
 
 ghost use Rattle.std.specs.Prelude.{◌≡◌, ◌≢◌, ◌≤◌, ◌<◌, ◌+◌, Some, None, IfSome, IfNone, IfOk, IfErr, OnOk, OnErr};
-ghost use Rattle.wasm_readers.specs.Reader.{SameInput, position_in, original, rest, RefusedFrom};
+ghost use Rattle.wasm_readers.specs.WasmReadersBytes.Reader.{SameInput, position_in, original, rest, RefusedFrom};
 ghost use Rattle.wasm_operators_plain.specs.Refusals.{RefusedBetween};
 ghost use Rattle.wasm_operators_plain.specs.Memories.{max_align_of, access_opcode, access_from, memarg_at, memory_size_from, memory_from};
 ghost use Rattle.wasm_operators_plain.specs.declared.memories.MemoryOperator.{MemoryOperator};
 
 use wasm_readers::BinaryReader;
-use wasm_readers_errors::{Fault, Malformed, Refusal};
+use wasm_readers::readers_errors::{Fault, Malformed, Refusal};
 
 /// The loads and stores (Core Specification 3.0, Binary Format, Instructions, Memory Instructions).
 #[derive(Clone, Copy, PartialEq, Eq, Debug)]

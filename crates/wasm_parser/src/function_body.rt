@@ -1,5 +1,5 @@
 ghost use Rattle.std.specs.Prelude.{◌≡◌, ◌+◌, length};
-ghost use Rattle.wasm_readers_bytes.specs.Reader.{input, position_in, original, rest};
+ghost use Rattle.wasm_readers.specs.WasmReadersBytes.Reader.{input, position_in, original, rest};
 ghost use Rattle.wasm_parser.specs.Seen.{body_of, body_reader};
 
 use std::ops::Range;

@@ -1,7 +1,7 @@
 -- What loops over items keep.
 use Rattle.std.proofs.Common.{◌≡◌, refl, ℕ, zero, suc, ◌-◌, ◌<◌, List, [], ◌∷◌, ◌++◌, map, Option, Some, None, append_assoc, arith}
 use Rattle.std.specs.Option.{option_map}
-use Rattle.wasm_spec.specs.Values.{many_at}
+use Rattle.wasm_readers_bytes.specs.WasmSpec.Values.{many_at}
 
 -- what was read before, and what is still read
 abbrev pub with_front : {V : Type 0} → List V → Option (List V × List ℕ) → Option (List V × List ℕ)

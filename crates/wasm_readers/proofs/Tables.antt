@@ -1,11 +1,11 @@
 -- A table is its head and what is behind it.
 use Rattle.std.proofs.Common.{◌≡◌, refl, ℕ, Bool, true, false, cond, eqb, List, Option, Some, None}
 use Rattle.std.specs.Option.{option_map, option_and_then}
-use Rattle.wasm_spec.specs.Syntax.{Table}
-use Rattle.wasm_spec.specs.Values.{byte_at}
-use Rattle.wasm_spec.specs.BinaryTypes.{flags_at, table_at}
-use Rattle.wasm_spec.specs.BinarySections.{TableEntry, table_from, table_entry_at}
-use Rattle.wasm_readers_types.specs.declared.indices.UnpackedIndex.{UnpackedIndex}
+use Rattle.wasm_readers_bytes.specs.WasmSpec.Syntax.{Table}
+use Rattle.wasm_readers_bytes.specs.WasmSpec.Values.{byte_at}
+use Rattle.wasm_readers_bytes.specs.WasmSpec.BinaryTypes.{flags_at, table_at}
+use Rattle.wasm_readers_bytes.specs.WasmSpec.BinarySections.{TableEntry, table_from, table_entry_at}
+use Rattle.wasm_readers_bytes.specs.WasmReadersTypes.declared.indices.UnpackedIndex.{UnpackedIndex}
 use Rattle.wasm_readers.specs.Written.{written}
 use Rattle.wasm_readers.specs.Tables.{ExpressionReading, Head, head_with, table_head_from, table_head_at, table_behind, TableHeadsBeginTables}
 

@@ -1,5 +1,7 @@
-pub use Rattle.wasm_readers_bytes.specs.Reader
-pub use Rattle.wasm_readers_bytes.specs.declared.binary_reader.BinaryReader
+pub use Rattle.wasm_readers_bytes.specs.WasmSpec as WasmSpec
+pub use Rattle.wasm_readers_bytes.specs.WasmReadersTypes as WasmReadersTypes
+pub use Rattle.wasm_readers_bytes.specs.WasmReadersErrors as WasmReadersErrors
+pub use Rattle.wasm_readers_bytes.specs as WasmReadersBytes
 pub mod Refusals
 pub mod Sections
 pub mod SectionsSeen

@@ -1,5 +1,5 @@
 -- What contracts see of flags and limits.
-use Rattle.wasm_spec.specs.BinaryTypes as binary
+use Rattle.wasm_readers_bytes.specs.WasmSpec.BinaryTypes as binary
 use Rattle.wasm_readers.specs.declared.externs.Limits.{Limits}
 
 abbrev pub limits_of : Limits → binary.Limits

@@ -2,10 +2,10 @@
 use Rattle.std.specs.Prelude.{ℕ, ◌≡◌, ⊤}
 use Rattle.wasm_readers_bytes.specs.Reader.{rest, RefusedFrom, unsigned_fault}
 use Rattle.wasm_readers_bytes.specs.declared.binary_reader.BinaryReader.{BinaryReader}
-use Rattle.wasm_readers_errors.specs.declared.error.Fault.TheVariants.{Malformed}
-use Rattle.wasm_readers_errors.specs.declared.error.Refusal.{Refusal}
-use Rattle.wasm_readers_errors.specs.declared.error.Error.{Error}
-use Rattle.wasm_readers_errors.specs.declared.error.Error.TheVariants.{Refused, OutOfMemory}
+use Rattle.wasm_readers_bytes.specs.WasmReadersErrors.declared.error.Fault.TheVariants.{Malformed}
+use Rattle.wasm_readers_bytes.specs.WasmReadersErrors.declared.error.Refusal.{Refusal}
+use Rattle.wasm_readers_bytes.specs.WasmReadersErrors.declared.error.Error.{Error}
+use Rattle.wasm_readers_bytes.specs.WasmReadersErrors.declared.error.Error.TheVariants.{Refused, OutOfMemory}
 
 -- which refusals a reader may tell from where it stands
 abbrev pub Telling : Type 1

@@ -3,8 +3,8 @@ use Rattle.std.specs.Prelude.{ℕ, zero, suc, ◌≡◌, ◌==◌, if◌then◌e
 use Rattle.std.specs.Option.{option_map}
 use Rattle.std.specs.declared.result.Result.{Result}
 use Rattle.std.specs.declared.result.Result.TheVariants.{Ok, Err}
-use Rattle.wasm_readers_errors.specs.declared.error.Error.{Error}
-use Rattle.wasm_readers_errors.specs.declared.error.Error.TheVariants.{Refused, OutOfMemory}
+use Rattle.wasm_readers_bytes.specs.WasmReadersErrors.declared.error.Error.{Error}
+use Rattle.wasm_readers_bytes.specs.WasmReadersErrors.declared.error.Error.TheVariants.{Refused, OutOfMemory}
 
 -- Nothing where the bytes are refused, and else the next item, if it is not the end.
 abbrev pub next_item : {V : Type 0} → (List ℕ → Option (V × List ℕ)) → ℕ → List ℕ → Option (Option (V × (ℕ × List ℕ)))

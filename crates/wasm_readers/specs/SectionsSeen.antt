@@ -6,12 +6,12 @@ use Rattle.wasm_readers.specs.declared.section_limited.SectionLimited.{SectionLi
 use Rattle.wasm_readers.specs.declared.section_limited.SectionItems.{SectionItems}
 use Rattle.wasm_readers_bytes.specs.Reader.{input, position_in, original, rest, SameInput, FailedFrom}
 use Rattle.wasm_readers_bytes.specs.declared.binary_reader.BinaryReader.{BinaryReader}
-use Rattle.wasm_readers_errors.specs.declared.error.Error.{Error}
-use Rattle.wasm_readers_errors.specs.declared.error.Error.TheVariants.{Refused}
-use Rattle.wasm_readers_errors.specs.declared.error.Fault.TheVariants.{Malformed}
-use Rattle.wasm_readers_errors.specs.declared.error.Malformed.TheVariants.{SectionSize}
-use Rattle.wasm_readers_errors.specs.declared.error.Refusal.{Refusal}
-use Rattle.wasm_readers_errors.specs.Refusals.{plain}
+use Rattle.wasm_readers_bytes.specs.WasmReadersErrors.declared.error.Error.{Error}
+use Rattle.wasm_readers_bytes.specs.WasmReadersErrors.declared.error.Error.TheVariants.{Refused}
+use Rattle.wasm_readers_bytes.specs.WasmReadersErrors.declared.error.Fault.TheVariants.{Malformed}
+use Rattle.wasm_readers_bytes.specs.WasmReadersErrors.declared.error.Malformed.TheVariants.{SectionSize}
+use Rattle.wasm_readers_bytes.specs.WasmReadersErrors.declared.error.Refusal.{Refusal}
+use Rattle.wasm_readers_bytes.specs.WasmReadersErrors.Refusals.{plain}
 use Rattle.wasm_readers.specs.Refusals.{Telling, Tells}
 
 -- the number of items that a section says it has

@@ -2,12 +2,12 @@
 -- Modules, Table Section.
 use Rattle.std.specs.Prelude.{ℕ, ◌≡◌, ◌==◌, if◌then◌else◌, Bool, true, false, List, Option, Some, None}
 use Rattle.std.specs.Option.{option_map, option_and_then}
-use Rattle.wasm_spec.specs.Syntax.{Table}
-use Rattle.wasm_spec.specs.Values.{byte_at}
-use Rattle.wasm_spec.specs.BinaryTypes.{flags_at, table_at}
-use Rattle.wasm_spec.specs.BinarySections.{TableEntry, table_entry_at}
-use Rattle.wasm_readers_types.specs.SeenExterns.{table_of}
-use Rattle.wasm_readers_types.specs.declared.indices.UnpackedIndex.{UnpackedIndex}
+use Rattle.wasm_readers_bytes.specs.WasmSpec.Syntax.{Table}
+use Rattle.wasm_readers_bytes.specs.WasmSpec.Values.{byte_at}
+use Rattle.wasm_readers_bytes.specs.WasmSpec.BinaryTypes.{flags_at, table_at}
+use Rattle.wasm_readers_bytes.specs.WasmSpec.BinarySections.{TableEntry, table_entry_at}
+use Rattle.wasm_readers_bytes.specs.WasmReadersTypes.SeenExterns.{table_of}
+use Rattle.wasm_readers_bytes.specs.WasmReadersTypes.declared.indices.UnpackedIndex.{UnpackedIndex}
 use Rattle.wasm_readers.specs.Written.{written}
 use Rattle.wasm_readers.specs.declared.items.TableHead.{TableHead}
 

@@ -1,22 +1,22 @@
 //! Reading of defined types: composite types, sub types and recursion groups.
 
 ghost use Rattle.std.specs.Prelude.{◌≡◌, ◌≤◌, ◌<◌, OnOk, OnErr, IfOk, Some, None, map, IfErr};
-ghost use Rattle.wasm_spec.specs.Values.{list_at};
-ghost use Rattle.wasm_spec.specs.BinaryTypes.{index_at, func_at, comp_at, marked_at, marked_index_at, field_at, final_or_not, sub_at, rec_at};
+ghost use Rattle.wasm_readers_bytes.specs.WasmSpec.Values.{list_at};
+ghost use Rattle.wasm_readers_bytes.specs.WasmSpec.BinaryTypes.{index_at, func_at, comp_at, marked_at, marked_index_at, field_at, final_or_not, sub_at, rec_at};
 ghost use Rattle.wasm_readers_bytes.specs.Reader.{input, SameInput, position_in, rest, RefusedFrom, FailedFrom};
-ghost use Rattle.wasm_readers_errors.specs.Errors.{Reads};
+ghost use Rattle.wasm_readers_bytes.specs.WasmReadersErrors.Errors.{Reads};
 ghost use Rattle.wasm_readers.specs.Written.{written};
-ghost use Rattle.wasm_readers_types.specs.SeenTypes.{func_of, comp_of, sub_of, rec_of};
+ghost use Rattle.wasm_readers_bytes.specs.WasmReadersTypes.SeenTypes.{func_of, comp_of, sub_of, rec_of};
 ghost use Rattle.std.specs.Option.{option_map};
-ghost use Rattle.wasm_readers_types.specs.SeenValues.{index_of, field_of};
+ghost use Rattle.wasm_readers_bytes.specs.WasmReadersTypes.SeenValues.{index_of, field_of};
 
 use crate::lists::read_list;
 use crate::section_limited::FromReader;
 use crate::types::read_field_type;
 use std::alloc::Allocator;
 use wasm_readers_bytes::BinaryReader;
-use wasm_readers_errors::{Error, Fault, Malformed, Refusal};
-use wasm_readers_types::{
+use wasm_readers_bytes::readers_errors::{Error, Fault, Malformed, Refusal};
+use wasm_readers_bytes::readers_types::{
     ArrayType, CompositeInnerType, CompositeType, ContType, FieldType, FuncType, Items,
     PackedIndex, RecGroup, StructType, SubType, ValType,
 };
@@ -61,7 +61,7 @@ fn read_mark(reader: &mut BinaryReader<'_>, mark: u8) -> bool
 }
 
 /// A type index behind this mark, where the mark stands.
-#[tactic(auto, unfolding(wasm_spec::specs::BinaryTypes::marked_index_at))]
+#[tactic(auto, unfolding(crate::proofs::Cited::marked_index_at))]
 fn read_marked_index(
     reader: &mut BinaryReader<'_>,
     mark: u8,
@@ -81,7 +81,7 @@ fn read_marked_index(
 }
 
 impl<'a, A: Allocator> FromReader<'a, A> for PackedIndex {
-    ghost use Rattle.wasm_readers_types.specs.declared.indices.UnpackedIndex.{UnpackedIndex};
+    ghost use Rattle.wasm_readers_bytes.specs.WasmReadersTypes.declared.indices.UnpackedIndex.{UnpackedIndex};
 
     ghost Value = { UnpackedIndex };
 
@@ -97,7 +97,7 @@ impl<'a, A: Allocator> FromReader<'a, A> for PackedIndex {
 }
 
 /// A function type, behind its byte.
-#[tactic(auto, unfolding(wasm_spec::specs::BinaryTypes::func_at))]
+#[tactic(auto, unfolding(crate::proofs::Cited::func_at))]
 fn read_func_type<'a, A: Allocator + Copy>(
     alloc: A,
     reader: &mut BinaryReader<'a>,
@@ -130,7 +130,7 @@ fn read_struct_type<'a, A: Allocator + Copy>(
 }
 
 /// A composite type without what stands before it.
-#[tactic(auto, unfolding(wasm_spec::specs::BinaryTypes::comp_at))]
+#[tactic(auto, unfolding(crate::proofs::Cited::comp_at))]
 fn read_composite_inner_type<'a, A: Allocator + Copy>(
     alloc: A,
     reader: &mut BinaryReader<'a>,
@@ -151,7 +151,7 @@ fn read_composite_inner_type<'a, A: Allocator + Copy>(
 }
 
 /// A composite type behind its marks, as a sub type of these supertypes.
-#[tactic(auto, unfolding(wasm_spec::specs::BinaryTypes::final_or_not))]
+#[tactic(auto, unfolding(crate::proofs::Cited::final_or_not))]
 fn read_final_or_not<'a, A: Allocator + Copy>(
     alloc: A,
     is_final: bool,
@@ -181,8 +181,8 @@ fn read_final_or_not<'a, A: Allocator + Copy>(
 }
 
 impl<'a, A: Allocator + Copy> FromReader<'a, A> for SubType<A> {
-    ghost use Rattle.wasm_spec.specs.Syntax.{Sub};
-    ghost use Rattle.wasm_readers_types.specs.declared.indices.UnpackedIndex.{UnpackedIndex};
+    ghost use Rattle.wasm_readers_bytes.specs.WasmSpec.Syntax.{Sub};
+    ghost use Rattle.wasm_readers_bytes.specs.WasmReadersTypes.declared.indices.UnpackedIndex.{UnpackedIndex};
 
     ghost Value = { Sub UnpackedIndex };
 
@@ -192,7 +192,7 @@ impl<'a, A: Allocator + Copy> FromReader<'a, A> for SubType<A> {
 
     ghost refuses = { RefusedFrom };
 
-    #[tactic(auto, unfolding(wasm_spec::specs::BinaryTypes::sub_at))]
+    #[tactic(auto, unfolding(crate::proofs::Cited::sub_at))]
     fn from_reader(alloc: A, reader: &mut BinaryReader<'a>) -> Result<SubType<A>, Error> {
         let start = *reader;
         match reader.read_u8()? {
@@ -213,8 +213,8 @@ impl<'a, A: Allocator + Copy> FromReader<'a, A> for SubType<A> {
 }
 
 impl<'a, A: Allocator + Copy> FromReader<'a, A> for RecGroup<A> {
-    ghost use Rattle.wasm_spec.specs.Syntax.{Rec};
-    ghost use Rattle.wasm_readers_types.specs.declared.indices.UnpackedIndex.{UnpackedIndex};
+    ghost use Rattle.wasm_readers_bytes.specs.WasmSpec.Syntax.{Rec};
+    ghost use Rattle.wasm_readers_bytes.specs.WasmReadersTypes.declared.indices.UnpackedIndex.{UnpackedIndex};
 
     ghost Value = { Rec UnpackedIndex };
 
@@ -224,7 +224,7 @@ impl<'a, A: Allocator + Copy> FromReader<'a, A> for RecGroup<A> {
 
     ghost refuses = { RefusedFrom };
 
-    #[tactic(auto, unfolding(wasm_spec::specs::BinaryTypes::rec_at))]
+    #[tactic(auto, unfolding(crate::proofs::Cited::rec_at))]
     fn from_reader(alloc: A, reader: &mut BinaryReader<'a>) -> Result<RecGroup<A>, Error> {
         let start = *reader;
         if reader.read_u8()? == 0x4e {

@@ -1,22 +1,22 @@
 //! Reading of the types of tables, memories, globals and tags, and of imports and exports.
 
 ghost use Rattle.std.specs.Prelude.{◌≡◌, ◌≤◌, ◌<◌, OnOk, OnErr, IfOk, Some, None, IfErr};
-ghost use Rattle.wasm_spec.specs.BinaryTypes.{flags_at, limits_at, number_if, page_size_if, table_at, memory_at, global_at, tag_at};
-ghost use Rattle.wasm_spec.specs.BinaryModules.{import_at, export_at, extern_at};
+ghost use Rattle.wasm_readers_bytes.specs.WasmSpec.BinaryTypes.{flags_at, limits_at, number_if, page_size_if, table_at, memory_at, global_at, tag_at};
+ghost use Rattle.wasm_readers_bytes.specs.WasmSpec.BinaryModules.{import_at, export_at, extern_at};
 ghost use Rattle.wasm_readers_bytes.specs.Reader.{input, SameInput, position_in, rest, RefusedFrom, place_of_next, byte_fault};
-ghost use Rattle.wasm_readers_errors.specs.Refusals.{plain};
+ghost use Rattle.wasm_readers_bytes.specs.WasmReadersErrors.Refusals.{plain};
 ghost use Rattle.wasm_readers.specs.Written.{written};
 ghost use Rattle.wasm_readers.specs.Limits.{limits_of};
 ghost use Rattle.wasm_readers.specs.Tables.{head_of, table_head_at};
-ghost use Rattle.wasm_readers_types.specs.SeenExterns.{table_of, memory_of, global_of, extern_of, kind_of};
+ghost use Rattle.wasm_readers_bytes.specs.WasmReadersTypes.SeenExterns.{table_of, memory_of, global_of, extern_of, kind_of};
 
 use crate::items::{Export, Import, TableHead};
 use crate::section_limited::FromReader;
 use crate::types::{read_ref_type, read_val_type};
 use std::alloc::Allocator;
 use wasm_readers_bytes::BinaryReader;
-use wasm_readers_errors::{Error, Fault, Malformed, Refusal};
-use wasm_readers_types::{
+use wasm_readers_bytes::readers_errors::{Error, Fault, Malformed, Refusal};
+use wasm_readers_bytes::readers_types::{
     ExternalKind, GlobalType, MemoryType, TableType, TagKind, TagType, TypeRef,
 };
 
@@ -29,7 +29,7 @@ pub struct Limits {
 }
 
 /// Flags: a byte that is at most this one.
-#[tactic(auto, unfolding(wasm_spec::specs::BinaryTypes::flags_at))]
+#[tactic(auto, unfolding(crate::proofs::Cited::flags_at))]
 fn read_flags(reader: &mut BinaryReader<'_>, most: u8, malformed: Malformed) -> Result<u8, Refusal>
     ensures same { SameInput reader.old reader.new }
     ensures onward { position_in reader.old ≤ position_in reader.new }
@@ -79,7 +79,7 @@ fn read_page_size_if(reader: &mut BinaryReader<'_>, there: bool) -> Result<Optio
 }
 
 /// Flags that are at most these, with a minimum, and a maximum where the flags have one.
-#[tactic(auto, unfolding(wasm_spec::specs::BinaryTypes::limits_at))]
+#[tactic(auto, unfolding(crate::proofs::Cited::limits_at))]
 fn read_limits(reader: &mut BinaryReader<'_>, most: u8) -> Result<Limits, Refusal>
     ensures same { SameInput reader.old reader.new }
     ensures onward { position_in reader.old ≤ position_in reader.new }
@@ -104,7 +104,7 @@ fn read_limits(reader: &mut BinaryReader<'_>, most: u8) -> Result<Limits, Refusa
 /// # Errors
 ///
 /// Refused where the bytes encode none, at a byte offset from the start of the input.
-#[tactic(auto, unfolding(wasm_spec::specs::BinaryTypes::table_at))]
+#[tactic(auto, unfolding(crate::proofs::Cited::table_at))]
 pub fn read_table_type(reader: &mut BinaryReader<'_>) -> Result<TableType, Refusal>
     ensures same { SameInput reader.old reader.new }
     ensures onward { position_in reader.old ≤ position_in reader.new }
@@ -156,7 +156,7 @@ pub fn read_table_head(reader: &mut BinaryReader<'_>) -> Result<TableHead, Refus
 /// # Errors
 ///
 /// Refused where the bytes encode none, at a byte offset from the start of the input.
-#[tactic(auto, unfolding(wasm_spec::specs::BinaryTypes::memory_at))]
+#[tactic(auto, unfolding(crate::proofs::Cited::memory_at))]
 pub fn read_memory_type(reader: &mut BinaryReader<'_>) -> Result<MemoryType, Refusal>
     ensures same { SameInput reader.old reader.new }
     ensures onward { position_in reader.old ≤ position_in reader.new }
@@ -181,7 +181,7 @@ pub fn read_memory_type(reader: &mut BinaryReader<'_>) -> Result<MemoryType, Ref
 /// # Errors
 ///
 /// Refused where the bytes encode none, at a byte offset from the start of the input.
-#[tactic(auto, unfolding(wasm_spec::specs::BinaryTypes::global_at))]
+#[tactic(auto, unfolding(crate::proofs::Cited::global_at))]
 pub fn read_global_type(reader: &mut BinaryReader<'_>) -> Result<GlobalType, Refusal>
     ensures same { SameInput reader.old reader.new }
     ensures onward { position_in reader.old ≤ position_in reader.new }
@@ -204,7 +204,7 @@ pub fn read_global_type(reader: &mut BinaryReader<'_>) -> Result<GlobalType, Ref
 /// # Errors
 ///
 /// Refused where the bytes encode none, at a byte offset from the start of the input.
-#[tactic(auto, unfolding(wasm_spec::specs::BinaryTypes::tag_at))]
+#[tactic(auto, unfolding(crate::proofs::Cited::tag_at))]
 pub fn read_tag_type(reader: &mut BinaryReader<'_>) -> Result<TagType, Refusal>
     ensures same { SameInput reader.old reader.new }
     ensures onward { position_in reader.old ≤ position_in reader.new }
@@ -227,7 +227,7 @@ pub fn read_tag_type(reader: &mut BinaryReader<'_>) -> Result<TagType, Refusal>
 /// # Errors
 ///
 /// Refused where the bytes encode none, at a byte offset from the start of the input.
-#[tactic(auto, unfolding(wasm_spec::specs::BinaryModules::extern_at))]
+#[tactic(auto, unfolding(crate::proofs::Cited::extern_at))]
 pub fn read_type_ref(reader: &mut BinaryReader<'_>) -> Result<TypeRef, Refusal>
     ensures same { SameInput reader.old reader.new }
     ensures onward { position_in reader.old ≤ position_in reader.new }
@@ -254,7 +254,7 @@ pub fn read_type_ref(reader: &mut BinaryReader<'_>) -> Result<TypeRef, Refusal>
 ///
 /// Refused where the next byte stands for none, or there is no byte: at its byte offset from the
 /// start of the input.
-#[tactic(auto, unfolding(wasm_spec::specs::BinaryTypes::flags_at))]
+#[tactic(auto, unfolding(crate::proofs::Cited::flags_at))]
 pub fn read_external_kind(reader: &mut BinaryReader<'_>) -> Result<ExternalKind, Refusal>
     ensures same { SameInput reader.old reader.new }
     ensures onward { position_in reader.old ≤ position_in reader.new }
@@ -294,7 +294,7 @@ impl<'a, A: Allocator> FromReader<'a, A> for TableHead {
 }
 
 impl<'a, A: Allocator> FromReader<'a, A> for MemoryType {
-    ghost use Rattle.wasm_spec.specs.Syntax.{Memory};
+    ghost use Rattle.wasm_readers_bytes.specs.WasmSpec.Syntax.{Memory};
 
     ghost Value = { Memory };
 
@@ -326,9 +326,9 @@ impl<'a, A: Allocator> FromReader<'a, A> for TagType {
 }
 
 impl<'a, A: Allocator> FromReader<'a, A> for Import<'a> {
-    ghost use Rattle.wasm_spec.specs.BinaryModules.{Import};
+    ghost use Rattle.wasm_readers_bytes.specs.WasmSpec.BinaryModules.{Import};
     ghost use Rattle.wasm_readers.specs.Items.{import_of};
-    ghost use Rattle.wasm_readers_types.specs.declared.indices.UnpackedIndex.{UnpackedIndex};
+    ghost use Rattle.wasm_readers_bytes.specs.WasmReadersTypes.declared.indices.UnpackedIndex.{UnpackedIndex};
 
     ghost Value = { Import UnpackedIndex };
 
@@ -338,7 +338,7 @@ impl<'a, A: Allocator> FromReader<'a, A> for Import<'a> {
 
     ghost refuses = { RefusedFrom };
 
-    #[tactic(auto, unfolding(wasm_spec::specs::BinaryModules::import_at))]
+    #[tactic(auto, unfolding(crate::proofs::Cited::import_at))]
     fn from_reader(_alloc: A, reader: &mut BinaryReader<'a>) -> Result<Import<'a>, Error> {
         let module = reader.read_string()?;
         let name = reader.read_string()?;
@@ -348,7 +348,7 @@ impl<'a, A: Allocator> FromReader<'a, A> for Import<'a> {
 }
 
 impl<'a, A: Allocator> FromReader<'a, A> for Export<'a> {
-    ghost use Rattle.wasm_spec.specs.BinaryModules.{Export};
+    ghost use Rattle.wasm_readers_bytes.specs.WasmSpec.BinaryModules.{Export};
     ghost use Rattle.wasm_readers.specs.Items.{export_of};
 
     ghost Value = { Export };
@@ -359,7 +359,7 @@ impl<'a, A: Allocator> FromReader<'a, A> for Export<'a> {
 
     ghost refuses = { RefusedFrom };
 
-    #[tactic(auto, unfolding(wasm_spec::specs::BinaryModules::export_at))]
+    #[tactic(auto, unfolding(crate::proofs::Cited::export_at))]
     fn from_reader(_alloc: A, reader: &mut BinaryReader<'a>) -> Result<Export<'a>, Error> {
         let name = reader.read_string()?;
         let kind = read_external_kind(reader)?;

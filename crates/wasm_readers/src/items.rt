@@ -2,7 +2,7 @@
 
 use std::ops::Range;
 use wasm_readers_bytes::BinaryReader;
-use wasm_readers_types::{ExternalKind, GlobalType, RefType, TableType, TypeRef};
+use wasm_readers_bytes::readers_types::{ExternalKind, GlobalType, RefType, TableType, TypeRef};
 
 /// An import (Core Specification 3.0, Binary Format, Import Section).
 #[derive(Clone, Copy, Debug)]

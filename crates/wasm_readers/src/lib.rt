@@ -19,11 +19,11 @@ pub use items::{
 pub use lists::read_list;
 pub use section_limited::{FromReader, SectionItems, SectionLimited};
 pub use wasm_readers_bytes::BinaryReader;
-pub use wasm_readers_errors::{
+pub use wasm_readers_bytes::readers_errors::{
     Counted, DescriptorRule, Error, Fault, GroupRule, ItemKind, ItemRule, Malformed, OutOfOrder,
     Refusal, Rule, ValueTypeRule, WasmFeatures,
 };
-pub use wasm_readers_types::{
+pub use wasm_readers_bytes::readers_types::{
     AbstractHeapType, ArrayType, CompositeInnerType, CompositeType, ContType, CoreTypeId,
     ExternalKind, FieldType, FuncType, GlobalType, HeapType, Items, MAX_IDS, MemoryType,
     PackedIndex, RecGroup, RefType, StorageType, StructType, SubType, TableType, TagKind, TagType,
@@ -36,3 +36,19 @@ pub use wasm_readers_types::{
 pub fn table_heads_begin_tables()
     ensures { TableHeadsBeginTables }
 {}
+
+/// Passed on from `wasm_readers_types`.
+pub mod readers_types {
+    pub use wasm_readers_bytes::readers_types::{
+        AbstractHeapType, CoreTypeId, ExternalKind, GlobalType, HeapType, Items, MemoryType,
+        RecGroup, RefType, SubType, TableType, TypeRef, UnpackedIndex, ValType,
+    };
+}
+
+/// Passed on from `wasm_readers_errors`.
+pub mod readers_errors {
+    pub use wasm_readers_bytes::readers_errors::{
+        Error, Fault, GatedConstant, ItemRule, Malformed, OperatorRule, Refusal, Rule,
+        WasmFeatures, hold, require, require_if,
+    };
+}

@@ -1,14 +1,14 @@
 //! Reading of lists of items.
 
 ghost use Rattle.std.specs.Prelude.{◌≡◌, ◌≤◌, map, IfErr};
-ghost use Rattle.wasm_spec.specs.Values.{list_at, many_at};
+ghost use Rattle.wasm_readers_bytes.specs.WasmSpec.Values.{list_at, many_at};
 ghost use Rattle.wasm_readers_bytes.specs.Reader.{input, SameInput, position_in, rest, FailedFrom};
-ghost use Rattle.wasm_readers_errors.specs.Errors.{Reads};
+ghost use Rattle.wasm_readers_bytes.specs.WasmReadersErrors.Errors.{Reads};
 
 use crate::section_limited::FromReader;
 use std::alloc::Allocator;
 use wasm_readers_bytes::BinaryReader;
-use wasm_readers_errors::Error;
+use wasm_readers_bytes::readers_errors::Error;
 
 /// A list: a count, and that many items (Core Specification 3.0, Binary Format, Conventions,
 /// Lists).

@@ -1,8 +1,8 @@
 ghost use Rattle.std.specs.Prelude.{◌≡◌, ◌==◌, ◌&&◌, ℕ, ◌≤◌, ◌+◌, List, length, Option, Some, None, IfOk, OnErr, map, IfErr};
 ghost use Rattle.std.specs.Option.{option_map};
-ghost use Rattle.wasm_spec.specs.Values.{u32_at, items_at};
+ghost use Rattle.wasm_readers_bytes.specs.WasmSpec.Values.{u32_at, items_at};
 ghost use Rattle.wasm_readers_bytes.specs.Reader.{input, SameInput, position_in, original, rest, RefusedFrom, FailedFrom};
-ghost use Rattle.wasm_readers_errors.specs.Errors.{Reads};
+ghost use Rattle.wasm_readers_bytes.specs.WasmReadersErrors.Errors.{Reads};
 ghost use Rattle.wasm_readers.specs.Sections.{next_item, NextItem};
 ghost use Rattle.wasm_readers.specs.Refusals.{Telling, Tells, NumberRefused};
 
@@ -10,7 +10,7 @@ use std::alloc::{Allocator, Global};
 use std::marker::PhantomData;
 use std::ops::Range;
 use wasm_readers_bytes::BinaryReader;
-use wasm_readers_errors::{Error, Fault, Malformed, Refusal};
+use wasm_readers_bytes::readers_errors::{Error, Fault, Malformed, Refusal};
 
 /// A type whose values are items of the binary format.
 pub trait FromReader<'a, A: Allocator>: Sized + Drop {

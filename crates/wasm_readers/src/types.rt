@@ -2,20 +2,20 @@
 
 ghost use Rattle.std.specs.Prelude.{◌≡◌, ◌≤◌, ◌<◌, ℕ, List, Option, Some, None, IfOk, OnOk, OnErr, map, IfErr, true};
 ghost use Rattle.std.specs.Option.{option_map};
-ghost use Rattle.wasm_spec.specs.Values.{list_at};
-ghost use Rattle.wasm_spec.specs.Syntax.{abstract_heap};
-ghost use Rattle.wasm_spec.specs.BinaryTypes.{abstract_heap_from, abstract_heap_at, flag_at, heap_at, ref_at, val_at, storage_at, field_at};
+ghost use Rattle.wasm_readers_bytes.specs.WasmSpec.Values.{list_at};
+ghost use Rattle.wasm_readers_bytes.specs.WasmSpec.Syntax.{abstract_heap};
+ghost use Rattle.wasm_readers_bytes.specs.WasmSpec.BinaryTypes.{abstract_heap_from, abstract_heap_at, flag_at, heap_at, ref_at, val_at, storage_at, field_at};
 ghost use Rattle.wasm_readers_bytes.specs.Reader.{input, SameInput, position_in, rest, RefusedFrom, place_of_next, byte_fault};
-ghost use Rattle.wasm_readers_errors.specs.Refusals.{plain};
-ghost use Rattle.wasm_readers_errors.specs.Errors.{Reads};
+ghost use Rattle.wasm_readers_bytes.specs.WasmReadersErrors.Refusals.{plain};
+ghost use Rattle.wasm_readers_bytes.specs.WasmReadersErrors.Errors.{Reads};
 ghost use Rattle.wasm_readers.specs.Written.{written};
-ghost use Rattle.wasm_readers_types.specs.SeenValues.{abstract_heap_of, heap_of, HeapFits, ref_of, val_of, storage_of, field_of};
+ghost use Rattle.wasm_readers_bytes.specs.WasmReadersTypes.SeenValues.{abstract_heap_of, heap_of, HeapFits, ref_of, val_of, storage_of, field_of};
 
 use crate::section_limited::FromReader;
 use std::alloc::Allocator;
 use wasm_readers_bytes::BinaryReader;
-use wasm_readers_errors::{Error, Fault, Malformed, Refusal};
-use wasm_readers_types::{
+use wasm_readers_bytes::readers_errors::{Error, Fault, Malformed, Refusal};
+use wasm_readers_bytes::readers_types::{
     AbstractHeapType, FieldType, HeapType, RefType, StorageType, UnpackedIndex, ValType,
 };
 
@@ -62,7 +62,7 @@ fn abstract_reference(shared: bool, ty: AbstractHeapType) -> RefType
 ///
 /// Refused where the next byte stands for none, or there is no byte: at its byte offset from the
 /// start of the input.
-#[tactic(auto, unfolding(wasm_spec::specs::BinaryTypes::abstract_heap_at))]
+#[tactic(auto, unfolding(crate::proofs::Cited::abstract_heap_at))]
 pub fn read_abstract_heap_type(reader: &mut BinaryReader<'_>) -> Result<AbstractHeapType, Refusal>
     ensures same { SameInput reader.old reader.new }
     ensures onward { position_in reader.old ≤ position_in reader.new }
@@ -86,7 +86,7 @@ pub fn read_abstract_heap_type(reader: &mut BinaryReader<'_>) -> Result<Abstract
 /// # Errors
 ///
 /// Refused where the bytes encode none, at a byte offset from the start of the input.
-#[tactic(auto, unfolding(wasm_spec::specs::BinaryTypes::heap_at))]
+#[tactic(auto, unfolding(crate::proofs::Cited::heap_at))]
 pub fn read_heap_type(reader: &mut BinaryReader<'_>) -> Result<HeapType, Refusal>
     ensures same { SameInput reader.old reader.new }
     ensures onward { position_in reader.old ≤ position_in reader.new }
@@ -119,7 +119,7 @@ pub fn read_heap_type(reader: &mut BinaryReader<'_>) -> Result<HeapType, Refusal
 /// # Errors
 ///
 /// Refused where the bytes encode none, at a byte offset from the start of the input.
-#[tactic(auto, unfolding(wasm_spec::specs::BinaryTypes::ref_at))]
+#[tactic(auto, unfolding(crate::proofs::Cited::ref_at))]
 pub fn read_ref_type(reader: &mut BinaryReader<'_>) -> Result<RefType, Refusal>
     ensures same { SameInput reader.old reader.new }
     ensures onward { position_in reader.old ≤ position_in reader.new }
@@ -163,7 +163,7 @@ fn read_reference(reader: &mut BinaryReader<'_>, nullable: bool) -> Result<RefTy
 /// # Errors
 ///
 /// Refused where the bytes encode none, at a byte offset from the start of the input.
-#[tactic(auto, unfolding(wasm_spec::specs::BinaryTypes::val_at))]
+#[tactic(auto, unfolding(crate::proofs::Cited::val_at))]
 pub fn read_val_type(reader: &mut BinaryReader<'_>) -> Result<ValType, Refusal>
     ensures same { SameInput reader.old reader.new }
     ensures onward { position_in reader.old ≤ position_in reader.new }
@@ -192,7 +192,7 @@ pub fn read_val_type(reader: &mut BinaryReader<'_>) -> Result<ValType, Refusal>
 /// # Errors
 ///
 /// Refused where the bytes encode none, at a byte offset from the start of the input.
-#[tactic(auto, unfolding(wasm_spec::specs::BinaryTypes::storage_at))]
+#[tactic(auto, unfolding(crate::proofs::Cited::storage_at))]
 pub fn read_storage_type(reader: &mut BinaryReader<'_>) -> Result<StorageType, Refusal>
     ensures same { SameInput reader.old reader.new }
     ensures onward { position_in reader.old ≤ position_in reader.new }
@@ -218,7 +218,7 @@ pub fn read_storage_type(reader: &mut BinaryReader<'_>) -> Result<StorageType, R
 /// # Errors
 ///
 /// Refused where the bytes encode none, at a byte offset from the start of the input.
-#[tactic(auto, unfolding(wasm_spec::specs::BinaryTypes::field_at))]
+#[tactic(auto, unfolding(crate::proofs::Cited::field_at))]
 pub fn read_field_type(reader: &mut BinaryReader<'_>) -> Result<FieldType, Refusal>
     ensures same { SameInput reader.old reader.new }
     ensures onward { position_in reader.old ≤ position_in reader.new }
@@ -242,7 +242,7 @@ pub fn read_field_type(reader: &mut BinaryReader<'_>) -> Result<FieldType, Refus
 ///
 /// Refused where the next byte is another, or there is no byte: at its byte offset from the start
 /// of the input.
-#[tactic(auto, unfolding(wasm_spec::specs::BinaryTypes::flag_at))]
+#[tactic(auto, unfolding(crate::proofs::Cited::flag_at))]
 pub fn read_flag(reader: &mut BinaryReader<'_>) -> Result<bool, Refusal>
     ensures same { SameInput reader.old reader.new }
     ensures onward { position_in reader.old ≤ position_in reader.new }
@@ -263,8 +263,8 @@ pub fn read_flag(reader: &mut BinaryReader<'_>) -> Result<bool, Refusal>
 }
 
 impl<'a, A: Allocator> FromReader<'a, A> for ValType {
-    ghost use Rattle.wasm_spec.specs.Syntax.{Val};
-    ghost use Rattle.wasm_readers_types.specs.declared.indices.UnpackedIndex.{UnpackedIndex};
+    ghost use Rattle.wasm_readers_bytes.specs.WasmSpec.Syntax.{Val};
+    ghost use Rattle.wasm_readers_bytes.specs.WasmReadersTypes.declared.indices.UnpackedIndex.{UnpackedIndex};
 
     ghost Value = { Val UnpackedIndex };
 
@@ -280,8 +280,8 @@ impl<'a, A: Allocator> FromReader<'a, A> for ValType {
 }
 
 impl<'a, A: Allocator> FromReader<'a, A> for FieldType {
-    ghost use Rattle.wasm_spec.specs.Syntax.{Field};
-    ghost use Rattle.wasm_readers_types.specs.declared.indices.UnpackedIndex.{UnpackedIndex};
+    ghost use Rattle.wasm_readers_bytes.specs.WasmSpec.Syntax.{Field};
+    ghost use Rattle.wasm_readers_bytes.specs.WasmReadersTypes.declared.indices.UnpackedIndex.{UnpackedIndex};
 
     ghost Value = { Field UnpackedIndex };
 

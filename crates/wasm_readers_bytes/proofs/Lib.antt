@@ -1,2 +1,3 @@
+pub use Rattle.wasm_readers_errors.proofs.WasmSpec as WasmSpec
 pub mod Texts
 pub mod Powers

@@ -3,7 +3,7 @@ use Rattle.std.proofs.lemmas.Bool.{eqb-true, leb-true, le-leb, le-ltb}
 use Rattle.std.specs.Str.{IsUtf8, is_utf8}
 use Rattle.std.proofs.lemmas.Str.{is_utf8-from_IsUtf8, IsUtf8-from_is_utf8}
 use Rattle.std.proofs.lemmas.List.{length-drop, nil_from_length, drop-take, drop-drop}
-use Rattle.wasm_spec.specs.Values.{bytes_at, sized_at, name_at}
+use Rattle.wasm_readers_errors.specs.WasmSpec.Values.{bytes_at, sized_at, name_at}
 
 pub name_from_text : (bytes : List ℕ) (part : List ℕ × List ℕ) → sized_at bytes ≡ Some part → IsUtf8 part.0 → name_at bytes ≡ Some part
 name_from_text bytes part e u = rw e (rw (is_utf8-from_IsUtf8 part.0 u) refl)

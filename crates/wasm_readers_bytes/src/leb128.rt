@@ -1,5 +1,5 @@
 ghost use Rattle.std.specs.Prelude.{◌≡◌, ◌≤◌, ◌<◌, ◌^◌, ◌-◌, ◌≤ℤ◌, ◌<ℤ◌, ◌-ℤ◌, ◌+ℤ◌, ◌*ℤ◌, pos, IfSome, IfNone, length, drop};
-ghost use Rattle.wasm_spec.specs.Values.{signed_at as encoded_at};
+ghost use Rattle.wasm_readers_errors.specs.WasmSpec.Values.{signed_at as encoded_at};
 
 /// The signed number of at most `bits` bits at the front, and how many bytes it takes.
 #[tactic(auto, using(crate::proofs::Powers::signed_powers))]

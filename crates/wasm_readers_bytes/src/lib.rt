@@ -7,3 +7,22 @@ pub mod binary_reader;
 mod leb128;
 
 pub use binary_reader::BinaryReader;
+
+/// Passed on from `wasm_readers_types`.
+pub mod readers_types {
+    pub use wasm_readers_errors::readers_types::{
+        AbstractHeapType, ArrayType, CompositeInnerType, CompositeType, ContType, CoreTypeId,
+        ExternalKind, FieldType, FuncType, GlobalType, HeapType, Items, MAX_IDS, MemoryType,
+        PackedIndex, RecGroup, RefType, StorageType, StructType, SubType, TableType, TagKind,
+        TagType, TypeRef, UnpackedIndex, ValType,
+    };
+}
+
+/// Passed on from `wasm_readers_errors`.
+pub mod readers_errors {
+    pub use wasm_readers_errors::{
+        Counted, DescriptorRule, Error, Fault, GatedConstant, GroupRule, ItemKind, ItemRule,
+        Malformed, OperatorRule, OutOfOrder, Refusal, Rule, ValueTypeRule, WasmFeatures, hold,
+        require, require_if,
+    };
+}

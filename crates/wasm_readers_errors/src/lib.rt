@@ -14,3 +14,13 @@ pub use item_rules::ItemRule;
 pub use operator_rules::{GatedConstant, OperatorRule};
 pub use refusals::{hold, require, require_if};
 pub use type_rules::{DescriptorRule, GroupRule, ValueTypeRule};
+
+/// Passed on from `wasm_readers_types`.
+pub mod readers_types {
+    pub use wasm_readers_types::{
+        AbstractHeapType, ArrayType, CompositeInnerType, CompositeType, ContType, CoreTypeId,
+        ExternalKind, FieldType, FuncType, GlobalType, HeapType, Items, MAX_IDS, MemoryType,
+        PackedIndex, RecGroup, RefType, StorageType, StructType, SubType, TableType, TagKind,
+        TagType, TypeRef, UnpackedIndex, ValType,
+    };
+}

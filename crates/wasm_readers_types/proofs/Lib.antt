@@ -1,2 +1,3 @@
+pub use Rattle.wasm_spec.proofs as WasmSpec
 pub mod Clones
 pub mod Packing

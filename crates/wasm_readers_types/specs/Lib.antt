@@ -1,3 +1,4 @@
+pub use Rattle.wasm_spec.specs as WasmSpec
 pub mod Exactness
 pub mod Indices
 pub mod IndicesExact

@@ -4,8 +4,8 @@ use Rattle.std.specs.Option.{option_map}
 use Rattle.std.specs.List.{flat_map}
 use Rattle.std.proofs.lemmas.Bool.{eqb-true, eqb-false, eq-eqb, ne_eqb, ltb-false}
 use Rattle.std.proofs.lemmas.Grind.{flat_map-append}
-use Rattle.wasm_spec.specs.Values.{u32_at, name_at, sized_at, items_at}
-use Rattle.wasm_spec.specs.Framing.{Piece, Version, Custom, Counted, Start, DataCount, CodeStart, CodeEntry, Unknown, End, place, InOrder, piece_of, number_of, code_pieces, pieces_of, all_pieces, Tally, nothing_yet, tally_all, is_none_or, agrees}
+use Rattle.wasm_readers_errors.specs.WasmSpec.Values.{u32_at, name_at, sized_at, items_at}
+use Rattle.wasm_readers_errors.specs.WasmSpec.Framing.{Piece, Version, Custom, Counted, Start, DataCount, CodeStart, CodeEntry, Unknown, End, place, InOrder, piece_of, number_of, code_pieces, pieces_of, all_pieces, Tally, nothing_yet, tally_all, is_none_or, agrees}
 use Rattle.wasm_spec_rules.specs.Parts.{items_of, all_items, bodies_of}
 use Rattle.wasm_spec_rules.proofs.Tests.{then_some, map_some, when, unless, chosen}
 use Rattle.wasm_spec_rules.specs.Bodies.{BodiesAreAsManyAsFunctions}

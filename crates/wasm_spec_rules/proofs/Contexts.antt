@@ -3,10 +3,10 @@ use Rattle.std.proofs.Common.{◌≡◌, ◌≢◌, refl, sym, ap, ◌∙◌, �
 use Rattle.std.specs.List.{flat_map, Contains}
 use Rattle.std.proofs.lemmas.List.Elements.{All-nil, All-cons, All-head, All-tail, All-contains_itself}
 use Rattle.std.proofs.lemmas.List.{map-append}
-use Rattle.wasm_spec.specs.Syntax.{Sub, map_ref, map_table, map_global}
-use Rattle.wasm_spec.specs.BinarySections.{Element}
-use Rattle.wasm_spec.specs.Trees.{DefType, declared}
-use Rattle.wasm_spec.proofs.SyntaxMaps.{map-map_by, map_ref-map, map_table-map, map_global-map, map_sub-map}
+use Rattle.wasm_readers_errors.specs.WasmSpec.Syntax.{Sub, map_ref, map_table, map_global}
+use Rattle.wasm_readers_errors.specs.WasmSpec.BinarySections.{Element}
+use Rattle.wasm_readers_errors.specs.WasmSpec.Trees.{DefType, declared}
+use Rattle.wasm_readers_errors.proofs.WasmSpec.SyntaxMaps.{map-map_by, map_ref-map, map_table-map, map_global-map, map_sub-map}
 use Rattle.wasm_spec_rules.specs.Parts.{Expression}
 use Rattle.wasm_spec_rules.specs.IndexSpaces.{type_at}
 use Rattle.wasm_spec_rules.specs.SegmentRules.{items_type}

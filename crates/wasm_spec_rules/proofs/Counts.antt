@@ -2,7 +2,7 @@
 use Rattle.std.proofs.Common.{◌≡◌, ◌≢◌, refl, ap, subst, ◌∙◌, inl, inr, ℕ, ◌+◌, ◌<◌, eqb, List, [], ◌∷◌, ◌++◌, Some, arith}
 use Rattle.std.specs.Option.{option_map}
 use Rattle.std.proofs.lemmas.Bool.{eqb-true, eqb-false}
-use Rattle.wasm_spec.specs.Framing.{Piece, place, Below, InOrder, pieces_of, all_pieces, Tally, tally, tally_all}
+use Rattle.wasm_readers_errors.specs.WasmSpec.Framing.{Piece, place, Below, InOrder, pieces_of, all_pieces, Tally, tally, tally_all}
 use Rattle.wasm_spec_rules.proofs.Tests.{truth, then_some, map_some}
 
 -- the sum of what each piece has

@@ -1,3 +1,4 @@
+pub use Rattle.wasm_readers_errors.proofs.WasmSpec as WasmSpec
 pub mod Tests
 pub mod Verdicts
 pub mod Ordered

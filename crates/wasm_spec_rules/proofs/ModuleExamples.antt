@@ -5,19 +5,19 @@ use Rattle.std.proofs.lemmas.Map.Keys.{IsDistinct-head}
 use Rattle.std.specs.Option.{option_map, option_and_then}
 use Rattle.std.specs.Cmp.Lexicographic.{nat_list_eq_equiv}
 use Rattle.std.proofs.lemmas.Map.Made.{IsDistinct-from_count}
-use Rattle.wasm_spec.specs.Syntax.{Val, i32, Sub, map_sub}
-use Rattle.wasm_spec.specs.BinarySections.{GlobalEntry}
-use Rattle.wasm_spec.specs.Closing.{resolve}
-use Rattle.wasm_spec.specs.GroupRules.{IsValidType}
-use Rattle.wasm_spec.proofs.Numbering.{members-close}
-use Rattle.wasm_spec.specs.Framing.{Piece, Version, End, u16_at}
+use Rattle.wasm_readers_errors.specs.WasmSpec.Syntax.{Val, i32, Sub, map_sub}
+use Rattle.wasm_readers_errors.specs.WasmSpec.BinarySections.{GlobalEntry}
+use Rattle.wasm_readers_errors.specs.WasmSpec.Closing.{resolve}
+use Rattle.wasm_readers_errors.specs.WasmSpec.GroupRules.{IsValidType}
+use Rattle.wasm_readers_errors.proofs.WasmSpec.Numbering.{members-close}
+use Rattle.wasm_readers_errors.specs.WasmSpec.Framing.{Piece, Version, End, u16_at}
 use Rattle.wasm_spec_rules.specs.Parts.{Parts, Expression}
 use Rattle.wasm_spec_rules.specs.IndexSpaces.{IndexSpaces, IsFunctionType, signature, signature_at}
 use Rattle.wasm_spec_rules.specs.ItemRules.{IsValidTableEntry, IsValidMemory, IsValidTag, IsValidGlobal}
 use Rattle.wasm_spec_rules.specs.LinkRules.{IsValidImport, IsValidExport, IsValidStart}
 use Rattle.wasm_spec_rules.specs.SegmentRules.{IsValidElement, IsValidData}
 use Rattle.wasm_spec_rules.specs.Modules.{IsAllowedPiece}
-use Rattle.wasm_spec.specs.Trees.{TypeUse, DefType, close, denote, declared}
+use Rattle.wasm_readers_errors.specs.WasmSpec.Trees.{TypeUse, DefType, close, denote, declared}
 use Rattle.wasm_spec_rules.specs.ModuleExamples.{TableOfOneOrTwo, NoTableOfTwoToOne, NoTableWithoutEntries, MemoryOfAllAddresses, NoMemoryPastAllAddresses, NoSharedGlobal, NoTagWithoutExceptions, NoMutableImport, MemoryIsExported, NoSecondMemory, NoNameTwice, SizeIsThree, NoPassiveElements, NoWrittenElements, OffsetsReference, NoPassiveData, NoTwoMemories, HeaderIsModule, NoVersionTwo, NoStartWithParameter, first_version, taking_type}
 
 pub table_of_one_or_two : TableOfOneOrTwo

@@ -2,7 +2,7 @@
 use Rattle.std.proofs.Common.{◌≡◌, ◌≢◌, refl, sym, ap, subst, ◌∙◌, ◌⊎◌, inl, inr, ℕ, Bool, true, false, cond, eqb, List, [], ◌∷◌, Option, Some, None}
 use Rattle.std.specs.Option.{option_and_then}
 use Rattle.std.proofs.lemmas.Bool.{eq-eqb, ne_eqb, eqb-true, eqb-false}
-use Rattle.wasm_spec.specs.Framing.{Piece}
+use Rattle.wasm_readers_errors.specs.WasmSpec.Framing.{Piece}
 use Rattle.wasm_spec_rules.specs.Sections.{each, rank, at_rank, by_rank}
 
 -- these pieces follow one another in the order of these ranks; several bodies may come, and one of any other kind

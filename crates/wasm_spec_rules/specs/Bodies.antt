@@ -1,6 +1,6 @@
 -- The functions that a module declares, and their bodies. Core Specification 3.0, Binary Format, Modules.
 use Rattle.std.specs.Prelude.{◌≡◌, ℕ, List, length, Option}
-use Rattle.wasm_spec.specs.Framing.{Piece, IsFramed}
+use Rattle.wasm_readers_errors.specs.WasmSpec.Framing.{Piece, IsFramed}
 use Rattle.wasm_spec_rules.specs.Parts.{Expression, Parts, HasParts}
 
 -- A module whose bytes are divided as they must be has a body for each function that it declares, and no other.

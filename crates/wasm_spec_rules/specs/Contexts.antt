@@ -2,11 +2,11 @@
 -- 3.0 (Validation, Conventions, Contexts), as finite lists.
 use Rattle.std.specs.Prelude.{ℕ, ◌≡◌, ◌≢◌, ◌<◌, Bool, true, false, List, [], ◌∷◌, ◌++◌, map, slice_get, Option, Some, None}
 use Rattle.std.specs.List.{flat_map, All, Contains}
-use Rattle.wasm_spec.specs.Syntax.{Ref, Table, Memory, Global, Sub, Extern, func_extern, func_exact_extern, map_ref, map_table, map_global, map_sub}
-use Rattle.wasm_spec.specs.BinaryModules.{Import}
-use Rattle.wasm_spec.specs.BinarySections.{Element}
-use Rattle.wasm_spec.specs.Trees.{DefType, declared}
-use Rattle.wasm_spec.specs.TypeLaws.{HasNoRepetition}
+use Rattle.wasm_readers_errors.specs.WasmSpec.Syntax.{Ref, Table, Memory, Global, Sub, Extern, func_extern, func_exact_extern, map_ref, map_table, map_global, map_sub}
+use Rattle.wasm_readers_errors.specs.WasmSpec.BinaryModules.{Import}
+use Rattle.wasm_readers_errors.specs.WasmSpec.BinarySections.{Element}
+use Rattle.wasm_readers_errors.specs.WasmSpec.Trees.{DefType, declared}
+use Rattle.wasm_readers_errors.specs.WasmSpec.TypeLaws.{HasNoRepetition}
 use Rattle.wasm_spec_rules.specs.Parts.{Parts, Expression}
 use Rattle.wasm_spec_rules.specs.IndexSpaces.{IndexSpaces, type_at}
 use Rattle.wasm_spec_rules.specs.SegmentRules.{items_type}

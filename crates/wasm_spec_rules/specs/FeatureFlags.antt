@@ -1,5 +1,5 @@
 -- The proposals that a set of flags allows.
-use Rattle.wasm_spec.specs.Features.{Features}
+use Rattle.wasm_readers_errors.specs.WasmSpec.Features.{Features}
 use Rattle.wasm_readers_errors.specs.On.{has_flag}
 use Rattle.wasm_readers_errors.specs.declared.features.WasmFeatures.{WasmFeatures}
 

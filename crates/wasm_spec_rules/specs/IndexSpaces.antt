@@ -3,11 +3,11 @@
 use Rattle.std.specs.Prelude.{ℕ, ◌<◌, List, [], ◌∷◌, ◌++◌, map, length, get_or, slice_get, Option, Some, None, is_some, IsTrue}
 use Rattle.std.specs.Option.{option_and_then}
 use Rattle.std.specs.List.{flat_map, All}
-use Rattle.wasm_spec.specs.Syntax.{Ref, Val, Sub, Comp, func, array, struct, cont, Table, Memory, Global, Extern, func_extern, func_exact_extern, table_extern, memory_extern, global_extern, tag_extern, map_ref, map_val}
-use Rattle.wasm_spec.specs.BinaryModules.{Import}
-use Rattle.wasm_spec.specs.BinarySections.{TableEntry, GlobalEntry}
-use Rattle.wasm_spec.specs.References.{refs_heap, refs_val}
-use Rattle.wasm_spec.specs.Trees.{rec_tree, no_uses, DefType, declared}
+use Rattle.wasm_readers_errors.specs.WasmSpec.Syntax.{Ref, Val, Sub, Comp, func, array, struct, cont, Table, Memory, Global, Extern, func_extern, func_exact_extern, table_extern, memory_extern, global_extern, tag_extern, map_ref, map_val}
+use Rattle.wasm_readers_errors.specs.WasmSpec.BinaryModules.{Import}
+use Rattle.wasm_readers_errors.specs.WasmSpec.BinarySections.{TableEntry, GlobalEntry}
+use Rattle.wasm_readers_errors.specs.WasmSpec.References.{refs_heap, refs_val}
+use Rattle.wasm_readers_errors.specs.WasmSpec.Trees.{rec_tree, no_uses, DefType, declared}
 use Rattle.wasm_spec_rules.specs.Parts.{Parts, Expression}
 
 -- the index spaces; functions and tags by the index of their type

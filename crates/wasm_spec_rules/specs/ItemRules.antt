@@ -2,12 +2,12 @@
 -- values. Core Specification 3.0, Validation, Types (Limits, Table Types, Memory Types, Global Types, Tag Types),
 -- with the features that each form needs and the rules of shared ones.
 use Rattle.std.specs.Prelude.{ℕ, ◌≡◌, ◌≢◌, ◌≤◌, ◌^◌, ◌-◌, ◌==◌, ◌||◌, if◌then◌else◌, List, length, Some, None, nat_lt, is_some, IsTrue, IfSome}
-use Rattle.wasm_spec.specs.Syntax.{Ref, Val, Table, Memory, Global}
-use Rattle.wasm_spec.specs.BinarySections.{TableEntry, funcref}
-use Rattle.wasm_spec.specs.Features.{Features}
-use Rattle.wasm_spec.specs.Trees.{DefType, declared}
-use Rattle.wasm_spec.specs.ValueTypes.{allows_ref, allows_val}
-use Rattle.wasm_spec.specs.Matching.{is_shared_heap, is_shared_val}
+use Rattle.wasm_readers_errors.specs.WasmSpec.Syntax.{Ref, Val, Table, Memory, Global}
+use Rattle.wasm_readers_errors.specs.WasmSpec.BinarySections.{TableEntry, funcref}
+use Rattle.wasm_readers_errors.specs.WasmSpec.Features.{Features}
+use Rattle.wasm_readers_errors.specs.WasmSpec.Trees.{DefType, declared}
+use Rattle.wasm_readers_errors.specs.WasmSpec.ValueTypes.{allows_ref, allows_val}
+use Rattle.wasm_readers_errors.specs.WasmSpec.Matching.{is_shared_heap, is_shared_val}
 use Rattle.wasm_spec_rules.specs.IndexSpaces.{IsFunctionType, signature_at, ref_over, val_over, IsRefInRange, IsValInRange}
 use Rattle.wasm_spec_rules.specs.Parts.{Expression}
 

@@ -2,7 +2,7 @@
 -- this validator's.
 use Rattle.std.specs.Prelude.{ℕ, ◌≤◌, if◌then◌else◌, length}
 use Rattle.std.specs.List.{All}
-use Rattle.wasm_spec.specs.Features.{Features}
+use Rattle.wasm_readers_errors.specs.WasmSpec.Features.{Features}
 use Rattle.wasm_spec_rules.specs.Parts.{Parts}
 use Rattle.wasm_spec_rules.specs.IndexSpaces.{IndexSpaces}
 

@@ -4,11 +4,11 @@ use Rattle.std.specs.Prelude.{ℕ, ◌≡◌, ◌+◌, ◌==◌, if◌then◌els
 use Rattle.std.specs.Option.{option_map}
 use Rattle.std.specs.List.{IsDistinct, flat_map}
 use Rattle.std.specs.Cmp.Lexicographic.{pointwise}
-use Rattle.wasm_spec.specs.Syntax.{Val, Global, Extern, func_extern, func_exact_extern, table_extern, memory_extern, global_extern, tag_extern}
-use Rattle.wasm_spec.specs.BinaryModules.{Import, Export}
-use Rattle.wasm_spec.specs.BinarySections.{Element, ElementItems, functions, expressions}
-use Rattle.wasm_spec.specs.Features.{Features}
-use Rattle.wasm_spec.specs.Trees.{DefType}
+use Rattle.wasm_readers_errors.specs.WasmSpec.Syntax.{Val, Global, Extern, func_extern, func_exact_extern, table_extern, memory_extern, global_extern, tag_extern}
+use Rattle.wasm_readers_errors.specs.WasmSpec.BinaryModules.{Import, Export}
+use Rattle.wasm_readers_errors.specs.WasmSpec.BinarySections.{Element, ElementItems, functions, expressions}
+use Rattle.wasm_readers_errors.specs.WasmSpec.Features.{Features}
+use Rattle.wasm_readers_errors.specs.WasmSpec.Trees.{DefType}
 use Rattle.wasm_spec_rules.specs.Parts.{Parts, Expression, expressions_of}
 use Rattle.wasm_spec_rules.specs.IndexSpaces.{IndexSpaces, IsFunctionType, signature_at}
 use Rattle.wasm_spec_rules.specs.ItemRules.{IsValidTable, IsValidMemory, IsValidTag, IsValidGlobal}

@@ -1,12 +1,12 @@
 -- Worked examples of the rules of modules, as facts that a contract can name: for each kind of item one that keeps its
 -- rules, or one that doesn't and the rule that it breaks.
 use Rattle.std.specs.Prelude.{ℕ, ◌≡◌, true, false, List, [], ◌∷◌, Option, Some, None}
-use Rattle.wasm_spec.specs.Syntax.{i32, i64, Table, Memory, global_extern, func, Rec}
-use Rattle.wasm_spec.specs.BinaryModules.{Import, Export}
-use Rattle.wasm_spec.specs.BinarySections.{funcref, ref_func, passive, active, functions, expressions}
-use Rattle.wasm_spec.specs.Features.{Features}
-use Rattle.wasm_spec.specs.Trees.{DefType}
-use Rattle.wasm_spec.specs.Closing.{type_space}
+use Rattle.wasm_readers_errors.specs.WasmSpec.Syntax.{i32, i64, Table, Memory, global_extern, func, Rec}
+use Rattle.wasm_readers_errors.specs.WasmSpec.BinaryModules.{Import, Export}
+use Rattle.wasm_readers_errors.specs.WasmSpec.BinarySections.{funcref, ref_func, passive, active, functions, expressions}
+use Rattle.wasm_readers_errors.specs.WasmSpec.Features.{Features}
+use Rattle.wasm_readers_errors.specs.WasmSpec.Trees.{DefType}
+use Rattle.wasm_readers_errors.specs.WasmSpec.Closing.{type_space}
 use Rattle.wasm_spec_rules.specs.Parts.{Parts, Expression}
 use Rattle.wasm_spec_rules.specs.IndexSpaces.{IndexSpaces}
 use Rattle.wasm_spec_rules.specs.ItemRules.{IsValidTable, IsValidTableEntry, IsValidMemory, IsValidTag, IsValidGlobal}

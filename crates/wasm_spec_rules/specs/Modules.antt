@@ -1,10 +1,10 @@
 -- When a module is valid. Core Specification 3.0, Validation, Modules.
 use Rattle.std.specs.Prelude.{ℕ, ◌≡◌, ◌<◌, ◌==◌, List, slice_get, Option, Some, IsTrue, ⊤}
 use Rattle.std.specs.List.{All}
-use Rattle.wasm_spec.specs.Features.{Features}
-use Rattle.wasm_spec.specs.BinarySections.{GlobalEntry}
-use Rattle.wasm_spec.specs.GroupRules.{IsValidTypeSection}
-use Rattle.wasm_spec.specs.Framing.{Piece, Version, Counted, DataCount, Unknown, IsFramed}
+use Rattle.wasm_readers_errors.specs.WasmSpec.Features.{Features}
+use Rattle.wasm_readers_errors.specs.WasmSpec.BinarySections.{GlobalEntry}
+use Rattle.wasm_readers_errors.specs.WasmSpec.GroupRules.{IsValidTypeSection}
+use Rattle.wasm_readers_errors.specs.WasmSpec.Framing.{Piece, Version, Counted, DataCount, Unknown, IsFramed}
 use Rattle.wasm_spec_rules.specs.Parts.{Parts, Expression, HasParts}
 use Rattle.wasm_spec_rules.specs.IndexSpaces.{IndexSpaces, index_spaces, IsFunctionType}
 use Rattle.wasm_spec_rules.specs.ItemRules.{IsValidTableEntry, IsValidMemory, IsValidTag, IsValidGlobal}

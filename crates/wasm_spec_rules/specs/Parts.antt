@@ -3,12 +3,12 @@
 use Rattle.std.specs.Prelude.{ℕ, ◌≡◌, ◌==◌, if◌then◌else◌, List, [], ◌∷◌, ◌++◌, map, Option, Some, None}
 use Rattle.std.specs.Option.{option_map, option_and_then}
 use Rattle.std.specs.List.{flat_map}
-use Rattle.wasm_spec.specs.Syntax.{Rec, Memory}
-use Rattle.wasm_spec.specs.Values.{u32_at, items_at}
-use Rattle.wasm_spec.specs.BinaryTypes.{rec_at, memory_at, tag_at}
-use Rattle.wasm_spec.specs.BinaryModules.{Import, Export, import_at, export_at}
-use Rattle.wasm_spec.specs.BinarySections.{TableEntry, GlobalEntry, Element, ElementItems, functions, expressions, Data, SegmentMode, passive, active, declarative, table_entry_at, global_entry_at, element_at, data_at}
-use Rattle.wasm_spec.specs.Framing.{Piece, Counted, Start, DataCount, CodeEntry}
+use Rattle.wasm_readers_errors.specs.WasmSpec.Syntax.{Rec, Memory}
+use Rattle.wasm_readers_errors.specs.WasmSpec.Values.{u32_at, items_at}
+use Rattle.wasm_readers_errors.specs.WasmSpec.BinaryTypes.{rec_at, memory_at, tag_at}
+use Rattle.wasm_readers_errors.specs.WasmSpec.BinaryModules.{Import, Export, import_at, export_at}
+use Rattle.wasm_readers_errors.specs.WasmSpec.BinarySections.{TableEntry, GlobalEntry, Element, ElementItems, functions, expressions, Data, SegmentMode, passive, active, declarative, table_entry_at, global_entry_at, element_at, data_at}
+use Rattle.wasm_readers_errors.specs.WasmSpec.Framing.{Piece, Counted, Start, DataCount, CodeEntry}
 
 -- a constant expression, as the bytes of its instructions
 abbrev pub Expression : Type 0

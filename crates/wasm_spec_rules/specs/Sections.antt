@@ -1,7 +1,7 @@
 -- The pieces of a module in the order of their sections, kind by kind.
 use Rattle.std.specs.Prelude.{ℕ, ◌==◌, if◌then◌else◌, List, [], ◌∷◌, Option, Some}
 use Rattle.std.specs.Option.{option_and_then}
-use Rattle.wasm_spec.specs.Framing.{Piece, Counted, Start, DataCount, CodeStart, CodeEntry, place}
+use Rattle.wasm_readers_errors.specs.WasmSpec.Framing.{Piece, Counted, Start, DataCount, CodeStart, CodeEntry, place}
 
 -- one item after another
 abbrev pub each : {S V : Type 0} → (S → V → Option S) → S → List V → Option S

@@ -2,11 +2,11 @@
 -- Specification 3.0, Validation, Modules (Element Segments, Data Segments).
 use Rattle.std.specs.Prelude.{ℕ, ◌≡◌, ◌<◌, ◌≤◌, length, slice_get, Option, Some, None, IsTrue}
 use Rattle.std.specs.List.{All}
-use Rattle.wasm_spec.specs.Syntax.{Ref, Table}
-use Rattle.wasm_spec.specs.BinarySections.{SegmentMode, passive, active, declarative, ElementItems, functions, expressions, Element, Data, ref_func}
-use Rattle.wasm_spec.specs.Features.{Features}
-use Rattle.wasm_spec.specs.Trees.{declared}
-use Rattle.wasm_spec.specs.Matching.{MatchesRef}
+use Rattle.wasm_readers_errors.specs.WasmSpec.Syntax.{Ref, Table}
+use Rattle.wasm_readers_errors.specs.WasmSpec.BinarySections.{SegmentMode, passive, active, declarative, ElementItems, functions, expressions, Element, Data, ref_func}
+use Rattle.wasm_readers_errors.specs.WasmSpec.Features.{Features}
+use Rattle.wasm_readers_errors.specs.WasmSpec.Trees.{declared}
+use Rattle.wasm_readers_errors.specs.WasmSpec.Matching.{MatchesRef}
 use Rattle.wasm_spec_rules.specs.Parts.{Expression}
 use Rattle.wasm_spec_rules.specs.IndexSpaces.{IndexSpaces, ref_over}
 use Rattle.wasm_spec_rules.specs.ItemRules.{IsAllowedRef}

@@ -1,7 +1,7 @@
 -- How many types a validator keeps at the end of a run of modules, where each written type is kept.
 use Rattle.std.specs.Prelude.{ℕ, ◌≡◌, ◌+◌, List, [], ◌∷◌, ◌++◌, length}
 use Rattle.std.specs.List.{flat_map}
-use Rattle.wasm_spec.specs.Syntax.{Rec, Sub}
+use Rattle.wasm_readers_errors.specs.WasmSpec.Syntax.{Rec, Sub}
 use Rattle.wasm_spec_rules.specs.Parts.{Parts}
 
 -- the types that a module writes

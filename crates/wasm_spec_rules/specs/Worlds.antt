@@ -1,9 +1,9 @@
 -- What identities of types mean where code is checked: what each declares, which is an ancestor of which, and which are the same.
 -- Core Specification 3.0, Validation, Matching (Defined Types). A context gives all of it, with a test for the same identity.
 use Rattle.std.specs.Prelude.{ℕ, zero, suc, Bool, ◌||◌, List, [], ◌∷◌, length, Option, Some, None, if◌then◌else◌}
-use Rattle.wasm_spec.specs.MatchingTests.{World}
-use Rattle.wasm_spec.specs.Syntax.{Sub}
-use Rattle.wasm_spec.specs.Declared.{supertype}
+use Rattle.wasm_readers_errors.specs.WasmSpec.MatchingTests.{World}
+use Rattle.wasm_readers_errors.specs.WasmSpec.Syntax.{Sub}
+use Rattle.wasm_readers_errors.specs.WasmSpec.Declared.{supertype}
 use Rattle.wasm_spec_rules.specs.Contexts.{Context}
 use Rattle.wasm_spec_rules.specs.Attempts.{◌>>=◌, passes}
 

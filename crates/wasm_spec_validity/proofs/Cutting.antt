@@ -7,16 +7,16 @@ use Rattle.wasm_spec.specs.Features.{Features}
 use Rattle.wasm_spec.specs.Values.{unsigned_at, signed_at, not_negative, u32_at, s33_index_at}
 use Rattle.wasm_spec.specs.BinaryTypes.{abstract_heap_from, abstract_heap_at, plain_heap_from, heap_at}
 use Rattle.wasm_spec.proofs.Front.{IsRest, ReadsBy, Reads, reads_none, reads_here, reads_behind, reads_weaken, reads_map, reads_then, reads_value, unsigned-reads, signed-reads, heap-reads}
-use Rattle.wasm_operators_plain.specs.Numeric.{numeric_from, saturating_from}
-use Rattle.wasm_operators_plain.specs.Immediates.{one_index, two_indices}
-use Rattle.wasm_operators_plain.specs.Variables.{variable_from}
-use Rattle.wasm_operators_plain.specs.Memories.{access_from}
-use Rattle.wasm_operators_plain.specs.Constants.{little_endian_at, bits_32_at, bits_64_at, bits_128_at, constant_from, vector_from}
-use Rattle.wasm_operators_plain.specs.Conversions.{conversion_from, shared_from}
-use Rattle.wasm_operators_plain.specs.Structs.{struct_from}
-use Rattle.wasm_operators_plain.specs.Arrays.{array_from}
-use Rattle.wasm_operators_plain.specs.declared.memories.MemoryOperator.{MemoryOperator}
-use Rattle.wasm_operators_plain.proofs.Fronts.{u32-reads, vector-reads, struct-reads, array-reads}
+use Rattle.wasm_operators.specs.WasmOperatorsPlain.Numeric.{numeric_from, saturating_from}
+use Rattle.wasm_operators.specs.WasmOperatorsPlain.Immediates.{one_index, two_indices}
+use Rattle.wasm_operators.specs.WasmOperatorsPlain.Variables.{variable_from}
+use Rattle.wasm_operators.specs.WasmOperatorsPlain.Memories.{access_from}
+use Rattle.wasm_operators.specs.WasmOperatorsPlain.Constants.{little_endian_at, bits_32_at, bits_64_at, bits_128_at, constant_from, vector_from}
+use Rattle.wasm_operators.specs.WasmOperatorsPlain.Conversions.{conversion_from, shared_from}
+use Rattle.wasm_operators.specs.WasmOperatorsPlain.Structs.{struct_from}
+use Rattle.wasm_operators.specs.WasmOperatorsPlain.Arrays.{array_from}
+use Rattle.wasm_operators.specs.WasmOperatorsPlain.declared.memories.MemoryOperator.{MemoryOperator}
+use Rattle.wasm_operators.proofs.WasmOperatorsPlain.Fronts.{u32-reads, vector-reads, struct-reads, array-reads}
 use Rattle.wasm_operators.specs.Control.{Block, Control, block, loop, if_, br_table, try_table, control_from}
 use Rattle.wasm_operators.specs.declared.control.Catch.{Catch}
 use Rattle.wasm_operators.specs.References.{reference_from}

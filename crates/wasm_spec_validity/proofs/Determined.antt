@@ -4,7 +4,7 @@ use Rattle.std.specs.List.{All}
 use Rattle.std.proofs.lemmas.List.Elements.{All-nil, All-cons, All-head, All-tail}
 use Rattle.wasm_spec.specs.MatchingTests.{World}
 use Rattle.wasm_operators.specs.Instructions.{Instruction, instruction_at}
-use Rattle.wasm_spec_rules.specs.Attempts.{passes}
+use Rattle.wasm_operator_steps.specs.WasmSpecRules.Attempts.{passes}
 use Rattle.wasm_operator_steps.specs.Bodies.{Surroundings}
 use Rattle.wasm_operator_steps.specs.ConstantRules.{is_allowed, IsConstantExpression}
 use Rattle.wasm_operator_steps.specs.Machine.{State}

@@ -10,14 +10,14 @@ use Rattle.wasm_spec.specs.BinaryTypes.{heap_at}
 use Rattle.wasm_operators.specs.Control.{control_from, value_block, func_block}
 use Rattle.wasm_operators.specs.References.{reference_from}
 use Rattle.wasm_operators.specs.Instructions.{Instruction, instruction_at, plain_from}
-use Rattle.wasm_operators_plain.specs.Numeric.{numeric_from, numeric_operators}
-use Rattle.wasm_operators_plain.specs.Constants.{constant_from}
-use Rattle.wasm_operators_plain.specs.Variables.{variable_from}
-use Rattle.wasm_spec_rules.specs.Contexts.{Context}
-use Rattle.wasm_spec_rules.specs.Parts.{Expression}
-use Rattle.wasm_spec_rules.specs.Attempts.{◌>>=◌}
-use Rattle.wasm_spec_rules.specs.Signatures.{signature_of}
-use Rattle.wasm_spec_rules.specs.Worlds.{world_of}
+use Rattle.wasm_operators.specs.WasmOperatorsPlain.Numeric.{numeric_from, numeric_operators}
+use Rattle.wasm_operators.specs.WasmOperatorsPlain.Constants.{constant_from}
+use Rattle.wasm_operators.specs.WasmOperatorsPlain.Variables.{variable_from}
+use Rattle.wasm_operator_steps.specs.WasmSpecRules.Contexts.{Context}
+use Rattle.wasm_operator_steps.specs.WasmSpecRules.Parts.{Expression}
+use Rattle.wasm_operator_steps.specs.WasmSpecRules.Attempts.{◌>>=◌}
+use Rattle.wasm_operator_steps.specs.WasmSpecRules.Signatures.{signature_of}
+use Rattle.wasm_operator_steps.specs.WasmSpecRules.Worlds.{world_of}
 use Rattle.wasm_operator_steps.specs.Bodies.{Local, Surroundings}
 use Rattle.wasm_operator_steps.specs.FunctionBodies.{Declaration, declared_at, IsBodyOfFunction}
 use Rattle.wasm_operator_steps.specs.Sequences.{Are}

@@ -3,20 +3,20 @@ use Rattle.std.proofs.Common.{◌≡◌, refl, sym, ap, ◌∙◌, subst, ℕ, B
 use Rattle.wasm_spec.specs.Syntax.{AbstractHeap, Val}
 use Rattle.wasm_spec.specs.MatchingTests.{World}
 use Rattle.wasm_spec.specs.Features.{Features}
-use Rattle.wasm_operators_plain.specs.Signatures.{signature_of}
-use Rattle.wasm_operators_plain.specs.declared.signatures.Signature.{Signature}
-use Rattle.wasm_operators_plain.specs.declared.signatures.Signature.TheVariants.{Unary, Binary}
-use Rattle.wasm_operators_plain.specs.declared.variables.VariableOperator.TheVariants.{LocalGet, LocalSet, LocalTee, GlobalGet, GlobalSet}
-use Rattle.wasm_operators_plain.specs.declared.conversions.ConversionOperator.TheVariants.{AnyConvertExtern, ExternConvertAny, RefI31, I31GetS, I31GetU, RefI31Shared}
-use Rattle.wasm_operators_plain.specs.declared.structs.StructOperator.{StructOperator}
-use Rattle.wasm_operators_plain.specs.declared.structs.StructOperator.TheVariants.{StructNew, StructNewDefault, StructGet, StructGetS, StructGetU, StructSet, StructNewDesc, StructNewDefaultDesc}
-use Rattle.wasm_operators_plain.specs.declared.arrays.ArrayOperator.{ArrayOperator}
-use Rattle.wasm_operators_plain.specs.declared.arrays.ArrayOperator.TheVariants.{ArrayNew, ArrayNewDefault, ArrayNewFixed, ArrayNewData, ArrayNewElem, ArrayGet, ArrayGetS, ArrayGetU, ArraySet, ArrayLen, ArrayFill, ArrayCopy, ArrayInitData, ArrayInitElem}
+use Rattle.wasm_operators.specs.WasmOperatorsPlain.Signatures.{signature_of}
+use Rattle.wasm_operators.specs.WasmOperatorsPlain.declared.signatures.Signature.{Signature}
+use Rattle.wasm_operators.specs.WasmOperatorsPlain.declared.signatures.Signature.TheVariants.{Unary, Binary}
+use Rattle.wasm_operators.specs.WasmOperatorsPlain.declared.variables.VariableOperator.TheVariants.{LocalGet, LocalSet, LocalTee, GlobalGet, GlobalSet}
+use Rattle.wasm_operators.specs.WasmOperatorsPlain.declared.conversions.ConversionOperator.TheVariants.{AnyConvertExtern, ExternConvertAny, RefI31, I31GetS, I31GetU, RefI31Shared}
+use Rattle.wasm_operators.specs.WasmOperatorsPlain.declared.structs.StructOperator.{StructOperator}
+use Rattle.wasm_operators.specs.WasmOperatorsPlain.declared.structs.StructOperator.TheVariants.{StructNew, StructNewDefault, StructGet, StructGetS, StructGetU, StructSet, StructNewDesc, StructNewDefaultDesc}
+use Rattle.wasm_operators.specs.WasmOperatorsPlain.declared.arrays.ArrayOperator.{ArrayOperator}
+use Rattle.wasm_operators.specs.WasmOperatorsPlain.declared.arrays.ArrayOperator.TheVariants.{ArrayNew, ArrayNewDefault, ArrayNewFixed, ArrayNewData, ArrayNewElem, ArrayGet, ArrayGetS, ArrayGetU, ArraySet, ArrayLen, ArrayFill, ArrayCopy, ArrayInitData, ArrayInitElem}
 use Rattle.wasm_operators.specs.Control.{Control, unreachable, nop, else_, end_, throw_ref, return_, block, loop, if_, try_table, throw, br, br_if, br_table}
 use Rattle.wasm_operators.specs.References as references
 use Rattle.wasm_operators.specs.Instructions as instruction
 use Rattle.wasm_operators.specs.Instructions.{Instruction, control}
-use Rattle.wasm_spec_rules.specs.Attempts.{◌>>=◌, guard}
+use Rattle.wasm_operator_steps.specs.WasmSpecRules.Attempts.{◌>>=◌, guard}
 use Rattle.wasm_operator_steps.specs.Bodies.{Surroundings}
 use Rattle.wasm_operator_steps.specs.Machine.{Operand, Frame, State, push_operand, push_vals, pop_any, as_reference, pop_reference, pop_vals}
 use Rattle.wasm_operator_steps.specs.Actions.{OperandTypes, Check, Action, take, give, convert}

@@ -1,3 +1,4 @@
+pub use Rattle.wasm_operator_steps.proofs as WasmOperatorSteps
 pub mod Numbered
 pub mod Plain
 pub mod Cutting

@@ -12,16 +12,16 @@ use Rattle.wasm_spec.specs.GroupRules.{IsValidType}
 use Rattle.wasm_spec.specs.Trees.{declared}
 use Rattle.wasm_operators.specs.Control.{control_from, value_block}
 use Rattle.wasm_operators.specs.Instructions.{instruction_at, plain_from}
-use Rattle.wasm_operators_plain.specs.Constants.{constant_from}
-use Rattle.wasm_spec_rules.specs.Contexts.{Context}
-use Rattle.wasm_spec_rules.specs.IndexSpaces.{IndexSpaces, index_spaces, IsFunctionType}
-use Rattle.wasm_spec_rules.specs.ItemRules.{IsValidTableEntry, IsValidMemory, IsValidTag, IsValidGlobal}
-use Rattle.wasm_spec_rules.specs.LinkRules.{IsValidImport, IsValidExport, IsValidStart}
-use Rattle.wasm_spec_rules.specs.ModuleExamples.{first_version}
-use Rattle.wasm_spec_rules.specs.Modules.{IsAllowedPiece}
-use Rattle.wasm_spec_rules.specs.Parts.{Parts, Expression, all_items, index}
-use Rattle.wasm_spec_rules.specs.SegmentRules.{IsValidElement, IsValidData}
-use Rattle.wasm_spec_rules.specs.Worlds.{world_of}
+use Rattle.wasm_operators.specs.WasmOperatorsPlain.Constants.{constant_from}
+use Rattle.wasm_operator_steps.specs.WasmSpecRules.Contexts.{Context}
+use Rattle.wasm_operator_steps.specs.WasmSpecRules.IndexSpaces.{IndexSpaces, index_spaces, IsFunctionType}
+use Rattle.wasm_operator_steps.specs.WasmSpecRules.ItemRules.{IsValidTableEntry, IsValidMemory, IsValidTag, IsValidGlobal}
+use Rattle.wasm_operator_steps.specs.WasmSpecRules.LinkRules.{IsValidImport, IsValidExport, IsValidStart}
+use Rattle.wasm_operator_steps.specs.WasmSpecRules.ModuleExamples.{first_version}
+use Rattle.wasm_operator_steps.specs.WasmSpecRules.Modules.{IsAllowedPiece}
+use Rattle.wasm_operator_steps.specs.WasmSpecRules.Parts.{Parts, Expression, all_items, index}
+use Rattle.wasm_operator_steps.specs.WasmSpecRules.SegmentRules.{IsValidElement, IsValidData}
+use Rattle.wasm_operator_steps.specs.WasmSpecRules.Worlds.{world_of}
 use Rattle.wasm_operator_steps.specs.Steps.{start}
 use Rattle.wasm_spec_validity.specs.Examples.{one_i32, initialized, GlobalIsModule, NoGlobalOfAnotherType}
 use Rattle.wasm_spec_validity.specs.Expressions.{expression_at}

@@ -4,9 +4,9 @@ use Rattle.std.specs.List.{All, flat_map}
 use Rattle.std.proofs.lemmas.List.Elements.{All-nil, All-cons}
 use Rattle.wasm_spec.specs.BinarySections.{TableEntry, GlobalEntry, Element, ElementItems, functions, expressions, SegmentMode, passive, active, declarative}
 use Rattle.wasm_spec.specs.Features.{Features}
-use Rattle.wasm_spec_rules.specs.Contexts.{Context}
-use Rattle.wasm_spec_rules.specs.Parts.{Parts, Expression, mode_expressions, items_expressions, table_expressions, expressions_of}
-use Rattle.wasm_spec_rules.specs.IndexSpaces.{index_spaces}
+use Rattle.wasm_operator_steps.specs.WasmSpecRules.Contexts.{Context}
+use Rattle.wasm_operator_steps.specs.WasmSpecRules.Parts.{Parts, Expression, mode_expressions, items_expressions, table_expressions, expressions_of}
+use Rattle.wasm_operator_steps.specs.WasmSpecRules.IndexSpaces.{index_spaces}
 use Rattle.wasm_spec_validity.specs.Laws.{PlainModulesAreValid}
 use Rattle.wasm_spec_validity.specs.Typing.{IsConstant, IsTypedTable, IsTypedElementMode, AreTypedItems, IsTypedElement, IsTypedDataMode, IsTypedData, HasTypedConstants, HasTypedBodies}
 use Rattle.wasm_spec_validity.specs.Modules.{context_of, imported_globals, number_at}

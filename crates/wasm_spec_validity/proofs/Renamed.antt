@@ -8,8 +8,8 @@ use Rattle.wasm_spec.specs.MatchingTests.{World}
 use Rattle.wasm_spec.specs.Syntax.{Global, map_global}
 use Rattle.wasm_operators.specs.Instructions as instruction
 use Rattle.wasm_operators.specs.Instructions.{Instruction}
-use Rattle.wasm_operators_plain.specs.declared.variables.VariableOperator.TheVariants.{LocalGet, LocalSet, LocalTee, GlobalGet, GlobalSet}
-use Rattle.wasm_spec_rules.specs.Contexts.{Context}
+use Rattle.wasm_operators.specs.WasmOperatorsPlain.declared.variables.VariableOperator.TheVariants.{LocalGet, LocalSet, LocalTee, GlobalGet, GlobalSet}
+use Rattle.wasm_operator_steps.specs.WasmSpecRules.Contexts.{Context}
 use Rattle.wasm_operator_steps.specs.Bodies.{Surroundings, map_surroundings}
 use Rattle.wasm_operator_steps.specs.ConstantExpressions.{is_constant}
 use Rattle.wasm_operator_steps.specs.ConstantRules.{may_be_read, is_readable, is_allowed, IsConstantExpression}

@@ -8,10 +8,10 @@ use Rattle.wasm_spec.specs.Features.{Features}
 use Rattle.wasm_spec.specs.MatchingTests.{World}
 use Rattle.wasm_operators.specs.Control.{func_block}
 use Rattle.wasm_operators.specs.Instructions.{Instruction}
-use Rattle.wasm_spec_rules.specs.Attempts.{◌>>=◌, among}
-use Rattle.wasm_spec_rules.specs.Contexts.{Context, map_context}
-use Rattle.wasm_spec_rules.specs.Signatures.{Signature, signature_of, resolve_heap, resolve_ref, resolve_val}
-use Rattle.wasm_spec_rules.specs.Worlds.{world_of}
+use Rattle.wasm_operator_steps.specs.WasmSpecRules.Attempts.{◌>>=◌, among}
+use Rattle.wasm_operator_steps.specs.WasmSpecRules.Contexts.{Context, map_context}
+use Rattle.wasm_operator_steps.specs.WasmSpecRules.Signatures.{Signature, signature_of, resolve_heap, resolve_ref, resolve_val}
+use Rattle.wasm_operator_steps.specs.WasmSpecRules.Worlds.{world_of}
 use Rattle.wasm_operator_steps.specs.Bodies.{Local, Surroundings, map_local}
 use Rattle.wasm_operator_steps.specs.FunctionBodies.{Declaration, local_declared, type_of, declared_locals, with_locals, local_taken, declared_at, IsBody, IsBodyOfFunction}
 use Rattle.wasm_operator_steps.specs.Machine.{State, map_state}

@@ -10,7 +10,7 @@ use Rattle.wasm_spec.proofs.LawSet.{goes_on, ignores_what_follows}
 use Rattle.wasm_operators.specs.Control.{end_, value_block}
 use Rattle.wasm_operators.specs.Instructions.{Instruction, control, instruction_at}
 use Rattle.wasm_operators.proofs.Fronts.{instruction-reads}
-use Rattle.wasm_spec_rules.specs.Parts.{Expression}
+use Rattle.wasm_operator_steps.specs.WasmSpecRules.Parts.{Expression}
 use Rattle.wasm_operator_steps.specs.Bodies.{Surroundings}
 use Rattle.wasm_operator_steps.specs.ConstantExpressions.{is_constant}
 use Rattle.wasm_operator_steps.specs.ConstantRules.{is_allowed, is_readable}

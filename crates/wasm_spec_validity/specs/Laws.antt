@@ -6,11 +6,11 @@ use Rattle.wasm_spec.specs.MatchingTests.{World}
 use Rattle.wasm_spec.specs.Syntax.{Val}
 use Rattle.wasm_spec.specs.Trees.{DefType}
 use Rattle.wasm_operators.specs.Control.{value_block}
-use Rattle.wasm_spec_rules.specs.Contexts.{Context}
-use Rattle.wasm_spec_rules.specs.IndexSpaces.{IndexSpaces}
-use Rattle.wasm_spec_rules.specs.Modules.{IsWellFormed}
-use Rattle.wasm_spec_rules.specs.Parts.{Parts, Expression, expressions_of}
-use Rattle.wasm_spec_rules.specs.Worlds.{world_of}
+use Rattle.wasm_operator_steps.specs.WasmSpecRules.Contexts.{Context}
+use Rattle.wasm_operator_steps.specs.WasmSpecRules.IndexSpaces.{IndexSpaces}
+use Rattle.wasm_operator_steps.specs.WasmSpecRules.Modules.{IsWellFormed}
+use Rattle.wasm_operator_steps.specs.WasmSpecRules.Parts.{Parts, Expression, expressions_of}
+use Rattle.wasm_operator_steps.specs.WasmSpecRules.Worlds.{world_of}
 use Rattle.wasm_operator_steps.specs.Bodies.{Surroundings}
 use Rattle.wasm_operator_steps.specs.ConstantRules.{IsConstantExpression}
 use Rattle.wasm_operator_steps.specs.Machine.{State}

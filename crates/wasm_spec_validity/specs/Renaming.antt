@@ -3,10 +3,10 @@
 use Rattle.std.specs.Prelude.{◌≡◌, ◌↔◌, ℕ, Bool, List}
 use Rattle.wasm_spec.specs.Features.{Features}
 use Rattle.wasm_spec.specs.MatchingTests.{World}
-use Rattle.wasm_spec_rules.specs.Attempts.{among}
-use Rattle.wasm_spec_rules.specs.Contexts.{Context, map_context}
-use Rattle.wasm_spec_rules.specs.Parts.{Parts}
-use Rattle.wasm_spec_rules.specs.Worlds.{world_of}
+use Rattle.wasm_operator_steps.specs.WasmSpecRules.Attempts.{among}
+use Rattle.wasm_operator_steps.specs.WasmSpecRules.Contexts.{Context, map_context}
+use Rattle.wasm_operator_steps.specs.WasmSpecRules.Parts.{Parts}
+use Rattle.wasm_operator_steps.specs.WasmSpecRules.Worlds.{world_of}
 use Rattle.wasm_operator_steps.specs.FunctionBodies.{IsBodyOfFunction}
 use Rattle.wasm_operator_steps.specs.Renaming.{Renames}
 use Rattle.wasm_spec_validity.specs.Typing.{HasTypedBodies}

@@ -11,12 +11,12 @@ use Rattle.std.proofs.lemmas.List.{length-map}
 use Rattle.std.proofs.lemmas.List.Elements.{All-nil, All-cons}
 use Rattle.std.proofs.lemmas.List.Sums.{sum_by-take-le}
 use Rattle.wasm_readers_errors.specs.declared.features.TheConstants.WasmFeatures.{STANDARD}
-use Rattle.wasm_readers_types.specs.declared.indices.TheConstants.{MAX_IDS}
+use Rattle.wasm_readers_errors.specs.WasmReadersTypes.declared.indices.TheConstants.{MAX_IDS}
 use Rattle.wasm_spec_rules.specs.FeatureFlags.{features_of}
-use Rattle.wasm_spec_validity.specs.Modules.{up_to_bodies}
-use Rattle.wasm_validator_types.specs.declared.shown.Types as shown
-use Rattle.wasm_validator_core.specs.declared.error.Error.{Error}
-use Rattle.wasm_validator_core.specs.declared.error.Error.TheVariants.{OutOfMemory}
+use Rattle.wasm_validator.specs.WasmSpecValidity.Modules.{up_to_bodies}
+use Rattle.wasm_validator.specs.WasmValidatorTypes.declared.shown.Types as shown
+use Rattle.wasm_validator.specs.WasmValidatorCore.declared.error.Error.{Error}
+use Rattle.wasm_validator.specs.WasmValidatorCore.declared.error.Error.TheVariants.{OutOfMemory}
 use Rattle.wasm_validator.specs.Headline.{WritesAtMost, HasRoom, NoneLacksMemory}
 use Rattle.wasm_validate_files.specs.declared.files.Input.{Input}
 use Rattle.wasm_validate_files.specs.Files.{IsRead, IsUnread, is_unread, bytes_held, AreAllAccepted, HoldsAtMost, HasRoomForAll}

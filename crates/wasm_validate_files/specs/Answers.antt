@@ -4,9 +4,9 @@ use Rattle.std.specs.declared.result.Result.{Result}
 use Rattle.std.specs.declared.result.Result.TheVariants.{Ok, Err}
 use Rattle.wasm_readers_errors.specs.declared.features.TheConstants.WasmFeatures.{STANDARD}
 use Rattle.wasm_spec_rules.specs.FeatureFlags.{features_of}
-use Rattle.wasm_validator_types.specs.declared.shown.Types as shown
-use Rattle.wasm_validator_core.specs.declared.error.Error.{Error}
-use Rattle.wasm_validator_core.specs.Errors.{IsMemory}
+use Rattle.wasm_validator.specs.WasmValidatorTypes.declared.shown.Types as shown
+use Rattle.wasm_validator.specs.WasmValidatorCore.declared.error.Error.{Error}
+use Rattle.wasm_validator.specs.WasmValidatorCore.Errors.{IsMemory}
 use Rattle.wasm_validator.specs.Headline.{Headline}
 use Rattle.wasm_validate_files.specs.declared.files.Input.{Input}
 use Rattle.wasm_validate_files.specs.Files.{bytes_held}

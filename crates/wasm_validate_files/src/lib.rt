@@ -72,3 +72,11 @@ fn read_file<R: Files + AllocGlobal>(rt: &R, word: Word) -> Result<Input, AllocE
         },
     }
 }
+
+/// Passed on from `wasm_validator`.
+pub mod validator {
+    pub use wasm_validator::{
+        EntityType, Error, MaybeOwned, Module, TypeList, Types, ValidatorId, WasmFeatures,
+        canonicalize_and_intern_rec_group, validate,
+    };
+}

@@ -2,7 +2,7 @@
 use Rattle.std.proofs.Common.{◌≡◌, refl, sym, ap, subst, ◌∙◌, inl, inr, ℕ, zero, suc, ◌+◌, ◌<◌, ◌≤◌, true, List, [], ◌∷◌, ◌++◌, length, drop, get_or, append_assoc, append-nil, arith}
 use Rattle.std.specs.declared.result.Result.{Result}
 use Rattle.wasm_validator_types.specs.declared.shown.Types as shown
-use Rattle.wasm_validator_core.specs.declared.error.Error.{Error}
+use Rattle.wasm_validator_modules.specs.WasmValidatorCore.declared.error.Error.{Error}
 use Rattle.std.specs.Borrow.{Bor}
 use Rattle.wasm_validator_modules.specs.Standing.{Standing, may_reset, after_reset}
 use Rattle.wasm_validator_modules.specs.Verdict.{DecidesModule, EndsModule, StopsModule}

@@ -15,12 +15,12 @@ use Rattle.wasm_spec.proofs.Matching.{accepted_types_match_ancestors}
 use Rattle.wasm_spec.proofs.Accepted.{valid_type_section_is_accepted}
 use Rattle.wasm_spec.proofs.Closing.{slice_get-append_left}
 use Rattle.wasm_spec_rules.specs.FeatureFlags.{features_of}
-use Rattle.wasm_spec_validity.specs.Modules.{IsValidUpToBodies, IsValidModule}
+use Rattle.wasm_validator_modules.specs.WasmSpecValidity.Modules.{IsValidUpToBodies, IsValidModule}
 use Rattle.wasm_readers_types.specs.declared.indices.TheConstants.{MAX_IDS}
 use Rattle.wasm_readers_errors.specs.declared.features.WasmFeatures.{WasmFeatures}
-use Rattle.wasm_validator_type_groups.specs.Elements.{numbers_from}
-use Rattle.wasm_validator_canonical.specs.Sections.{StandsFor}
-use Rattle.wasm_validator_canonical.proofs.Sections.{one_id_for_one_type}
+use Rattle.wasm_validator_type_list.specs.WasmValidatorTypeGroups.Elements.{numbers_from}
+use Rattle.wasm_validator_modules.specs.WasmValidatorCanonical.Sections.{StandsFor}
+use Rattle.wasm_validator_modules.proofs.WasmValidatorCanonical.Sections.{one_id_for_one_type}
 use Rattle.wasm_validator_type_list.specs.Listing.{Listing}
 use Rattle.wasm_validator_type_list.specs.Listable.{AreListable}
 use Rattle.wasm_validator_type_list.specs.Declares.{declares}
@@ -29,9 +29,9 @@ use Rattle.wasm_validator_type_list.specs.Laws.{type_of_id}
 use Rattle.wasm_validator_type_list.proofs.Order.{ids_are_ordered_as_types}
 use Rattle.wasm_validator_types.specs.Shown.{shown_of}
 use Rattle.wasm_validator_types.specs.declared.shown.Types as shown
-use Rattle.wasm_validator_core.specs.declared.error.Error.{Error}
-use Rattle.wasm_validator_core.specs.declared.error.Error.TheVariants.{Refused, DuplicateExport, OutOfMemory}
-use Rattle.wasm_validator_core.specs.Answers.{TypesSoFar}
+use Rattle.wasm_validator_modules.specs.WasmValidatorCore.declared.error.Error.{Error}
+use Rattle.wasm_validator_modules.specs.WasmValidatorCore.declared.error.Error.TheVariants.{Refused, DuplicateExport, OutOfMemory}
+use Rattle.wasm_validator_modules.specs.WasmValidatorCore.Answers.{TypesSoFar}
 use Rattle.wasm_validator_modules.specs.Standing.{Stage, unparsed, in_module, in_code, ended, failed, Standing, may_reset, after_reset}
 use Rattle.wasm_validator_modules.specs.Verdict.{RefusesModule, RefusesUpToBodies, StopsModule}
 use Rattle.wasm_validator.specs.Lists.{DecidesEach}

@@ -1,3 +1,4 @@
+pub use Rattle.wasm_validator_modules.proofs.WasmLawsCore as WasmLawsCore
 pub mod Lists
 pub mod Headline
 mod Going

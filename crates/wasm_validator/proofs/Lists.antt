@@ -11,8 +11,8 @@ use Rattle.wasm_readers_errors.specs.declared.features.WasmFeatures.{WasmFeature
 use Rattle.wasm_validator_type_list.specs.DefTypes.{types_of_list}
 use Rattle.wasm_validator_types.specs.Shown.{shown_of}
 use Rattle.wasm_validator_types.specs.declared.shown.Types as shown
-use Rattle.wasm_validator_core.specs.declared.error.Error.{Error}
-use Rattle.wasm_validator_core.specs.Answers.{TypesSoFar}
+use Rattle.wasm_validator_modules.specs.WasmValidatorCore.declared.error.Error.{Error}
+use Rattle.wasm_validator_modules.specs.WasmValidatorCore.Answers.{TypesSoFar}
 use Rattle.wasm_validator_modules.specs.Standing.{unparsed, ended, Standing, after_reset}
 use Rattle.wasm_validator_modules.specs.Verdict.{DecidesModule, EndsModule, StopsModule}
 use Rattle.wasm_validator.specs.Lists.{DecidesEach}

@@ -11,8 +11,8 @@ use Rattle.wasm_spec.specs.Declared.{IsAncestor}
 use Rattle.wasm_spec.specs.Matching.{MatchesSub}
 use Rattle.wasm_spec_rules.specs.IndexSpaces.{index_spaces}
 use Rattle.wasm_spec_rules.specs.Modules.{IsWellFormed}
-use Rattle.wasm_spec_validity.specs.Expressions.{expression_at}
-use Rattle.wasm_spec_validity.specs.Modules.{IsValidUpToBodies, IsValidModule}
+use Rattle.wasm_validator_modules.specs.WasmSpecValidity.Expressions.{expression_at}
+use Rattle.wasm_validator_modules.specs.WasmSpecValidity.Modules.{IsValidUpToBodies, IsValidModule}
 use Rattle.wasm_readers_types.specs.declared.indices.TheConstants.{MAX_IDS}
 use Rattle.wasm_validator_type_list.specs.Listing.{Listing}
 use Rattle.wasm_validator_type_list.specs.Listable.{AreListable}
@@ -20,9 +20,9 @@ use Rattle.wasm_validator_type_list.specs.Declares.{declares}
 use Rattle.wasm_validator_type_list.specs.DefTypes.{types_of_list}
 use Rattle.wasm_validator_types.specs.Shown.{shown_of}
 use Rattle.wasm_validator_types.specs.declared.shown.Types as shown
-use Rattle.wasm_validator_core.specs.declared.error.Error.{Error}
-use Rattle.wasm_validator_core.specs.declared.error.Error.TheVariants.{OutOfMemory}
-use Rattle.wasm_validator_core.specs.Answers.{TypesSoFar}
+use Rattle.wasm_validator_modules.specs.WasmValidatorCore.declared.error.Error.{Error}
+use Rattle.wasm_validator_modules.specs.WasmValidatorCore.declared.error.Error.TheVariants.{OutOfMemory}
+use Rattle.wasm_validator_modules.specs.WasmValidatorCore.Answers.{TypesSoFar}
 use Rattle.wasm_validator_modules.specs.Shows.{ShowModule}
 use Rattle.wasm_validator_modules.specs.Standing.{Stage, unparsed, in_module, in_code, ended, failed}
 

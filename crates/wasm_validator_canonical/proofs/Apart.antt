@@ -14,7 +14,7 @@ use Rattle.wasm_spec.proofs.Numbering.{members-close, start_of-close}
 use Rattle.wasm_spec_rules.proofs.Tests.{map_some, guarded, then_some}
 use Rattle.wasm_readers_types.specs.declared.indices.UnpackedIndex.{UnpackedIndex}
 use Rattle.wasm_readers_types.specs.declared.indices.TheConstants.{MAX_IDS}
-use Rattle.wasm_validator_type_groups.proofs.Places.{get-left, get-right, get-append}
+use Rattle.wasm_validator_type_list.proofs.WasmValidatorTypeGroups.Places.{get-left, get-right, get-append}
 use Rattle.wasm_validator_type_list.specs.DefTypes.{listed_group}
 use Rattle.wasm_validator_type_list.proofs.DefTypes.{place_in, get-positions, from-positions}
 use Rattle.wasm_validator_canonical.specs.Found.{place_of}

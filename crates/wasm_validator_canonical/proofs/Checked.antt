@@ -14,14 +14,14 @@ use Rattle.wasm_spec.specs.GroupRules.{IsValidType}
 use Rattle.wasm_readers_errors.specs.declared.error.Error.{Error}
 use Rattle.wasm_readers_errors.specs.declared.error.Error.TheVariants.{Refused, OutOfMemory}
 use Rattle.wasm_readers_types.specs.declared.types.SubType.{SubType}
-use Rattle.wasm_validator_type_groups.specs.declared.group_id.RecGroupId.{RecGroupId}
+use Rattle.wasm_validator_type_list.specs.WasmValidatorTypeGroups.declared.group_id.RecGroupId.{RecGroupId}
 use Rattle.wasm_validator_type_list.specs.Interned.{AreOnce, Interns}
 use Rattle.wasm_validator_type_list.specs.Listable.{AreListable}
 use Rattle.wasm_validator_type_list.specs.Listing.{Listing, types_in}
 use Rattle.wasm_validator_type_list.specs.Refused.{RefusesTooMany}
 use Rattle.wasm_validator_type_list.specs.DefTypes.{def_types, tree_behind, listed_group, listed_sub}
-use Rattle.wasm_validator_type_groups.proofs.Flat.{first_of-stays, first_of-all}
-use Rattle.wasm_validator_type_groups.proofs.Places.{get-end, get-right}
+use Rattle.wasm_validator_type_list.proofs.WasmValidatorTypeGroups.Flat.{first_of-stays, first_of-all}
+use Rattle.wasm_validator_type_list.proofs.WasmValidatorTypeGroups.Places.{get-end, get-right}
 use Rattle.wasm_validator_type_list.proofs.Placed.{once_in}
 use Rattle.wasm_validator_type_list.proofs.DefTypes.{def_types-push, length-def_types, first_of-within}
 use Rattle.wasm_validator_type_checks.specs.Rules.{IsValidGroupAt}

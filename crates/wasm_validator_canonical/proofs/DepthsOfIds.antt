@@ -6,8 +6,8 @@ use Rattle.wasm_spec.specs.Declared.{ancestor_at, IsDepth}
 use Rattle.wasm_readers_types.specs.declared.indices.CoreTypeId.{CoreTypeId}
 use Rattle.wasm_readers_types.specs.declared.types.SubType.{SubType}
 use Rattle.wasm_validator_type_list.specs.Declares.{declares}
-use Rattle.wasm_validator_type_groups.specs.Elements.{numbers_from}
-use Rattle.wasm_validator_type_groups.specs.Groups.{first_of}
+use Rattle.wasm_validator_type_list.specs.WasmValidatorTypeGroups.Elements.{numbers_from}
+use Rattle.wasm_validator_type_list.specs.WasmValidatorTypeGroups.Groups.{first_of}
 use Rattle.wasm_validator_type_list.specs.Listing.{Listing, types_in}
 use Rattle.wasm_validator_type_list.specs.Lookups.{IsSupertypeAt}
 use Rattle.wasm_validator_type_list.proofs.Declares.{supertype_read}

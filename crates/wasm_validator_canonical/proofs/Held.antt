@@ -5,13 +5,13 @@ use Rattle.wasm_spec.specs.Trees.{RecTree, DefType}
 use Rattle.wasm_spec.specs.Closing.{positions}
 use Rattle.wasm_spec.specs.TypeLaws.{HasNoRepetition}
 use Rattle.wasm_readers_types.specs.declared.types.SubType.{SubType}
-use Rattle.wasm_validator_type_groups.specs.Elements.{numbers_from}
-use Rattle.wasm_validator_type_groups.specs.Groups.{first_of}
+use Rattle.wasm_validator_type_list.specs.WasmValidatorTypeGroups.Elements.{numbers_from}
+use Rattle.wasm_validator_type_list.specs.WasmValidatorTypeGroups.Groups.{first_of}
 use Rattle.wasm_validator_type_list.specs.Listing.{Listing}
 use Rattle.wasm_validator_type_list.specs.DefTypes.{listed_sub, listed_group, def_types, tree_behind, StandFor}
 use Rattle.wasm_validator_type_list.specs.Interned.{AreOnce, Interns, InternsTypes}
-use Rattle.wasm_validator_type_groups.proofs.Flat.{first_of-stays, first_of-all}
-use Rattle.wasm_validator_type_groups.proofs.Places.{get-left, get-right}
+use Rattle.wasm_validator_type_list.proofs.WasmValidatorTypeGroups.Flat.{first_of-stays, first_of-all}
+use Rattle.wasm_validator_type_list.proofs.WasmValidatorTypeGroups.Places.{get-left, get-right}
 use Rattle.wasm_validator_type_list.proofs.DefTypes.{from-positions, place_in, def_types-push, length-def_types}
 use Rattle.wasm_validator_canonical.specs.Groups.{held_at, held}
 use Rattle.wasm_validator_canonical.proofs.Found.{StandAt, no_types_found, found, not_found}

@@ -2,11 +2,11 @@
 use Rattle.std.proofs.Common.{◌≡◌, refl, ap, ◌∙◌, ℕ, zero, suc, ◌+◌, ◌-◌, Bool, true, false, List, [], ◌∷◌, ◌++◌, length, slice_get, take, Some, arith, length-append}
 use Rattle.std.proofs.lemmas.Option.{none-some, same_Some}
 use Rattle.wasm_readers_types.specs.declared.types.SubType.{SubType}
-use Rattle.wasm_validator_type_groups.specs.Elements.{numbers_from, ids_of_group}
-use Rattle.wasm_validator_type_groups.specs.Groups.{all_in, first_of}
+use Rattle.wasm_validator_type_list.specs.WasmValidatorTypeGroups.Elements.{numbers_from, ids_of_group}
+use Rattle.wasm_validator_type_list.specs.WasmValidatorTypeGroups.Groups.{all_in, first_of}
 use Rattle.wasm_validator_type_list.specs.Listing.{Listing}
 use Rattle.wasm_validator_type_list.specs.Interned.{AreOnce, Interns, InternsTypes}
-use Rattle.wasm_validator_type_groups.proofs.Places.{get-end, first_of-suc}
+use Rattle.wasm_validator_type_list.proofs.WasmValidatorTypeGroups.Places.{get-end, first_of-suc}
 use Rattle.wasm_validator_canonical.specs.Interned.{InternsUnder}
 
 -- where the group behind a group begins

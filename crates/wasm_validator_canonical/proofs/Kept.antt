@@ -3,9 +3,9 @@ use Rattle.std.proofs.Common.{◌≡◌, refl, sym, ap, subst, ◌∙◌, ℕ, z
 use Rattle.std.proofs.lemmas.List.Elements.{All-nil, All-cons, All-head, All-tail, All-append}
 use Rattle.std.proofs.lemmas.Option.{slice_get_within}
 use Rattle.wasm_spec.specs.Trees.{DefType}
-use Rattle.wasm_validator_type_groups.specs.Elements.{numbers_from}
-use Rattle.wasm_validator_type_groups.proofs.Counting.{length_numbers}
-use Rattle.wasm_validator_type_groups.proofs.Places.{get-right}
+use Rattle.wasm_validator_type_list.specs.WasmValidatorTypeGroups.Elements.{numbers_from}
+use Rattle.wasm_validator_type_list.proofs.WasmValidatorTypeGroups.Counting.{length_numbers}
+use Rattle.wasm_validator_type_list.proofs.WasmValidatorTypeGroups.Places.{get-right}
 use Rattle.wasm_validator_canonical.specs.Found.{place_of}
 use Rattle.wasm_validator_canonical.specs.Groups.{held_at, held}
 use Rattle.wasm_validator_canonical.proofs.Found.{StandAt, found_stand}

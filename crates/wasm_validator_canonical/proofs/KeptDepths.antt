@@ -16,8 +16,8 @@ use Rattle.wasm_spec.specs.Features.{Features}
 use Rattle.wasm_spec.proofs.Depths.{depths_are_small}
 use Rattle.wasm_readers_types.specs.declared.indices.CoreTypeId.{CoreTypeId}
 use Rattle.wasm_readers_types.specs.declared.types.SubType.{SubType}
-use Rattle.wasm_validator_type_groups.specs.Elements.{numbers_from}
-use Rattle.wasm_validator_type_groups.specs.Groups.{first_of}
+use Rattle.wasm_validator_type_list.specs.WasmValidatorTypeGroups.Elements.{numbers_from}
+use Rattle.wasm_validator_type_list.specs.WasmValidatorTypeGroups.Groups.{first_of}
 use Rattle.wasm_validator_type_list.specs.Declares.{declares}
 use Rattle.wasm_validator_type_list.specs.Depths.{depth_of, with_depth}
 use Rattle.wasm_validator_type_list.specs.Interned.{Interns}

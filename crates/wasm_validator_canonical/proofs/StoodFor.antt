@@ -14,8 +14,8 @@ use Rattle.wasm_spec.specs.GroupRules.{IsValidType}
 use Rattle.wasm_spec.proofs.Numbering.{members-close}
 use Rattle.wasm_spec.proofs.Closing.{slice_get-append_left}
 use Rattle.wasm_spec_rules.proofs.Tests.{guarded}
-use Rattle.wasm_validator_type_groups.specs.Elements.{numbers_from}
-use Rattle.wasm_validator_type_groups.proofs.Places.{get-map}
+use Rattle.wasm_validator_type_list.specs.WasmValidatorTypeGroups.Elements.{numbers_from}
+use Rattle.wasm_validator_type_list.proofs.WasmValidatorTypeGroups.Places.{get-map}
 use Rattle.wasm_validator_type_list.proofs.DefTypes.{get-positions}
 use Rattle.wasm_validator_canonical.specs.Groups.{nowhere, types_at, placed, held, AreValid}
 use Rattle.wasm_validator_canonical.specs.Sections.{StandsFor}

@@ -23,12 +23,12 @@ use Rattle.wasm_readers_types.specs.declared.indices.UnpackedIndex.TheVariants.{
 use Rattle.wasm_readers_types.specs.declared.types.SubType.{SubType}
 use Rattle.wasm_readers_types.specs.declared.indices.TheConstants.{MAX_IDS}
 use Rattle.wasm_readers_types.specs.SeenTypes.{sub_of}
-use Rattle.wasm_validator_type_groups.specs.Elements.{numbers_from}
-use Rattle.wasm_validator_type_groups.specs.Groups.{first_of}
+use Rattle.wasm_validator_type_list.specs.WasmValidatorTypeGroups.Elements.{numbers_from}
+use Rattle.wasm_validator_type_list.specs.WasmValidatorTypeGroups.Groups.{first_of}
 use Rattle.wasm_validator_type_list.specs.Listing.{Listing}
 use Rattle.wasm_validator_type_list.specs.DefTypes.{listed_ref, listed_sub, listed_group, def_types, tree_behind}
 use Rattle.wasm_validator_type_list.specs.Interned.{AreOnce, Interns, InternsTypes}
-use Rattle.wasm_validator_type_groups.proofs.Places.{get-map}
+use Rattle.wasm_validator_type_list.proofs.WasmValidatorTypeGroups.Places.{get-map}
 use Rattle.wasm_validator_canonical.specs.Groups.{nowhere, types_at, placed, held, with_written}
 use Rattle.wasm_validator_canonical.specs.Indices.{use_of_index, canonical_index, canonical_group, is_written, is_written_sub, number_in}
 use Rattle.wasm_validator_canonical.proofs.Canonical.{and_left, and_right}

@@ -7,8 +7,8 @@ use Rattle.wasm_spec.specs.Trees.{DefType}
 use Rattle.wasm_readers_errors.specs.declared.error.Error.{Error}
 use Rattle.wasm_readers_errors.specs.declared.error.Error.TheVariants.{Refused, OutOfMemory}
 use Rattle.wasm_readers_errors.specs.declared.error.Refusal.{Refusal}
-use Rattle.wasm_validator_type_groups.specs.declared.elements.RecGroupElements.{RecGroupElements}
-use Rattle.wasm_validator_type_groups.specs.Elements.{ids_left}
+use Rattle.wasm_validator_type_list.specs.WasmValidatorTypeGroups.declared.elements.RecGroupElements.{RecGroupElements}
+use Rattle.wasm_validator_type_list.specs.WasmValidatorTypeGroups.Elements.{ids_left}
 use Rattle.wasm_validator_canonical.specs.Groups.{AreValid}
 
 -- A refusal of the content says that nothing can be added so that the types of the list are valid, and one for want of

@@ -9,9 +9,9 @@ use Rattle.wasm_readers_errors.specs.declared.error.Error.TheVariants.{Refused, 
 use Rattle.wasm_readers_types.specs.declared.indices.TheConstants.{MAX_IDS}
 use Rattle.wasm_readers_types.specs.declared.indices.UnpackedIndex.{UnpackedIndex}
 use Rattle.wasm_readers_types.specs.declared.types.SubType.{SubType}
-use Rattle.wasm_validator_type_groups.specs.declared.elements.RecGroupElements.{RecGroupElements}
-use Rattle.wasm_validator_type_groups.specs.Elements.{numbers_from, ids_left}
-use Rattle.wasm_validator_type_groups.specs.Groups.{first_of}
+use Rattle.wasm_validator_type_list.specs.WasmValidatorTypeGroups.declared.elements.RecGroupElements.{RecGroupElements}
+use Rattle.wasm_validator_type_list.specs.WasmValidatorTypeGroups.Elements.{numbers_from, ids_left}
+use Rattle.wasm_validator_type_list.specs.WasmValidatorTypeGroups.Groups.{first_of}
 use Rattle.wasm_validator_type_list.specs.Listing.{Listing, types_in}
 use Rattle.wasm_validator_type_list.specs.DefTypes.{types_of_list}
 use Rattle.wasm_validator_type_list.specs.Interned.{AreOnce, Interns, InternsTypes}

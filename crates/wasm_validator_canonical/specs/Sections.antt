@@ -10,7 +10,7 @@ use Rattle.wasm_spec.specs.TypeLaws.{HasNoRepetition}
 use Rattle.wasm_readers_types.specs.declared.indices.UnpackedIndex.{UnpackedIndex}
 use Rattle.wasm_readers_types.specs.declared.indices.UnpackedIndex.TheVariants.{Module}
 use Rattle.wasm_readers_types.specs.declared.indices.TheConstants.{MAX_IDS}
-use Rattle.wasm_validator_type_groups.specs.Elements.{numbers_from}
+use Rattle.wasm_validator_type_list.specs.WasmValidatorTypeGroups.Elements.{numbers_from}
 use Rattle.wasm_validator_canonical.specs.Groups.{AreValid, with_written}
 
 -- an index as a module writes it

@@ -4,7 +4,7 @@ ghost use Rattle.std.specs.Prelude.{◌≡◌, ◌<◌, ℕ, length, IfSome, IsS
 ghost use Rattle.std.specs.List.{All};
 ghost use Rattle.wasm_spec.specs.Declared.{IsDepth};
 ghost use Rattle.wasm_validator_type_list.specs.Declares.{declares};
-ghost use Rattle.wasm_validator_type_groups.specs.Elements.{ids_left};
+ghost use Rattle.wasm_validator_type_list.specs.WasmValidatorTypeGroups.Elements.{ids_left};
 ghost use Rattle.wasm_validator_type_list.specs.Listing.{types_in};
 ghost use Rattle.wasm_validator_type_list.specs.Listable.{AreListable};
 ghost use Rattle.wasm_validator_type_list.specs.Depths.{depth_of};

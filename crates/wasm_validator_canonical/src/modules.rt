@@ -24,7 +24,7 @@ use wasm_validator_type_list::{RecGroupElements, TypeList};
 pub trait InternRecGroup<A: Allocator + Copy>: Sized {
     ghost use Rattle.std.specs.Prelude.{ℕ, ◌≡◌, ◌+◌, ◌<◌, ◌^◌, ◌++◌, ◌∷◌, [], List, Some, length, slice_get, nat_lt, is_ok, IfOk, IfErr, OnOk};
     ghost use Rattle.wasm_validator_canonical.specs.Refusals.{unknown_type};
-    ghost use Rattle.wasm_validator_type_groups.specs.Elements.{ids_left};
+    ghost use Rattle.wasm_validator_type_list.specs.WasmValidatorTypeGroups.Elements.{ids_left};
     ghost use Rattle.wasm_validator_canonical.specs.Indices.{numbers};
 
     ghost ids: { Self → List ℕ };

@@ -4,12 +4,12 @@ use Rattle.std.specs.Option.{option_map, option_and_then}
 use Rattle.std.proofs.lemmas.List.{length-map, map-append}
 use Rattle.wasm_spec.specs.Syntax.{Comp, func, array, struct, cont, map_comp, map_val, Sub, map_sub}
 use Rattle.wasm_spec.specs.Trees.{DefType}
-use Rattle.wasm_spec_rules.specs.IndexSpaces.{signature, nowhere}
+use Rattle.wasm_validator_resources.specs.WasmSpecRules.IndexSpaces.{signature, nowhere}
 use Rattle.wasm_readers_types.specs.declared.indices.UnpackedIndex.{UnpackedIndex}
 use Rattle.wasm_readers_types.specs.declared.types.SubType.{SubType}
 use Rattle.wasm_readers_types.specs.SeenTypes.{sub_of}
 use Rattle.wasm_validator_type_list.specs.Declares.{declares, sub_by_ids, subs_by_ids}
-use Rattle.wasm_validator_type_groups.specs.Groups.{all_in}
+use Rattle.wasm_validator_type_list.specs.WasmValidatorTypeGroups.Groups.{all_in}
 use Rattle.wasm_validator_type_list.specs.Laws.{type_of_id}
 use Rattle.wasm_validator_type_list.specs.Listable.{AreListable}
 use Rattle.wasm_validator_type_list.specs.Lookups.{leads_to}

@@ -12,8 +12,8 @@ use Rattle.wasm_spec.specs.Matching.{is_shared_heap, is_shared_val}
 use Rattle.wasm_spec.specs.References.{refs_heap}
 use Rattle.wasm_spec.specs.Trees.{DefType, declared}
 use Rattle.wasm_spec.specs.ValueTypes.{implies, allows_ref, allows_val}
-use Rattle.wasm_spec_rules.specs.IndexSpaces.{IsFunctionType, signature_at, ref_over, val_over, IsRefInRange, IsValInRange}
-use Rattle.wasm_spec_rules.specs.ItemRules.{IsAllowedElement, IsAllowedVal, most_entries, most_pages, IsValidTable, IsValidTableEntry, IsValidMemory, IsValidTag, IsValidGlobal}
+use Rattle.wasm_validator_resources.specs.WasmSpecRules.IndexSpaces.{IsFunctionType, signature_at, ref_over, val_over, IsRefInRange, IsValInRange}
+use Rattle.wasm_validator_resources.specs.WasmSpecRules.ItemRules.{IsAllowedElement, IsAllowedVal, most_entries, most_pages, IsValidTable, IsValidTableEntry, IsValidMemory, IsValidTag, IsValidGlobal}
 use Rattle.wasm_validator_canonical.specs.Arities.{arity}
 use Rattle.wasm_validator_canonical.specs.Groups.{types_at}
 use Rattle.wasm_validator_canonical.specs.Sections.{written}

@@ -6,7 +6,7 @@ use Rattle.std.proofs.lemmas.Option.{get_or_from_slice_get}
 use Rattle.wasm_spec.specs.Syntax.{Sub, map_sub}
 use Rattle.wasm_spec.specs.Trees.{DefType, members, denote, declared}
 use Rattle.wasm_spec.specs.Matching.{shared_flag, is_shared_type}
-use Rattle.wasm_spec_rules.specs.IndexSpaces.{type_at}
+use Rattle.wasm_validator_resources.specs.WasmSpecRules.IndexSpaces.{type_at}
 use Rattle.wasm_validator_canonical.specs.Arities.{type_arity}
 use Rattle.wasm_validator_canonical.specs.Groups.{nowhere, types_at}
 use Rattle.wasm_validator_canonical.specs.Sections.{StandsFor}

@@ -1,3 +1,4 @@
+pub use Rattle.wasm_validator_canonical.proofs as WasmValidatorCanonical
 pub mod Listed
 pub mod Kept
 pub mod Decided

@@ -6,7 +6,7 @@ use Rattle.std.proofs.lemmas.Option.{none-some, slice_get_within, slice_get_read
 use Rattle.wasm_spec.specs.Syntax.{Comp, func, array, struct, cont, map_comp, map_val, Sub, map_sub}
 use Rattle.wasm_spec.specs.Trees.{DefType, declared}
 use Rattle.wasm_spec.specs.Matching.{shared_flag, is_shared_type}
-use Rattle.wasm_spec_rules.specs.IndexSpaces.{signature, type_at}
+use Rattle.wasm_validator_resources.specs.WasmSpecRules.IndexSpaces.{signature, type_at}
 use Rattle.wasm_readers_types.specs.SeenValues.{val_of}
 use Rattle.wasm_readers_types.specs.SeenTypes.{comp_of}
 use Rattle.wasm_readers_types.specs.declared.indices.CoreTypeId.{CoreTypeId}
@@ -14,13 +14,13 @@ use Rattle.wasm_readers_types.specs.declared.types.CompositeInnerType.{Composite
 use Rattle.wasm_readers_types.specs.declared.types.CompositeInnerType.TheVariants.{Func, Array, Struct, Cont}
 use Rattle.wasm_readers_types.specs.declared.types.SubType.{SubType}
 use Rattle.wasm_validator_type_list.specs.Declares.{sub_by_ids, subs_by_ids, declares}
-use Rattle.wasm_validator_type_groups.specs.Groups.{all_in}
+use Rattle.wasm_validator_type_list.specs.WasmValidatorTypeGroups.Groups.{all_in}
 use Rattle.wasm_validator_type_list.specs.Laws.{type_of_id}
 use Rattle.wasm_validator_type_list.specs.Listable.{AreListable}
 use Rattle.wasm_validator_type_list.specs.Listing.{Listing, types_in}
 use Rattle.wasm_validator_type_list.specs.Lookups.{leads_to}
 use Rattle.wasm_validator_type_list.proofs.Joined.{types_declare_what_ids_declare}
-use Rattle.wasm_validator_type_groups.proofs.Places.{get-left, get-right, get-map, get-append}
+use Rattle.wasm_validator_type_list.proofs.WasmValidatorTypeGroups.Places.{get-left, get-right, get-map, get-append}
 use Rattle.wasm_validator_type_list.proofs.DefTypes.{length-def_types}
 use Rattle.wasm_validator_canonical.specs.Arities.{arity, type_arity}
 use Rattle.wasm_validator_canonical.specs.Groups.{nowhere}

@@ -7,10 +7,10 @@ use Rattle.wasm_spec.specs.Syntax.{Table, Memory, Global, Extern, map_table, map
 use Rattle.wasm_spec.specs.BinarySections.{TableEntry}
 use Rattle.wasm_spec.specs.Features.{Features}
 use Rattle.wasm_spec.specs.Trees.{DefType}
-use Rattle.wasm_spec_rules.specs.IndexSpaces.{IsFunctionType}
-use Rattle.wasm_spec_rules.specs.ItemRules.{IsValidTable, IsValidTableEntry, IsValidMemory, IsValidTag, IsValidGlobal}
-use Rattle.wasm_spec_rules.specs.LinkRules.{IsValidExtern}
-use Rattle.wasm_spec_rules.specs.Parts.{Expression}
+use Rattle.wasm_validator_resources.specs.WasmSpecRules.IndexSpaces.{IsFunctionType}
+use Rattle.wasm_validator_resources.specs.WasmSpecRules.ItemRules.{IsValidTable, IsValidTableEntry, IsValidMemory, IsValidTag, IsValidGlobal}
+use Rattle.wasm_validator_resources.specs.WasmSpecRules.LinkRules.{IsValidExtern}
+use Rattle.wasm_validator_resources.specs.WasmSpecRules.Parts.{Expression}
 use Rattle.wasm_validator_canonical.specs.Groups.{types_at}
 use Rattle.wasm_validator_canonical.specs.Sections.{written, StandsFor}
 use Rattle.wasm_validator_checks.specs.ModuleTypes.{arity_at}

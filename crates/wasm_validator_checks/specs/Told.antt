@@ -6,16 +6,16 @@ use Rattle.std.specs.Option.{option_or}
 use Rattle.wasm_spec.specs.Syntax.{Heap, abstract_heap, concrete, exact, Ref, Val, i32, i64, f32, f64, v128, reference, Table, Memory, Global, Extern, func_extern, func_exact_extern, table_extern, memory_extern, global_extern, tag_extern, map_table}
 use Rattle.wasm_spec.specs.ValueTypes.{implies}
 use Rattle.wasm_spec.specs.Trees.{DefType}
-use Rattle.wasm_spec_rules.specs.ItemRules.{most_entries}
-use Rattle.wasm_readers_errors.specs.Refusals.{plain, unless, lack_if}
-use Rattle.wasm_readers_errors.specs.declared.error.Fault.{Fault}
-use Rattle.wasm_readers_errors.specs.declared.error.Fault.TheVariants as fault
-use Rattle.wasm_readers_errors.specs.declared.error.Rule.TheVariants.{Exceptions}
-use Rattle.wasm_readers_errors.specs.declared.error.Refusal.{Refusal}
-use Rattle.wasm_readers_errors.specs.declared.item_rules.ItemRule.{ItemRule}
-use Rattle.wasm_readers_errors.specs.declared.item_rules.ItemRule.TheVariants.{ExactFunctionImports, MinimumAboveMaximum, Tables64, SharedTables, SharedElements, TableSize, TableInitializers, NonDefaultableElements, Memories64, SharedMemories, SharedMemoryMaximum, CustomPageSizes, PageSize, TagResults, SharedGlobals, SharedContents, MutableGlobals}
-use Rattle.wasm_readers_errors.specs.declared.features.WasmFeatures.{WasmFeatures}
-use Rattle.wasm_readers_errors.specs.declared.features.TheConstants.WasmFeatures.{MEMORY64, SHARED_EVERYTHING_THREADS, THREADS, FUNCTION_REFERENCES, CUSTOM_PAGE_SIZES, CUSTOM_DESCRIPTORS, EXCEPTIONS, STACK_SWITCHING, MUTABLE_GLOBAL}
+use Rattle.wasm_validator_resources.specs.WasmSpecRules.ItemRules.{most_entries}
+use Rattle.wasm_readers.specs.WasmReadersErrors.Refusals.{plain, unless, lack_if}
+use Rattle.wasm_readers.specs.WasmReadersErrors.declared.error.Fault.{Fault}
+use Rattle.wasm_readers.specs.WasmReadersErrors.declared.error.Fault.TheVariants as fault
+use Rattle.wasm_readers.specs.WasmReadersErrors.declared.error.Rule.TheVariants.{Exceptions}
+use Rattle.wasm_readers.specs.WasmReadersErrors.declared.error.Refusal.{Refusal}
+use Rattle.wasm_readers.specs.WasmReadersErrors.declared.item_rules.ItemRule.{ItemRule}
+use Rattle.wasm_readers.specs.WasmReadersErrors.declared.item_rules.ItemRule.TheVariants.{ExactFunctionImports, MinimumAboveMaximum, Tables64, SharedTables, SharedElements, TableSize, TableInitializers, NonDefaultableElements, Memories64, SharedMemories, SharedMemoryMaximum, CustomPageSizes, PageSize, TagResults, SharedGlobals, SharedContents, MutableGlobals}
+use Rattle.wasm_readers.specs.WasmReadersErrors.declared.features.WasmFeatures.{WasmFeatures}
+use Rattle.wasm_readers.specs.WasmReadersErrors.declared.features.TheConstants.WasmFeatures.{MEMORY64, SHARED_EVERYTHING_THREADS, THREADS, FUNCTION_REFERENCES, CUSTOM_PAGE_SIZES, CUSTOM_DESCRIPTORS, EXCEPTIONS, STACK_SWITCHING, MUTABLE_GLOBAL}
 use Rattle.wasm_readers_types.specs.declared.indices.UnpackedIndex.{UnpackedIndex}
 use Rattle.wasm_readers_types.specs.declared.indices.UnpackedIndex.TheVariants.{Module, RecGroup, Id}
 use Rattle.wasm_validator_canonical.specs.Indices.{number_in}

@@ -6,7 +6,7 @@ ghost use Rattle.std.specs.Prelude.{◌≡◌, ◌+◌, length, IsTrue, is_ok, I
 ghost use Rattle.wasm_validator_checks.specs.Answers.{IsRefusalAt};
 ghost use Rattle.std.specs.List.{All};
 ghost use Rattle.wasm_spec.specs.Syntax.{map_ref, map_val, map_table, map_global, map_extern};
-ghost use Rattle.wasm_spec_rules.specs.FeatureFlags.{features_of};
+ghost use Rattle.wasm_validator_resources.specs.WasmSpecRules.FeatureFlags.{features_of};
 ghost use Rattle.wasm_readers_types.specs.Indices.{Fits};
 ghost use Rattle.wasm_readers_types.specs.SeenValues.{ref_of, val_of};
 ghost use Rattle.wasm_readers_types.specs.SeenExterns.{table_of, global_of, extern_of};
@@ -18,7 +18,7 @@ ghost use Rattle.wasm_validator_type_list.specs.DefTypes.{types_of_list};
 ghost use Rattle.wasm_validator_checks.specs.Held.{AreHeld, AreSmall, IsTyped};
 ghost use Rattle.wasm_validator_checks.specs.Listed.{entity};
 ghost use Rattle.wasm_validator_checks.specs.Sizes.{entity_size, grown};
-ghost use Rattle.wasm_readers_errors.specs.Refusals.{refused};
+ghost use Rattle.wasm_readers.specs.WasmReadersErrors.Refusals.{refused};
 ghost use Rattle.wasm_validator_checks.specs.Told.{told_of_extern};
 
 use crate::check_type_ref;

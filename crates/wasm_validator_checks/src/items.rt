@@ -2,13 +2,13 @@
 
 ghost use Rattle.std.specs.Prelude.{◌≡◌, ◌||◌, ◌==◌, length, is_ok, IfOk, IfErr, IsTrue};
 ghost use Rattle.std.specs.declared.option.Option.TheVariants.{Some};
-ghost use Rattle.wasm_spec_rules.specs.FeatureFlags.{features_of};
+ghost use Rattle.wasm_validator_resources.specs.WasmSpecRules.FeatureFlags.{features_of};
 ghost use Rattle.wasm_readers_types.specs.SeenValues.{ref_of, val_of};
 ghost use Rattle.wasm_readers_types.specs.SeenExterns.{table_of, memory_of, global_of, extern_of};
 ghost use Rattle.wasm_validator_checks.specs.Answers.{IsRefusalAt, IsPlainRefusalAt};
 ghost use Rattle.wasm_validator_checks.specs.ModuleTypes.{AreKnown, module_types};
 ghost use Rattle.wasm_validator_checks.specs.Items.{is_funcref, is_allowed_element, is_allowed_content, are_at_most, is_allowed_page, log_of, most_of, is_valid_table, is_valid_defined_table, is_valid_memory, is_valid_tag, is_valid_global, is_movable_global, is_valid_extern};
-ghost use Rattle.wasm_readers_errors.specs.Refusals.{refused};
+ghost use Rattle.wasm_readers.specs.WasmReadersErrors.Refusals.{refused};
 ghost use Rattle.wasm_validator_checks.specs.Told.{told_of_content, told_of_defined_table, told_of_element, told_of_extern, told_of_global, told_of_memory, told_of_movable, told_of_page, told_of_pages, told_of_sizes, told_of_table, told_of_tag};
 
 use crate::limits::{check_limits, check_sizes};
@@ -16,7 +16,7 @@ use crate::module_types::{
     check_ref_index, check_val_index, func_type_at, is_ref_shared, is_val_shared,
 };
 use std::alloc::Allocator;
-use wasm_readers_errors::{
+use wasm_readers::readers_errors::{
     Fault, ItemRule, Refusal, Rule, WasmFeatures, hold, require, require_if,
 };
 use wasm_readers_types::{

@@ -22,3 +22,15 @@ pub use items::{
 pub use laws::{functions_are_decided, items_are_decided};
 pub use module_types::func_type_at;
 pub use signatures::function_arity;
+
+/// Passed on from `wasm_validator_types`.
+pub mod validator_types {
+    pub use wasm_validator_types::{
+        EntityType, IndexSpaces, SnapshotList, TypeList, Types, ValidatorId,
+    };
+}
+
+/// Passed on from `wasm_validator_canonical`.
+pub mod validator_canonical {
+    pub use wasm_validator_canonical::{InternRecGroup, intern_rec_group_of};
+}

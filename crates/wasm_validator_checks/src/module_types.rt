@@ -4,17 +4,17 @@ ghost use Rattle.std.specs.Prelude.{◌≡◌, ◌<◌, length, is_ok, is_some, 
 ghost use Rattle.std.specs.declared.option.Option.TheVariants.{Some};
 ghost use Rattle.wasm_spec.specs.Matching.{is_shared_type};
 ghost use Rattle.wasm_spec.specs.Trees.{declared};
-ghost use Rattle.wasm_spec_rules.specs.IndexSpaces.{type_at};
+ghost use Rattle.wasm_validator_resources.specs.WasmSpecRules.IndexSpaces.{type_at};
 ghost use Rattle.wasm_readers_types.specs.SeenValues.{ref_of, val_of};
 ghost use Rattle.wasm_validator_checks.specs.Answers.{IsPlainRefusalAt};
 ghost use Rattle.wasm_validator_canonical.specs.Indices.{number_in};
 ghost use Rattle.wasm_validator_checks.specs.ModuleTypes.{AreKnown, IsSubTypeAt, IsFuncTypeAt, module_types, arity_at, func_arity};
 ghost use Rattle.wasm_validator_checks.specs.Items.{is_in_range, is_ref_in_range, is_val_in_range, is_shared_ref_over, is_shared_val_over, is_function};
-ghost use Rattle.wasm_readers_errors.specs.Refusals.{refused};
+ghost use Rattle.wasm_readers.specs.WasmReadersErrors.Refusals.{refused};
 ghost use Rattle.wasm_validator_checks.specs.Told.{told_of_function, told_of_heap_index, told_of_index, told_of_val_index};
 
 use std::alloc::Allocator;
-use wasm_readers_errors::{Fault, Refusal};
+use wasm_readers::readers_errors::{Fault, Refusal};
 use wasm_readers_types::{
     CompositeInnerType, CoreTypeId, FuncType, HeapType, RefType, SubType, UnpackedIndex, ValType,
 };

@@ -7,13 +7,13 @@ use Rattle.wasm_spec.specs.MatchingTests.{World}
 use Rattle.wasm_spec.proofs.LawSet.{goes_on}
 use Rattle.wasm_operators.specs.Instructions.{Instruction, instruction_at}
 use Rattle.wasm_operators.proofs.Fronts.{instruction-reads}
-use Rattle.wasm_spec_rules.specs.Attempts.{◌>>=◌}
-use Rattle.wasm_operator_steps.specs.Bodies.{Surroundings}
-use Rattle.wasm_operator_steps.specs.Machine.{Frame, State}
-use Rattle.wasm_operator_steps.specs.Steps.{step_in, steps_in, is_open, is_finished}
-use Rattle.wasm_operator_steps.specs.Sequences.{Are}
+use Rattle.wasm_validator_resources.specs.WasmSpecRules.Attempts.{◌>>=◌}
+use Rattle.wasm_operator_validator.specs.WasmOperatorSteps.Bodies.{Surroundings}
+use Rattle.wasm_operator_validator.specs.WasmOperatorSteps.Machine.{Frame, State}
+use Rattle.wasm_operator_validator.specs.WasmOperatorSteps.Steps.{step_in, steps_in, is_open, is_finished}
+use Rattle.wasm_operator_validator.specs.WasmOperatorSteps.Sequences.{Are}
 use Rattle.wasm_validator_constants.specs.Constants.{constant_step, typed_from, constant_from, FindsConstants, ConstantsAreFound}
-use Rattle.wasm_operator_steps.specs.ConstantRules.{is_allowed, IsConstantExpression}
+use Rattle.wasm_operator_validator.specs.WasmOperatorSteps.ConstantRules.{is_allowed, IsConstantExpression}
 use Rattle.wasm_validator_constants.proofs.Machine.{one_step}
 
 allowed_step : {S : Type 0} (b : Bool) (o : Option S) (t : S) → (if b then o else None) ≡ Some t → (b ≡ true) × (o ≡ Some t)

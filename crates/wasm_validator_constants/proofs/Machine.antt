@@ -2,9 +2,9 @@
 use Rattle.std.proofs.Common.{◌≡◌, ◌≤◌, ◌<◌, ◌∙◌, refl, sym, ap, ℕ, zero, suc, Bool, true, false, List, length, Option, Some, None, arith}
 use Rattle.wasm_spec.specs.MatchingTests.{World}
 use Rattle.wasm_operators.specs.Instructions.{Instruction, instruction_at}
-use Rattle.wasm_operator_steps.specs.Bodies.{Surroundings}
-use Rattle.wasm_operator_steps.specs.Machine.{State}
-use Rattle.wasm_operator_steps.specs.Steps.{is_finished}
+use Rattle.wasm_operator_validator.specs.WasmOperatorSteps.Bodies.{Surroundings}
+use Rattle.wasm_operator_validator.specs.WasmOperatorSteps.Machine.{State}
+use Rattle.wasm_operator_validator.specs.WasmOperatorSteps.Steps.{is_finished}
 use Rattle.wasm_validator_constants.specs.Constants.{constant_step, typed_from, constant_from}
 
 module _ {R : Type 0} (W : World R) (B : Surroundings R) (imported : ℕ) where

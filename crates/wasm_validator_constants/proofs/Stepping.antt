@@ -1,20 +1,20 @@
 -- One instruction of a constant expression, as the operator validator takes it.
 use Rattle.std.proofs.Common.{◌≡◌, ◌∙◌, refl, ℕ, Bool, true, false, ◌&&◌, List, Option, Some, None, Result, Ok, Err}
 use Rattle.wasm_spec.specs.MatchingTests.{World}
-use Rattle.wasm_readers_errors.specs.declared.error.Error.{Error}
-use Rattle.wasm_readers_errors.specs.declared.error.Error.TheVariants.{Refused, OutOfMemory}
-use Rattle.wasm_readers_types.specs.declared.indices.UnpackedIndex.{UnpackedIndex}
+use Rattle.wasm_readers.specs.WasmReadersErrors.declared.error.Error.{Error}
+use Rattle.wasm_readers.specs.WasmReadersErrors.declared.error.Error.TheVariants.{Refused, OutOfMemory}
+use Rattle.wasm_readers.specs.WasmReadersTypes.declared.indices.UnpackedIndex.{UnpackedIndex}
 use Rattle.wasm_operators.specs.Instructions.{Instruction}
-use Rattle.wasm_operator_steps.specs.Bodies.{Surroundings}
-use Rattle.wasm_operator_steps.specs.ConstantExpressions.{is_constant}
-use Rattle.wasm_operator_steps.specs.Machine.{State}
-use Rattle.wasm_operator_steps.specs.Steps.{step_in}
-use Rattle.wasm_operator_checks.specs.Steps.{Took}
-use Rattle.wasm_operator_checks.specs.Told.{TellsError}
-use Rattle.wasm_operator_checks.specs.declared.faults.OperatorError.{OperatorError}
-use Rattle.wasm_operator_checks.specs.declared.faults.OperatorError.TheVariants as operator
+use Rattle.wasm_operator_validator.specs.WasmOperatorSteps.Bodies.{Surroundings}
+use Rattle.wasm_operator_validator.specs.WasmOperatorSteps.ConstantExpressions.{is_constant}
+use Rattle.wasm_operator_validator.specs.WasmOperatorSteps.Machine.{State}
+use Rattle.wasm_operator_validator.specs.WasmOperatorSteps.Steps.{step_in}
+use Rattle.wasm_operator_validator.specs.WasmOperatorChecks.Steps.{Took}
+use Rattle.wasm_operator_validator.specs.WasmOperatorChecks.Told.{TellsError}
+use Rattle.wasm_operator_validator.specs.WasmOperatorChecks.declared.faults.OperatorError.{OperatorError}
+use Rattle.wasm_operator_validator.specs.WasmOperatorChecks.declared.faults.OperatorError.TheVariants as operator
 use Rattle.wasm_validator_constants.specs.Constants.{constant_step}
-use Rattle.wasm_operator_steps.specs.ConstantRules.{is_readable}
+use Rattle.wasm_operator_validator.specs.WasmOperatorSteps.ConstantRules.{is_readable}
 use Rattle.wasm_operator_validator.specs.Checked.{IsRefusedAt, TookAt}
 
 and_false : (b : Bool) → (b && false) ≡ false

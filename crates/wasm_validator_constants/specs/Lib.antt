@@ -1,3 +1,4 @@
+pub use Rattle.wasm_operator_validator.specs.WasmOperatorStacks as WasmOperatorStacks
 pub use Rattle.wasm_operator_validator.specs.Typed
 pub use Rattle.wasm_operator_validator.specs.Checked
 pub use Rattle.wasm_operator_validator.specs.declared.validator.OperatorValidator

@@ -1,12 +1,12 @@
 //! Constant expressions, read and typed operator by operator.
 
 ghost use Rattle.std.specs.Prelude.{◌≡◌, ◌≤◌, ◌<◌, false, Some, None, Ok, Err, IfOk, IfErr, OnOk, OnErr};
-ghost use Rattle.wasm_spec_rules.specs.FeatureFlags.{features_of};
-ghost use Rattle.wasm_readers_bytes.specs.Reader.{SameInput, position_in, rest};
+ghost use Rattle.wasm_validator_resources.specs.WasmSpecRules.FeatureFlags.{features_of};
+ghost use Rattle.wasm_readers.specs.WasmReadersBytes.Reader.{SameInput, position_in, rest};
 ghost use Rattle.wasm_operators.specs.Maps.{map_instruction};
 ghost use Rattle.wasm_operators.specs.SeenOperators.{operator_of};
 ghost use Rattle.wasm_validator_resources.specs.Answers.{world, written_index};
-ghost use Rattle.wasm_operator_stacks.specs.Seen.{Kept};
+ghost use Rattle.wasm_operator_validator.specs.WasmOperatorStacks.Seen.{Kept};
 ghost use Rattle.wasm_operator_validator.specs.Stepped.{IsWrittenInstruction};
 ghost use Rattle.wasm_operator_validator.specs.Typed.{typed_state};
 ghost use Rattle.wasm_validator_constants.specs.Constants.{constant_step, constant_from};
@@ -15,10 +15,10 @@ ghost use Rattle.wasm_operator_validator.specs.Checked.{within, IsRefusedAt, Sta
 use crate::operators::{gated_constant, is_constant, reads_constants};
 use std::alloc::Allocator;
 use wasm_operator_validator::OperatorValidator;
+use wasm_operators::operators_plain::VariableOperator;
 use wasm_operators::{Operator, read_operator};
-use wasm_operators_plain::VariableOperator;
 use wasm_readers::BinaryReader;
-use wasm_readers_errors::{Error, Fault, OperatorRule, Refusal};
+use wasm_readers::readers_errors::{Error, Fault, OperatorRule, Refusal};
 use wasm_validator_resources::WasmModuleResources;
 
 /// The refusal of an operator that a constant expression doesn't have, at this offset.

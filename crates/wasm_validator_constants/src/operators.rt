@@ -1,19 +1,19 @@
 //! Which operators a constant expression may have.
 
 ghost use Rattle.std.specs.Prelude.{◌≡◌, slice_get};
-ghost use Rattle.wasm_spec_rules.specs.FeatureFlags.{features_of};
+ghost use Rattle.wasm_validator_resources.specs.WasmSpecRules.FeatureFlags.{features_of};
 ghost use Rattle.wasm_operators.specs.Maps.{map_instruction};
 ghost use Rattle.wasm_operators.specs.SeenOperators.{operator_of};
-ghost use Rattle.wasm_operator_steps.specs.ConstantExpressions.{is_extended, makes_structure, makes_array, is_constant_conversion, is_constant};
+ghost use Rattle.wasm_operator_validator.specs.WasmOperatorSteps.ConstantExpressions.{is_extended, makes_structure, makes_array, is_constant_conversion, is_constant};
 ghost use Rattle.wasm_validator_resources.specs.Answers.{written_index};
-ghost use Rattle.wasm_operator_steps.specs.ConstantRules.{may_be_read, is_readable};
+ghost use Rattle.wasm_operator_validator.specs.WasmOperatorSteps.ConstantRules.{may_be_read, is_readable};
 
 use bitflags::Flags;
-use wasm_operators::{ControlOperator, Operator, ReferenceOperator};
-use wasm_operators_plain::{
+use wasm_operators::operators_plain::{
     ArrayOperator, ConversionOperator, NumericOperator, StructOperator, VariableOperator,
 };
-use wasm_readers_errors::{GatedConstant, WasmFeatures};
+use wasm_operators::{ControlOperator, Operator, ReferenceOperator};
+use wasm_readers::readers_errors::{GatedConstant, WasmFeatures};
 use wasm_validator_resources::WasmModuleResources;
 
 /// Whether it is arithmetic of extended constant expressions.

@@ -13,14 +13,14 @@ use Rattle.wasm_readers_errors.specs.declared.features.WasmFeatures.{WasmFeature
 use Rattle.wasm_readers_errors.specs.declared.error.Refusal.{Refusal}
 use Rattle.wasm_readers_errors.specs.declared.error.Error as below
 use Rattle.wasm_readers_errors.specs.declared.error.Error.TheVariants as read
-use Rattle.wasm_validator_type_list.specs.Listing.{Listing}
-use Rattle.wasm_validator_canonical.specs.Answers.{AddsNothing}
-use Rattle.wasm_validator_canonical.specs.Answers as canonical
-use Rattle.wasm_validator_canonical.specs.Told as told
-use Rattle.wasm_validator_canonical.specs.Groups.{AreValid, with_written}
-use Rattle.wasm_validator_canonical.proofs.Steps.{written_length, written_known}
-use Rattle.wasm_validator_type_list.specs.DefTypes.{types_of_list}
-use Rattle.wasm_validator_types.specs.Spaces.{Spaces}
+use Rattle.wasm_validator_checks.specs.WasmValidatorTypeList.Listing.{Listing}
+use Rattle.wasm_validator_checks.specs.WasmValidatorCanonical.Answers.{AddsNothing}
+use Rattle.wasm_validator_checks.specs.WasmValidatorCanonical.Answers as canonical
+use Rattle.wasm_validator_checks.specs.WasmValidatorCanonical.Told as told
+use Rattle.wasm_validator_checks.specs.WasmValidatorCanonical.Groups.{AreValid, with_written}
+use Rattle.wasm_validator_checks.proofs.WasmValidatorCanonical.Steps.{written_length, written_known}
+use Rattle.wasm_validator_checks.specs.WasmValidatorTypeList.DefTypes.{types_of_list}
+use Rattle.wasm_validator_checks.specs.WasmValidatorTypes.Spaces.{Spaces}
 use Rattle.wasm_validator_core.specs.declared.limits.TheConstants.{MAX_TYPES}
 use Rattle.wasm_validator_core.specs.declared.error.Error.{Error}
 use Rattle.wasm_validator_core.specs.Errors.{IsAt, IfContent, lifted}

@@ -1,1 +1,3 @@
+pub use Rattle.wasm_validator_checks.proofs.WasmValidatorCanonical as WasmValidatorCanonical
+pub use Rattle.wasm_validator_checks.proofs as WasmValidatorChecks
 pub mod AddedGroups

@@ -8,12 +8,12 @@ use Rattle.wasm_spec.specs.Features.{Features}
 use Rattle.wasm_spec.specs.Trees.{DefType}
 use Rattle.wasm_spec_rules.specs.Limits.{most_tables, most_memories}
 use Rattle.wasm_readers_types.specs.declared.indices.UnpackedIndex.{UnpackedIndex}
-use Rattle.wasm_validator_canonical.specs.Arities.{arity_at}
-use Rattle.wasm_validator_canonical.specs.Groups.{types_at}
-use Rattle.wasm_validator_canonical.specs.Indices.{canonical_index}
+use Rattle.wasm_validator_checks.specs.WasmValidatorCanonical.Arities.{arity_at}
+use Rattle.wasm_validator_checks.specs.WasmValidatorCanonical.Groups.{types_at}
+use Rattle.wasm_validator_checks.specs.WasmValidatorCanonical.Indices.{canonical_index}
 use Rattle.wasm_validator_checks.specs.Items.{is_function, is_valid_defined_table, is_valid_memory, is_valid_tag, is_importable, is_movable}
-use Rattle.wasm_validator_types.specs.Entities.{Entity}
-use Rattle.wasm_validator_types.specs.Spaces.{Spaces, with_import, is_exported, is_exact}
+use Rattle.wasm_validator_checks.specs.WasmValidatorTypes.Entities.{Entity}
+use Rattle.wasm_validator_checks.specs.WasmValidatorTypes.Spaces.{Spaces, with_import, is_exported, is_exact}
 use Rattle.wasm_validator_core.specs.declared.limits.TheConstants.{MAX_FUNCTIONS, MAX_GLOBALS, MAX_TAGS, MAX_DATA_SEGMENTS}
 use Rattle.wasm_validator_core.specs.Answers.{TypesSoFar}
 pub use Rattle.wasm_validator_checks.specs.Listed.{listed, entity}

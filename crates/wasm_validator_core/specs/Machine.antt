@@ -5,8 +5,8 @@ use Rattle.wasm_spec.specs.Syntax.{Rec}
 use Rattle.wasm_spec_rules.specs.FeatureFlags.{features_of}
 use Rattle.wasm_readers_types.specs.declared.indices.UnpackedIndex.{UnpackedIndex}
 use Rattle.wasm_readers_errors.specs.declared.features.WasmFeatures.{WasmFeatures}
-use Rattle.wasm_validator_canonical.specs.Groups.{with_written}
-use Rattle.wasm_validator_types.specs.Spaces.{Spaces}
+use Rattle.wasm_validator_checks.specs.WasmValidatorCanonical.Groups.{with_written}
+use Rattle.wasm_validator_checks.specs.WasmValidatorTypes.Spaces.{Spaces}
 use Rattle.wasm_validator_core.specs.declared.limits.TheConstants.{MAX_TYPES}
 use Rattle.wasm_validator_core.specs.Answers.{TypesSoFar}
 

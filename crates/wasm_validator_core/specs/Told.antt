@@ -24,11 +24,11 @@ use Rattle.wasm_readers_errors.specs.declared.features.TheConstants.WasmFeatures
 use Rattle.wasm_readers_types.specs.declared.indices.UnpackedIndex.{UnpackedIndex}
 use Rattle.wasm_readers_types.specs.declared.externs.ExternalKind.{ExternalKind}
 use Rattle.wasm_readers_types.specs.declared.externs.ExternalKind.TheVariants as external
-use Rattle.wasm_validator_type_list.specs.Listing.{Listing}
-use Rattle.wasm_validator_canonical.specs.Told.{ToldOfAdded}
+use Rattle.wasm_validator_checks.specs.WasmValidatorTypeList.Listing.{Listing}
+use Rattle.wasm_validator_checks.specs.WasmValidatorCanonical.Told.{ToldOfAdded}
 use Rattle.wasm_validator_checks.specs.Told.{told_of_function, told_of_defined_table, told_of_memory, told_of_tag, told_of_movable, told_of_extern}
-use Rattle.wasm_validator_types.specs.Entities.{Entity}
-use Rattle.wasm_validator_types.specs.Spaces.{Spaces, is_exported}
+use Rattle.wasm_validator_checks.specs.WasmValidatorTypes.Entities.{Entity}
+use Rattle.wasm_validator_checks.specs.WasmValidatorTypes.Spaces.{Spaces, is_exported}
 use Rattle.wasm_validator_core.specs.declared.error.Error.{Error}
 use Rattle.wasm_validator_core.specs.declared.error.Error.TheVariants.{Refused, DuplicateExport, OutOfMemory}
 use Rattle.wasm_validator_core.specs.declared.limits.TheConstants.{MAX_TYPES, MAX_FUNCTIONS, MAX_GLOBALS, MAX_TAGS, MAX_DATA_SEGMENTS}

@@ -6,8 +6,8 @@ ghost use Rattle.std.specs.Option.{option_map};
 ghost use Rattle.wasm_spec_rules.specs.FeatureFlags.{features_of};
 ghost use Rattle.wasm_readers.specs.Items.{export_of};
 ghost use Rattle.wasm_validator_checks.specs.Answers.{IsPlainRefusalAt};
-ghost use Rattle.wasm_validator_types.specs.Entities.{entity_of, IsAmong};
-ghost use Rattle.wasm_validator_type_list.specs.DefTypes.{types_of_list};
+ghost use Rattle.wasm_validator_checks.specs.WasmValidatorTypes.Entities.{entity_of, IsAmong};
+ghost use Rattle.wasm_validator_checks.specs.WasmValidatorTypeList.DefTypes.{types_of_list};
 ghost use Rattle.wasm_validator_core.specs.Errors.{IsAt};
 ghost use Rattle.wasm_validator_core.specs.Answers.{Adds};
 ghost use Rattle.wasm_validator_core.specs.Items.{exported_function, exported_table, exported_memory, exported_global, exported_tag, exported_entity, with_export, add_export};
@@ -18,8 +18,8 @@ use crate::error::Error;
 use bitflags::Flags;
 use std::alloc::Allocator;
 use wasm_readers::{Export, ExternalKind, Fault, ItemKind, Refusal, Rule, WasmFeatures};
+use wasm_validator_checks::validator_types::{EntityType, IndexSpaces, TypeList};
 use wasm_validator_checks::{check_movable_global, size_with};
-use wasm_validator_types::{EntityType, IndexSpaces, TypeList};
 
 /// The function with this index as an entity, if there is one.
 pub(crate) fn function_entity<A: Allocator + Copy>(

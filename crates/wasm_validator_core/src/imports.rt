@@ -4,8 +4,8 @@ ghost use Rattle.std.specs.Prelude.{◌≡◌, length, IfErr};
 ghost use Rattle.wasm_spec_rules.specs.FeatureFlags.{features_of};
 ghost use Rattle.wasm_readers.specs.Items.{import_of};
 ghost use Rattle.wasm_readers_types.specs.SeenExterns.{extern_of};
-ghost use Rattle.wasm_validator_types.specs.Entities.{entity_of, IsAmong};
-ghost use Rattle.wasm_validator_type_list.specs.DefTypes.{types_of_list};
+ghost use Rattle.wasm_validator_checks.specs.WasmValidatorTypes.Entities.{entity_of, IsAmong};
+ghost use Rattle.wasm_validator_checks.specs.WasmValidatorTypeList.DefTypes.{types_of_list};
 ghost use Rattle.wasm_validator_core.specs.Errors.{IsAt};
 ghost use Rattle.wasm_validator_core.specs.Answers.{Adds};
 ghost use Rattle.wasm_validator_core.specs.Items.{with_imported, with_named, add_import};
@@ -16,10 +16,10 @@ use crate::error::Error;
 use crate::items::{place_function, place_imported_global, place_memory, place_table, place_tag};
 use std::alloc::Allocator;
 use wasm_readers::{Fault, Import, Rule, TypeRef, WasmFeatures};
+use wasm_validator_checks::validator_types::{EntityType, IndexSpaces, TypeList};
 use wasm_validator_checks::{
     check_movable_global, entity_type, known_ids, listed_type_ref, size_with,
 };
-use wasm_validator_types::{EntityType, IndexSpaces, TypeList};
 
 /// One more item at the end of its index space, which is imported. Its type index is as the list of
 /// types has it.

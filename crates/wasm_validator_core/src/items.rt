@@ -8,11 +8,11 @@ ghost use Rattle.wasm_spec.specs.Syntax.{map_table};
 ghost use Rattle.wasm_readers_errors.specs.Refusals.{refused};
 ghost use Rattle.wasm_readers_types.specs.SeenExterns.{table_of, memory_of, global_of};
 ghost use Rattle.wasm_readers_types.specs.SeenValues.{ref_of};
-ghost use Rattle.wasm_validator_canonical.specs.Indices.{canonical_index};
+ghost use Rattle.wasm_validator_checks.specs.WasmValidatorCanonical.Indices.{canonical_index};
 ghost use Rattle.wasm_validator_checks.specs.Answers.{IsRefusalAt};
 ghost use Rattle.wasm_validator_checks.specs.Items.{is_valid_defined_table};
 ghost use Rattle.wasm_validator_checks.specs.Told.{told_of_defined_table};
-ghost use Rattle.wasm_validator_type_list.specs.DefTypes.{types_of_list};
+ghost use Rattle.wasm_validator_checks.specs.WasmValidatorTypeList.DefTypes.{types_of_list};
 ghost use Rattle.wasm_validator_core.specs.Errors.{IsAt, IsMemory};
 ghost use Rattle.wasm_validator_core.specs.Answers.{Adds};
 ghost use Rattle.wasm_validator_core.specs.Items.{types_of_module, with_function, with_table, with_memory, with_imported_global, with_global, with_tag, add_function, add_table, add_memory, add_tag};
@@ -24,10 +24,10 @@ use crate::limits::{MAX_FUNCTIONS, MAX_GLOBALS, MAX_TAGS, check_max, max_memorie
 use std::alloc::Allocator;
 use wasm_readers::{Counted, GlobalType, MemoryType, Refusal, TableType, TagType, WasmFeatures};
 use wasm_readers_types::RefType;
+use wasm_validator_checks::validator_types::{IndexSpaces, TypeList};
 use wasm_validator_checks::{
     check_defined_table, check_memory_type, check_tag_type, func_type_at, known_ids, listed_table,
 };
-use wasm_validator_types::{IndexSpaces, TypeList};
 
 /// One more function, of the type with this index.
 pub(crate) fn place_function<A: Allocator + Copy>(

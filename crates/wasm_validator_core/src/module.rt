@@ -12,11 +12,11 @@ ghost use Rattle.wasm_readers_types.specs.SeenValues.{ref_of};
 ghost use Rattle.wasm_readers_types.specs.SeenTypes.{rec_of};
 ghost use Rattle.wasm_validator_checks.specs.Answers.{IsRefusalAt, IsPlainRefusalAt};
 ghost use Rattle.wasm_validator_checks.specs.Items.{is_valid_extern, is_valid_defined_table};
-ghost use Rattle.wasm_validator_types.specs.Entities.{entity_of};
-ghost use Rattle.wasm_validator_type_list.specs.DefTypes.{types_of_list};
-ghost use Rattle.wasm_validator_types.specs.Spaces.{no_spaces};
-ghost use Rattle.wasm_validator_canonical.specs.Groups.{has_form, AreValid};
-ghost use Rattle.wasm_validator_canonical.specs.Indices.{canonical_index};
+ghost use Rattle.wasm_validator_checks.specs.WasmValidatorTypes.Entities.{entity_of};
+ghost use Rattle.wasm_validator_checks.specs.WasmValidatorTypeList.DefTypes.{types_of_list};
+ghost use Rattle.wasm_validator_checks.specs.WasmValidatorTypes.Spaces.{no_spaces};
+ghost use Rattle.wasm_validator_checks.specs.WasmValidatorCanonical.Groups.{has_form, AreValid};
+ghost use Rattle.wasm_validator_checks.specs.WasmValidatorCanonical.Indices.{canonical_index};
 ghost use Rattle.wasm_validator_core.specs.Errors.{IsAt, IsMemory, IfContent};
 ghost use Rattle.wasm_validator_core.specs.Answers.{Adds, AddsWhere, HasValidTypes};
 ghost use Rattle.wasm_validator_core.specs.Functions.{IsTypeOfFunction, IsUnknownFunction};
@@ -43,9 +43,9 @@ use wasm_readers::{
     TableType, TagType, TypeRef, WasmFeatures,
 };
 use wasm_readers_types::RefType;
-use wasm_validator_canonical::{InternRecGroup, intern_rec_group_of};
+use wasm_validator_checks::validator_canonical::{InternRecGroup, intern_rec_group_of};
+use wasm_validator_checks::validator_types::{EntityType, IndexSpaces, TypeList};
 use wasm_validator_checks::{entity_type, known_ids, listed_type_ref};
-use wasm_validator_types::{EntityType, IndexSpaces, TypeList};
 
 /// A module as far as it has been read: its index spaces (Core Specification 3.0, Validation,
 /// Conventions, Contexts). A contract sees them as lists.
@@ -55,7 +55,7 @@ pub struct Module<A: Allocator = Global> {
 }
 
 impl<A: Allocator> Model for Module<A> {
-    ghost use Rattle.wasm_validator_types.specs.Spaces.{Spaces};
+    ghost use Rattle.wasm_validator_checks.specs.WasmValidatorTypes.Spaces.{Spaces};
 
     ghost Value = { Spaces };
 
@@ -498,7 +498,7 @@ impl<A: Allocator + Copy> Module<A> {
 
 impl<A: Allocator + Copy> InternRecGroup<A> for Module<A> {
     ghost use Rattle.std.specs.Prelude.{◌≡◌, ◌+◌, ◌<◌, ◌^◌, ◌++◌, ◌∷◌, [], length, OnOk};
-    ghost use Rattle.wasm_validator_canonical.specs.Indices.{numbers};
+    ghost use Rattle.wasm_validator_checks.specs.WasmValidatorCanonical.Indices.{numbers};
 
     ghost ids = { λ s. s.types };
 

@@ -4,7 +4,7 @@
 ghost use Rattle.std.specs.Prelude.{◌≡◌, length, slice_get, is_ok, is_some, IfOk, IfErr};
 ghost use Rattle.std.specs.declared.option.Option.TheVariants.{Some, None};
 ghost use Rattle.wasm_validator_checks.specs.Answers.{IsPlainRefusalAt};
-ghost use Rattle.wasm_validator_type_list.specs.DefTypes.{types_of_list};
+ghost use Rattle.wasm_validator_checks.specs.WasmValidatorTypeList.DefTypes.{types_of_list};
 ghost use Rattle.wasm_validator_core.specs.Functions.{IsTypeOfFunction, IsUnknownFunction};
 ghost use Rattle.wasm_validator_core.specs.Items.{arity_of_function, is_startable};
 ghost use Rattle.wasm_validator_core.specs.Ready.{AreHeld};
@@ -13,8 +13,8 @@ ghost use Rattle.wasm_readers_errors.specs.Refusals.{refused};
 
 use std::alloc::Allocator;
 use wasm_readers::{Fault, FuncType, ItemRule, Refusal};
+use wasm_validator_checks::validator_types::{IndexSpaces, TypeList};
 use wasm_validator_checks::{func_type_at, known_ids};
-use wasm_validator_types::{IndexSpaces, TypeList};
 
 /// The type of the function with this index.
 pub(crate) fn function_type<'a, A: Allocator + Copy>(

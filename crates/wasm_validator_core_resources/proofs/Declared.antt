@@ -4,7 +4,7 @@ use Rattle.std.specs.Prelude.{IsSome, IfSome, ◌↔◌, slice_index_or}
 use Rattle.std.proofs.lemmas.Option.{slice_get-map, slice_get_read, slice_get_past}
 use Rattle.wasm_spec.specs.Syntax.{Sub, map_sub}
 use Rattle.wasm_spec.specs.Declared.{supertype}
-use Rattle.wasm_spec_rules.specs.Contexts.{Context}
+use Rattle.wasm_validator_resources.specs.WasmSpecRules.Contexts.{Context}
 use Rattle.wasm_readers_types.specs.SeenTypes.{sub_of}
 use Rattle.wasm_readers_types.specs.declared.indices.CoreTypeId.{CoreTypeId}
 use Rattle.wasm_readers_types.specs.declared.indices.UnpackedIndex.{UnpackedIndex}
@@ -12,8 +12,8 @@ use Rattle.wasm_readers_types.specs.declared.indices.UnpackedIndex.TheVariants.{
 use Rattle.wasm_readers_types.specs.declared.types.SubType.{SubType}
 use Rattle.wasm_validator_type_list.specs.Declares.{subs_by_ids, declares}
 use Rattle.wasm_validator_type_list.specs.Worlds.{ids_world}
-use Rattle.wasm_spec_rules.specs.Attempts.{◌>>=◌, passes}
-use Rattle.wasm_spec_rules.specs.Worlds.{declared_in, is_below}
+use Rattle.wasm_validator_resources.specs.WasmSpecRules.Attempts.{◌>>=◌, passes}
+use Rattle.wasm_validator_resources.specs.WasmSpecRules.Worlds.{declared_in, is_below}
 use Rattle.wasm_validator_resources.specs.Answers.{same_index, world}
 use Rattle.wasm_validator_core_resources.specs.ListContexts.{IsNoId, IsSeen}
 use Rattle.wasm_validator_core_resources.specs.IndexContexts.{id_of}

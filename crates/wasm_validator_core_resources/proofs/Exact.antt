@@ -2,10 +2,10 @@
 use Rattle.std.proofs.Common.{◌≡◌, sym, ap, ◌∙◌, ℕ, ◌<◌, ◌≤◌, Bool, true, true≢false, length, Some, None, slice_get, get_or, arith}
 use Rattle.std.specs.Prelude.{nat_lt, is_some, IsSome}
 use Rattle.std.proofs.lemmas.Option.{slice_get_past}
-use Rattle.wasm_spec_rules.specs.Contexts.{Context}
+use Rattle.wasm_validator_resources.specs.WasmSpecRules.Contexts.{Context}
 use Rattle.wasm_readers_types.specs.declared.indices.UnpackedIndex.{UnpackedIndex}
 use Rattle.wasm_validator_types.specs.Spaces.{is_exact}
-use Rattle.wasm_spec_rules.specs.Attempts.{passes}
+use Rattle.wasm_validator_resources.specs.WasmSpecRules.Attempts.{passes}
 use Rattle.wasm_validator_core_resources.specs.declared.resources.ModuleResources.TheInside.{Inside}
 use Rattle.wasm_validator_core_resources.specs.Shown.{shown}
 use Rattle.wasm_validator_core_resources.proofs.Lists.{flag_there, no_flag, below_not}

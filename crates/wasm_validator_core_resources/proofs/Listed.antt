@@ -11,7 +11,7 @@ use Rattle.wasm_readers_types.specs.Indices.{IsId}
 use Rattle.wasm_readers_types.specs.declared.indices.UnpackedIndex.{UnpackedIndex}
 use Rattle.wasm_readers_types.specs.declared.indices.UnpackedIndex.TheVariants.{Module, RecGroup, Id}
 use Rattle.wasm_validator_type_list.specs.Lookups.{leads_to}
-use Rattle.wasm_spec_rules.specs.Worlds.{world_of}
+use Rattle.wasm_validator_resources.specs.WasmSpecRules.Worlds.{world_of}
 use Rattle.wasm_validator_core_resources.specs.IndexContexts.{id_of, same_index, ListsAreListed}
 use Rattle.wasm_validator_core_resources.proofs.Seen.{lists_are_seen, list_contexts_are_worlds}
 

@@ -4,7 +4,7 @@ use Rattle.std.specs.Prelude.{nat_lt}
 use Rattle.std.proofs.lemmas.Bool.Decides.{Decides-eqb, Decides-ltb}
 use Rattle.std.proofs.lemmas.Option.{none-some, same_Some, slice_get-get_or}
 use Rattle.std.proofs.lemmas.Bool.{cases_lt}
-use Rattle.wasm_spec_rules.specs.Attempts.{among}
+use Rattle.wasm_validator_resources.specs.WasmSpecRules.Attempts.{among}
 use Rattle.wasm_validator_core_resources.specs.ModuleContexts.{exact_flags, numbers_from, flagged_from, FlagsSayReferences}
 
 -- a function that is there is exact as the module says

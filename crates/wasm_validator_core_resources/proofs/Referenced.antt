@@ -3,8 +3,8 @@ use Rattle.std.proofs.Common.{◌≡◌, sym, ap, ◌∙◌, ℕ, ◌<◌, Bool,
 use Rattle.std.specs.Prelude.{nat_lt, slice_index_or}
 use Rattle.std.proofs.lemmas.Bool.Decides.{Decides-ltb}
 use Rattle.std.proofs.lemmas.Option.{slice_get_read}
-use Rattle.wasm_spec_rules.specs.Contexts.{Context}
-use Rattle.wasm_spec_rules.specs.Attempts.{among}
+use Rattle.wasm_validator_resources.specs.WasmSpecRules.Contexts.{Context}
+use Rattle.wasm_validator_resources.specs.WasmSpecRules.Attempts.{among}
 use Rattle.wasm_readers_types.specs.declared.indices.UnpackedIndex.{UnpackedIndex}
 use Rattle.wasm_validator_core_resources.specs.declared.resources.ModuleResources.TheInside.{Inside}
 use Rattle.wasm_validator_core_resources.specs.Shown.{references_of, shown}

@@ -6,17 +6,17 @@ use Rattle.std.proofs.lemmas.Bool.Decides.{Decides-eqb}
 use Rattle.std.proofs.lemmas.Option.{slice_get-map}
 use Rattle.wasm_spec.specs.Syntax.{Sub, map_sub}
 use Rattle.wasm_spec.specs.Declared.{supertype, supertype_of, ancestor_at, IsAncestor}
-use Rattle.wasm_spec_rules.specs.Contexts.{Context}
+use Rattle.wasm_validator_resources.specs.WasmSpecRules.Contexts.{Context}
 use Rattle.wasm_readers_types.specs.declared.types.SubType.{SubType}
-use Rattle.wasm_validator_type_groups.specs.Groups.{all_in}
+use Rattle.wasm_validator_type_list.specs.WasmValidatorTypeGroups.Groups.{all_in}
 use Rattle.wasm_validator_type_list.specs.Listable.{AreListable}
 use Rattle.wasm_validator_type_list.specs.Declares.{subs_by_ids, declares}
 use Rattle.wasm_validator_type_list.specs.Worlds.{is_within, ids_world}
 use Rattle.wasm_validator_type_list.proofs.Declares.{descends}
 use Rattle.wasm_validator_type_list.proofs.Joined.{length-subs}
 use Rattle.wasm_validator_type_list.proofs.Unknown.{declared_within}
-use Rattle.wasm_spec_rules.specs.Attempts.{◌>>=◌, passes}
-use Rattle.wasm_spec_rules.specs.Worlds.{declared_in, is_below, world_of}
+use Rattle.wasm_validator_resources.specs.WasmSpecRules.Attempts.{◌>>=◌, passes}
+use Rattle.wasm_validator_resources.specs.WasmSpecRules.Worlds.{declared_in, is_below, world_of}
 use Rattle.wasm_operator_steps.specs.Renaming.{Renames}
 use Rattle.wasm_operator_steps.specs.Laws.{IsNear}
 use Rattle.wasm_operator_steps.proofs.MatchingRenamed.{matches_val-map}

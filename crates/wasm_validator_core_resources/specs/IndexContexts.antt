@@ -4,7 +4,7 @@ use Rattle.std.specs.List.{All}
 use Rattle.wasm_spec.specs.Syntax.{Val, map_val}
 use Rattle.wasm_spec.specs.References.{refs_val}
 use Rattle.wasm_spec.specs.MatchingTests.{IsWorld, matches_val}
-use Rattle.wasm_spec_rules.specs.Contexts.{Context}
+use Rattle.wasm_validator_resources.specs.WasmSpecRules.Contexts.{Context}
 use Rattle.wasm_readers_types.specs.Indices.{IsId}
 use Rattle.wasm_readers_types.specs.declared.indices.UnpackedIndex.{UnpackedIndex}
 use Rattle.wasm_readers_types.specs.declared.indices.UnpackedIndex.TheVariants.{Module, RecGroup, Id}
@@ -12,7 +12,7 @@ use Rattle.wasm_readers_types.specs.declared.types.SubType.{SubType}
 use Rattle.wasm_validator_type_list.specs.Lookups.{leads_to}
 use Rattle.wasm_validator_type_list.specs.Listable.{AreListable}
 use Rattle.wasm_validator_type_list.specs.Worlds.{ids_world}
-use Rattle.wasm_spec_rules.specs.Worlds.{world_of}
+use Rattle.wasm_validator_resources.specs.WasmSpecRules.Worlds.{world_of}
 use Rattle.wasm_validator_core_resources.specs.ListContexts.{list_declares, IsSeen}
 
 -- the id with this number

@@ -1,3 +1,4 @@
+pub use Rattle.wasm_validator_types.specs as WasmValidatorTypes
 pub mod ListContexts
 pub mod IndexContexts
 pub mod ModuleContexts

@@ -4,12 +4,12 @@ use Rattle.std.specs.Prelude.{ℕ, suc, ◌≡◌, Bool, false, ◌==◌, List, 
 use Rattle.std.specs.Bool.{Decides}
 use Rattle.wasm_spec.specs.Syntax.{Val, map_val, Sub, map_sub}
 use Rattle.wasm_spec.specs.MatchingTests.{IsWorld, matches_val}
-use Rattle.wasm_spec_rules.specs.Contexts.{Context}
+use Rattle.wasm_validator_resources.specs.WasmSpecRules.Contexts.{Context}
 use Rattle.wasm_readers_types.specs.declared.types.SubType.{SubType}
 use Rattle.wasm_validator_type_list.specs.Listable.{AreListable}
 use Rattle.wasm_validator_type_list.specs.Declares.{subs_by_ids}
 use Rattle.wasm_validator_type_list.specs.Worlds.{ids_world}
-use Rattle.wasm_spec_rules.specs.Worlds.{world_of}
+use Rattle.wasm_validator_resources.specs.WasmSpecRules.Worlds.{world_of}
 use Rattle.wasm_operator_steps.specs.Renaming.{Renames}
 
 module _ {R : Type 0} (f : ℕ → R) where

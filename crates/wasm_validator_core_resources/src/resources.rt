@@ -21,12 +21,12 @@ use crate::heaps::{
 use crate::types_by_ids::TypesByIds;
 use std::alloc::Allocator;
 use std::marker::Model;
-use wasm_readers_errors::{Fault, Refusal};
 use wasm_readers_types::{
     AbstractHeapType, CompositeInnerType, CoreTypeId, FuncType, GlobalType, HeapType, MemoryType,
     RefType, SubType, TableType, UnpackedIndex, ValType,
 };
 use wasm_validator_resources::WasmModuleResources;
+use wasm_validator_resources::readers_errors::{Fault, Refusal};
 use wasm_validator_type_list::{SnapshotList, TypeList};
 use wasm_validator_types::IndexSpaces;
 
@@ -43,7 +43,7 @@ pub struct ModuleResources<'a, A: Allocator> {
 }
 
 impl<'a, A: Allocator> Model for ModuleResources<'a, A> {
-    ghost use Rattle.wasm_spec_rules.specs.Contexts.{Context};
+    ghost use Rattle.wasm_validator_resources.specs.WasmSpecRules.Contexts.{Context};
     ghost use Rattle.wasm_readers_types.specs.declared.indices.UnpackedIndex.{UnpackedIndex};
 
     ghost Value = { Context UnpackedIndex };

@@ -13,12 +13,12 @@ use crate::{ModuleResources, TypesByIds};
 use std::alloc::{AllocError, Allocator, Global};
 use std::marker::Model;
 use std::rc::Rc;
-use wasm_readers_errors::Refusal;
 use wasm_readers_types::{
     CompositeInnerType, CoreTypeId, FuncType, GlobalType, HeapType, MemoryType, RefType, SubType,
     TableType, ValType,
 };
 use wasm_validator_resources::WasmModuleResources;
+use wasm_validator_resources::readers_errors::Refusal;
 use wasm_validator_type_list::TypeList;
 use wasm_validator_types::IndexSpaces;
 
@@ -48,7 +48,7 @@ impl<A: Allocator> Drop for CodeModule<A> {
 }
 
 impl<A: Allocator> Model for CodeModule<A> {
-    ghost use Rattle.wasm_spec_rules.specs.Contexts.{Context};
+    ghost use Rattle.wasm_validator_resources.specs.WasmSpecRules.Contexts.{Context};
     ghost use Rattle.wasm_readers_types.specs.declared.indices.UnpackedIndex.{UnpackedIndex};
 
     ghost Value = { Context UnpackedIndex };
@@ -133,7 +133,7 @@ impl<A: Allocator + Copy> CodeModule<A> {
 pub struct ValidatorResources<A: Allocator = Global>(Rc<CodeModule<A>, A>);
 
 impl<A: Allocator> Model for ValidatorResources<A> {
-    ghost use Rattle.wasm_spec_rules.specs.Contexts.{Context};
+    ghost use Rattle.wasm_validator_resources.specs.WasmSpecRules.Contexts.{Context};
     ghost use Rattle.wasm_readers_types.specs.declared.indices.UnpackedIndex.{UnpackedIndex};
 
     ghost Value = { Context UnpackedIndex };

@@ -13,7 +13,7 @@ use Rattle.wasm_operators.proofs.Renamings.{instruction-renames}
 use Rattle.wasm_operator_steps.specs.Bodies.{Surroundings}
 use Rattle.wasm_operator_steps.specs.Machine.{State}
 use Rattle.wasm_operator_steps.specs.Steps.{step_in, is_finished}
-use Rattle.wasm_operator_fast.specs.Fused.{step_read, step_at}
+use Rattle.wasm_operator_validator.specs.WasmOperatorFast.Fused.{step_read, step_at}
 use Rattle.wasm_validator_resources.specs.Answers.{world, written_index}
 use Rattle.wasm_operator_validator.specs.Checked.{ReadsTo}
 use Rattle.wasm_operator_validator.specs.Reads.{ReadsStep}

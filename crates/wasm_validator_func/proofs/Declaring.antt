@@ -14,9 +14,9 @@ use Rattle.wasm_readers_types.specs.declared.indices.UnpackedIndex.{UnpackedInde
 use Rattle.wasm_operator_steps.specs.Bodies.{Local}
 use Rattle.wasm_spec_rules.specs.Signatures.{resolve_val}
 use Rattle.wasm_validator_resources.specs.Answers.{written_index, val_in}
-use Rattle.wasm_operator_checks.specs.Told.{TellsError}
-use Rattle.wasm_operator_checks.specs.declared.faults.OperatorError.{OperatorError}
-use Rattle.wasm_operator_checks.specs.declared.faults.OperatorError.TheVariants.{Refused, OutOfMemory}
+use Rattle.wasm_operator_validator.specs.WasmOperatorChecks.Told.{TellsError}
+use Rattle.wasm_operator_validator.specs.WasmOperatorChecks.declared.faults.OperatorError.{OperatorError}
+use Rattle.wasm_operator_validator.specs.WasmOperatorChecks.declared.faults.OperatorError.TheVariants.{Refused, OutOfMemory}
 use Rattle.wasm_operator_validator.specs.Typed.{locals_in, Defines}
 use Rattle.wasm_operator_validator.specs.declared.validator.OperatorValidator.{OperatorValidator}
 use Rattle.wasm_validator_func.specs.Bodies.{more_locals, declared_from, locals_from}

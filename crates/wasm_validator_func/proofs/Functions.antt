@@ -18,12 +18,12 @@ use Rattle.wasm_spec_rules.specs.Signatures.{Signature}
 use Rattle.wasm_operator_steps.specs.Steps.{start}
 use Rattle.wasm_validator_resources.specs.Answers.{world, sub_in}
 use Rattle.wasm_operator_stacks.specs.Seen.{surroundings}
-use Rattle.wasm_operator_control.specs.Blocks.{function_in}
+use Rattle.wasm_operator_validator.specs.WasmOperatorControl.Blocks.{function_in}
 use Rattle.wasm_operator_validator.specs.Typed.{typed_state, locals_in, parameter, BeginsBody}
 use Rattle.wasm_operator_validator.specs.declared.validator.OperatorValidator.{OperatorValidator}
-use Rattle.wasm_operator_checks.specs.Told.{TellsError}
-use Rattle.wasm_operator_checks.specs.declared.faults.OperatorError.{OperatorError}
-use Rattle.wasm_operator_checks.specs.declared.faults.OperatorError.TheVariants as operator_error
+use Rattle.wasm_operator_validator.specs.WasmOperatorChecks.Told.{TellsError}
+use Rattle.wasm_operator_validator.specs.WasmOperatorChecks.declared.faults.OperatorError.{OperatorError}
+use Rattle.wasm_operator_validator.specs.WasmOperatorChecks.declared.faults.OperatorError.TheVariants as operator_error
 use Rattle.wasm_operator_validator.specs.Checked.{within, IsRefusedAt, StandsIn}
 use Rattle.wasm_validator_func.specs.Bodies.{body_from}
 use Rattle.wasm_operator_steps.specs.FunctionBodies.{IsBody}

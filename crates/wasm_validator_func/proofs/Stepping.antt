@@ -13,10 +13,10 @@ use Rattle.wasm_operator_steps.specs.Steps.{step_in}
 use Rattle.wasm_validator_resources.specs.Answers.{world, written_index}
 use Rattle.wasm_operator_stacks.specs.Seen.{state_of, around}
 use Rattle.wasm_operator_stacks.specs.declared.stacks.Stacks.{Stacks}
-use Rattle.wasm_operator_checks.specs.Steps.{Took}
-use Rattle.wasm_operator_checks.specs.Told.{TellsError}
-use Rattle.wasm_operator_checks.specs.declared.faults.OperatorError.{OperatorError}
-use Rattle.wasm_operator_checks.specs.declared.faults.OperatorError.TheVariants.{Refused, OutOfMemory}
+use Rattle.wasm_operator_validator.specs.WasmOperatorChecks.Steps.{Took}
+use Rattle.wasm_operator_validator.specs.WasmOperatorChecks.Told.{TellsError}
+use Rattle.wasm_operator_validator.specs.WasmOperatorChecks.declared.faults.OperatorError.{OperatorError}
+use Rattle.wasm_operator_validator.specs.WasmOperatorChecks.declared.faults.OperatorError.TheVariants.{Refused, OutOfMemory}
 use Rattle.wasm_operator_validator.specs.Stepped.{Steps}
 use Rattle.wasm_operator_validator.specs.Visited.{SaysAt, StepsAt}
 use Rattle.wasm_operator_validator.specs.Checked.{StandsIn, TookAt}

@@ -9,7 +9,7 @@ ghost use Rattle.wasm_readers_types.specs.SeenValues.{val_of};
 ghost use Rattle.wasm_operators.specs.SeenOperators.{operator_of};
 ghost use Rattle.wasm_validator_resources.specs.Answers.{IsWrittenVal};
 ghost use Rattle.wasm_operator_stacks.specs.Seen.{Kept};
-ghost use Rattle.wasm_operator_control.specs.Blocks.{function_in};
+ghost use Rattle.wasm_operator_validator.specs.WasmOperatorControl.Blocks.{function_in};
 ghost use Rattle.wasm_operator_validator.specs.Stepped.{IsWrittenInstruction};
 ghost use Rattle.wasm_operator_validator.specs.Visited.{StepsAt};
 ghost use Rattle.wasm_operator_validator.specs.Typed.{typed_state, locals_in, BeginsBody};

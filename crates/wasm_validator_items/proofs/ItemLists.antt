@@ -14,8 +14,8 @@ use Rattle.wasm_spec_rules.specs.Contexts.{Context}
 use Rattle.wasm_spec_rules.specs.Parts.{Expression, index}
 use Rattle.wasm_readers.specs.Written.{written}
 use Rattle.wasm_readers_types.specs.declared.indices.UnpackedIndex.{UnpackedIndex}
-use Rattle.wasm_validator_canonical.specs.Indices.{canonical_index}
-use Rattle.wasm_validator_checks.specs.Items.{is_ref_in_range}
+use Rattle.wasm_validator_core.specs.WasmValidatorCanonical.Indices.{canonical_index}
+use Rattle.wasm_validator_core.specs.WasmValidatorChecks.Items.{is_ref_in_range}
 use Rattle.wasm_validator_resources.specs.Answers.{val_in}
 use Rattle.wasm_spec_validity.specs.Expressions.{expression_at}
 use Rattle.wasm_validator_segments.specs.Elements.{behind_function, may_go, reference_at}

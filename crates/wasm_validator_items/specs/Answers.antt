@@ -1,7 +1,7 @@
 -- What the refusal of an item says, and where it stands.
 use Rattle.std.specs.Prelude.{◌≡◌, ℕ, ◌≤◌, ◌+◌, length, Option, None, ⊤}
-use Rattle.wasm_readers_bytes.specs.Reader.{input, original, position_in}
-use Rattle.wasm_readers_bytes.specs.declared.binary_reader.BinaryReader.{BinaryReader}
+use Rattle.wasm_readers.specs.WasmReadersBytes.Reader.{input, original, position_in}
+use Rattle.wasm_readers.specs.WasmReadersBytes.declared.binary_reader.BinaryReader.{BinaryReader}
 use Rattle.wasm_validator_core.specs.declared.error.Error.{Error}
 use Rattle.wasm_validator_core.specs.declared.error.Error.TheVariants.{Refused, DuplicateExport, OutOfMemory}
 

@@ -12,8 +12,8 @@ use Rattle.wasm_spec_rules.specs.Attempts.{passes}
 use Rattle.wasm_spec_rules.specs.Parts.{Expression}
 use Rattle.wasm_spec_rules.specs.SegmentRules.{index_or_first}
 use Rattle.wasm_readers_types.specs.declared.indices.UnpackedIndex.{UnpackedIndex}
-use Rattle.wasm_validator_canonical.specs.Indices.{canonical_index}
-use Rattle.wasm_validator_checks.specs.Items.{is_ref_in_range, is_valid_defined_table, is_valid_global}
+use Rattle.wasm_validator_core.specs.WasmValidatorCanonical.Indices.{canonical_index}
+use Rattle.wasm_validator_core.specs.WasmValidatorChecks.Items.{is_ref_in_range, is_valid_defined_table, is_valid_global}
 use Rattle.wasm_validator_resources.specs.Answers.{world}
 use Rattle.wasm_validator_segments.specs.Offsets.{address_type}
 use Rattle.wasm_validator_types.specs.Spaces.{Spaces}

@@ -11,8 +11,8 @@ use Rattle.wasm_spec_rules.specs.Limits.{most_tables}
 use Rattle.wasm_readers.specs.Tables.{Head, table_head_at}
 use Rattle.wasm_readers.specs.Written.{written}
 use Rattle.wasm_readers_types.specs.declared.indices.UnpackedIndex.{UnpackedIndex}
-use Rattle.wasm_validator_canonical.specs.Indices.{canonical_index}
-use Rattle.wasm_validator_checks.specs.Items.{is_valid_defined_table, is_valid_global}
+use Rattle.wasm_validator_core.specs.WasmValidatorCanonical.Indices.{canonical_index}
+use Rattle.wasm_validator_core.specs.WasmValidatorChecks.Items.{is_valid_defined_table, is_valid_global}
 use Rattle.wasm_validator_types.specs.Spaces.{Spaces}
 use Rattle.wasm_validator_core.specs.declared.limits.TheConstants.{MAX_GLOBALS, MAX_ELEMENT_SEGMENTS, MAX_DATA_SEGMENTS}
 use Rattle.wasm_validator_core.specs.Answers.{TypesSoFar}

@@ -3,7 +3,7 @@
 ghost use Rattle.std.specs.Prelude.{◌≡◌, ◌≤◌, ◌+◌, length, IfOk, IfErr};
 ghost use Rattle.std.specs.declared.option.Option.TheVariants.{Some};
 ghost use Rattle.wasm_spec_rules.specs.FeatureFlags.{features_of};
-ghost use Rattle.wasm_readers_bytes.specs.Reader.{SameInput, input, original, position_in, rest};
+ghost use Rattle.wasm_readers.specs.WasmReadersBytes.Reader.{SameInput, input, original, position_in, rest};
 ghost use Rattle.wasm_validator_core.specs.Answers.{Adds};
 ghost use Rattle.wasm_validator_core.specs.Ready.{AreHeld};
 ghost use Rattle.wasm_validator_core_resources.specs.IndexContexts.{id_of};

@@ -4,12 +4,12 @@ ghost use Rattle.std.specs.Prelude.{◌≡◌, ◌≤◌, ◌+◌, is_ok, length
 ghost use Rattle.std.specs.declared.option.Option.TheVariants.{Some};
 ghost use Rattle.wasm_spec.specs.Syntax.{map_global};
 ghost use Rattle.wasm_spec_rules.specs.FeatureFlags.{features_of};
-ghost use Rattle.wasm_readers_bytes.specs.Reader.{SameInput, input, original, position_in, rest};
+ghost use Rattle.wasm_readers.specs.WasmReadersBytes.Reader.{SameInput, input, original, position_in, rest};
 ghost use Rattle.wasm_readers_types.specs.SeenExterns.{global_of};
-ghost use Rattle.wasm_validator_type_list.specs.DefTypes.{types_of_list};
-ghost use Rattle.wasm_validator_canonical.specs.Indices.{canonical_index};
-ghost use Rattle.wasm_validator_checks.specs.Answers.{IsRefusalAt};
-ghost use Rattle.wasm_validator_checks.specs.Items.{is_valid_global};
+ghost use Rattle.wasm_validator_types.specs.WasmValidatorTypeList.DefTypes.{types_of_list};
+ghost use Rattle.wasm_validator_core.specs.WasmValidatorCanonical.Indices.{canonical_index};
+ghost use Rattle.wasm_validator_core.specs.WasmValidatorChecks.Answers.{IsRefusalAt};
+ghost use Rattle.wasm_validator_core.specs.WasmValidatorChecks.Items.{is_valid_global};
 ghost use Rattle.wasm_validator_core.specs.Answers.{Adds};
 ghost use Rattle.wasm_validator_core.specs.Items.{types_of_module};
 ghost use Rattle.wasm_validator_core.specs.Ready.{AreHeld};

@@ -3,9 +3,9 @@
 ghost use Rattle.std.specs.Prelude.{◌≡◌, ◌≤◌, ◌+◌, length, IfOk, IfErr};
 ghost use Rattle.std.specs.declared.option.Option.TheVariants.{Some};
 ghost use Rattle.wasm_spec_rules.specs.FeatureFlags.{features_of};
-ghost use Rattle.wasm_readers_bytes.specs.Reader.{SameInput, input, original, position_in, rest};
+ghost use Rattle.wasm_readers.specs.WasmReadersBytes.Reader.{SameInput, input, original, position_in, rest};
 ghost use Rattle.wasm_readers_types.specs.SeenExterns.{table_of};
-ghost use Rattle.wasm_validator_type_list.specs.DefTypes.{types_of_list};
+ghost use Rattle.wasm_validator_types.specs.WasmValidatorTypeList.DefTypes.{types_of_list};
 ghost use Rattle.wasm_validator_core.specs.Answers.{Adds};
 ghost use Rattle.wasm_validator_core.specs.Ready.{AreHeld};
 ghost use Rattle.wasm_validator_core_resources.specs.IndexContexts.{id_of};

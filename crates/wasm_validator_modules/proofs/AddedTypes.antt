@@ -17,9 +17,9 @@ use Rattle.wasm_validator_canonical.specs.Sections.{with_all_written, StandsFor,
 use Rattle.wasm_validator_canonical.proofs.Sections.{added_sections_are_valid}
 use Rattle.wasm_validator_canonical.proofs.Steps.{written_length}
 use Rattle.wasm_validator_types.specs.Spaces.{Spaces}
-use Rattle.wasm_validator_core.specs.declared.limits.TheConstants.{MAX_TYPES}
-use Rattle.wasm_validator_core.specs.Answers.{TypesSoFar}
-use Rattle.wasm_validator_core.specs.Machine.{with_ids, add_group}
+use Rattle.wasm_validator_sections.specs.WasmValidatorCore.declared.limits.TheConstants.{MAX_TYPES}
+use Rattle.wasm_validator_sections.specs.WasmValidatorCore.Answers.{TypesSoFar}
+use Rattle.wasm_validator_sections.specs.WasmValidatorCore.Machine.{with_ids, add_group}
 
 pub as_many_zipped : {X Y : Type 0} (P : X → Y → Type 0) (xs : List X) (ys : List Y) → AllZip P xs ys → length xs ≡ length ys
 as_many_zipped P [] [] a = refl

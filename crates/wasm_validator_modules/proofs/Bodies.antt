@@ -7,11 +7,11 @@ use Rattle.wasm_readers_errors.specs.declared.error.Error.{Error}
 use Rattle.wasm_readers_errors.specs.declared.error.Error.TheVariants.{Refused, OutOfMemory}
 use Rattle.wasm_parser.specs.declared.function_body.FunctionBody.{FunctionBody}
 use Rattle.wasm_parser.specs.Seen.{body_reader}
-use Rattle.wasm_validator_func.specs.declared.func_validator.FuncToValidate.{FuncToValidate}
-use Rattle.wasm_validator_func.specs.Functions.{Refuses, StandsInOrFirst}
+use Rattle.wasm_validator_sections.specs.WasmValidatorFunc.declared.func_validator.FuncToValidate.{FuncToValidate}
+use Rattle.wasm_validator_sections.specs.WasmValidatorFunc.Functions.{Refuses, StandsInOrFirst}
 use Rattle.wasm_validator_type_list.proofs.Grouped.{all-right}
-use Rattle.wasm_validator_core.specs.declared.error.Error as whole
-use Rattle.wasm_validator_core.specs.Errors.{lifted}
+use Rattle.wasm_validator_sections.specs.WasmValidatorCore.declared.error.Error as whole
+use Rattle.wasm_validator_sections.specs.WasmValidatorCore.Errors.{lifted}
 use Rattle.wasm_validator_sections.specs.SectionsTold.{StandsBetween}
 use Rattle.wasm_readers_errors.specs.declared.features.WasmFeatures.{WasmFeatures}
 use Rattle.wasm_validator_modules.specs.States.{BodyToValidate}

@@ -7,14 +7,14 @@ use Rattle.wasm_spec.specs.BinaryModules.{export_at}
 use Rattle.wasm_spec_rules.specs.FeatureFlags.{features_of}
 use Rattle.wasm_spec_rules.specs.Sections.{each}
 use Rattle.wasm_spec_rules.proofs.Tests.{then_some, guarded}
-use Rattle.wasm_validator_core.specs.Items.{add_export}
-use Rattle.wasm_laws_core.specs.Exports.{with_exports}
-use Rattle.wasm_laws_core.proofs.AddedExports.{exports_are_added_behind}
-use Rattle.wasm_laws_core.proofs.AddedItems.{each_changed}
+use Rattle.wasm_validator_sections.specs.WasmValidatorCore.Items.{add_export}
+use Rattle.wasm_validator_sections.specs.WasmLawsCore.Exports.{with_exports}
+use Rattle.wasm_validator_sections.proofs.WasmLawsCore.AddedExports.{exports_are_added_behind}
+use Rattle.wasm_validator_sections.proofs.WasmLawsCore.AddedItems.{each_changed}
 use Rattle.wasm_validator_sections.specs.Sections.{read_section}
 use Rattle.wasm_validator_sections.specs.Noted.{naming}
 use Rattle.wasm_validator_modules.specs.Standing.{in_module}
-use Rattle.wasm_validator_references.specs.References.{names_of_exports}
+use Rattle.wasm_validator_sections.specs.WasmValidatorReferences.References.{names_of_exports}
 use Rattle.wasm_validator_modules.specs.SectionLaws.{ExportsAdd}
 use Rattle.wasm_validator_sections.proofs.SectionEntries.{limited, section_entries, renames_nothing, same_item}
 use Rattle.wasm_validator_modules.proofs.SectionLaws.{moved_from, moved_to, at_module}

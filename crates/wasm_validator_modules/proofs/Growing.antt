@@ -9,16 +9,16 @@ use Rattle.wasm_spec.specs.Framing.{Piece, Version, Custom, Counted, Start, Data
 use Rattle.wasm_readers.specs.Written.{written}
 use Rattle.wasm_readers_errors.specs.declared.features.WasmFeatures.{WasmFeatures}
 use Rattle.wasm_validator_types.specs.Spaces.{Spaces, no_spaces}
-use Rattle.wasm_validator_core.specs.declared.limits.TheConstants.{MAX_TYPES}
-use Rattle.wasm_validator_core.specs.Answers.{TypesSoFar}
-use Rattle.wasm_validator_core.specs.Machine.{add_group}
+use Rattle.wasm_validator_sections.specs.WasmValidatorCore.declared.limits.TheConstants.{MAX_TYPES}
+use Rattle.wasm_validator_sections.specs.WasmValidatorCore.Answers.{TypesSoFar}
+use Rattle.wasm_validator_sections.specs.WasmValidatorCore.Machine.{add_group}
 use Rattle.wasm_validator_sections.specs.Sections.{read_each}
 use Rattle.wasm_validator_sections.specs.Machine.{type_items, other_items, section_items, start_item, data_count_item, beside}
 use Rattle.wasm_validator_sections.specs.Noted.{Noted, nothing_noted, naming, counting, noting_nothing}
 use Rattle.wasm_validator_sections.specs.Started.{Started, starting, taking, bodies_left}
 use Rattle.wasm_validator_modules.specs.Standing.{Stage, unparsed, in_module, in_code, ended, failed, Standing, HoldsAt, within, within_all, at_stage}
 use Rattle.wasm_validator_modules.specs.States.{begun, code_started, body_taken, module_ended, after_piece}
-use Rattle.wasm_validator_references.specs.References.{section_names}
+use Rattle.wasm_validator_sections.specs.WasmValidatorReferences.References.{section_names}
 use Rattle.wasm_validator_sections.specs.declared.code_state.TheConstants.{MAX_FUNCTION_SIZE}
 use Rattle.wasm_validator_modules.specs.Payloads.{after_all}
 use Rattle.wasm_validator_sections.proofs.GroupsGrow.{group_back}

@@ -9,11 +9,11 @@ use Rattle.wasm_readers_types.specs.declared.indices.UnpackedIndex.{UnpackedInde
 use Rattle.wasm_readers_errors.specs.declared.features.WasmFeatures.{WasmFeatures}
 use Rattle.wasm_spec.specs.Framing as parts
 use Rattle.wasm_spec.specs.Framing.{Piece, Version, Custom, Counted, Start, DataCount, CodeStart, CodeEntry, Unknown}
-use Rattle.wasm_validator_references.specs.References.{section_names}
+use Rattle.wasm_validator_sections.specs.WasmValidatorReferences.References.{section_names}
 use Rattle.wasm_parser.specs.declared.function_body.FunctionBody.{FunctionBody}
 use Rattle.wasm_validator_types.specs.Spaces.{Spaces}
-use Rattle.wasm_validator_core.specs.Answers.{TypesSoFar}
-use Rattle.wasm_validator_func.specs.declared.func_validator.FuncToValidate.{FuncToValidate}
+use Rattle.wasm_validator_sections.specs.WasmValidatorCore.Answers.{TypesSoFar}
+use Rattle.wasm_validator_sections.specs.WasmValidatorFunc.declared.func_validator.FuncToValidate.{FuncToValidate}
 use Rattle.wasm_validator_sections.specs.Machine.{section_items, start_item, data_count_item, beside}
 use Rattle.wasm_validator_sections.specs.Noted.{Noted, naming, counting, noting_nothing}
 use Rattle.wasm_validator_modules.specs.Standing.{Stage, unparsed, in_module, in_code, ended, failed, Standing, within, within_all, at_stage}

@@ -10,10 +10,10 @@ use Rattle.wasm_validator_type_list.specs.Listing.{Listing}
 use Rattle.wasm_validator_type_list.specs.Listable.{AreListable}
 use Rattle.wasm_validator_type_list.specs.DefTypes.{def_types, types_of_list}
 use Rattle.wasm_validator_types.specs.Spaces.{Spaces}
-use Rattle.wasm_validator_core.specs.Answers.{TypesSoFar, AddsWhere, HasValidTypes}
-use Rattle.wasm_validator_core.specs.declared.error.Error.{Error}
+use Rattle.wasm_validator_sections.specs.WasmValidatorCore.Answers.{TypesSoFar, AddsWhere, HasValidTypes}
+use Rattle.wasm_validator_sections.specs.WasmValidatorCore.declared.error.Error.{Error}
 use Rattle.wasm_validator_core_resources.specs.ById.{AreFirstByIds}
-use Rattle.wasm_laws_contexts.proofs.GrownLists.{first_types_stay_first}
+use Rattle.wasm_validator_sections.proofs.WasmLawsContexts.GrownLists.{first_types_stay_first}
 use Rattle.wasm_validator_sections.specs.declared.module_state.ModuleState.{ModuleState}
 use Rattle.wasm_validator_sections.specs.Machine.{type_items}
 use Rattle.wasm_validator_modules.specs.Ready.{AreFirstIn}

@@ -13,7 +13,7 @@ use Rattle.wasm_spec_rules.proofs.FramedOrder.{AreInner, others_inner}
 use Rattle.wasm_spec_rules.proofs.Tests.{then_some, map_some, chosen}
 use Rattle.wasm_readers_errors.specs.declared.features.WasmFeatures.{WasmFeatures}
 use Rattle.wasm_validator_types.specs.Spaces.{Spaces}
-use Rattle.wasm_validator_core.specs.Answers.{TypesSoFar}
+use Rattle.wasm_validator_sections.specs.WasmValidatorCore.Answers.{TypesSoFar}
 use Rattle.wasm_validator_sections.specs.Machine.{type_items, import_items, function_items, table_items, memory_items, global_items, export_items, element_items, data_items, tag_items, other_items, section_items, beside}
 use Rattle.wasm_validator_modules.proofs.CodeOrder.{HasStarted, started-append}
 use Rattle.wasm_validator_modules.proofs.ModuleRun.{is_known_section, is_part, AreParts}

@@ -1,3 +1,5 @@
+pub use Rattle.wasm_validator_canonical.proofs as WasmValidatorCanonical
+pub use Rattle.wasm_validator_sections.proofs.WasmLawsCore as WasmLawsCore
 pub mod Sections
 pub mod ToldMoves
 pub mod KeptTypes

@@ -17,9 +17,9 @@ use Rattle.wasm_spec_rules.proofs.FramedOrder.{IsInner, AreInner}
 use Rattle.wasm_spec_rules.proofs.Tests.{truth, when, unless, guarded, then_some}
 use Rattle.wasm_readers_errors.specs.declared.features.WasmFeatures.{WasmFeatures}
 use Rattle.wasm_validator_types.specs.Spaces.{Spaces}
-use Rattle.wasm_validator_core.specs.declared.limits.TheConstants.{MAX_DATA_SEGMENTS}
-use Rattle.wasm_validator_core.specs.Items.{is_data_count}
-use Rattle.wasm_validator_core.specs.Answers.{TypesSoFar, HasValidTypes}
+use Rattle.wasm_validator_sections.specs.WasmValidatorCore.declared.limits.TheConstants.{MAX_DATA_SEGMENTS}
+use Rattle.wasm_validator_sections.specs.WasmValidatorCore.Items.{is_data_count}
+use Rattle.wasm_validator_sections.specs.WasmValidatorCore.Answers.{TypesSoFar, HasValidTypes}
 use Rattle.wasm_validator_sections.specs.Machine.{tag_items, section_items, start_item, data_count_item, beside}
 use Rattle.wasm_validator_canonical.proofs.Canonical.{and_left, and_right}
 use Rattle.std.proofs.lemmas.Option.{same_Some}

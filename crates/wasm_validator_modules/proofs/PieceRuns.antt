@@ -13,9 +13,9 @@ use Rattle.wasm_spec_rules.specs.Sections.{each, rank_of_section}
 use Rattle.wasm_spec_rules.proofs.FramedOrder.{AreInner}
 use Rattle.wasm_spec_rules.proofs.Tests.{truth, when, unless, then_some}
 use Rattle.wasm_readers_errors.specs.declared.features.WasmFeatures.{WasmFeatures}
-use Rattle.wasm_validator_references.specs.References.{section_names}
+use Rattle.wasm_validator_sections.specs.WasmValidatorReferences.References.{section_names}
 use Rattle.wasm_validator_types.specs.Spaces.{Spaces}
-use Rattle.wasm_validator_core.specs.Answers.{TypesSoFar}
+use Rattle.wasm_validator_sections.specs.WasmValidatorCore.Answers.{TypesSoFar}
 use Rattle.wasm_validator_sections.specs.Bodies.{expected_bodies}
 use Rattle.wasm_validator_sections.specs.declared.code_state.TheConstants.{MAX_FUNCTION_SIZE}
 use Rattle.wasm_validator_sections.specs.Machine.{section_items, start_item, data_count_item, beside}

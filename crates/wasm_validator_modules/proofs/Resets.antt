@@ -5,7 +5,7 @@ use Rattle.wasm_spec.specs.Framing.{Piece, Version, Custom, Counted, Start, Data
 use Rattle.wasm_parser.specs.Machine.{State, next_of}
 use Rattle.wasm_readers_errors.specs.declared.error.Refusal.{Refusal}
 use Rattle.wasm_validator_types.specs.Spaces.{Spaces}
-use Rattle.wasm_validator_core.specs.Answers.{TypesSoFar}
+use Rattle.wasm_validator_sections.specs.WasmValidatorCore.Answers.{TypesSoFar}
 use Rattle.wasm_validator_sections.specs.Started.{Started, bodies_left}
 use Rattle.wasm_validator_modules.specs.Standing.{Stage, unparsed, in_module, in_code, ended, failed, Standing, HoldsAt, can_reset_at, may_reset, reset_at, after_reset, refused_at, read_refused_at, body_refused_at, ended_at}
 use Rattle.wasm_validator_modules.specs.States.{is_barred, left_by}

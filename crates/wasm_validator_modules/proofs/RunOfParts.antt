@@ -30,27 +30,27 @@ use Rattle.wasm_readers.specs.Written.{written}
 use Rattle.wasm_readers_errors.specs.declared.features.WasmFeatures.{WasmFeatures}
 use Rattle.wasm_validator_type_groups.specs.Elements.{numbers_from}
 use Rattle.wasm_validator_types.specs.Spaces.{Spaces, no_spaces}
-use Rattle.wasm_validator_core.specs.declared.limits.TheConstants.{MAX_TYPES, MAX_IMPORTS, MAX_FUNCTIONS, MAX_GLOBALS, MAX_TAGS, MAX_EXPORTS, MAX_ELEMENT_SEGMENTS, MAX_DATA_SEGMENTS}
-use Rattle.wasm_validator_core.specs.Answers.{TypesSoFar, HasValidTypes}
-use Rattle.wasm_validator_core.specs.Machine.{add_group}
-use Rattle.wasm_validator_core.specs.Items.{is_startable, is_data_count, add_import, add_function, add_memory, add_tag, add_export}
-use Rattle.wasm_laws_core.specs.Shown.{listed_table, listed_global, spaces_of}
-use Rattle.wasm_laws_core.specs.Lists.{only_types, only_imports, up_to_functions, add_imports, add_functions, add_memories, add_tags, add_exports}
-use Rattle.wasm_laws_core.proofs.AddedItems.{for_each}
-use Rattle.wasm_laws_core.proofs.Starts.{starts_are_decided}
-use Rattle.wasm_laws_contexts.specs.ListedTypes.{types_declare}
+use Rattle.wasm_validator_sections.specs.WasmValidatorCore.declared.limits.TheConstants.{MAX_TYPES, MAX_IMPORTS, MAX_FUNCTIONS, MAX_GLOBALS, MAX_TAGS, MAX_EXPORTS, MAX_ELEMENT_SEGMENTS, MAX_DATA_SEGMENTS}
+use Rattle.wasm_validator_sections.specs.WasmValidatorCore.Answers.{TypesSoFar, HasValidTypes}
+use Rattle.wasm_validator_sections.specs.WasmValidatorCore.Machine.{add_group}
+use Rattle.wasm_validator_sections.specs.WasmValidatorCore.Items.{is_startable, is_data_count, add_import, add_function, add_memory, add_tag, add_export}
+use Rattle.wasm_validator_sections.specs.WasmLawsCore.Shown.{listed_table, listed_global, spaces_of}
+use Rattle.wasm_validator_sections.specs.WasmLawsCore.Lists.{only_types, only_imports, up_to_functions, add_imports, add_functions, add_memories, add_tags, add_exports}
+use Rattle.wasm_validator_sections.proofs.WasmLawsCore.AddedItems.{for_each}
+use Rattle.wasm_validator_sections.proofs.WasmLawsCore.Starts.{starts_are_decided}
+use Rattle.wasm_validator_sections.specs.WasmLawsContexts.ListedTypes.{types_declare}
 use Rattle.wasm_spec_validity.specs.Expressions.{expression_at}
 use Rattle.wasm_spec_validity.specs.Modules.{Numbering}
 use Rattle.wasm_spec_validity.proofs.Numbered.{types_are_numbered}
-use Rattle.wasm_laws_modules.proofs.SectionTypes.{sections_give_module_types}
-use Rattle.wasm_laws_modules.specs.Contexts.{HasOwnIds}
+use Rattle.wasm_validator_sections.proofs.WasmLawsModules.SectionTypes.{sections_give_module_types}
+use Rattle.wasm_validator_sections.specs.WasmLawsModules.Contexts.{HasOwnIds}
 use Rattle.wasm_validator_sections.specs.Sections.{read_section}
 use Rattle.wasm_validator_sections.specs.Entries.{add_table_entry, add_global_entry, add_element, add_data}
-use Rattle.wasm_laws_modules.specs.Maps.{map_table_entry, map_global_entry, map_element}
-use Rattle.wasm_laws_modules.specs.Reading.{EntriesAreRenamed}
+use Rattle.wasm_validator_sections.specs.WasmLawsModules.Maps.{map_table_entry, map_global_entry, map_element}
+use Rattle.wasm_validator_sections.specs.WasmLawsModules.Reading.{EntriesAreRenamed}
 use Rattle.wasm_validator_canonical.specs.Apart.{AreApart}
-use Rattle.wasm_laws_modules.specs.Lists.{add_table_entries, add_global_entries, add_elements, add_segments, add_all_lists, up_to_tables, up_to_memories, up_to_tags, up_to_globals, up_to_exports, AreValidModuleLists}
-use Rattle.wasm_laws_modules.specs.Laws.{AreTypedConstants}
+use Rattle.wasm_validator_sections.specs.WasmLawsModules.Lists.{add_table_entries, add_global_entries, add_elements, add_segments, add_all_lists, up_to_tables, up_to_memories, up_to_tags, up_to_globals, up_to_exports, AreValidModuleLists}
+use Rattle.wasm_validator_sections.specs.WasmLawsModules.Laws.{AreTypedConstants}
 use Rattle.wasm_validator_sections.specs.Machine.{start_item, data_count_item, beside}
 use Rattle.wasm_validator_modules.proofs.AddedTypes.{TypesAdded, section, type_space, list_after, ids, as_many_types, runs_to, ends_at}
 use Rattle.wasm_validator_sections.proofs.ItemSteps.{each_back}

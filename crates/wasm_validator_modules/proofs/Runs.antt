@@ -13,10 +13,10 @@ use Rattle.wasm_validator_modules.specs.declared.payload.ValidPayload.{ValidPayl
 use Rattle.wasm_validator_modules.specs.declared.payload.ValidPayload.TheVariants.{Ok, Func, End}
 use Rattle.std.specs.declared.result.Result.{Result}
 use Rattle.std.specs.declared.result.Result.TheVariants as results
-use Rattle.wasm_validator_core.specs.declared.error.Error.{Error}
-use Rattle.wasm_validator_core.specs.declared.error.Error.TheVariants.{Refused, DuplicateExport, OutOfMemory}
+use Rattle.wasm_validator_sections.specs.WasmValidatorCore.declared.error.Error.{Error}
+use Rattle.wasm_validator_sections.specs.WasmValidatorCore.declared.error.Error.TheVariants.{Refused, DuplicateExport, OutOfMemory}
 use Rattle.wasm_spec_rules.proofs.Tests.{then_some}
-use Rattle.wasm_validator_core.specs.Answers.{IsNowhere}
+use Rattle.wasm_validator_sections.specs.WasmValidatorCore.Answers.{IsNowhere}
 use Rattle.wasm_validator_modules.specs.Standing.{Stage, unparsed, in_module, in_code, ended, failed, Standing, at_stage, HoldsValid, Leaves}
 use Rattle.wasm_validator_modules.specs.States.{after_piece, BodyToValidate, body_taken, body_at, handed, IsBeforeEnd, left_by}
 use Rattle.wasm_validator_modules.specs.Payloads.{ShowsModule, Show, IsFunction, body_seen, bodies_given, latest_of, after_all, handed_behind, all_handed, Runs, Rejects, HasTaken, IsToldOfFormat, IsLeft, IsBehindCode, IsOutOfMemory, TellsFormat, Validates}

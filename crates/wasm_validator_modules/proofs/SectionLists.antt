@@ -8,7 +8,7 @@ use Rattle.wasm_spec_rules.specs.Sections.{each}
 use Rattle.wasm_spec_rules.specs.Parts.{all_items}
 use Rattle.wasm_readers_errors.specs.declared.features.WasmFeatures.{WasmFeatures}
 use Rattle.wasm_validator_types.specs.Spaces.{Spaces}
-use Rattle.wasm_validator_core.specs.Answers.{TypesSoFar}
+use Rattle.wasm_validator_sections.specs.WasmValidatorCore.Answers.{TypesSoFar}
 use Rattle.wasm_validator_sections.specs.Sections.{read_each, read_section}
 use Rattle.wasm_validator_modules.proofs.ModuleRun.{step, SectionOf, one_section}
 use Rattle.wasm_validator_sections.proofs.SectionEntries.{limited, Renames, section_entries}

@@ -13,7 +13,7 @@ use Rattle.wasm_validator_canonical.proofs.Sections.{one_id_for_one_type}
 use Rattle.wasm_validator_type_list.specs.DefTypes.{types_of_list}
 use Rattle.wasm_validator_types.specs.Shown.{shown_of}
 use Rattle.wasm_validator_types.specs.declared.shown.Types as shown
-use Rattle.wasm_validator_core.specs.Answers.{TypesSoFar}
+use Rattle.wasm_validator_sections.specs.WasmValidatorCore.Answers.{TypesSoFar}
 use Rattle.wasm_validator_modules.specs.Standing.{unparsed, Standing, after_reset}
 use Rattle.wasm_validator_modules.specs.Verdict.{AcceptsModule}
 use Rattle.wasm_validator_modules.specs.Sequences.{KeepsTypes, Takes, TakesEach, its_types, all_types, OneIdForOneType}

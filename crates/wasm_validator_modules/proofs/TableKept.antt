@@ -12,23 +12,23 @@ use Rattle.wasm_validator_sections.specs.Bodies.{expected_bodies}
 use Rattle.wasm_spec_rules.specs.FeatureFlags.{features_of}
 use Rattle.wasm_readers_errors.specs.declared.features.WasmFeatures.{WasmFeatures}
 use Rattle.wasm_validator_types.specs.Spaces.{Spaces, no_spaces}
-use Rattle.wasm_validator_core.specs.declared.limits.TheConstants.{MAX_TAGS, MAX_DATA_SEGMENTS}
-use Rattle.wasm_validator_core.specs.Items.{add_tag}
+use Rattle.wasm_validator_sections.specs.WasmValidatorCore.declared.limits.TheConstants.{MAX_TAGS, MAX_DATA_SEGMENTS}
+use Rattle.wasm_validator_sections.specs.WasmValidatorCore.Items.{add_tag}
 use Rattle.wasm_validator_canonical.proofs.Canonical.{and_left, and_right}
 use Rattle.wasm_spec.specs.BinaryTypes.{tag_at}
 use Rattle.wasm_spec.specs.BinarySections.{Data, data_at}
 use Rattle.wasm_spec.specs.Features.{Features}
 use Rattle.wasm_spec_rules.specs.Parts.{Expression}
-use Rattle.wasm_validator_core.specs.Answers.{TypesSoFar}
+use Rattle.wasm_validator_sections.specs.WasmValidatorCore.Answers.{TypesSoFar}
 use Rattle.wasm_validator_sections.specs.Noted.{Noted, nothing_noted, naming, counting, noting_nothing}
 use Rattle.wasm_validator_sections.specs.Started.{Started, starting, taking, bodies_left}
 use Rattle.wasm_validator_modules.specs.Standing.{Stage, unparsed, in_module, in_code, ended, failed, Standing, refused_at, read_refused_at, body_refused_at, ended_at, within, within_all, at_stage}
 use Rattle.wasm_validator_modules.specs.States.{begun, code_started, body_taken, module_ended, after_piece, is_barred}
-use Rattle.wasm_validator_references.specs.References.{section_names}
+use Rattle.wasm_validator_sections.specs.WasmValidatorReferences.References.{section_names}
 use Rattle.wasm_validator_modules.proofs.Growing.{body_some}
 use Rattle.wasm_validator_sections.specs.Sections.{read_each, read_section}
 use Rattle.wasm_validator_sections.specs.Entries.{may_be_stored, add_data}
-use Rattle.wasm_laws_contexts.specs.ListedTypes.{types_declare}
+use Rattle.wasm_validator_sections.specs.WasmLawsContexts.ListedTypes.{types_declare}
 use Rattle.wasm_spec_validity.specs.Expressions.{expression_at}
 use Rattle.wasm_validator_sections.specs.Machine.{data_items, section_items, start_item, data_count_item, beside}
 use Rattle.wasm_validator_sections.proofs.ItemSteps.{read_back}

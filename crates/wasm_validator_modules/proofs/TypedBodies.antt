@@ -25,14 +25,14 @@ use Rattle.wasm_validator_resources.specs.Answers.{same_index}
 use Rattle.wasm_spec_validity.specs.Expressions.{named}
 use Rattle.wasm_spec_validity.specs.Typing.{HasTypedBodies}
 use Rattle.wasm_spec_validity.specs.Modules.{context_of}
-use Rattle.wasm_validator_references.specs.References.{section_names, piece_names, marked}
+use Rattle.wasm_validator_sections.specs.WasmValidatorReferences.References.{section_names, piece_names, marked}
 use Rattle.wasm_validator_core_resources.specs.ModuleContexts.{flagged_from}
-use Rattle.wasm_laws_core.specs.Shown.{spaces_of}
-use Rattle.wasm_validator_func.specs.Functions.{IsFunctionBody}
+use Rattle.wasm_validator_sections.specs.WasmLawsCore.Shown.{spaces_of}
+use Rattle.wasm_validator_sections.specs.WasmValidatorFunc.Functions.{IsFunctionBody}
 use Rattle.wasm_validator_types.specs.Spaces.{Spaces}
-use Rattle.wasm_validator_core.specs.Answers.{TypesSoFar}
-use Rattle.wasm_laws_modules.proofs.SectionTypes.{sections_give_module_types}
-use Rattle.wasm_laws_modules.specs.BodyContexts.{code_context}
+use Rattle.wasm_validator_sections.specs.WasmValidatorCore.Answers.{TypesSoFar}
+use Rattle.wasm_validator_sections.proofs.WasmLawsModules.SectionTypes.{sections_give_module_types}
+use Rattle.wasm_validator_sections.specs.WasmLawsModules.BodyContexts.{code_context}
 use Rattle.wasm_validator_canonical.specs.Apart.{AreApart}
 use Rattle.wasm_validator_sections.specs.Noted.{Noted, nothing_noted, naming, counting}
 use Rattle.wasm_validator_sections.specs.Started.{Started, starting, taking}

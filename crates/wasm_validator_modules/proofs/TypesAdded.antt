@@ -24,11 +24,11 @@ use Rattle.wasm_validator_canonical.proofs.Kept.{length_held, all_held}
 use Rattle.wasm_validator_canonical.proofs.Steps.{fits_added, added_fits, written_length}
 use Rattle.wasm_validator_canonical.proofs.StoodFor.{held_stand, valid_placed}
 use Rattle.wasm_validator_canonical.specs.Sections.{StandsFor}
-use Rattle.wasm_validator_checks.specs.Laws.{Stand}
+use Rattle.wasm_validator_sections.specs.WasmValidatorChecks.Laws.{Stand}
 use Rattle.wasm_validator_types.specs.Spaces.{Spaces}
-use Rattle.wasm_validator_core.specs.Answers.{TypesSoFar}
-use Rattle.wasm_validator_core.specs.Machine.{with_ids, add_group}
-use Rattle.wasm_laws_core.proofs.AddedItems.{each_changed}
+use Rattle.wasm_validator_sections.specs.WasmValidatorCore.Answers.{TypesSoFar}
+use Rattle.wasm_validator_sections.specs.WasmValidatorCore.Machine.{with_ids, add_group}
+use Rattle.wasm_validator_sections.proofs.WasmLawsCore.AddedItems.{each_changed}
 use Rattle.wasm_validator_sections.specs.Machine.{type_items}
 use Rattle.wasm_validator_sections.specs.Noted.{Noted, naming}
 use Rattle.wasm_validator_modules.specs.Standing.{Stage, Standing, in_module, HoldsAt, HoldsValid, within, at_stage}

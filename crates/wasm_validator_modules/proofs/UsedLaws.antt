@@ -1,20 +1,20 @@
 -- The laws of lower crates from which it is proved that a run decides whether bytes are a valid module.
 use Rattle.wasm_validator_canonical.specs.Apart.{AddedTypesStayApart, ApartTypesAreDistinct}
-use Rattle.wasm_laws_modules.specs.Laws.{AllListsAreAdded}
-use Rattle.wasm_laws_modules.specs.Reading.{EntriesAreRenamed}
+use Rattle.wasm_validator_sections.specs.WasmLawsModules.Laws.{AllListsAreAdded}
+use Rattle.wasm_validator_sections.specs.WasmLawsModules.Reading.{EntriesAreRenamed}
 use Rattle.wasm_validator_canonical.proofs.Apart.{added_types_stay_apart, apart_types_are_distinct}
-use Rattle.wasm_laws_modules.proofs.ConstantsOverNumbers.{constants_are_over_numbers}
-use Rattle.wasm_laws_modules.proofs.MatchingOverIds.{references_match_over_ids}
-use Rattle.wasm_laws_modules.proofs.AllModuleLists.{all_lists_added}
-use Rattle.wasm_laws_modules.proofs.RenamedEntries.{entries}
-use Rattle.wasm_laws_modules.specs.BodyContexts.{BodiesAreOverNumbers}
-use Rattle.wasm_laws_modules.proofs.Bodies.{bodies_are_over_numbers}
+use Rattle.wasm_validator_sections.proofs.WasmLawsModules.ConstantsOverNumbers.{constants_are_over_numbers}
+use Rattle.wasm_validator_sections.proofs.WasmLawsModules.MatchingOverIds.{references_match_over_ids}
+use Rattle.wasm_validator_sections.proofs.WasmLawsModules.AllModuleLists.{all_lists_added}
+use Rattle.wasm_validator_sections.proofs.WasmLawsModules.RenamedEntries.{entries}
+use Rattle.wasm_validator_sections.specs.WasmLawsModules.BodyContexts.{BodiesAreOverNumbers}
+use Rattle.wasm_validator_sections.proofs.WasmLawsModules.Bodies.{bodies_are_over_numbers}
 use Rattle.wasm_spec_rules.specs.Bodies.{BodiesAreAsManyAsFunctions}
 use Rattle.wasm_spec_rules.proofs.Bodies.{bodies_are_as_many_as_functions}
-use Rattle.wasm_validator_references.specs.Naming.{PiecesNameWhatIsReferenced}
-use Rattle.wasm_validator_references.proofs.Referenced.{pieces_name_what_is_referenced}
-use Rattle.wasm_validator_references.specs.Marks.{MarkedFlagsSayNames}
-use Rattle.wasm_validator_references.proofs.Marks.{flags_say_names}
+use Rattle.wasm_validator_sections.specs.WasmValidatorReferences.Naming.{PiecesNameWhatIsReferenced}
+use Rattle.wasm_validator_sections.proofs.WasmValidatorReferences.Referenced.{pieces_name_what_is_referenced}
+use Rattle.wasm_validator_sections.specs.WasmValidatorReferences.Marks.{MarkedFlagsSayNames}
+use Rattle.wasm_validator_sections.proofs.WasmValidatorReferences.Marks.{flags_say_names}
 use Rattle.wasm_validator_core_resources.specs.ModuleContexts.{FlagsSayReferences}
 use Rattle.wasm_validator_core_resources.proofs.Lists.{flags_say_references}
 

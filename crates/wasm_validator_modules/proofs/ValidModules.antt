@@ -21,8 +21,8 @@ use Rattle.wasm_spec_validity.specs.Modules.{Numbering, IsValidUpToBodies, IsVal
 use Rattle.wasm_validator_canonical.specs.Sections.{StandsFor}
 use Rattle.wasm_validator_canonical.proofs.Sections.{added_sections_are_valid, valid_sections_are_added}
 use Rattle.wasm_validator_canonical.specs.Groups.{AreValid}
-use Rattle.wasm_validator_core.specs.declared.limits.TheConstants.{MAX_TYPES}
-use Rattle.wasm_validator_core.specs.Answers.{TypesSoFar}
+use Rattle.wasm_validator_sections.specs.WasmValidatorCore.declared.limits.TheConstants.{MAX_TYPES}
+use Rattle.wasm_validator_sections.specs.WasmValidatorCore.Answers.{TypesSoFar}
 use Rattle.wasm_validator_modules.proofs.AddedTypes.{TypesAdded, section, type_space, as_many_zipped}
 use Rattle.wasm_validator_modules.proofs.FramedParts.{allowed_to_end, allowed_before_end, whole_has, inside_has}
 use Rattle.wasm_validator_modules.proofs.KnownSections.{framed_parts}

@@ -6,7 +6,7 @@ use Rattle.wasm_spec_rules.specs.Parts.{Parts}
 use Rattle.wasm_spec_rules.specs.IndexSpaces.{IndexSpaces}
 use Rattle.wasm_spec_rules.specs.LinkRules.{IsValidStart}
 use Rattle.wasm_spec_rules.specs.Modules.{AreValidParts}
-use Rattle.wasm_laws_modules.specs.Lists.{AreValidModuleLists}
+use Rattle.wasm_validator_sections.specs.WasmLawsModules.Lists.{AreValidModuleLists}
 use Rattle.wasm_validator_sections.specs.declared.code_state.TheConstants.{MAX_FUNCTION_SIZE}
 
 -- no body is too long

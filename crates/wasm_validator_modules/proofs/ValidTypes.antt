@@ -5,7 +5,7 @@ use Rattle.wasm_spec.specs.Framing.{Piece}
 use Rattle.wasm_readers_errors.specs.declared.features.WasmFeatures.{WasmFeatures}
 use Rattle.wasm_validator_canonical.specs.Groups.{AreValid}
 use Rattle.wasm_validator_types.specs.Spaces.{Spaces}
-use Rattle.wasm_validator_core.specs.Answers.{TypesSoFar, HasValidTypes}
+use Rattle.wasm_validator_sections.specs.WasmValidatorCore.Answers.{TypesSoFar, HasValidTypes}
 use Rattle.wasm_validator_sections.specs.Machine.{section_items, beside}
 use Rattle.wasm_validator_modules.specs.Standing.{Standing, HoldsAt, HoldsValid}
 use Rattle.wasm_validator_modules.specs.Payloads.{after_all}

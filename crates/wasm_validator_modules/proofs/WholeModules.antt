@@ -20,11 +20,11 @@ use Rattle.wasm_validator_types.specs.Spaces.{Spaces, no_spaces}
 use Rattle.wasm_validator_type_list.specs.DefTypes.{def_types, types_of_list}
 use Rattle.wasm_validator_types.specs.Shown.{shown_of, HoldsIds}
 use Rattle.wasm_validator_types.specs.declared.shown.Types as shown
-use Rattle.wasm_validator_core.specs.declared.error.Error.{Error}
-use Rattle.wasm_validator_core.specs.declared.error.Error.TheVariants.{Refused, DuplicateExport, OutOfMemory}
+use Rattle.wasm_validator_sections.specs.WasmValidatorCore.declared.error.Error.{Error}
+use Rattle.wasm_validator_sections.specs.WasmValidatorCore.declared.error.Error.TheVariants.{Refused, DuplicateExport, OutOfMemory}
 use Rattle.wasm_validator_canonical.specs.Groups.{AreValid}
 use Rattle.wasm_validator_canonical.proofs.Steps.{all_written_at_most}
-use Rattle.wasm_validator_core.specs.Answers.{TypesSoFar, HasValidTypes}
+use Rattle.wasm_validator_sections.specs.WasmValidatorCore.Answers.{TypesSoFar, HasValidTypes}
 use Rattle.wasm_validator_canonical.specs.Apart.{AreApart}
 use Rattle.wasm_validator_sections.specs.Noted.{nothing_noted}
 use Rattle.wasm_validator_sections.specs.Started.{starting}
@@ -51,12 +51,12 @@ use Rattle.wasm_spec_rules.specs.Parts.{bodies_of}
 use Rattle.wasm_readers_types.specs.declared.indices.TheConstants.{MAX_IDS}
 use Rattle.wasm_readers_errors.specs.declared.error.Error as reading
 use Rattle.wasm_readers_errors.specs.declared.error.Error.TheVariants as reading_error
-use Rattle.wasm_validator_core.specs.Errors.{lifted}
+use Rattle.wasm_validator_sections.specs.WasmValidatorCore.Errors.{lifted}
 use Rattle.wasm_spec_validity.specs.Modules.{IsValidUpToBodies, IsValidModule, up_to_bodies}
 use Rattle.wasm_spec_validity.specs.Expressions.{expression_at}
 use Rattle.std.proofs.lemmas.List.{length-append}
 use Rattle.std.proofs.lemmas.Option.{same_Some}
-use Rattle.wasm_validator_func.specs.Functions.{Refuses}
+use Rattle.wasm_validator_sections.specs.WasmValidatorFunc.Functions.{Refuses}
 use Rattle.wasm_validator_sections.specs.Bodies.{expected_bodies}
 
 -- pieces and then others

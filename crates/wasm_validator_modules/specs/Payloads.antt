@@ -16,23 +16,23 @@ use Rattle.wasm_validator_type_list.specs.Interned.{AreOnce}
 use Rattle.wasm_validator_type_list.specs.DefTypes.{types_of_list}
 use Rattle.wasm_validator_types.specs.Shown.{shown_of, HoldsIds}
 use Rattle.wasm_validator_types.specs.declared.shown.Types.{Types}
-use Rattle.wasm_validator_core.specs.declared.error.Error.{Error}
-use Rattle.wasm_validator_core.specs.declared.error.Error.TheVariants.{Refused, DuplicateExport, OutOfMemory}
+use Rattle.wasm_validator_sections.specs.WasmValidatorCore.declared.error.Error.{Error}
+use Rattle.wasm_validator_sections.specs.WasmValidatorCore.declared.error.Error.TheVariants.{Refused, DuplicateExport, OutOfMemory}
 use Rattle.wasm_validator_modules.specs.declared.payload.PendingBody.{PendingBody}
 use Rattle.wasm_validator_modules.specs.declared.payload.Bodies.{Bodies}
 use Rattle.wasm_validator_modules.specs.declared.payload.ValidPayload.{ValidPayload}
 use Rattle.wasm_validator_modules.specs.declared.payload.ValidPayload.TheVariants.{Ok, Func, End}
 use Rattle.wasm_parser.specs.declared.function_body.FunctionBody.{FunctionBody}
 use Rattle.wasm_parser.specs.Seen.{body_of, body_reader}
-use Rattle.wasm_readers_bytes.specs.Reader.{original, position_in}
+use Rattle.wasm_readers.specs.WasmReadersBytes.Reader.{original, position_in}
 use Rattle.wasm_readers_errors.specs.declared.error.Error as reading
 use Rattle.wasm_readers_errors.specs.declared.error.Error.TheVariants as reading_error
 use Rattle.std.specs.List.{All}
 use Rattle.wasm_readers_errors.specs.Refusals.{plain}
-use Rattle.wasm_validator_func.specs.declared.func_validator.FuncToValidate.{FuncToValidate}
-use Rattle.wasm_validator_func.specs.Functions.{IsFunctionBody}
+use Rattle.wasm_validator_sections.specs.WasmValidatorFunc.declared.func_validator.FuncToValidate.{FuncToValidate}
+use Rattle.wasm_validator_sections.specs.WasmValidatorFunc.Functions.{IsFunctionBody}
 use Rattle.wasm_validator_canonical.specs.Groups.{AreValid}
-use Rattle.wasm_validator_core.specs.Answers.{IsNowhere}
+use Rattle.wasm_validator_sections.specs.WasmValidatorCore.Answers.{IsNowhere}
 use Rattle.wasm_validator_modules.specs.Standing.{Stage, unparsed, in_module, in_code, ended, Standing, shown_at, failed, body_refused_at, HoldsValid}
 use Rattle.wasm_validator_modules.specs.States.{IsBeforeEnd, body_taken, BodyToValidate, body_at, handed, after_piece, left_by}
 use Rattle.wasm_validator_modules.specs.OrderTold.{body_told}

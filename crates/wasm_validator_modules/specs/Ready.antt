@@ -6,7 +6,7 @@ use Rattle.wasm_readers_types.specs.declared.types.SubType.{SubType}
 use Rattle.wasm_validator_type_list.specs.Listing.{Listing}
 use Rattle.wasm_validator_canonical.specs.Groups.{AreValid}
 use Rattle.wasm_validator_type_list.specs.DefTypes.{types_of_list}
-use Rattle.wasm_validator_core.specs.Ready.{IsOpenFor, AreIdsOf}
+use Rattle.wasm_validator_sections.specs.WasmValidatorCore.Ready.{IsOpenFor, AreIdsOf}
 use Rattle.wasm_validator_core_resources.specs.ById.{AreFirstByIds}
 use Rattle.wasm_validator_modules.specs.declared.validator.State.{State}
 use Rattle.wasm_validator_modules.specs.declared.validator.State.TheVariants.{Unparsed, Module, Code, End, Failed}

@@ -21,19 +21,19 @@ use Rattle.wasm_spec_rules.specs.Limits.{most_tables, most_memories}
 use Rattle.wasm_readers_types.specs.declared.indices.TheConstants.{MAX_IDS}
 use Rattle.wasm_readers.specs.Written.{written}
 use Rattle.wasm_validator_canonical.specs.Groups.{placed, held}
-use Rattle.wasm_validator_checks.specs.Laws.{Stand}
+use Rattle.wasm_validator_sections.specs.WasmValidatorChecks.Laws.{Stand}
 use Rattle.wasm_validator_types.specs.Spaces.{Spaces}
-use Rattle.wasm_validator_core.specs.Answers.{TypesSoFar}
-use Rattle.wasm_laws_core.specs.Exports.{HasSpaces, FitExports, with_exports}
-use Rattle.wasm_laws_core.specs.Imports.{KeepsLimits, FitsImport, with_entry}
-use Rattle.wasm_laws_core.specs.Shown.{listed, listed_table, listed_global, listed_element}
-use Rattle.wasm_laws_contexts.specs.ListedTypes.{types_declare}
+use Rattle.wasm_validator_sections.specs.WasmValidatorCore.Answers.{TypesSoFar}
+use Rattle.wasm_validator_sections.specs.WasmLawsCore.Exports.{HasSpaces, FitExports, with_exports}
+use Rattle.wasm_validator_sections.specs.WasmLawsCore.Imports.{KeepsLimits, FitsImport, with_entry}
+use Rattle.wasm_validator_sections.specs.WasmLawsCore.Shown.{listed, listed_table, listed_global, listed_element}
+use Rattle.wasm_validator_sections.specs.WasmLawsContexts.ListedTypes.{types_declare}
 use Rattle.wasm_spec_validity.specs.Expressions.{expression_at}
 use Rattle.wasm_validator_sections.specs.Entries.{is_constant_of, is_constant_or_none, are_items, may_be_placed, may_be_stored}
-use Rattle.wasm_laws_modules.specs.Maps.{map_items}
+use Rattle.wasm_validator_sections.specs.WasmLawsModules.Maps.{map_items}
 use Rattle.wasm_validator_sections.specs.Noted.{Noted, naming}
 use Rattle.wasm_validator_modules.specs.Standing.{Standing, in_module, HoldsValid}
-use Rattle.wasm_validator_references.specs.References.{names_of_tables, names_of_globals, names_of_exports, names_of_elements}
+use Rattle.wasm_validator_sections.specs.WasmValidatorReferences.References.{names_of_tables, names_of_globals, names_of_exports, names_of_elements}
 use Rattle.wasm_validator_modules.specs.States.{after_section}
 
 -- A module is being read, before the start of its code: the types of all modules, its lists, what is noted of it, and its own types,

@@ -9,8 +9,8 @@ use Rattle.wasm_spec_rules.specs.Parts.{Parts}
 use Rattle.wasm_spec_rules.specs.IndexSpaces.{IndexSpaces}
 use Rattle.wasm_validator_canonical.specs.Sections.{StandsFor}
 use Rattle.wasm_validator_types.specs.Spaces.{Spaces}
-use Rattle.wasm_validator_core.specs.Answers.{TypesSoFar}
-use Rattle.wasm_laws_core.specs.Shown.{listed_table, listed_global, listed_element, import_rows, export_rows, exact_functions}
+use Rattle.wasm_validator_sections.specs.WasmValidatorCore.Answers.{TypesSoFar}
+use Rattle.wasm_validator_sections.specs.WasmLawsCore.Shown.{listed_table, listed_global, listed_element, import_rows, export_rows, exact_functions}
 
 -- The list of types and the lists of a module show its index spaces: each type under an id that stands for it, in a
 -- list where no type has two ids if equal types are one; each function and tag with its type's index, each imported function with whether it is

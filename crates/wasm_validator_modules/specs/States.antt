@@ -8,7 +8,7 @@ use Rattle.wasm_validator_type_list.specs.DefTypes.{types_of_list}
 use Rattle.wasm_validator_types.specs.Spaces.{Spaces, no_spaces}
 use Rattle.std.specs.declared.result.Result.{Result}
 use Rattle.std.specs.declared.result.Result.TheVariants.{Ok, Err}
-use Rattle.wasm_validator_core.specs.declared.error.Error.{Error}
+use Rattle.wasm_validator_sections.specs.WasmValidatorCore.declared.error.Error.{Error}
 use Rattle.wasm_parser.specs.declared.payload.Encoding.{Encoding}
 use Rattle.wasm_parser.specs.declared.payload.Encoding.TheVariants as encodings
 use Rattle.wasm_spec.specs.Framing as parts
@@ -16,14 +16,14 @@ use Rattle.wasm_spec.specs.Framing.{Piece, Version, Custom, Counted, Start, Data
 use Rattle.wasm_validator_modules.specs.declared.validator.State.{State}
 use Rattle.wasm_spec_rules.specs.Contexts.{Context}
 use Rattle.wasm_readers_types.specs.declared.indices.UnpackedIndex.{UnpackedIndex}
-use Rattle.wasm_validator_references.specs.References.{section_names}
+use Rattle.wasm_validator_sections.specs.WasmValidatorReferences.References.{section_names}
 use Rattle.wasm_validator_sections.specs.declared.module_state.ModuleState.{ModuleState}
 use Rattle.wasm_validator_sections.specs.declared.code_state.TheConstants.{MAX_FUNCTION_SIZE}
 use Rattle.wasm_validator_modules.specs.declared.validator.EndedSpaces.{EndedSpaces}
 use Rattle.wasm_validator_modules.specs.declared.validator.EndedSpaces.TheVariants.{Owned, Shared}
 use Rattle.wasm_validator_modules.specs.declared.validator.State.TheVariants.{Unparsed, Module, Code, End, Failed}
 use Rattle.wasm_validator_modules.specs.declared.validator.Validator.TheInside.{Inside}
-use Rattle.wasm_validator_core.specs.Answers.{TypesSoFar}
+use Rattle.wasm_validator_sections.specs.WasmValidatorCore.Answers.{TypesSoFar}
 use Rattle.wasm_validator_sections.specs.Noted.{nothing_noted, naming, counting, noting_nothing, noted_of}
 use Rattle.wasm_validator_sections.specs.Started.{Started, starting, taking, bodies_left, started_of}
 use Rattle.wasm_validator_modules.specs.Standing.{Stage, unparsed, in_module, in_code, ended, failed, Standing, ended_at, refused_at, read_refused_at, body_refused_at, within, within_all, at_stage}

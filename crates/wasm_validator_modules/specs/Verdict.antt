@@ -13,10 +13,10 @@ use Rattle.wasm_validator_type_list.specs.DefTypes.{types_of_list}
 use Rattle.wasm_validator_canonical.specs.Apart.{AreApart}
 use Rattle.wasm_validator_types.specs.Shown.{shown_of}
 use Rattle.wasm_validator_types.specs.declared.shown.Types as shown
-use Rattle.wasm_validator_core.specs.declared.error.Error.{Error}
-use Rattle.wasm_validator_core.specs.declared.error.Error.TheVariants.{Refused, DuplicateExport, OutOfMemory}
+use Rattle.wasm_validator_sections.specs.WasmValidatorCore.declared.error.Error.{Error}
+use Rattle.wasm_validator_sections.specs.WasmValidatorCore.declared.error.Error.TheVariants.{Refused, DuplicateExport, OutOfMemory}
 use Rattle.wasm_validator_modules.specs.Shows.{ShowModule}
-use Rattle.wasm_validator_core.specs.Answers.{TypesSoFar}
+use Rattle.wasm_validator_sections.specs.WasmValidatorCore.Answers.{TypesSoFar}
 use Rattle.wasm_validator_modules.specs.Standing.{Standing, unparsed, ended, fresh, HoldsAt}
 use Rattle.wasm_validator_modules.specs.Payloads.{IsLeft, IsOutOfMemory}
 

@@ -8,7 +8,7 @@ ghost use Rattle.wasm_parser.specs.Seen.{seen, state, body_reader};
 ghost use Rattle.wasm_validator_sections.specs.SectionsTold.{StandsBetween};
 ghost use Rattle.wasm_validator_types.specs.Shown.{shown_of, HoldsIds};
 ghost use Rattle.wasm_validator_modules.specs.Standing.{Leaves};
-ghost use Rattle.wasm_validator_func.specs.Functions.{Decides, StandsInOrFirst};
+ghost use Rattle.wasm_validator_sections.specs.WasmValidatorFunc.Functions.{Decides, StandsInOrFirst};
 ghost use Rattle.wasm_validator_modules.specs.States.{after_piece, handed, left_by, IsSection};
 ghost use Rattle.wasm_validator_modules.specs.Payloads.{ShowsModule, HoldsIdsAtEnd, IsFunction, IsKept, IsGivenIn, kept_behind, latest_of, bodies_given, bodies_seen, pending_seen, EndsBy, EachEndsBy, AllEndBy, GivenEndBy, StandsBy, IsBodyOfIts, TellsFormat, Validates};
 ghost use Rattle.wasm_validator_modules.specs.Verdict.{DecidesModule, DecidesAlone, EndsModule, StopsModule};
@@ -17,9 +17,9 @@ use crate::validator::Validator;
 use std::alloc::{AllocError, Allocator, Global};
 use wasm_parser::{FunctionBody, ParseAll, Parser, Payload};
 use wasm_readers::WasmFeatures;
-use wasm_validator_core::Error;
 use wasm_validator_core_resources::ValidatorResources;
-use wasm_validator_func::{FuncToValidate, FuncValidatorAllocations};
+use wasm_validator_sections::validator_core::Error;
+use wasm_validator_sections::validator_func::{FuncToValidate, FuncValidatorAllocations};
 use wasm_validator_types::{Types, ValidatorId};
 
 /// A function whose body is to be validated.

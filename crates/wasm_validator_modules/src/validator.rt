@@ -1,12 +1,12 @@
 ghost use Rattle.wasm_readers_errors.specs.declared.features.TheConstants.WasmFeatures.{STANDARD};
 ghost use Rattle.std.specs.Prelude.{◌≡◌, List, ◌∷◌, ◌-◌, not, [], IfOk, IfErr, IfSome, IfNone, IsSome, IsErr, OnOk, OnErr, Some, None, true, is_ok, ◌↔◌, ◌+◌};
-ghost use Rattle.wasm_validator_core.specs.Errors.{IsContent, offset_of};
-ghost use Rattle.wasm_readers_bytes.specs.Reader.{original, position_in};
+ghost use Rattle.wasm_validator_sections.specs.WasmValidatorCore.Errors.{IsContent, offset_of};
+ghost use Rattle.wasm_readers.specs.WasmReadersBytes.Reader.{original, position_in};
 ghost use Rattle.wasm_readers_errors.specs.Refusals.{plain};
 ghost use Rattle.wasm_spec_rules.specs.FeatureFlags.{features_of};
 ghost use Rattle.wasm_readers.specs.SectionsSeen.{count_of, bytes_of, section_start, section_end};
 ghost use Rattle.wasm_parser.specs.Seen.{body_of, body_reader};
-ghost use Rattle.wasm_validator_core.specs.Answers.{TypesSoFar};
+ghost use Rattle.wasm_validator_sections.specs.WasmValidatorCore.Answers.{TypesSoFar};
 ghost use Rattle.wasm_validator_sections.specs.declared.code_state.TheConstants.{MAX_FUNCTION_SIZE};
 ghost use Rattle.wasm_validator_type_list.specs.Interned.{AreOnce};
 ghost use Rattle.wasm_validator_type_list.specs.Listing.{Listing, committed};
@@ -33,9 +33,9 @@ use wasm_readers::{
     Refusal, Rule, SectionLimited, Table, TagType, WasmFeatures,
 };
 use wasm_validator_canonical::{needs_type_canonicalization, types_are_apart};
-use wasm_validator_core::{Error, Module, check_data_count};
 use wasm_validator_core_resources::ValidatorResources;
-use wasm_validator_func::FuncToValidate;
+use wasm_validator_sections::validator_core::{Error, Module, check_data_count};
+use wasm_validator_sections::validator_func::FuncToValidate;
 use wasm_validator_sections::{
     CodeState, Constants, ModuleState, add_functions, add_imports, add_memories, add_tags,
     add_types, check_data_segments, handed_out, started, take_elements, take_exports, take_globals,

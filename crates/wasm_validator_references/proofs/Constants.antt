@@ -6,21 +6,21 @@ use Rattle.std.proofs.lemmas.List.Elements.{All-head, All-tail}
 use Rattle.wasm_spec.specs.Syntax.{i32, i64, f32, f64, v128, reference}
 use Rattle.wasm_spec.specs.Features.{Features}
 use Rattle.wasm_spec.specs.MatchingTests.{World}
-use Rattle.wasm_operators_plain.specs.declared.variables.VariableOperator.TheVariants.{GlobalGet}
-use Rattle.wasm_operators_plain.specs.declared.conversions.ConversionOperator.TheVariants.{AnyConvertExtern, ExternConvertAny, RefI31, RefI31Shared}
+use Rattle.wasm_operators.specs.WasmOperatorsPlain.declared.variables.VariableOperator.TheVariants.{GlobalGet}
+use Rattle.wasm_operators.specs.WasmOperatorsPlain.declared.conversions.ConversionOperator.TheVariants.{AnyConvertExtern, ExternConvertAny, RefI31, RefI31Shared}
 use Rattle.wasm_operators.specs.Control.{Control, end_, value_block}
 use Rattle.wasm_operators.specs.References as references
 use Rattle.wasm_operators.specs.Instructions as instruction
 use Rattle.wasm_operators.specs.Instructions.{Instruction, control}
 use Rattle.wasm_spec_rules.specs.Worlds.{world_of}
-use Rattle.wasm_operator_steps.specs.Bodies.{Surroundings}
-use Rattle.wasm_operator_steps.specs.Machine.{Operand, bottom, bottom_reference, open_reference, known, block_kind, Frame, State, pop_any, pop_vals, matches_operand}
-use Rattle.wasm_operator_steps.specs.Meanings.{address, pop_frame, leave_in, run}
-use Rattle.wasm_operator_steps.specs.Steps.{start, is_open, is_finished, step_in, steps_in}
-use Rattle.wasm_operator_steps.specs.ConstantExpressions.{is_constant, gives_reference, takes_no_reference, is_reference, is_number, makes_structure, makes_array, IsLeft, none_taken, one_taken, GivesOne, GivesOneReference}
-use Rattle.wasm_operator_steps.specs.ConstantRules.{is_allowed, is_readable}
-use Rattle.wasm_operator_steps.specs.Laws.{ReferencesAreCounted}
-use Rattle.wasm_operator_steps.proofs.ConstantReferences.{constants_give_references}
+use Rattle.wasm_spec_validity.specs.WasmOperatorSteps.Bodies.{Surroundings}
+use Rattle.wasm_spec_validity.specs.WasmOperatorSteps.Machine.{Operand, bottom, bottom_reference, open_reference, known, block_kind, Frame, State, pop_any, pop_vals, matches_operand}
+use Rattle.wasm_spec_validity.specs.WasmOperatorSteps.Meanings.{address, pop_frame, leave_in, run}
+use Rattle.wasm_spec_validity.specs.WasmOperatorSteps.Steps.{start, is_open, is_finished, step_in, steps_in}
+use Rattle.wasm_spec_validity.specs.WasmOperatorSteps.ConstantExpressions.{is_constant, gives_reference, takes_no_reference, is_reference, is_number, makes_structure, makes_array, IsLeft, none_taken, one_taken, GivesOne, GivesOneReference}
+use Rattle.wasm_spec_validity.specs.WasmOperatorSteps.ConstantRules.{is_allowed, is_readable}
+use Rattle.wasm_spec_validity.specs.WasmOperatorSteps.Laws.{ReferencesAreCounted}
+use Rattle.wasm_spec_validity.proofs.WasmOperatorSteps.ConstantReferences.{constants_give_references}
 use Rattle.wasm_spec_validity.specs.Expressions.{is_end, functions_named, named}
 use Rattle.wasm_spec_validity.specs.Typing.{seeing, around}
 use Rattle.wasm_spec_validity.proofs.Determined.{determined}

@@ -9,14 +9,14 @@ use Rattle.wasm_spec.specs.Features.{Features}
 use Rattle.wasm_spec.specs.TypeExamples.{features}
 use Rattle.wasm_spec.proofs.LawSet.{goes_on}
 use Rattle.wasm_spec_rules.specs.Parts.{Expression}
-use Rattle.wasm_operators.specs.Constants.{constant_from}
-use Rattle.wasm_operators.specs.ConstantOperator.TheVariants.{I32Const, I64Const}
-use Rattle.wasm_operators.specs.Variables.{variable_from}
-use Rattle.wasm_operators.specs.VariableOperator.TheVariants.{GlobalGet}
+use Rattle.wasm_operators.specs.WasmOperatorsPlain.Constants.{constant_from}
+use Rattle.wasm_operators.specs.WasmOperatorsPlain.declared.constants.ConstantOperator.TheVariants.{I32Const, I64Const}
+use Rattle.wasm_operators.specs.WasmOperatorsPlain.Variables.{variable_from}
+use Rattle.wasm_operators.specs.WasmOperatorsPlain.declared.variables.VariableOperator.TheVariants.{GlobalGet}
 use Rattle.wasm_operators.specs.Control.{end_, control_from}
 use Rattle.wasm_operators.specs.Instructions.{Instruction, control, constant, variable, plain_from, instruction_at}
 use Rattle.wasm_operators.proofs.Fronts.{instruction-reads}
-use Rattle.wasm_operator_steps.specs.ConstantExpressions.{is_constant}
+use Rattle.wasm_spec_validity.specs.WasmOperatorSteps.ConstantExpressions.{is_constant}
 use Rattle.wasm_spec_validity.specs.Expressions.{is_end, behind_end, expression_at, instructions_of, functions_named, named}
 use Rattle.wasm_spec_validity.proofs.Cutting.{instruction_is_cut}
 use Rattle.wasm_validator_references.specs.References.{marked}

@@ -12,7 +12,7 @@ use Rattle.wasm_spec_rules.specs.IndexSpaces.{IndexSpaces}
 use Rattle.wasm_spec_rules.specs.LinkRules.{exported_functions}
 use Rattle.wasm_spec_rules.specs.Parts.{Parts, Expression, index}
 use Rattle.wasm_spec_rules.specs.SegmentRules.{index_or_first, IsValidDataMode, IsValidData}
-use Rattle.wasm_operator_steps.specs.Meanings.{address}
+use Rattle.wasm_spec_validity.specs.WasmOperatorSteps.Meanings.{address}
 use Rattle.wasm_spec_validity.specs.Expressions.{expression_at, named}
 use Rattle.wasm_spec_validity.specs.Modules.{Numbering, context_of, imported_globals, number_at}
 use Rattle.wasm_spec_validity.specs.Typing.{IsConstant, IsTypedDataMode, IsTypedData}

@@ -5,7 +5,7 @@ use Rattle.std.specs.Option.{option_and_then}
 use Rattle.wasm_spec.specs.Values.{u32_at}
 use Rattle.wasm_spec.specs.BinaryTypes.{val_at, flags_at, global_at}
 use Rattle.wasm_spec.proofs.Front.{IsRest, Reads, val-reads}
-use Rattle.wasm_operators.specs.MemoryOperator.{MemoryOperator}
+use Rattle.wasm_operators.specs.WasmOperatorsPlain.declared.memories.MemoryOperator.{MemoryOperator}
 use Rattle.wasm_operators.specs.References.{Reference, reference_from}
 use Rattle.wasm_operators.specs.Instructions.{Instruction, control, call, parametric, variable, table, access, memory, constant, numeric, saturating, reference, cast, conversion, structure, array, of_family, with_nothing, with_memarg, aggregate_from, bulk_from, prefixed_from, plain_from, instruction_at}
 use Rattle.wasm_operators.proofs.Fronts.{instruction-reads}

@@ -1,4 +1,4 @@
-pub use Rattle.wasm_spec_validity.specs.Expressions
+pub use Rattle.wasm_spec_validity.specs as WasmSpecValidity
 pub mod References
 pub mod Marks
 pub mod Marking

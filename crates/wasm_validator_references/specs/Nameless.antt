@@ -1,7 +1,7 @@
 -- Constant expressions of one instruction that names no function, and of their `end`.
 -- Core Specification 3.0, Binary Format, Instructions (Expressions).
 use Rattle.std.specs.Prelude.{◌≡◌, ℕ, ◌==◌, Bool, true, false, not, List, Some}
-use Rattle.wasm_operators.specs.VariableOperator.TheVariants.{GlobalGet}
+use Rattle.wasm_operators.specs.WasmOperatorsPlain.declared.variables.VariableOperator.TheVariants.{GlobalGet}
 use Rattle.wasm_operators.specs.Instructions.{Instruction, constant, variable, instruction_at}
 use Rattle.wasm_validator_references.specs.Marking.{mark_many, mark_function, mark_expression, mark_element}
 

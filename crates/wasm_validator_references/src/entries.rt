@@ -1,7 +1,7 @@
 //! Tables, globals and exports.
 
 ghost use Rattle.std.specs.Prelude.{◌≡◌, OnOk};
-ghost use Rattle.wasm_readers_types.specs.SeenExterns.{kind_of};
+ghost use Rattle.wasm_readers_errors.specs.WasmReadersTypes.SeenExterns.{kind_of};
 ghost use Rattle.wasm_validator_references.specs.Marking.{mark_table, mark_global, mark_kind, mark_export};
 
 use crate::expressions::mark_expression;
@@ -11,7 +11,7 @@ use std::alloc::{AllocError, Allocator};
 use wasm_readers::BinaryReader;
 use wasm_readers::externs::{read_external_kind, read_global_type, read_table_head};
 use wasm_readers_errors::Error;
-use wasm_readers_types::ExternalKind;
+use wasm_readers_errors::readers_types::ExternalKind;
 
 /// Tables with their initializers.
 pub(crate) struct TableEntry {}

@@ -4,10 +4,10 @@ use Rattle.std.specs.Prelude.{nat_lt}
 use Rattle.std.specs.List.{list_all}
 use Rattle.std.proofs.lemmas.List.{length-map}
 use Rattle.std.proofs.lemmas.List.Folds.{list_all-map, list_all-append}
-use Rattle.wasm_spec.specs.Syntax.{Val, Field, func, array, struct, unpacked}
-use Rattle.wasm_spec.specs.Features.{Features}
-use Rattle.wasm_spec.specs.ValueTypes.{implies, allows_val, allows_storage}
-use Rattle.wasm_spec.specs.GroupRules.{field_storage}
+use Rattle.wasm_readers_errors.specs.WasmSpec.Syntax.{Val, Field, func, array, struct, unpacked}
+use Rattle.wasm_readers_errors.specs.WasmSpec.Features.{Features}
+use Rattle.wasm_readers_errors.specs.WasmSpec.ValueTypes.{implies, allows_val, allows_storage}
+use Rattle.wasm_readers_errors.specs.WasmSpec.GroupRules.{field_storage}
 use Rattle.wasm_validator_resources.specs.Allowed.{allows_comp}
 
 -- the needs of the form that a type has, among those of the forms that it doesn't have

@@ -2,10 +2,10 @@
 -- proposals by which each form came.
 use Rattle.std.specs.Prelude.{Bool, ◌&&◌}
 use Rattle.std.specs.List.{list_all}
-use Rattle.wasm_spec.specs.Syntax.{Comp}
-use Rattle.wasm_spec.specs.Features.{Features}
-use Rattle.wasm_spec.specs.ValueTypes.{implies, allows_storage}
-use Rattle.wasm_spec.specs.GroupRules.{storages, has_many_results, is_array, is_struct, is_cont}
+use Rattle.wasm_readers_errors.specs.WasmSpec.Syntax.{Comp}
+use Rattle.wasm_readers_errors.specs.WasmSpec.Features.{Features}
+use Rattle.wasm_readers_errors.specs.WasmSpec.ValueTypes.{implies, allows_storage}
+use Rattle.wasm_readers_errors.specs.WasmSpec.GroupRules.{storages, has_many_results, is_array, is_struct, is_cont}
 
 -- the features that each form needs
 abbrev pub allows_form : {R : Type 0} → Features → Comp R → Bool

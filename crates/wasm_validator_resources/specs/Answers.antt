@@ -1,17 +1,17 @@
 -- What is looked up of a module: all of it is read from one context, over ids.
 -- Core Specification 3.0, Validation, Conventions (Contexts).
 use Rattle.std.specs.Prelude.{◌≡◌, ℕ, Bool, false, ◌==◌, map, Option, Some, None, Result, Ok, Err, slice_get, if◌then◌else◌, ⊤}
-use Rattle.wasm_spec.specs.Syntax.{Heap, Ref, Val, reference, Sub, map_heap, map_ref, map_val}
-use Rattle.wasm_spec.specs.Features.{Features}
-use Rattle.wasm_spec.specs.ValueTypes.{allows_val}
-use Rattle.wasm_spec.specs.MatchingTests.{World}
+use Rattle.wasm_readers_errors.specs.WasmSpec.Syntax.{Heap, Ref, Val, reference, Sub, map_heap, map_ref, map_val}
+use Rattle.wasm_readers_errors.specs.WasmSpec.Features.{Features}
+use Rattle.wasm_readers_errors.specs.WasmSpec.ValueTypes.{allows_val}
+use Rattle.wasm_readers_errors.specs.WasmSpec.MatchingTests.{World}
 use Rattle.wasm_spec_rules.specs.Contexts.{Context}
 use Rattle.wasm_readers_errors.specs.declared.error.Refusal.{Refusal}
-use Rattle.wasm_readers_types.specs.SeenValues.{val_of, index_in}
-use Rattle.wasm_readers_types.specs.declared.indices.CoreTypeId.{CoreTypeId}
-use Rattle.wasm_readers_types.specs.declared.indices.UnpackedIndex.{UnpackedIndex}
-use Rattle.wasm_readers_types.specs.declared.indices.UnpackedIndex.TheVariants.{Module, RecGroup, Id}
-use Rattle.wasm_readers_types.specs.declared.types.FuncType.{FuncType}
+use Rattle.wasm_readers_errors.specs.WasmReadersTypes.SeenValues.{val_of, index_in}
+use Rattle.wasm_readers_errors.specs.WasmReadersTypes.declared.indices.CoreTypeId.{CoreTypeId}
+use Rattle.wasm_readers_errors.specs.WasmReadersTypes.declared.indices.UnpackedIndex.{UnpackedIndex}
+use Rattle.wasm_readers_errors.specs.WasmReadersTypes.declared.indices.UnpackedIndex.TheVariants.{Module, RecGroup, Id}
+use Rattle.wasm_readers_errors.specs.WasmReadersTypes.declared.types.FuncType.{FuncType}
 use Rattle.wasm_spec_rules.specs.Attempts.{◌>>=◌}
 use Rattle.wasm_spec_rules.specs.Signatures.{Signature, signature_of, resolve_heap, resolve_ref, resolve_val}
 use Rattle.wasm_spec_rules.specs.Worlds.{world_of}

@@ -3,8 +3,8 @@
 -- proposals by which each type came.
 use Rattle.std.specs.Prelude.{ℕ, Bool, true, not, List, [], ◌∷◌, Option, None, length, nat_lt}
 use Rattle.std.specs.Option.{option_or}
-use Rattle.wasm_spec.specs.Syntax.{AbstractHeap, any_heap, eq_heap, i31_heap, struct_heap, array_heap, none_heap, func_heap, nofunc_heap, extern_heap, noextern_heap, exn_heap, noexn_heap, cont_heap, nocont_heap, Heap, abstract_heap, concrete, exact, Ref, Val, i32, i64, f32, f64, v128, reference, Storage, i8, i16, unpacked, Field, Comp, func, array, struct, cont}
-use Rattle.wasm_spec.specs.ValueTypes.{is_without_gc_types}
+use Rattle.wasm_readers_errors.specs.WasmSpec.Syntax.{AbstractHeap, any_heap, eq_heap, i31_heap, struct_heap, array_heap, none_heap, func_heap, nofunc_heap, extern_heap, noextern_heap, exn_heap, noexn_heap, cont_heap, nocont_heap, Heap, abstract_heap, concrete, exact, Ref, Val, i32, i64, f32, f64, v128, reference, Storage, i8, i16, unpacked, Field, Comp, func, array, struct, cont}
+use Rattle.wasm_readers_errors.specs.WasmSpec.ValueTypes.{is_without_gc_types}
 use Rattle.wasm_readers_errors.specs.On.{has_flag}
 use Rattle.wasm_readers_errors.specs.Refusals.{lack_if}
 use Rattle.wasm_readers_errors.specs.declared.error.Fault.{Fault}

@@ -12,3 +12,18 @@ mod value_types;
 pub use composite_types::check_composite_type;
 pub use resources::WasmModuleResources;
 pub use value_types::{check_ref_type, check_value_type};
+
+/// Passed on from `wasm_readers_types`.
+pub mod readers_types {
+    pub use wasm_readers_errors::readers_types::{
+        AbstractHeapType, HeapType, PackedIndex, RefType, StorageType, UnpackedIndex, ValType,
+    };
+}
+
+/// Passed on from `wasm_readers_errors`.
+pub mod readers_errors {
+    pub use wasm_readers_errors::{
+        DescriptorRule, Error, Fault, GroupRule, OperatorRule, Refusal, WasmFeatures, hold,
+        require, require_if,
+    };
+}

@@ -18,9 +18,9 @@ use Rattle.wasm_validator_core.specs.declared.error.Error.{Error}
 use Rattle.wasm_validator_core.specs.declared.limits.TheConstants.{MAX_GLOBALS, MAX_ELEMENT_SEGMENTS, MAX_DATA_SEGMENTS}
 use Rattle.wasm_validator_core_resources.specs.IndexContexts.{id_of}
 use Rattle.wasm_validator_core_resources.specs.ListContexts.{list_declares}
-use Rattle.wasm_spec_validity.specs.Expressions.{expression_at}
-use Rattle.wasm_laws_contexts.specs.ListedTypes.{types_declare}
-use Rattle.wasm_laws_contexts.proofs.ListedTypes.{lists_declare_their_types}
+use Rattle.wasm_validator_references.specs.WasmSpecValidity.Expressions.{expression_at}
+use Rattle.wasm_laws_modules.specs.WasmLawsContexts.ListedTypes.{types_declare}
+use Rattle.wasm_laws_modules.proofs.WasmLawsContexts.ListedTypes.{lists_declare_their_types}
 use Rattle.wasm_validator_items.specs.Machine as one_pass
 use Rattle.wasm_validator_sections.specs.Sections.{read_section}
 use Rattle.wasm_validator_sections.specs.Entries.{add_table_entry, add_global_entry, add_element, add_data}

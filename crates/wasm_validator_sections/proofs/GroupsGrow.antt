@@ -10,8 +10,8 @@ use Rattle.wasm_spec_rules.proofs.Tests.{guarded, map_some}
 use Rattle.wasm_readers_errors.specs.declared.features.WasmFeatures.{WasmFeatures}
 use Rattle.wasm_readers_types.specs.declared.indices.UnpackedIndex.{UnpackedIndex}
 use Rattle.wasm_validator_type_list.proofs.Grouped.{all-left}
-use Rattle.wasm_validator_canonical.specs.Groups.{AreValid, with_written}
-use Rattle.wasm_validator_canonical.proofs.Steps.{written_front}
+use Rattle.wasm_validator_core.specs.WasmValidatorCanonical.Groups.{AreValid, with_written}
+use Rattle.wasm_validator_core.proofs.WasmValidatorCanonical.Steps.{written_front}
 use Rattle.wasm_validator_types.specs.Spaces.{Spaces}
 use Rattle.wasm_validator_core.specs.declared.limits.TheConstants.{MAX_TYPES}
 use Rattle.wasm_validator_core.specs.Answers.{TypesSoFar, HasValidTypes}

@@ -1,3 +1,10 @@
+pub use Rattle.wasm_validator_references.specs as WasmValidatorReferences
+pub use Rattle.wasm_validator_core.specs.WasmValidatorChecks as WasmValidatorChecks
+pub use Rattle.wasm_validator_core.specs as WasmValidatorCore
+pub use Rattle.wasm_laws_modules.specs.WasmLawsCore as WasmLawsCore
+pub use Rattle.wasm_laws_modules.specs.WasmLawsContexts as WasmLawsContexts
+pub use Rattle.wasm_validator_func.specs as WasmValidatorFunc
+pub use Rattle.wasm_laws_modules.specs as WasmLawsModules
 pub use Rattle.wasm_validator_items.specs.Entries
 pub use Rattle.wasm_validator_items.specs.Sections
 pub mod Held

@@ -15,8 +15,8 @@ use Rattle.wasm_validator_core.specs.declared.limits.TheConstants.{MAX_TYPES, MA
 use Rattle.wasm_validator_core.specs.Machine.{add_group}
 use Rattle.wasm_validator_core.specs.Items.{is_startable, is_data_count, add_import, add_function, add_memory, add_tag, add_export}
 use Rattle.wasm_validator_core.specs.Answers.{TypesSoFar}
-use Rattle.wasm_laws_contexts.specs.ListedTypes.{types_declare}
-use Rattle.wasm_spec_validity.specs.Expressions.{expression_at}
+use Rattle.wasm_laws_modules.specs.WasmLawsContexts.ListedTypes.{types_declare}
+use Rattle.wasm_validator_references.specs.WasmSpecValidity.Expressions.{expression_at}
 use Rattle.wasm_validator_sections.specs.Sections.{read_section}
 use Rattle.wasm_validator_sections.specs.Entries.{add_table_entry, add_global_entry, add_element, add_data}
 

@@ -8,8 +8,8 @@ use Rattle.wasm_readers.specs.Written.{written}
 use Rattle.wasm_validator_types.specs.Spaces.{Spaces}
 use Rattle.wasm_validator_core.specs.declared.limits.TheConstants.{MAX_ELEMENT_SEGMENTS}
 use Rattle.wasm_validator_core.specs.Answers.{TypesSoFar}
-use Rattle.wasm_laws_contexts.specs.ListedTypes.{types_declare}
-use Rattle.wasm_validator_references.specs.Expressions.{expression_at}
+use Rattle.wasm_laws_modules.specs.WasmLawsContexts.ListedTypes.{types_declare}
+use Rattle.wasm_validator_references.specs.WasmSpecValidity.Expressions.{expression_at}
 use Rattle.wasm_validator_references.specs.References.{names_at, table_names, global_names, element_names}
 use Rattle.wasm_validator_items.specs.Entries.{add_table_entry, add_global_entry, add_element, add_data}
 use Rattle.wasm_validator_items.specs.Sections.{read_one, read_one_of}

@@ -20,3 +20,13 @@ pub use module_state::ModuleState;
 pub use wasm_validator_items::{
     Constants, add_data_segments, add_elements, add_globals, add_tables, tells_types_apart,
 };
+
+/// Passed on from `wasm_validator_core`.
+pub mod validator_core {
+    pub use wasm_validator_core::{Error, Module, check_data_count};
+}
+
+/// Passed on from `wasm_validator_func`.
+pub mod validator_func {
+    pub use wasm_validator_func::{FuncToValidate, FuncValidator, FuncValidatorAllocations};
+}

@@ -6,7 +6,7 @@ ghost use Rattle.wasm_readers.specs.SectionsSeen.{count_of, bytes_of, section_st
 ghost use Rattle.wasm_validator_references.specs.References.{names_of_tables, names_of_globals, names_of_exports, names_of_elements};
 ghost use Rattle.wasm_validator_sections.specs.Noted.{naming, noted_of};
 ghost use Rattle.wasm_validator_type_list.specs.DefTypes.{types_of_list};
-ghost use Rattle.wasm_validator_canonical.specs.Groups.{AreValid};
+ghost use Rattle.wasm_validator_core.specs.WasmValidatorCanonical.Groups.{AreValid};
 ghost use Rattle.wasm_validator_core.specs.Answers.{Adds, AddsWhere, HasValidTypes};
 ghost use Rattle.wasm_validator_core.specs.Ready.{IsOpenFor, AreHeld, AreIdsOf};
 ghost use Rattle.wasm_validator_core_resources.specs.ById.{AreFirstByIds};

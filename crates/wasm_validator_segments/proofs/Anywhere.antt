@@ -6,9 +6,9 @@ use Rattle.wasm_spec.specs.Values.{signed_at}
 use Rattle.wasm_spec.specs.Features.{Features}
 use Rattle.wasm_spec_rules.specs.Contexts.{Context}
 use Rattle.wasm_readers_types.specs.declared.indices.UnpackedIndex.{UnpackedIndex}
-use Rattle.wasm_operators.specs.Constants.{constant_from}
-use Rattle.wasm_operators.specs.ConstantOperator.{ConstantOperator}
-use Rattle.wasm_operators.specs.ConstantOperator.TheVariants.{I32Const, I64Const}
+use Rattle.wasm_operators.specs.WasmOperatorsPlain.Constants.{constant_from}
+use Rattle.wasm_operators.specs.WasmOperatorsPlain.declared.constants.ConstantOperator.{ConstantOperator}
+use Rattle.wasm_operators.specs.WasmOperatorsPlain.declared.constants.ConstantOperator.TheVariants.{I32Const, I64Const}
 use Rattle.wasm_operators.specs.Control.{end_, control_from, value_block}
 use Rattle.wasm_operators.specs.Instructions.{Instruction, control, constant, plain_from, instruction_at}
 use Rattle.wasm_operator_steps.specs.ConstantRules.{is_allowed}

@@ -11,7 +11,7 @@ use Rattle.wasm_operator_steps.specs.Bodies.{Surroundings}
 use Rattle.wasm_operator_steps.specs.Machine.{State}
 use Rattle.wasm_operator_steps.specs.Steps.{start}
 use Rattle.wasm_validator_resources.specs.Answers.{world}
-use Rattle.wasm_operator_stacks.specs.Seen.{surroundings}
+use Rattle.wasm_validator_constants.specs.WasmOperatorStacks.Seen.{surroundings}
 use Rattle.wasm_validator_constants.specs.Constants.{constant_from}
 use Rattle.wasm_operator_steps.specs.ConstantRules.{IsConstantExpression}
 

@@ -3,7 +3,7 @@
 ghost use Rattle.std.specs.Prelude.{◌≡◌, ◌≤◌, IfErr, IfOk, OnErr, Some, None};
 ghost use Rattle.wasm_spec.specs.BinaryTypes.{flags_at};
 ghost use Rattle.wasm_spec_rules.specs.FeatureFlags.{features_of};
-ghost use Rattle.wasm_readers_bytes.specs.Reader.{SameInput, position_in, rest, RefusedFrom};
+ghost use Rattle.wasm_readers.specs.WasmReadersBytes.Reader.{SameInput, position_in, rest, RefusedFrom};
 ghost use Rattle.wasm_readers_errors.specs.Errors.{Reads};
 ghost use Rattle.wasm_readers_types.specs.SeenValues.{val_of, ref_of};
 ghost use Rattle.wasm_validator_constants.specs.Checked.{IsRefusedAt, StandsIn};

@@ -2,7 +2,7 @@
 //! an integer.
 
 ghost use Rattle.std.specs.Prelude.{◌≡◌, ◌≤◌, true, OnSome};
-ghost use Rattle.wasm_readers_bytes.specs.Reader.{SameInput, position_in, rest};
+ghost use Rattle.wasm_readers.specs.WasmReadersBytes.Reader.{SameInput, position_in, rest};
 ghost use Rattle.wasm_validator_segments.specs.Plain.{TakesFunctions, IsPlain};
 
 use crate::lists::{MAX_ITEMS, pass_all_functions};

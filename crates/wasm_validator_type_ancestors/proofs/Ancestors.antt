@@ -3,8 +3,8 @@ use Rattle.std.proofs.Common.{◌≡◌, refl, sym, ap, subst, ◌∙◌, ⊎_el
 use Rattle.std.specs.Bool.{Decides}
 use Rattle.std.specs.Option.{option_and_then}
 use Rattle.std.proofs.lemmas.Bool.{cases_lt}
-use Rattle.wasm_spec.specs.Syntax.{Sub}
-use Rattle.wasm_spec.specs.Declared.{supertype_of, ancestor_at, IsAncestor, IsDepth}
+use Rattle.wasm_validator_type_groups.specs.WasmSpec.Syntax.{Sub}
+use Rattle.wasm_validator_type_groups.specs.WasmSpec.Declared.{supertype_of, ancestor_at, IsAncestor, IsDepth}
 use Rattle.wasm_validator_type_groups.proofs.Places.{get-map}
 use Rattle.wasm_validator_type_ancestors.specs.declared.entries.Entry.{Entry}
 use Rattle.wasm_validator_type_ancestors.specs.Supers.{Tells}

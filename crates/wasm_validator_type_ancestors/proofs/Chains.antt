@@ -4,10 +4,10 @@ use Rattle.std.specs.Option.{option_and_then}
 use Rattle.std.specs.Bool.{Decides}
 use Rattle.std.proofs.lemmas.Bool.{cases_lt}
 use Rattle.std.proofs.lemmas.Option.{none-some, same_Some}
-use Rattle.wasm_spec.specs.Syntax.{Sub}
-use Rattle.wasm_spec.specs.Declared.{supertype_of, ancestor_at, IsAncestor, IsDepth, Links}
-use Rattle.wasm_spec.proofs.Depths.{depths_are_small}
-use Rattle.wasm_spec.proofs.Matching.{ancestor_at-add}
+use Rattle.wasm_validator_type_groups.specs.WasmSpec.Syntax.{Sub}
+use Rattle.wasm_validator_type_groups.specs.WasmSpec.Declared.{supertype_of, ancestor_at, IsAncestor, IsDepth, Links}
+use Rattle.wasm_validator_type_groups.proofs.WasmSpec.Depths.{depths_are_small}
+use Rattle.wasm_validator_type_groups.proofs.WasmSpec.Matching.{ancestor_at-add}
 use Rattle.wasm_validator_type_ancestors.specs.Counting.{Counts}
 
 -- so many links from a lead here, and none before is b

@@ -1,3 +1,4 @@
+pub use Rattle.wasm_validator_type_groups.proofs as WasmValidatorTypeGroups
 pub mod Results
 pub mod Store
 pub mod Growth

@@ -1,7 +1,7 @@
 -- The entry of one sub type more, behind others of its group, and those of a whole group.
 use Rattle.std.proofs.Common.{◌≡◌, sym, ap, subst, ◌∙◌, ℕ, ◌+◌, ◌<◌, List, [], ◌∷◌, ◌++◌, length, take, get_or, Option, append_assoc}
 use Rattle.std.proofs.lemmas.List.{length-map, map_more}
-use Rattle.wasm_readers_types.specs.declared.types.SubType.{SubType}
+use Rattle.wasm_validator_type_groups.specs.WasmReadersTypes.declared.types.SubType.{SubType}
 use Rattle.wasm_validator_type_ancestors.specs.declared.entries.Entry.{Entry}
 use Rattle.wasm_validator_type_ancestors.specs.Supers.{extended, extended_in}
 use Rattle.wasm_validator_type_ancestors.specs.Entries.{super_in, supers_of, AreEntries, IsNext, IsKept}

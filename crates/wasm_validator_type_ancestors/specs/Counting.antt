@@ -1,7 +1,7 @@
 -- The supertype links and entries of lists of ancestors that are read to see whether one type is below another.
 use Rattle.std.specs.Prelude.{ℕ, ◌+◌, ◌<◌, ◌≤◌, Option}
-use Rattle.wasm_spec.specs.Syntax.{Sub}
-use Rattle.wasm_spec.specs.Declared.{IsDepth, Links}
+use Rattle.wasm_validator_type_groups.specs.WasmSpec.Syntax.{Sub}
+use Rattle.wasm_validator_type_groups.specs.WasmSpec.Declared.{IsDepth, Links}
 
 -- The count grows by no more than the links that are followed from a to find b, and by one at least where a has more
 -- proper ancestors than b.

@@ -1,3 +1,4 @@
+pub use Rattle.wasm_validator_type_groups.specs as WasmValidatorTypeGroups
 pub mod Supers
 pub mod Counting
 pub mod Entries

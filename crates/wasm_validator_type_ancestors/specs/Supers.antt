@@ -1,12 +1,12 @@
 -- Which id each type of a list extends.
 use Rattle.std.specs.Prelude.{ℕ, ◌≡◌, ◌+◌, ◌<◌, List, map, slice_get, Option}
 use Rattle.std.specs.Option.{option_map, option_and_then, IfSome}
-use Rattle.wasm_spec.specs.Syntax.{Sub}
-use Rattle.wasm_spec.specs.Declared.{supertype_of}
-use Rattle.wasm_readers_types.specs.SeenValues.{index_of}
-use Rattle.wasm_readers_types.specs.declared.indices.UnpackedIndex.{UnpackedIndex}
-use Rattle.wasm_readers_types.specs.declared.indices.UnpackedIndex.TheVariants.{Module, RecGroup, Id}
-use Rattle.wasm_readers_types.specs.declared.types.SubType.{SubType}
+use Rattle.wasm_validator_type_groups.specs.WasmSpec.Syntax.{Sub}
+use Rattle.wasm_validator_type_groups.specs.WasmSpec.Declared.{supertype_of}
+use Rattle.wasm_validator_type_groups.specs.WasmReadersTypes.SeenValues.{index_of}
+use Rattle.wasm_validator_type_groups.specs.WasmReadersTypes.declared.indices.UnpackedIndex.{UnpackedIndex}
+use Rattle.wasm_validator_type_groups.specs.WasmReadersTypes.declared.indices.UnpackedIndex.TheVariants.{Module, RecGroup, Id}
+use Rattle.wasm_validator_type_groups.specs.WasmReadersTypes.declared.types.SubType.{SubType}
 use Rattle.std.specs.declared.option.Option.TheVariants.{Some}
 
 -- the number of the id that a reference in a group leads to, where the group's first id has this number; a module's index isn't in lists

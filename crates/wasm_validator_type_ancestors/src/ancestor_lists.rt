@@ -1,7 +1,7 @@
 ghost use Rattle.std.specs.Prelude.{◌≡◌, ◌+◌, ◌<◌, ◌≤◌, ◌^◌, ◌++◌, ◌∷◌, [], ℕ, Option, length, IfOk, OnOk, OnErr};
 ghost use Rattle.std.specs.Bool.{Decides};
-ghost use Rattle.wasm_spec.specs.Syntax.{Sub};
-ghost use Rattle.wasm_spec.specs.Declared.{IsAncestor, IsDepth};
+ghost use Rattle.wasm_validator_type_groups.specs.WasmSpec.Syntax.{Sub};
+ghost use Rattle.wasm_validator_type_groups.specs.WasmSpec.Declared.{IsAncestor, IsDepth};
 ghost use Rattle.wasm_validator_type_groups.specs.Groups.{all_in};
 ghost use Rattle.wasm_validator_type_groups.specs.Known.{group_hash};
 ghost use Rattle.wasm_validator_type_ancestors.specs.Supers.{extended_in, ExtendEarlier, Tells};
@@ -12,7 +12,7 @@ use crate::link_count::LinkCount;
 use std::alloc::{AllocError, Allocator, Global};
 use std::hash::Hash;
 use std::marker::Model;
-use wasm_readers_types::{CoreTypeId, SubType};
+use wasm_validator_type_groups::readers_types::{CoreTypeId, SubType};
 use wasm_validator_type_groups::{GroupTable, SnapshotList};
 
 /// Of each type of a list its proper ancestors, from the topmost down, all in one store. A contract

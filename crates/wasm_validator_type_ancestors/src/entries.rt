@@ -1,16 +1,16 @@
 ghost use Rattle.std.specs.Prelude.{◌≡◌, ◌+◌, ◌<◌, ◌≤◌, ◌^◌, ◌++◌, ℕ, Option, length, slice_get, IfOk, IfSome, OnOk};
 ghost use Rattle.std.specs.Bool.{Decides};
 ghost use Rattle.std.specs.declared.option.Option.TheVariants.{Some};
-ghost use Rattle.wasm_spec.specs.Syntax.{Sub};
-ghost use Rattle.wasm_spec.specs.Declared.{IsAncestor, IsDepth};
+ghost use Rattle.wasm_validator_type_groups.specs.WasmSpec.Syntax.{Sub};
+ghost use Rattle.wasm_validator_type_groups.specs.WasmSpec.Declared.{IsAncestor, IsDepth};
 ghost use Rattle.wasm_validator_type_ancestors.specs.Supers.{leads_to, extended, extended_in, ExtendEarlier, Tells};
 ghost use Rattle.wasm_validator_type_ancestors.specs.Counting.{Counts};
 ghost use Rattle.wasm_validator_type_ancestors.specs.Entries.{supers_of, IsOneMore, AreEntries, IsNext, IsKept, AreCopied};
 
 use crate::link_count::LinkCount;
 use std::alloc::{AllocError, Allocator};
-use wasm_readers_types::{SubType, UnpackedIndex};
 use wasm_validator_type_groups::SnapshotList;
+use wasm_validator_type_groups::readers_types::{SubType, UnpackedIndex};
 
 /// Up to how many proper ancestors a type has a list of them.
 pub(crate) const MAX_LISTED: u32 = 63;

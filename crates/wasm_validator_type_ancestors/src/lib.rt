@@ -8,3 +8,8 @@ mod link_count;
 
 pub use ancestor_lists::AncestorLists;
 pub use link_count::LinkCount;
+
+/// Passed on from `wasm_validator_type_groups`.
+pub mod validator_type_groups {
+    pub use wasm_validator_type_groups::{GroupTable, RecGroupElements, RecGroupId, SnapshotList};
+}

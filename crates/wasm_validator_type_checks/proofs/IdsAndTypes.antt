@@ -15,7 +15,7 @@ use Rattle.wasm_readers_types.specs.SeenTypes.{sub_of}
 use Rattle.wasm_readers_types.specs.declared.indices.UnpackedIndex.{UnpackedIndex}
 use Rattle.wasm_readers_types.specs.declared.indices.UnpackedIndex.TheVariants.{Module, RecGroup, Id}
 use Rattle.wasm_readers_types.specs.declared.types.SubType.{SubType}
-use Rattle.wasm_validator_type_groups.specs.Groups.{first_of}
+use Rattle.wasm_validator_type_list.specs.WasmValidatorTypeGroups.Groups.{first_of}
 use Rattle.wasm_validator_type_list.specs.Listable.{IsKnown, AreListable}
 use Rattle.wasm_validator_type_list.specs.Lookups.{leads_to}
 use Rattle.wasm_validator_type_list.specs.DefTypes.{def_types, listed_sub, listed_group, tree_behind}

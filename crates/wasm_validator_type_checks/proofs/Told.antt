@@ -7,18 +7,18 @@ use Rattle.std.specs.Option.{option_map, option_or}
 use Rattle.std.proofs.lemmas.List.{length-map}
 use Rattle.wasm_spec.specs.Syntax.{Heap, abstract_heap, concrete, exact, map_heap, Val, i32, i64, f32, f64, v128, reference, map_val, Storage, i8, i16, unpacked, map_storage, Field, map_field, Comp, func, array, struct, cont, map_comp, Sub, map_sub}
 use Rattle.wasm_spec.specs.GroupRules.{IsFunction, IsValidType}
-use Rattle.wasm_spec_rules.specs.FeatureFlags.{features_of}
-use Rattle.wasm_readers_errors.specs.Refusals.{refused, plain, unless, lack_if}
-use Rattle.wasm_readers_errors.specs.declared.error.Fault.TheVariants as fault
-use Rattle.wasm_readers_errors.specs.declared.error.Rule.TheVariants.{MultiValue}
-use Rattle.wasm_readers_errors.specs.declared.error.Refusal.{Refusal}
-use Rattle.wasm_readers_errors.specs.declared.type_rules.DescriptorRule.TheVariants.{Descriptors, DescriptorOfNonStruct, DescribesOfNonStruct}
-use Rattle.wasm_readers_errors.specs.declared.type_rules.GroupRule.TheVariants.{Subtypes, Arrays, ArrayGcTypes, Structs, StructGcTypes}
-use Rattle.wasm_readers_errors.specs.declared.type_rules.ValueTypeRule.TheVariants.{ReferenceTypes}
-use Rattle.wasm_readers_errors.specs.declared.features.WasmFeatures.{WasmFeatures}
-use Rattle.wasm_readers_errors.specs.declared.features.TheConstants.WasmFeatures.{REFERENCE_TYPES, GC, GC_TYPES, CUSTOM_DESCRIPTORS, MULTI_VALUE}
+use Rattle.wasm_validator_resources.specs.WasmSpecRules.FeatureFlags.{features_of}
+use Rattle.wasm_validator_resources.specs.WasmReadersErrors.Refusals.{refused, plain, unless, lack_if}
+use Rattle.wasm_validator_resources.specs.WasmReadersErrors.declared.error.Fault.TheVariants as fault
+use Rattle.wasm_validator_resources.specs.WasmReadersErrors.declared.error.Rule.TheVariants.{MultiValue}
+use Rattle.wasm_validator_resources.specs.WasmReadersErrors.declared.error.Refusal.{Refusal}
+use Rattle.wasm_validator_resources.specs.WasmReadersErrors.declared.type_rules.DescriptorRule.TheVariants.{Descriptors, DescriptorOfNonStruct, DescribesOfNonStruct}
+use Rattle.wasm_validator_resources.specs.WasmReadersErrors.declared.type_rules.GroupRule.TheVariants.{Subtypes, Arrays, ArrayGcTypes, Structs, StructGcTypes}
+use Rattle.wasm_validator_resources.specs.WasmReadersErrors.declared.type_rules.ValueTypeRule.TheVariants.{ReferenceTypes}
+use Rattle.wasm_validator_resources.specs.WasmReadersErrors.declared.features.WasmFeatures.{WasmFeatures}
+use Rattle.wasm_validator_resources.specs.WasmReadersErrors.declared.features.TheConstants.WasmFeatures.{REFERENCE_TYPES, GC, GC_TYPES, CUSTOM_DESCRIPTORS, MULTI_VALUE}
 use Rattle.wasm_readers_types.specs.declared.types.SubType.{SubType}
-use Rattle.wasm_validator_type_groups.specs.Groups.{first_of, IsInGroup}
+use Rattle.wasm_validator_type_list.specs.WasmValidatorTypeGroups.Groups.{first_of, IsInGroup}
 use Rattle.wasm_validator_type_list.specs.Declares.{declares}
 use Rattle.wasm_validator_resources.specs.Told.{first_told, lack_for_ref, told_of_heap, told_of_val, told_of_storage, told_of_field, told_of_comp}
 use Rattle.wasm_validator_type_checks.specs.Told.{Unless, holds, broken, FirstOf, first, second, AtSome, absent, present, told_of_extending, told_of_clauses, ToldOfContinuation, ToldOfType, ToldOfGroup}

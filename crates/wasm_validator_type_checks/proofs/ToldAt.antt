@@ -7,18 +7,18 @@ use Rattle.std.specs.declared.result.Result.{Result}
 use Rattle.wasm_spec.specs.ValueTypes.{is_without_gc_types}
 use Rattle.wasm_spec.specs.Declared.{supertype_of}
 use Rattle.wasm_spec.specs.GroupRules.{is_struct}
-use Rattle.wasm_readers_errors.specs.declared.error.Fault.TheVariants as fault
-use Rattle.wasm_readers_errors.specs.declared.error.Rule.TheVariants.{Floats, Simd, MultiValue}
-use Rattle.wasm_readers_errors.specs.declared.type_rules.GroupRule.TheVariants.{Arrays, ArrayGcTypes, Structs, StructGcTypes, Continuations, ContinuationGcTypes, SharedComposites, Subtypes}
-use Rattle.wasm_readers_errors.specs.declared.type_rules.DescriptorRule.TheVariants.{Descriptors}
-use Rattle.wasm_readers_errors.specs.declared.type_rules.ValueTypeRule.{ValueTypeRule}
-use Rattle.wasm_readers_errors.specs.declared.type_rules.ValueTypeRule.TheVariants.{ReferenceTypes, IndexReferences, ExactReferences, SharedReferences, GcTypes, NonNullable, GcHeapTypes, ExceptionReferences, ContinuationReferences}
-use Rattle.wasm_readers_errors.specs.declared.features.TheConstants.WasmFeatures.{REFERENCE_TYPES, FUNCTION_REFERENCES, GC, GC_TYPES, CUSTOM_DESCRIPTORS, SHARED_EVERYTHING_THREADS, EXCEPTIONS, STACK_SWITCHING, FLOATS, SIMD, MULTI_VALUE}
-use Rattle.wasm_readers_errors.specs.On.{has_flag}
-use Rattle.wasm_readers_errors.specs.Refusals.{plain, unless, lacking, lack_if}
-use Rattle.wasm_readers_errors.specs.declared.error.Fault.{Fault}
-use Rattle.wasm_readers_errors.specs.declared.error.Refusal.{Refusal}
-use Rattle.wasm_readers_errors.specs.declared.features.WasmFeatures.{WasmFeatures}
+use Rattle.wasm_validator_resources.specs.WasmReadersErrors.declared.error.Fault.TheVariants as fault
+use Rattle.wasm_validator_resources.specs.WasmReadersErrors.declared.error.Rule.TheVariants.{Floats, Simd, MultiValue}
+use Rattle.wasm_validator_resources.specs.WasmReadersErrors.declared.type_rules.GroupRule.TheVariants.{Arrays, ArrayGcTypes, Structs, StructGcTypes, Continuations, ContinuationGcTypes, SharedComposites, Subtypes}
+use Rattle.wasm_validator_resources.specs.WasmReadersErrors.declared.type_rules.DescriptorRule.TheVariants.{Descriptors}
+use Rattle.wasm_validator_resources.specs.WasmReadersErrors.declared.type_rules.ValueTypeRule.{ValueTypeRule}
+use Rattle.wasm_validator_resources.specs.WasmReadersErrors.declared.type_rules.ValueTypeRule.TheVariants.{ReferenceTypes, IndexReferences, ExactReferences, SharedReferences, GcTypes, NonNullable, GcHeapTypes, ExceptionReferences, ContinuationReferences}
+use Rattle.wasm_validator_resources.specs.WasmReadersErrors.declared.features.TheConstants.WasmFeatures.{REFERENCE_TYPES, FUNCTION_REFERENCES, GC, GC_TYPES, CUSTOM_DESCRIPTORS, SHARED_EVERYTHING_THREADS, EXCEPTIONS, STACK_SWITCHING, FLOATS, SIMD, MULTI_VALUE}
+use Rattle.wasm_validator_resources.specs.WasmReadersErrors.On.{has_flag}
+use Rattle.wasm_validator_resources.specs.WasmReadersErrors.Refusals.{plain, unless, lacking, lack_if}
+use Rattle.wasm_validator_resources.specs.WasmReadersErrors.declared.error.Fault.{Fault}
+use Rattle.wasm_validator_resources.specs.WasmReadersErrors.declared.error.Refusal.{Refusal}
+use Rattle.wasm_validator_resources.specs.WasmReadersErrors.declared.features.WasmFeatures.{WasmFeatures}
 use Rattle.wasm_readers_types.specs.declared.types.SubType.{SubType}
 use Rattle.wasm_validator_type_list.specs.Declares.{declares}
 use Rattle.wasm_validator_resources.specs.Told.{first_told, told_of_abstract, told_of_heap, told_of_val, told_of_storage, told_of_comp}

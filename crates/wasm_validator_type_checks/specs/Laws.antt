@@ -14,7 +14,7 @@ use Rattle.wasm_readers_types.specs.declared.types.SubType.{SubType}
 use Rattle.wasm_validator_type_list.specs.Listable.{AreListable}
 use Rattle.wasm_validator_type_list.specs.DefTypes.{def_types, tree_behind, StandFor}
 use Rattle.wasm_validator_type_list.specs.Declares.{declares}
-use Rattle.wasm_validator_type_groups.specs.Groups.{first_of}
+use Rattle.wasm_validator_type_list.specs.WasmValidatorTypeGroups.Groups.{first_of}
 use Rattle.wasm_validator_type_checks.specs.Rules.{IsValidGroupAt}
 
 -- Where no type has two ids, what an id declares keeps the rules exactly where the type that it stands for does.

@@ -10,7 +10,7 @@ use Rattle.wasm_spec.specs.Matching.{is_shared_storage}
 use Rattle.wasm_spec.specs.GroupRules.{storages, has_many_results, is_array, is_struct, is_cont, IsContinuationOfFunction, TypeRules, DescriptorRules, IsValidType}
 use Rattle.wasm_readers_types.specs.declared.types.CompositeInnerType.{CompositeInnerType}
 use Rattle.wasm_readers_types.specs.declared.types.SubType.{SubType}
-use Rattle.wasm_validator_type_groups.specs.Groups.{IsInGroup}
+use Rattle.wasm_validator_type_list.specs.WasmValidatorTypeGroups.Groups.{IsInGroup}
 use Rattle.wasm_validator_type_list.specs.Declares.{declares}
 use Rattle.wasm_validator_type_list.specs.Grouped.{comp_in, MatchesDeclared}
 

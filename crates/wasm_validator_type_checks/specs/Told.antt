@@ -9,17 +9,17 @@ use Rattle.wasm_spec.specs.Declared.{supertype, supertype_of, descriptor_of, des
 use Rattle.wasm_spec.specs.ValueTypes.{implies}
 use Rattle.wasm_spec.specs.Matching.{is_shared_storage}
 use Rattle.wasm_spec.specs.GroupRules.{storages, is_struct, IsFunction, IsValidType}
-use Rattle.wasm_spec_rules.specs.FeatureFlags.{features_of}
-use Rattle.wasm_readers_errors.specs.Refusals.{plain, unless, lack_if}
-use Rattle.wasm_readers_errors.specs.declared.error.Fault.TheVariants.{Group, Descriptor, NotAFunctionId, SubtypesTooDeep}
-use Rattle.wasm_readers_errors.specs.declared.error.Refusal.{Refusal}
-use Rattle.wasm_readers_errors.specs.declared.type_rules.DescriptorRule.{DescriptorRule}
-use Rattle.wasm_readers_errors.specs.declared.type_rules.DescriptorRule.TheVariants.{Descriptors, DescriptorOfNonStruct, DescribesOfNonStruct, SubtypeWithDescriptor, SubtypeWithoutDescriptor, DescribedSupertype, DescriptorSupertype, NonDescriptorSupertype, DescriptorOfNonDescriptor, DescriptorWithoutDescribes, DescribesWithoutDescriptor, DescriptorFinality}
-use Rattle.wasm_readers_errors.specs.declared.type_rules.GroupRule.TheVariants.{Subtypes, FinalSupertype, SupertypeMatch, SharedComposites, SharedMembers}
-use Rattle.wasm_readers_errors.specs.declared.features.WasmFeatures.{WasmFeatures}
-use Rattle.wasm_readers_errors.specs.declared.features.TheConstants.WasmFeatures.{GC, SHARED_EVERYTHING_THREADS, CUSTOM_DESCRIPTORS}
+use Rattle.wasm_validator_resources.specs.WasmSpecRules.FeatureFlags.{features_of}
+use Rattle.wasm_validator_resources.specs.WasmReadersErrors.Refusals.{plain, unless, lack_if}
+use Rattle.wasm_validator_resources.specs.WasmReadersErrors.declared.error.Fault.TheVariants.{Group, Descriptor, NotAFunctionId, SubtypesTooDeep}
+use Rattle.wasm_validator_resources.specs.WasmReadersErrors.declared.error.Refusal.{Refusal}
+use Rattle.wasm_validator_resources.specs.WasmReadersErrors.declared.type_rules.DescriptorRule.{DescriptorRule}
+use Rattle.wasm_validator_resources.specs.WasmReadersErrors.declared.type_rules.DescriptorRule.TheVariants.{Descriptors, DescriptorOfNonStruct, DescribesOfNonStruct, SubtypeWithDescriptor, SubtypeWithoutDescriptor, DescribedSupertype, DescriptorSupertype, NonDescriptorSupertype, DescriptorOfNonDescriptor, DescriptorWithoutDescribes, DescribesWithoutDescriptor, DescriptorFinality}
+use Rattle.wasm_validator_resources.specs.WasmReadersErrors.declared.type_rules.GroupRule.TheVariants.{Subtypes, FinalSupertype, SupertypeMatch, SharedComposites, SharedMembers}
+use Rattle.wasm_validator_resources.specs.WasmReadersErrors.declared.features.WasmFeatures.{WasmFeatures}
+use Rattle.wasm_validator_resources.specs.WasmReadersErrors.declared.features.TheConstants.WasmFeatures.{GC, SHARED_EVERYTHING_THREADS, CUSTOM_DESCRIPTORS}
 use Rattle.wasm_readers_types.specs.declared.types.SubType.{SubType}
-use Rattle.wasm_validator_type_groups.specs.Groups.{IsInGroup}
+use Rattle.wasm_validator_type_list.specs.WasmValidatorTypeGroups.Groups.{IsInGroup}
 use Rattle.wasm_validator_type_list.specs.Declares.{declares}
 use Rattle.wasm_validator_type_list.specs.Grouped.{MatchesDeclared}
 use Rattle.wasm_validator_resources.specs.Told.{told_of_comp}

@@ -7,8 +7,8 @@ ghost use Rattle.wasm_spec.specs.References.{refs_heap, refs_val, refs_storage, 
 ghost use Rattle.wasm_spec.specs.Matching.{is_shared_type, is_shared_heap, is_shared_val, is_shared_storage};
 ghost use Rattle.wasm_spec.specs.ValueTypes.{implies};
 ghost use Rattle.wasm_spec.specs.GroupRules.{is_func, IsFunction, IsContinuationOfFunction};
-ghost use Rattle.wasm_readers_errors.specs.Refusals.{refused};
-ghost use Rattle.wasm_spec_rules.specs.FeatureFlags.{features_of};
+ghost use Rattle.wasm_validator_resources.specs.WasmReadersErrors.Refusals.{refused};
+ghost use Rattle.wasm_validator_resources.specs.WasmSpecRules.FeatureFlags.{features_of};
 ghost use Rattle.wasm_readers_types.specs.SeenValues.{heap_of, val_of, storage_of, field_of};
 ghost use Rattle.wasm_readers_types.specs.SeenTypes.{comp_of};
 ghost use Rattle.wasm_validator_type_list.specs.Listing.{types_in};
@@ -19,11 +19,13 @@ ghost use Rattle.wasm_validator_type_checks.specs.Told.{told_of_shared, told_of_
 
 use crate::ids::{group_of, id_at};
 use std::alloc::Allocator;
-use wasm_readers_errors::{Fault, GroupRule, Refusal, WasmFeatures, hold, require_if};
 use wasm_readers_types::{
     CompositeInnerType, CompositeType, CoreTypeId, FieldType, HeapType, StorageType, ValType,
 };
 use wasm_validator_resources::check_composite_type as check_by_features;
+use wasm_validator_resources::readers_errors::{
+    Fault, GroupRule, Refusal, WasmFeatures, hold, require_if,
+};
 use wasm_validator_type_list::{RecGroupId, TypeList};
 
 /// Accepts a shared type where the proposal for them is on.

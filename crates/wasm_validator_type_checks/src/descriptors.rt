@@ -4,8 +4,8 @@ ghost use Rattle.std.specs.Prelude.{◌≡◌, ◌<◌, length, is_ok, IfErr, If
 ghost use Rattle.std.specs.Bool.{Decides};
 ghost use Rattle.wasm_spec.specs.Declared.{supertype_of};
 ghost use Rattle.wasm_spec.specs.GroupRules.{is_struct};
-ghost use Rattle.wasm_readers_errors.specs.Refusals.{plain, refused};
-ghost use Rattle.wasm_spec_rules.specs.FeatureFlags.{features_of};
+ghost use Rattle.wasm_validator_resources.specs.WasmReadersErrors.Refusals.{plain, refused};
+ghost use Rattle.wasm_validator_resources.specs.WasmSpecRules.FeatureFlags.{features_of};
 ghost use Rattle.wasm_readers_types.specs.SeenTypes.{comp_of, sub_of};
 ghost use Rattle.wasm_validator_type_list.specs.Listing.{types_in};
 ghost use Rattle.wasm_validator_type_list.specs.Declares.{declares};
@@ -14,8 +14,10 @@ ghost use Rattle.wasm_validator_type_checks.specs.Told.{told_of_clauses, unlike_
 
 use crate::ids::{are_same, described, descriptor, group_of, supertype};
 use std::alloc::Allocator;
-use wasm_readers_errors::{DescriptorRule, Fault, Refusal, WasmFeatures, hold, require};
 use wasm_readers_types::{CompositeInnerType, CoreTypeId, SubType};
+use wasm_validator_resources::readers_errors::{
+    DescriptorRule, Fault, Refusal, WasmFeatures, hold, require,
+};
 use wasm_validator_type_list::TypeList;
 
 /// Whether it is a structure type.

@@ -3,8 +3,8 @@
 ghost use Rattle.std.specs.Prelude.{◌≡◌, ◌<◌, length, is_ok, IfErr};
 ghost use Rattle.std.specs.Bool.{Decides};
 ghost use Rattle.wasm_spec.specs.GroupRules.{IsValidType};
-ghost use Rattle.wasm_readers_errors.specs.Refusals.{refused};
-ghost use Rattle.wasm_spec_rules.specs.FeatureFlags.{features_of};
+ghost use Rattle.wasm_validator_resources.specs.WasmReadersErrors.Refusals.{refused};
+ghost use Rattle.wasm_validator_resources.specs.WasmSpecRules.FeatureFlags.{features_of};
 ghost use Rattle.wasm_validator_type_list.specs.Listing.{types_in};
 ghost use Rattle.wasm_validator_type_list.specs.Declares.{declares};
 ghost use Rattle.wasm_validator_type_checks.specs.Rules.{IsValidGroupAt};
@@ -13,8 +13,8 @@ ghost use Rattle.wasm_validator_type_checks.specs.Told.{ToldOfType, ToldOfGroup}
 use crate::descriptors::check_descriptors;
 use crate::subtypes::check_subtype;
 use std::alloc::Allocator;
-use wasm_readers_errors::{Refusal, WasmFeatures};
 use wasm_readers_types::CoreTypeId;
+use wasm_validator_resources::readers_errors::{Refusal, WasmFeatures};
 use wasm_validator_type_list::{RecGroupId, TypeList};
 
 /// Checks a type of a list by all rules of a type (Core Specification 3.0, Validation, Types, Sub

@@ -3,8 +3,8 @@
 ghost use Rattle.std.specs.Prelude.{◌≡◌, ◌<◌, length, is_ok, IfErr, IfSome};
 ghost use Rattle.std.specs.Bool.{Decides};
 ghost use Rattle.wasm_spec.specs.Declared.{supertype_of, IsDepth};
-ghost use Rattle.wasm_readers_errors.specs.Refusals.{plain, refused};
-ghost use Rattle.wasm_spec_rules.specs.FeatureFlags.{features_of};
+ghost use Rattle.wasm_validator_resources.specs.WasmReadersErrors.Refusals.{plain, refused};
+ghost use Rattle.wasm_validator_resources.specs.WasmSpecRules.FeatureFlags.{features_of};
 ghost use Rattle.wasm_readers_types.specs.SeenTypes.{sub_of};
 ghost use Rattle.wasm_validator_type_list.specs.Listing.{types_in};
 ghost use Rattle.wasm_validator_type_list.specs.Declares.{declares};
@@ -14,8 +14,10 @@ ghost use Rattle.wasm_validator_type_checks.specs.Told.{told_of_extending, ToldO
 use crate::composite_types::check_composite_type;
 use crate::ids::{group_of, supertype};
 use std::alloc::Allocator;
-use wasm_readers_errors::{Fault, GroupRule, Refusal, WasmFeatures, hold, require_if};
 use wasm_readers_types::{CoreTypeId, SubType};
+use wasm_validator_resources::readers_errors::{
+    Fault, GroupRule, Refusal, WasmFeatures, hold, require_if,
+};
 use wasm_validator_type_list::TypeList;
 
 /// How many proper ancestors are too many.

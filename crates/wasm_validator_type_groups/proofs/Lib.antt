@@ -1,3 +1,4 @@
+pub use Rattle.wasm_readers_types.proofs.WasmSpec as WasmSpec
 pub mod Places
 pub mod Flat
 pub mod Counting

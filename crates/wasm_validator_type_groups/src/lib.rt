@@ -16,3 +16,8 @@ pub use group_id::RecGroupId;
 pub use group_table::GroupTable;
 pub use grouped_list::GroupedList;
 pub use snapshot_list::SnapshotList;
+
+/// Passed on from `wasm_readers_types`.
+pub mod readers_types {
+    pub use wasm_readers_types::{CoreTypeId, SubType, UnpackedIndex};
+}

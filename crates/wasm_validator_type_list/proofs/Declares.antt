@@ -4,19 +4,19 @@ use Rattle.std.specs.Option.{option_map, option_and_then}
 use Rattle.std.proofs.lemmas.List.{length-map}
 use Rattle.std.proofs.lemmas.Option.{none-some, same_Some, slice_get_within, option_and_then_some}
 use Rattle.std.proofs.lemmas.List.Elements.{All-head}
-use Rattle.wasm_spec.specs.Syntax.{Sub}
-use Rattle.wasm_spec.specs.Declared.{supertype, supertype_of}
-use Rattle.wasm_readers_types.specs.SeenValues.{index_of}
-use Rattle.wasm_readers_types.specs.declared.indices.CoreTypeId.{CoreTypeId}
-use Rattle.wasm_readers_types.specs.declared.indices.PackedIndex.{PackedIndex}
-use Rattle.wasm_readers_types.specs.declared.indices.UnpackedIndex.{UnpackedIndex}
-use Rattle.wasm_readers_types.specs.declared.indices.UnpackedIndex.TheVariants.{Module, RecGroup, Id}
-use Rattle.wasm_readers_types.specs.declared.types.SubType.{SubType}
-use Rattle.wasm_validator_type_groups.specs.Groups.{all_in, first_of, IsInGroup}
+use Rattle.wasm_readers_errors.specs.WasmSpec.Syntax.{Sub}
+use Rattle.wasm_readers_errors.specs.WasmSpec.Declared.{supertype, supertype_of}
+use Rattle.wasm_readers_errors.specs.WasmReadersTypes.SeenValues.{index_of}
+use Rattle.wasm_readers_errors.specs.WasmReadersTypes.declared.indices.CoreTypeId.{CoreTypeId}
+use Rattle.wasm_readers_errors.specs.WasmReadersTypes.declared.indices.PackedIndex.{PackedIndex}
+use Rattle.wasm_readers_errors.specs.WasmReadersTypes.declared.indices.UnpackedIndex.{UnpackedIndex}
+use Rattle.wasm_readers_errors.specs.WasmReadersTypes.declared.indices.UnpackedIndex.TheVariants.{Module, RecGroup, Id}
+use Rattle.wasm_readers_errors.specs.WasmReadersTypes.declared.types.SubType.{SubType}
+use Rattle.wasm_validator_type_ancestors.specs.WasmValidatorTypeGroups.Groups.{all_in, first_of, IsInGroup}
 use Rattle.wasm_validator_type_list.specs.Listable.{IsKnown, AreListable}
 use Rattle.wasm_validator_type_list.specs.Lookups.{leads_to, IsSupertypeAt}
 use Rattle.wasm_validator_type_list.specs.Declares.{sub_by_ids, subs_by_ids, declares}
-use Rattle.wasm_validator_type_groups.proofs.Places.{get-left, get-right, get-map, get-append, first_of-suc}
+use Rattle.wasm_validator_type_ancestors.proofs.WasmValidatorTypeGroups.Places.{get-left, get-right, get-map, get-append, first_of-suc}
 use Rattle.wasm_validator_type_list.proofs.Lookups.{member_at}
 
 -- an element of a mapped list comes from one of the list

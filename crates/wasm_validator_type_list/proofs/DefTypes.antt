@@ -5,19 +5,19 @@ use Rattle.std.proofs.lemmas.List.{map_push, map-append, length-map, take-append
 use Rattle.std.proofs.lemmas.List.Concat.{flat_map-append}
 use Rattle.std.proofs.lemmas.List.Elements.{recursion_from_All}
 use Rattle.std.proofs.lemmas.Option.{none-some, same_Some, slice_get_within}
-use Rattle.wasm_spec.specs.Syntax.{Sub, map_sub}
-use Rattle.wasm_spec.specs.References.{refs_sub}
-use Rattle.wasm_spec.specs.Trees.{RecTree, DefType, close}
-use Rattle.wasm_spec.specs.Closing.{positions}
-use Rattle.wasm_spec.specs.TypeLists.{ListedUse, by_id, by_position, use_of_id, resolve_listed, listed_tree, with_listed, with_all_listed, types_of}
-use Rattle.wasm_spec.specs.TypeLaws.{IsKnownUse, MentionsKnown}
-use Rattle.wasm_spec.proofs.Agreement.{agree_sub}
-use Rattle.wasm_spec.proofs.Listed.{appended_listed_group}
-use Rattle.wasm_readers_types.specs.declared.types.SubType.{SubType}
-use Rattle.wasm_validator_type_groups.specs.Groups.{all_in, first_of}
+use Rattle.wasm_readers_errors.specs.WasmSpec.Syntax.{Sub, map_sub}
+use Rattle.wasm_readers_errors.specs.WasmSpec.References.{refs_sub}
+use Rattle.wasm_readers_errors.specs.WasmSpec.Trees.{RecTree, DefType, close}
+use Rattle.wasm_readers_errors.specs.WasmSpec.Closing.{positions}
+use Rattle.wasm_readers_errors.specs.WasmSpec.TypeLists.{ListedUse, by_id, by_position, use_of_id, resolve_listed, listed_tree, with_listed, with_all_listed, types_of}
+use Rattle.wasm_readers_errors.specs.WasmSpec.TypeLaws.{IsKnownUse, MentionsKnown}
+use Rattle.wasm_readers_errors.proofs.WasmSpec.Agreement.{agree_sub}
+use Rattle.wasm_readers_errors.proofs.WasmSpec.Listed.{appended_listed_group}
+use Rattle.wasm_readers_errors.specs.WasmReadersTypes.declared.types.SubType.{SubType}
+use Rattle.wasm_validator_type_ancestors.specs.WasmValidatorTypeGroups.Groups.{all_in, first_of}
 use Rattle.wasm_validator_type_list.specs.Listable.{IsListable, AreListable}
 use Rattle.wasm_validator_type_list.specs.DefTypes.{listed_sub, listed_group, def_types, tree_behind}
-use Rattle.wasm_validator_type_groups.proofs.Places.{get-left, get-append, first_of-suc}
+use Rattle.wasm_validator_type_ancestors.proofs.WasmValidatorTypeGroups.Places.{get-left, get-append, first_of-suc}
 use Rattle.wasm_validator_type_list.proofs.Listed.{mentions_known}
 
 -- places in a recursive type

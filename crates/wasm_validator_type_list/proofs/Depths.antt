@@ -9,17 +9,17 @@ use Rattle.std.specs.Cmp.{unsigned_tied, nat_eq_equiv, nat_cmp_total}
 use Rattle.std.proofs.lemmas.Option.{same_Some}
 use Rattle.std.proofs.lemmas.Bool.Decides.{Decides-eqb}
 use Rattle.std.proofs.lemmas.List.{append_assoc}
-use Rattle.wasm_spec.specs.Syntax.{Sub}
-use Rattle.wasm_spec.specs.Declared.{supertype, supertype_of, ancestor_at, IsDepth}
-use Rattle.wasm_readers_types.specs.declared.indices.CoreTypeId.{CoreTypeId}
-use Rattle.wasm_readers_types.specs.declared.types.SubType.{SubType}
-use Rattle.wasm_validator_type_groups.specs.Groups.{all_in}
+use Rattle.wasm_readers_errors.specs.WasmSpec.Syntax.{Sub}
+use Rattle.wasm_readers_errors.specs.WasmSpec.Declared.{supertype, supertype_of, ancestor_at, IsDepth}
+use Rattle.wasm_readers_errors.specs.WasmReadersTypes.declared.indices.CoreTypeId.{CoreTypeId}
+use Rattle.wasm_readers_errors.specs.WasmReadersTypes.declared.types.SubType.{SubType}
+use Rattle.wasm_validator_type_ancestors.specs.WasmValidatorTypeGroups.Groups.{all_in}
 use Rattle.wasm_validator_type_list.specs.Listable.{AreListable}
 use Rattle.wasm_validator_type_list.specs.Lookups.{IsSupertypeAt}
 use Rattle.wasm_validator_type_list.specs.Declares.{sub_by_ids, subs_by_ids, declares}
 use Rattle.wasm_validator_type_list.specs.Depths.{depth_of, in_order, with_depth, HasDepth, AreDepths}
-use Rattle.wasm_validator_type_groups.proofs.Flat.{all_in-push}
-use Rattle.wasm_validator_type_groups.proofs.Places.{get-left}
+use Rattle.wasm_validator_type_ancestors.proofs.WasmValidatorTypeGroups.Flat.{all_in-push}
+use Rattle.wasm_validator_type_ancestors.proofs.WasmValidatorTypeGroups.Places.{get-left}
 use Rattle.wasm_validator_type_list.proofs.Declares.{supertype_read, descends}
 use Rattle.wasm_validator_type_list.proofs.Chains.{not_behind}
 use Rattle.wasm_validator_type_list.proofs.Joined.{length-subs}

@@ -1,6 +1,6 @@
 -- How many groups there are.
 use Rattle.std.proofs.Common.{◌≡◌, refl, ℕ, suc, ◌+◌, ◌<◌, ◌≤◌, List, [], ◌∷◌, ◌++◌, length, slice_get, Some, arith, length-append}
-use Rattle.wasm_validator_type_groups.specs.Groups.{all_in}
+use Rattle.wasm_validator_type_ancestors.specs.WasmValidatorTypeGroups.Groups.{all_in}
 use Rattle.wasm_validator_type_list.specs.Sound.{count_of_empty}
 
 pub few_groups : {X : Type 0} (gs : List (List X)) → length gs ≤ length (all_in gs) + count_of_empty gs

@@ -5,31 +5,31 @@ use Rattle.std.specs.List.{AllZip, flat_map, slice_index_or}
 use Rattle.std.proofs.lemmas.List.Elements.{All-head, All-tail, All-cons, All-nil, All-weaker, AllZip-get_or, at_read}
 use Rattle.std.proofs.lemmas.Bool.{cases_lt}
 use Rattle.std.specs.declared.ops.Range.{Range}
-use Rattle.wasm_spec.specs.Syntax.{Field, Sub}
-use Rattle.wasm_readers_types.specs.Indices.{number_of}
-use Rattle.wasm_readers_types.specs.declared.indices.TheConstants.{MAX_IDS}
-use Rattle.wasm_readers_types.specs.declared.indices.CoreTypeId.{CoreTypeId}
-use Rattle.wasm_readers_types.specs.declared.indices.UnpackedIndex.{UnpackedIndex}
-use Rattle.wasm_readers_types.specs.declared.indices.UnpackedIndex.TheVariants.{Module, RecGroup, Id}
-use Rattle.wasm_readers_types.specs.SeenValues.{val_of, field_of}
-use Rattle.wasm_readers_types.specs.SeenTypes.{comp_of}
-use Rattle.wasm_readers_types.specs.declared.values.ValType.{ValType}
-use Rattle.wasm_readers_types.specs.declared.values.FieldType.{FieldType}
-use Rattle.wasm_readers_types.specs.declared.types.FuncType.{FuncType}
-use Rattle.wasm_readers_types.specs.declared.types.StructType.{StructType}
-use Rattle.wasm_readers_types.specs.declared.types.CompositeInnerType.{CompositeInnerType}
-use Rattle.wasm_readers_types.specs.declared.types.CompositeInnerType.TheVariants.{Func, Struct}
-use Rattle.wasm_readers_types.specs.declared.types.SubType.{SubType}
+use Rattle.wasm_readers_errors.specs.WasmSpec.Syntax.{Field, Sub}
+use Rattle.wasm_readers_errors.specs.WasmReadersTypes.Indices.{number_of}
+use Rattle.wasm_readers_errors.specs.WasmReadersTypes.declared.indices.TheConstants.{MAX_IDS}
+use Rattle.wasm_readers_errors.specs.WasmReadersTypes.declared.indices.CoreTypeId.{CoreTypeId}
+use Rattle.wasm_readers_errors.specs.WasmReadersTypes.declared.indices.UnpackedIndex.{UnpackedIndex}
+use Rattle.wasm_readers_errors.specs.WasmReadersTypes.declared.indices.UnpackedIndex.TheVariants.{Module, RecGroup, Id}
+use Rattle.wasm_readers_errors.specs.WasmReadersTypes.SeenValues.{val_of, field_of}
+use Rattle.wasm_readers_errors.specs.WasmReadersTypes.SeenTypes.{comp_of}
+use Rattle.wasm_readers_errors.specs.WasmReadersTypes.declared.values.ValType.{ValType}
+use Rattle.wasm_readers_errors.specs.WasmReadersTypes.declared.values.FieldType.{FieldType}
+use Rattle.wasm_readers_errors.specs.WasmReadersTypes.declared.types.FuncType.{FuncType}
+use Rattle.wasm_readers_errors.specs.WasmReadersTypes.declared.types.StructType.{StructType}
+use Rattle.wasm_readers_errors.specs.WasmReadersTypes.declared.types.CompositeInnerType.{CompositeInnerType}
+use Rattle.wasm_readers_errors.specs.WasmReadersTypes.declared.types.CompositeInnerType.TheVariants.{Func, Struct}
+use Rattle.wasm_readers_errors.specs.WasmReadersTypes.declared.types.SubType.{SubType}
 use Rattle.wasm_validator_type_list.specs.declared.type_list.TypeList.TheInside.{Inside}
-use Rattle.wasm_validator_type_groups.specs.Groups.{all_in, first_of}
-use Rattle.wasm_validator_type_groups.specs.Spans.{span}
+use Rattle.wasm_validator_type_ancestors.specs.WasmValidatorTypeGroups.Groups.{all_in, first_of}
+use Rattle.wasm_validator_type_ancestors.specs.WasmValidatorTypeGroups.Spans.{span}
 use Rattle.wasm_validator_type_list.specs.Listing.{Listing, types_in}
 use Rattle.wasm_validator_type_list.specs.Lookups.{leads_to}
 use Rattle.wasm_validator_type_list.specs.Grouped.{leads_in, IsKnownIn, AreIn}
 use Rattle.wasm_validator_type_list.specs.Sound.{shown, IsSound}
 use Rattle.wasm_validator_type_list.proofs.DefTypes.{first_of-within}
-use Rattle.wasm_spec.specs.Matching.{MatchesField, MatchesFields}
-use Rattle.wasm_spec.specs.References.{refs_val, refs_field, refs_comp}
+use Rattle.wasm_readers_errors.specs.WasmSpec.Matching.{MatchesField, MatchesFields}
+use Rattle.wasm_readers_errors.specs.WasmSpec.References.{refs_val, refs_field, refs_comp}
 
 -- all of two lists, one behind the other
 pub all-left : {X : Type 0} (P : X → Type 0) (xs ys : List X) → All P (xs ++ ys) → All P xs

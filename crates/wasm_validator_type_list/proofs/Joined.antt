@@ -5,25 +5,25 @@ use Rattle.std.specs.List.{AllByRecursion}
 use Rattle.std.proofs.lemmas.List.{length-map}
 use Rattle.std.proofs.lemmas.List.Elements.{recursion_from_All}
 use Rattle.std.proofs.lemmas.Option.{same_Some, slice_get_within, get_or_from_slice_get}
-use Rattle.wasm_spec.specs.Syntax.{Sub, map_sub}
-use Rattle.wasm_spec.specs.References.{refs_sub}
-use Rattle.wasm_spec.specs.Trees.{RecTree, DefType, denote, declared}
-use Rattle.wasm_spec.specs.Closing.{positions, start_unless}
-use Rattle.wasm_spec.specs.TypeLists.{use_of_id, resolve_listed, listed_tree}
-use Rattle.wasm_spec.proofs.Agreement.{agree_sub}
-use Rattle.wasm_spec.proofs.SyntaxMaps.{map_sub-map}
-use Rattle.wasm_spec.proofs.Closing.{members_of_closed}
-use Rattle.wasm_readers_types.specs.SeenTypes.{sub_of}
-use Rattle.wasm_readers_types.specs.declared.indices.UnpackedIndex.{UnpackedIndex}
-use Rattle.wasm_readers_types.specs.declared.indices.UnpackedIndex.TheVariants.{Module, RecGroup, Id}
-use Rattle.wasm_readers_types.specs.declared.types.SubType.{SubType}
-use Rattle.wasm_validator_type_groups.specs.Groups.{all_in, first_of}
+use Rattle.wasm_readers_errors.specs.WasmSpec.Syntax.{Sub, map_sub}
+use Rattle.wasm_readers_errors.specs.WasmSpec.References.{refs_sub}
+use Rattle.wasm_readers_errors.specs.WasmSpec.Trees.{RecTree, DefType, denote, declared}
+use Rattle.wasm_readers_errors.specs.WasmSpec.Closing.{positions, start_unless}
+use Rattle.wasm_readers_errors.specs.WasmSpec.TypeLists.{use_of_id, resolve_listed, listed_tree}
+use Rattle.wasm_readers_errors.proofs.WasmSpec.Agreement.{agree_sub}
+use Rattle.wasm_readers_errors.proofs.WasmSpec.SyntaxMaps.{map_sub-map}
+use Rattle.wasm_readers_errors.proofs.WasmSpec.Closing.{members_of_closed}
+use Rattle.wasm_readers_errors.specs.WasmReadersTypes.SeenTypes.{sub_of}
+use Rattle.wasm_readers_errors.specs.WasmReadersTypes.declared.indices.UnpackedIndex.{UnpackedIndex}
+use Rattle.wasm_readers_errors.specs.WasmReadersTypes.declared.indices.UnpackedIndex.TheVariants.{Module, RecGroup, Id}
+use Rattle.wasm_readers_errors.specs.WasmReadersTypes.declared.types.SubType.{SubType}
+use Rattle.wasm_validator_type_ancestors.specs.WasmValidatorTypeGroups.Groups.{all_in, first_of}
 use Rattle.wasm_validator_type_list.specs.Listable.{IsKnown, AreListable}
 use Rattle.wasm_validator_type_list.specs.Lookups.{leads_to}
 use Rattle.wasm_validator_type_list.specs.DefTypes.{listed_ref, listed_sub, listed_group, def_types, tree_behind}
 use Rattle.wasm_validator_type_list.specs.Declares.{sub_by_ids, subs_by_ids, declares}
 use Rattle.wasm_validator_type_list.specs.Laws.{TypesDeclareWhatIdsDeclare}
-use Rattle.wasm_validator_type_groups.proofs.Places.{get-left, get-right, get-map, split-at}
+use Rattle.wasm_validator_type_ancestors.proofs.WasmValidatorTypeGroups.Places.{get-left, get-right, get-map, split-at}
 use Rattle.wasm_validator_type_list.proofs.Lookups.{group_found}
 use Rattle.wasm_validator_type_list.proofs.DefTypes.{place_in, get-positions, def_types-push, length-def_types, front}
 use Rattle.wasm_validator_type_list.proofs.Declares.{IsDeclared, declared_by, declares-member}

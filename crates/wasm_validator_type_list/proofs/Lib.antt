@@ -1,3 +1,4 @@
+pub use Rattle.wasm_validator_type_ancestors.proofs.WasmValidatorTypeGroups as WasmValidatorTypeGroups
 pub mod Listed
 pub mod DefTypes
 pub mod Once

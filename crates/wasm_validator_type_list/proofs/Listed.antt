@@ -3,18 +3,18 @@ use Rattle.std.proofs.Common.{◌≡◌, refl, sym, ap, subst, ◌∙◌, ℕ, �
 use Rattle.std.specs.List.{AllByRecursion}
 use Rattle.std.proofs.lemmas.List.{map-append}
 use Rattle.std.proofs.lemmas.List.Elements.{recursion_from_All, All-from_recursion}
-use Rattle.wasm_spec.specs.Syntax.{Sub, map_sub}
-use Rattle.wasm_spec.specs.References.{refs_option, refs_comp, refs_sub}
-use Rattle.wasm_spec.specs.Trees.{DefType}
-use Rattle.wasm_spec.specs.TypeLists.{ListedUse, by_id, by_position}
-use Rattle.wasm_spec.specs.TypeLaws.{IsKnownUse, MentionsKnown}
-use Rattle.wasm_spec.proofs.Shifting.{refs_option-map, refs_comp-map}
-use Rattle.wasm_spec.proofs.Agreement.{map_sub-undone}
-use Rattle.wasm_readers_types.specs.declared.indices.UnpackedIndex.{UnpackedIndex}
-use Rattle.wasm_readers_types.specs.declared.indices.UnpackedIndex.TheVariants.{Module, RecGroup, Id}
-use Rattle.wasm_readers_types.specs.declared.types.SubType.{SubType}
-use Rattle.wasm_readers_types.specs.SeenTypes.{sub_of}
-use Rattle.wasm_readers_types.specs.SeenApart.{subs_of-apart}
+use Rattle.wasm_readers_errors.specs.WasmSpec.Syntax.{Sub, map_sub}
+use Rattle.wasm_readers_errors.specs.WasmSpec.References.{refs_option, refs_comp, refs_sub}
+use Rattle.wasm_readers_errors.specs.WasmSpec.Trees.{DefType}
+use Rattle.wasm_readers_errors.specs.WasmSpec.TypeLists.{ListedUse, by_id, by_position}
+use Rattle.wasm_readers_errors.specs.WasmSpec.TypeLaws.{IsKnownUse, MentionsKnown}
+use Rattle.wasm_readers_errors.proofs.WasmSpec.Shifting.{refs_option-map, refs_comp-map}
+use Rattle.wasm_readers_errors.proofs.WasmSpec.Agreement.{map_sub-undone}
+use Rattle.wasm_readers_errors.specs.WasmReadersTypes.declared.indices.UnpackedIndex.{UnpackedIndex}
+use Rattle.wasm_readers_errors.specs.WasmReadersTypes.declared.indices.UnpackedIndex.TheVariants.{Module, RecGroup, Id}
+use Rattle.wasm_readers_errors.specs.WasmReadersTypes.declared.types.SubType.{SubType}
+use Rattle.wasm_readers_errors.specs.WasmReadersTypes.SeenTypes.{sub_of}
+use Rattle.wasm_readers_errors.specs.WasmReadersTypes.SeenApart.{subs_of-apart}
 use Rattle.wasm_validator_type_list.specs.Listable.{IsKnown, IsListable}
 use Rattle.wasm_validator_type_list.specs.DefTypes.{listed_ref, listed_sub, listed_group}
 

@@ -2,15 +2,15 @@
 use Rattle.std.proofs.Common.{◌≡◌, refl, sym, ap, subst, ◌∙◌, ℕ, zero, suc, ◌+◌, ◌-◌, ◌<◌, List, [], ◌∷◌, ◌++◌, length, slice_get, take, drop, Some, None, arith, length-append}
 use Rattle.std.proofs.lemmas.Option.{none-some, same_Some, slice_get_within, get_or_from_slice_get}
 use Rattle.std.proofs.lemmas.List.Concat.{flat_map-append}
-use Rattle.wasm_readers_types.specs.SeenValues.{index_of}
-use Rattle.wasm_readers_types.specs.Indices.{module_of}
-use Rattle.wasm_readers_types.specs.declared.indices.PackedIndex.{PackedIndex}
-use Rattle.wasm_readers_types.specs.declared.indices.UnpackedIndex.{UnpackedIndex}
-use Rattle.wasm_readers_types.specs.declared.indices.UnpackedIndex.TheVariants.{Module, RecGroup, Id}
-use Rattle.wasm_readers_types.specs.declared.types.SubType.{SubType}
-use Rattle.wasm_validator_type_groups.specs.Groups.{all_in, first_of, IsInGroup}
+use Rattle.wasm_readers_errors.specs.WasmReadersTypes.SeenValues.{index_of}
+use Rattle.wasm_readers_errors.specs.WasmReadersTypes.Indices.{module_of}
+use Rattle.wasm_readers_errors.specs.WasmReadersTypes.declared.indices.PackedIndex.{PackedIndex}
+use Rattle.wasm_readers_errors.specs.WasmReadersTypes.declared.indices.UnpackedIndex.{UnpackedIndex}
+use Rattle.wasm_readers_errors.specs.WasmReadersTypes.declared.indices.UnpackedIndex.TheVariants.{Module, RecGroup, Id}
+use Rattle.wasm_readers_errors.specs.WasmReadersTypes.declared.types.SubType.{SubType}
+use Rattle.wasm_validator_type_ancestors.specs.WasmValidatorTypeGroups.Groups.{all_in, first_of, IsInGroup}
 use Rattle.wasm_validator_type_list.specs.Listable.{IsKnown, AreListable}
-use Rattle.wasm_validator_type_groups.proofs.Places.{get-left, get-right, split-at, first_of-suc}
+use Rattle.wasm_validator_type_ancestors.proofs.WasmValidatorTypeGroups.Places.{get-left, get-right, split-at, first_of-suc}
 
 -- what a known reference is not
 pub not_module : (n m : ℕ) (r : UnpackedIndex) → IsKnown n m r → module_of r ≡ None

@@ -7,19 +7,19 @@ use Rattle.std.specs.Option.{option_map}
 use Rattle.std.proofs.Math.Bool.{beq}
 use Rattle.std.proofs.lemmas.List.{length-map}
 use Rattle.std.proofs.lemmas.Option.{none-some, same_Some, slice_get_within, slice_get-get_or}
-use Rattle.wasm_spec.specs.Syntax.{AbstractHeap, abstract_heap, concrete, Comp, func, array, struct, cont, Sub, map_comp}
-use Rattle.wasm_spec.specs.Matching.{kind_of, bottom_of, top_of, shared_flag, top_of_heap, is_shared_type, MatchesAbstract, MatchesKind, IsAboveBottom}
-use Rattle.wasm_spec.specs.MatchingTests.{matches_abstract}
-use Rattle.wasm_spec.proofs.MatchingTests.{tests_decide_matching}
-use Rattle.wasm_readers_types.specs.SeenValues.{abstract_heap_of}
-use Rattle.wasm_readers_types.specs.SeenTypes.{comp_of}
-use Rattle.wasm_readers_types.specs.declared.values.AbstractHeapType.{AbstractHeapType}
-use Rattle.wasm_readers_types.specs.declared.types.SubType.{SubType}
-use Rattle.wasm_validator_type_groups.specs.Groups.{all_in}
+use Rattle.wasm_readers_errors.specs.WasmSpec.Syntax.{AbstractHeap, abstract_heap, concrete, Comp, func, array, struct, cont, Sub, map_comp}
+use Rattle.wasm_readers_errors.specs.WasmSpec.Matching.{kind_of, bottom_of, top_of, shared_flag, top_of_heap, is_shared_type, MatchesAbstract, MatchesKind, IsAboveBottom}
+use Rattle.wasm_readers_errors.specs.WasmSpec.MatchingTests.{matches_abstract}
+use Rattle.wasm_readers_errors.proofs.WasmSpec.MatchingTests.{tests_decide_matching}
+use Rattle.wasm_readers_errors.specs.WasmReadersTypes.SeenValues.{abstract_heap_of}
+use Rattle.wasm_readers_errors.specs.WasmReadersTypes.SeenTypes.{comp_of}
+use Rattle.wasm_readers_errors.specs.WasmReadersTypes.declared.values.AbstractHeapType.{AbstractHeapType}
+use Rattle.wasm_readers_errors.specs.WasmReadersTypes.declared.types.SubType.{SubType}
+use Rattle.wasm_validator_type_ancestors.specs.WasmValidatorTypeGroups.Groups.{all_in}
 use Rattle.wasm_validator_type_list.specs.Listing.{Listing, types_in}
 use Rattle.wasm_validator_type_list.specs.Lookups.{leads_to}
 use Rattle.wasm_validator_type_list.specs.Declares.{sub_by_ids, subs_by_ids, declares}
-use Rattle.wasm_validator_type_groups.proofs.Places.{get-left, get-right, get-map, get-append}
+use Rattle.wasm_validator_type_ancestors.proofs.WasmValidatorTypeGroups.Places.{get-left, get-right, get-map, get-append}
 
 pub kind_kept : {R S : Type 0} (f : R → S) (c : Comp R) → kind_of (map_comp f c) ≡ kind_of c
 kind_kept f (func ps rs) = refl

@@ -2,19 +2,19 @@
 use Rattle.std.proofs.Common.{◌≡◌, refl, sym, ap, subst, ◌∙◌, ℕ, ◌+◌, ◌<◌, ◌≤◌, Bool, true, false, true≢false, List, [], ◌∷◌, ◌++◌, length, slice_get, take, drop, Some, arith, length-append}
 use Rattle.std.proofs.lemmas.List.{length-map, append_assoc}
 use Rattle.std.proofs.lemmas.Option.{slice_get_within}
-use Rattle.wasm_spec.specs.Trees.{DefType}
-use Rattle.wasm_spec.specs.Closing.{positions}
-use Rattle.wasm_spec.specs.TypeLaws.{HasNoRepetition}
-use Rattle.wasm_spec.proofs.Listed.{equal_trees_equal_listed_groups}
-use Rattle.wasm_readers_types.specs.declared.types.SubType.{SubType}
-use Rattle.wasm_validator_type_groups.specs.Groups.{all_in, first_of}
+use Rattle.wasm_readers_errors.specs.WasmSpec.Trees.{DefType}
+use Rattle.wasm_readers_errors.specs.WasmSpec.Closing.{positions}
+use Rattle.wasm_readers_errors.specs.WasmSpec.TypeLaws.{HasNoRepetition}
+use Rattle.wasm_readers_errors.proofs.WasmSpec.Listed.{equal_trees_equal_listed_groups}
+use Rattle.wasm_readers_errors.specs.WasmReadersTypes.declared.types.SubType.{SubType}
+use Rattle.wasm_validator_type_ancestors.specs.WasmValidatorTypeGroups.Groups.{all_in, first_of}
 use Rattle.wasm_validator_type_list.specs.Listable.{IsListable, AreListable}
 use Rattle.wasm_validator_type_list.specs.DefTypes.{listed_sub, listed_group, def_types, tree_behind, IsTreeOfOne, StandFor}
 use Rattle.wasm_validator_type_list.specs.Listing.{Listing}
-use Rattle.wasm_validator_type_groups.specs.Places.{IsNew}
+use Rattle.wasm_validator_type_ancestors.specs.WasmValidatorTypeGroups.Places.{IsNew}
 use Rattle.wasm_validator_type_list.specs.Interned.{AreOnce, InternsTypes}
-use Rattle.wasm_validator_type_groups.proofs.Flat.{all_in-push, first_of-stays, first_of-all}
-use Rattle.wasm_validator_type_groups.proofs.Places.{get-left, get-right, get-push, get-append, split-at}
+use Rattle.wasm_validator_type_ancestors.proofs.WasmValidatorTypeGroups.Flat.{all_in-push, first_of-stays, first_of-all}
+use Rattle.wasm_validator_type_ancestors.proofs.WasmValidatorTypeGroups.Places.{get-left, get-right, get-push, get-append, split-at}
 use Rattle.wasm_validator_type_list.proofs.Listed.{mentions_known, listed_apart}
 use Rattle.wasm_validator_type_list.proofs.DefTypes.{place_in, get-positions, from-positions, def_types-push, length-def_types, front, first_of-within, tree_at, of_one}
 

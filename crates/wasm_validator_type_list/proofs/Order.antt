@@ -3,13 +3,13 @@ use Rattle.std.proofs.Common.{◌≡◌, refl, sym, ap, subst, ◌∙◌, ℕ, z
 use Rattle.std.specs.Option.{option_map, option_and_then}
 use Rattle.std.proofs.lemmas.List.Elements.{All-head}
 use Rattle.std.proofs.lemmas.Option.{none-some, same_Some, slice_get-get_or}
-use Rattle.wasm_spec.specs.Syntax.{AbstractHeap, Heap, abstract_heap, concrete, exact, Val, i32, i64, f32, f64, v128, reference, Sub, map_heap, map_val, map_sub}
-use Rattle.wasm_spec.specs.References.{refs_heap, refs_val}
-use Rattle.wasm_spec.specs.Trees.{DefType, declared}
-use Rattle.wasm_spec.specs.Declared.{supertype, supertype_of, ancestor_at, IsAncestor}
-use Rattle.wasm_spec.specs.Matching.{kind_of, bottom_of, MatchesAbstract, MatchesKind, IsAboveBottom, MatchesHeap, MatchesVal}
-use Rattle.wasm_spec.specs.TypeLaws.{HasNoRepetition}
-use Rattle.wasm_readers_types.specs.declared.types.SubType.{SubType}
+use Rattle.wasm_readers_errors.specs.WasmSpec.Syntax.{AbstractHeap, Heap, abstract_heap, concrete, exact, Val, i32, i64, f32, f64, v128, reference, Sub, map_heap, map_val, map_sub}
+use Rattle.wasm_readers_errors.specs.WasmSpec.References.{refs_heap, refs_val}
+use Rattle.wasm_readers_errors.specs.WasmSpec.Trees.{DefType, declared}
+use Rattle.wasm_readers_errors.specs.WasmSpec.Declared.{supertype, supertype_of, ancestor_at, IsAncestor}
+use Rattle.wasm_readers_errors.specs.WasmSpec.Matching.{kind_of, bottom_of, MatchesAbstract, MatchesKind, IsAboveBottom, MatchesHeap, MatchesVal}
+use Rattle.wasm_readers_errors.specs.WasmSpec.TypeLaws.{HasNoRepetition}
+use Rattle.wasm_readers_errors.specs.WasmReadersTypes.declared.types.SubType.{SubType}
 use Rattle.wasm_validator_type_list.specs.Listable.{AreListable}
 use Rattle.wasm_validator_type_list.specs.DefTypes.{def_types}
 use Rattle.wasm_validator_type_list.specs.Declares.{declares}

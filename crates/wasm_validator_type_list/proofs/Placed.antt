@@ -2,20 +2,20 @@
 -- aren't, since each recursive type has its place.
 use Rattle.std.proofs.Common.{◌≡◌, refl, sym, subst, ◌∙◌, ℕ, ◌+◌, Bool, true, false, List, [], ◌∷◌, map, length, slice_get, Some, arith}
 use Rattle.std.proofs.lemmas.Option.{none-some, same_Some}
-use Rattle.wasm_spec.specs.Syntax.{Sub, map_sub}
-use Rattle.wasm_spec.specs.Trees.{DefType, start_of}
-use Rattle.wasm_spec.specs.Closing.{positions}
-use Rattle.wasm_spec.specs.TypeLists.{ListedUse, resolve_listed, listed_tree, with_listed, with_all_listed}
-use Rattle.wasm_spec.specs.TypeLaws.{HasNoRepetition}
-use Rattle.wasm_spec.proofs.Numbering.{start_of-close}
-use Rattle.wasm_readers_types.specs.declared.types.SubType.{SubType}
+use Rattle.wasm_readers_errors.specs.WasmSpec.Syntax.{Sub, map_sub}
+use Rattle.wasm_readers_errors.specs.WasmSpec.Trees.{DefType, start_of}
+use Rattle.wasm_readers_errors.specs.WasmSpec.Closing.{positions}
+use Rattle.wasm_readers_errors.specs.WasmSpec.TypeLists.{ListedUse, resolve_listed, listed_tree, with_listed, with_all_listed}
+use Rattle.wasm_readers_errors.specs.WasmSpec.TypeLaws.{HasNoRepetition}
+use Rattle.wasm_readers_errors.proofs.WasmSpec.Numbering.{start_of-close}
+use Rattle.wasm_readers_errors.specs.WasmReadersTypes.declared.types.SubType.{SubType}
 use Rattle.wasm_validator_type_list.specs.declared.type_list.TypeList.TheInside.{Inside}
 use Rattle.wasm_validator_type_list.specs.Listing.{Listing}
 use Rattle.wasm_validator_type_list.specs.DefTypes.{listed_group, def_types}
 use Rattle.wasm_validator_type_list.specs.Interned.{AreOnce}
 use Rattle.wasm_validator_type_list.specs.Laws.{TypesHaveTheirPlaces}
 use Rattle.wasm_validator_type_list.specs.Sound.{shown, IsSound}
-use Rattle.wasm_validator_type_groups.proofs.Places.{get-append}
+use Rattle.wasm_validator_type_ancestors.proofs.WasmValidatorTypeGroups.Places.{get-append}
 use Rattle.wasm_validator_type_list.proofs.DefTypes.{from-positions}
 
 -- the type's place is where its recursive type begins, and its position behind

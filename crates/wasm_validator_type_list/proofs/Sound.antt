@@ -7,31 +7,31 @@ use Rattle.std.specs.Map.{lookup}
 use Rattle.std.specs.List.{slice_index_or}
 use Rattle.std.specs.Option.{option_map}
 use Rattle.std.specs.declared.ops.Range.{Range}
-use Rattle.wasm_readers_types.specs.SeenValues.{index_of}
-use Rattle.wasm_readers_types.specs.Indices.{module_of}
-use Rattle.wasm_readers_types.specs.declared.indices.CoreTypeId.{CoreTypeId}
-use Rattle.wasm_readers_types.specs.declared.indices.PackedIndex.{PackedIndex}
-use Rattle.wasm_readers_types.specs.declared.indices.UnpackedIndex.{UnpackedIndex}
-use Rattle.wasm_validator_type_groups.specs.Spans.{span}
+use Rattle.wasm_readers_errors.specs.WasmReadersTypes.SeenValues.{index_of}
+use Rattle.wasm_readers_errors.specs.WasmReadersTypes.Indices.{module_of}
+use Rattle.wasm_readers_errors.specs.WasmReadersTypes.declared.indices.CoreTypeId.{CoreTypeId}
+use Rattle.wasm_readers_errors.specs.WasmReadersTypes.declared.indices.PackedIndex.{PackedIndex}
+use Rattle.wasm_readers_errors.specs.WasmReadersTypes.declared.indices.UnpackedIndex.{UnpackedIndex}
+use Rattle.wasm_validator_type_ancestors.specs.WasmValidatorTypeGroups.Spans.{span}
 use Rattle.wasm_validator_type_list.specs.Lookups.{leads_to, IsSupertypeAt}
 use Rattle.wasm_validator_type_list.proofs.DefTypes.{first_of-within}
 use Rattle.wasm_validator_type_list.proofs.Lookups.{supertype_listed}
 use Rattle.std.proofs.lemmas.Option.{none-some, MatchOption-at_some, MatchOption-at_none, slice_get-get_or}
-use Rattle.wasm_readers_types.specs.declared.indices.TheConstants.{MAX_IDS}
-use Rattle.wasm_readers_types.specs.declared.types.SubType.{SubType}
+use Rattle.wasm_readers_errors.specs.WasmReadersTypes.declared.indices.TheConstants.{MAX_IDS}
+use Rattle.wasm_readers_errors.specs.WasmReadersTypes.declared.types.SubType.{SubType}
 use Rattle.wasm_validator_type_list.specs.declared.type_list.TypeList.TheInside.{Inside}
-use Rattle.wasm_validator_type_groups.specs.Groups.{all_in, first_of, IsInGroup}
+use Rattle.wasm_validator_type_ancestors.specs.WasmValidatorTypeGroups.Groups.{all_in, first_of, IsInGroup}
 use Rattle.wasm_validator_type_list.specs.Listing.{Listing, no_groups, types_in, committed, with_depths}
 use Rattle.wasm_validator_type_list.specs.Listable.{IsListable}
-use Rattle.wasm_validator_type_groups.specs.Places.{IsNew, IsPlaceOf}
+use Rattle.wasm_validator_type_ancestors.specs.WasmValidatorTypeGroups.Places.{IsNew, IsPlaceOf}
 use Rattle.wasm_validator_type_ancestors.specs.Supers.{extended_in}
 use Rattle.wasm_validator_type_list.proofs.Ancestors.{supers-push}
 use Rattle.wasm_validator_type_list.specs.Interned.{Interns, InternsTypes}
-use Rattle.wasm_spec.specs.Declared.{IsDepth}
+use Rattle.wasm_readers_errors.specs.WasmSpec.Declared.{IsDepth}
 use Rattle.wasm_validator_type_list.specs.Declares.{declares}
 use Rattle.wasm_validator_type_list.specs.Depths.{depth_of, in_order, with_depth, HasDepth, AreDepths}
 use Rattle.wasm_validator_type_list.specs.Sound.{shown, supers_in, count_of_empty, IsSound}
-use Rattle.wasm_validator_type_groups.proofs.Flat.{all_in-push}
+use Rattle.wasm_validator_type_ancestors.proofs.WasmValidatorTypeGroups.Flat.{all_in-push}
 use Rattle.wasm_validator_type_list.proofs.Once.{once-push, listable-push, types-known, types-new}
 use Rattle.wasm_validator_type_list.proofs.Depths.{found-in_order, in_order-none, depths-push, depth-put}
 use Rattle.wasm_validator_type_list.proofs.Few.{few_groups, few-more, few-new}

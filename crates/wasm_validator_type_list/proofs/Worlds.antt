@@ -4,8 +4,8 @@ use Rattle.std.specs.Bool.{Decides}
 use Rattle.std.specs.Option.{option_and_then}
 use Rattle.std.proofs.lemmas.Bool.Decides.{Decides-eqb, Decides-or, Decides-like}
 use Rattle.std.proofs.lemmas.Option.{none-some, same_Some, option_and_then_some}
-use Rattle.wasm_spec.specs.Syntax.{Sub}
-use Rattle.wasm_spec.specs.Declared.{supertype_of, ancestor_at, IsAncestor}
+use Rattle.wasm_readers_errors.specs.WasmSpec.Syntax.{Sub}
+use Rattle.wasm_readers_errors.specs.WasmSpec.Declared.{supertype_of, ancestor_at, IsAncestor}
 use Rattle.wasm_validator_type_list.specs.Worlds.{is_within, IdsAreAWorld}
 use Rattle.wasm_validator_type_list.specs.Declares.{declares}
 use Rattle.wasm_validator_type_list.proofs.Declares.{descends}

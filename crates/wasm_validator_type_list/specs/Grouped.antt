@@ -2,19 +2,19 @@
 use Rattle.std.specs.Prelude.{ℕ, ◌≡◌, ◌+◌, ◌-◌, ◌<◌, List, map, length, Option}
 use Rattle.std.specs.declared.option.Option.TheVariants.{Some}
 use Rattle.std.specs.List.{All}
-use Rattle.wasm_spec.specs.Syntax.{Heap, Ref, Val, Storage, Field, Comp, Sub, map_heap, map_ref, map_val, map_storage, map_field, map_comp, map_sub}
-use Rattle.wasm_spec.specs.Matching.{MatchesRef, MatchesVal, MatchesStorage, MatchesField, MatchesFields, MatchesComp, MatchesSub}
-use Rattle.wasm_readers_types.specs.declared.indices.UnpackedIndex.{UnpackedIndex}
-use Rattle.wasm_readers_types.specs.declared.types.CompositeInnerType.{CompositeInnerType}
-use Rattle.wasm_readers_types.specs.declared.types.SubType.{SubType}
-use Rattle.wasm_readers_types.specs.declared.values.HeapType.{HeapType}
-use Rattle.wasm_readers_types.specs.declared.values.RefType.{RefType}
-use Rattle.wasm_readers_types.specs.declared.values.StorageType.{StorageType}
-use Rattle.wasm_readers_types.specs.declared.values.ValType.{ValType}
-use Rattle.wasm_readers_types.specs.declared.values.FieldType.{FieldType}
-use Rattle.wasm_readers_types.specs.SeenValues.{heap_of, ref_of, val_of, storage_of, field_of}
-use Rattle.wasm_readers_types.specs.SeenTypes.{comp_of, sub_of}
-use Rattle.wasm_validator_type_groups.specs.Groups.{first_of}
+use Rattle.wasm_readers_errors.specs.WasmSpec.Syntax.{Heap, Ref, Val, Storage, Field, Comp, Sub, map_heap, map_ref, map_val, map_storage, map_field, map_comp, map_sub}
+use Rattle.wasm_readers_errors.specs.WasmSpec.Matching.{MatchesRef, MatchesVal, MatchesStorage, MatchesField, MatchesFields, MatchesComp, MatchesSub}
+use Rattle.wasm_readers_errors.specs.WasmReadersTypes.declared.indices.UnpackedIndex.{UnpackedIndex}
+use Rattle.wasm_readers_errors.specs.WasmReadersTypes.declared.types.CompositeInnerType.{CompositeInnerType}
+use Rattle.wasm_readers_errors.specs.WasmReadersTypes.declared.types.SubType.{SubType}
+use Rattle.wasm_readers_errors.specs.WasmReadersTypes.declared.values.HeapType.{HeapType}
+use Rattle.wasm_readers_errors.specs.WasmReadersTypes.declared.values.RefType.{RefType}
+use Rattle.wasm_readers_errors.specs.WasmReadersTypes.declared.values.StorageType.{StorageType}
+use Rattle.wasm_readers_errors.specs.WasmReadersTypes.declared.values.ValType.{ValType}
+use Rattle.wasm_readers_errors.specs.WasmReadersTypes.declared.values.FieldType.{FieldType}
+use Rattle.wasm_readers_errors.specs.WasmReadersTypes.SeenValues.{heap_of, ref_of, val_of, storage_of, field_of}
+use Rattle.wasm_readers_errors.specs.WasmReadersTypes.SeenTypes.{comp_of, sub_of}
+use Rattle.wasm_validator_type_ancestors.specs.WasmValidatorTypeGroups.Groups.{first_of}
 use Rattle.wasm_validator_type_list.specs.Listable.{IsKnown}
 use Rattle.wasm_validator_type_list.specs.Lookups.{leads_to}
 use Rattle.wasm_validator_type_list.specs.Declares.{declares}

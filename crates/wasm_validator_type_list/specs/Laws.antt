@@ -2,13 +2,13 @@
 use Rattle.std.specs.Prelude.{ℕ, ◌≡◌, ◌<◌, ◌↔◌, Bool, false, List, length, get_or, slice_get, option_map}
 use Rattle.std.specs.List.{All}
 use Rattle.std.specs.declared.option.Option.TheVariants.{Some}
-use Rattle.wasm_spec.specs.Syntax.{Val, map_val, map_sub}
-use Rattle.wasm_spec.specs.References.{refs_val}
-use Rattle.wasm_spec.specs.Trees.{DefType, declared}
-use Rattle.wasm_spec.specs.Declared.{IsAncestor}
-use Rattle.wasm_spec.specs.Matching.{MatchesVal}
-use Rattle.wasm_spec.specs.TypeLaws.{HasNoRepetition}
-use Rattle.wasm_readers_types.specs.declared.types.SubType.{SubType}
+use Rattle.wasm_readers_errors.specs.WasmSpec.Syntax.{Val, map_val, map_sub}
+use Rattle.wasm_readers_errors.specs.WasmSpec.References.{refs_val}
+use Rattle.wasm_readers_errors.specs.WasmSpec.Trees.{DefType, declared}
+use Rattle.wasm_readers_errors.specs.WasmSpec.Declared.{IsAncestor}
+use Rattle.wasm_readers_errors.specs.WasmSpec.Matching.{MatchesVal}
+use Rattle.wasm_readers_errors.specs.WasmSpec.TypeLaws.{HasNoRepetition}
+use Rattle.wasm_readers_errors.specs.WasmReadersTypes.declared.types.SubType.{SubType}
 use Rattle.wasm_validator_type_list.specs.Listable.{AreListable}
 use Rattle.wasm_validator_type_list.specs.DefTypes.{def_types}
 use Rattle.wasm_validator_type_list.specs.Declares.{declares}

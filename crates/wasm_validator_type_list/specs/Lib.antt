@@ -1,3 +1,4 @@
+pub use Rattle.wasm_validator_type_ancestors.specs.WasmValidatorTypeGroups as WasmValidatorTypeGroups
 pub mod Listing
 pub mod Listable
 pub mod DefTypes

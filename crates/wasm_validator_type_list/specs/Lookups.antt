@@ -3,14 +3,14 @@ pub use Rattle.wasm_validator_type_ancestors.specs.Supers.{leads_to}
 use Rattle.std.specs.Prelude.{ℕ, ◌≡◌, ◌+◌, ◌<◌, ⊤, List, slice_get, Option, option_map}
 use Rattle.std.specs.declared.ops.Range.{Range}
 use Rattle.std.specs.declared.option.Option.TheVariants.{Some}
-use Rattle.wasm_readers_types.specs.SeenValues.{index_of}
-use Rattle.wasm_readers_types.specs.declared.indices.CoreTypeId.{CoreTypeId}
-use Rattle.wasm_readers_types.specs.declared.indices.PackedIndex.{PackedIndex}
-use Rattle.wasm_readers_types.specs.declared.indices.UnpackedIndex.{UnpackedIndex}
-use Rattle.wasm_readers_types.specs.declared.indices.UnpackedIndex.TheVariants.{Module, RecGroup, Id}
-use Rattle.wasm_readers_types.specs.declared.types.SubType.{SubType}
-use Rattle.wasm_validator_type_groups.specs.Groups.{all_in, first_of, IsInGroup}
-use Rattle.wasm_validator_type_groups.specs.Spans.{span}
+use Rattle.wasm_readers_errors.specs.WasmReadersTypes.SeenValues.{index_of}
+use Rattle.wasm_readers_errors.specs.WasmReadersTypes.declared.indices.CoreTypeId.{CoreTypeId}
+use Rattle.wasm_readers_errors.specs.WasmReadersTypes.declared.indices.PackedIndex.{PackedIndex}
+use Rattle.wasm_readers_errors.specs.WasmReadersTypes.declared.indices.UnpackedIndex.{UnpackedIndex}
+use Rattle.wasm_readers_errors.specs.WasmReadersTypes.declared.indices.UnpackedIndex.TheVariants.{Module, RecGroup, Id}
+use Rattle.wasm_readers_errors.specs.WasmReadersTypes.declared.types.SubType.{SubType}
+use Rattle.wasm_validator_type_ancestors.specs.WasmValidatorTypeGroups.Groups.{all_in, first_of, IsInGroup}
+use Rattle.wasm_validator_type_ancestors.specs.WasmValidatorTypeGroups.Spans.{span}
 
 -- the reference leads to an id, where the group's ids have the numbers from start to below end
 abbrev pub Leads : ℕ → ℕ → UnpackedIndex → Type 0

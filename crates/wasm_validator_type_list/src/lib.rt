@@ -18,4 +18,6 @@ pub use type_alloc::TypeAlloc;
 pub use type_info::{TypeData, TypeIdentifier, TypeInfo};
 pub use type_list::TypeList;
 pub use wasm_validator_type_ancestors::LinkCount;
-pub use wasm_validator_type_groups::{RecGroupElements, RecGroupId, SnapshotList};
+pub use wasm_validator_type_ancestors::validator_type_groups::{
+    RecGroupElements, RecGroupId, SnapshotList,
+};

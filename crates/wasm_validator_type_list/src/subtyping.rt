@@ -1,14 +1,16 @@
 ghost use Rattle.std.specs.Prelude.{◌≡◌};
 ghost use Rattle.std.specs.Bool.{Decides};
-ghost use Rattle.wasm_spec.specs.Matching.{kind_of, bottom_of, top_of};
-ghost use Rattle.wasm_spec.specs.MatchingTests.{matches_abstract};
-ghost use Rattle.wasm_readers_types.specs.Indices.{IsId};
-ghost use Rattle.wasm_readers_types.specs.SeenTypes.{comp_of};
-ghost use Rattle.wasm_readers_types.specs.SeenValues.{abstract_heap_of};
-ghost use Rattle.wasm_readers_types.specs.declared.indices.UnpackedIndex.TheVariants.{Id};
+ghost use Rattle.wasm_readers_errors.specs.WasmSpec.Matching.{kind_of, bottom_of, top_of};
+ghost use Rattle.wasm_readers_errors.specs.WasmSpec.MatchingTests.{matches_abstract};
+ghost use Rattle.wasm_readers_errors.specs.WasmReadersTypes.Indices.{IsId};
+ghost use Rattle.wasm_readers_errors.specs.WasmReadersTypes.SeenTypes.{comp_of};
+ghost use Rattle.wasm_readers_errors.specs.WasmReadersTypes.SeenValues.{abstract_heap_of};
+ghost use Rattle.wasm_readers_errors.specs.WasmReadersTypes.declared.indices.UnpackedIndex.TheVariants.{Id};
 
 use std::alloc::Allocator;
-use wasm_readers_types::{AbstractHeapType, CompositeInnerType, CoreTypeId, UnpackedIndex};
+use wasm_readers_errors::readers_types::{
+    AbstractHeapType, CompositeInnerType, CoreTypeId, UnpackedIndex,
+};
 
 /// Whether the first abstract heap type is the second, or is below it by rules one after another
 /// (Core Specification 3.0, Validation, Matching, Heap Types).

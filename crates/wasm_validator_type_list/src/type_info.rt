@@ -5,8 +5,8 @@ use crate::type_list::TypeList;
 use std::alloc::Allocator;
 use std::fmt::Debug;
 use std::ops::Range;
-use wasm_readers_types::{CompositeInnerType, CoreTypeId, SubType};
-use wasm_validator_type_groups::{RecGroupId, SnapshotList};
+use wasm_readers_errors::readers_types::{CompositeInnerType, CoreTypeId, SubType};
+use wasm_validator_type_ancestors::validator_type_groups::{RecGroupId, SnapshotList};
 
 /// What is known of a type before it is looked at: how large it is.
 #[derive(Clone, Copy, PartialEq, Eq, PartialOrd, Ord, Hash, Debug)]
@@ -147,7 +147,7 @@ impl<A: Allocator> TypeData<A> for Range<CoreTypeId> {
 impl<A: Allocator + Copy> TypeIdentifier<A> for RecGroupId {
     type Data = Range<CoreTypeId>;
 
-    ghost use Rattle.wasm_validator_type_groups.specs.Spans.{spans_of};
+    ghost use Rattle.wasm_validator_type_ancestors.specs.WasmValidatorTypeGroups.Spans.{spans_of};
 
     ghost number = { λ id. id.index };
 

@@ -1,11 +1,11 @@
 ghost use Rattle.std.specs.Prelude.{◌≡◌, ◌+◌, ◌<◌, ◌≤◌, true, length, slice_index_or, IfOk, IfErr, IfSome, IsOk, IsSome, IsTrue, ◌↔◌};
 ghost use Rattle.std.specs.declared.option.Option.TheVariants.{None};
-ghost use Rattle.wasm_readers_types.specs.SeenValues.{index_of};
-ghost use Rattle.wasm_readers_types.specs.Indices.{number_of, module_of};
-ghost use Rattle.wasm_readers_types.specs.declared.indices.TheConstants.{MAX_IDS};
-ghost use Rattle.wasm_validator_type_groups.specs.Groups.{first_of, IsInGroup};
-ghost use Rattle.wasm_validator_type_groups.specs.Spans.{spans_of};
-ghost use Rattle.wasm_validator_type_groups.specs.Elements.{ids_left, ids_of_group};
+ghost use Rattle.wasm_readers_errors.specs.WasmReadersTypes.SeenValues.{index_of};
+ghost use Rattle.wasm_readers_errors.specs.WasmReadersTypes.Indices.{number_of, module_of};
+ghost use Rattle.wasm_readers_errors.specs.WasmReadersTypes.declared.indices.TheConstants.{MAX_IDS};
+ghost use Rattle.wasm_validator_type_ancestors.specs.WasmValidatorTypeGroups.Groups.{first_of, IsInGroup};
+ghost use Rattle.wasm_validator_type_ancestors.specs.WasmValidatorTypeGroups.Spans.{spans_of};
+ghost use Rattle.wasm_validator_type_ancestors.specs.WasmValidatorTypeGroups.Elements.{ids_left, ids_of_group};
 ghost use Rattle.wasm_validator_type_list.specs.Refused.{not_in_group};
 ghost use Rattle.wasm_validator_type_list.specs.Lookups.{leads_to, Leads, group_span};
 
@@ -14,10 +14,12 @@ use std::collections::HashMap;
 use std::hash::{BuildHasherDefault, FoldHasher};
 use std::marker::Model;
 use std::ops::{Index, Range};
+use wasm_readers_errors::readers_types::{CoreTypeId, PackedIndex, SubType, UnpackedIndex};
 use wasm_readers_errors::{Fault, Refusal};
-use wasm_readers_types::{CoreTypeId, PackedIndex, SubType, UnpackedIndex};
 use wasm_validator_type_ancestors::AncestorLists;
-use wasm_validator_type_groups::{GroupTable, RecGroupElements, RecGroupId, SnapshotList};
+use wasm_validator_type_ancestors::validator_type_groups::{
+    GroupTable, RecGroupElements, RecGroupId, SnapshotList,
+};
 
 mod depths;
 mod interning;
@@ -74,7 +76,7 @@ impl<A: Allocator + Copy> TypeList<A> {
     ghost use Rattle.wasm_validator_type_list.specs.Listable.{AreListable};
     ghost use Rattle.wasm_validator_type_list.specs.Interned.{AreOnce};
     ghost use Rattle.wasm_validator_type_list.specs.DefTypes.{def_types};
-    ghost use Rattle.wasm_spec.specs.TypeLaws.{HasNoRepetition};
+    ghost use Rattle.wasm_readers_errors.specs.WasmSpec.TypeLaws.{HasNoRepetition};
     ghost use Rattle.wasm_validator_type_list.specs.Lookups.{IsSupertypeAt};
 
     /// The list of no groups, to which groups may be added. It takes no memory until then.
@@ -343,7 +345,7 @@ impl<A: Allocator + Copy> Index<RecGroupId> for TypeList<A> {
     type Output = Range<CoreTypeId>;
 
     ghost use Rattle.std.specs.Prelude.{◌≡◌, ◌<◌, ◌+◌, length};
-    ghost use Rattle.wasm_validator_type_groups.specs.Groups.{first_of};
+    ghost use Rattle.wasm_validator_type_ancestors.specs.WasmValidatorTypeGroups.Groups.{first_of};
     ghost use Rattle.wasm_validator_type_list.specs.Lookups.{group_span};
 
     ghost can_index = { λ list group. group.index < length list.groups };

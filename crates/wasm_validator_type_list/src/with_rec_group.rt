@@ -1,6 +1,6 @@
 ghost use Rattle.std.specs.Prelude.{◌≡◌};
 
-use wasm_validator_type_groups::RecGroupId;
+use wasm_validator_type_ancestors::validator_type_groups::RecGroupId;
 
 /// A part of a type, with the group that its references stand in.
 #[derive(Clone, Copy)]

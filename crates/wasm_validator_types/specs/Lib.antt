@@ -1,3 +1,4 @@
+pub use Rattle.wasm_validator_type_list.specs as WasmValidatorTypeList
 pub mod Entities
 pub mod Spaces
 pub mod SpacesSeen

@@ -1,7 +1,7 @@
 -- What the types of a validated module show.
 use Rattle.std.specs.Prelude.{ℕ, ◌<◌, List, length}
 use Rattle.std.specs.List.{All}
-use Rattle.wasm_spec.specs.Features.{Features}
+use Rattle.wasm_spec_rules.specs.WasmSpec.Features.{Features}
 use Rattle.wasm_spec_rules.specs.FeatureFlags.{features_of}
 use Rattle.wasm_validator_type_list.specs.Listing.{Listing, types_in}
 use Rattle.wasm_validator_types.specs.declared.shown.Types.{Types}

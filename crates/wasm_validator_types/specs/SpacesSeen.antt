@@ -5,9 +5,9 @@ use Rattle.std.specs.Map.{values_of}
 use Rattle.indexmap.specs.Layout.{set_value_at}
 use Rattle.std.specs.String.{string_bytes}
 use Rattle.std.specs.declared.string.String.{String}
-use Rattle.wasm_readers_types.specs.SeenExterns.{table_of, memory_of, global_of}
-use Rattle.wasm_readers_types.specs.SeenValues.{ref_of}
-use Rattle.wasm_readers_types.specs.declared.indices.CoreTypeId.{CoreTypeId}
+use Rattle.wasm_spec_rules.specs.WasmReadersTypes.SeenExterns.{table_of, memory_of, global_of}
+use Rattle.wasm_spec_rules.specs.WasmReadersTypes.SeenValues.{ref_of}
+use Rattle.wasm_spec_rules.specs.WasmReadersTypes.declared.indices.CoreTypeId.{CoreTypeId}
 use Rattle.wasm_validator_types.specs.declared.entity_type.EntityType.{EntityType}
 use Rattle.wasm_validator_types.specs.declared.index_spaces.IndexSpaces.TheInside.{Inside}
 use Rattle.wasm_validator_types.specs.Entities.{Entity, entity_of, IsAmong}

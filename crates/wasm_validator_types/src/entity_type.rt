@@ -1,4 +1,4 @@
-use wasm_readers_types::{CoreTypeId, GlobalType, MemoryType, TableType};
+use wasm_readers::readers_types::{CoreTypeId, GlobalType, MemoryType, TableType};
 
 /// The type of what a module imports or exports (Core Specification 3.0, Validation, Types,
 /// External Types). A reference in the type of a table or a global is the id of a type.

@@ -7,7 +7,7 @@ use crate::entity_type::EntityType;
 use crate::index_spaces::{ExportMap, ImportMap};
 use indexmap::map::Iter;
 use std::alloc::{Allocator, Global};
-use wasm_readers_types::Items;
+use wasm_readers::readers_types::Items;
 
 /// The imports of a module, each with its two names: pairs of names in the order in which they
 /// first came, and the imports of one pair together.

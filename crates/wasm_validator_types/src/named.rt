@@ -3,8 +3,8 @@
 
 ghost use Rattle.std.specs.Prelude.{◌≡◌, slice_get, IfSome};
 ghost use Rattle.std.specs.Option.{option_map};
-ghost use Rattle.wasm_spec.specs.Syntax.{func_extern, table_extern, memory_extern, global_extern};
-ghost use Rattle.wasm_readers_types.specs.SeenExterns.{extern_of};
+ghost use Rattle.wasm_spec_rules.specs.WasmSpec.Syntax.{func_extern, table_extern, memory_extern, global_extern};
+ghost use Rattle.wasm_spec_rules.specs.WasmReadersTypes.SeenExterns.{extern_of};
 ghost use Rattle.wasm_readers.specs.Items.{export_of};
 ghost use Rattle.wasm_validator_types.specs.Entities.{entity_of, IsAmong};
 ghost use Rattle.wasm_validator_types.specs.Named.{imported_entity, named_entity, named_function, named_tag};
@@ -13,7 +13,7 @@ use crate::entity_type::EntityType;
 use crate::index_spaces::IndexSpaces;
 use std::alloc::Allocator;
 use wasm_readers::Export;
-use wasm_readers_types::{CoreTypeId, ExternalKind, TypeRef};
+use wasm_readers::readers_types::{CoreTypeId, ExternalKind, TypeRef};
 
 /// The id of the type with this index, if there is one.
 fn type_id_at<A: Allocator + Copy>(spaces: &IndexSpaces<A>, index: u32) -> Option<CoreTypeId>

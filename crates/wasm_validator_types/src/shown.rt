@@ -1,10 +1,10 @@
 ghost use Rattle.std.specs.Prelude.{◌≡◌, ◌+◌, ◌<◌, length, slice_get, slice_index, slice_index_or, IfSome, IsSome, ◌↔◌};
 ghost use Rattle.std.specs.Option.{option_map};
 ghost use Rattle.std.specs.declared.option.Option.TheVariants.{Some};
-ghost use Rattle.wasm_readers_types.specs.SeenExterns.{extern_of, table_of, memory_of, global_of};
-ghost use Rattle.wasm_readers_types.specs.SeenValues.{ref_of};
-ghost use Rattle.wasm_validator_type_groups.specs.Groups.{IsInGroup};
-ghost use Rattle.wasm_validator_type_groups.specs.Elements.{ids_left, ids_of_group};
+ghost use Rattle.wasm_spec_rules.specs.WasmReadersTypes.SeenExterns.{extern_of, table_of, memory_of, global_of};
+ghost use Rattle.wasm_spec_rules.specs.WasmReadersTypes.SeenValues.{ref_of};
+ghost use Rattle.wasm_validator_type_list.specs.WasmValidatorTypeGroups.Groups.{IsInGroup};
+ghost use Rattle.wasm_validator_type_list.specs.WasmValidatorTypeGroups.Elements.{ids_left, ids_of_group};
 ghost use Rattle.wasm_validator_type_list.specs.Listing.{types_in};
 ghost use Rattle.wasm_validator_type_list.specs.Lookups.{IsSupertypeAt, group_span};
 ghost use Rattle.wasm_readers.specs.Items.{export_of};
@@ -24,9 +24,11 @@ use bitflags::Flags;
 use std::alloc::{Allocator, Global};
 use std::ops::{Index, Range};
 use std::rc::Rc;
+use wasm_readers::readers_errors::WasmFeatures;
+use wasm_readers::readers_types::{
+    CoreTypeId, GlobalType, MemoryType, RefType, SubType, TableType,
+};
 use wasm_readers::{Export, Import};
-use wasm_readers_errors::WasmFeatures;
-use wasm_readers_types::{CoreTypeId, GlobalType, MemoryType, RefType, SubType, TableType};
 use wasm_validator_type_list::{RecGroupElements, RecGroupId, TypeList};
 
 /// The types of a validated module, which outlive its validator.

@@ -2,14 +2,14 @@
 
 ghost use Rattle.std.specs.Prelude.{◌≡◌, ◌<◌, length, IfSome, IsSome, IsTrue, OnOk, OnErr};
 ghost use Rattle.std.specs.declared.option.Option.TheVariants.{None, Some};
-ghost use Rattle.wasm_spec.specs.Declared.{IsDepth};
+ghost use Rattle.wasm_readers_errors.specs.WasmSpec.Declared.{IsDepth};
 ghost use Rattle.wasm_validator_type_list.specs.Listing.{types_in, with_depths};
 ghost use Rattle.wasm_validator_type_list.specs.Declares.{declares};
 ghost use Rattle.wasm_validator_type_list.specs.Depths.{depth_of, with_depth, HasDepth};
 
 use crate::type_list::TypeList;
 use std::alloc::{AllocError, Allocator};
-use wasm_readers_types::CoreTypeId;
+use wasm_readers_errors::readers_types::CoreTypeId;
 
 impl<A: Allocator + Copy> TypeList<A> {
     /// Keeps the depth of a type of which none is kept: the number of its proper ancestors (Core

@@ -1,10 +1,10 @@
 ghost use Rattle.std.specs.Prelude.{◌≡◌, ◌+◌, ◌<◌, ◌≤◌, ◌^◌, ℕ, length};
 ghost use Rattle.std.specs.Bool.{Decides};
 ghost use Rattle.std.specs.declared.option.Option.TheVariants.{Some};
-ghost use Rattle.wasm_spec.specs.Syntax.{abstract_heap, concrete, exact};
-ghost use Rattle.wasm_spec.specs.Declared.{IsAncestor, IsDepth};
-ghost use Rattle.wasm_spec.specs.Matching.{MatchesKind, IsAboveBottom, MatchesHeap, MatchesRef, MatchesVal, top_of_heap, is_shared_type, is_shared_heap, is_shared_val};
-ghost use Rattle.wasm_readers_types.specs.SeenValues.{abstract_heap_of};
+ghost use Rattle.wasm_readers_errors.specs.WasmSpec.Syntax.{abstract_heap, concrete, exact};
+ghost use Rattle.wasm_readers_errors.specs.WasmSpec.Declared.{IsAncestor, IsDepth};
+ghost use Rattle.wasm_readers_errors.specs.WasmSpec.Matching.{MatchesKind, IsAboveBottom, MatchesHeap, MatchesRef, MatchesVal, top_of_heap, is_shared_type, is_shared_heap, is_shared_val};
+ghost use Rattle.wasm_readers_errors.specs.WasmReadersTypes.SeenValues.{abstract_heap_of};
 ghost use Rattle.wasm_validator_type_list.specs.Listing.{types_in};
 ghost use Rattle.wasm_validator_type_list.specs.Declares.{declares};
 ghost use Rattle.wasm_validator_type_list.specs.Reading.{Counts};
@@ -13,7 +13,9 @@ ghost use Rattle.wasm_validator_type_list.specs.Subtyping.{IsHeapOver, IsRefOver
 use crate::subtyping::{abstract_is_subtype, abstract_top, id_in, is_bottom, kind};
 use crate::type_list::TypeList;
 use std::alloc::Allocator;
-use wasm_readers_types::{AbstractHeapType, CoreTypeId, HeapType, RefType, ValType};
+use wasm_readers_errors::readers_types::{
+    AbstractHeapType, CoreTypeId, HeapType, RefType, ValType,
+};
 use wasm_validator_type_ancestors::LinkCount;
 
 impl<A: Allocator + Copy> TypeList<A> {

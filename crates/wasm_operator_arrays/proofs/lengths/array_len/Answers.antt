@@ -1,8 +1,8 @@
 use Rattle.std.proofs.Common.{sym, ◌∙◌, ap}
 use Rattle.wasm_spec.specs.Syntax.{array_heap}
-use Rattle.wasm_operator_steps.specs.Machine.{push_operand}
-use Rattle.wasm_validator_resources.specs.Answers.{world}
-use Rattle.wasm_operator_stacks.specs.Seen.{state_of, below}
+use Rattle.wasm_operator_checks.specs.WasmOperatorSteps.Machine.{push_operand}
+use Rattle.wasm_operator_checks.specs.WasmValidatorResources.Answers.{world}
+use Rattle.wasm_operator_checks.specs.WasmOperatorStacks.Seen.{state_of, below}
 use Rattle.wasm_operator_checks.proofs.Acting.{needed, has_held, took_ok}
 use Rattle.wasm_operator_arrays.specs.Lengths.{is_reference_below}
 use Rattle.wasm_operator_arrays.proofs.Measuring.{is_measured}

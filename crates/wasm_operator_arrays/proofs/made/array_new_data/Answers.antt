@@ -1,7 +1,7 @@
 use Rattle.std.proofs.Common.{sym, ◌∙◌, ap}
 use Rattle.wasm_spec.specs.Syntax.{Val}
 use Rattle.wasm_readers_types.specs.declared.indices.UnpackedIndex.{UnpackedIndex}
-use Rattle.wasm_operator_steps.specs.Machine.{same_number}
+use Rattle.wasm_operator_checks.specs.WasmOperatorSteps.Machine.{same_number}
 use Rattle.wasm_operator_checks.proofs.Acting.{needed, refused_here, refused_later, plainly}
 use Rattle.wasm_operator_checks.proofs.Typing.{two_i32s_typed, data_held}
 use Rattle.wasm_operator_checks.proofs.Naming.{new_typed, barred}

@@ -1,5 +1,5 @@
 use Rattle.std.proofs.Common.{sym, ◌∙◌, ap}
-use Rattle.wasm_operator_steps.specs.Meanings.{has_default}
+use Rattle.wasm_operator_checks.specs.WasmOperatorSteps.Meanings.{has_default}
 use Rattle.wasm_operator_checks.proofs.Acting.{needed, refused_here, plainly, refused_later}
 use Rattle.wasm_operator_checks.proofs.Typing.{i32_typed}
 use Rattle.wasm_operator_checks.proofs.Naming.{new_typed, barred}

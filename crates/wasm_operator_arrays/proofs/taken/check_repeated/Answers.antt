@@ -1,7 +1,7 @@
 use Rattle.std.proofs.Common.{rules, ap}
-use Rattle.wasm_operator_stacks.specs.SeenTypeWords.{val_in}
-use Rattle.wasm_validator_resources.specs.Answers.{world}
-use Rattle.wasm_operator_stacks.specs.Seen.{state_of, below}
+use Rattle.wasm_operator_checks.specs.WasmOperatorStacks.SeenTypeWords.{val_in}
+use Rattle.wasm_operator_checks.specs.WasmValidatorResources.Answers.{world}
+use Rattle.wasm_operator_checks.specs.WasmOperatorStacks.Seen.{state_of, below}
 use Rattle.wasm_operator_arrays.proofs.Repeating.{next_missing, all_popped}
 use Rattle.wasm_operator_arrays.proofs.taken.check_repeated.Goals as goal
 

@@ -1,9 +1,9 @@
 use Rattle.std.proofs.Common.{◌≡◌, ◌≤◌, Some, [], ◌∷◌, length}
-use Rattle.wasm_operator_stacks.specs.SeenTypeWords.{val_in}
-use Rattle.wasm_operator_steps.specs.Machine.{pop_vals}
-use Rattle.wasm_operator_steps.specs.Meanings.{copies}
-use Rattle.wasm_validator_resources.specs.Answers.{world}
-use Rattle.wasm_operator_stacks.specs.Seen.{state_of, below}
+use Rattle.wasm_operator_checks.specs.WasmOperatorStacks.SeenTypeWords.{val_in}
+use Rattle.wasm_operator_checks.specs.WasmOperatorSteps.Machine.{pop_vals}
+use Rattle.wasm_operator_checks.specs.WasmOperatorSteps.Meanings.{copies}
+use Rattle.wasm_operator_checks.specs.WasmValidatorResources.Answers.{world}
+use Rattle.wasm_operator_checks.specs.WasmOperatorStacks.Seen.{state_of, below}
 use Rattle.wasm_operator_arrays.proofs.taken.check_repeated.Given as goal
 
 abbrev pub invariant-repeating : goal.invariant-repeating

@@ -1,7 +1,7 @@
 use Rattle.std.proofs.Common.{refl}
-use Rattle.wasm_operator_stacks.specs.SeenTypeWords.{val_in}
-use Rattle.wasm_validator_resources.specs.Answers.{world}
-use Rattle.wasm_operator_stacks.specs.Seen.{state_of, below}
+use Rattle.wasm_operator_checks.specs.WasmOperatorStacks.SeenTypeWords.{val_in}
+use Rattle.wasm_operator_checks.specs.WasmValidatorResources.Answers.{world}
+use Rattle.wasm_operator_checks.specs.WasmOperatorStacks.Seen.{state_of, below}
 use Rattle.wasm_operator_checks.specs.Steps.{Took}
 use Rattle.wasm_operator_arrays.proofs.Many.{lowest_missing, four_taken}
 use Rattle.wasm_operator_arrays.proofs.taken.take_four.Goals as goal

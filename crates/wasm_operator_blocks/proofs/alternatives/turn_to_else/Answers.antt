@@ -1,5 +1,5 @@
 use Rattle.std.proofs.Common.{◌-◌, sym, ◌∙◌, ap}
-use Rattle.wasm_operator_stacks.specs.Seen.{state_of}
+use Rattle.wasm_operator_checks.specs.WasmOperatorStacks.Seen.{state_of}
 use Rattle.wasm_operator_checks.specs.SeenTypes.{types_seen}
 use Rattle.wasm_operator_checks.proofs.Acting.{took_ok}
 use Rattle.wasm_operator_blocks.proofs.Turned.{turn_is}

@@ -1,9 +1,9 @@
 use Rattle.std.proofs.Common.{refl, [], ◌∷◌, ◌++◌, sym, ◌∙◌, ap}
-use Rattle.wasm_operator_stacks.specs.SeenTypeWords.{val_in}
-use Rattle.wasm_operator_steps.specs.Machine.{push_operand, push_vals}
-use Rattle.wasm_operator_steps.proofs.TakenInTurn.{push_vals-append}
-use Rattle.wasm_validator_resources.specs.Answers.{world}
-use Rattle.wasm_operator_stacks.specs.Seen.{state_of, below}
+use Rattle.wasm_operator_checks.specs.WasmOperatorStacks.SeenTypeWords.{val_in}
+use Rattle.wasm_operator_checks.specs.WasmOperatorSteps.Machine.{push_operand, push_vals}
+use Rattle.wasm_operator_checks.proofs.WasmOperatorSteps.TakenInTurn.{push_vals-append}
+use Rattle.wasm_operator_checks.specs.WasmValidatorResources.Answers.{world}
+use Rattle.wasm_operator_checks.specs.WasmOperatorStacks.Seen.{state_of, below}
 use Rattle.wasm_operator_checks.specs.SeenTypes.{types_seen}
 use Rattle.wasm_operator_checks.proofs.Acting.{took_ok, took_refused}
 use Rattle.wasm_operator_checks.proofs.Taking.{rest_missing, all_exchanged}

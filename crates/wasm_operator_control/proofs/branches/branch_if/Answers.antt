@@ -1,5 +1,5 @@
-use Rattle.wasm_operator_checks.proofs.Acting.{plainly}
-use Rattle.wasm_operator_checks.proofs.Typing.{both_typed, i32_typed}
+use Rattle.wasm_operator_numbers.proofs.WasmOperatorChecks.Acting.{plainly}
+use Rattle.wasm_operator_numbers.proofs.WasmOperatorChecks.Typing.{both_typed, i32_typed}
 use Rattle.wasm_operator_control.proofs.branches.branch_if.Goals as goal
 
 pub returns-in-Some-clause-took : goal.returns-in-Some-clause-took

@@ -1,5 +1,5 @@
-use Rattle.wasm_operator_checks.proofs.Acting.{plainly}
-use Rattle.wasm_operator_checks.proofs.Typing.{nothing_typed}
+use Rattle.wasm_operator_numbers.proofs.WasmOperatorChecks.Acting.{plainly}
+use Rattle.wasm_operator_numbers.proofs.WasmOperatorChecks.Typing.{nothing_typed}
 use Rattle.wasm_operator_control.proofs.branches.do_nothing.Goals as goal
 
 pub returns-clause-took : goal.returns-clause-took

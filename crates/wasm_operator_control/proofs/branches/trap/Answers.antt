@@ -1,5 +1,5 @@
-use Rattle.wasm_operator_checks.proofs.Acting.{halting}
-use Rattle.wasm_operator_checks.proofs.Typing.{nothing_typed}
+use Rattle.wasm_operator_numbers.proofs.WasmOperatorChecks.Acting.{halting}
+use Rattle.wasm_operator_numbers.proofs.WasmOperatorChecks.Typing.{nothing_typed}
 use Rattle.wasm_operator_control.proofs.branches.trap.Goals as goal
 
 pub returns-clause-took : goal.returns-clause-took

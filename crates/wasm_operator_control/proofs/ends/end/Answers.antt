@@ -1,8 +1,8 @@
 use Rattle.std.proofs.Common.{◌-◌, sym, ◌∙◌, ap}
-use Rattle.wasm_operator_stacks.specs.Seen.{state_of}
-use Rattle.wasm_operator_stacks.specs.declared.stacks.Frame.{Frame}
-use Rattle.wasm_operator_checks.specs.SeenTypes.{types_seen}
-use Rattle.wasm_operator_checks.proofs.Acting.{took_ok}
+use Rattle.wasm_operator_numbers.specs.WasmOperatorStacks.Seen.{state_of}
+use Rattle.wasm_operator_numbers.specs.WasmOperatorStacks.declared.stacks.Frame.{Frame}
+use Rattle.wasm_operator_numbers.specs.WasmOperatorChecks.SeenTypes.{types_seen}
+use Rattle.wasm_operator_numbers.proofs.WasmOperatorChecks.Acting.{took_ok}
 use Rattle.wasm_operator_control.proofs.Ended.{end_is}
 use Rattle.wasm_operator_control.proofs.ends.end.Goals as goal
 

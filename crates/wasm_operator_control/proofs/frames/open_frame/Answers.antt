@@ -1,8 +1,8 @@
 use Rattle.wasm_validator_resources.specs.Answers.{world}
-use Rattle.wasm_operator_stacks.specs.Seen.{state_of}
-use Rattle.wasm_operator_stacks.specs.SeenBlocks.{block_in, kind_of}
-use Rattle.wasm_operator_checks.specs.SeenTypes.{types_seen}
-use Rattle.wasm_operator_checks.proofs.Acting.{took_ok}
+use Rattle.wasm_operator_numbers.specs.WasmOperatorStacks.Seen.{state_of}
+use Rattle.wasm_operator_numbers.specs.WasmOperatorStacks.SeenBlocks.{block_in, kind_of}
+use Rattle.wasm_operator_numbers.specs.WasmOperatorChecks.SeenTypes.{types_seen}
+use Rattle.wasm_operator_numbers.proofs.WasmOperatorChecks.Acting.{took_ok}
 use Rattle.wasm_operator_control.proofs.Opened.{is_entered}
 use Rattle.wasm_operator_control.proofs.frames.open_frame.Goals as goal
 

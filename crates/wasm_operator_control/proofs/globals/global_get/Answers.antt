@@ -1,6 +1,6 @@
 use Rattle.std.proofs.Common.{sym, ◌∙◌}
-use Rattle.wasm_operator_checks.proofs.Acting.{needed, plainly}
-use Rattle.wasm_operator_checks.proofs.Typing.{nothing_typed}
+use Rattle.wasm_operator_numbers.proofs.WasmOperatorChecks.Acting.{needed, plainly}
+use Rattle.wasm_operator_numbers.proofs.WasmOperatorChecks.Typing.{nothing_typed}
 use Rattle.wasm_operator_control.proofs.Globally.{global_typed, reached_held}
 use Rattle.wasm_operator_control.proofs.globals.global_get.Goals as goal
 

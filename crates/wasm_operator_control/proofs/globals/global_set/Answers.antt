@@ -1,6 +1,6 @@
 use Rattle.std.proofs.Common.{sym, ◌∙◌}
-use Rattle.wasm_operator_checks.proofs.Acting.{needed, plainly}
-use Rattle.wasm_operator_checks.proofs.Typing.{nothing_typed}
+use Rattle.wasm_operator_numbers.proofs.WasmOperatorChecks.Acting.{needed, plainly}
+use Rattle.wasm_operator_numbers.proofs.WasmOperatorChecks.Typing.{nothing_typed}
 use Rattle.wasm_operator_control.proofs.Globally.{global_typed, mutable_held, reached_held, unnot}
 use Rattle.wasm_operator_control.proofs.globals.global_set.Goals as goal
 

@@ -1,9 +1,9 @@
 use Rattle.std.proofs.Common.{refl}
-use Rattle.wasm_operator_stacks.specs.SeenTypeWords.{val_in}
+use Rattle.wasm_operator_numbers.specs.WasmOperatorStacks.SeenTypeWords.{val_in}
 use Rattle.wasm_validator_resources.specs.Answers.{world}
-use Rattle.wasm_operator_stacks.specs.Seen.{state_of, below}
-use Rattle.wasm_operator_checks.specs.Steps.{Took}
-use Rattle.wasm_operator_checks.specs.SeenTypes.{types_seen}
+use Rattle.wasm_operator_numbers.specs.WasmOperatorStacks.Seen.{state_of, below}
+use Rattle.wasm_operator_numbers.specs.WasmOperatorChecks.Steps.{Took}
+use Rattle.wasm_operator_numbers.specs.WasmOperatorChecks.SeenTypes.{types_seen}
 use Rattle.wasm_operator_control.proofs.Halted.{rest_missing, all_halted}
 use Rattle.wasm_operator_control.proofs.halts.halt_with.Goals as goal
 

@@ -1,4 +1,4 @@
-use Rattle.wasm_operator_checks.proofs.Acting.{took_ok}
+use Rattle.wasm_operator_numbers.proofs.WasmOperatorChecks.Acting.{took_ok}
 use Rattle.wasm_operator_control.proofs.Locally.{dropped}
 use Rattle.wasm_operator_control.proofs.locals.drop_any.Goals as goal
 

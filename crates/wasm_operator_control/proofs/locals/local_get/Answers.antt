@@ -1,6 +1,6 @@
 use Rattle.std.proofs.Common.{sym, ◌∙◌}
-use Rattle.wasm_operator_checks.proofs.Acting.{needed, plainly}
-use Rattle.wasm_operator_checks.proofs.Typing.{nothing_typed}
+use Rattle.wasm_operator_numbers.proofs.WasmOperatorChecks.Acting.{needed, plainly}
+use Rattle.wasm_operator_numbers.proofs.WasmOperatorChecks.Typing.{nothing_typed}
 use Rattle.wasm_operator_control.proofs.Locally.{local_typed, set_held}
 use Rattle.wasm_operator_control.proofs.locals.local_get.Goals as goal
 

@@ -1,6 +1,6 @@
 use Rattle.std.proofs.Common.{refl, ◌∙◌, ap}
-use Rattle.wasm_operator_stacks.specs.Seen.{below}
-use Rattle.wasm_operator_checks.proofs.Acting.{took_ok, took_refused}
+use Rattle.wasm_operator_numbers.specs.WasmOperatorStacks.Seen.{below}
+use Rattle.wasm_operator_numbers.proofs.WasmOperatorChecks.Acting.{took_ok, took_refused}
 use Rattle.wasm_operator_control.proofs.Locally.{not_put, put}
 use Rattle.wasm_operator_control.proofs.locals.local_set.Goals as goal
 

@@ -1,7 +1,7 @@
 use Rattle.std.proofs.Common.{refl, ◌∙◌, ap}
-use Rattle.wasm_operator_steps.specs.Machine.{push_operand}
-use Rattle.wasm_operator_stacks.specs.Seen.{state_of, below}
-use Rattle.wasm_operator_checks.proofs.Acting.{took_ok, took_refused}
+use Rattle.wasm_operator_numbers.specs.WasmOperatorSteps.Machine.{push_operand}
+use Rattle.wasm_operator_numbers.specs.WasmOperatorStacks.Seen.{state_of, below}
+use Rattle.wasm_operator_numbers.proofs.WasmOperatorChecks.Acting.{took_ok, took_refused}
 use Rattle.wasm_operator_control.proofs.Locally.{not_put, given_back}
 use Rattle.wasm_operator_control.proofs.locals.local_tee.Goals as goal
 

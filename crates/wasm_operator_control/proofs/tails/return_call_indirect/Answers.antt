@@ -1,7 +1,7 @@
 use Rattle.std.proofs.Common.{map, refl, sym, ◌∙◌, ap}
 use Rattle.wasm_readers_types.specs.SeenValues.{val_of}
-use Rattle.wasm_operator_checks.proofs.Acting.{needed, refused_here, refused_later, refused_takes, halting}
-use Rattle.wasm_operator_checks.proofs.Typing.{both_typed, first_untyped, second_untyped}
+use Rattle.wasm_operator_numbers.proofs.WasmOperatorChecks.Acting.{needed, refused_here, refused_later, refused_takes, halting}
+use Rattle.wasm_operator_numbers.proofs.WasmOperatorChecks.Typing.{both_typed, first_untyped, second_untyped}
 use Rattle.wasm_operator_numbers.proofs.Comparing.{match_held}
 use Rattle.wasm_operator_numbers.proofs.Tabled.{table_held, address_typed, element_typed, address_untyped, unreached}
 use Rattle.wasm_operator_control.proofs.Called.{type_held, type_params, type_results, type_unreached, functions_held}

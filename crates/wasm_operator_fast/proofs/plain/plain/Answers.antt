@@ -1,5 +1,5 @@
-use Rattle.wasm_validator_resources.specs.Answers.{world}
-use Rattle.wasm_operator_stacks.specs.Seen.{state_of, below}
+use Rattle.wasm_operator_checks.specs.WasmValidatorResources.Answers.{world}
+use Rattle.wasm_operator_checks.specs.WasmOperatorStacks.Seen.{state_of, below}
 use Rattle.wasm_operator_checks.specs.SeenTypes.{types_seen, takes_seen}
 use Rattle.wasm_operator_checks.proofs.Taking.{are_exchanged}
 use Rattle.wasm_operator_fast.specs.Fast.{Fast}

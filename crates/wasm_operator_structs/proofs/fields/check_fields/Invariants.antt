@@ -1,7 +1,7 @@
 use Rattle.std.proofs.Common.{◌≡◌, ◌-◌, ◌≤◌, Some, length, drop}
-use Rattle.wasm_operator_steps.specs.Machine.{pop_vals}
-use Rattle.wasm_validator_resources.specs.Answers.{world}
-use Rattle.wasm_operator_stacks.specs.Seen.{state_of, below}
+use Rattle.wasm_operator_checks.specs.WasmOperatorSteps.Machine.{pop_vals}
+use Rattle.wasm_operator_checks.specs.WasmValidatorResources.Answers.{world}
+use Rattle.wasm_operator_checks.specs.WasmOperatorStacks.Seen.{state_of, below}
 use Rattle.wasm_operator_structs.specs.Fields.{unpacked_types}
 use Rattle.wasm_operator_structs.proofs.fields.check_fields.Given as goal
 

@@ -1,8 +1,8 @@
 use Rattle.std.proofs.Common.{[], ◌∷◌, ◌∙◌, ap}
-use Rattle.wasm_operator_stacks.specs.SeenTypeWords.{val_in}
-use Rattle.wasm_operator_steps.specs.Machine.{push_operand}
-use Rattle.wasm_validator_resources.specs.Answers.{world}
-use Rattle.wasm_operator_stacks.specs.Seen.{state_of, below}
+use Rattle.wasm_operator_checks.specs.WasmOperatorStacks.SeenTypeWords.{val_in}
+use Rattle.wasm_operator_checks.specs.WasmOperatorSteps.Machine.{push_operand}
+use Rattle.wasm_operator_checks.specs.WasmValidatorResources.Answers.{world}
+use Rattle.wasm_operator_checks.specs.WasmOperatorStacks.Seen.{state_of, below}
 use Rattle.wasm_operator_checks.specs.Steps.{Took}
 use Rattle.wasm_operator_checks.proofs.Taking.{are_exchanged}
 use Rattle.wasm_operator_structs.specs.Fields.{unpacked_types}

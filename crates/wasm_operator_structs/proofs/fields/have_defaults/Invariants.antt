@@ -1,6 +1,6 @@
 use Rattle.std.proofs.Common.{◌≡◌, drop, map}
 use Rattle.wasm_readers_types.specs.SeenValues.{field_of}
-use Rattle.wasm_operator_steps.specs.Meanings.{all_have_defaults}
+use Rattle.wasm_operator_checks.specs.WasmOperatorSteps.Meanings.{all_have_defaults}
 use Rattle.wasm_operator_structs.proofs.fields.have_defaults.Given as goal
 
 abbrev pub invariant-defaulting : goal.invariant-defaulting

@@ -1,5 +1,5 @@
 use Rattle.std.proofs.Common.{◌∙◌, arith, rules}
-use Rattle.wasm_readers.specs.Reader.{rest}
+use Rattle.wasm_operators_plain.specs.WasmReaders.WasmReadersBytes.Reader.{rest}
 use Rattle.wasm_operators.proofs.Listing.{one_less}
 use Rattle.wasm_operators.proofs.lists.skip_many.Goals as goal
 

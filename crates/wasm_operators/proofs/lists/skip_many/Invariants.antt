@@ -1,6 +1,6 @@
 use Rattle.std.proofs.Common.{◌≡◌, ◌≤◌}
-use Rattle.wasm_readers.specs.Reader.{SameInput, position_in, rest}
-use Rattle.wasm_spec.specs.Values.{many_at}
+use Rattle.wasm_operators_plain.specs.WasmReaders.WasmReadersBytes.Reader.{SameInput, position_in, rest}
+use Rattle.wasm_operators_plain.specs.WasmSpec.Values.{many_at}
 use Rattle.wasm_operators.specs.SeenLists.{behind}
 use Rattle.wasm_operators.proofs.lists.skip_many.Given as goal
 

@@ -1,6 +1,6 @@
 use Rattle.std.proofs.Common.{◌≡◌, ◌∙◌, ap, sym, arith, rules, map, ◌-◌, None}
 use Rattle.std.proofs.lemmas.Grind.{common_steps}
-use Rattle.wasm_spec.specs.Values.{many_at}
+use Rattle.wasm_readers_bytes.specs.WasmSpec.Values.{many_at}
 use Rattle.wasm_readers_bytes.specs.Reader.{rest}
 use Rattle.wasm_readers.proofs.Loops.{with_front, one_more, none_more}
 use Rattle.wasm_readers.proofs.lists.read_many.Goals as goal

@@ -1,6 +1,6 @@
 use Rattle.std.proofs.Common.{◌≡◌, ◌≤◌, map}
 use Rattle.wasm_readers_bytes.specs.Reader.{SameInput, position_in, rest}
-use Rattle.wasm_spec.specs.Values.{many_at}
+use Rattle.wasm_readers_bytes.specs.WasmSpec.Values.{many_at}
 use Rattle.wasm_readers.proofs.Loops.{with_front}
 use Rattle.wasm_readers.proofs.lists.read_many.Given as goal
 

@@ -3,8 +3,8 @@ use Rattle.std.specs.declared.result.Result.{Result}
 use Rattle.std.specs.declared.result.Result.TheVariants.{Err}
 use Rattle.std.proofs.lemmas.Bool.{false≢true}
 use Rattle.std.proofs.lemmas.Option.{slice_get_read, slice_get_past}
-use Rattle.wasm_validator_types.specs.declared.shown.Types as shown
-use Rattle.wasm_validator_core.specs.declared.error.Error.{Error}
+use Rattle.wasm_validator.specs.WasmValidatorTypes.declared.shown.Types as shown
+use Rattle.wasm_validator.specs.WasmValidatorCore.declared.error.Error.{Error}
 use Rattle.wasm_validate_files.specs.Answers.{IsOkAt}
 use Rattle.wasm_validate_files.proofs.lines.print_line.Goals as goal
 

@@ -3,7 +3,7 @@ use Rattle.std.specs.List.{All}
 use Rattle.std.proofs.lemmas.List.{length-map}
 use Rattle.wasm_spec_rules.specs.FeatureFlags.{features_of}
 use Rattle.wasm_readers_types.specs.SeenTypes.{sub_of, rec_of}
-use Rattle.wasm_validator_type_groups.specs.Elements.{ids_left}
+use Rattle.wasm_validator_type_list.specs.WasmValidatorTypeGroups.Elements.{ids_left}
 use Rattle.wasm_validator_type_list.specs.DefTypes.{def_types}
 use Rattle.wasm_validator_canonical.specs.Indices.{numbers}
 use Rattle.wasm_validator_canonical.proofs.NewIds.{known_ids, as_many_new}

@@ -1,5 +1,5 @@
 use Rattle.std.proofs.Common.{sym, ap, subst, ◌∙◌, IsTrue}
-use Rattle.wasm_spec_rules.specs.FeatureFlags.{features_of}
+use Rattle.wasm_validator_resources.specs.WasmSpecRules.FeatureFlags.{features_of}
 use Rattle.wasm_readers_types.specs.SeenExterns.{table_of, global_of, extern_of}
 use Rattle.wasm_validator_checks.specs.ModuleTypes.{module_types}
 use Rattle.wasm_validator_checks.specs.Items.{is_ref_in_range, is_val_in_range, is_valid_extern}

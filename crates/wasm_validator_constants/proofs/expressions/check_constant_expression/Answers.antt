@@ -1,9 +1,9 @@
 use Rattle.std.proofs.Common.{◌≡◌, ◌≤◌, ◌<◌, subst, Some, None, false, length, arith, rules}
-use Rattle.wasm_readers_bytes.specs.Reader.{position_in, rest}
+use Rattle.wasm_readers.specs.WasmReadersBytes.Reader.{position_in, rest}
 use Rattle.wasm_operators.specs.Maps.{map_instruction}
 use Rattle.wasm_operators.specs.SeenOperators.{operator_of}
 use Rattle.wasm_operators.proofs.Skipping.{shorter}
-use Rattle.wasm_operator_steps.specs.Steps.{is_finished}
+use Rattle.wasm_operator_validator.specs.WasmOperatorSteps.Steps.{is_finished}
 use Rattle.wasm_validator_resources.specs.Answers.{world, written_index}
 use Rattle.wasm_operator_validator.specs.Typed.{typed_state}
 use Rattle.wasm_validator_constants.specs.Constants.{constant_step, constant_from}

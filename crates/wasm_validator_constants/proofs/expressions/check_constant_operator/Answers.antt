@@ -1,13 +1,13 @@
 use Rattle.std.proofs.Common.{◌≡◌, false, true}
-use Rattle.wasm_spec_rules.specs.FeatureFlags.{features_of}
+use Rattle.wasm_validator_resources.specs.WasmSpecRules.FeatureFlags.{features_of}
 use Rattle.wasm_operators.specs.Maps.{map_instruction}
 use Rattle.wasm_operators.specs.SeenOperators.{operator_of}
-use Rattle.wasm_operator_steps.specs.ConstantExpressions.{is_constant}
-use Rattle.wasm_operator_steps.specs.Steps.{step_in}
+use Rattle.wasm_operator_validator.specs.WasmOperatorSteps.ConstantExpressions.{is_constant}
+use Rattle.wasm_operator_validator.specs.WasmOperatorSteps.Steps.{step_in}
 use Rattle.wasm_validator_resources.specs.Answers.{world, written_index}
 use Rattle.wasm_operator_validator.specs.Typed.{typed_state}
 use Rattle.wasm_validator_constants.specs.Constants.{constant_step}
-use Rattle.wasm_operator_steps.specs.ConstantRules.{is_readable}
+use Rattle.wasm_operator_validator.specs.WasmOperatorSteps.ConstantRules.{is_readable}
 use Rattle.wasm_operator_validator.specs.Checked.{within}
 use Rattle.wasm_validator_constants.proofs.Stepping.{no_constant, no_global, goes, refused_at, taken, not_taken}
 use Rattle.wasm_validator_constants.proofs.expressions.check_constant_operator.Goals as goal

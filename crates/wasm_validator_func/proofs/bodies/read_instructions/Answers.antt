@@ -2,7 +2,7 @@ use Rattle.std.proofs.Common.{◌≡◌, ◌<◌, ◌∙◌, ◌||◌, ap, subst
 use Rattle.wasm_readers_bytes.specs.Reader.{position_in, rest}
 use Rattle.wasm_operators.proofs.Skipping.{shorter}
 use Rattle.wasm_operator_steps.specs.Steps.{is_finished}
-use Rattle.wasm_operator_fast.specs.Fused.{step_at}
+use Rattle.wasm_operator_validator.specs.WasmOperatorFast.Fused.{step_at}
 use Rattle.wasm_validator_resources.specs.Answers.{world}
 use Rattle.wasm_operator_validator.specs.Typed.{typed_state}
 use Rattle.wasm_operator_validator.specs.Checked.{within}

@@ -1,6 +1,6 @@
 use Rattle.std.proofs.Common.{◌≡◌, ◌≤◌}
 use Rattle.wasm_spec_rules.specs.FeatureFlags.{features_of}
-use Rattle.wasm_readers_bytes.specs.Reader.{SameInput, position_in, rest}
+use Rattle.wasm_readers.specs.WasmReadersBytes.Reader.{SameInput, position_in, rest}
 use Rattle.wasm_validator_core_resources.specs.IndexContexts.{id_of}
 use Rattle.wasm_validator_core_resources.specs.ListContexts.{list_declares}
 use Rattle.wasm_validator_items.specs.Machine.{data_step, items_from}

@@ -1,6 +1,6 @@
 use Rattle.std.proofs.Common.{sym, subst, ◌∙◌, arith}
 use Rattle.wasm_spec_rules.specs.FeatureFlags.{features_of}
-use Rattle.wasm_readers_bytes.specs.Reader.{rest}
+use Rattle.wasm_readers.specs.WasmReadersBytes.Reader.{rest}
 use Rattle.wasm_validator_core_resources.specs.IndexContexts.{id_of}
 use Rattle.wasm_validator_core_resources.specs.ListContexts.{list_declares}
 use Rattle.wasm_validator_core.specs.declared.error.Error.{Error}

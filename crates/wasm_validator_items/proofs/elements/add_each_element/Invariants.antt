@@ -1,6 +1,6 @@
 use Rattle.std.proofs.Common.{◌≡◌, ◌≤◌, ◌+◌, length}
 use Rattle.wasm_spec_rules.specs.FeatureFlags.{features_of}
-use Rattle.wasm_readers_bytes.specs.Reader.{SameInput, position_in, rest}
+use Rattle.wasm_readers.specs.WasmReadersBytes.Reader.{SameInput, position_in, rest}
 use Rattle.wasm_validator_core.specs.declared.limits.TheConstants.{MAX_ELEMENT_SEGMENTS}
 use Rattle.wasm_validator_core.specs.Ready.{AreHeld}
 use Rattle.wasm_validator_core_resources.specs.IndexContexts.{id_of}

@@ -1,7 +1,7 @@
 use Rattle.std.proofs.Common.{◌≡◌, ◌≤◌}
 use Rattle.wasm_spec_rules.specs.FeatureFlags.{features_of}
-use Rattle.wasm_readers_bytes.specs.Reader.{SameInput, position_in, rest}
-use Rattle.wasm_validator_type_list.specs.DefTypes.{types_of_list}
+use Rattle.wasm_readers.specs.WasmReadersBytes.Reader.{SameInput, position_in, rest}
+use Rattle.wasm_validator_types.specs.WasmValidatorTypeList.DefTypes.{types_of_list}
 use Rattle.wasm_validator_core.specs.Ready.{AreHeld}
 use Rattle.wasm_validator_core_resources.specs.IndexContexts.{id_of}
 use Rattle.wasm_validator_core_resources.specs.ListContexts.{list_declares}

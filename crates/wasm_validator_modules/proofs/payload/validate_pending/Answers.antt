@@ -1,5 +1,5 @@
 use Rattle.std.proofs.Common.{subst}
-use Rattle.wasm_validator_func.specs.Functions.{Decides}
+use Rattle.wasm_validator_sections.specs.WasmValidatorFunc.Functions.{Decides}
 use Rattle.wasm_validator_modules.specs.Payloads.{pending_seen, IsBodyOfIts}
 use Rattle.wasm_validator_modules.proofs.payload.validate_pending.Goals as goal
 

@@ -6,8 +6,8 @@ use Rattle.wasm_validator_core_resources.specs.ById.{AreFirstByIds}
 use Rattle.wasm_validator_core_resources.specs.ModuleContexts.{exact_flags, flagged_from}
 use Rattle.wasm_validator_core_resources.specs.ListContexts.{list_declares}
 use Rattle.wasm_validator_core_resources.specs.IndexContexts.{id_of}
-use Rattle.wasm_laws_contexts.specs.ListedTypes.{types_declare}
-use Rattle.wasm_laws_contexts.proofs.ListedTypes.{lists_declare_their_types}
+use Rattle.wasm_laws_modules.specs.WasmLawsContexts.ListedTypes.{types_declare}
+use Rattle.wasm_laws_modules.proofs.WasmLawsContexts.ListedTypes.{lists_declare_their_types}
 use Rattle.wasm_laws_modules.specs.BodyContexts.{code_context}
 use Rattle.wasm_validator_sections.proofs.code.started.Goals as goal
 

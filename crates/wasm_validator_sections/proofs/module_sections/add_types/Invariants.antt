@@ -3,7 +3,7 @@ use Rattle.wasm_spec.specs.BinaryTypes.{rec_at}
 use Rattle.wasm_readers.specs.Written.{written}
 use Rattle.wasm_readers.specs.SectionsSeen.{count_of, bytes_of, section_start, section_end, items_left, items_rest, next_item_at, items_end}
 use Rattle.wasm_spec_rules.specs.FeatureFlags.{features_of}
-use Rattle.wasm_validator_canonical.specs.Groups.{AreValid}
+use Rattle.wasm_validator_core.specs.WasmValidatorCanonical.Groups.{AreValid}
 use Rattle.wasm_validator_type_list.specs.DefTypes.{types_of_list}
 use Rattle.wasm_validator_core.specs.Machine.{add_group}
 use Rattle.wasm_validator_sections.specs.Sections.{read_each}

@@ -2,8 +2,8 @@ use Rattle.std.proofs.Common.{length}
 use Rattle.wasm_spec.specs.BinarySections.{table_entry_at}
 use Rattle.wasm_spec_rules.specs.Limits.{most_tables}
 use Rattle.wasm_readers.specs.Written.{written}
-use Rattle.wasm_spec_validity.specs.Expressions.{expression_at}
-use Rattle.wasm_laws_contexts.specs.ListedTypes.{types_declare}
+use Rattle.wasm_validator_references.specs.WasmSpecValidity.Expressions.{expression_at}
+use Rattle.wasm_laws_modules.specs.WasmLawsContexts.ListedTypes.{types_declare}
 use Rattle.wasm_validator_sections.specs.Entries.{add_table_entry}
 use Rattle.wasm_validator_references.specs.References.{table_names}
 use Rattle.wasm_readers.specs.SectionsSeen.{count_of, bytes_of}

@@ -1,5 +1,5 @@
 use Rattle.wasm_readers_types.specs.SeenValues.{val_of}
-use Rattle.wasm_readers_bytes.specs.Reader.{rest}
+use Rattle.wasm_readers.specs.WasmReadersBytes.Reader.{rest}
 use Rattle.wasm_validator_constants.specs.Typed.{typed_state}
 use Rattle.wasm_validator_segments.proofs.Typing.{goes_past, goes_nowhere}
 use Rattle.wasm_validator_segments.proofs.expressions.check_any_expression.Goals as goal

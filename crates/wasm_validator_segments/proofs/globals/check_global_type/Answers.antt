@@ -1,4 +1,4 @@
-use Rattle.wasm_readers_bytes.specs.Reader.{rest}
+use Rattle.wasm_readers.specs.WasmReadersBytes.Reader.{rest}
 use Rattle.wasm_readers_types.specs.SeenExterns.{global_of}
 use Rattle.wasm_validator_segments.proofs.Written.{global_written}
 use Rattle.wasm_validator_segments.proofs.globals.check_global_type.Goals as goal

@@ -1,5 +1,5 @@
 use Rattle.std.proofs.Common.{◌∙◌, arith, rules}
-use Rattle.wasm_readers_bytes.specs.Reader.{rest}
+use Rattle.wasm_readers.specs.WasmReadersBytes.Reader.{rest}
 use Rattle.wasm_validator_segments.specs.Elements.{behind_function}
 use Rattle.wasm_validator_segments.proofs.Loops.{one_less}
 use Rattle.wasm_validator_segments.proofs.lists.check_each_function.Goals as goal

@@ -1,5 +1,5 @@
 use Rattle.std.proofs.Common.{◌≡◌, ◌≤◌}
-use Rattle.wasm_readers_bytes.specs.Reader.{SameInput, position_in, rest}
+use Rattle.wasm_readers.specs.WasmReadersBytes.Reader.{SameInput, position_in, rest}
 use Rattle.wasm_validator_segments.specs.Elements.{behind_function}
 use Rattle.wasm_validator_segments.specs.Lists.{behind_many}
 use Rattle.wasm_validator_segments.proofs.lists.check_each_function.Given as goal

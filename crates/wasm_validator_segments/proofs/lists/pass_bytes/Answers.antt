@@ -1,5 +1,5 @@
 use Rattle.std.proofs.Common.{◌∙◌, sym, ap, subst, ℕ, List, Some}
-use Rattle.wasm_readers_bytes.specs.Reader.{rest}
+use Rattle.wasm_readers.specs.WasmReadersBytes.Reader.{rest}
 use Rattle.wasm_validator_segments.specs.Known.{AreFunctions}
 use Rattle.wasm_validator_segments.proofs.Known.{all_passed}
 use Rattle.wasm_validator_segments.proofs.lists.pass_bytes.Goals as goal

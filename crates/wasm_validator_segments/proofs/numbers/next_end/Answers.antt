@@ -1,4 +1,4 @@
-use Rattle.wasm_readers_bytes.specs.Reader.{rest}
+use Rattle.wasm_readers.specs.WasmReadersBytes.Reader.{rest}
 use Rattle.wasm_validator_segments.proofs.Anywhere.{ends}
 use Rattle.wasm_validator_segments.proofs.numbers.next_end.Goals as goal
 

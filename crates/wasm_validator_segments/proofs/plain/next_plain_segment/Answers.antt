@@ -1,5 +1,5 @@
 use Rattle.std.proofs.Common.{arith}
-use Rattle.wasm_readers_bytes.specs.Reader.{rest}
+use Rattle.wasm_readers.specs.WasmReadersBytes.Reader.{rest}
 use Rattle.wasm_validator_segments.proofs.PlainSegments.{plain}
 use Rattle.wasm_validator_segments.proofs.plain.next_plain_segment.Goals as goal
 

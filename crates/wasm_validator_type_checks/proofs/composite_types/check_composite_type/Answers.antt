@@ -1,7 +1,7 @@
 use Rattle.std.proofs.Common.{◌≡◌, sym, ap, ◌∙◌, is_ok, false, arith}
 use Rattle.std.proofs.lemmas.Bool.Decides.{Decides-like}
 use Rattle.std.proofs.lemmas.Grind.{common_steps}
-use Rattle.wasm_spec_rules.specs.FeatureFlags.{features_of}
+use Rattle.wasm_validator_resources.specs.WasmSpecRules.FeatureFlags.{features_of}
 use Rattle.wasm_readers_types.specs.SeenTypes.{comp_of}
 use Rattle.wasm_validator_type_list.specs.Declares.{declares}
 use Rattle.wasm_validator_type_list.specs.Grouped.{leads_in}
@@ -12,7 +12,7 @@ use Rattle.wasm_validator_type_checks.proofs.Allowed.{comp_allowed}
 use Rattle.wasm_validator_type_checks.proofs.Listed.{listed_comp}
 use Rattle.wasm_validator_type_checks.proofs.Rules.{declares_rule, rule_declared, composite_rules, composite_allowed, members_shared}
 use Rattle.wasm_validator_type_checks.proofs.Decided.{misses, decided_itself}
-use Rattle.wasm_readers_errors.specs.Refusals.{refused}
+use Rattle.wasm_validator_resources.specs.WasmReadersErrors.Refusals.{refused}
 use Rattle.wasm_validator_type_checks.proofs.Told.{stopped, went, or_stopped, or_went, declared_tells, comp_told}
 use Rattle.wasm_validator_type_checks.proofs.composite_types.check_composite_type.Goals as goal
 

@@ -1,6 +1,6 @@
 use Rattle.std.proofs.Common.{◌≡◌, ap, is_ok, arith}
 use Rattle.std.proofs.lemmas.Grind.{common_steps}
-use Rattle.wasm_readers_errors.specs.Refusals.{refused}
+use Rattle.wasm_validator_resources.specs.WasmReadersErrors.Refusals.{refused}
 use Rattle.wasm_validator_type_checks.proofs.Told.{tells, stopped, went}
 use Rattle.wasm_validator_type_checks.proofs.descriptors.check_extended_clauses.Goals as goal
 

@@ -1,6 +1,6 @@
 use Rattle.std.proofs.Common.{refl, is_ok, false}
 use Rattle.wasm_validator_type_checks.proofs.Decided.{misses, then_decides, is_decided}
-use Rattle.wasm_readers_errors.specs.Refusals.{refused}
+use Rattle.wasm_validator_resources.specs.WasmReadersErrors.Refusals.{refused}
 use Rattle.wasm_validator_type_checks.specs.Told.{holds, first, second}
 use Rattle.wasm_validator_type_checks.proofs.Told.{tells, refuses}
 use Rattle.wasm_validator_type_checks.proofs.subtypes.check_extended.Goals as goal

@@ -6,7 +6,7 @@ use Rattle.wasm_validator_type_checks.specs.Rules.{MayExtend}
 use Rattle.wasm_validator_type_checks.proofs.Decided.{on_none, on_some}
 use Rattle.wasm_validator_type_checks.specs.Told.{ToldOfExtended}
 use Rattle.wasm_validator_type_checks.proofs.Told.{of_some, of_none}
-use Rattle.wasm_readers_errors.specs.Refusals.{refused}
+use Rattle.wasm_validator_resources.specs.WasmReadersErrors.Refusals.{refused}
 use Rattle.wasm_validator_type_checks.proofs.subtypes.check_supertype.Goals as goal
 
 pub returns-in-Some-clause-decided : goal.returns-in-Some-clause-decided

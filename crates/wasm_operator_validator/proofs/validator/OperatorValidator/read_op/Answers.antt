@@ -1,4 +1,4 @@
-use Rattle.wasm_readers_bytes.specs.Reader.{rest}
+use Rattle.wasm_readers.specs.WasmReadersBytes.Reader.{rest}
 use Rattle.wasm_operators.specs.SeenOperators.{operator_of}
 use Rattle.wasm_operator_validator.specs.Typed.{typed_state}
 use Rattle.wasm_operator_validator.proofs.Written.{is_written}

@@ -1,5 +1,5 @@
 use Rattle.std.proofs.Common.{ap, length, arith, length-append}
-use Rattle.wasm_validator_type_groups.specs.Elements.{ids_left}
+use Rattle.wasm_validator_type_list.specs.WasmValidatorTypeGroups.Elements.{ids_left}
 use Rattle.wasm_validator_canonical.proofs.modules.InternRecGroup.add_type_ids.Goals as goal
 
 pub add_type_id-requires : goal.add_type_id-requires

@@ -1,5 +1,5 @@
 use Rattle.std.proofs.Common.{◌≡◌, ◌++◌, length}
-use Rattle.wasm_validator_type_groups.specs.Elements.{ids_left}
+use Rattle.wasm_validator_type_list.specs.WasmValidatorTypeGroups.Elements.{ids_left}
 use Rattle.wasm_validator_canonical.proofs.modules.InternRecGroup.add_type_ids.Given as goal
 
 abbrev pub invariant-ids : goal.invariant-ids

@@ -2,8 +2,8 @@ use Rattle.std.proofs.Common.{sym, subst, ◌∙◌, ◌+◌, leb, length}
 use Rattle.std.proofs.lemmas.Bool.{leb-true, leb-false}
 use Rattle.std.proofs.lemmas.List.{length-map}
 use Rattle.wasm_readers_types.specs.SeenTypes.{sub_of, rec_of}
-use Rattle.wasm_validator_type_list.specs.DefTypes.{types_of_list}
-use Rattle.wasm_validator_types.specs.Spaces.{Spaces}
+use Rattle.wasm_validator_checks.specs.WasmValidatorTypeList.DefTypes.{types_of_list}
+use Rattle.wasm_validator_checks.specs.WasmValidatorTypes.Spaces.{Spaces}
 use Rattle.wasm_validator_core.specs.declared.limits.TheConstants.{MAX_TYPES}
 use Rattle.wasm_validator_core.specs.Errors.{IsAt, IfContent}
 use Rattle.wasm_validator_core.specs.Answers.{TypesSoFar, AddsWhere, HasValidTypes}

@@ -5,7 +5,7 @@ use Rattle.wasm_validator_type_list.specs.Interned.{AreOnce}
 use Rattle.wasm_validator_canonical.specs.Groups.{AreValid}
 use Rattle.wasm_validator_type_list.specs.DefTypes.{types_of_list}
 use Rattle.wasm_validator_types.specs.Shown.{shown_of}
-use Rattle.wasm_validator_core.specs.Ready.{IsOpenFor}
+use Rattle.wasm_validator_sections.specs.WasmValidatorCore.Ready.{IsOpenFor}
 use Rattle.wasm_validator_core_resources.specs.ById.{AreFirstByIds}
 use Rattle.wasm_validator_modules.specs.Standing.{Standing}
 use Rattle.wasm_validator_modules.specs.States.{ended_spaces}

@@ -5,9 +5,9 @@ use Rattle.std.proofs.Common.{rules}
 use Rattle.wasm_readers_errors.specs.declared.features.WasmFeatures.{WasmFeatures}
 use Rattle.wasm_validator_type_list.specs.DefTypes.{types_of_list}
 use Rattle.wasm_validator_types.specs.Spaces.{Spaces}
-use Rattle.wasm_validator_core.specs.declared.error.Error.{Error}
-use Rattle.wasm_validator_core.specs.Answers.{TypesSoFar}
-use Rattle.wasm_validator_core.specs.Told.{told_of_start}
+use Rattle.wasm_validator_sections.specs.WasmValidatorCore.declared.error.Error.{Error}
+use Rattle.wasm_validator_sections.specs.WasmValidatorCore.Answers.{TypesSoFar}
+use Rattle.wasm_validator_sections.specs.WasmValidatorCore.Told.{told_of_start}
 use Rattle.wasm_validator_modules.specs.OrderTold.{TellsStart}
 use Rattle.wasm_validator_modules.proofs.ToldMoves.{all_told_within, checked_told}
 use Rattle.wasm_validator_modules.proofs.validator.Validator.start_section.Goals as goal

@@ -6,13 +6,13 @@ use Rattle.wasm_readers_errors.specs.declared.features.WasmFeatures.{WasmFeature
 use Rattle.wasm_spec_rules.specs.FeatureFlags.{features_of}
 use Rattle.wasm_validator_type_list.specs.DefTypes.{types_of_list}
 use Rattle.wasm_validator_types.specs.Spaces.{Spaces}
-use Rattle.wasm_validator_core.specs.declared.error.Error.{Error}
-use Rattle.wasm_validator_core.specs.Answers.{TypesSoFar, HasValidTypes}
-use Rattle.wasm_validator_core.specs.Ready.{AreIdsOf}
+use Rattle.wasm_validator_sections.specs.WasmValidatorCore.declared.error.Error.{Error}
+use Rattle.wasm_validator_sections.specs.WasmValidatorCore.Answers.{TypesSoFar, HasValidTypes}
+use Rattle.wasm_validator_sections.specs.WasmValidatorCore.Ready.{AreIdsOf}
 use Rattle.wasm_validator_sections.specs.Machine.{other_items, section_items}
 use Rattle.wasm_validator_modules.specs.Ready.{AreIdsIn, AreValidIn, AreFirstIn}
 use Rattle.wasm_validator_sections.specs.SectionsTold.{TellsTables}
-use Rattle.wasm_validator_references.specs.References.{section_names}
+use Rattle.wasm_validator_sections.specs.WasmValidatorReferences.References.{section_names}
 use Rattle.wasm_validator_sections.specs.Noted.{naming}
 use Rattle.wasm_validator_modules.specs.Standing.{Standing, Moves}
 use Rattle.wasm_validator_modules.specs.States.{stage_of, after_section, order_at}

@@ -7,19 +7,19 @@ use Rattle.wasm_readers_errors.specs.declared.error.Rule.TheVariants.{Exceptions
 use Rattle.wasm_readers_errors.specs.declared.features.WasmFeatures.{WasmFeatures}
 use Rattle.wasm_readers_errors.specs.declared.features.TheConstants.WasmFeatures.{EXCEPTIONS}
 use Rattle.wasm_validator_types.specs.Spaces.{Spaces}
-use Rattle.wasm_validator_core.specs.declared.error.Error.{Error}
-use Rattle.wasm_validator_core.specs.declared.error.Error.TheVariants.{Refused}
-use Rattle.wasm_validator_core.specs.Answers.{TypesSoFar, HasValidTypes}
+use Rattle.wasm_validator_sections.specs.WasmValidatorCore.declared.error.Error.{Error}
+use Rattle.wasm_validator_sections.specs.WasmValidatorCore.declared.error.Error.TheVariants.{Refused}
+use Rattle.wasm_validator_sections.specs.WasmValidatorCore.Answers.{TypesSoFar, HasValidTypes}
 use Rattle.wasm_validator_modules.specs.States.{order_at, stage_of, after_section}
 use Rattle.wasm_validator_modules.specs.OrderTold.{TellsWithin}
 use Rattle.wasm_validator_sections.specs.SectionsTold.{OfContent, Either, TellsTags}
 use Rattle.wasm_validator_modules.proofs.ToldMoves.{told_within, order_within}
 use Rattle.wasm_validator_type_list.specs.DefTypes.{types_of_list}
-use Rattle.wasm_validator_core.specs.Ready.{AreIdsOf}
+use Rattle.wasm_validator_sections.specs.WasmValidatorCore.Ready.{AreIdsOf}
 use Rattle.wasm_spec_rules.specs.FeatureFlags.{features_of}
 use Rattle.wasm_validator_sections.specs.Machine.{other_items, section_items}
 use Rattle.wasm_validator_modules.specs.Ready.{AreIdsIn, AreValidIn, AreFirstIn}
-use Rattle.wasm_validator_references.specs.References.{section_names}
+use Rattle.wasm_validator_sections.specs.WasmValidatorReferences.References.{section_names}
 use Rattle.wasm_validator_sections.specs.Noted.{naming}
 use Rattle.wasm_validator_modules.specs.Standing.{Standing, Leaves, Moves}
 use Rattle.wasm_validator_modules.proofs.SectionMoves.{adds_beside, section_moves, tags_refused, nothing_more}

@@ -5,8 +5,8 @@ use Rattle.wasm_readers_bytes.specs.Reader.{rest}
 use Rattle.wasm_readers.specs.Written.{written}
 use Rattle.wasm_validator_type_list.specs.DefTypes.{types_of_list}
 use Rattle.wasm_validator_core.specs.declared.limits.TheConstants.{MAX_ELEMENT_SEGMENTS}
-use Rattle.wasm_laws_contexts.specs.ListedTypes.{types_declare}
-use Rattle.wasm_validator_references.specs.Expressions.{expression_at}
+use Rattle.wasm_laws_modules.specs.WasmLawsContexts.ListedTypes.{types_declare}
+use Rattle.wasm_validator_references.specs.WasmSpecValidity.Expressions.{expression_at}
 use Rattle.wasm_validator_references.specs.References.{element_names}
 use Rattle.wasm_validator_items.specs.Entries.{add_element}
 use Rattle.wasm_validator_sections.proofs.Singles.{limited_marked}

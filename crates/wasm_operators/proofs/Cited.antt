@@ -1,0 +1,2 @@
+-- What attributes here name of the crates below.
+unfoldable pub use Rattle.wasm_operators_plain.specs.WasmSpec.BinaryTypes.{val_at}

@@ -1,0 +1,1 @@
+pub use Rattle.wasm_readers_types.proofs.WasmSpec as WasmSpec
