@@ -8,8 +8,8 @@ usage: tools/bench_modules.py [--beside PROGRAM] FILE..   validates each file, a
 Of each file it prints its bytes and operators; the time (the best of five runs, start-up included) and the speed; the instructions of an
 operator, by valgrind's callgrind, without what an empty module takes; and the most memory that the program held at once, by GNU time,
 without the input's bytes and what an empty module takes. With --beside it tells the same of another program, which takes a file's name
-too. Operators are counted here, in code as compilers write it: where another one comes, the count is left out. `bin/wasm-validate` has
-to have built its program before.
+too. Operators are counted here, in code as compilers write it: where another one comes, the count is left out. `bin/prove` has to
+have built the program before.
 """
 import os
 import re
@@ -19,7 +19,7 @@ import tempfile
 import time
 
 ROOT = os.path.dirname(os.path.dirname(os.path.realpath(__file__)))
-PROGRAM = os.path.join(ROOT, "crates", "wasm_validate", "out", "wasm_validate")
+PROGRAM = os.path.join(ROOT, "out", "wasm-validate", "proved")
 EMPTY = b"\0asm\1\0\0\0"
 RUNS = 5
 

@@ -7,7 +7,7 @@ It makes a module of 1,000,000 different function types of nine parameters, one 
 other, and one of 900,000 structures each of which refers to the one before. Of each it prints the wall time of `wasm-validate FILE` (the least
 of three runs), the peak of its memory, and what is left of that beside the input, in bytes for each type. Then it validates lists of 100, 1,000
 and 10,000 small modules that share their types, and prints the instructions that each of the last hundred takes, by valgrind's callgrind.
-The program is the one that `rt ci` or `rt run` has built in crates/wasm_validate, where no other is named.
+The program is the one that `bin/prove` has built, where no other is named.
 """
 import os
 import sys
@@ -18,7 +18,7 @@ sys.dont_write_bytecode = True
 from wasm_bytes import HEAD, instructions, section, unsigned
 
 ROOT = os.path.dirname(os.path.dirname(os.path.realpath(__file__)))
-VALIDATOR = sys.argv[1] if len(sys.argv) > 1 else os.path.join(ROOT, "crates", "wasm_validate", "out", "wasm_validate")
+VALIDATOR = sys.argv[1] if len(sys.argv) > 1 else os.path.join(ROOT, "out", "wasm-validate", "proved")
 NUMBERS = b"\x7f\x7e\x7d\x7c\x7b"
 
 
