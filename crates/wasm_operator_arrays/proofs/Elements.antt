@@ -18,7 +18,7 @@ use Rattle.wasm_operator_checks.specs.Steps.{Took, acted, typed, held}
 use Rattle.wasm_operator_checks.specs.declared.faults.OperatorFault.{OperatorFault}
 use Rattle.wasm_operator_checks.specs.declared.faults.OperatorError.TheVariants.{Refused}
 use Rattle.wasm_operator_checks.proofs.Acting.{refused_here, refused_later}
-use Rattle.wasm_operator_checks.specs.Declared.{element_in, Barred, is_off, is_unreached, is_missing}
+use Rattle.wasm_operator_checks.specs.DeclaredTypes.{element_in, Barred, is_off, is_unreached, is_missing}
 use Rattle.wasm_operator_checks.proofs.Naming.{nullable_resolved, i32_resolved, more_typed}
 use Rattle.wasm_operator_arrays.specs.Segments.{segment_matches}
 

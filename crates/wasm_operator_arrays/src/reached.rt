@@ -4,7 +4,7 @@ ghost use Rattle.std.specs.Prelude.{◌≡◌, Some, None, true, false, slice_ge
 ghost use Rattle.wasm_readers_types.specs.SeenValues.{index_of, field_of};
 ghost use Rattle.wasm_operator_checks.specs.WasmOperatorSteps.Actions.{gc, has, reaches_type, element_is_mutable};
 ghost use Rattle.wasm_operator_checks.specs.Steps.{held};
-ghost use Rattle.wasm_operator_checks.specs.Declared.{element_in, Barred};
+ghost use Rattle.wasm_operator_checks.specs.DeclaredTypes.{element_in, Barred};
 
 use std::alloc::Allocator;
 use wasm_operator_checks::operator_stacks::Stacks;

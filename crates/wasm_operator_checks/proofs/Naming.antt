@@ -17,7 +17,7 @@ use Rattle.wasm_operator_checks.specs.Steps.{Took, acted, typed, held}
 use Rattle.wasm_operator_checks.specs.declared.faults.OperatorFault.{OperatorFault}
 use Rattle.wasm_operator_checks.specs.declared.faults.OperatorError.TheVariants.{Refused}
 use Rattle.wasm_operator_checks.proofs.Acting.{refused_here, refused_later}
-use Rattle.wasm_operator_checks.specs.Declared.{new_heap, Barred, is_off, is_unreached, is_missing}
+use Rattle.wasm_operator_checks.specs.DeclaredTypes.{new_heap, Barred, is_off, is_unreached, is_missing}
 
 -- a written reference, and a number
 pub nullable_resolved : (ts : List UnpackedIndex) (n : ℕ) (a : UnpackedIndex) (x : Val UnpackedIndex) → Some a ≡ slice_get ts n → x ≡ ref_to true (concrete a) → resolve_val ts (nullable_to n) ≡ Some x

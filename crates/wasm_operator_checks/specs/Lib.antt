@@ -5,4 +5,4 @@ pub use Rattle.wasm_operator_stacks.specs as WasmOperatorStacks
 pub mod Steps
 pub mod SeenTypes
 pub mod Told
-pub mod Declared
+pub mod DeclaredTypes

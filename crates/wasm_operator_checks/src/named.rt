@@ -6,7 +6,7 @@ ghost use Rattle.wasm_validator_resources.specs.WasmReadersTypes.SeenValues.{ind
 ghost use Rattle.wasm_validator_resources.specs.WasmSpecRules.FeatureFlags.{features_of};
 ghost use Rattle.wasm_operator_stacks.specs.SeenTypeWords.{val_in};
 ghost use Rattle.wasm_operator_stacks.specs.WasmOperatorSteps.Meanings.{ref_to};
-ghost use Rattle.wasm_operator_checks.specs.Declared.{new_heap};
+ghost use Rattle.wasm_operator_checks.specs.DeclaredTypes.{new_heap};
 
 use bitflags::Flags;
 use std::alloc::Allocator;

@@ -16,7 +16,7 @@ use Rattle.wasm_operator_checks.specs.WasmOperatorSteps.Meanings.{ref_to, is_pac
 use Rattle.wasm_operator_checks.specs.WasmValidatorResources.Answers.{sub_in}
 use Rattle.wasm_operator_checks.specs.WasmOperatorStacks.declared.stacks.Stacks.{Stacks}
 use Rattle.wasm_operator_checks.specs.Steps.{typed, held}
-use Rattle.wasm_operator_checks.specs.Declared.{fields_in, descriptor_in, Barred, is_off, is_unreached, is_missing}
+use Rattle.wasm_operator_checks.specs.DeclaredTypes.{fields_in, descriptor_in, Barred, is_off, is_unreached, is_missing}
 use Rattle.wasm_operator_structs.specs.Fields.{field_in}
 
 the_same : {X : Type 0} (x y : X) → Some x ≡ Some y → x ≡ y

@@ -8,7 +8,7 @@ use Rattle.wasm_readers_types.specs.declared.values.FieldType.{FieldType}
 use Rattle.wasm_operator_checks.specs.WasmOperatorSteps.Actions.{Needed, gc, custom_descriptors}
 use Rattle.wasm_operator_checks.specs.WasmSpecRules.Attempts.{◌>>=◌}
 use Rattle.wasm_operator_checks.specs.WasmOperatorSteps.Meanings.{unpack_field}
-use Rattle.wasm_operator_checks.specs.Declared.{fields_in}
+use Rattle.wasm_operator_checks.specs.DeclaredTypes.{fields_in}
 use Rattle.wasm_operator_structs.specs.declared.reached.Proposal.{Proposal}
 use Rattle.wasm_operator_structs.specs.declared.reached.Proposal.TheVariants as proposal
 

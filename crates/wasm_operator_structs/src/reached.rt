@@ -6,7 +6,7 @@ ghost use Rattle.wasm_operator_checks.specs.WasmOperatorSteps.Actions.{gc, has, 
 ghost use Rattle.wasm_operator_checks.specs.WasmOperatorSteps.Meanings.{is_on as allowed};
 ghost use Rattle.wasm_operator_checks.specs.WasmSpecRules.FeatureFlags.{features_of};
 ghost use Rattle.wasm_operator_checks.specs.Steps.{held};
-ghost use Rattle.wasm_operator_checks.specs.Declared.{fields_in, descriptor_in, Barred};
+ghost use Rattle.wasm_operator_checks.specs.DeclaredTypes.{fields_in, descriptor_in, Barred};
 ghost use Rattle.wasm_operator_structs.specs.Fields.{needed_of, field_in};
 
 use std::alloc::Allocator;

@@ -25,7 +25,7 @@ use Rattle.wasm_validator_types.specs.Spaces.{Spaces}
 use Rattle.wasm_validator_items.specs.Machine.{context_of}
 use Rattle.wasm_validator_items.specs.Entries.{listed_items_type, is_constant_of, are_items}
 use Rattle.wasm_validator_items.proofs.Attempts.{behind_where, always_none, then_mapped, then_then, then_same}
-use Rattle.wasm_validator_items.proofs.Initializers.{expression_is}
+use Rattle.wasm_validator_items.proofs.InitializersRead.{expression_is}
 use Rattle.wasm_validator_items.proofs.Lists.{list_is}
 use Rattle.wasm_validator_items.proofs.Renamed.{ref-renames}
 use Rattle.wasm_validator_items.proofs.WrittenTypes.{Resolves, written_resolves, funcref_resolves, val_is}

@@ -5,15 +5,15 @@ mod Refusals
 mod Steps
 pub mod Items
 pub mod Attempts
-pub mod Initializers
+pub mod InitializersRead
 pub mod StepsInTurn
-pub mod Globals
+pub mod GlobalsRead
 pub mod Offsets
 pub mod Segments
 pub mod Renamed
-pub mod Tables
+pub mod TablesRead
 pub mod Lists
 pub mod WrittenTypes
 pub mod ItemLists
-pub mod Elements
+pub mod ElementsRead
 pub mod Singles

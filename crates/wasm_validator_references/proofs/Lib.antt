@@ -5,8 +5,8 @@ pub mod Naming
 pub mod Passing
 pub mod Unnamed
 pub mod Constants
-pub mod Entries
-pub mod Sections
+pub mod EntryPieces
+pub mod SectionPieces
 pub mod Pieces
 pub mod Parts
 pub mod Referenced

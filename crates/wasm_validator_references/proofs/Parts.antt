@@ -11,7 +11,7 @@ use Rattle.wasm_spec_rules.specs.LinkRules.{exported_functions, listed_functions
 use Rattle.wasm_spec_rules.specs.Parts.{Parts, Expression, mode_expressions, items_expressions, table_expressions, expressions_of}
 use Rattle.wasm_spec_validity.specs.Expressions.{named}
 use Rattle.wasm_validator_references.specs.References.{optional_names, table_names, global_names, mode_names, items_names, element_names}
-use Rattle.wasm_validator_references.proofs.Sections.{exchange, among-append, among-flat}
+use Rattle.wasm_validator_references.proofs.SectionPieces.{exchange, among-append, among-flat}
 
 -- tables and globals
 optional : (o : Option Expression) → flat_map named (table_expressions o) ≡ optional_names o

@@ -12,8 +12,8 @@ use Rattle.wasm_spec_rules.specs.Parts.{Expression, index}
 use Rattle.wasm_readers.specs.Written.{written}
 use Rattle.wasm_spec_validity.specs.Expressions.{expression_at}
 use Rattle.wasm_validator_references.specs.References.{table_names, global_names, mode_names, items_names, element_names, names_or_none, names_of_tables, names_of_globals, names_of_exports, names_of_elements, section_names, piece_names}
-use Rattle.wasm_validator_references.proofs.Entries.{map_table_entry, map_global_entry, map_items, map_element, tables, globals, elements, items}
-use Rattle.wasm_validator_references.proofs.Sections.{exchange, among-append, names_same, of_piece, in_section}
+use Rattle.wasm_validator_references.proofs.EntryPieces.{map_table_entry, map_global_entry, map_items, map_element, tables, globals, elements, items}
+use Rattle.wasm_validator_references.proofs.SectionPieces.{exchange, among-append, names_same, of_piece, in_section}
 
 -- with type indices in either form
 tables_same : (n : ℕ) (bytes : List ℕ) → names_of_tables n bytes ≡ names_or_none table_names (items_at (table_entry_at expression_at index) n bytes)

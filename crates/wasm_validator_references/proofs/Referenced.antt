@@ -21,7 +21,7 @@ use Rattle.wasm_validator_references.specs.Naming.{PiecesNameWhatIsReferenced}
 use Rattle.wasm_validator_references.proofs.Constants.{numbers_name_no_functions}
 use Rattle.wasm_validator_references.proofs.Parts.{NamesNothing, parts_named}
 use Rattle.wasm_validator_references.proofs.Pieces.{of_all}
-use Rattle.wasm_validator_references.proofs.Sections.{all_named}
+use Rattle.wasm_validator_references.proofs.SectionPieces.{all_named}
 
 there : {X : Type 0} (xs : List X) (k : ℕ) → k < length xs → is_some (slice_get xs k) ≡ true
 there [] k l = absurd (omega (arith, l))

@@ -24,9 +24,9 @@ use Rattle.wasm_laws_modules.proofs.WasmLawsContexts.ListedTypes.{lists_declare_
 use Rattle.wasm_validator_items.specs.Machine as one_pass
 use Rattle.wasm_validator_sections.specs.Sections.{read_section}
 use Rattle.wasm_validator_sections.specs.Entries.{add_table_entry, add_global_entry, add_element, add_data}
-use Rattle.wasm_laws_modules.proofs.Tables.{tables_are_added}
-use Rattle.wasm_laws_modules.proofs.Globals.{globals_are_added}
-use Rattle.wasm_laws_modules.proofs.Elements.{elements_are_added}
+use Rattle.wasm_laws_modules.proofs.TablesRead.{tables_are_added}
+use Rattle.wasm_laws_modules.proofs.GlobalsRead.{globals_are_added}
+use Rattle.wasm_laws_modules.proofs.ElementsRead.{elements_are_added}
 use Rattle.wasm_laws_modules.proofs.Segments.{data_are_added}
 use Rattle.wasm_validator_sections.specs.Machine.{table_items, global_items, element_items, data_items}
 

@@ -1,7 +1,7 @@
-use Rattle.wasm_validator_items.proofs.Elements.{elements_are_added}
-use Rattle.wasm_validator_items.proofs.Globals.{globals_are_added}
+use Rattle.wasm_validator_items.proofs.ElementsRead.{elements_are_added}
+use Rattle.wasm_validator_items.proofs.GlobalsRead.{globals_are_added}
 use Rattle.wasm_validator_items.proofs.Segments.{data_are_added}
-use Rattle.wasm_validator_items.proofs.Tables.{tables_are_added}
+use Rattle.wasm_validator_items.proofs.TablesRead.{tables_are_added}
 use Rattle.wasm_validator_items.proofs.sections_are_read_and_added.Goals as goal
 
 -- src/lib.rt:9:1

@@ -1,6 +1,6 @@
 use Rattle.std.proofs.Common.{sym, ◌∙◌}
 use Rattle.wasm_readers_types.specs.SeenTypes.{sub_of}
-use Rattle.wasm_operator_checks.specs.Declared.{is_unreached}
+use Rattle.wasm_operator_checks.specs.DeclaredTypes.{is_unreached}
 use Rattle.wasm_operator_checks.proofs.Naming.{reached_held}
 use Rattle.wasm_operator_arrays.proofs.reached.reach_elements.Goals as goal
 

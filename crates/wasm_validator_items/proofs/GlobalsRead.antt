@@ -19,7 +19,7 @@ use Rattle.wasm_validator_items.specs.Machine.{with_written, global_step}
 use Rattle.wasm_validator_items.specs.Entries.{is_constant_of, add_global_entry}
 use Rattle.wasm_validator_items.specs.Reading.{GlobalsAreReadAndAdded}
 use Rattle.wasm_validator_items.proofs.Attempts.{beside, added, then_mapped, then_then, then_same, both_tests}
-use Rattle.wasm_validator_items.proofs.Initializers.{initializer_is}
+use Rattle.wasm_validator_items.proofs.InitializersRead.{initializer_is}
 use Rattle.wasm_validator_items.proofs.StepsInTurn.{section_is_added}
 
 module _ (F : Features) (declares : List (UnpackedIndex × Sub UnpackedIndex)) (us : TypesSoFar) (s : Spaces) where

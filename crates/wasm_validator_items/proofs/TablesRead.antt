@@ -20,7 +20,7 @@ use Rattle.wasm_validator_items.specs.Machine.{with_head, table_step}
 use Rattle.wasm_validator_items.specs.Entries.{is_constant_of, add_table_entry}
 use Rattle.wasm_validator_items.specs.Reading.{TablesAreReadAndAdded}
 use Rattle.wasm_validator_items.proofs.Attempts.{beside, added, then_mapped, then_then, then_same, both_tests, one_test}
-use Rattle.wasm_validator_items.proofs.Initializers.{initializer_is}
+use Rattle.wasm_validator_items.proofs.InitializersRead.{initializer_is}
 use Rattle.wasm_validator_items.proofs.StepsInTurn.{section_is_added}
 
 module _ (F : Features) (declares : List (UnpackedIndex × Sub UnpackedIndex)) (us : TypesSoFar) (s : Spaces) where
