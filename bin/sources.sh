@@ -1,4 +1,5 @@
-# What bin/wasm-validate and bin/prove share: the sources of the program, the programs that were built of them, and the kit. Both set `top` first.
+# What bin/wasm-validate, bin/prove and tools/run_unproved share: the sources of the program, the programs that were built of them, and the kit.
+# Each sets `top` first.
 
 built=$top/out/wasm-validate
 
@@ -57,4 +58,44 @@ wait_for() {
     wait "$process"
     status=$?
     trap - INT TERM HUP
+}
+
+# A folder that looks like the kit, but for its compiler, which is called for each module that `rt try` makes. Ours compiles the one of the whole
+# program with optimization and without the sanitizer, and ends the try there.
+make_kit() {
+    mkdir -p "$1/bin" "$1/toolchain/bin" || return 1
+    ln -s "$kit"/* "$1" 2>/dev/null
+    ln -s "$kit"/bin/* "$1/bin"
+    ln -s "$kit"/toolchain/* "$1/toolchain" 2>/dev/null
+    ln -s "$kit"/toolchain/bin/* "$1/toolchain/bin"
+    # A script finds its kit by its own place.
+    rm -f "$1/bin/rt" "$1/bin/rtlib.py" "$1/toolchain/bin/clang"
+    cp "$kit/bin/rt" "$kit/bin/rtlib.py" "$1/bin" || return 1
+    cat >"$1/toolchain/bin/clang" <<CLANG
+#!/usr/bin/env bash
+words=()
+is_whole=
+for word in "\$@"; do
+    case "\$word" in
+    -fsanitize=address) is_whole=yes ;;
+    -O0) words+=(-O2) ;;
+    *) words+=("\$word") ;;
+    esac
+done
+if [ -z "\$is_whole" ]; then exec "$kit/toolchain/bin/clang" "\$@"; fi
+"$kit/toolchain/bin/clang" "\${words[@]}" && cp module.o "$1/program.o"
+exit 1
+CLANG
+    chmod +x "$1/toolchain/bin/clang"
+}
+
+# Compiles the program of a crate without its proofs, as `program` in this folder.
+compile_crate() {
+    local crate=$1 room=$2
+    make_kit "$room" || return 1
+    (cd "$top/crates/$crate" && exec "$room/bin/rt" try) >"$room/try.log" 2>&1 </dev/null &
+    wait_for $!
+    [ -s "$room/program.o" ] || return 1
+    "$kit/bin/rattle-link" --target x86_64-unknown-linux-gnu --toolchain "$kit/toolchain" -o "$room/program" "$room/program.o" \
+        "$kit/c/libos_c.a" "$kit/c/liblibc_c.a" >>"$room/try.log" 2>&1
 }
