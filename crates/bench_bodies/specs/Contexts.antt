@@ -3,8 +3,8 @@
 use Rattle.std.specs.Prelude.{ℕ, [], ◌∷◌, List, map, None}
 use Rattle.wasm_spec.specs.Syntax.{Sub, Table, Memory, Global}
 use Rattle.wasm_spec_rules.specs.Contexts.{Context, is_exact}
-use Rattle.wasm_readers_types.specs.declared.indices.UnpackedIndex.{UnpackedIndex}
-use Rattle.wasm_readers_types.specs.declared.indices.UnpackedIndex.TheVariants.{Id}
+use Rattle.wasm_readers_types.specs.WasmReadersValues.declared.indices.UnpackedIndex.{UnpackedIndex}
+use Rattle.wasm_readers_types.specs.WasmReadersValues.declared.indices.UnpackedIndex.TheVariants.{Id}
 
 -- the identity of the type
 abbrev pub only_id : UnpackedIndex

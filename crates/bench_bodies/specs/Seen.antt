@@ -3,7 +3,7 @@ use Rattle.std.specs.Prelude.{map}
 use Rattle.wasm_spec_rules.specs.Contexts.{Context}
 use Rattle.wasm_readers_types.specs.SeenExterns.{table_of, memory_of, global_of}
 use Rattle.wasm_readers_types.specs.SeenTypes.{sub_of}
-use Rattle.wasm_readers_types.specs.declared.indices.UnpackedIndex.{UnpackedIndex}
+use Rattle.wasm_readers_types.specs.WasmReadersValues.declared.indices.UnpackedIndex.{UnpackedIndex}
 use Rattle.bench_bodies.specs.Contexts.{context_of}
 use Rattle.bench_bodies.specs.declared.own_module.OwnModule.{OwnModule}
 

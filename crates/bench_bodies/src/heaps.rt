@@ -3,7 +3,7 @@
 ghost use Rattle.std.specs.Prelude.{◌≡◌};
 ghost use Rattle.wasm_spec.specs.Matching.{top_of};
 ghost use Rattle.wasm_spec.specs.MatchingTests.{same_flag, matches_abstract};
-ghost use Rattle.wasm_readers_types.specs.SeenValues.{abstract_heap_of};
+ghost use Rattle.wasm_readers_types.specs.WasmReadersValues.SeenValues.{abstract_heap_of};
 
 use wasm_readers_types::AbstractHeapType;
 

@@ -7,10 +7,10 @@ ghost use Rattle.wasm_spec.specs.Syntax.{abstract_heap, concrete, exact, func_he
 ghost use Rattle.wasm_spec.specs.Declared.{supertype};
 ghost use Rattle.wasm_spec.specs.Matching.{kind_of, bottom_of};
 ghost use Rattle.wasm_spec.specs.MatchingTests.{is_above_bottom, matches_abstract, matches_heap, matches_kind, matches_ref, same_abstract};
-ghost use Rattle.wasm_readers_types.specs.declared.indices.TheConstants.{MAX_IDS};
-ghost use Rattle.wasm_readers_types.specs.declared.indices.UnpackedIndex.TheVariants.{Id};
+ghost use Rattle.wasm_readers_types.specs.WasmReadersValues.declared.indices.TheConstants.{MAX_IDS};
+ghost use Rattle.wasm_readers_types.specs.WasmReadersValues.declared.indices.UnpackedIndex.TheVariants.{Id};
 ghost use Rattle.wasm_readers_types.specs.SeenTypes.{sub_of};
-ghost use Rattle.wasm_readers_types.specs.SeenValues.{abstract_heap_of, heap_of, ref_of};
+ghost use Rattle.wasm_readers_types.specs.WasmReadersValues.SeenValues.{abstract_heap_of, heap_of, ref_of};
 ghost use Rattle.wasm_validator_resources.specs.Answers.{world, same_index, written_index, IsWritten};
 ghost use Rattle.bench_bodies.specs.Contexts.{only_id};
 

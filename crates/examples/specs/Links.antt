@@ -1,7 +1,7 @@
 -- When a function of one module may be given where another asks for one. Core Specification 3.0, Validation, Matching (External Types): where both have
 -- one type.
 use Rattle.std.specs.Prelude.{ℕ, ◌≡◌, ◌<◌, List, length, slice_get, slice_index, Some}
-use Rattle.wasm_readers_errors.specs.declared.features.TheConstants.WasmFeatures.{STANDARD}
+use Rattle.wasm_readers_errors.specs.WasmReadersFeatures.declared.features.TheConstants.WasmFeatures.{STANDARD}
 use Rattle.wasm_spec.specs.Features.{Features}
 use Rattle.wasm_spec.specs.Trees.{DefType}
 use Rattle.wasm_spec_rules.specs.FeatureFlags.{features_of}

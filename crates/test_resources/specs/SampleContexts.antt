@@ -6,9 +6,9 @@ use Rattle.wasm_spec_rules.specs.Attempts.{◌>>=◌}
 use Rattle.wasm_spec_rules.specs.Contexts.{Context}
 use Rattle.wasm_readers_types.specs.SeenExterns.{table_of, memory_of, global_of}
 use Rattle.wasm_readers_types.specs.SeenTypes.{sub_of}
-use Rattle.wasm_readers_types.specs.SeenValues.{ref_of}
-use Rattle.wasm_readers_types.specs.declared.indices.UnpackedIndex.{UnpackedIndex}
-use Rattle.wasm_readers_types.specs.declared.indices.UnpackedIndex.TheVariants.{Id}
+use Rattle.wasm_readers_types.specs.WasmReadersValues.SeenValues.{ref_of}
+use Rattle.wasm_readers_types.specs.WasmReadersValues.declared.indices.UnpackedIndex.{UnpackedIndex}
+use Rattle.wasm_readers_types.specs.WasmReadersValues.declared.indices.UnpackedIndex.TheVariants.{Id}
 use Rattle.wasm_validator_resources.specs.Answers.{world}
 use Rattle.test_resources.specs.declared.parts.SampleFunction.{SampleFunction}
 use Rattle.test_resources.specs.declared.parts.SampleParts.{SampleParts}

@@ -7,9 +7,9 @@ ghost use Rattle.wasm_spec.specs.MatchingTests.{matches_heap, matches_ref};
 ghost use Rattle.wasm_spec.specs.Syntax.{abstract_heap, concrete, exact};
 ghost use Rattle.wasm_spec_rules.specs.Worlds.{is_below};
 ghost use Rattle.wasm_readers_types.specs.SeenTypes.{sub_of};
-ghost use Rattle.wasm_readers_types.specs.SeenValues.{abstract_heap_of, heap_of, ref_of};
-ghost use Rattle.wasm_readers_types.specs.declared.indices.TheConstants.{MAX_IDS};
-ghost use Rattle.wasm_readers_types.specs.declared.indices.UnpackedIndex.TheVariants.{Id};
+ghost use Rattle.wasm_readers_types.specs.WasmReadersValues.SeenValues.{abstract_heap_of, heap_of, ref_of};
+ghost use Rattle.wasm_readers_types.specs.WasmReadersValues.declared.indices.TheConstants.{MAX_IDS};
+ghost use Rattle.wasm_readers_types.specs.WasmReadersValues.declared.indices.UnpackedIndex.TheVariants.{Id};
 ghost use Rattle.wasm_validator_resources.specs.Answers.{world, same_index, written_index, IsWritten};
 ghost use Rattle.test_resources.specs.SampleContexts.{sample_context, supertype_in};
 

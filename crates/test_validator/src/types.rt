@@ -2,7 +2,7 @@
 
 ghost use Rattle.std.specs.Prelude.{◌≡◌, [], length, IfSome};
 ghost use Rattle.wasm_spec.specs.References.{refs_heap};
-ghost use Rattle.wasm_readers.specs.WasmReadersTypes.SeenValues.{ref_of};
+ghost use Rattle.wasm_readers.specs.WasmReadersTypes.WasmReadersValues.SeenValues.{ref_of};
 ghost use Rattle.wasm_validator_type_list.specs.Listing.{types_in};
 ghost use Rattle.wasm_validator_type_list.specs.Subtyping.{IsRefOver};
 

@@ -17,8 +17,8 @@ use Rattle.wasm_spec.proofs.Agreement.{agree_sub}
 use Rattle.wasm_spec.proofs.SyntaxMaps.{map_sub-map}
 use Rattle.wasm_spec_rules.specs.Contexts.{declares_at}
 use Rattle.wasm_readers_types.specs.SeenTypes.{sub_of}
-use Rattle.wasm_readers_types.specs.declared.indices.UnpackedIndex.{UnpackedIndex}
-use Rattle.wasm_readers_types.specs.declared.indices.UnpackedIndex.TheVariants.{Module, RecGroup, Id}
+use Rattle.wasm_readers_types.specs.WasmReadersValues.declared.indices.UnpackedIndex.{UnpackedIndex}
+use Rattle.wasm_readers_types.specs.WasmReadersValues.declared.indices.UnpackedIndex.TheVariants.{Module, RecGroup, Id}
 use Rattle.wasm_readers_types.specs.declared.types.SubType.{SubType}
 use Rattle.wasm_validator_type_groups.specs.Groups.{first_of}
 use Rattle.wasm_validator_type_list.specs.Listable.{IsKnown, AreListable}

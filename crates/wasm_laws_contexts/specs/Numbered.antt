@@ -9,8 +9,8 @@ use Rattle.wasm_spec.specs.Trees.{DefType, declared}
 use Rattle.wasm_spec.specs.TypeLaws.{HasNoRepetition, AreIdsOf, AreAccepted}
 use Rattle.wasm_spec_rules.specs.Contexts.{Context, declares_at, AreFirst}
 use Rattle.wasm_spec_rules.specs.Worlds.{world_of}
-use Rattle.wasm_readers_types.specs.declared.indices.UnpackedIndex.{UnpackedIndex}
-use Rattle.wasm_readers_types.specs.declared.indices.UnpackedIndex.TheVariants.{Module}
+use Rattle.wasm_readers_types.specs.WasmReadersValues.declared.indices.UnpackedIndex.{UnpackedIndex}
+use Rattle.wasm_readers_types.specs.WasmReadersValues.declared.indices.UnpackedIndex.TheVariants.{Module}
 use Rattle.wasm_readers_types.specs.declared.types.SubType.{SubType}
 use Rattle.wasm_validator_type_list.specs.Listable.{AreListable}
 use Rattle.wasm_validator_type_list.specs.DefTypes.{def_types}

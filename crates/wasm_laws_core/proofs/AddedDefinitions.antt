@@ -16,7 +16,7 @@ use Rattle.wasm_spec_rules.specs.IndexSpaces.{index_spaces, imported, functions_
 use Rattle.wasm_spec_rules.specs.ItemRules.{IsValidTableEntry, IsValidMemory, IsValidTag}
 use Rattle.wasm_spec_rules.specs.Limits.{most_tables, most_memories}
 use Rattle.wasm_spec_rules.specs.Sections.{each}
-use Rattle.wasm_readers_types.specs.declared.indices.UnpackedIndex.{UnpackedIndex}
+use Rattle.wasm_readers_types.specs.WasmReadersValues.declared.indices.UnpackedIndex.{UnpackedIndex}
 use Rattle.wasm_validator_core.specs.WasmValidatorCanonical.Groups.{types_at}
 use Rattle.wasm_validator_core.specs.WasmValidatorCanonical.Indices.{canonical_index}
 use Rattle.wasm_validator_core.specs.WasmValidatorCanonical.Sections.{written}

@@ -13,7 +13,7 @@ use Rattle.wasm_spec_rules.specs.IndexSpaces.{IndexSpaces, index_spaces, importe
 use Rattle.wasm_spec_rules.specs.LinkRules.{exported, effective_size}
 use Rattle.wasm_spec_rules.specs.SegmentRules.{items_type}
 use Rattle.wasm_spec_rules.specs.Contexts.{exact_in, is_exact}
-use Rattle.wasm_readers_types.specs.declared.indices.UnpackedIndex.{UnpackedIndex}
+use Rattle.wasm_readers_types.specs.WasmReadersValues.declared.indices.UnpackedIndex.{UnpackedIndex}
 use Rattle.wasm_validator_core.specs.WasmValidatorCanonical.Indices.{canonical_index}
 use Rattle.wasm_validator_core.specs.WasmValidatorCanonical.Sections.{written}
 use Rattle.wasm_validator_types.specs.Entities.{Entity}

@@ -26,7 +26,7 @@ use Rattle.wasm_spec_rules.specs.SegmentRules.{items_type, items_count, AreValid
 use Rattle.wasm_spec_rules.specs.Sections.{each}
 use Rattle.wasm_spec_rules.proofs.Verdicts.{Verdict, verdict_as, verdict_of}
 use Rattle.wasm_spec_validity.specs.WasmOperatorSteps.Meanings.{address}
-use Rattle.wasm_readers_types.specs.declared.indices.UnpackedIndex.{UnpackedIndex}
+use Rattle.wasm_readers_types.specs.WasmReadersValues.declared.indices.UnpackedIndex.{UnpackedIndex}
 use Rattle.wasm_laws_core.specs.WasmValidatorCanonical.Groups.{nowhere}
 use Rattle.wasm_laws_core.specs.WasmValidatorCanonical.Indices.{canonical_index}
 use Rattle.wasm_laws_core.specs.WasmValidatorCanonical.Sections.{written}

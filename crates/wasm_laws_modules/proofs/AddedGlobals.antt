@@ -17,7 +17,7 @@ use Rattle.wasm_spec_rules.specs.ItemRules.{IsValidGlobal}
 use Rattle.wasm_spec_rules.specs.LinkRules.{IsValidExtern, IsValidImport}
 use Rattle.wasm_spec_rules.specs.Sections.{each}
 use Rattle.wasm_spec_rules.proofs.Verdicts.{Verdict, verdict_as, verdict_of}
-use Rattle.wasm_readers_types.specs.declared.indices.UnpackedIndex.{UnpackedIndex}
+use Rattle.wasm_readers_types.specs.WasmReadersValues.declared.indices.UnpackedIndex.{UnpackedIndex}
 use Rattle.wasm_laws_core.specs.WasmValidatorCanonical.Groups.{types_at}
 use Rattle.wasm_laws_core.specs.WasmValidatorCanonical.Indices.{canonical_index}
 use Rattle.wasm_laws_core.specs.WasmValidatorCanonical.Sections.{written}

@@ -14,7 +14,7 @@ use Rattle.wasm_spec_rules.specs.Parts.{Parts, Expression}
 use Rattle.wasm_spec_rules.specs.IndexSpaces.{IndexSpaces, index_spaces, imported, functions_in, globals_in, IsValInRange}
 use Rattle.wasm_spec_rules.specs.Contexts.{exact_in}
 use Rattle.wasm_spec_validity.specs.WasmOperatorSteps.Meanings.{address}
-use Rattle.wasm_readers_types.specs.declared.indices.UnpackedIndex.{UnpackedIndex}
+use Rattle.wasm_readers_types.specs.WasmReadersValues.declared.indices.UnpackedIndex.{UnpackedIndex}
 use Rattle.wasm_laws_core.specs.WasmValidatorCanonical.Groups.{AreValid}
 use Rattle.wasm_laws_core.specs.WasmValidatorCanonical.Indices.{canonical_index}
 use Rattle.wasm_laws_core.specs.WasmValidatorCanonical.Sections.{written}

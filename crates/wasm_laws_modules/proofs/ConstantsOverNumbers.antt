@@ -13,7 +13,7 @@ use Rattle.wasm_spec_rules.specs.Contexts.{Context, exact_in, is_exact}
 use Rattle.wasm_spec_rules.specs.IndexSpaces.{IndexSpaces, IsValInRange}
 use Rattle.wasm_spec_rules.specs.Parts.{Parts, Expression}
 use Rattle.wasm_spec_rules.specs.Worlds.{world_of}
-use Rattle.wasm_readers_types.specs.declared.indices.UnpackedIndex.{UnpackedIndex}
+use Rattle.wasm_readers_types.specs.WasmReadersValues.declared.indices.UnpackedIndex.{UnpackedIndex}
 use Rattle.wasm_laws_core.specs.WasmValidatorCanonical.Groups.{AreValid}
 use Rattle.wasm_laws_core.specs.WasmValidatorCanonical.Sections.{StandsFor}
 use Rattle.wasm_spec_validity.specs.WasmOperators.Control.{value_block}

@@ -9,7 +9,7 @@ use Rattle.wasm_spec.proofs.SyntaxMaps.{map_ref-map}
 use Rattle.wasm_spec_rules.specs.Contexts.{Context}
 use Rattle.wasm_spec_rules.specs.IndexSpaces.{type_at, IsRefInRange}
 use Rattle.wasm_spec_rules.specs.Worlds.{world_of}
-use Rattle.wasm_readers_types.specs.declared.indices.UnpackedIndex.{UnpackedIndex}
+use Rattle.wasm_readers_types.specs.WasmReadersValues.declared.indices.UnpackedIndex.{UnpackedIndex}
 use Rattle.wasm_spec_validity.proofs.WasmOperatorSteps.MatchingRenamed.{matches_val-map}
 use Rattle.wasm_validator_resources.specs.Answers.{world}
 use Rattle.wasm_spec_validity.proofs.Numbered.{types_are_numbered}

@@ -16,7 +16,7 @@ use Rattle.wasm_spec.proofs.Agreement.{agree_sub}
 use Rattle.wasm_spec.proofs.SyntaxMaps.{map_sub-map}
 use Rattle.wasm_spec_rules.specs.Contexts.{Context, AreFirst}
 use Rattle.wasm_spec_rules.specs.Worlds.{world_of}
-use Rattle.wasm_readers_types.specs.declared.indices.UnpackedIndex.{UnpackedIndex}
+use Rattle.wasm_readers_types.specs.WasmReadersValues.declared.indices.UnpackedIndex.{UnpackedIndex}
 use Rattle.wasm_validator_type_groups.specs.Elements.{numbers_from}
 use Rattle.wasm_validator_type_list.proofs.Lookups.{group_found}
 use Rattle.wasm_laws_core.specs.WasmValidatorCanonical.Groups.{AreValid}

@@ -10,7 +10,7 @@ use Rattle.wasm_spec_rules.specs.IndexSpaces.{index_spaces}
 use Rattle.wasm_spec_rules.specs.LinkRules.{referenced}
 use Rattle.wasm_spec_rules.specs.Modules.{AreValidParts}
 use Rattle.wasm_spec_rules.specs.Parts.{Parts}
-use Rattle.wasm_readers_types.specs.declared.indices.UnpackedIndex.{UnpackedIndex}
+use Rattle.wasm_readers_types.specs.WasmReadersValues.declared.indices.UnpackedIndex.{UnpackedIndex}
 use Rattle.wasm_laws_core.specs.WasmValidatorCanonical.Groups.{AreValid}
 use Rattle.wasm_laws_core.specs.WasmValidatorChecks.Laws.{Stand}
 use Rattle.wasm_laws_core.specs.WasmValidatorTypes.Spaces.{Spaces}

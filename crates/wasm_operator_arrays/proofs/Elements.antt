@@ -5,7 +5,7 @@ use Rattle.std.specs.Prelude.{Option, Some, None, slice_get, Err}
 use Rattle.wasm_spec.specs.MatchingTests.{World, same_flag, matches_val}
 use Rattle.wasm_spec.specs.Syntax.{Ref, Val, i32, concrete, reference, Field}
 use Rattle.wasm_operator_checks.specs.WasmSpecRules.Contexts.{Context}
-use Rattle.wasm_readers_types.specs.declared.indices.UnpackedIndex.{UnpackedIndex}
+use Rattle.wasm_readers_types.specs.WasmReadersValues.declared.indices.UnpackedIndex.{UnpackedIndex}
 use Rattle.wasm_operator_checks.specs.WasmSpecRules.Attempts.{passes}
 use Rattle.wasm_operator_checks.specs.WasmOperatorSteps.Actions.{gc, has, Action, need, these, element, segment, repeated, each_matches, element_is_mutable, element_has_default, element_is_number, element_is_packed, element_is_storable, reaches_type}
 use Rattle.wasm_operator_checks.specs.WasmOperatorSteps.Machine.{State, same_number}

@@ -6,7 +6,7 @@ use Rattle.wasm_spec.specs.MatchingTests.{World, matches_val}
 use Rattle.wasm_spec.specs.Syntax.{AbstractHeap, abstract_heap, Ref, i32, i64, f32, f64, v128, reference}
 use Rattle.wasm_spec.specs.ValueTypes.{implies}
 use Rattle.wasm_operator_checks.specs.WasmSpecRules.Contexts.{Context}
-use Rattle.wasm_readers_types.specs.declared.indices.UnpackedIndex.{UnpackedIndex}
+use Rattle.wasm_readers_types.specs.WasmReadersValues.declared.indices.UnpackedIndex.{UnpackedIndex}
 use Rattle.wasm_operator_checks.specs.WasmOperatorSteps.Actions.{Action, take_below, give, these}
 use Rattle.wasm_operator_checks.specs.WasmSpecRules.Attempts.{◌>>=◌, guard}
 use Rattle.wasm_operator_checks.specs.WasmOperatorSteps.Bodies.{Surroundings}

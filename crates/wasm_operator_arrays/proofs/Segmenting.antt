@@ -5,9 +5,9 @@ use Rattle.std.specs.Prelude.{Option, Some, None, slice_get}
 use Rattle.wasm_spec.specs.MatchingTests.{World, matches_val}
 use Rattle.wasm_spec.specs.Syntax.{Ref, Val, i32, i64, f32, f64, v128, reference}
 use Rattle.wasm_operator_checks.specs.WasmSpecRules.Contexts.{Context}
-use Rattle.wasm_readers_types.specs.SeenValues.{ref_of}
-use Rattle.wasm_readers_types.specs.declared.indices.UnpackedIndex.{UnpackedIndex}
-use Rattle.wasm_readers_types.specs.declared.values.RefType.{RefType}
+use Rattle.wasm_readers_types.specs.WasmReadersValues.SeenValues.{ref_of}
+use Rattle.wasm_readers_types.specs.WasmReadersValues.declared.indices.UnpackedIndex.{UnpackedIndex}
+use Rattle.wasm_readers_types.specs.WasmReadersValues.declared.values.RefType.{RefType}
 use Rattle.wasm_operator_checks.specs.WasmSpecRules.Attempts.{passes}
 use Rattle.wasm_operator_checks.specs.WasmOperatorSteps.Machine.{same_number}
 use Rattle.wasm_operator_checks.specs.WasmValidatorResources.Answers.{world}

@@ -3,7 +3,7 @@ use Rattle.std.specs.Prelude.{Bool, true, false}
 use Rattle.wasm_spec.specs.Matching.{is_shared_heap}
 use Rattle.wasm_spec.specs.MatchingTests.{World, matches_heap}
 use Rattle.wasm_spec.specs.Syntax.{AbstractHeap, abstract_heap, reference}
-use Rattle.wasm_readers_types.specs.declared.indices.UnpackedIndex.{UnpackedIndex}
+use Rattle.wasm_readers_types.specs.WasmReadersValues.declared.indices.UnpackedIndex.{UnpackedIndex}
 use Rattle.wasm_operator_checks.specs.WasmOperatorSteps.Machine.{Operand, bottom, bottom_reference, open_reference, known}
 
 -- an operand is a reference below an abstract heap type, shared or not

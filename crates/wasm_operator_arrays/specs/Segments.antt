@@ -3,7 +3,7 @@ use Rattle.std.specs.Prelude.{ℕ, Bool, slice_get}
 use Rattle.wasm_spec.specs.MatchingTests.{matches_val}
 use Rattle.wasm_spec.specs.Syntax.{Val, reference}
 use Rattle.wasm_operator_checks.specs.WasmSpecRules.Contexts.{Context}
-use Rattle.wasm_readers_types.specs.declared.indices.UnpackedIndex.{UnpackedIndex}
+use Rattle.wasm_readers_types.specs.WasmReadersValues.declared.indices.UnpackedIndex.{UnpackedIndex}
 use Rattle.wasm_operator_checks.specs.WasmSpecRules.Attempts.{passes}
 use Rattle.wasm_operator_checks.specs.WasmValidatorResources.Answers.{world}
 

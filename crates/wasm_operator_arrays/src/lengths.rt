@@ -3,7 +3,7 @@
 ghost use Rattle.std.specs.Prelude.{◌≡◌, true};
 ghost use Rattle.wasm_spec.specs.Syntax.{abstract_heap};
 ghost use Rattle.wasm_operators_plain.specs.declared.arrays.ArrayOperator.TheVariants.{ArrayLen};
-ghost use Rattle.wasm_readers_types.specs.SeenValues.{abstract_heap_of, ref_of};
+ghost use Rattle.wasm_readers_types.specs.WasmReadersValues.SeenValues.{abstract_heap_of, ref_of};
 ghost use Rattle.wasm_operator_checks.specs.WasmOperatorSteps.Shapes.{array_shape};
 ghost use Rattle.wasm_operator_checks.specs.WasmValidatorResources.Answers.{world};
 ghost use Rattle.wasm_operator_checks.specs.WasmOperatorStacks.Seen.{Kept};

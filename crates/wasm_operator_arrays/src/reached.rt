@@ -1,7 +1,7 @@
 //! Array types that a body reaches.
 
 ghost use Rattle.std.specs.Prelude.{◌≡◌, Some, None, true, false, slice_get, IfOk, OnOk, OnErr};
-ghost use Rattle.wasm_readers_types.specs.SeenValues.{index_of, field_of};
+ghost use Rattle.wasm_readers_types.specs.WasmReadersValues.SeenValues.{index_of, field_of};
 ghost use Rattle.wasm_operator_checks.specs.WasmOperatorSteps.Actions.{gc, has, reaches_type, element_is_mutable};
 ghost use Rattle.wasm_operator_checks.specs.Steps.{held};
 ghost use Rattle.wasm_operator_checks.specs.DeclaredTypes.{element_in, Barred};

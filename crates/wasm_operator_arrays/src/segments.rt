@@ -1,7 +1,7 @@
 //! What arrays are made of and filled from.
 
 ghost use Rattle.std.specs.Prelude.{◌≡◌, true, false, nat_lt, OnOk, OnErr};
-ghost use Rattle.wasm_readers_types.specs.SeenValues.{val_of, storage_of};
+ghost use Rattle.wasm_readers_types.specs.WasmReadersValues.SeenValues.{val_of, storage_of};
 ghost use Rattle.wasm_operator_checks.specs.WasmSpecRules.Attempts.{passes};
 ghost use Rattle.wasm_operator_checks.specs.WasmOperatorSteps.Machine.{same_number};
 ghost use Rattle.wasm_operator_checks.specs.WasmOperatorSteps.Matching.{matches_storage};

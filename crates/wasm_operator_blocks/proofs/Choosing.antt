@@ -5,7 +5,7 @@ use Rattle.wasm_spec.specs.Syntax.{AbstractHeap, Val, i32, map_val}
 use Rattle.wasm_spec.specs.ValueTypes.{allows_val}
 use Rattle.wasm_spec_rules.specs.Contexts.{Context}
 use Rattle.wasm_spec_rules.specs.FeatureFlags.{features_of}
-use Rattle.wasm_readers_types.specs.declared.indices.UnpackedIndex.{UnpackedIndex}
+use Rattle.wasm_readers_types.specs.WasmReadersValues.declared.indices.UnpackedIndex.{UnpackedIndex}
 use Rattle.wasm_operator_checks.specs.WasmOperatorSteps.Actions.{Action, these, allows, need, take, choose}
 use Rattle.wasm_operator_checks.specs.WasmOperatorSteps.Machine.{Operand, bottom, bottom_reference, open_reference, known, State, pop_any, pop_val, push_operand, chosen, same_number}
 use Rattle.wasm_operator_checks.specs.WasmOperatorSteps.Shapes.{one}

@@ -5,7 +5,7 @@ use Rattle.std.specs.Prelude.{Option, Some, None, Result, if◌then◌else◌}
 use Rattle.wasm_spec.specs.MatchingTests.{World}
 use Rattle.wasm_spec.specs.Syntax.{Val, i32}
 use Rattle.wasm_spec_rules.specs.Contexts.{Context}
-use Rattle.wasm_readers_types.specs.declared.indices.UnpackedIndex.{UnpackedIndex}
+use Rattle.wasm_readers_types.specs.WasmReadersValues.declared.indices.UnpackedIndex.{UnpackedIndex}
 use Rattle.wasm_operators.specs.Control.{Block, empty_block, value_block, func_block}
 use Rattle.wasm_operator_checks.specs.WasmOperatorSteps.Actions.{OperandTypes, Check, has, exceptions, Action, take, enter}
 use Rattle.wasm_spec_rules.specs.Attempts.{◌>>=◌, guard}

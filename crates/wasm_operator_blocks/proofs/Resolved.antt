@@ -7,7 +7,7 @@ use Rattle.wasm_spec.specs.Syntax.{Sub, Heap, abstract_heap, concrete, exact, Va
 use Rattle.wasm_spec.specs.ValueTypes.{implies, allows_heap, allows_val}
 use Rattle.wasm_spec_rules.specs.Contexts.{Context}
 use Rattle.wasm_spec_rules.specs.FeatureFlags.{features_of}
-use Rattle.wasm_readers_types.specs.declared.indices.UnpackedIndex.{UnpackedIndex}
+use Rattle.wasm_readers_types.specs.WasmReadersValues.declared.indices.UnpackedIndex.{UnpackedIndex}
 use Rattle.wasm_operators.specs.Control.{Block, empty_block, value_block, func_block}
 use Rattle.wasm_spec_rules.specs.Attempts.{◌>>=◌, guard, passes}
 use Rattle.wasm_spec_rules.specs.Signatures.{Signature, signature_of}

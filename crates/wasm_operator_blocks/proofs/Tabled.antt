@@ -5,7 +5,7 @@ use Rattle.std.proofs.lemmas.Bool.Decides.{nat_tests}
 use Rattle.std.proofs.lemmas.List.{length-map}
 use Rattle.wasm_spec.specs.Syntax.{Val, i32}
 use Rattle.wasm_spec_rules.specs.Contexts.{Context}
-use Rattle.wasm_readers_types.specs.declared.indices.UnpackedIndex.{UnpackedIndex}
+use Rattle.wasm_readers_types.specs.WasmReadersValues.declared.indices.UnpackedIndex.{UnpackedIndex}
 use Rattle.wasm_operators.specs.SeenLists.{GivesFront}
 use Rattle.wasm_operator_checks.specs.WasmOperatorSteps.Actions.{label, Action, take, branch_to_one_of}
 use Rattle.wasm_spec_rules.specs.Attempts.{◌>>=◌, guard}

@@ -4,7 +4,7 @@ use Rattle.std.specs.Option.{option_map}
 use Rattle.std.specs.Prelude.{Option, Some, None, slice_get}
 use Rattle.wasm_spec.specs.Syntax.{Val, Sub, abstract_heap, exn_heap, reference}
 use Rattle.wasm_spec_rules.specs.Contexts.{Context}
-use Rattle.wasm_readers_types.specs.declared.indices.UnpackedIndex.{UnpackedIndex}
+use Rattle.wasm_readers_types.specs.WasmReadersValues.declared.indices.UnpackedIndex.{UnpackedIndex}
 use Rattle.wasm_operator_checks.specs.WasmOperatorSteps.Actions.{of_tag, params, is_exception}
 use Rattle.wasm_spec_rules.specs.Attempts.{◌>>=◌, guard, passes}
 use Rattle.wasm_spec_rules.specs.Signatures.{Signature, signature_of}

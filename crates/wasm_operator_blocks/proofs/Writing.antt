@@ -7,7 +7,7 @@ use Rattle.wasm_spec.specs.Syntax.{Heap, abstract_heap, concrete, exact, Val, i3
 use Rattle.wasm_spec.proofs.Renaming.{val-renames}
 use Rattle.wasm_spec_rules.specs.Contexts.{Context}
 use Rattle.wasm_readers.specs.Written.{written}
-use Rattle.wasm_readers_types.specs.declared.indices.UnpackedIndex.{UnpackedIndex}
+use Rattle.wasm_readers_types.specs.WasmReadersValues.declared.indices.UnpackedIndex.{UnpackedIndex}
 use Rattle.wasm_operators.specs.Control.{select_of}
 use Rattle.wasm_operators.specs.SeenLists.{begun_by, first_items, GivesFront}
 use Rattle.wasm_operator_checks.specs.WasmOperatorSteps.Machine.{State}

@@ -1,6 +1,6 @@
 -- A frame that begins again as `else`.
 use Rattle.std.specs.Prelude.{false, ◌-◌, List, [], ◌∷◌, length, drop}
-use Rattle.wasm_readers_types.specs.declared.indices.UnpackedIndex.{UnpackedIndex}
+use Rattle.wasm_readers_types.specs.WasmReadersValues.declared.indices.UnpackedIndex.{UnpackedIndex}
 use Rattle.wasm_operator_checks.specs.WasmOperatorSteps.Machine.{else_kind, Frame, State}
 
 abbrev pub again_in : List (Frame UnpackedIndex) → State UnpackedIndex → State UnpackedIndex

@@ -1,7 +1,7 @@
 -- Targets of a branch table.
 use Rattle.std.specs.Prelude.{◌≡◌, ℕ, Bool, true, ◌&&◌, ◌==◌, List, length, Option, Some, is_some}
 use Rattle.wasm_spec_rules.specs.Contexts.{Context}
-use Rattle.wasm_readers_types.specs.declared.indices.UnpackedIndex.{UnpackedIndex}
+use Rattle.wasm_readers_types.specs.WasmReadersValues.declared.indices.UnpackedIndex.{UnpackedIndex}
 use Rattle.wasm_spec_rules.specs.Attempts.{passes}
 use Rattle.wasm_operator_checks.specs.WasmOperatorSteps.Machine.{pop_vals}
 use Rattle.wasm_operator_checks.specs.WasmOperatorSteps.Meanings.{label_at, labels_fit}

@@ -4,7 +4,7 @@ use Rattle.std.specs.Option.{option_map}
 use Rattle.wasm_spec.specs.Syntax.{Val}
 use Rattle.wasm_spec.specs.MatchingTests.{World}
 use Rattle.wasm_spec_rules.specs.Contexts.{Context}
-use Rattle.wasm_readers_types.specs.declared.indices.UnpackedIndex.{UnpackedIndex}
+use Rattle.wasm_readers_types.specs.WasmReadersValues.declared.indices.UnpackedIndex.{UnpackedIndex}
 use Rattle.wasm_operators.specs.Control.{Block}
 use Rattle.wasm_spec_rules.specs.Attempts.{◌>>=◌}
 use Rattle.wasm_operator_checks.specs.WasmOperatorSteps.Actions.{Check}

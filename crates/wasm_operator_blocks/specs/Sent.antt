@@ -2,7 +2,7 @@
 use Rattle.std.specs.Prelude.{ℕ, Bool, ◌==◌, List, length, Option, false}
 use Rattle.wasm_spec.specs.Syntax.{Val, reference, abstract_heap, exn_heap}
 use Rattle.wasm_spec_rules.specs.Contexts.{Context}
-use Rattle.wasm_readers_types.specs.declared.indices.UnpackedIndex.{UnpackedIndex}
+use Rattle.wasm_readers_types.specs.WasmReadersValues.declared.indices.UnpackedIndex.{UnpackedIndex}
 use Rattle.wasm_operator_checks.specs.WasmOperatorSteps.Actions.{label}
 use Rattle.wasm_spec_rules.specs.Attempts.{◌>>=◌, guard, passes}
 use Rattle.wasm_operator_checks.specs.WasmOperatorSteps.Matching.{matches_vals}

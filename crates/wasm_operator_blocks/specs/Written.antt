@@ -1,6 +1,6 @@
 -- Operators as they are written in a module, over type indices.
 use Rattle.std.specs.Prelude.{ℕ, ⊤}
-use Rattle.wasm_readers_types.specs.declared.indices.UnpackedIndex.{UnpackedIndex}
+use Rattle.wasm_readers_types.specs.WasmReadersValues.declared.indices.UnpackedIndex.{UnpackedIndex}
 use Rattle.wasm_operators.specs.Control as syntax
 use Rattle.wasm_operators.specs.Control.{Block, empty_block, value_block, func_block, Control, Parametric}
 use Rattle.wasm_operators.specs.Maps.{map_block, map_control, map_parametric}

@@ -1,7 +1,7 @@
 //! Catch clauses.
 
 ghost use Rattle.std.specs.Prelude.{◌≡◌, ◌∷◌, ◌++◌, [], is_ok, map};
-ghost use Rattle.wasm_readers_types.specs.SeenValues.{val_of};
+ghost use Rattle.wasm_readers_types.specs.WasmReadersValues.SeenValues.{val_of};
 ghost use Rattle.wasm_operators.specs.Control.{catch_at};
 ghost use Rattle.wasm_operators.specs.SeenLists.{listed};
 ghost use Rattle.wasm_operator_checks.specs.WasmOperatorSteps.Matching.{matches_vals};

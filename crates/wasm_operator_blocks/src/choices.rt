@@ -5,7 +5,7 @@ ghost use Rattle.std.specs.Option.{option_map};
 ghost use Rattle.wasm_spec.specs.BinaryTypes.{val_at};
 ghost use Rattle.wasm_spec.specs.Syntax.{map_val};
 ghost use Rattle.wasm_readers.specs.Written.{written};
-ghost use Rattle.wasm_readers_types.specs.SeenValues.{val_of};
+ghost use Rattle.wasm_readers_types.specs.WasmReadersValues.SeenValues.{val_of};
 ghost use Rattle.wasm_operators.specs.Control.{select, select_of};
 ghost use Rattle.wasm_operators.specs.SeenLists.{listed};
 ghost use Rattle.wasm_operator_checks.specs.WasmOperatorSteps.Machine.{chosen, same_number};

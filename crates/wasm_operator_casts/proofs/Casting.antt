@@ -9,7 +9,7 @@ use Rattle.wasm_spec.specs.Syntax.{AbstractHeap, Heap, abstract_heap, concrete, 
 use Rattle.wasm_spec.specs.ValueTypes.{allows_heap, allows_ref, allows_val}
 use Rattle.wasm_spec_rules.specs.Contexts.{Context}
 use Rattle.wasm_spec_rules.specs.FeatureFlags.{features_of}
-use Rattle.wasm_readers_types.specs.declared.indices.UnpackedIndex.{UnpackedIndex}
+use Rattle.wasm_readers_types.specs.WasmReadersValues.declared.indices.UnpackedIndex.{UnpackedIndex}
 use Rattle.wasm_operator_checks.specs.WasmOperatorSteps.Actions.{may_be_cast}
 use Rattle.wasm_spec_rules.specs.Attempts.{◌>>=◌}
 use Rattle.wasm_spec_rules.specs.Signatures.{resolve_heap, resolve_ref}

@@ -4,7 +4,7 @@ use Rattle.std.specs.Prelude.{Some, None}
 use Rattle.wasm_spec.specs.Matching.{is_shared_heap}
 use Rattle.wasm_spec.specs.Syntax.{AbstractHeap, i31_heap, abstract_heap, Ref, Val, reference, i32}
 use Rattle.wasm_spec_rules.specs.Contexts.{Context}
-use Rattle.wasm_readers_types.specs.declared.indices.UnpackedIndex.{UnpackedIndex}
+use Rattle.wasm_readers_types.specs.WasmReadersValues.declared.indices.UnpackedIndex.{UnpackedIndex}
 use Rattle.wasm_operator_checks.specs.WasmOperatorSteps.Actions.{these, take_below, give, convert}
 use Rattle.wasm_spec_rules.specs.Attempts.{guard}
 use Rattle.wasm_operator_checks.specs.WasmOperatorSteps.Bodies.{Surroundings}

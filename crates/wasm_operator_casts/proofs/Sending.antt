@@ -4,7 +4,7 @@ use Rattle.std.specs.Prelude.{Some, None, Option, Result, if◌then◌else◌}
 use Rattle.wasm_spec.specs.MatchingTests.{World, matches_val}
 use Rattle.wasm_spec.specs.Syntax.{Ref, Val, reference}
 use Rattle.wasm_spec_rules.specs.Contexts.{Context}
-use Rattle.wasm_readers_types.specs.declared.indices.UnpackedIndex.{UnpackedIndex}
+use Rattle.wasm_readers_types.specs.WasmReadersValues.declared.indices.UnpackedIndex.{UnpackedIndex}
 use Rattle.wasm_operator_checks.specs.WasmOperatorSteps.Actions.{has, gc, allows, may_be_cast, each_matches, these, front, last, label, joined, Action, need, take, give}
 use Rattle.wasm_spec_rules.specs.Attempts.{◌>>=◌, guard, last_of, front_of}
 use Rattle.wasm_operator_checks.specs.WasmOperatorSteps.Machine.{State}

@@ -6,7 +6,7 @@ use Rattle.wasm_spec.specs.Matching.{kind_of, top_of, top_of_heap}
 use Rattle.wasm_spec.specs.MatchingTests.{same_abstract}
 use Rattle.wasm_spec.specs.Syntax.{AbstractHeap, cont_heap, abstract_heap, concrete, exact, Ref, Sub, Val, reference}
 use Rattle.wasm_spec_rules.specs.Contexts.{Context}
-use Rattle.wasm_readers_types.specs.declared.indices.UnpackedIndex.{UnpackedIndex}
+use Rattle.wasm_readers_types.specs.WasmReadersValues.declared.indices.UnpackedIndex.{UnpackedIndex}
 use Rattle.wasm_operator_checks.specs.WasmOperatorSteps.Actions.{top, can_be_tested}
 use Rattle.wasm_spec_rules.specs.Attempts.{◌>>=◌}
 use Rattle.wasm_operator_checks.specs.WasmValidatorResources.Answers.{world, sub_in}

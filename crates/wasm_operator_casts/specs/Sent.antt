@@ -3,9 +3,9 @@ use Rattle.std.specs.Prelude.{◌≡◌, ℕ, true, List, [], ◌∷◌, ◌++�
 use Rattle.wasm_spec.specs.Syntax.{Ref, Val, reference}
 use Rattle.wasm_spec.specs.MatchingTests.{World, matches_val}
 use Rattle.wasm_spec_rules.specs.Contexts.{Context}
-use Rattle.wasm_readers_types.specs.SeenValues.{ref_of}
-use Rattle.wasm_readers_types.specs.declared.indices.UnpackedIndex.{UnpackedIndex}
-use Rattle.wasm_readers_types.specs.declared.values.RefType.{RefType}
+use Rattle.wasm_readers_types.specs.WasmReadersValues.SeenValues.{ref_of}
+use Rattle.wasm_readers_types.specs.WasmReadersValues.declared.indices.UnpackedIndex.{UnpackedIndex}
+use Rattle.wasm_readers_types.specs.WasmReadersValues.declared.values.RefType.{RefType}
 use Rattle.wasm_operator_checks.specs.WasmOperatorSteps.Actions.{has, gc, allows, may_be_cast, Action, need}
 use Rattle.wasm_spec_rules.specs.Attempts.{◌>>=◌, guard, last_of, front_of}
 use Rattle.wasm_operator_checks.specs.WasmOperatorSteps.Machine.{State}

@@ -3,9 +3,9 @@ use Rattle.std.specs.Prelude.{ℕ, Bool, Option}
 use Rattle.wasm_spec.specs.Syntax.{Heap, abstract_heap}
 use Rattle.wasm_spec.specs.Matching.{top_of_heap}
 use Rattle.wasm_spec_rules.specs.Contexts.{Context}
-use Rattle.wasm_readers_types.specs.SeenValues.{abstract_heap_of}
-use Rattle.wasm_readers_types.specs.declared.indices.UnpackedIndex.{UnpackedIndex}
-use Rattle.wasm_readers_types.specs.declared.values.AbstractHeapType.{AbstractHeapType}
+use Rattle.wasm_readers_types.specs.WasmReadersValues.SeenValues.{abstract_heap_of}
+use Rattle.wasm_readers_types.specs.WasmReadersValues.declared.indices.UnpackedIndex.{UnpackedIndex}
+use Rattle.wasm_readers_types.specs.WasmReadersValues.declared.values.AbstractHeapType.{AbstractHeapType}
 use Rattle.wasm_spec_rules.specs.Attempts.{◌>>=◌}
 use Rattle.wasm_spec_rules.specs.Signatures.{resolve_heap}
 use Rattle.wasm_operator_checks.specs.WasmValidatorResources.Answers.{world}

@@ -5,7 +5,7 @@ ghost use Rattle.std.specs.Option.{option_map};
 ghost use Rattle.wasm_spec.specs.Syntax.{map_ref, reference};
 ghost use Rattle.wasm_spec.specs.ValueTypes.{allows_val};
 ghost use Rattle.wasm_spec_rules.specs.FeatureFlags.{features_of};
-ghost use Rattle.wasm_readers_types.specs.SeenValues.{ref_of};
+ghost use Rattle.wasm_readers_types.specs.WasmReadersValues.SeenValues.{ref_of};
 ghost use Rattle.wasm_operators.specs.References.{br_on_cast, br_on_cast_fail};
 ghost use Rattle.wasm_spec_rules.specs.Signatures.{resolve_ref};
 ghost use Rattle.wasm_operator_checks.specs.WasmOperatorSteps.Meanings.{casts};

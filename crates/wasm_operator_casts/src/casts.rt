@@ -1,7 +1,7 @@
 //! Tests and casts.
 
 ghost use Rattle.wasm_spec.specs.Syntax.{map_heap};
-ghost use Rattle.wasm_readers_types.specs.SeenValues.{heap_of};
+ghost use Rattle.wasm_readers_types.specs.WasmReadersValues.SeenValues.{heap_of};
 ghost use Rattle.wasm_operators.specs.References.{ref_cast, ref_test, reference_to};
 ghost use Rattle.wasm_operator_checks.specs.WasmOperatorSteps.Shapes.{cast_shape};
 ghost use Rattle.wasm_operator_checks.specs.WasmValidatorResources.Answers.{IsWrittenHeap, written_index};

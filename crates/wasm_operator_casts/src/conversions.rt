@@ -2,8 +2,8 @@
 
 ghost use Rattle.std.specs.Prelude.{◌≡◌, ◌∷◌, [], true, false};
 ghost use Rattle.wasm_spec.specs.Syntax.{abstract_heap, i32};
-ghost use Rattle.wasm_readers_types.specs.SeenValues.{abstract_heap_of};
-ghost use Rattle.wasm_readers_types.specs.declared.indices.UnpackedIndex.{UnpackedIndex};
+ghost use Rattle.wasm_readers_types.specs.WasmReadersValues.SeenValues.{abstract_heap_of};
+ghost use Rattle.wasm_readers_types.specs.WasmReadersValues.declared.indices.UnpackedIndex.{UnpackedIndex};
 ghost use Rattle.wasm_operators.specs.WasmOperatorsPlain.declared.conversions.ConversionOperator.TheVariants.{AnyConvertExtern, ExternConvertAny, RefI31, I31GetS, RefI31Shared};
 ghost use Rattle.wasm_operator_checks.specs.WasmOperatorSteps.Actions.{has as has_check, gc, allows};
 ghost use Rattle.wasm_operator_checks.specs.WasmOperatorSteps.Bodies.{Surroundings};

@@ -2,7 +2,7 @@
 
 ghost use Rattle.std.specs.Prelude.{◌++◌, ◌∷◌, []};
 ghost use Rattle.wasm_spec.specs.Syntax.{reference};
-ghost use Rattle.wasm_readers_types.specs.SeenValues.{ref_of};
+ghost use Rattle.wasm_readers_types.specs.WasmReadersValues.SeenValues.{ref_of};
 ghost use Rattle.wasm_operator_checks.specs.WasmOperatorStacks.SeenTypeWords.{val_in};
 ghost use Rattle.wasm_operator_checks.specs.WasmOperatorSteps.Actions.{label};
 ghost use Rattle.wasm_operator_checks.specs.WasmValidatorResources.Answers.{world};

@@ -7,7 +7,7 @@ use Rattle.wasm_validator_resources.specs.WasmSpec.ValueTypes.{allows_val}
 use Rattle.wasm_validator_resources.specs.WasmSpec.MatchingTests.{World}
 use Rattle.wasm_validator_resources.specs.WasmSpecRules.Contexts.{Context}
 use Rattle.wasm_validator_resources.specs.WasmSpecRules.FeatureFlags.{features_of}
-use Rattle.wasm_validator_resources.specs.WasmReadersTypes.declared.indices.UnpackedIndex.{UnpackedIndex}
+use Rattle.wasm_validator_resources.specs.WasmReadersTypes.WasmReadersValues.declared.indices.UnpackedIndex.{UnpackedIndex}
 use Rattle.wasm_validator_resources.specs.WasmSpecRules.Attempts.{◌>>=◌, guard}
 use Rattle.wasm_operator_stacks.specs.WasmOperatorSteps.Bodies.{Surroundings}
 use Rattle.wasm_operator_stacks.specs.WasmOperatorSteps.Actions.{OperandTypes, Needed, Check, has, allows, Action, need, take, give, stop}

@@ -2,9 +2,9 @@
 use Rattle.std.proofs.Common.{◌≡◌, ◌≢◌, ℕ, ◌+◌, ◌<◌, ◌≤◌, Bool, true, false, ◌&&◌, List, [], ◌∷◌, length, drop, map, get_or, refl, sym, ◌∙◌, ap, add-one, arith}
 use Rattle.std.specs.Prelude.{zero, suc}
 use Rattle.wasm_validator_resources.specs.WasmSpec.MatchingTests.{World, matches_val}
-use Rattle.wasm_validator_resources.specs.WasmReadersTypes.SeenValues.{val_of}
-use Rattle.wasm_validator_resources.specs.WasmReadersTypes.declared.indices.UnpackedIndex.{UnpackedIndex}
-use Rattle.wasm_validator_resources.specs.WasmReadersTypes.declared.values.ValType.{ValType}
+use Rattle.wasm_validator_resources.specs.WasmReadersTypes.WasmReadersValues.SeenValues.{val_of}
+use Rattle.wasm_validator_resources.specs.WasmReadersTypes.WasmReadersValues.declared.indices.UnpackedIndex.{UnpackedIndex}
+use Rattle.wasm_validator_resources.specs.WasmReadersTypes.WasmReadersValues.declared.values.ValType.{ValType}
 use Rattle.wasm_operator_stacks.specs.WasmOperatorSteps.Matching.{matches_vals}
 
 past_all : {X : Type 0} (n : ℕ) (xs : List X) → length xs ≤ n → drop n xs ≡ []

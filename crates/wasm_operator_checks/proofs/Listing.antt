@@ -4,9 +4,9 @@ use Rattle.std.specs.Prelude.{zero, suc, Some, None}
 use Rattle.std.proofs.lemmas.Option.{slice_get-get_or}
 use Rattle.wasm_validator_resources.specs.WasmSpec.MatchingTests.{World}
 use Rattle.wasm_validator_resources.specs.WasmSpec.Syntax.{Val}
-use Rattle.wasm_validator_resources.specs.WasmReadersTypes.SeenValues.{val_of}
-use Rattle.wasm_validator_resources.specs.WasmReadersTypes.declared.indices.UnpackedIndex.{UnpackedIndex}
-use Rattle.wasm_validator_resources.specs.WasmReadersTypes.declared.values.ValType.{ValType}
+use Rattle.wasm_validator_resources.specs.WasmReadersTypes.WasmReadersValues.SeenValues.{val_of}
+use Rattle.wasm_validator_resources.specs.WasmReadersTypes.WasmReadersValues.declared.indices.UnpackedIndex.{UnpackedIndex}
+use Rattle.wasm_validator_resources.specs.WasmReadersTypes.WasmReadersValues.declared.values.ValType.{ValType}
 use Rattle.wasm_operator_stacks.specs.WasmOperatorSteps.Machine.{State, pop_val, pop_vals}
 use Rattle.wasm_operator_checks.proofs.Looking.{from_on}
 

@@ -5,7 +5,7 @@ use Rattle.std.specs.Prelude.{zero, suc, slice_get, Some, None}
 use Rattle.std.proofs.lemmas.Bool.Decides.{nat_tests}
 use Rattle.std.proofs.lemmas.List.{length-drop, drop-map, length-map}
 use Rattle.std.proofs.lemmas.Option.{slice_get-map, slice_get_within}
-use Rattle.wasm_validator_resources.specs.WasmReadersTypes.declared.indices.UnpackedIndex.{UnpackedIndex}
+use Rattle.wasm_validator_resources.specs.WasmReadersTypes.WasmReadersValues.declared.indices.UnpackedIndex.{UnpackedIndex}
 use Rattle.wasm_validator_resources.specs.WasmSpec.MatchingTests.{World}
 use Rattle.wasm_validator_resources.specs.WasmSpec.Syntax.{Val}
 use Rattle.wasm_operator_stacks.specs.WasmOperatorSteps.Machine.{Operand, State, pop_any, pop_val, popped, bottom, matches_operand}

@@ -5,7 +5,7 @@ use Rattle.wasm_validator_resources.specs.WasmSpec.Syntax.{Val, i32, concrete, S
 use Rattle.wasm_validator_resources.specs.WasmSpec.ValueTypes.{implies}
 use Rattle.wasm_validator_resources.specs.WasmSpecRules.Contexts.{Context}
 use Rattle.wasm_validator_resources.specs.WasmSpecRules.FeatureFlags.{features_of}
-use Rattle.wasm_validator_resources.specs.WasmReadersTypes.declared.indices.UnpackedIndex.{UnpackedIndex}
+use Rattle.wasm_validator_resources.specs.WasmReadersTypes.WasmReadersValues.declared.indices.UnpackedIndex.{UnpackedIndex}
 use Rattle.wasm_operator_stacks.specs.WasmOperatorSteps.Actions.{Needed, has, reaches_type, these, new_reference, Action, need}
 use Rattle.wasm_operator_stacks.specs.WasmOperatorSteps.Machine.{State}
 use Rattle.wasm_validator_resources.specs.WasmSpecRules.Signatures.{resolve_val}

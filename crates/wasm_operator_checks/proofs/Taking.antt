@@ -3,7 +3,7 @@ use Rattle.std.proofs.Common.{◌≡◌, ℕ, false, List, [], ◌∷◌, ◌++�
 use Rattle.std.specs.Prelude.{Some, None}
 use Rattle.wasm_validator_resources.specs.WasmSpec.MatchingTests.{World}
 use Rattle.wasm_validator_resources.specs.WasmSpec.Syntax.{Val}
-use Rattle.wasm_validator_resources.specs.WasmReadersTypes.declared.indices.UnpackedIndex.{UnpackedIndex}
+use Rattle.wasm_validator_resources.specs.WasmReadersTypes.WasmReadersValues.declared.indices.UnpackedIndex.{UnpackedIndex}
 use Rattle.wasm_operator_stacks.specs.WasmOperatorSteps.Machine.{State, become_unreachable, pop_val, pop_vals, push_vals}
 use Rattle.wasm_operator_stacks.proofs.WasmOperatorSteps.TakenInTurn.{pop_vals-append}
 use Rattle.wasm_operator_stacks.specs.Seen.{state_of, below}

@@ -8,7 +8,7 @@ use Rattle.wasm_operator_stacks.specs.WasmOperatorsPlain.declared.signatures.Num
 use Rattle.wasm_operator_stacks.specs.WasmOperatorsPlain.declared.signatures.NumberType.TheVariants as number
 use Rattle.wasm_validator_resources.specs.WasmReadersTypes.SeenExterns.{memory_of}
 use Rattle.wasm_validator_resources.specs.WasmReadersTypes.declared.externs.MemoryType.{MemoryType}
-use Rattle.wasm_validator_resources.specs.WasmReadersTypes.declared.indices.UnpackedIndex.{UnpackedIndex}
+use Rattle.wasm_validator_resources.specs.WasmReadersTypes.WasmReadersValues.declared.indices.UnpackedIndex.{UnpackedIndex}
 use Rattle.wasm_operator_stacks.specs.WasmOperatorsPlain.Memories.{max_align_of}
 use Rattle.wasm_operator_stacks.specs.WasmOperatorsPlain.declared.memories.MemoryOperator.{MemoryOperator}
 use Rattle.wasm_operator_stacks.specs.WasmOperatorsPlain.declared.memories.MemArg.{MemArg}

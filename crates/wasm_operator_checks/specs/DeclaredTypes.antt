@@ -4,7 +4,7 @@ use Rattle.std.specs.Prelude.{◌≡◌, ℕ, Bool, false, List, Option, if◌th
 use Rattle.std.specs.Option.{option_map}
 use Rattle.wasm_validator_resources.specs.WasmSpec.Syntax.{Heap, concrete, exact, Field}
 use Rattle.wasm_validator_resources.specs.WasmSpecRules.Contexts.{Context}
-use Rattle.wasm_validator_resources.specs.WasmReadersTypes.declared.indices.UnpackedIndex.{UnpackedIndex}
+use Rattle.wasm_validator_resources.specs.WasmReadersTypes.WasmReadersValues.declared.indices.UnpackedIndex.{UnpackedIndex}
 use Rattle.wasm_operator_stacks.specs.WasmOperatorSteps.Actions.{Needed, has, reaches_type}
 use Rattle.wasm_validator_resources.specs.WasmSpecRules.Attempts.{◌>>=◌}
 use Rattle.wasm_operator_stacks.specs.WasmOperatorSteps.Meanings.{fields_of, element_of}

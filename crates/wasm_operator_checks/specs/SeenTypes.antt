@@ -2,8 +2,8 @@
 use Rattle.std.specs.Prelude.{List, [], ◌∷◌, map, Option, Some}
 use Rattle.wasm_validator_resources.specs.WasmSpec.Syntax.{Val}
 use Rattle.wasm_validator_resources.specs.WasmSpec.MatchingTests.{World}
-use Rattle.wasm_validator_resources.specs.WasmReadersTypes.SeenValues.{val_of}
-use Rattle.wasm_validator_resources.specs.WasmReadersTypes.declared.indices.UnpackedIndex.{UnpackedIndex}
+use Rattle.wasm_validator_resources.specs.WasmReadersTypes.WasmReadersValues.SeenValues.{val_of}
+use Rattle.wasm_validator_resources.specs.WasmReadersTypes.WasmReadersValues.declared.indices.UnpackedIndex.{UnpackedIndex}
 use Rattle.wasm_operator_stacks.specs.SeenTypeWords.{val_in}
 use Rattle.wasm_validator_resources.specs.WasmSpecRules.Attempts.{◌>>=◌}
 use Rattle.wasm_operator_stacks.specs.WasmOperatorSteps.Machine.{State, become_unreachable, pop_vals, push_vals}

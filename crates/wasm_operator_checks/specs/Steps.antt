@@ -2,7 +2,7 @@
 use Rattle.std.specs.Prelude.{◌≡◌, ◌≤◌, ℕ, Bool, List, length, Option, Some, None, Result, Ok, Err}
 use Rattle.wasm_validator_resources.specs.WasmSpec.Syntax.{Val}
 use Rattle.wasm_validator_resources.specs.WasmSpecRules.Contexts.{Context}
-use Rattle.wasm_validator_resources.specs.WasmReadersTypes.declared.indices.UnpackedIndex.{UnpackedIndex}
+use Rattle.wasm_validator_resources.specs.WasmReadersTypes.WasmReadersValues.declared.indices.UnpackedIndex.{UnpackedIndex}
 use Rattle.wasm_operator_stacks.specs.WasmOperatorSteps.Actions.{Action, Check, OperandTypes}
 use Rattle.wasm_operator_stacks.specs.WasmOperatorSteps.Meanings.{run, holds, types_at}
 use Rattle.wasm_operator_stacks.specs.WasmOperatorSteps.Shapes.{Shape}

@@ -2,8 +2,8 @@
 use Rattle.std.specs.Prelude.{◌≡◌, ℕ, Bool, true, false, Option, Some, None, ⊤}
 use Rattle.std.specs.Option.{option_map}
 use Rattle.wasm_validator_resources.specs.WasmSpec.Syntax.{Val}
-use Rattle.wasm_validator_resources.specs.WasmReadersTypes.SeenValues.{val_of}
-use Rattle.wasm_validator_resources.specs.WasmReadersTypes.declared.indices.UnpackedIndex.{UnpackedIndex}
+use Rattle.wasm_validator_resources.specs.WasmReadersTypes.WasmReadersValues.SeenValues.{val_of}
+use Rattle.wasm_validator_resources.specs.WasmReadersTypes.WasmReadersValues.declared.indices.UnpackedIndex.{UnpackedIndex}
 use Rattle.wasm_validator_resources.specs.WasmReadersErrors.declared.error.Error.{Error}
 use Rattle.wasm_validator_resources.specs.WasmReadersErrors.declared.error.Error.TheVariants as error
 use Rattle.wasm_validator_resources.specs.WasmReadersErrors.declared.error.Fault.{Fault}

@@ -2,7 +2,7 @@
 
 ghost use Rattle.std.specs.Prelude.{◌≡◌};
 ghost use Rattle.wasm_validator_resources.specs.WasmSpec.MatchingTests.{same_flag as agree};
-ghost use Rattle.wasm_validator_resources.specs.WasmReadersTypes.SeenValues.{val_of, storage_of};
+ghost use Rattle.wasm_validator_resources.specs.WasmReadersTypes.WasmReadersValues.SeenValues.{val_of, storage_of};
 ghost use Rattle.wasm_operator_stacks.specs.WasmOperatorSteps.Meanings.{has_default as defaults, is_packed as packed, unpack as unpacked_as};
 
 use wasm_validator_resources::readers_types::{StorageType, ValType};

@@ -1,7 +1,7 @@
 //! Lists of types that match.
 
 ghost use Rattle.std.specs.Prelude.{◌≡◌, map};
-ghost use Rattle.wasm_validator_resources.specs.WasmReadersTypes.SeenValues.{val_of};
+ghost use Rattle.wasm_validator_resources.specs.WasmReadersTypes.WasmReadersValues.SeenValues.{val_of};
 ghost use Rattle.wasm_operator_stacks.specs.WasmOperatorSteps.Matching.{matches_vals};
 ghost use Rattle.wasm_validator_resources.specs.Answers.{world};
 

@@ -1,7 +1,7 @@
 //! Looks at operands below others that count as taken.
 
 ghost use Rattle.std.specs.Prelude.{◌≡◌, ◌≤◌, length, map};
-ghost use Rattle.wasm_validator_resources.specs.WasmReadersTypes.SeenValues.{val_of};
+ghost use Rattle.wasm_validator_resources.specs.WasmReadersTypes.WasmReadersValues.SeenValues.{val_of};
 ghost use Rattle.wasm_operator_stacks.specs.SeenTypeWords.{val_in};
 ghost use Rattle.wasm_operator_stacks.specs.WasmOperatorSteps.Machine.{pop_any, pop_val, pop_vals};
 ghost use Rattle.wasm_validator_resources.specs.Answers.{world};

@@ -2,7 +2,7 @@
 
 ghost use Rattle.std.specs.Prelude.{◌≡◌};
 ghost use Rattle.wasm_operator_stacks.specs.SeenTypeWords.{val_in};
-ghost use Rattle.wasm_validator_resources.specs.WasmReadersTypes.SeenValues.{val_of, abstract_heap_of};
+ghost use Rattle.wasm_validator_resources.specs.WasmReadersTypes.WasmReadersValues.SeenValues.{val_of, abstract_heap_of};
 ghost use Rattle.wasm_operator_stacks.specs.WasmOperatorSteps.Machine.{matches_operand, open_reference};
 ghost use Rattle.wasm_operator_stacks.specs.SeenOperands.{operand_of, operand_seen};
 ghost use Rattle.wasm_validator_resources.specs.Answers.{world};

@@ -2,7 +2,7 @@
 
 ghost use Rattle.std.specs.Prelude.{◌≡◌, true, false, slice_get, option_map};
 ghost use Rattle.wasm_validator_resources.specs.WasmSpec.Syntax.{concrete, exact};
-ghost use Rattle.wasm_validator_resources.specs.WasmReadersTypes.SeenValues.{index_of};
+ghost use Rattle.wasm_validator_resources.specs.WasmReadersTypes.WasmReadersValues.SeenValues.{index_of};
 ghost use Rattle.wasm_validator_resources.specs.WasmSpecRules.FeatureFlags.{features_of};
 ghost use Rattle.wasm_operator_stacks.specs.SeenTypeWords.{val_in};
 ghost use Rattle.wasm_operator_stacks.specs.WasmOperatorSteps.Meanings.{ref_to};

@@ -2,8 +2,8 @@
 
 ghost use Rattle.std.specs.Prelude.{◌≡◌, ◌&&◌};
 ghost use Rattle.wasm_validator_resources.specs.WasmSpec.ValueTypes.{implies};
-ghost use Rattle.wasm_validator_resources.specs.WasmReadersErrors.On.{has_flag};
-ghost use Rattle.wasm_validator_resources.specs.WasmReadersTypes.declared.indices.UnpackedIndex.{UnpackedIndex};
+ghost use Rattle.wasm_validator_resources.specs.WasmReadersErrors.WasmReadersFeatures.On.{has_flag};
+ghost use Rattle.wasm_validator_resources.specs.WasmReadersTypes.WasmReadersValues.declared.indices.UnpackedIndex.{UnpackedIndex};
 ghost use Rattle.wasm_operator_stacks.specs.SeenTypeWords.{val_in};
 ghost use Rattle.wasm_operator_stacks.specs.WasmOperatorSteps.Meanings.{address as address_by};
 

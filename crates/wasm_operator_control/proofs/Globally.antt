@@ -6,9 +6,9 @@ use Rattle.wasm_readers_types.specs.WasmSpec.Syntax.{Val}
 use Rattle.wasm_readers_types.specs.WasmSpec.ValueTypes.{implies}
 use Rattle.wasm_validator_resources.specs.WasmSpecRules.Contexts.{Context}
 use Rattle.wasm_readers_types.specs.SeenExterns.{global_of}
-use Rattle.wasm_readers_types.specs.SeenValues.{val_of}
+use Rattle.wasm_readers_types.specs.WasmReadersValues.SeenValues.{val_of}
 use Rattle.wasm_readers_types.specs.declared.externs.GlobalType.{GlobalType}
-use Rattle.wasm_readers_types.specs.declared.indices.UnpackedIndex.{UnpackedIndex}
+use Rattle.wasm_readers_types.specs.WasmReadersValues.declared.indices.UnpackedIndex.{UnpackedIndex}
 use Rattle.wasm_operator_numbers.specs.WasmOperatorSteps.Actions.{global, global_is_mutable, reaches_global}
 use Rattle.wasm_operator_numbers.specs.WasmOperatorStacks.declared.stacks.Stacks.{Stacks}
 use Rattle.wasm_operator_numbers.specs.WasmOperatorChecks.Steps.{typed, held}

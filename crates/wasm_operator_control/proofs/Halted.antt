@@ -3,7 +3,7 @@ use Rattle.std.proofs.Common.{◌≡◌, ℕ, false, List, [], ◌∷◌, ◌++�
 use Rattle.std.specs.Prelude.{Some, None}
 use Rattle.wasm_readers_types.specs.WasmSpec.MatchingTests.{World}
 use Rattle.wasm_readers_types.specs.WasmSpec.Syntax.{Val}
-use Rattle.wasm_readers_types.specs.declared.indices.UnpackedIndex.{UnpackedIndex}
+use Rattle.wasm_readers_types.specs.WasmReadersValues.declared.indices.UnpackedIndex.{UnpackedIndex}
 use Rattle.wasm_operator_numbers.specs.WasmOperatorSteps.Machine.{State, become_unreachable, pop_val, pop_vals}
 use Rattle.wasm_operator_numbers.proofs.WasmOperatorSteps.TakenInTurn.{pop_vals-append}
 use Rattle.wasm_operator_numbers.specs.WasmOperatorStacks.Seen.{state_of, below}

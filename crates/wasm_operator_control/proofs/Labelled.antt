@@ -5,7 +5,7 @@ use Rattle.std.specs.Prelude.{zero, suc, Option, Some, None, slice_get}
 use Rattle.std.proofs.lemmas.Option.{slice_get-map}
 use Rattle.wasm_readers_types.specs.WasmSpec.Syntax.{Val}
 use Rattle.wasm_validator_resources.specs.WasmSpecRules.Contexts.{Context}
-use Rattle.wasm_readers_types.specs.declared.indices.UnpackedIndex.{UnpackedIndex}
+use Rattle.wasm_readers_types.specs.WasmReadersValues.declared.indices.UnpackedIndex.{UnpackedIndex}
 use Rattle.wasm_operators.specs.Control.{Block, empty_block, value_block, func_block}
 use Rattle.wasm_validator_resources.specs.WasmSpecRules.Attempts.{last_of}
 use Rattle.wasm_operator_numbers.specs.WasmOperatorSteps.Actions.{label, returned}

@@ -4,9 +4,9 @@ use Rattle.std.specs.Option.{option_map}
 use Rattle.std.specs.Prelude.{Option, Some, None}
 use Rattle.wasm_readers_types.specs.WasmSpec.Syntax.{Val}
 use Rattle.wasm_readers_types.specs.WasmSpec.MatchingTests.{World, matches_val}
-use Rattle.wasm_readers_types.specs.SeenValues.{val_of}
-use Rattle.wasm_readers_types.specs.declared.indices.UnpackedIndex.{UnpackedIndex}
-use Rattle.wasm_readers_types.specs.declared.values.ValType.{ValType}
+use Rattle.wasm_readers_types.specs.WasmReadersValues.SeenValues.{val_of}
+use Rattle.wasm_readers_types.specs.WasmReadersValues.declared.indices.UnpackedIndex.{UnpackedIndex}
+use Rattle.wasm_readers_types.specs.WasmReadersValues.declared.values.ValType.{ValType}
 use Rattle.wasm_validator_resources.specs.WasmSpecRules.Attempts.{passes}
 use Rattle.wasm_operator_numbers.specs.WasmOperatorSteps.Matching.{matches_vals}
 

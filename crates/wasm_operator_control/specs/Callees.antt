@@ -2,7 +2,7 @@
 use Rattle.std.specs.Prelude.{ℕ, Bool, Option, slice_get}
 use Rattle.wasm_readers_types.specs.WasmSpec.ValueTypes.{implies}
 use Rattle.wasm_validator_resources.specs.WasmSpecRules.Contexts.{Context}
-use Rattle.wasm_readers_types.specs.declared.indices.UnpackedIndex.{UnpackedIndex}
+use Rattle.wasm_readers_types.specs.WasmReadersValues.declared.indices.UnpackedIndex.{UnpackedIndex}
 use Rattle.wasm_validator_resources.specs.WasmSpecRules.Attempts.{◌>>=◌, guard}
 use Rattle.wasm_validator_resources.specs.WasmSpecRules.Signatures.{Signature, signature_of}
 use Rattle.wasm_validator_resources.specs.Answers.{sub_in}

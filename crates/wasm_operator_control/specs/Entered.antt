@@ -2,7 +2,7 @@
 use Rattle.std.specs.Prelude.{List, Option, Some}
 use Rattle.wasm_readers_types.specs.WasmSpec.Syntax.{Val}
 use Rattle.wasm_readers_types.specs.WasmSpec.MatchingTests.{World}
-use Rattle.wasm_readers_types.specs.declared.indices.UnpackedIndex.{UnpackedIndex}
+use Rattle.wasm_readers_types.specs.WasmReadersValues.declared.indices.UnpackedIndex.{UnpackedIndex}
 use Rattle.wasm_operators.specs.Control.{Block}
 use Rattle.wasm_validator_resources.specs.WasmSpecRules.Attempts.{◌>>=◌}
 use Rattle.wasm_operator_numbers.specs.WasmOperatorSteps.Machine.{Kind, State, pop_vals, push_frame}

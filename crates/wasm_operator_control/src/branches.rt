@@ -5,7 +5,7 @@ ghost use Rattle.wasm_operators.specs.Control.{br, br_if, return_, unreachable, 
 ghost use Rattle.wasm_operator_numbers.specs.WasmOperatorSteps.Shapes.{control_shape};
 ghost use Rattle.wasm_operator_numbers.specs.WasmOperatorStacks.Seen.{Kept};
 ghost use Rattle.wasm_operator_numbers.specs.WasmOperatorChecks.Steps.{Performs};
-ghost use Rattle.wasm_readers_types.specs.declared.indices.UnpackedIndex.{UnpackedIndex};
+ghost use Rattle.wasm_readers_types.specs.WasmReadersValues.declared.indices.UnpackedIndex.{UnpackedIndex};
 
 use crate::labels::{label_types, returned_types};
 use std::alloc::Allocator;

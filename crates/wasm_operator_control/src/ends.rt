@@ -5,7 +5,7 @@ ghost use Rattle.wasm_operator_numbers.specs.WasmOperatorSteps.Matching.{matches
 ghost use Rattle.wasm_validator_resources.specs.WasmSpecRules.Signatures.{Signature};
 ghost use Rattle.wasm_operator_numbers.specs.WasmOperatorSteps.Shapes.{closing};
 ghost use Rattle.wasm_validator_resources.specs.Answers.{world};
-ghost use Rattle.wasm_readers_types.specs.declared.indices.UnpackedIndex.{UnpackedIndex};
+ghost use Rattle.wasm_readers_types.specs.WasmReadersValues.declared.indices.UnpackedIndex.{UnpackedIndex};
 ghost use Rattle.wasm_operator_numbers.specs.WasmOperatorStacks.Seen.{Kept};
 ghost use Rattle.wasm_operator_numbers.specs.WasmOperatorStacks.SeenBlocks.{block_in, kind_of};
 ghost use Rattle.wasm_operator_numbers.specs.WasmOperatorChecks.Steps.{Performs};

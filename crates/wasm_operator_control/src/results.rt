@@ -1,7 +1,7 @@
 //! What a call gives, as types, and in the place of what the body gives.
 
 ghost use Rattle.std.specs.Prelude.{◌≡◌, map};
-ghost use Rattle.wasm_readers_types.specs.SeenValues.{val_of};
+ghost use Rattle.wasm_readers_types.specs.WasmReadersValues.SeenValues.{val_of};
 ghost use Rattle.wasm_operator_numbers.specs.WasmOperatorSteps.Actions.{returned};
 ghost use Rattle.wasm_validator_resources.specs.WasmSpecRules.Attempts.{passes};
 ghost use Rattle.wasm_operator_numbers.specs.WasmOperatorSteps.Matching.{matches_vals};

@@ -4,7 +4,7 @@ use Rattle.std.specs.Prelude.{Some}
 use Rattle.wasm_spec.specs.MatchingTests.{World}
 use Rattle.wasm_spec.specs.Syntax.{Val}
 use Rattle.wasm_operator_checks.specs.WasmSpecRules.Contexts.{Context}
-use Rattle.wasm_readers_types.specs.declared.indices.UnpackedIndex.{UnpackedIndex}
+use Rattle.wasm_readers_types.specs.WasmReadersValues.declared.indices.UnpackedIndex.{UnpackedIndex}
 use Rattle.wasm_operators.specs.Control.{empty_block, value_block}
 use Rattle.wasm_operator_checks.specs.WasmOperatorSteps.Actions.{leave}
 use Rattle.wasm_operator_checks.specs.WasmOperatorSteps.Machine.{Kind, block_kind, loop_kind, if_kind, else_kind, try_table_kind, is_if, State, known, pop_val, push_operand}

@@ -5,7 +5,7 @@ use Rattle.std.proofs.lemmas.List.{length-drop}
 use Rattle.wasm_spec.specs.Syntax.{i32}
 use Rattle.wasm_operator_checks.specs.WasmSpecRules.Contexts.{Context}
 use Rattle.wasm_operator_checks.specs.WasmSpecRules.FeatureFlags.{features_of}
-use Rattle.wasm_readers_types.specs.declared.indices.UnpackedIndex.{UnpackedIndex}
+use Rattle.wasm_readers_types.specs.WasmReadersValues.declared.indices.UnpackedIndex.{UnpackedIndex}
 use Rattle.wasm_operators_plain.specs.declared.signatures.NumberType.{NumberType}
 use Rattle.wasm_operators_plain.specs.declared.signatures.NumberType.TheVariants as number
 use Rattle.wasm_operators.specs.Control.{Block}

@@ -5,7 +5,7 @@ use Rattle.wasm_spec.specs.Syntax.{Val}
 use Rattle.wasm_spec.specs.ValueTypes.{allows_val}
 use Rattle.wasm_operator_checks.specs.WasmSpecRules.Contexts.{Context}
 use Rattle.wasm_operator_checks.specs.WasmSpecRules.FeatureFlags.{features_of}
-use Rattle.wasm_readers_types.specs.declared.indices.UnpackedIndex.{UnpackedIndex}
+use Rattle.wasm_readers_types.specs.WasmReadersValues.declared.indices.UnpackedIndex.{UnpackedIndex}
 use Rattle.wasm_operator_checks.specs.WasmOperatorSteps.Actions.{OperandTypes, Check, allows, Action, need, take, give}
 use Rattle.wasm_operator_checks.specs.WasmOperatorSteps.Machine.{State}
 use Rattle.wasm_operator_checks.specs.WasmValidatorResources.Answers.{world}

@@ -4,7 +4,7 @@ use Rattle.std.specs.Option.{option_map}
 use Rattle.std.specs.Prelude.{Some, slice_get}
 use Rattle.wasm_spec.specs.Syntax.{Val}
 use Rattle.wasm_operator_checks.specs.WasmSpecRules.Contexts.{Context}
-use Rattle.wasm_readers_types.specs.declared.indices.UnpackedIndex.{UnpackedIndex}
+use Rattle.wasm_readers_types.specs.WasmReadersValues.declared.indices.UnpackedIndex.{UnpackedIndex}
 use Rattle.wasm_operator_checks.specs.WasmOperatorSteps.Actions.{local, local_is_set, take, give, set}
 use Rattle.wasm_operator_checks.specs.WasmOperatorSteps.Machine.{State, pop_val, push_operand, known}
 use Rattle.wasm_operator_checks.specs.WasmValidatorResources.Answers.{world}

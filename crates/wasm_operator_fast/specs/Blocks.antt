@@ -2,7 +2,7 @@
 use Rattle.std.specs.Prelude.{ℕ, Bool, true, Option, None, Some}
 use Rattle.wasm_spec.specs.Features.{Features}
 use Rattle.wasm_spec.specs.ValueTypes.{allows_val}
-use Rattle.wasm_readers_types.specs.declared.indices.UnpackedIndex.{UnpackedIndex}
+use Rattle.wasm_readers_types.specs.WasmReadersValues.declared.indices.UnpackedIndex.{UnpackedIndex}
 use Rattle.wasm_operators_plain.specs.declared.signatures.NumberType.{NumberType}
 use Rattle.wasm_operators.specs.Control.{Block, empty_block, value_block}
 use Rattle.wasm_operator_checks.specs.WasmOperatorSteps.Shapes.{number_type}

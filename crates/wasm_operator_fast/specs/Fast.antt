@@ -1,7 +1,7 @@
 -- The words for fast steps.
 use Rattle.std.specs.Prelude.{◌≡◌, ◌≤◌, ℕ, length, Option, Some, Result, Ok, Err, ⊤}
 use Rattle.wasm_operator_checks.specs.WasmSpecRules.Contexts.{Context}
-use Rattle.wasm_readers_types.specs.declared.indices.UnpackedIndex.{UnpackedIndex}
+use Rattle.wasm_readers_types.specs.WasmReadersValues.declared.indices.UnpackedIndex.{UnpackedIndex}
 use Rattle.wasm_operator_checks.specs.WasmOperatorSteps.Machine.{State}
 use Rattle.wasm_operator_checks.specs.WasmOperatorSteps.Shapes.{Shape}
 use Rattle.wasm_operator_checks.specs.WasmOperatorSteps.Steps.{actions_of}

@@ -5,7 +5,7 @@ use Rattle.wasm_operator_checks.specs.WasmSpecRules.Contexts.{Context}
 use Rattle.wasm_readers_bytes.specs.Reader.{rest}
 use Rattle.wasm_readers_bytes.specs.declared.binary_reader.BinaryReader.{BinaryReader}
 use Rattle.wasm_operators_plain.specs.WasmReaders.Written.{written}
-use Rattle.wasm_readers_types.specs.declared.indices.UnpackedIndex.{UnpackedIndex}
+use Rattle.wasm_readers_types.specs.WasmReadersValues.declared.indices.UnpackedIndex.{UnpackedIndex}
 use Rattle.wasm_operators.specs.Instructions.{Instruction, instruction_at, plain_from}
 use Rattle.wasm_operators.specs.Maps.{map_instruction}
 use Rattle.wasm_operator_checks.specs.WasmSpecRules.Attempts.{◌>>=◌}

@@ -1,7 +1,7 @@
 //! Operators that take some operands and give others.
 
 ghost use Rattle.std.specs.Prelude.{◌≡◌, Option};
-ghost use Rattle.wasm_readers_types.specs.declared.indices.UnpackedIndex.{UnpackedIndex};
+ghost use Rattle.wasm_readers_types.specs.WasmReadersValues.declared.indices.UnpackedIndex.{UnpackedIndex};
 ghost use Rattle.wasm_operator_checks.specs.WasmOperatorSteps.Machine.{State};
 ghost use Rattle.wasm_operator_checks.specs.WasmValidatorResources.Answers.{world};
 ghost use Rattle.wasm_operator_checks.specs.WasmOperatorStacks.Seen.{state_of, Kept};

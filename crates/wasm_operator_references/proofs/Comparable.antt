@@ -5,7 +5,7 @@ use Rattle.wasm_spec.specs.Syntax.{AbstractHeap, eq_heap, abstract_heap, Ref, re
 use Rattle.wasm_spec.specs.Matching.{is_shared_heap}
 use Rattle.wasm_spec.specs.MatchingTests.{World, matches_heap, matches_val}
 use Rattle.wasm_operator_checks.specs.WasmSpecRules.Contexts.{Context}
-use Rattle.wasm_readers_types.specs.declared.indices.UnpackedIndex.{UnpackedIndex}
+use Rattle.wasm_readers_types.specs.WasmReadersValues.declared.indices.UnpackedIndex.{UnpackedIndex}
 use Rattle.wasm_operator_checks.specs.WasmOperatorSteps.Actions.{these, take_comparable, give}
 use Rattle.wasm_operator_checks.specs.WasmSpecRules.Attempts.{◌>>=◌, guard}
 use Rattle.wasm_operator_checks.specs.WasmOperatorSteps.Bodies.{Surroundings}

@@ -5,7 +5,7 @@ use Rattle.std.specs.Prelude.{Some, None, Option, IsSome, slice_get, if◌then�
 use Rattle.wasm_spec.specs.Syntax.{Heap, concrete, exact, Ref, Val, reference}
 use Rattle.wasm_operator_checks.specs.WasmSpecRules.Contexts.{Context}
 use Rattle.wasm_operator_checks.specs.WasmSpecRules.FeatureFlags.{features_of}
-use Rattle.wasm_readers_types.specs.declared.indices.UnpackedIndex.{UnpackedIndex}
+use Rattle.wasm_readers_types.specs.WasmReadersValues.declared.indices.UnpackedIndex.{UnpackedIndex}
 use Rattle.wasm_operator_checks.specs.WasmOperatorSteps.Actions.{function_reference, function_is_referenced}
 use Rattle.wasm_operator_checks.specs.WasmSpecRules.Attempts.{◌>>=◌, passes, among}
 use Rattle.wasm_operator_checks.specs.WasmSpecRules.Signatures.{resolve_ref}

@@ -3,7 +3,7 @@ use Rattle.std.proofs.Common.{◌≡◌, [], ◌∷◌, refl}
 use Rattle.std.specs.Prelude.{Some, None}
 use Rattle.wasm_spec.specs.Syntax.{i32}
 use Rattle.wasm_operator_checks.specs.WasmSpecRules.Contexts.{Context}
-use Rattle.wasm_readers_types.specs.declared.indices.UnpackedIndex.{UnpackedIndex}
+use Rattle.wasm_readers_types.specs.WasmReadersValues.declared.indices.UnpackedIndex.{UnpackedIndex}
 use Rattle.wasm_operator_checks.specs.WasmOperatorSteps.Actions.{these, take_reference, make_non_null, give}
 use Rattle.wasm_operator_checks.specs.WasmOperatorSteps.Machine.{Operand, State, known, as_reference, non_null, pop_any, pop_reference, push_operand}
 use Rattle.wasm_operator_checks.specs.WasmOperatorStacks.Seen.{state_of}

@@ -6,7 +6,7 @@ use Rattle.wasm_spec.specs.Syntax.{AbstractHeap, Heap, abstract_heap, Ref, Val, 
 use Rattle.wasm_spec.specs.Features.{Features}
 use Rattle.wasm_spec.specs.ValueTypes.{allows_ref, allows_val}
 use Rattle.wasm_operator_checks.specs.WasmSpecRules.Contexts.{Context}
-use Rattle.wasm_readers_types.specs.declared.indices.UnpackedIndex.{UnpackedIndex}
+use Rattle.wasm_readers_types.specs.WasmReadersValues.declared.indices.UnpackedIndex.{UnpackedIndex}
 use Rattle.wasm_operator_checks.specs.WasmOperatorSteps.Actions.{these}
 use Rattle.wasm_operator_checks.specs.WasmSpecRules.Signatures.{resolve_ref}
 use Rattle.wasm_operator_checks.specs.WasmOperatorSteps.Shapes.{reference_to}

@@ -2,8 +2,8 @@
 use Rattle.std.specs.Prelude.{◌≡◌, ◌≤◌, ℕ, length, Option, Some, None, Result, Ok, Err}
 use Rattle.wasm_spec.specs.Syntax.{AbstractHeap, reference}
 use Rattle.wasm_spec.specs.MatchingTests.{World}
-use Rattle.wasm_readers_types.specs.SeenValues.{ref_of, abstract_heap_of}
-use Rattle.wasm_readers_types.specs.declared.indices.UnpackedIndex.{UnpackedIndex}
+use Rattle.wasm_readers_types.specs.WasmReadersValues.SeenValues.{ref_of, abstract_heap_of}
+use Rattle.wasm_readers_types.specs.WasmReadersValues.declared.indices.UnpackedIndex.{UnpackedIndex}
 use Rattle.wasm_operator_checks.specs.WasmSpecRules.Attempts.{◌>>=◌, guard}
 use Rattle.wasm_operator_checks.specs.WasmOperatorSteps.Bodies.{Surroundings}
 use Rattle.wasm_operator_checks.specs.WasmOperatorSteps.Machine.{Operand, bottom_reference, open_reference, known, State, pop_reference}

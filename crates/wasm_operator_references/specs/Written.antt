@@ -1,6 +1,6 @@
 -- Operators as they are written in a module: each index in a type is a type index of the module.
 use Rattle.std.specs.Prelude.{⊤}
-use Rattle.wasm_readers_types.specs.declared.indices.UnpackedIndex.{UnpackedIndex}
+use Rattle.wasm_readers_types.specs.WasmReadersValues.declared.indices.UnpackedIndex.{UnpackedIndex}
 use Rattle.wasm_operators.specs.References.{Reference, ref_null, ref_is_null, ref_eq, ref_as_non_null, ref_func, br_on_null, br_on_non_null}
 use Rattle.wasm_operator_checks.specs.WasmValidatorResources.Answers.{IsWrittenHeap}
 

@@ -3,8 +3,8 @@
 ghost use Rattle.std.specs.Prelude.{◌≡◌, ◌≤◌, length};
 ghost use Rattle.wasm_spec.specs.MatchingTests.{matches_heap};
 ghost use Rattle.wasm_spec.specs.Syntax.{abstract_heap};
-ghost use Rattle.wasm_readers_types.specs.SeenValues.{abstract_heap_of, ref_of};
-ghost use Rattle.wasm_readers_types.specs.declared.indices.UnpackedIndex.{UnpackedIndex};
+ghost use Rattle.wasm_readers_types.specs.WasmReadersValues.SeenValues.{abstract_heap_of, ref_of};
+ghost use Rattle.wasm_readers_types.specs.WasmReadersValues.declared.indices.UnpackedIndex.{UnpackedIndex};
 ghost use Rattle.wasm_operators.specs.References.{ref_eq};
 ghost use Rattle.wasm_operator_checks.specs.WasmOperatorSteps.Bodies.{Surroundings};
 ghost use Rattle.wasm_operator_checks.specs.WasmOperatorSteps.Meanings.{is_below_either, agree};

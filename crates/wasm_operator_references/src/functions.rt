@@ -3,7 +3,7 @@
 ghost use Rattle.std.specs.Prelude.{◌≡◌, ◌&&◌, if◌then◌else◌, IsSome, slice_get};
 ghost use Rattle.wasm_spec.specs.Syntax.{concrete, exact, map_heap};
 ghost use Rattle.wasm_operator_checks.specs.WasmSpecRules.FeatureFlags.{features_of};
-ghost use Rattle.wasm_readers_types.specs.SeenValues.{heap_of};
+ghost use Rattle.wasm_readers_types.specs.WasmReadersValues.SeenValues.{heap_of};
 ghost use Rattle.wasm_operators.specs.References.{ref_func};
 ghost use Rattle.wasm_operator_checks.specs.WasmSpecRules.Attempts.{passes};
 ghost use Rattle.wasm_operator_checks.specs.WasmOperatorSteps.Shapes.{reference_shape};

@@ -1,7 +1,7 @@
 //! `ref.null`, and what asks whether a reference is null.
 
 ghost use Rattle.wasm_spec.specs.Syntax.{map_heap};
-ghost use Rattle.wasm_readers_types.specs.SeenValues.{heap_of};
+ghost use Rattle.wasm_readers_types.specs.WasmReadersValues.SeenValues.{heap_of};
 ghost use Rattle.wasm_operators.specs.References.{ref_null, ref_is_null, ref_as_non_null};
 ghost use Rattle.wasm_operator_checks.specs.WasmOperatorSteps.Shapes.{reference_shape};
 ghost use Rattle.wasm_operator_checks.specs.WasmValidatorResources.Answers.{IsWrittenHeap, written_index};

@@ -5,7 +5,7 @@ ghost use Rattle.std.specs.Option.{option_map};
 ghost use Rattle.wasm_spec.specs.Syntax.{map_heap};
 ghost use Rattle.wasm_spec.specs.ValueTypes.{allows_val};
 ghost use Rattle.wasm_operator_checks.specs.WasmSpecRules.FeatureFlags.{features_of};
-ghost use Rattle.wasm_readers_types.specs.SeenValues.{heap_of, ref_of};
+ghost use Rattle.wasm_readers_types.specs.WasmReadersValues.SeenValues.{heap_of, ref_of};
 ghost use Rattle.wasm_operators.specs.References.{reference_to};
 ghost use Rattle.wasm_operator_checks.specs.WasmSpecRules.Signatures.{resolve_ref};
 ghost use Rattle.wasm_operator_checks.specs.WasmOperatorSteps.Shapes.{reference_to as val_to};

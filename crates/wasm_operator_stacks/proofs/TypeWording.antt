@@ -2,15 +2,15 @@
 use Rattle.std.proofs.Common.{◌≡◌, ℕ, ◌+◌, ◌*◌, ◌/◌, ◌%◌, ◌-◌, ◌<◌, ◌≤◌, ◌==◌, Bool, true, false, refl, ap, arith, sub-one, lit<}
 use Rattle.std.specs.Prelude.{zero, suc}
 use Rattle.wasm_operators_plain.specs.WasmSpec.Syntax.{Heap, Ref, exact, nocont_heap, i32, i64, f32, f64, v128, reference}
-use Rattle.wasm_operators_plain.specs.WasmReadersTypes.declared.indices.UnpackedIndex.TheVariants.{Module, RecGroup, Id}
-use Rattle.wasm_operators_plain.specs.WasmReadersTypes.SeenValues.{heap_of, packed_heap_of, ref_of, HeapFits}
-use Rattle.wasm_operators_plain.specs.WasmReadersTypes.declared.indices.TheConstants.{MAX_IDS}
-use Rattle.wasm_operators_plain.specs.WasmReadersTypes.declared.values.HeapType.{HeapType}
-use Rattle.wasm_operators_plain.specs.WasmReadersTypes.declared.values.HeapType.TheVariants as heap
-use Rattle.wasm_operators_plain.specs.WasmReadersTypes.declared.indices.UnpackedIndex.{UnpackedIndex}
-use Rattle.wasm_operators_plain.specs.WasmReadersTypes.declared.values.PackedHeap.{PackedHeap}
-use Rattle.wasm_operators_plain.specs.WasmReadersTypes.declared.values.PackedHeap.TheVariants as packed
-use Rattle.wasm_operators_plain.specs.WasmReadersTypes.declared.values.RefType.{RefType}
+use Rattle.wasm_operators_plain.specs.WasmReadersTypes.WasmReadersValues.declared.indices.UnpackedIndex.TheVariants.{Module, RecGroup, Id}
+use Rattle.wasm_operators_plain.specs.WasmReadersTypes.WasmReadersValues.SeenValues.{heap_of, packed_heap_of, ref_of, HeapFits}
+use Rattle.wasm_operators_plain.specs.WasmReadersTypes.WasmReadersValues.declared.indices.TheConstants.{MAX_IDS}
+use Rattle.wasm_operators_plain.specs.WasmReadersTypes.WasmReadersValues.declared.values.HeapType.{HeapType}
+use Rattle.wasm_operators_plain.specs.WasmReadersTypes.WasmReadersValues.declared.values.HeapType.TheVariants as heap
+use Rattle.wasm_operators_plain.specs.WasmReadersTypes.WasmReadersValues.declared.indices.UnpackedIndex.{UnpackedIndex}
+use Rattle.wasm_operators_plain.specs.WasmReadersTypes.WasmReadersValues.declared.values.PackedHeap.{PackedHeap}
+use Rattle.wasm_operators_plain.specs.WasmReadersTypes.WasmReadersValues.declared.values.PackedHeap.TheVariants as packed
+use Rattle.wasm_operators_plain.specs.WasmReadersTypes.WasmReadersValues.declared.values.RefType.{RefType}
 use Rattle.wasm_operator_stacks.specs.TypeWords.{abstract_at, index_from, index_at, heap_at, ref_at, heap_number, number_at, val_from, val_at, val_number}
 
 pub last_abstract : (n : ℕ) → 13 ≤ n → nocont_heap ≡ abstract_at n

@@ -3,8 +3,8 @@ use Rattle.std.proofs.Common.{◌≡◌, ◌≢◌, ℕ, ◌+◌, ◌-◌, ◌*�
 use Rattle.std.specs.Prelude.{zero, suc, nat_lt}
 use Rattle.std.proofs.lemmas.Bool.Decides.{nat_tests}
 use Rattle.wasm_operators_plain.specs.WasmSpec.Syntax.{AbstractHeap, Val}
-use Rattle.wasm_operators_plain.specs.WasmReadersTypes.declared.indices.UnpackedIndex.{UnpackedIndex}
-use Rattle.wasm_operators_plain.specs.WasmReadersTypes.declared.indices.TheConstants.{MAX_IDS}
+use Rattle.wasm_operators_plain.specs.WasmReadersTypes.WasmReadersValues.declared.indices.UnpackedIndex.{UnpackedIndex}
+use Rattle.wasm_operators_plain.specs.WasmReadersTypes.WasmReadersValues.declared.indices.TheConstants.{MAX_IDS}
 use Rattle.wasm_operator_stacks.specs.TypeWords.{abstract_at, val_at, val_number}
 use Rattle.wasm_operator_steps.specs.Machine.{bottom, bottom_reference, open_reference, known}
 use Rattle.wasm_operator_steps.specs.Control.{empty_block, value_block, func_block}

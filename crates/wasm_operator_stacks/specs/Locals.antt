@@ -1,6 +1,6 @@
 -- What contracts see of locals: each with its type and whether it is set when its function begins, and those that were set since.
 use Rattle.std.specs.Prelude.{◌≤◌, ℕ, zero, suc, ◌-◌, ◌^◌, ◌%◌, nat_lt, List, [], ◌∷◌, ◌++◌, replicate, ⊤}
-use Rattle.wasm_operators_plain.specs.WasmReadersTypes.declared.indices.UnpackedIndex.{UnpackedIndex}
+use Rattle.wasm_operators_plain.specs.WasmReadersTypes.WasmReadersValues.declared.indices.UnpackedIndex.{UnpackedIndex}
 use Rattle.wasm_operator_stacks.specs.TypeWords.{val_at}
 use Rattle.wasm_operator_steps.specs.Bodies.{Local}
 use Rattle.wasm_operator_stacks.specs.declared.local_word.LocalWord.{LocalWord}

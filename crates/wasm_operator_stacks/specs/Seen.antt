@@ -3,7 +3,7 @@ use Rattle.std.specs.Prelude.{◌≡◌, ℕ, Bool, List, map, drop, false, ◌�
 use Rattle.wasm_operators_plain.specs.WasmSpec.Features.{Features}
 use Rattle.wasm_operator_steps.specs.WasmSpecRules.Contexts.{Context}
 use Rattle.wasm_operator_steps.specs.WasmSpecRules.FeatureFlags.{features_of}
-use Rattle.wasm_operators_plain.specs.WasmReadersTypes.declared.indices.UnpackedIndex.{UnpackedIndex}
+use Rattle.wasm_operators_plain.specs.WasmReadersTypes.WasmReadersValues.declared.indices.UnpackedIndex.{UnpackedIndex}
 use Rattle.wasm_operator_steps.specs.Control.{Block}
 use Rattle.wasm_operator_steps.specs.Bodies.{Local, Surroundings}
 use Rattle.wasm_operator_steps.specs.Machine.{Kind, State}

@@ -1,6 +1,6 @@
 -- What contracts see of block types and frames.
 use Rattle.std.specs.Prelude.{Bool, true, false, List, [], ◌∷◌, map}
-use Rattle.wasm_operators_plain.specs.WasmReadersTypes.declared.indices.UnpackedIndex.{UnpackedIndex}
+use Rattle.wasm_operators_plain.specs.WasmReadersTypes.WasmReadersValues.declared.indices.UnpackedIndex.{UnpackedIndex}
 use Rattle.wasm_operator_stacks.specs.SeenTypeWords.{val_in}
 use Rattle.wasm_operator_steps.specs.Control as syntax
 use Rattle.wasm_operator_steps.specs.Control.{empty_block, value_block, func_block}

@@ -1,6 +1,6 @@
 -- What contracts see of operands.
-use Rattle.wasm_operators_plain.specs.WasmReadersTypes.SeenValues.{val_of, abstract_heap_of}
-use Rattle.wasm_operators_plain.specs.WasmReadersTypes.declared.indices.UnpackedIndex.{UnpackedIndex}
+use Rattle.wasm_operators_plain.specs.WasmReadersTypes.WasmReadersValues.SeenValues.{val_of, abstract_heap_of}
+use Rattle.wasm_operators_plain.specs.WasmReadersTypes.WasmReadersValues.declared.indices.UnpackedIndex.{UnpackedIndex}
 use Rattle.wasm_operator_steps.specs.Machine as machine
 use Rattle.wasm_operator_steps.specs.Machine.{bottom, bottom_reference, open_reference, known}
 use Rattle.wasm_operator_stacks.specs.Words.{operand_at}

@@ -2,7 +2,7 @@
 use Rattle.wasm_operators_plain.specs.WasmSpec.Syntax.{Val, i32, i64, f32, f64}
 use Rattle.wasm_operators_plain.specs.declared.signatures.NumberType.{NumberType}
 use Rattle.wasm_operators_plain.specs.declared.signatures.NumberType.TheVariants as number
-use Rattle.wasm_operators_plain.specs.WasmReadersTypes.declared.indices.UnpackedIndex.{UnpackedIndex}
+use Rattle.wasm_operators_plain.specs.WasmReadersTypes.WasmReadersValues.declared.indices.UnpackedIndex.{UnpackedIndex}
 use Rattle.wasm_operator_stacks.specs.declared.type_word.TypeWord.{TypeWord}
 use Rattle.wasm_operator_stacks.specs.TypeWords.{val_at}
 

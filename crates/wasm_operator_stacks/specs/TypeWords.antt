@@ -3,9 +3,9 @@
 -- names an abstract heap type that isn't shared (1) or is (2), or an index that is concrete (3) or exact (4).
 use Rattle.std.specs.Prelude.{ℕ, true, false, zero, suc, ◌==◌, ◌/◌, ◌%◌}
 use Rattle.wasm_operators_plain.specs.WasmSpec.Syntax.{AbstractHeap, any_heap, eq_heap, i31_heap, struct_heap, array_heap, none_heap, func_heap, nofunc_heap, extern_heap, noextern_heap, exn_heap, noexn_heap, cont_heap, nocont_heap, Heap, abstract_heap, concrete, exact, Ref, Val, i32, i64, f32, f64, v128, reference}
-use Rattle.wasm_operators_plain.specs.WasmReadersTypes.Indices.{number_of}
-use Rattle.wasm_operators_plain.specs.WasmReadersTypes.declared.indices.UnpackedIndex.{UnpackedIndex}
-use Rattle.wasm_operators_plain.specs.WasmReadersTypes.declared.indices.UnpackedIndex.TheVariants.{Module, RecGroup, Id}
+use Rattle.wasm_operators_plain.specs.WasmReadersTypes.WasmReadersValues.Indices.{number_of}
+use Rattle.wasm_operators_plain.specs.WasmReadersTypes.WasmReadersValues.declared.indices.UnpackedIndex.{UnpackedIndex}
+use Rattle.wasm_operators_plain.specs.WasmReadersTypes.WasmReadersValues.declared.indices.UnpackedIndex.TheVariants.{Module, RecGroup, Id}
 
 abbrev pub number_at : ℕ → Val UnpackedIndex
 number_at zero = i32

@@ -1,9 +1,9 @@
 //! The codes of heap types.
 
 ghost use Rattle.std.specs.Prelude.{◌≡◌, ◌<◌, ◌≤◌, ◌+◌, ◌*◌, ◌^◌, ◌/◌, ◌%◌};
-ghost use Rattle.wasm_operators_plain.specs.WasmReadersTypes.Indices.{number_of};
-ghost use Rattle.wasm_operators_plain.specs.WasmReadersTypes.SeenValues.{abstract_heap_of, heap_of, ref_of, HeapFits};
-ghost use Rattle.wasm_operators_plain.specs.WasmReadersTypes.declared.indices.TheConstants.{MAX_IDS};
+ghost use Rattle.wasm_operators_plain.specs.WasmReadersTypes.WasmReadersValues.Indices.{number_of};
+ghost use Rattle.wasm_operators_plain.specs.WasmReadersTypes.WasmReadersValues.SeenValues.{abstract_heap_of, heap_of, ref_of, HeapFits};
+ghost use Rattle.wasm_operators_plain.specs.WasmReadersTypes.WasmReadersValues.declared.indices.TheConstants.{MAX_IDS};
 ghost use Rattle.wasm_operator_stacks.specs.TypeWords.{abstract_at, index_at, heap_at, ref_at, heap_number};
 
 use wasm_operators_plain::readers_types::{

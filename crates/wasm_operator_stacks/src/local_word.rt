@@ -1,7 +1,7 @@
 //! Locals as words.
 
 ghost use Rattle.std.specs.Prelude.{◌<◌, ◌^◌, ◌%◌};
-ghost use Rattle.wasm_operators_plain.specs.WasmReadersTypes.declared.indices.TheConstants.{MAX_IDS};
+ghost use Rattle.wasm_operators_plain.specs.WasmReadersTypes.WasmReadersValues.declared.indices.TheConstants.{MAX_IDS};
 ghost use Rattle.wasm_operator_stacks.specs.TypeWords.{val_at, val_number};
 
 use crate::TypeWord;

@@ -47,7 +47,7 @@ pub struct Runs<A: Allocator = Global> {
 
 impl<A: Allocator> Model for Runs<A> {
     ghost use Rattle.std.specs.Prelude.{◌≡◌, List};
-    ghost use Rattle.wasm_operators_plain.specs.WasmReadersTypes.declared.indices.UnpackedIndex.{UnpackedIndex};
+    ghost use Rattle.wasm_operators_plain.specs.WasmReadersTypes.WasmReadersValues.declared.indices.UnpackedIndex.{UnpackedIndex};
     ghost use Rattle.wasm_operator_steps.specs.Bodies.{Local};
     ghost use Rattle.wasm_operator_stacks.specs.Locals.{spread, Ascend, end_of_all};
 

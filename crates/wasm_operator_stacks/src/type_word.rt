@@ -1,7 +1,7 @@
 //! Value types as words.
 
 ghost use Rattle.std.specs.Prelude.{◌<◌, ◌^◌, ◌%◌};
-ghost use Rattle.wasm_operators_plain.specs.WasmReadersTypes.declared.indices.TheConstants.{MAX_IDS};
+ghost use Rattle.wasm_operators_plain.specs.WasmReadersTypes.WasmReadersValues.declared.indices.TheConstants.{MAX_IDS};
 ghost use Rattle.wasm_operator_stacks.specs.TypeWords.{val_at, val_number};
 
 use crate::codes::{ref_code, ref_from_code};
@@ -19,7 +19,7 @@ pub struct TypeWord {
 
 impl TypeWord {
     ghost use Rattle.std.specs.Prelude.{◌≡◌, true};
-    ghost use Rattle.wasm_operators_plain.specs.WasmReadersTypes.SeenValues.{ref_of, val_of};
+    ghost use Rattle.wasm_operators_plain.specs.WasmReadersTypes.WasmReadersValues.SeenValues.{ref_of, val_of};
     ghost use Rattle.wasm_operators_plain.specs.WasmSpec.Syntax.{reference};
     ghost use Rattle.wasm_operator_stacks.specs.SeenTypeWords.{val_in, number_val};
 

@@ -1,7 +1,7 @@
 //! Operands as words.
 
 ghost use Rattle.std.specs.Prelude.{◌<◌, ◌^◌};
-ghost use Rattle.wasm_operators_plain.specs.WasmReadersTypes.declared.indices.TheConstants.{MAX_IDS};
+ghost use Rattle.wasm_operators_plain.specs.WasmReadersTypes.WasmReadersValues.declared.indices.TheConstants.{MAX_IDS};
 ghost use Rattle.wasm_operator_stacks.specs.Words.{operand_at, operand_number};
 
 use crate::{TypeWord, abstract_code, abstract_from_code};
@@ -32,7 +32,7 @@ pub enum Operand {
 impl Word {
     ghost use Rattle.std.specs.Prelude.{◌≡◌, true};
     ghost use Rattle.std.specs.Bool.{Decides};
-    ghost use Rattle.wasm_operators_plain.specs.WasmReadersTypes.SeenValues.{abstract_heap_of};
+    ghost use Rattle.wasm_operators_plain.specs.WasmReadersTypes.WasmReadersValues.SeenValues.{abstract_heap_of};
     ghost use Rattle.wasm_operator_stacks.specs.SeenTypeWords.{val_in, number_val};
     ghost use Rattle.wasm_operator_steps.specs.Machine.{bottom, bottom_reference, open_reference, known};
     ghost use Rattle.wasm_operator_stacks.specs.SeenOperands.{operand_of, operand_seen};

@@ -1,8 +1,8 @@
 -- Fields that have defaults, one by one.
 use Rattle.std.proofs.Common.{◌≡◌, ℕ, ◌+◌, ◌<◌, ◌≤◌, Bool, true, false, ◌&&◌, List, [], ◌∷◌, length, drop, map, get_or, refl, sym, ◌∙◌, add-one, arith}
 use Rattle.std.specs.Prelude.{zero, suc}
-use Rattle.wasm_readers_types.specs.SeenValues.{field_of}
-use Rattle.wasm_readers_types.specs.declared.values.FieldType.{FieldType}
+use Rattle.wasm_readers_types.specs.WasmReadersValues.SeenValues.{field_of}
+use Rattle.wasm_readers_types.specs.WasmReadersValues.declared.values.FieldType.{FieldType}
 use Rattle.wasm_operator_checks.specs.WasmOperatorSteps.Meanings.{has_default, unpack_field, all_have_defaults}
 
 -- the fields from a place on

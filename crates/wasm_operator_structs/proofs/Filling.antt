@@ -4,9 +4,9 @@ use Rattle.std.specs.Prelude.{zero, suc, Some, None, Option, Result}
 use Rattle.std.proofs.lemmas.Option.{slice_get-get_or}
 use Rattle.wasm_spec.specs.MatchingTests.{World}
 use Rattle.wasm_spec.specs.Syntax.{Val}
-use Rattle.wasm_readers_types.specs.SeenValues.{field_of}
-use Rattle.wasm_readers_types.specs.declared.indices.UnpackedIndex.{UnpackedIndex}
-use Rattle.wasm_readers_types.specs.declared.values.FieldType.{FieldType}
+use Rattle.wasm_readers_types.specs.WasmReadersValues.SeenValues.{field_of}
+use Rattle.wasm_readers_types.specs.WasmReadersValues.declared.indices.UnpackedIndex.{UnpackedIndex}
+use Rattle.wasm_readers_types.specs.WasmReadersValues.declared.values.FieldType.{FieldType}
 use Rattle.wasm_operator_checks.specs.WasmOperatorSteps.Machine.{State, pop_val, pop_vals}
 use Rattle.wasm_operator_checks.specs.WasmOperatorSteps.Meanings.{unpack_field}
 use Rattle.wasm_operator_checks.proofs.WasmOperatorSteps.TakenInTurn.{pop_vals-append}

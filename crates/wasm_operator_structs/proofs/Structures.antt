@@ -6,10 +6,10 @@ use Rattle.std.proofs.lemmas.Option.{slice_get-map, slice_get_read, slice_get_pa
 use Rattle.wasm_spec.specs.MatchingTests.{same_flag}
 use Rattle.wasm_spec.specs.Syntax.{Val, exact, Field, Sub}
 use Rattle.wasm_operator_checks.specs.WasmSpecRules.Contexts.{Context}
-use Rattle.wasm_readers_types.specs.SeenValues.{field_of, index_of}
-use Rattle.wasm_readers_types.specs.declared.indices.PackedIndex.{PackedIndex}
-use Rattle.wasm_readers_types.specs.declared.values.FieldType.{FieldType}
-use Rattle.wasm_readers_types.specs.declared.indices.UnpackedIndex.{UnpackedIndex}
+use Rattle.wasm_readers_types.specs.WasmReadersValues.SeenValues.{field_of, index_of}
+use Rattle.wasm_readers_types.specs.WasmReadersValues.declared.indices.PackedIndex.{PackedIndex}
+use Rattle.wasm_readers_types.specs.WasmReadersValues.declared.values.FieldType.{FieldType}
+use Rattle.wasm_readers_types.specs.WasmReadersValues.declared.indices.UnpackedIndex.{UnpackedIndex}
 use Rattle.wasm_operator_checks.specs.WasmSpecRules.Attempts.{◌>>=◌, passes}
 use Rattle.wasm_operator_checks.specs.WasmOperatorSteps.Actions.{gc, fields, field, descriptor_of, fields_have_defaults, has_no_descriptor, field_is_mutable, field_is_packed}
 use Rattle.wasm_operator_checks.specs.WasmOperatorSteps.Meanings.{ref_to, is_packed, unpack_field, all_have_defaults, one}

@@ -2,9 +2,9 @@
 use Rattle.std.specs.Prelude.{ℕ, List, map, Option, slice_get}
 use Rattle.wasm_spec.specs.Syntax.{Val, Field}
 use Rattle.wasm_operator_checks.specs.WasmSpecRules.Contexts.{Context}
-use Rattle.wasm_readers_types.specs.SeenValues.{field_of}
-use Rattle.wasm_readers_types.specs.declared.indices.UnpackedIndex.{UnpackedIndex}
-use Rattle.wasm_readers_types.specs.declared.values.FieldType.{FieldType}
+use Rattle.wasm_readers_types.specs.WasmReadersValues.SeenValues.{field_of}
+use Rattle.wasm_readers_types.specs.WasmReadersValues.declared.indices.UnpackedIndex.{UnpackedIndex}
+use Rattle.wasm_readers_types.specs.WasmReadersValues.declared.values.FieldType.{FieldType}
 use Rattle.wasm_operator_checks.specs.WasmOperatorSteps.Actions.{Needed, gc, custom_descriptors}
 use Rattle.wasm_operator_checks.specs.WasmSpecRules.Attempts.{◌>>=◌}
 use Rattle.wasm_operator_checks.specs.WasmOperatorSteps.Meanings.{unpack_field}

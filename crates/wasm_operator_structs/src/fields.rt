@@ -1,7 +1,7 @@
 //! Operands for all fields of a structure.
 
 ghost use Rattle.std.specs.Prelude.{◌≡◌, ◌≤◌, ◌∷◌, [], length, map};
-ghost use Rattle.wasm_readers_types.specs.SeenValues.{field_of};
+ghost use Rattle.wasm_readers_types.specs.WasmReadersValues.SeenValues.{field_of};
 ghost use Rattle.wasm_operator_checks.specs.WasmOperatorStacks.SeenTypeWords.{val_in};
 ghost use Rattle.wasm_operator_checks.specs.WasmOperatorSteps.Machine.{pop_vals};
 ghost use Rattle.wasm_operator_checks.specs.WasmOperatorSteps.Meanings.{all_have_defaults};

@@ -1,7 +1,7 @@
 //! Structure types that a body reaches, and their fields.
 
 ghost use Rattle.std.specs.Prelude.{◌≡◌, Some, None, true, map, option_map, slice_get, IfOk, OnOk, OnErr};
-ghost use Rattle.wasm_readers_types.specs.SeenValues.{index_of, field_of};
+ghost use Rattle.wasm_readers_types.specs.WasmReadersValues.SeenValues.{index_of, field_of};
 ghost use Rattle.wasm_operator_checks.specs.WasmOperatorSteps.Actions.{gc, has, reaches_type};
 ghost use Rattle.wasm_operator_checks.specs.WasmOperatorSteps.Meanings.{is_on as allowed};
 ghost use Rattle.wasm_operator_checks.specs.WasmSpecRules.FeatureFlags.{features_of};

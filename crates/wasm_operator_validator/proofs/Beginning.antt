@@ -5,9 +5,9 @@ use Rattle.std.specs.Option.{option_map}
 use Rattle.std.specs.Prelude.{Option, Some, Err}
 use Rattle.wasm_spec.specs.Syntax.{Val, Sub}
 use Rattle.wasm_operator_checks.specs.WasmSpecRules.Contexts.{Context}
-use Rattle.wasm_readers_types.specs.declared.indices.UnpackedIndex.{UnpackedIndex}
-use Rattle.wasm_readers_types.specs.SeenValues.{val_of}
-use Rattle.wasm_readers_types.specs.declared.values.ValType.{ValType}
+use Rattle.wasm_readers_types.specs.WasmReadersValues.declared.indices.UnpackedIndex.{UnpackedIndex}
+use Rattle.wasm_readers_types.specs.WasmReadersValues.SeenValues.{val_of}
+use Rattle.wasm_readers_types.specs.WasmReadersValues.declared.values.ValType.{ValType}
 use Rattle.wasm_operators.specs.Control.{Block}
 use Rattle.wasm_operator_checks.specs.WasmSpecRules.Attempts.{◌>>=◌}
 use Rattle.wasm_operator_checks.specs.WasmOperatorSteps.Bodies.{Local}

@@ -2,7 +2,7 @@
 use Rattle.std.proofs.Common.{◌≡◌, ℕ, ◌+◌, ◌<◌, ◌≤◌, Bool, true, false, List, ◌++◌, inl, inr, refl, sym, ◌∙◌, ap, length, arith}
 use Rattle.std.specs.Prelude.{Option, Some, None, Ok, Err, replicate, IsTrue, ◌↔◌}
 use Rattle.wasm_spec.specs.Syntax.{Val}
-use Rattle.wasm_readers_types.specs.declared.indices.UnpackedIndex.{UnpackedIndex}
+use Rattle.wasm_readers_types.specs.WasmReadersValues.declared.indices.UnpackedIndex.{UnpackedIndex}
 use Rattle.wasm_operator_checks.specs.WasmOperatorSteps.Bodies.{Local}
 use Rattle.wasm_operator_checks.specs.WasmOperatorSteps.Meanings.{has_default}
 use Rattle.wasm_operator_checks.specs.declared.faults.OperatorError.{OperatorError}

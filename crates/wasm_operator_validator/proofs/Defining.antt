@@ -2,9 +2,9 @@
 use Rattle.std.proofs.Common.{◌≡◌, ℕ, ◌+◌, ◌<◌, ◌≤◌, Bool, true, List, [], ◌∷◌, ◌++◌, length, take, map, get_or, refl, sym, ◌∙◌, ap, arith, add-one, append_assoc}
 use Rattle.std.specs.Prelude.{zero, suc, replicate}
 use Rattle.wasm_spec.specs.Syntax.{Val}
-use Rattle.wasm_readers_types.specs.SeenValues.{val_of}
-use Rattle.wasm_readers_types.specs.declared.indices.UnpackedIndex.{UnpackedIndex}
-use Rattle.wasm_readers_types.specs.declared.values.ValType.{ValType}
+use Rattle.wasm_readers_types.specs.WasmReadersValues.SeenValues.{val_of}
+use Rattle.wasm_readers_types.specs.WasmReadersValues.declared.indices.UnpackedIndex.{UnpackedIndex}
+use Rattle.wasm_readers_types.specs.WasmReadersValues.declared.values.ValType.{ValType}
 use Rattle.wasm_operator_checks.specs.WasmOperatorSteps.Bodies.{Local}
 use Rattle.wasm_operator_checks.specs.WasmOperatorStacks.Locals.{local_of}
 use Rattle.wasm_operator_checks.specs.WasmOperatorStacks.declared.local_word.LocalWord.{LocalWord}

@@ -3,7 +3,7 @@ use Rattle.std.proofs.Common.{◌≡◌, ◌∙◌, refl, ℕ, List, Option, Non
 use Rattle.wasm_operator_checks.specs.WasmSpecRules.Contexts.{Context}
 use Rattle.wasm_readers.specs.WasmReadersErrors.declared.error.Error.{Error}
 use Rattle.wasm_readers.specs.WasmReadersErrors.declared.error.Error.TheVariants.{Refused, OutOfMemory}
-use Rattle.wasm_readers_types.specs.declared.indices.UnpackedIndex.{UnpackedIndex}
+use Rattle.wasm_readers_types.specs.WasmReadersValues.declared.indices.UnpackedIndex.{UnpackedIndex}
 use Rattle.wasm_operator_checks.specs.WasmOperatorSteps.Machine.{State}
 use Rattle.wasm_operator_checks.specs.WasmOperatorStacks.Seen.{around, Kept}
 use Rattle.wasm_operator_checks.specs.WasmOperatorStacks.declared.stacks.Stacks.{Stacks}

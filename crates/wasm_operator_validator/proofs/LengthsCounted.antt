@@ -6,7 +6,7 @@ use Rattle.std.proofs.lemmas.List.{length-map}
 use Rattle.std.proofs.lemmas.Option.{slice_get-map}
 use Rattle.wasm_spec.specs.Syntax.{exact, Val, reference, Comp, func, array, struct, cont, Sub}
 use Rattle.wasm_spec.specs.MatchingTests.{World}
-use Rattle.wasm_readers_types.specs.declared.indices.UnpackedIndex.{UnpackedIndex}
+use Rattle.wasm_readers_types.specs.WasmReadersValues.declared.indices.UnpackedIndex.{UnpackedIndex}
 use Rattle.wasm_operators.specs.Control.{Block, empty_block, value_block, func_block}
 use Rattle.wasm_operator_checks.specs.WasmSpecRules.Attempts.{◌>>=◌, last_of, front_of}
 use Rattle.wasm_operator_checks.specs.WasmOperatorSteps.Bodies.{Surroundings}

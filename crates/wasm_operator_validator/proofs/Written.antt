@@ -10,7 +10,7 @@ use Rattle.wasm_operators.specs.References.{Reference, ref_null, ref_is_null, re
 use Rattle.wasm_operators.specs.Instructions as instruction
 use Rattle.wasm_operators.specs.Instructions.{Instruction, instruction_at}
 use Rattle.wasm_operators.specs.Maps.{map_instruction}
-use Rattle.wasm_readers_types.specs.declared.indices.UnpackedIndex.{UnpackedIndex}
+use Rattle.wasm_readers_types.specs.WasmReadersValues.declared.indices.UnpackedIndex.{UnpackedIndex}
 use Rattle.wasm_operator_validator.specs.Stepped.{IsWrittenInstruction}
 use Rattle.wasm_operators.proofs.Renamings.{instruction-renames}
 

@@ -3,7 +3,7 @@
 use Rattle.std.specs.Prelude.{◌-◌, ◌^◌, ℕ, List, map, take, Option, slice_get}
 use Rattle.std.specs.Option.{option_map, option_and_then}
 use Rattle.wasm_operator_checks.specs.WasmSpecRules.Contexts.{Context}
-use Rattle.wasm_readers_types.specs.declared.indices.UnpackedIndex.{UnpackedIndex}
+use Rattle.wasm_readers_types.specs.WasmReadersValues.declared.indices.UnpackedIndex.{UnpackedIndex}
 use Rattle.wasm_operators.specs.Control.{Block}
 use Rattle.wasm_operator_checks.specs.WasmOperatorSteps.Machine.{Kind, Frame}
 use Rattle.wasm_operator_validator.specs.Arities.{in_u32}

@@ -1,8 +1,8 @@
 -- What is asked of a module, and of the frames of a body, to tell how many operands an instruction takes and gives.
 use Rattle.std.specs.Prelude.{ℕ, List, Option, Some, None, IsSome, ⊤}
 use Rattle.wasm_spec.specs.Syntax.{Comp, func, Sub}
-use Rattle.wasm_readers_types.specs.declared.indices.UnpackedIndex.{UnpackedIndex}
-use Rattle.wasm_readers_types.specs.declared.indices.UnpackedIndex.TheVariants.{Module, RecGroup, Id}
+use Rattle.wasm_readers_types.specs.WasmReadersValues.declared.indices.UnpackedIndex.{UnpackedIndex}
+use Rattle.wasm_readers_types.specs.WasmReadersValues.declared.indices.UnpackedIndex.TheVariants.{Module, RecGroup, Id}
 use Rattle.wasm_operators.specs.Control.{Block}
 use Rattle.wasm_operators.specs.declared.control.FrameKind.{FrameKind}
 use Rattle.wasm_operators.specs.declared.control.FrameKind.TheVariants as frame

@@ -3,8 +3,8 @@ use Rattle.std.specs.Prelude.{◌≡◌, ℕ, List, length, map, Some, slice_get
 use Rattle.std.specs.Option.{option_map}
 use Rattle.wasm_spec.specs.Syntax.{Val}
 use Rattle.wasm_spec.specs.MatchingTests.{World}
-use Rattle.wasm_readers_types.specs.declared.indices.UnpackedIndex.{UnpackedIndex}
-use Rattle.wasm_readers_types.specs.declared.indices.UnpackedIndex.TheVariants.{Id}
+use Rattle.wasm_readers_types.specs.WasmReadersValues.declared.indices.UnpackedIndex.{UnpackedIndex}
+use Rattle.wasm_readers_types.specs.WasmReadersValues.declared.indices.UnpackedIndex.TheVariants.{Id}
 use Rattle.wasm_operator_checks.specs.WasmOperatorSteps.Bodies.{Surroundings}
 use Rattle.wasm_operator_checks.specs.WasmOperatorSteps.Machine.{Frame, State}
 use Rattle.wasm_operator_checks.specs.WasmOperatorSteps.Actions.{of_tag, OperandTypes}

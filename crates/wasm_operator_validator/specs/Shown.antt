@@ -2,7 +2,7 @@
 -- Core Specification 3.0, Appendix, Validation Algorithm (Data Structures).
 use Rattle.std.specs.Prelude.{Option, Some, None}
 use Rattle.wasm_spec.specs.Syntax.{Val}
-use Rattle.wasm_readers_types.specs.declared.indices.UnpackedIndex.{UnpackedIndex}
+use Rattle.wasm_readers_types.specs.WasmReadersValues.declared.indices.UnpackedIndex.{UnpackedIndex}
 use Rattle.wasm_operators.specs.SeenControl.{block_of}
 use Rattle.wasm_operator_checks.specs.WasmOperatorSteps.Machine as machine
 use Rattle.wasm_operator_checks.specs.WasmOperatorSteps.Machine.{Operand, known}

@@ -2,7 +2,7 @@
 -- Core Specification 3.0, Validation, Instructions.
 use Rattle.std.specs.Prelude.{Result, ⊤}
 use Rattle.wasm_operator_checks.specs.WasmSpecRules.Contexts.{Context}
-use Rattle.wasm_readers_types.specs.declared.indices.UnpackedIndex.{UnpackedIndex}
+use Rattle.wasm_readers_types.specs.WasmReadersValues.declared.indices.UnpackedIndex.{UnpackedIndex}
 use Rattle.wasm_operators.specs.Instructions.{Instruction, control, reference, cast}
 use Rattle.wasm_operators.specs.Maps.{map_instruction}
 use Rattle.wasm_operator_checks.specs.WasmOperatorSteps.Steps.{step_in}

@@ -2,7 +2,7 @@
 
 ghost use Rattle.std.specs.Prelude.{◌≡◌, ◌≤◌, ◌+◌, ◌++◌, [], true, false, not, ◌||◌, length, map, is_ok, IfErr, IfOk, OnOk, IsSome};
 ghost use Rattle.wasm_operator_checks.specs.WasmSpecRules.FeatureFlags.{features_of};
-ghost use Rattle.wasm_readers_types.specs.SeenValues.{val_of};
+ghost use Rattle.wasm_readers_types.specs.WasmReadersValues.SeenValues.{val_of};
 ghost use Rattle.wasm_operators.specs.SeenOperators.{operator_of};
 ghost use Rattle.wasm_operator_checks.specs.WasmOperatorSteps.Meanings.{has_default};
 ghost use Rattle.wasm_operator_checks.specs.WasmOperatorSteps.Steps.{is_finished};

@@ -1,7 +1,7 @@
 -- What contracts see of operators on references and of casts.
 use Rattle.std.specs.Prelude.{true, false}
-use Rattle.wasm_operators_plain.specs.WasmReadersTypes.SeenValues.{heap_of, ref_of}
-use Rattle.wasm_operators_plain.specs.WasmReadersTypes.declared.indices.UnpackedIndex.{UnpackedIndex}
+use Rattle.wasm_operators_plain.specs.WasmReadersTypes.WasmReadersValues.SeenValues.{heap_of, ref_of}
+use Rattle.wasm_operators_plain.specs.WasmReadersTypes.WasmReadersValues.declared.indices.UnpackedIndex.{UnpackedIndex}
 use Rattle.wasm_operators.specs.References as syntax
 use Rattle.wasm_operators.specs.References.{Reference, Cast, reference_to}
 use Rattle.wasm_operators.specs.declared.references.ReferenceOperator.{ReferenceOperator}

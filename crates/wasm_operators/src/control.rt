@@ -137,8 +137,8 @@ impl<'a> Immediate<'a> for Catch {
 
 impl<'a> Immediate<'a> for ValType {
     ghost use Rattle.wasm_operators_plain.specs.WasmSpec.Syntax.{Val};
-    ghost use Rattle.wasm_operators_plain.specs.WasmReadersTypes.SeenValues.{val_of};
-    ghost use Rattle.wasm_operators_plain.specs.WasmReadersTypes.declared.indices.UnpackedIndex.{UnpackedIndex};
+    ghost use Rattle.wasm_operators_plain.specs.WasmReadersTypes.WasmReadersValues.SeenValues.{val_of};
+    ghost use Rattle.wasm_operators_plain.specs.WasmReadersTypes.WasmReadersValues.declared.indices.UnpackedIndex.{UnpackedIndex};
 
     ghost Value = { Val UnpackedIndex };
 

@@ -4,7 +4,7 @@ ghost use Rattle.std.specs.Prelude.{◌≡◌, ◌≤◌, ◌+◌, Some, None, I
 ghost use Rattle.wasm_operators_plain.specs.WasmReaders.WasmReadersBytes.Reader.{SameInput, position_in, original, rest, RefusedFrom};
 ghost use Rattle.wasm_operators_plain.specs.WasmReaders.Written.{written};
 ghost use Rattle.wasm_operators_plain.specs.WasmSpec.BinaryTypes.{heap_at};
-ghost use Rattle.wasm_operators_plain.specs.WasmReadersTypes.SeenValues.{ref_of};
+ghost use Rattle.wasm_operators_plain.specs.WasmReadersTypes.WasmReadersValues.SeenValues.{ref_of};
 ghost use Rattle.wasm_operators_plain.specs.Refusals.{RefusedBetween};
 ghost use Rattle.wasm_operators.specs.References.{cast_flags_at, branch_at, reference_from, cast_from};
 ghost use Rattle.wasm_operators.specs.SeenReferences.{reference_of, cast_of};

@@ -7,7 +7,7 @@ use Rattle.wasm_readers_bytes.specs.WasmSpec.Values.{byte_at}
 use Rattle.wasm_readers_bytes.specs.WasmSpec.BinaryTypes.{flags_at, table_at}
 use Rattle.wasm_readers_bytes.specs.WasmSpec.BinarySections.{TableEntry, table_entry_at}
 use Rattle.wasm_readers_bytes.specs.WasmReadersTypes.SeenExterns.{table_of}
-use Rattle.wasm_readers_bytes.specs.WasmReadersTypes.declared.indices.UnpackedIndex.{UnpackedIndex}
+use Rattle.wasm_readers_bytes.specs.WasmReadersTypes.WasmReadersValues.declared.indices.UnpackedIndex.{UnpackedIndex}
 use Rattle.wasm_readers.specs.Written.{written}
 use Rattle.wasm_readers.specs.declared.items.TableHead.{TableHead}
 

@@ -8,7 +8,7 @@ ghost use Rattle.wasm_readers_bytes.specs.WasmReadersErrors.Errors.{Reads};
 ghost use Rattle.wasm_readers.specs.Written.{written};
 ghost use Rattle.wasm_readers_bytes.specs.WasmReadersTypes.SeenTypes.{func_of, comp_of, sub_of, rec_of};
 ghost use Rattle.std.specs.Option.{option_map};
-ghost use Rattle.wasm_readers_bytes.specs.WasmReadersTypes.SeenValues.{index_of, field_of};
+ghost use Rattle.wasm_readers_bytes.specs.WasmReadersTypes.WasmReadersValues.SeenValues.{index_of, field_of};
 
 use crate::lists::read_list;
 use crate::section_limited::FromReader;
@@ -81,7 +81,7 @@ fn read_marked_index(
 }
 
 impl<'a, A: Allocator> FromReader<'a, A> for PackedIndex {
-    ghost use Rattle.wasm_readers_bytes.specs.WasmReadersTypes.declared.indices.UnpackedIndex.{UnpackedIndex};
+    ghost use Rattle.wasm_readers_bytes.specs.WasmReadersTypes.WasmReadersValues.declared.indices.UnpackedIndex.{UnpackedIndex};
 
     ghost Value = { UnpackedIndex };
 
@@ -182,7 +182,7 @@ fn read_final_or_not<'a, A: Allocator + Copy>(
 
 impl<'a, A: Allocator + Copy> FromReader<'a, A> for SubType<A> {
     ghost use Rattle.wasm_readers_bytes.specs.WasmSpec.Syntax.{Sub};
-    ghost use Rattle.wasm_readers_bytes.specs.WasmReadersTypes.declared.indices.UnpackedIndex.{UnpackedIndex};
+    ghost use Rattle.wasm_readers_bytes.specs.WasmReadersTypes.WasmReadersValues.declared.indices.UnpackedIndex.{UnpackedIndex};
 
     ghost Value = { Sub UnpackedIndex };
 
@@ -214,7 +214,7 @@ impl<'a, A: Allocator + Copy> FromReader<'a, A> for SubType<A> {
 
 impl<'a, A: Allocator + Copy> FromReader<'a, A> for RecGroup<A> {
     ghost use Rattle.wasm_readers_bytes.specs.WasmSpec.Syntax.{Rec};
-    ghost use Rattle.wasm_readers_bytes.specs.WasmReadersTypes.declared.indices.UnpackedIndex.{UnpackedIndex};
+    ghost use Rattle.wasm_readers_bytes.specs.WasmReadersTypes.WasmReadersValues.declared.indices.UnpackedIndex.{UnpackedIndex};
 
     ghost Value = { Rec UnpackedIndex };
 

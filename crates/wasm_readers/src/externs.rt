@@ -328,7 +328,7 @@ impl<'a, A: Allocator> FromReader<'a, A> for TagType {
 impl<'a, A: Allocator> FromReader<'a, A> for Import<'a> {
     ghost use Rattle.wasm_readers_bytes.specs.WasmSpec.BinaryModules.{Import};
     ghost use Rattle.wasm_readers.specs.Items.{import_of};
-    ghost use Rattle.wasm_readers_bytes.specs.WasmReadersTypes.declared.indices.UnpackedIndex.{UnpackedIndex};
+    ghost use Rattle.wasm_readers_bytes.specs.WasmReadersTypes.WasmReadersValues.declared.indices.UnpackedIndex.{UnpackedIndex};
 
     ghost Value = { Import UnpackedIndex };
 

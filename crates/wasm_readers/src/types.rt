@@ -9,7 +9,7 @@ ghost use Rattle.wasm_readers_bytes.specs.Reader.{input, SameInput, position_in,
 ghost use Rattle.wasm_readers_bytes.specs.WasmReadersErrors.Refusals.{plain};
 ghost use Rattle.wasm_readers_bytes.specs.WasmReadersErrors.Errors.{Reads};
 ghost use Rattle.wasm_readers.specs.Written.{written};
-ghost use Rattle.wasm_readers_bytes.specs.WasmReadersTypes.SeenValues.{abstract_heap_of, heap_of, HeapFits, ref_of, val_of, storage_of, field_of};
+ghost use Rattle.wasm_readers_bytes.specs.WasmReadersTypes.WasmReadersValues.SeenValues.{abstract_heap_of, heap_of, HeapFits, ref_of, val_of, storage_of, field_of};
 
 use crate::section_limited::FromReader;
 use std::alloc::Allocator;
@@ -264,7 +264,7 @@ pub fn read_flag(reader: &mut BinaryReader<'_>) -> Result<bool, Refusal>
 
 impl<'a, A: Allocator> FromReader<'a, A> for ValType {
     ghost use Rattle.wasm_readers_bytes.specs.WasmSpec.Syntax.{Val};
-    ghost use Rattle.wasm_readers_bytes.specs.WasmReadersTypes.declared.indices.UnpackedIndex.{UnpackedIndex};
+    ghost use Rattle.wasm_readers_bytes.specs.WasmReadersTypes.WasmReadersValues.declared.indices.UnpackedIndex.{UnpackedIndex};
 
     ghost Value = { Val UnpackedIndex };
 
@@ -281,7 +281,7 @@ impl<'a, A: Allocator> FromReader<'a, A> for ValType {
 
 impl<'a, A: Allocator> FromReader<'a, A> for FieldType {
     ghost use Rattle.wasm_readers_bytes.specs.WasmSpec.Syntax.{Field};
-    ghost use Rattle.wasm_readers_bytes.specs.WasmReadersTypes.declared.indices.UnpackedIndex.{UnpackedIndex};
+    ghost use Rattle.wasm_readers_bytes.specs.WasmReadersTypes.WasmReadersValues.declared.indices.UnpackedIndex.{UnpackedIndex};
 
     ghost Value = { Field UnpackedIndex };
 

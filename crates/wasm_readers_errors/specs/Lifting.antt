@@ -1,7 +1,7 @@
 -- Which proposal would lift the refusal of an operator.
 use Rattle.std.specs.Prelude.{Option, Some, None}
-use Rattle.wasm_readers_errors.specs.declared.features.WasmFeatures.{WasmFeatures}
-use Rattle.wasm_readers_errors.specs.declared.features.TheConstants.WasmFeatures.{FLOATS, SIMD, MULTI_VALUE, REFERENCE_TYPES, BULK_MEMORY, EXCEPTIONS, FUNCTION_REFERENCES, GC, SHARED_EVERYTHING_THREADS, CUSTOM_DESCRIPTORS}
+use Rattle.wasm_readers_features.specs.declared.features.WasmFeatures.{WasmFeatures}
+use Rattle.wasm_readers_features.specs.declared.features.TheConstants.WasmFeatures.{FLOATS, SIMD, MULTI_VALUE, REFERENCE_TYPES, BULK_MEMORY, EXCEPTIONS, FUNCTION_REFERENCES, GC, SHARED_EVERYTHING_THREADS, CUSTOM_DESCRIPTORS}
 use Rattle.wasm_readers_errors.specs.declared.operator_rules.OperatorRule.{OperatorRule}
 use Rattle.wasm_readers_errors.specs.declared.operator_rules.OperatorRule.TheVariants as rule
 

@@ -1,11 +1,11 @@
 ghost use Rattle.std.specs.Prelude.{◌≡◌};
 
-use crate::features::WasmFeatures;
 use crate::item_rules::ItemRule;
 use crate::operator_rules::{GatedConstant, OperatorRule};
 use crate::type_rules::{DescriptorRule, GroupRule, ValueTypeRule};
 use std::alloc::{AllocError, AllocFailed};
 use std::fmt;
+use wasm_readers_features::WasmFeatures;
 use wasm_readers_types::ValType;
 
 /// Where bytes don't follow the binary format.

@@ -4,8 +4,8 @@
 ghost use Rattle.std.specs.Prelude.{◌≡◌};
 ghost use Rattle.wasm_readers_errors.specs.Lifting.{lifting};
 
-use crate::features::WasmFeatures;
 use std::fmt;
+use wasm_readers_features::WasmFeatures;
 
 /// Rules of operators, and of the function bodies and constant expressions that they stand in.
 #[derive(Clone, Copy, PartialEq, Eq, Debug)]

@@ -1,12 +1,12 @@
 //! Rules that a test or a proposal decides, and what is said where one is broken.
 
 ghost use Rattle.std.specs.Prelude.{◌≡◌, ◌||◌, not, true, is_ok, IfErr};
-ghost use Rattle.wasm_readers_errors.specs.On.{has_flag};
+ghost use Rattle.wasm_readers_features.specs.On.{has_flag};
 ghost use Rattle.wasm_readers_errors.specs.Refusals.{refused, plain, unless, lack_if};
 
 use crate::error::{Fault, Refusal};
-use crate::features::WasmFeatures;
 use bitflags::Flags;
+use wasm_readers_features::WasmFeatures;
 
 /// Accepts where the rule holds.
 ///

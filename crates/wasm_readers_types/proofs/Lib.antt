@@ -1,3 +1,2 @@
-pub use Rattle.wasm_spec.proofs as WasmSpec
+pub use Rattle.wasm_readers_values.proofs.WasmSpec as WasmSpec
 pub mod Clones
-pub mod Packing

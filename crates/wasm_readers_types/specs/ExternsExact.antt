@@ -4,8 +4,8 @@ use Rattle.std.specs.Bool.{Decides}
 use Rattle.std.proofs.Common.{ap, rules}
 use Rattle.std.proofs.lemmas.Bool.Decides.{Decides-eqb}
 use denote.Enum.Bare.{same_true, true_same}
-use Rattle.wasm_readers_types.specs.Exactness.{bool-exact, option-exact, enum_exact, and-exact, exact-as}
-use Rattle.wasm_readers_types.specs.ValuesExact.{ref-exact, val-exact}
+use Rattle.wasm_readers_values.specs.Exactness.{bool-exact, option-exact, enum_exact, and-exact, exact-as}
+use Rattle.wasm_readers_values.specs.ValuesExact.{ref-exact, val-exact}
 use Rattle.wasm_readers_types.specs.declared.externs.TableType.{TableType}
 use Rattle.wasm_readers_types.specs.declared.externs.MemoryType.{MemoryType}
 use Rattle.wasm_readers_types.specs.declared.externs.GlobalType.{GlobalType}

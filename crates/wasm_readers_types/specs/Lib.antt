@@ -1,10 +1,6 @@
-pub use Rattle.wasm_spec.specs as WasmSpec
-pub mod Exactness
-pub mod Indices
-pub mod IndicesExact
-pub mod SeenValues
+pub use Rattle.wasm_readers_values.specs.WasmSpec as WasmSpec
+pub use Rattle.wasm_readers_values.specs as WasmReadersValues
 pub mod SeenTypes
-pub mod ValuesExact
 pub mod TypesExact
 pub mod TypesFaithful
 pub mod SeenExterns

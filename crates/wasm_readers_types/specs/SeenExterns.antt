@@ -1,9 +1,9 @@
 -- What the types of tables, memories, globals, tags and imports say, in the abstract syntax over unpacked indices.
 use Rattle.std.specs.Prelude.{ℕ}
-use Rattle.wasm_spec.specs.Syntax as syntax
-use Rattle.wasm_spec.specs.Syntax.{Table, Memory, Global, Extern}
-use Rattle.wasm_readers_types.specs.SeenValues.{ref_of, val_of}
-use Rattle.wasm_readers_types.specs.declared.indices.UnpackedIndex.{UnpackedIndex}
+use Rattle.wasm_readers_values.specs.WasmSpec.Syntax as syntax
+use Rattle.wasm_readers_values.specs.WasmSpec.Syntax.{Table, Memory, Global, Extern}
+use Rattle.wasm_readers_values.specs.SeenValues.{ref_of, val_of}
+use Rattle.wasm_readers_values.specs.declared.indices.UnpackedIndex.{UnpackedIndex}
 use Rattle.wasm_readers_types.specs.declared.externs.TableType.{TableType}
 use Rattle.wasm_readers_types.specs.declared.externs.MemoryType.{MemoryType}
 use Rattle.wasm_readers_types.specs.declared.externs.GlobalType.{GlobalType}

@@ -1,10 +1,10 @@
 -- What defined types say, in the abstract syntax over unpacked indices, whatever their allocator A.
 use Rattle.std.specs.Prelude.{Bool, true, [], map, option_map}
 use Rattle.std.specs.declared.option.Option.TheVariants.{None}
-use Rattle.wasm_spec.specs.Syntax as syntax
-use Rattle.wasm_spec.specs.Syntax.{Comp, Sub, Rec}
-use Rattle.wasm_readers_types.specs.SeenValues.{index_of, val_of, field_of}
-use Rattle.wasm_readers_types.specs.declared.indices.UnpackedIndex.{UnpackedIndex}
+use Rattle.wasm_readers_values.specs.WasmSpec.Syntax as syntax
+use Rattle.wasm_readers_values.specs.WasmSpec.Syntax.{Comp, Sub, Rec}
+use Rattle.wasm_readers_values.specs.SeenValues.{index_of, val_of, field_of}
+use Rattle.wasm_readers_values.specs.declared.indices.UnpackedIndex.{UnpackedIndex}
 use Rattle.wasm_readers_types.specs.declared.types.FuncType.{FuncType}
 use Rattle.wasm_readers_types.specs.declared.types.ArrayType.{ArrayType}
 use Rattle.wasm_readers_types.specs.declared.types.StructType.{StructType}

@@ -5,10 +5,10 @@ use Rattle.std.specs.Cmp.Lexicographic.{pointwise}
 use Rattle.std.specs.Option.{option_eq}
 use mathlib.Core.Bool.{beq}
 use Rattle.std.proofs.Common.{ap}
-use Rattle.wasm_readers_types.specs.Exactness.{bool-exact, option-exact, list-exact, and-exact, exact-as}
-use Rattle.wasm_readers_types.specs.IndicesExact.{packed-exact}
-use Rattle.wasm_readers_types.specs.ValuesExact.{val-exact, field-exact}
-use Rattle.wasm_readers_types.specs.declared.indices.PackedIndex.{PackedIndex}
+use Rattle.wasm_readers_values.specs.Exactness.{bool-exact, option-exact, list-exact, and-exact, exact-as}
+use Rattle.wasm_readers_values.specs.IndicesExact.{packed-exact}
+use Rattle.wasm_readers_values.specs.ValuesExact.{val-exact, field-exact}
+use Rattle.wasm_readers_values.specs.declared.indices.PackedIndex.{PackedIndex}
 use Rattle.wasm_readers_types.specs.declared.types.FuncType.{FuncType}
 use Rattle.wasm_readers_types.specs.declared.types.ArrayType.{ArrayType}
 use Rattle.wasm_readers_types.specs.declared.types.StructType.{StructType}
@@ -18,9 +18,9 @@ use Rattle.wasm_readers_types.specs.declared.types.CompositeInnerType.TheVariant
 use Rattle.wasm_readers_types.specs.declared.types.CompositeType.{CompositeType}
 use Rattle.wasm_readers_types.specs.declared.types.SubType.{SubType}
 use Rattle.wasm_readers_types.specs.declared.types.RecGroup.{RecGroup}
-use Rattle.wasm_readers_types.specs.contracts.indices.PackedIndexPartialEq.TheImpl as packed_eq
-use Rattle.wasm_readers_types.specs.contracts.values.ValTypePartialEq.TheImpl as val_eq
-use Rattle.wasm_readers_types.specs.contracts.values.FieldTypePartialEq.TheImpl as field_eq
+use Rattle.wasm_readers_values.specs.contracts.indices.PackedIndexPartialEq.TheImpl as packed_eq
+use Rattle.wasm_readers_values.specs.contracts.values.ValTypePartialEq.TheImpl as val_eq
+use Rattle.wasm_readers_values.specs.contracts.values.FieldTypePartialEq.TheImpl as field_eq
 use Rattle.wasm_readers_types.specs.contracts.types.ArrayTypePartialEq.TheImpl as array_eq
 use Rattle.wasm_readers_types.specs.contracts.types.ContTypePartialEq.TheImpl as cont_eq
 

@@ -2,7 +2,7 @@
 use Rattle.std.specs.Prelude.{◌≡◌, List, Option}
 use Rattle.std.specs.List.{AllZip}
 use Rattle.std.proofs.lemmas.List.Elements.{same_from_all_zip}
-use Rattle.wasm_readers_types.specs.declared.indices.PackedIndex.{PackedIndex}
+use Rattle.wasm_readers_values.specs.declared.indices.PackedIndex.{PackedIndex}
 use Rattle.wasm_readers_types.specs.declared.types.FuncType.{FuncType}
 use Rattle.wasm_readers_types.specs.declared.types.StructType.{StructType}
 use Rattle.wasm_readers_types.specs.declared.types.CompositeType.{CompositeType}

@@ -1,7 +1,6 @@
 ghost use Rattle.std.proofs.Common.{rules};
 
-use crate::exact::{Exact, Faithful};
-use crate::values::{RefType, ValType};
+use wasm_readers_values::{Exact, Faithful, RefType, ValType};
 
 /// A table type (Core Specification 3.0, Structure, Types, Table Types).
 #[derive(Clone, Copy, PartialEq, Eq, Hash, Debug)]

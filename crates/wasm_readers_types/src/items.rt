@@ -4,11 +4,11 @@ ghost use Rattle.std.specs.Cmp.Lexicographic.{pointwise, lists_equiv, lists_per}
 ghost use Rattle.std.specs.Hash as fed;
 ghost use Rattle.std.specs.Hash.{items_Alike};
 
-use crate::exact::{Exact, Faithful};
 use std::alloc::{AllocError, AllocFailed, Allocator, Global};
 use std::fmt;
 use std::hash::{Hash, Hasher};
 use std::marker::Model;
+use wasm_readers_values::{Exact, Faithful};
 
 /// A list of `T`. A contract sees the list alone, and neither capacity nor allocator.
 #[derive(Drop)]
@@ -96,7 +96,7 @@ impl<T: Eq, A: Allocator> Eq for Items<T, A> {
 }
 
 impl<T: Exact, A: Allocator> Exact for Items<T, A> {
-    ghost use Rattle.wasm_readers_types.specs.Exactness.{list-exact};
+    ghost use Rattle.wasm_readers_values.specs.Exactness.{list-exact};
 
     ghost exact = { list-exact T.exact };
 }

@@ -1,16 +1,14 @@
 ghost use Rattle.std.specs.Prelude.{◌≡◌, ◌∷◌, [], true, false, IfOk, IfErr};
 ghost use Rattle.std.specs.Bool.{Decides};
-ghost use Rattle.wasm_spec.specs.Syntax as syntax;
-ghost use Rattle.wasm_readers_types.specs.SeenValues.{val_of};
+ghost use Rattle.wasm_readers_values.specs.WasmSpec.Syntax as syntax;
+ghost use Rattle.wasm_readers_values.specs.SeenValues.{val_of};
 ghost use Rattle.wasm_readers_types.specs.SeenTypes.{func_of, sub_of, rec_of, final_func, IsFunc};
 ghost use Rattle.std.proofs.Common.{rules};
 
-use crate::exact::{Exact, Faithful};
-use crate::indices::PackedIndex;
 use crate::items::Items;
-use crate::values::{FieldType, ValType};
 use std::alloc::{AllocError, AllocFailed, Allocator, Global};
 use std::hash::Hash;
+use wasm_readers_values::{Exact, Faithful, FieldType, PackedIndex, ValType};
 
 /// A function type (Core Specification 3.0, Structure, Types, Composite Types): what a function
 /// takes and what it gives.
@@ -255,7 +253,7 @@ impl Exact for ContType {
 
 impl<A: Allocator> PartialEq for CompositeInnerType<A> {
     ghost use Rattle.std.specs.Cmp.{partial_equiv_from_equiv};
-    ghost use Rattle.wasm_readers_types.specs.Exactness.{equiv_from_exact};
+    ghost use Rattle.wasm_readers_values.specs.Exactness.{equiv_from_exact};
     ghost use Rattle.wasm_readers_types.specs.TypesExact.{inner_equal, inner-exact};
 
     ghost eq = { inner_equal };
@@ -274,7 +272,7 @@ impl<A: Allocator> PartialEq for CompositeInnerType<A> {
 }
 
 impl<A: Allocator> Eq for CompositeInnerType<A> {
-    ghost use Rattle.wasm_readers_types.specs.Exactness.{equiv_from_exact};
+    ghost use Rattle.wasm_readers_values.specs.Exactness.{equiv_from_exact};
     ghost use Rattle.wasm_readers_types.specs.TypesExact.{inner-exact};
 
     ghost laws = { equiv_from_exact inner-exact };
@@ -347,7 +345,7 @@ impl<A: Allocator + Clone> Faithful for CompositeInnerType<A> {
 }
 
 impl<A: Allocator + Clone> Faithful for CompositeType<A> {
-    ghost use Rattle.wasm_readers_types.specs.Exactness.{option-faithful};
+    ghost use Rattle.wasm_readers_values.specs.Exactness.{option-faithful};
     ghost use Rattle.wasm_readers_types.specs.TypesFaithful.{composite-faithful};
 
     ghost faithful = { composite-faithful ⟦<Option<PackedIndex> as Clone>⟧.is_clone
@@ -355,7 +353,7 @@ impl<A: Allocator + Clone> Faithful for CompositeType<A> {
 }
 
 impl<A: Allocator + Clone> Faithful for SubType<A> {
-    ghost use Rattle.wasm_readers_types.specs.Exactness.{option-faithful};
+    ghost use Rattle.wasm_readers_values.specs.Exactness.{option-faithful};
     ghost use Rattle.wasm_readers_types.specs.TypesFaithful.{sub-faithful};
 
     ghost faithful = { sub-faithful ⟦<Option<PackedIndex> as Clone>⟧.is_clone
@@ -363,7 +361,7 @@ impl<A: Allocator + Clone> Faithful for SubType<A> {
 }
 
 impl<A: Allocator + Clone> Faithful for RecGroup<A> {
-    ghost use Rattle.wasm_readers_types.specs.Exactness.{option-faithful};
+    ghost use Rattle.wasm_readers_values.specs.Exactness.{option-faithful};
     ghost use Rattle.wasm_readers_types.specs.TypesFaithful.{group-faithful};
 
     ghost faithful = { group-faithful ⟦<Option<PackedIndex> as Clone>⟧.is_clone

@@ -1,7 +1,7 @@
 -- The proposals that a set of flags allows.
 use Rattle.wasm_readers_errors.specs.WasmSpec.Features.{Features}
-use Rattle.wasm_readers_errors.specs.On.{has_flag}
-use Rattle.wasm_readers_errors.specs.declared.features.WasmFeatures.{WasmFeatures}
+use Rattle.wasm_readers_errors.specs.WasmReadersFeatures.On.{has_flag}
+use Rattle.wasm_readers_errors.specs.WasmReadersFeatures.declared.features.WasmFeatures.{WasmFeatures}
 
 abbrev pub features_of : WasmFeatures → Features
 features_of flags = record {

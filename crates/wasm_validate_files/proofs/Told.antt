@@ -10,8 +10,8 @@ use Rattle.std.proofs.lemmas.Bool.{false≢true}
 use Rattle.std.proofs.lemmas.List.{length-map}
 use Rattle.std.proofs.lemmas.List.Elements.{All-nil, All-cons}
 use Rattle.std.proofs.lemmas.List.Sums.{sum_by-take-le}
-use Rattle.wasm_readers_errors.specs.declared.features.TheConstants.WasmFeatures.{STANDARD}
-use Rattle.wasm_readers_errors.specs.WasmReadersTypes.declared.indices.TheConstants.{MAX_IDS}
+use Rattle.wasm_readers_errors.specs.WasmReadersFeatures.declared.features.TheConstants.WasmFeatures.{STANDARD}
+use Rattle.wasm_readers_errors.specs.WasmReadersTypes.WasmReadersValues.declared.indices.TheConstants.{MAX_IDS}
 use Rattle.wasm_spec_rules.specs.FeatureFlags.{features_of}
 use Rattle.wasm_validator.specs.WasmSpecValidity.Modules.{up_to_bodies}
 use Rattle.wasm_validator.specs.WasmValidatorTypes.declared.shown.Types as shown

@@ -2,7 +2,7 @@
 use Rattle.std.specs.Prelude.{ℕ, ◌≡◌, List, [], map, slice_get, Some, Any}
 use Rattle.std.specs.declared.result.Result.{Result}
 use Rattle.std.specs.declared.result.Result.TheVariants.{Ok, Err}
-use Rattle.wasm_readers_errors.specs.declared.features.TheConstants.WasmFeatures.{STANDARD}
+use Rattle.wasm_readers_errors.specs.WasmReadersFeatures.declared.features.TheConstants.WasmFeatures.{STANDARD}
 use Rattle.wasm_spec_rules.specs.FeatureFlags.{features_of}
 use Rattle.wasm_validator.specs.WasmValidatorTypes.declared.shown.Types as shown
 use Rattle.wasm_validator.specs.WasmValidatorCore.declared.error.Error.{Error}

@@ -13,7 +13,7 @@ use Rattle.wasm_spec_rules.specs.IndexSpaces.{index_spaces}
 use Rattle.wasm_spec_rules.specs.Modules.{IsWellFormed}
 use Rattle.wasm_validator_modules.specs.WasmSpecValidity.Expressions.{expression_at}
 use Rattle.wasm_validator_modules.specs.WasmSpecValidity.Modules.{IsValidUpToBodies, IsValidModule}
-use Rattle.wasm_readers_types.specs.declared.indices.TheConstants.{MAX_IDS}
+use Rattle.wasm_readers_types.specs.WasmReadersValues.declared.indices.TheConstants.{MAX_IDS}
 use Rattle.wasm_validator_type_list.specs.Listing.{Listing}
 use Rattle.wasm_validator_type_list.specs.Listable.{AreListable}
 use Rattle.wasm_validator_type_list.specs.Declares.{declares}

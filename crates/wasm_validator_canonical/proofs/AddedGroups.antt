@@ -12,9 +12,9 @@ use Rattle.wasm_spec.specs.Trees.{DefType}
 use Rattle.wasm_spec.specs.Closing.{is_closable}
 use Rattle.wasm_readers_errors.specs.declared.error.Error.{Error}
 use Rattle.wasm_readers_errors.specs.declared.error.Error.TheVariants.{Refused, OutOfMemory}
-use Rattle.wasm_readers_types.specs.declared.indices.UnpackedIndex.{UnpackedIndex}
-use Rattle.wasm_readers_types.specs.declared.indices.CoreTypeId.{CoreTypeId}
-use Rattle.wasm_readers_types.specs.declared.indices.TheConstants.{MAX_IDS}
+use Rattle.wasm_readers_types.specs.WasmReadersValues.declared.indices.UnpackedIndex.{UnpackedIndex}
+use Rattle.wasm_readers_types.specs.WasmReadersValues.declared.indices.CoreTypeId.{CoreTypeId}
+use Rattle.wasm_readers_types.specs.WasmReadersValues.declared.indices.TheConstants.{MAX_IDS}
 use Rattle.wasm_readers_types.specs.declared.types.RecGroup.{RecGroup}
 use Rattle.wasm_readers_types.specs.declared.types.SubType.{SubType}
 use Rattle.wasm_readers_types.specs.SeenTypes.{sub_of, rec_of}

@@ -12,8 +12,8 @@ use Rattle.wasm_spec.specs.TypeLists.{ListedUse, resolve_listed, listed_tree, wi
 use Rattle.wasm_spec.specs.TypeLaws.{HasNoRepetition}
 use Rattle.wasm_spec.proofs.Numbering.{members-close, start_of-close}
 use Rattle.wasm_spec_rules.proofs.Tests.{map_some, guarded, then_some}
-use Rattle.wasm_readers_types.specs.declared.indices.UnpackedIndex.{UnpackedIndex}
-use Rattle.wasm_readers_types.specs.declared.indices.TheConstants.{MAX_IDS}
+use Rattle.wasm_readers_types.specs.WasmReadersValues.declared.indices.UnpackedIndex.{UnpackedIndex}
+use Rattle.wasm_readers_types.specs.WasmReadersValues.declared.indices.TheConstants.{MAX_IDS}
 use Rattle.wasm_validator_type_list.proofs.WasmValidatorTypeGroups.Places.{get-left, get-right, get-append}
 use Rattle.wasm_validator_type_list.specs.DefTypes.{listed_group}
 use Rattle.wasm_validator_type_list.proofs.DefTypes.{place_in, get-positions, from-positions}

@@ -9,8 +9,8 @@ use Rattle.wasm_spec.specs.References.{refs_option, refs_comp}
 use Rattle.wasm_spec.specs.Features.{Features}
 use Rattle.wasm_spec.specs.Closing.{is_in_bounds, are_closable}
 use Rattle.wasm_spec.proofs.Shifting.{refs_option-map, refs_comp-map}
-use Rattle.wasm_readers_types.specs.declared.indices.UnpackedIndex.{UnpackedIndex}
-use Rattle.wasm_readers_types.specs.declared.indices.UnpackedIndex.TheVariants.{Module, RecGroup, Id}
+use Rattle.wasm_readers_types.specs.WasmReadersValues.declared.indices.UnpackedIndex.{UnpackedIndex}
+use Rattle.wasm_readers_types.specs.WasmReadersValues.declared.indices.UnpackedIndex.TheVariants.{Module, RecGroup, Id}
 use Rattle.wasm_validator_canonical.specs.Groups.{closes}
 use Rattle.wasm_validator_canonical.specs.Indices.{is_written, is_written_sub, number_in, is_known, is_earlier, is_bound, are_bound, extends_at_most_one}
 

@@ -10,11 +10,11 @@ use Rattle.wasm_spec.specs.Syntax.{Sub, Rec, map_sub}
 use Rattle.wasm_spec.specs.References.{refs_option, refs_comp, refs_sub}
 use Rattle.wasm_spec.specs.Features.{Features, canonical}
 use Rattle.wasm_spec.proofs.Shifting.{refs_option-map, refs_comp-map}
-use Rattle.wasm_readers_types.specs.declared.indices.PackedIndex.{PackedIndex}
-use Rattle.wasm_readers_types.specs.declared.indices.UnpackedIndex.{UnpackedIndex}
-use Rattle.wasm_readers_types.specs.declared.indices.UnpackedIndex.TheVariants.{Module, RecGroup, Id}
+use Rattle.wasm_readers_types.specs.WasmReadersValues.declared.indices.PackedIndex.{PackedIndex}
+use Rattle.wasm_readers_types.specs.WasmReadersValues.declared.indices.UnpackedIndex.{UnpackedIndex}
+use Rattle.wasm_readers_types.specs.WasmReadersValues.declared.indices.UnpackedIndex.TheVariants.{Module, RecGroup, Id}
 use Rattle.wasm_readers_types.specs.declared.types.SubType.{SubType}
-use Rattle.wasm_readers_types.specs.SeenValues.{index_of}
+use Rattle.wasm_readers_types.specs.WasmReadersValues.SeenValues.{index_of}
 use Rattle.wasm_readers_types.specs.SeenTypes.{sub_of}
 use Rattle.wasm_validator_type_list.specs.Listable.{IsKnown, IsListable}
 use Rattle.wasm_validator_canonical.specs.Groups.{has_form, closes}

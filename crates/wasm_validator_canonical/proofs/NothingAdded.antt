@@ -8,8 +8,8 @@ use Rattle.wasm_spec.specs.Syntax.{Rec, map_sub, map_rec}
 use Rattle.wasm_spec.specs.Features.{Features, canonical}
 use Rattle.wasm_spec.specs.Trees.{RecTree, DefType, close}
 use Rattle.wasm_spec.specs.Closing.{is_closable, positions, resolve, start_unless}
-use Rattle.wasm_readers_types.specs.declared.indices.UnpackedIndex.{UnpackedIndex}
-use Rattle.wasm_readers_types.specs.declared.indices.TheConstants.{MAX_IDS}
+use Rattle.wasm_readers_types.specs.WasmReadersValues.declared.indices.UnpackedIndex.{UnpackedIndex}
+use Rattle.wasm_readers_types.specs.WasmReadersValues.declared.indices.TheConstants.{MAX_IDS}
 use Rattle.wasm_validator_canonical.specs.Groups.{closes, types_at, placed, held, with_written}
 use Rattle.wasm_validator_canonical.specs.Indices.{is_written_sub, number_in}
 

@@ -11,7 +11,7 @@ use Rattle.wasm_spec.specs.Closing.{closed, positions, with_group, with_groups}
 use Rattle.wasm_spec.specs.GroupRules.{IsValidType}
 use Rattle.wasm_spec.proofs.Closing.{slice_get-append_left}
 use Rattle.wasm_spec_rules.proofs.Tests.{map_some, then_some}
-use Rattle.wasm_readers_types.specs.declared.indices.TheConstants.{MAX_IDS}
+use Rattle.wasm_readers_types.specs.WasmReadersValues.declared.indices.TheConstants.{MAX_IDS}
 use Rattle.wasm_validator_type_list.specs.WasmValidatorTypeGroups.Elements.{numbers_from}
 use Rattle.wasm_validator_type_list.proofs.WasmValidatorTypeGroups.Counting.{length_numbers}
 use Rattle.wasm_validator_type_list.proofs.Grouped.{all-left, all-right}

@@ -12,8 +12,8 @@ use Rattle.wasm_spec.specs.Trees.{RecTree, DefType}
 use Rattle.wasm_spec.specs.Closing.{closed, positions}
 use Rattle.wasm_spec.proofs.SyntaxMaps.{map_rec-map, map_rec-same}
 use Rattle.wasm_spec_rules.proofs.Tests.{map_some, guarded, then_some}
-use Rattle.wasm_readers_types.specs.declared.indices.UnpackedIndex.{UnpackedIndex}
-use Rattle.wasm_readers_types.specs.declared.indices.TheConstants.{MAX_IDS}
+use Rattle.wasm_readers_types.specs.WasmReadersValues.declared.indices.UnpackedIndex.{UnpackedIndex}
+use Rattle.wasm_readers_types.specs.WasmReadersValues.declared.indices.TheConstants.{MAX_IDS}
 use Rattle.wasm_validator_type_list.specs.WasmValidatorTypeGroups.Elements.{numbers_from}
 use Rattle.wasm_validator_canonical.specs.Groups.{types_at, placed, held, AreValid, with_written}
 use Rattle.wasm_validator_canonical.specs.Indices.{is_written, is_written_sub, number_in}

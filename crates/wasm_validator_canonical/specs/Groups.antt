@@ -8,8 +8,8 @@ use Rattle.wasm_spec.specs.Features.{Features, canonical}
 use Rattle.wasm_spec.specs.Trees.{RecTree, rec_tree, no_uses, DefType, close, members, declared}
 use Rattle.wasm_spec.specs.Closing.{is_closable, positions, closed}
 use Rattle.wasm_spec.specs.GroupRules.{IsValidType}
-use Rattle.wasm_readers_types.specs.declared.indices.UnpackedIndex.{UnpackedIndex}
-use Rattle.wasm_readers_types.specs.declared.indices.TheConstants.{MAX_IDS}
+use Rattle.wasm_readers_types.specs.WasmReadersValues.declared.indices.UnpackedIndex.{UnpackedIndex}
+use Rattle.wasm_readers_types.specs.WasmReadersValues.declared.indices.TheConstants.{MAX_IDS}
 use Rattle.wasm_validator_type_list.specs.WasmValidatorTypeGroups.Elements.{numbers_from}
 use Rattle.wasm_validator_canonical.specs.Found.{place_of}
 use Rattle.wasm_validator_canonical.specs.Indices.{is_written_sub, number_in}

@@ -6,9 +6,9 @@ use Rattle.wasm_readers_errors.specs.declared.error.Fault.TheVariants.{Group, De
 use Rattle.wasm_readers_errors.specs.declared.error.Refusal.{Refusal}
 use Rattle.wasm_readers_errors.specs.declared.type_rules.DescriptorRule.TheVariants.{ForwardDescribes}
 use Rattle.wasm_readers_errors.specs.declared.type_rules.GroupRule.TheVariants.{RecGroups, MultipleSupertypes, SupertypeAfterSubtype}
-use Rattle.wasm_readers_errors.specs.declared.features.TheConstants.WasmFeatures.{GC}
-use Rattle.wasm_readers_types.specs.declared.indices.UnpackedIndex.{UnpackedIndex}
-use Rattle.wasm_readers_types.specs.declared.indices.UnpackedIndex.TheVariants.{Module, RecGroup, Id}
+use Rattle.wasm_readers_errors.specs.WasmReadersFeatures.declared.features.TheConstants.WasmFeatures.{GC}
+use Rattle.wasm_readers_types.specs.WasmReadersValues.declared.indices.UnpackedIndex.{UnpackedIndex}
+use Rattle.wasm_readers_types.specs.WasmReadersValues.declared.indices.UnpackedIndex.TheVariants.{Module, RecGroup, Id}
 use Rattle.wasm_validator_canonical.specs.declared.type_canonicalizer.TypeCanonicalizer.{TypeCanonicalizer}
 
 -- a refusal that no proposal lifts

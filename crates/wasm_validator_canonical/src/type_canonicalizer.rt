@@ -2,9 +2,9 @@ ghost use Rattle.std.specs.Prelude.{◌≡◌, ◌+◌, ◌<◌, ◌^◌, [], ma
 ghost use Rattle.std.specs.List.{list_all, flat_map};
 ghost use Rattle.wasm_spec.specs.Syntax.{map_ref, map_val, map_field, map_comp};
 ghost use Rattle.wasm_spec.specs.References.{refs_heap, refs_val, refs_field, refs_comp};
-ghost use Rattle.wasm_readers_types.specs.declared.indices.TheConstants.{MAX_IDS};
-ghost use Rattle.wasm_readers_types.specs.Indices.{Fits};
-ghost use Rattle.wasm_readers_types.specs.SeenValues.{index_of, ref_of, val_of, field_of};
+ghost use Rattle.wasm_readers_types.specs.WasmReadersValues.declared.indices.TheConstants.{MAX_IDS};
+ghost use Rattle.wasm_readers_types.specs.WasmReadersValues.Indices.{Fits};
+ghost use Rattle.wasm_readers_types.specs.WasmReadersValues.SeenValues.{index_of, ref_of, val_of, field_of};
 ghost use Rattle.wasm_readers_types.specs.SeenTypes.{func_of, comp_of};
 ghost use Rattle.wasm_validator_canonical.specs.Answers.{Says, IsAt};
 ghost use Rattle.wasm_validator_canonical.specs.Indices.{has_no_index};

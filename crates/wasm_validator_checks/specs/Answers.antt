@@ -1,8 +1,8 @@
 -- What a refusal of an item says.
 use Rattle.std.specs.Prelude.{ℕ, ◌≡◌, false, None, IfSome}
-use Rattle.wasm_readers.specs.WasmReadersErrors.On.{has_flag}
+use Rattle.wasm_readers.specs.WasmReadersErrors.WasmReadersFeatures.On.{has_flag}
 use Rattle.wasm_readers.specs.WasmReadersErrors.declared.error.Refusal.{Refusal}
-use Rattle.wasm_readers.specs.WasmReadersErrors.declared.features.WasmFeatures.{WasmFeatures}
+use Rattle.wasm_readers.specs.WasmReadersErrors.WasmReadersFeatures.declared.features.WasmFeatures.{WasmFeatures}
 
 -- a refusal at this offset; where it names a proposal that would lift it, this one is off
 pub record IsRefusalAt (features : WasmFeatures) (offset : ℕ) (refusal : Refusal) : Type 0 where

@@ -2,7 +2,7 @@
 use Rattle.std.specs.Prelude.{ℕ, List, length, slice_get, Option, Some, None}
 use Rattle.std.specs.Option.{option_and_then}
 use Rattle.wasm_spec.specs.Syntax.{Comp, func, array, struct, cont, Sub}
-use Rattle.wasm_readers_types.specs.declared.indices.UnpackedIndex.{UnpackedIndex}
+use Rattle.wasm_readers_types.specs.WasmReadersValues.declared.indices.UnpackedIndex.{UnpackedIndex}
 
 -- how many parameters and results a function type has, as it is written
 abbrev pub written_arity : {R : Type 0} → Comp R → Option (ℕ × ℕ)

@@ -11,8 +11,8 @@ use Rattle.wasm_spec.specs.Matching.{is_shared_heap, is_shared_val}
 use Rattle.wasm_spec.specs.Trees.{DefType, declared}
 use Rattle.wasm_validator_resources.specs.WasmSpecRules.IndexSpaces.{ref_over, val_over}
 use Rattle.wasm_validator_resources.specs.WasmSpecRules.ItemRules.{most_entries}
-use Rattle.wasm_readers_types.specs.declared.indices.UnpackedIndex.{UnpackedIndex}
-use Rattle.wasm_readers_types.specs.declared.indices.UnpackedIndex.TheVariants.{Module, RecGroup, Id}
+use Rattle.wasm_readers_types.specs.WasmReadersValues.declared.indices.UnpackedIndex.{UnpackedIndex}
+use Rattle.wasm_readers_types.specs.WasmReadersValues.declared.indices.UnpackedIndex.TheVariants.{Module, RecGroup, Id}
 use Rattle.wasm_validator_canonical.specs.Indices.{number_in}
 use Rattle.wasm_validator_checks.specs.ModuleTypes.{arity_at}
 

@@ -1,7 +1,7 @@
 -- What a module imports and exports, as the list of types has it. Core Specification 3.0, Validation, Types, External Types.
 use Rattle.std.specs.Prelude.{slice_index}
 use Rattle.wasm_spec.specs.Syntax.{Extern, func_extern, func_exact_extern, table_extern, memory_extern, global_extern, tag_extern, map_extern}
-use Rattle.wasm_readers_types.specs.declared.indices.UnpackedIndex.{UnpackedIndex}
+use Rattle.wasm_readers_types.specs.WasmReadersValues.declared.indices.UnpackedIndex.{UnpackedIndex}
 use Rattle.wasm_validator_canonical.specs.Indices.{canonical_index}
 use Rattle.wasm_validator_types.specs.Entities.{Entity}
 use Rattle.wasm_validator_types.specs.Spaces.{Spaces}

@@ -3,7 +3,7 @@ use Rattle.std.specs.Prelude.{ℕ, ◌≡◌, ◌<◌, List, length, slice_get, 
 use Rattle.std.specs.Option.{option_and_then}
 use Rattle.std.specs.List.{All}
 use Rattle.wasm_spec.specs.Trees.{DefType}
-use Rattle.wasm_readers_types.specs.declared.indices.CoreTypeId.{CoreTypeId}
+use Rattle.wasm_readers_types.specs.WasmReadersValues.declared.indices.CoreTypeId.{CoreTypeId}
 use Rattle.wasm_readers_types.specs.declared.types.FuncType.{FuncType}
 use Rattle.wasm_readers_types.specs.declared.types.SubType.{SubType}
 use Rattle.wasm_readers_types.specs.declared.types.CompositeInnerType.{CompositeInnerType}

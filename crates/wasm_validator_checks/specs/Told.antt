@@ -14,10 +14,10 @@ use Rattle.wasm_readers.specs.WasmReadersErrors.declared.error.Rule.TheVariants.
 use Rattle.wasm_readers.specs.WasmReadersErrors.declared.error.Refusal.{Refusal}
 use Rattle.wasm_readers.specs.WasmReadersErrors.declared.item_rules.ItemRule.{ItemRule}
 use Rattle.wasm_readers.specs.WasmReadersErrors.declared.item_rules.ItemRule.TheVariants.{ExactFunctionImports, MinimumAboveMaximum, Tables64, SharedTables, SharedElements, TableSize, TableInitializers, NonDefaultableElements, Memories64, SharedMemories, SharedMemoryMaximum, CustomPageSizes, PageSize, TagResults, SharedGlobals, SharedContents, MutableGlobals}
-use Rattle.wasm_readers.specs.WasmReadersErrors.declared.features.WasmFeatures.{WasmFeatures}
-use Rattle.wasm_readers.specs.WasmReadersErrors.declared.features.TheConstants.WasmFeatures.{MEMORY64, SHARED_EVERYTHING_THREADS, THREADS, FUNCTION_REFERENCES, CUSTOM_PAGE_SIZES, CUSTOM_DESCRIPTORS, EXCEPTIONS, STACK_SWITCHING, MUTABLE_GLOBAL}
-use Rattle.wasm_readers_types.specs.declared.indices.UnpackedIndex.{UnpackedIndex}
-use Rattle.wasm_readers_types.specs.declared.indices.UnpackedIndex.TheVariants.{Module, RecGroup, Id}
+use Rattle.wasm_readers.specs.WasmReadersErrors.WasmReadersFeatures.declared.features.WasmFeatures.{WasmFeatures}
+use Rattle.wasm_readers.specs.WasmReadersErrors.WasmReadersFeatures.declared.features.TheConstants.WasmFeatures.{MEMORY64, SHARED_EVERYTHING_THREADS, THREADS, FUNCTION_REFERENCES, CUSTOM_PAGE_SIZES, CUSTOM_DESCRIPTORS, EXCEPTIONS, STACK_SWITCHING, MUTABLE_GLOBAL}
+use Rattle.wasm_readers_types.specs.WasmReadersValues.declared.indices.UnpackedIndex.{UnpackedIndex}
+use Rattle.wasm_readers_types.specs.WasmReadersValues.declared.indices.UnpackedIndex.TheVariants.{Module, RecGroup, Id}
 use Rattle.wasm_validator_canonical.specs.Indices.{number_in}
 use Rattle.wasm_validator_resources.specs.Told.{told_of_ref, told_of_val}
 use Rattle.wasm_validator_checks.specs.ModuleTypes.{arity_at}

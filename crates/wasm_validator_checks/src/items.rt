@@ -3,7 +3,7 @@
 ghost use Rattle.std.specs.Prelude.{◌≡◌, ◌||◌, ◌==◌, length, is_ok, IfOk, IfErr, IsTrue};
 ghost use Rattle.std.specs.declared.option.Option.TheVariants.{Some};
 ghost use Rattle.wasm_validator_resources.specs.WasmSpecRules.FeatureFlags.{features_of};
-ghost use Rattle.wasm_readers_types.specs.SeenValues.{ref_of, val_of};
+ghost use Rattle.wasm_readers_types.specs.WasmReadersValues.SeenValues.{ref_of, val_of};
 ghost use Rattle.wasm_readers_types.specs.SeenExterns.{table_of, memory_of, global_of, extern_of};
 ghost use Rattle.wasm_validator_checks.specs.Answers.{IsRefusalAt, IsPlainRefusalAt};
 ghost use Rattle.wasm_validator_checks.specs.ModuleTypes.{AreKnown, module_types};

@@ -5,7 +5,7 @@ ghost use Rattle.std.specs.declared.option.Option.TheVariants.{Some};
 ghost use Rattle.wasm_spec.specs.Matching.{is_shared_type};
 ghost use Rattle.wasm_spec.specs.Trees.{declared};
 ghost use Rattle.wasm_validator_resources.specs.WasmSpecRules.IndexSpaces.{type_at};
-ghost use Rattle.wasm_readers_types.specs.SeenValues.{ref_of, val_of};
+ghost use Rattle.wasm_readers_types.specs.WasmReadersValues.SeenValues.{ref_of, val_of};
 ghost use Rattle.wasm_validator_checks.specs.Answers.{IsPlainRefusalAt};
 ghost use Rattle.wasm_validator_canonical.specs.Indices.{number_in};
 ghost use Rattle.wasm_validator_checks.specs.ModuleTypes.{AreKnown, IsSubTypeAt, IsFuncTypeAt, module_types, arity_at, func_arity};

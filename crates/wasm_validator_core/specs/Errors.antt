@@ -5,7 +5,7 @@ use Rattle.wasm_validator_core.specs.declared.error.Error.TheVariants.{Refused, 
 use Rattle.wasm_readers_errors.specs.declared.error.Error as below
 use Rattle.wasm_readers_errors.specs.declared.error.Error.TheVariants as read
 use Rattle.wasm_readers_errors.specs.declared.error.Refusal.{Refusal}
-use Rattle.wasm_readers_errors.specs.declared.features.WasmFeatures.{WasmFeatures}
+use Rattle.wasm_readers_errors.specs.WasmReadersFeatures.declared.features.WasmFeatures.{WasmFeatures}
 
 -- memory was refused
 abbrev pub IsMemory : {A : Type 0} → Error A → Type 0

@@ -7,7 +7,7 @@ use Rattle.wasm_spec.specs.BinaryModules.{Import, Export}
 use Rattle.wasm_spec.specs.Features.{Features}
 use Rattle.wasm_spec.specs.Trees.{DefType}
 use Rattle.wasm_spec_rules.specs.Limits.{most_tables, most_memories}
-use Rattle.wasm_readers_types.specs.declared.indices.UnpackedIndex.{UnpackedIndex}
+use Rattle.wasm_readers_types.specs.WasmReadersValues.declared.indices.UnpackedIndex.{UnpackedIndex}
 use Rattle.wasm_validator_checks.specs.WasmValidatorCanonical.Arities.{arity_at}
 use Rattle.wasm_validator_checks.specs.WasmValidatorCanonical.Groups.{types_at}
 use Rattle.wasm_validator_checks.specs.WasmValidatorCanonical.Indices.{canonical_index}

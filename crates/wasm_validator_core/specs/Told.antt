@@ -19,9 +19,9 @@ use Rattle.wasm_readers_errors.specs.declared.error.ItemKind.TheVariants as kind
 use Rattle.wasm_readers_errors.specs.declared.error.Refusal.{Refusal}
 use Rattle.wasm_readers_errors.specs.declared.error.Rule.TheVariants.{EffectiveSize}
 use Rattle.wasm_readers_errors.specs.declared.item_rules.ItemRule.TheVariants.{StartType, DataCounts, DataCountLimit}
-use Rattle.wasm_readers_errors.specs.declared.features.WasmFeatures.{WasmFeatures}
-use Rattle.wasm_readers_errors.specs.declared.features.TheConstants.WasmFeatures.{BULK_MEMORY}
-use Rattle.wasm_readers_types.specs.declared.indices.UnpackedIndex.{UnpackedIndex}
+use Rattle.wasm_readers_errors.specs.WasmReadersFeatures.declared.features.WasmFeatures.{WasmFeatures}
+use Rattle.wasm_readers_errors.specs.WasmReadersFeatures.declared.features.TheConstants.WasmFeatures.{BULK_MEMORY}
+use Rattle.wasm_readers_types.specs.WasmReadersValues.declared.indices.UnpackedIndex.{UnpackedIndex}
 use Rattle.wasm_readers_types.specs.declared.externs.ExternalKind.{ExternalKind}
 use Rattle.wasm_readers_types.specs.declared.externs.ExternalKind.TheVariants as external
 use Rattle.wasm_validator_checks.specs.WasmValidatorTypeList.Listing.{Listing}

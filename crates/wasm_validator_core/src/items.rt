@@ -7,7 +7,7 @@ ghost use Rattle.wasm_spec_rules.specs.FeatureFlags.{features_of};
 ghost use Rattle.wasm_spec.specs.Syntax.{map_table};
 ghost use Rattle.wasm_readers_errors.specs.Refusals.{refused};
 ghost use Rattle.wasm_readers_types.specs.SeenExterns.{table_of, memory_of, global_of};
-ghost use Rattle.wasm_readers_types.specs.SeenValues.{ref_of};
+ghost use Rattle.wasm_readers_types.specs.WasmReadersValues.SeenValues.{ref_of};
 ghost use Rattle.wasm_validator_checks.specs.WasmValidatorCanonical.Indices.{canonical_index};
 ghost use Rattle.wasm_validator_checks.specs.Answers.{IsRefusalAt};
 ghost use Rattle.wasm_validator_checks.specs.Items.{is_valid_defined_table};

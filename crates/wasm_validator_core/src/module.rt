@@ -8,7 +8,7 @@ ghost use Rattle.wasm_spec_rules.specs.Limits.{most_tables, most_memories};
 ghost use Rattle.wasm_readers.specs.Items.{import_of, export_of};
 ghost use Rattle.wasm_spec.specs.Syntax.{map_table};
 ghost use Rattle.wasm_readers_types.specs.SeenExterns.{table_of, memory_of, global_of, extern_of};
-ghost use Rattle.wasm_readers_types.specs.SeenValues.{ref_of};
+ghost use Rattle.wasm_readers_types.specs.WasmReadersValues.SeenValues.{ref_of};
 ghost use Rattle.wasm_readers_types.specs.SeenTypes.{rec_of};
 ghost use Rattle.wasm_validator_checks.specs.Answers.{IsRefusalAt, IsPlainRefusalAt};
 ghost use Rattle.wasm_validator_checks.specs.Items.{is_valid_extern, is_valid_defined_table};

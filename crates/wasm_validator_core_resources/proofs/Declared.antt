@@ -6,9 +6,9 @@ use Rattle.wasm_spec.specs.Syntax.{Sub, map_sub}
 use Rattle.wasm_spec.specs.Declared.{supertype}
 use Rattle.wasm_validator_resources.specs.WasmSpecRules.Contexts.{Context}
 use Rattle.wasm_readers_types.specs.SeenTypes.{sub_of}
-use Rattle.wasm_readers_types.specs.declared.indices.CoreTypeId.{CoreTypeId}
-use Rattle.wasm_readers_types.specs.declared.indices.UnpackedIndex.{UnpackedIndex}
-use Rattle.wasm_readers_types.specs.declared.indices.UnpackedIndex.TheVariants.{Module, RecGroup, Id}
+use Rattle.wasm_readers_types.specs.WasmReadersValues.declared.indices.CoreTypeId.{CoreTypeId}
+use Rattle.wasm_readers_types.specs.WasmReadersValues.declared.indices.UnpackedIndex.{UnpackedIndex}
+use Rattle.wasm_readers_types.specs.WasmReadersValues.declared.indices.UnpackedIndex.TheVariants.{Module, RecGroup, Id}
 use Rattle.wasm_readers_types.specs.declared.types.SubType.{SubType}
 use Rattle.wasm_validator_type_list.specs.Declares.{subs_by_ids, declares}
 use Rattle.wasm_validator_type_list.specs.Worlds.{ids_world}

@@ -5,9 +5,9 @@ use Rattle.wasm_spec.specs.Syntax.{Val, map_val}
 use Rattle.wasm_spec.specs.References.{refs_val}
 use Rattle.wasm_spec.specs.MatchingTests.{IsWorld, matches_val}
 use Rattle.wasm_validator_resources.specs.WasmSpecRules.Contexts.{Context}
-use Rattle.wasm_readers_types.specs.Indices.{IsId}
-use Rattle.wasm_readers_types.specs.declared.indices.UnpackedIndex.{UnpackedIndex}
-use Rattle.wasm_readers_types.specs.declared.indices.UnpackedIndex.TheVariants.{Module, RecGroup, Id}
+use Rattle.wasm_readers_types.specs.WasmReadersValues.Indices.{IsId}
+use Rattle.wasm_readers_types.specs.WasmReadersValues.declared.indices.UnpackedIndex.{UnpackedIndex}
+use Rattle.wasm_readers_types.specs.WasmReadersValues.declared.indices.UnpackedIndex.TheVariants.{Module, RecGroup, Id}
 use Rattle.wasm_readers_types.specs.declared.types.SubType.{SubType}
 use Rattle.wasm_validator_type_list.specs.Lookups.{leads_to}
 use Rattle.wasm_validator_type_list.specs.Listable.{AreListable}

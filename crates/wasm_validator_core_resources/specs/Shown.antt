@@ -4,9 +4,9 @@ use Rattle.std.specs.Borrow.{Bor}
 use Rattle.std.specs.declared.option.Option.TheVariants.{None, Some}
 use Rattle.std.specs.List.{All}
 use Rattle.wasm_validator_resources.specs.WasmSpecRules.Contexts.{Context}
-use Rattle.wasm_readers_types.specs.SeenValues.{ref_of}
-use Rattle.wasm_readers_types.specs.declared.indices.TheConstants.{MAX_IDS}
-use Rattle.wasm_readers_types.specs.declared.indices.UnpackedIndex.{UnpackedIndex}
+use Rattle.wasm_readers_types.specs.WasmReadersValues.SeenValues.{ref_of}
+use Rattle.wasm_readers_types.specs.WasmReadersValues.declared.indices.TheConstants.{MAX_IDS}
+use Rattle.wasm_readers_types.specs.WasmReadersValues.declared.indices.UnpackedIndex.{UnpackedIndex}
 use Rattle.wasm_validator_type_list.specs.Listable.{AreListable}
 use Rattle.wasm_validator_core_resources.specs.declared.resources.ModuleResources.TheInside.{Inside}
 use Rattle.wasm_validator_core_resources.specs.ModuleContexts.{numbers_from, flagged_from, module_context, with_references, AreByIds}

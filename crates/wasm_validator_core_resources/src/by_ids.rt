@@ -4,7 +4,7 @@ ghost use Rattle.std.specs.Prelude.{◌≡◌, map, IfOk, option_map};
 ghost use Rattle.std.specs.List.{All};
 ghost use Rattle.wasm_spec.specs.Syntax.{map_ref, map_val, map_field, map_comp, map_sub};
 ghost use Rattle.wasm_spec.specs.References.{refs_option, refs_heap, refs_val, refs_field, refs_comp, refs_sub};
-ghost use Rattle.wasm_readers_types.specs.SeenValues.{index_of, ref_of, val_of, field_of};
+ghost use Rattle.wasm_readers_types.specs.WasmReadersValues.SeenValues.{index_of, ref_of, val_of, field_of};
 ghost use Rattle.wasm_readers_types.specs.SeenTypes.{func_of, comp_of, sub_of};
 ghost use Rattle.wasm_validator_core_resources.specs.ById.{as_id, Reaches};
 

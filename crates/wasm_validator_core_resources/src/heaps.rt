@@ -6,7 +6,7 @@ ghost use Rattle.std.specs.Option.{option_map};
 ghost use Rattle.wasm_spec.specs.Matching.{kind_of, bottom_of, top_of, shared_flag};
 ghost use Rattle.wasm_spec.specs.MatchingTests.{same_flag, same_abstract, matches_abstract, matches_kind, is_above_bottom};
 ghost use Rattle.wasm_readers_types.specs.SeenTypes.{comp_of, sub_of};
-ghost use Rattle.wasm_readers_types.specs.SeenValues.{abstract_heap_of};
+ghost use Rattle.wasm_readers_types.specs.WasmReadersValues.SeenValues.{abstract_heap_of};
 ghost use Rattle.wasm_validator_resources.specs.Answers.{same_index};
 
 use std::alloc::Allocator;

@@ -7,9 +7,9 @@ ghost use Rattle.std.specs.declared.option.Option.TheVariants.{None, Some};
 ghost use Rattle.wasm_spec.specs.Syntax.{abstract_heap, concrete, exact};
 ghost use Rattle.wasm_spec.specs.MatchingTests.{matches_heap, matches_ref};
 ghost use Rattle.wasm_readers_types.specs.SeenTypes.{sub_of};
-ghost use Rattle.wasm_readers_types.specs.SeenValues.{abstract_heap_of, heap_of, ref_of};
-ghost use Rattle.wasm_readers_types.specs.declared.indices.TheConstants.{MAX_IDS};
-ghost use Rattle.wasm_readers_types.specs.declared.indices.UnpackedIndex.TheVariants.{Id};
+ghost use Rattle.wasm_readers_types.specs.WasmReadersValues.SeenValues.{abstract_heap_of, heap_of, ref_of};
+ghost use Rattle.wasm_readers_types.specs.WasmReadersValues.declared.indices.TheConstants.{MAX_IDS};
+ghost use Rattle.wasm_readers_types.specs.WasmReadersValues.declared.indices.UnpackedIndex.TheVariants.{Id};
 ghost use Rattle.wasm_validator_type_list.specs.DefTypes.{types_of_list};
 ghost use Rattle.wasm_validator_resources.specs.Answers.{world, written_index, IsWritten};
 ghost use Rattle.wasm_validator_core_resources.specs.ModuleContexts.{flagged_from, module_context, with_references, AreByIds, FlagsSayReferences};
@@ -44,7 +44,7 @@ pub struct ModuleResources<'a, A: Allocator> {
 
 impl<'a, A: Allocator> Model for ModuleResources<'a, A> {
     ghost use Rattle.wasm_validator_resources.specs.WasmSpecRules.Contexts.{Context};
-    ghost use Rattle.wasm_readers_types.specs.declared.indices.UnpackedIndex.{UnpackedIndex};
+    ghost use Rattle.wasm_readers_types.specs.WasmReadersValues.declared.indices.UnpackedIndex.{UnpackedIndex};
 
     ghost Value = { Context UnpackedIndex };
 

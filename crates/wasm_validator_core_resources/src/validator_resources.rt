@@ -4,7 +4,7 @@ ghost use Rattle.std.specs.Prelude.{◌≡◌, ◌<◌, length, map, slice_get, 
 ghost use Rattle.std.specs.List.{All};
 ghost use Rattle.std.specs.Option.{option_map};
 ghost use Rattle.wasm_readers_types.specs.SeenTypes.{sub_of};
-ghost use Rattle.wasm_readers_types.specs.declared.indices.UnpackedIndex.TheVariants.{Id};
+ghost use Rattle.wasm_readers_types.specs.WasmReadersValues.declared.indices.UnpackedIndex.TheVariants.{Id};
 ghost use Rattle.wasm_validator_type_list.specs.DefTypes.{types_of_list};
 ghost use Rattle.wasm_validator_resources.specs.Answers.{world, sub_in, tag_in, signature_seen};
 ghost use Rattle.wasm_validator_core_resources.specs.ModuleContexts.{flagged_from, module_context, with_references, AreByIds};
@@ -49,7 +49,7 @@ impl<A: Allocator> Drop for CodeModule<A> {
 
 impl<A: Allocator> Model for CodeModule<A> {
     ghost use Rattle.wasm_validator_resources.specs.WasmSpecRules.Contexts.{Context};
-    ghost use Rattle.wasm_readers_types.specs.declared.indices.UnpackedIndex.{UnpackedIndex};
+    ghost use Rattle.wasm_readers_types.specs.WasmReadersValues.declared.indices.UnpackedIndex.{UnpackedIndex};
 
     ghost Value = { Context UnpackedIndex };
 
@@ -134,7 +134,7 @@ pub struct ValidatorResources<A: Allocator = Global>(Rc<CodeModule<A>, A>);
 
 impl<A: Allocator> Model for ValidatorResources<A> {
     ghost use Rattle.wasm_validator_resources.specs.WasmSpecRules.Contexts.{Context};
-    ghost use Rattle.wasm_readers_types.specs.declared.indices.UnpackedIndex.{UnpackedIndex};
+    ghost use Rattle.wasm_readers_types.specs.WasmReadersValues.declared.indices.UnpackedIndex.{UnpackedIndex};
 
     ghost Value = { Context UnpackedIndex };
 

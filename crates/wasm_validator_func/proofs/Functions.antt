@@ -10,7 +10,7 @@ use Rattle.wasm_readers_bytes.specs.declared.binary_reader.BinaryReader.{BinaryR
 use Rattle.wasm_readers_errors.specs.declared.error.Error.{Error}
 use Rattle.wasm_readers_errors.specs.declared.error.Error.TheVariants.{Refused, OutOfMemory}
 use Rattle.wasm_readers_errors.specs.declared.error.Refusal.{Refusal}
-use Rattle.wasm_readers_types.specs.declared.indices.UnpackedIndex.{UnpackedIndex}
+use Rattle.wasm_readers_types.specs.WasmReadersValues.declared.indices.UnpackedIndex.{UnpackedIndex}
 use Rattle.wasm_operators.specs.Control.{func_block}
 use Rattle.wasm_operator_steps.specs.Bodies.{Local}
 use Rattle.wasm_operator_steps.specs.Machine.{State}

@@ -6,7 +6,7 @@ use Rattle.wasm_spec.specs.Values.{u32_at}
 use Rattle.wasm_spec.specs.BinaryTypes.{val_at}
 use Rattle.wasm_spec.proofs.LawSet.{val_renames}
 use Rattle.wasm_readers.specs.Written.{written}
-use Rattle.wasm_readers_types.specs.declared.indices.UnpackedIndex.{UnpackedIndex}
+use Rattle.wasm_readers_types.specs.WasmReadersValues.declared.indices.UnpackedIndex.{UnpackedIndex}
 use Rattle.wasm_validator_resources.specs.Answers.{written_index, IsWrittenHeap, IsWrittenVal}
 use Rattle.wasm_operator_steps.specs.FunctionBodies.{Declaration, declaration_at}
 

@@ -5,7 +5,7 @@ use Rattle.wasm_readers_bytes.specs.Reader.{SameInput, input, original, position
 use Rattle.wasm_readers_bytes.specs.declared.binary_reader.BinaryReader.{BinaryReader}
 use Rattle.wasm_readers_errors.specs.declared.error.Error.{Error}
 use Rattle.wasm_readers_errors.specs.declared.error.Error.TheVariants as error
-use Rattle.wasm_readers_types.specs.declared.indices.UnpackedIndex.{UnpackedIndex}
+use Rattle.wasm_readers_types.specs.WasmReadersValues.declared.indices.UnpackedIndex.{UnpackedIndex}
 use Rattle.wasm_operators.specs.Instructions.{Instruction}
 use Rattle.wasm_operators.specs.Maps.{map_instruction}
 use Rattle.wasm_operator_steps.specs.Machine.{State}

@@ -6,7 +6,7 @@ use Rattle.wasm_spec_rules.specs.Signatures.{Signature}
 use Rattle.wasm_readers_bytes.specs.declared.binary_reader.BinaryReader.{BinaryReader}
 use Rattle.wasm_readers_errors.specs.declared.error.Error.{Error}
 use Rattle.wasm_readers_errors.specs.declared.error.Error.TheVariants.{Refused, OutOfMemory}
-use Rattle.wasm_readers_types.specs.declared.indices.UnpackedIndex.{UnpackedIndex}
+use Rattle.wasm_readers_types.specs.WasmReadersValues.declared.indices.UnpackedIndex.{UnpackedIndex}
 use Rattle.wasm_operator_steps.specs.FunctionBodies.{IsBodyOfFunction}
 use Rattle.wasm_validator_resources.specs.Answers.{world}
 use Rattle.wasm_operator_validator.specs.Checked.{StandsIn}

@@ -5,9 +5,9 @@ use Rattle.wasm_spec_rules.specs.Contexts.{Context}
 use Rattle.wasm_spec_rules.specs.FeatureFlags.{features_of}
 use Rattle.wasm_readers_errors.specs.declared.error.Error.{Error}
 use Rattle.wasm_readers_errors.specs.declared.error.Error.TheVariants.{Refused, OutOfMemory}
-use Rattle.wasm_readers_types.specs.SeenValues.{val_of}
-use Rattle.wasm_readers_types.specs.declared.indices.UnpackedIndex.{UnpackedIndex}
-use Rattle.wasm_readers_types.specs.declared.values.ValType.{ValType}
+use Rattle.wasm_readers_types.specs.WasmReadersValues.SeenValues.{val_of}
+use Rattle.wasm_readers_types.specs.WasmReadersValues.declared.indices.UnpackedIndex.{UnpackedIndex}
+use Rattle.wasm_readers_types.specs.WasmReadersValues.declared.values.ValType.{ValType}
 use Rattle.wasm_operator_steps.specs.Bodies.{Local}
 use Rattle.wasm_operator_steps.specs.Machine.{State}
 use Rattle.wasm_validator_resources.specs.Answers.{world, written_index}

@@ -14,7 +14,7 @@ use Rattle.wasm_spec_rules.specs.Parts.{Expression}
 use Rattle.wasm_spec_rules.specs.SegmentRules.{index_or_first}
 use Rattle.wasm_spec_rules.proofs.Tests.{unless}
 use Rattle.wasm_readers.specs.Written.{written}
-use Rattle.wasm_readers_types.specs.declared.indices.UnpackedIndex.{UnpackedIndex}
+use Rattle.wasm_readers_types.specs.WasmReadersValues.declared.indices.UnpackedIndex.{UnpackedIndex}
 use Rattle.wasm_validator_resources.specs.Answers.{world}
 use Rattle.wasm_spec_validity.specs.Expressions.{expression_at}
 use Rattle.wasm_validator_segments.specs.Elements.{may_go, segment_table_at, items_type_at, typed_items_at, typed_element_from, typed_element_at}

@@ -9,7 +9,7 @@ use Rattle.wasm_spec_rules.specs.Parts.{Expression}
 use Rattle.wasm_readers.specs.Tables.{Head, table_head_at, table_behind}
 use Rattle.wasm_readers.specs.Written.{written}
 use Rattle.wasm_readers.proofs.Tables.{heads_begin_tables}
-use Rattle.wasm_readers_types.specs.declared.indices.UnpackedIndex.{UnpackedIndex}
+use Rattle.wasm_readers_types.specs.WasmReadersValues.declared.indices.UnpackedIndex.{UnpackedIndex}
 use Rattle.wasm_validator_core.specs.WasmValidatorCanonical.Indices.{canonical_index}
 use Rattle.wasm_validator_core.specs.WasmValidatorChecks.Items.{is_valid_defined_table}
 use Rattle.wasm_spec_validity.specs.Expressions.{expression_at}

@@ -11,7 +11,7 @@ use Rattle.wasm_spec.specs.Features.{Features}
 use Rattle.wasm_spec_rules.specs.Attempts.{passes}
 use Rattle.wasm_spec_rules.specs.Parts.{Expression}
 use Rattle.wasm_spec_rules.specs.SegmentRules.{index_or_first}
-use Rattle.wasm_readers_types.specs.declared.indices.UnpackedIndex.{UnpackedIndex}
+use Rattle.wasm_readers_types.specs.WasmReadersValues.declared.indices.UnpackedIndex.{UnpackedIndex}
 use Rattle.wasm_validator_core.specs.WasmValidatorCanonical.Indices.{canonical_index}
 use Rattle.wasm_validator_core.specs.WasmValidatorChecks.Items.{is_ref_in_range, is_valid_defined_table, is_valid_global}
 use Rattle.wasm_validator_resources.specs.Answers.{world}

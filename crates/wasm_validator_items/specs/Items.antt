@@ -8,7 +8,7 @@ use Rattle.wasm_spec_rules.specs.Contexts.{Context}
 use Rattle.wasm_spec_rules.specs.Parts.{Expression}
 use Rattle.wasm_spec_rules.specs.SegmentRules.{index_or_first}
 use Rattle.wasm_readers.specs.Written.{written}
-use Rattle.wasm_readers_types.specs.declared.indices.UnpackedIndex.{UnpackedIndex}
+use Rattle.wasm_readers_types.specs.WasmReadersValues.declared.indices.UnpackedIndex.{UnpackedIndex}
 use Rattle.wasm_spec_validity.specs.WasmOperators.Control.{value_block}
 use Rattle.wasm_spec_validity.specs.WasmOperatorSteps.ConstantRules.{IsConstantExpression}
 use Rattle.wasm_spec_validity.specs.WasmOperatorSteps.Machine.{State}

@@ -8,7 +8,7 @@ use Rattle.wasm_spec.specs.Features.{Features}
 use Rattle.wasm_spec_rules.specs.Limits.{most_tables}
 use Rattle.wasm_spec_rules.specs.Parts.{Expression}
 use Rattle.wasm_readers.specs.Written.{written}
-use Rattle.wasm_readers_types.specs.declared.indices.UnpackedIndex.{UnpackedIndex}
+use Rattle.wasm_readers_types.specs.WasmReadersValues.declared.indices.UnpackedIndex.{UnpackedIndex}
 use Rattle.wasm_validator_types.specs.Spaces.{Spaces}
 use Rattle.wasm_validator_core.specs.declared.limits.TheConstants.{MAX_GLOBALS, MAX_ELEMENT_SEGMENTS, MAX_DATA_SEGMENTS}
 use Rattle.wasm_validator_core.specs.Answers.{TypesSoFar}

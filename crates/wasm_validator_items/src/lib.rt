@@ -11,7 +11,7 @@
 ghost use Rattle.std.specs.Prelude.{ℕ};
 ghost use Rattle.wasm_spec.specs.Features.{Features};
 ghost use Rattle.wasm_spec_rules.specs.Contexts.{Context};
-ghost use Rattle.wasm_readers_types.specs.declared.indices.UnpackedIndex.{UnpackedIndex};
+ghost use Rattle.wasm_readers_types.specs.WasmReadersValues.declared.indices.UnpackedIndex.{UnpackedIndex};
 ghost use Rattle.wasm_validator_items.specs.Items.{ExpressionsAreTyped, GlobalsAreTyped, DataAreTyped};
 ghost use Rattle.wasm_validator_items.specs.Reading.{TablesAreReadAndAdded, GlobalsAreReadAndAdded, ElementsAreReadAndAdded, DataAreReadAndAdded, ItemsAreReadAndAdded, SectionsAddSingleItems, EntriesAreRenamed};
 

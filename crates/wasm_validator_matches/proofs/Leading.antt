@@ -1,7 +1,7 @@
 -- Where known references lead.
 use Rattle.std.proofs.Common.{ℕ, ◌+◌, ◌<◌, List, length, arith}
-use Rattle.wasm_readers_types.specs.declared.indices.UnpackedIndex.{UnpackedIndex}
-use Rattle.wasm_readers_types.specs.declared.indices.UnpackedIndex.TheVariants.{Module, RecGroup, Id}
+use Rattle.wasm_readers_types.specs.WasmReadersValues.declared.indices.UnpackedIndex.{UnpackedIndex}
+use Rattle.wasm_readers_types.specs.WasmReadersValues.declared.indices.UnpackedIndex.TheVariants.{Module, RecGroup, Id}
 use Rattle.wasm_readers_types.specs.declared.types.SubType.{SubType}
 use Rattle.wasm_validator_type_list.specs.WasmValidatorTypeGroups.Groups.{all_in}
 use Rattle.wasm_validator_type_list.specs.Grouped.{leads_in, IsKnownIn}

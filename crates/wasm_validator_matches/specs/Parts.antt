@@ -9,12 +9,12 @@ use Rattle.wasm_readers_types.specs.declared.types.SubType.{SubType}
 use Rattle.wasm_readers_types.specs.declared.types.ArrayType.{ArrayType}
 use Rattle.wasm_readers_types.specs.declared.types.CompositeType.{CompositeType}
 use Rattle.wasm_readers_types.specs.declared.types.ContType.{ContType}
-use Rattle.wasm_readers_types.specs.declared.indices.UnpackedIndex.{UnpackedIndex}
-use Rattle.wasm_readers_types.specs.declared.values.RefType.{RefType}
-use Rattle.wasm_readers_types.specs.declared.values.ValType.{ValType}
-use Rattle.wasm_readers_types.specs.declared.values.StorageType.{StorageType}
-use Rattle.wasm_readers_types.specs.declared.values.FieldType.{FieldType}
-use Rattle.wasm_readers_types.specs.SeenValues.{ref_of, val_of, storage_of, field_of}
+use Rattle.wasm_readers_types.specs.WasmReadersValues.declared.indices.UnpackedIndex.{UnpackedIndex}
+use Rattle.wasm_readers_types.specs.WasmReadersValues.declared.values.RefType.{RefType}
+use Rattle.wasm_readers_types.specs.WasmReadersValues.declared.values.ValType.{ValType}
+use Rattle.wasm_readers_types.specs.WasmReadersValues.declared.values.StorageType.{StorageType}
+use Rattle.wasm_readers_types.specs.WasmReadersValues.declared.values.FieldType.{FieldType}
+use Rattle.wasm_readers_types.specs.WasmReadersValues.SeenValues.{ref_of, val_of, storage_of, field_of}
 use Rattle.wasm_readers_types.specs.SeenTypes.{array_of, cont_of, comp_of, sub_of}
 use Rattle.wasm_validator_type_list.specs.Declares.{declares}
 use Rattle.wasm_validator_type_list.specs.Grouped.{leads_in, AreIn, RefsMatch, ValsMatch, StoragesMatch, FieldsMatch, SubsMatch}

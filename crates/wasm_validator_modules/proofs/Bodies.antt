@@ -2,7 +2,7 @@
 use Rattle.std.proofs.Common.{◌≡◌, refl, sym, ap, subst, ◌∙◌, inl, inr, ℕ, ◌≤◌, length, map, List, [], ◌∷◌, ◌++◌, All, Some, None, arith}
 use Rattle.std.proofs.lemmas.List.{map-append}
 use Rattle.wasm_spec_rules.specs.Contexts.{Context}
-use Rattle.wasm_readers_types.specs.declared.indices.UnpackedIndex.{UnpackedIndex}
+use Rattle.wasm_readers_types.specs.WasmReadersValues.declared.indices.UnpackedIndex.{UnpackedIndex}
 use Rattle.wasm_readers_errors.specs.declared.error.Error.{Error}
 use Rattle.wasm_readers_errors.specs.declared.error.Error.TheVariants.{Refused, OutOfMemory}
 use Rattle.wasm_parser.specs.declared.function_body.FunctionBody.{FunctionBody}
@@ -13,7 +13,7 @@ use Rattle.wasm_validator_type_list.proofs.Grouped.{all-right}
 use Rattle.wasm_validator_sections.specs.WasmValidatorCore.declared.error.Error as whole
 use Rattle.wasm_validator_sections.specs.WasmValidatorCore.Errors.{lifted}
 use Rattle.wasm_validator_sections.specs.SectionsTold.{StandsBetween}
-use Rattle.wasm_readers_errors.specs.declared.features.WasmFeatures.{WasmFeatures}
+use Rattle.wasm_readers_errors.specs.WasmReadersFeatures.declared.features.WasmFeatures.{WasmFeatures}
 use Rattle.wasm_validator_modules.specs.States.{BodyToValidate}
 use Rattle.wasm_validator_modules.specs.Payloads.{body_seen, bodies_seen, pending_seen, pending_in, EndsBy, AllEndBy, GivenEndBy, StandsBy, IsBodyOfIts}
 use Rattle.wasm_validator_modules.specs.declared.payload.PendingBody.{PendingBody}

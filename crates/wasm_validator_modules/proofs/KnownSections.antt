@@ -11,7 +11,7 @@ use Rattle.wasm_spec_rules.specs.FeatureFlags.{features_of}
 use Rattle.wasm_spec_rules.specs.Modules.{IsAllowedPiece}
 use Rattle.wasm_spec_rules.proofs.FramedOrder.{AreInner, others_inner}
 use Rattle.wasm_spec_rules.proofs.Tests.{then_some, map_some, chosen}
-use Rattle.wasm_readers_errors.specs.declared.features.WasmFeatures.{WasmFeatures}
+use Rattle.wasm_readers_errors.specs.WasmReadersFeatures.declared.features.WasmFeatures.{WasmFeatures}
 use Rattle.wasm_validator_types.specs.Spaces.{Spaces}
 use Rattle.wasm_validator_sections.specs.WasmValidatorCore.Answers.{TypesSoFar}
 use Rattle.wasm_validator_sections.specs.Machine.{type_items, import_items, function_items, table_items, memory_items, global_items, export_items, element_items, data_items, tag_items, other_items, section_items, beside}

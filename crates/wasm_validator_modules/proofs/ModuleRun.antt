@@ -15,7 +15,7 @@ use Rattle.wasm_spec.specs.Features.{Features}
 use Rattle.wasm_spec_rules.proofs.Ordered.{Follows, AreRanks, LeavesFree, IsOne, one_at_most, by_ranks}
 use Rattle.wasm_spec_rules.proofs.FramedOrder.{IsInner, AreInner}
 use Rattle.wasm_spec_rules.proofs.Tests.{truth, when, unless, guarded, then_some}
-use Rattle.wasm_readers_errors.specs.declared.features.WasmFeatures.{WasmFeatures}
+use Rattle.wasm_readers_errors.specs.WasmReadersFeatures.declared.features.WasmFeatures.{WasmFeatures}
 use Rattle.wasm_validator_types.specs.Spaces.{Spaces}
 use Rattle.wasm_validator_sections.specs.WasmValidatorCore.declared.limits.TheConstants.{MAX_DATA_SEGMENTS}
 use Rattle.wasm_validator_sections.specs.WasmValidatorCore.Items.{is_data_count}

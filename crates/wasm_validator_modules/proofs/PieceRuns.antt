@@ -12,7 +12,7 @@ use Rattle.wasm_spec_rules.specs.Parts.{bodies_of}
 use Rattle.wasm_spec_rules.specs.Sections.{each, rank_of_section}
 use Rattle.wasm_spec_rules.proofs.FramedOrder.{AreInner}
 use Rattle.wasm_spec_rules.proofs.Tests.{truth, when, unless, then_some}
-use Rattle.wasm_readers_errors.specs.declared.features.WasmFeatures.{WasmFeatures}
+use Rattle.wasm_readers_errors.specs.WasmReadersFeatures.declared.features.WasmFeatures.{WasmFeatures}
 use Rattle.wasm_validator_sections.specs.WasmValidatorReferences.References.{section_names}
 use Rattle.wasm_validator_types.specs.Spaces.{Spaces}
 use Rattle.wasm_validator_sections.specs.WasmValidatorCore.Answers.{TypesSoFar}

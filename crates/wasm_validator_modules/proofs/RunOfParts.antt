@@ -27,7 +27,7 @@ use Rattle.wasm_spec_rules.specs.Modules.{IsAllowedPiece}
 use Rattle.wasm_spec_rules.proofs.Ordered.{Follows}
 use Rattle.wasm_spec_rules.proofs.Tests.{then_some, guarded, truth, when, unless}
 use Rattle.wasm_readers.specs.Written.{written}
-use Rattle.wasm_readers_errors.specs.declared.features.WasmFeatures.{WasmFeatures}
+use Rattle.wasm_readers_errors.specs.WasmReadersFeatures.declared.features.WasmFeatures.{WasmFeatures}
 use Rattle.wasm_validator_type_groups.specs.Elements.{numbers_from}
 use Rattle.wasm_validator_types.specs.Spaces.{Spaces, no_spaces}
 use Rattle.wasm_validator_sections.specs.WasmValidatorCore.declared.limits.TheConstants.{MAX_TYPES, MAX_IMPORTS, MAX_FUNCTIONS, MAX_GLOBALS, MAX_TAGS, MAX_EXPORTS, MAX_ELEMENT_SEGMENTS, MAX_DATA_SEGMENTS}

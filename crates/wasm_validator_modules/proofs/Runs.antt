@@ -22,7 +22,7 @@ use Rattle.wasm_validator_modules.specs.States.{after_piece, BodyToValidate, bod
 use Rattle.wasm_validator_modules.specs.Payloads.{ShowsModule, Show, IsFunction, body_seen, bodies_given, latest_of, after_all, handed_behind, all_handed, Runs, Rejects, HasTaken, IsToldOfFormat, IsLeft, IsBehindCode, IsOutOfMemory, TellsFormat, Validates}
 use Rattle.wasm_validator_sections.specs.SectionsTold.{StandsBetween}
 use Rattle.wasm_validator_modules.proofs.Growing.{body_some}
-use Rattle.wasm_readers_errors.specs.declared.features.WasmFeatures.{WasmFeatures}
+use Rattle.wasm_readers_errors.specs.WasmReadersFeatures.declared.features.WasmFeatures.{WasmFeatures}
 use Rattle.std.proofs.lemmas.Option.{same_Some}
 use Rattle.wasm_validator_modules.proofs.ValidTypes.{all_back}
 

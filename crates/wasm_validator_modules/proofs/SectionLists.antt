@@ -6,7 +6,7 @@ use Rattle.wasm_spec_rules.proofs.Tests.{then_some, guarded}
 use Rattle.wasm_spec.specs.Framing.{Piece, Counted}
 use Rattle.wasm_spec_rules.specs.Sections.{each}
 use Rattle.wasm_spec_rules.specs.Parts.{all_items}
-use Rattle.wasm_readers_errors.specs.declared.features.WasmFeatures.{WasmFeatures}
+use Rattle.wasm_readers_errors.specs.WasmReadersFeatures.declared.features.WasmFeatures.{WasmFeatures}
 use Rattle.wasm_validator_types.specs.Spaces.{Spaces}
 use Rattle.wasm_validator_sections.specs.WasmValidatorCore.Answers.{TypesSoFar}
 use Rattle.wasm_validator_sections.specs.Sections.{read_each, read_section}

@@ -10,7 +10,7 @@ use Rattle.wasm_spec_rules.specs.StateTable as table
 use Rattle.wasm_spec_rules.specs.StateTable.{Phase, Call, section, barred_section, data_section, code_start, accepted_to, refused_to}
 use Rattle.wasm_validator_sections.specs.Bodies.{expected_bodies}
 use Rattle.wasm_spec_rules.specs.FeatureFlags.{features_of}
-use Rattle.wasm_readers_errors.specs.declared.features.WasmFeatures.{WasmFeatures}
+use Rattle.wasm_readers_errors.specs.WasmReadersFeatures.declared.features.WasmFeatures.{WasmFeatures}
 use Rattle.wasm_validator_types.specs.Spaces.{Spaces, no_spaces}
 use Rattle.wasm_validator_sections.specs.WasmValidatorCore.declared.limits.TheConstants.{MAX_TAGS, MAX_DATA_SEGMENTS}
 use Rattle.wasm_validator_sections.specs.WasmValidatorCore.Items.{add_tag}

@@ -18,8 +18,8 @@ use Rattle.wasm_spec_rules.specs.Modules.{IsAllowedPiece}
 use Rattle.wasm_spec_rules.specs.Parts.{Parts, bodies_of, data_counts_of}
 use Rattle.wasm_spec_rules.specs.Sections.{ranks, at_rank}
 use Rattle.wasm_spec_rules.proofs.Ordered.{Follows}
-use Rattle.wasm_readers_errors.specs.declared.features.WasmFeatures.{WasmFeatures}
-use Rattle.wasm_readers_types.specs.declared.indices.UnpackedIndex.{UnpackedIndex}
+use Rattle.wasm_readers_errors.specs.WasmReadersFeatures.declared.features.WasmFeatures.{WasmFeatures}
+use Rattle.wasm_readers_types.specs.WasmReadersValues.declared.indices.UnpackedIndex.{UnpackedIndex}
 use Rattle.wasm_validator_type_groups.proofs.Places.{get-right}
 use Rattle.wasm_validator_resources.specs.Answers.{same_index}
 use Rattle.wasm_spec_validity.specs.Expressions.{named}

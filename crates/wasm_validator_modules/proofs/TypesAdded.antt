@@ -17,7 +17,7 @@ use Rattle.wasm_spec_rules.specs.Parts.{index}
 use Rattle.wasm_spec_rules.specs.Sections.{each}
 use Rattle.wasm_spec_rules.proofs.Tests.{then_some, guarded}
 use Rattle.wasm_readers.specs.Written.{written}
-use Rattle.wasm_readers_errors.specs.declared.features.WasmFeatures.{WasmFeatures}
+use Rattle.wasm_readers_errors.specs.WasmReadersFeatures.declared.features.WasmFeatures.{WasmFeatures}
 use Rattle.wasm_validator_canonical.specs.Groups.{placed, AreValid}
 use Rattle.wasm_validator_canonical.proofs.Held.{length-positions}
 use Rattle.wasm_validator_canonical.proofs.Kept.{length_held, all_held}

@@ -13,8 +13,8 @@ use Rattle.wasm_spec_rules.specs.FeatureFlags.{features_of}
 use Rattle.wasm_spec_rules.specs.Parts.{Parts, HasParts}
 use Rattle.wasm_spec_rules.specs.IndexSpaces.{IndexSpaces, index_spaces}
 use Rattle.wasm_spec_rules.specs.Modules.{IsAllowedPiece, AreValidParts, IsWellFormed}
-use Rattle.wasm_readers_types.specs.declared.indices.TheConstants.{MAX_IDS}
-use Rattle.wasm_readers_errors.specs.declared.features.WasmFeatures.{WasmFeatures}
+use Rattle.wasm_readers_types.specs.WasmReadersValues.declared.indices.TheConstants.{MAX_IDS}
+use Rattle.wasm_readers_errors.specs.WasmReadersFeatures.declared.features.WasmFeatures.{WasmFeatures}
 use Rattle.wasm_spec_validity.specs.Expressions.{expression_at}
 use Rattle.wasm_spec_validity.specs.Typing.{HasTypedConstants, HasTypedBodies}
 use Rattle.wasm_spec_validity.specs.Modules.{Numbering, IsValidUpToBodies, IsValidModule, context_of, imported_globals, number_at}

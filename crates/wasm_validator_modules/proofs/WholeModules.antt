@@ -15,7 +15,7 @@ use Rattle.wasm_spec_rules.specs.IndexSpaces.{IndexSpaces, index_spaces, importe
 use Rattle.wasm_spec_rules.specs.Sections.{each}
 use Rattle.wasm_spec_rules.proofs.FramedOrder.{IsInner, AreInner, others_inner, others_follow}
 use Rattle.wasm_spec_rules.proofs.Tests.{then_some}
-use Rattle.wasm_readers_errors.specs.declared.features.WasmFeatures.{WasmFeatures}
+use Rattle.wasm_readers_errors.specs.WasmReadersFeatures.declared.features.WasmFeatures.{WasmFeatures}
 use Rattle.wasm_validator_types.specs.Spaces.{Spaces, no_spaces}
 use Rattle.wasm_validator_type_list.specs.DefTypes.{def_types, types_of_list}
 use Rattle.wasm_validator_types.specs.Shown.{shown_of, HoldsIds}
@@ -48,7 +48,7 @@ use Rattle.wasm_validator_modules.proofs.Runs.{refusal}
 use Rattle.wasm_parser.specs.Machine.{State, start, Run}
 use Rattle.wasm_parser.proofs.Law.{framed_run}
 use Rattle.wasm_spec_rules.specs.Parts.{bodies_of}
-use Rattle.wasm_readers_types.specs.declared.indices.TheConstants.{MAX_IDS}
+use Rattle.wasm_readers_types.specs.WasmReadersValues.declared.indices.TheConstants.{MAX_IDS}
 use Rattle.wasm_readers_errors.specs.declared.error.Error as reading
 use Rattle.wasm_readers_errors.specs.declared.error.Error.TheVariants as reading_error
 use Rattle.wasm_validator_sections.specs.WasmValidatorCore.Errors.{lifted}

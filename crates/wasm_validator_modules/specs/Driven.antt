@@ -4,7 +4,7 @@ use Rattle.std.specs.List.{All}
 use Rattle.wasm_spec.specs.Framing.{Piece, IsFramed}
 use Rattle.wasm_spec_rules.specs.FeatureFlags.{features_of}
 use Rattle.wasm_spec_validity.specs.Modules.{IsValidModule}
-use Rattle.wasm_readers_types.specs.declared.indices.TheConstants.{MAX_IDS}
+use Rattle.wasm_readers_types.specs.WasmReadersValues.declared.indices.TheConstants.{MAX_IDS}
 use Rattle.wasm_validator_sections.specs.WasmValidatorCore.Answers.{TypesSoFar}
 use Rattle.wasm_validator_modules.specs.Standing.{Standing, unparsed, HoldsValid}
 use Rattle.wasm_validator_modules.specs.Payloads.{after_all, all_handed, IsBodyOfIts}

@@ -9,8 +9,8 @@ use Rattle.wasm_readers_errors.specs.declared.error.OutOfOrder.{OutOfOrder}
 use Rattle.wasm_readers_errors.specs.declared.error.OutOfOrder.TheVariants.{SectionBeforeHeader, SectionAfterEnd, Header, EndBeforeHeader, EndAfterEnd, SectionAfterFailure, SectionAfterCodeStart, CodeEntryBeforeCodeStart, CodeEntryWithoutFunction}
 use Rattle.wasm_readers_errors.specs.declared.error.Refusal.{Refusal}
 use Rattle.wasm_readers_errors.specs.declared.error.Rule.TheVariants.{ComponentModelLeftOut, Exceptions}
-use Rattle.wasm_readers_errors.specs.declared.features.WasmFeatures.{WasmFeatures}
-use Rattle.wasm_readers_errors.specs.declared.features.TheConstants.WasmFeatures.{COMPONENT_MODEL, EXCEPTIONS}
+use Rattle.wasm_readers_errors.specs.WasmReadersFeatures.declared.features.WasmFeatures.{WasmFeatures}
+use Rattle.wasm_readers_errors.specs.WasmReadersFeatures.declared.features.TheConstants.WasmFeatures.{COMPONENT_MODEL, EXCEPTIONS}
 use Rattle.wasm_readers.specs.SectionsSeen.{section_start}
 use Rattle.wasm_readers.specs.declared.section_limited.SectionLimited.{SectionLimited}
 use Rattle.wasm_validator_types.specs.Spaces.{Spaces}

@@ -1,7 +1,7 @@
 -- What a payload that is accepted gives.
 use Rattle.std.specs.Prelude.{ℕ, ◌≡◌, ◌≤◌, ◌⊎◌, ◌+◌, ◌++◌, true, List, [], ◌∷◌, map, Option, Some, None, ⊤}
 use Rattle.wasm_spec_rules.specs.Contexts.{Context}
-use Rattle.wasm_readers_types.specs.declared.indices.UnpackedIndex.{UnpackedIndex}
+use Rattle.wasm_readers_types.specs.WasmReadersValues.declared.indices.UnpackedIndex.{UnpackedIndex}
 use Rattle.std.specs.Option.{option_and_then}
 use Rattle.std.specs.declared.result.Result.{Result}
 use Rattle.std.specs.declared.result.Result.TheVariants as results
@@ -36,7 +36,7 @@ use Rattle.wasm_validator_sections.specs.WasmValidatorCore.Answers.{IsNowhere}
 use Rattle.wasm_validator_modules.specs.Standing.{Stage, unparsed, in_module, in_code, ended, Standing, shown_at, failed, body_refused_at, HoldsValid}
 use Rattle.wasm_validator_modules.specs.States.{IsBeforeEnd, body_taken, BodyToValidate, body_at, handed, after_piece, left_by}
 use Rattle.wasm_validator_modules.specs.OrderTold.{body_told}
-use Rattle.wasm_readers_errors.specs.declared.features.WasmFeatures.{WasmFeatures}
+use Rattle.wasm_readers_errors.specs.WasmReadersFeatures.declared.features.WasmFeatures.{WasmFeatures}
 
 -- The types show what the validator held, in a list where equal types are one if the features ask for it; then no
 -- group is in it twice, and no type has two ids. The types of the list are valid, and it has each id of the module.

@@ -18,7 +18,7 @@ use Rattle.wasm_spec_rules.specs.IndexSpaces.{IndexSpaces, IsFunctionType}
 use Rattle.wasm_spec_rules.specs.ItemRules.{IsValidTableEntry, IsValidMemory, IsValidTag, IsValidGlobal}
 use Rattle.wasm_spec_rules.specs.LinkRules.{IsValidExport}
 use Rattle.wasm_spec_rules.specs.Limits.{most_tables, most_memories}
-use Rattle.wasm_readers_types.specs.declared.indices.TheConstants.{MAX_IDS}
+use Rattle.wasm_readers_types.specs.WasmReadersValues.declared.indices.TheConstants.{MAX_IDS}
 use Rattle.wasm_readers.specs.Written.{written}
 use Rattle.wasm_validator_canonical.specs.Groups.{placed, held}
 use Rattle.wasm_validator_sections.specs.WasmValidatorChecks.Laws.{Stand}

@@ -1,6 +1,6 @@
 -- What contracts see of a validator's own state, and its calls.
 use Rattle.std.specs.Prelude.{ℕ, ◌+◌, ◌==◌, nat_le, Bool, true, false, not, ◌&&◌, ◌||◌, cond, if◌then◌else◌, List, [], ◌∷◌, length, slice_get, Option, Some, None, ⊤}
-use Rattle.wasm_readers_errors.specs.declared.features.WasmFeatures.{WasmFeatures}
+use Rattle.wasm_readers_errors.specs.WasmReadersFeatures.declared.features.WasmFeatures.{WasmFeatures}
 use Rattle.wasm_readers_errors.specs.declared.error.OutOfOrder.{OutOfOrder}
 use Rattle.wasm_readers_errors.specs.declared.error.OutOfOrder.TheVariants.{SectionBeforeHeader, SectionAfterEnd, EndBeforeHeader, EndAfterEnd, SectionAfterFailure, SectionAfterCodeStart, CodeEntryBeforeCodeStart, CodeEntryWithoutFunction}
 use Rattle.wasm_spec_rules.specs.FeatureFlags.{features_of}
@@ -15,7 +15,7 @@ use Rattle.wasm_spec.specs.Framing as parts
 use Rattle.wasm_spec.specs.Framing.{Piece, Version, Custom, Counted, Start, DataCount, CodeStart, CodeEntry, Unknown}
 use Rattle.wasm_validator_modules.specs.declared.validator.State.{State}
 use Rattle.wasm_spec_rules.specs.Contexts.{Context}
-use Rattle.wasm_readers_types.specs.declared.indices.UnpackedIndex.{UnpackedIndex}
+use Rattle.wasm_readers_types.specs.WasmReadersValues.declared.indices.UnpackedIndex.{UnpackedIndex}
 use Rattle.wasm_validator_sections.specs.WasmValidatorReferences.References.{section_names}
 use Rattle.wasm_validator_sections.specs.declared.module_state.ModuleState.{ModuleState}
 use Rattle.wasm_validator_sections.specs.declared.code_state.TheConstants.{MAX_FUNCTION_SIZE}

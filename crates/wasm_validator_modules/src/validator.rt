@@ -1,4 +1,4 @@
-ghost use Rattle.wasm_readers_errors.specs.declared.features.TheConstants.WasmFeatures.{STANDARD};
+ghost use Rattle.wasm_readers_errors.specs.WasmReadersFeatures.declared.features.TheConstants.WasmFeatures.{STANDARD};
 ghost use Rattle.std.specs.Prelude.{◌≡◌, List, ◌∷◌, ◌-◌, not, [], IfOk, IfErr, IfSome, IfNone, IsSome, IsErr, OnOk, OnErr, Some, None, true, is_ok, ◌↔◌, ◌+◌};
 ghost use Rattle.wasm_validator_sections.specs.WasmValidatorCore.Errors.{IsContent, offset_of};
 ghost use Rattle.wasm_readers.specs.WasmReadersBytes.Reader.{original, position_in};

@@ -14,7 +14,7 @@ use Rattle.wasm_spec_rules.specs.Parts.{Expression}
 use Rattle.wasm_readers.specs.Tables.{table_behind, table_head_at}
 use Rattle.wasm_readers.specs.Written.{written}
 use Rattle.wasm_readers.proofs.Tables.{heads_begin_tables}
-use Rattle.wasm_readers_errors.specs.WasmReadersTypes.declared.indices.UnpackedIndex.{UnpackedIndex}
+use Rattle.wasm_readers_errors.specs.WasmReadersTypes.WasmReadersValues.declared.indices.UnpackedIndex.{UnpackedIndex}
 use Rattle.wasm_spec_validity.specs.Expressions.{expression_at, named}
 use Rattle.wasm_validator_references.specs.References.{mark, marked, mode_names, table_names, global_names, element_names}
 use Rattle.wasm_validator_references.specs.Marks.{MarksNames, MarksName}

@@ -9,7 +9,7 @@ use Rattle.wasm_operators.specs.Instructions.{Instruction, control, call, parame
 use Rattle.wasm_operators.specs.Maps.{map_control, map_reference, map_instruction}
 use Rattle.wasm_operators.proofs.Renamings.{instruction-renames}
 use Rattle.wasm_readers.specs.Written.{written}
-use Rattle.wasm_readers_errors.specs.WasmReadersTypes.declared.indices.UnpackedIndex.{UnpackedIndex}
+use Rattle.wasm_readers_errors.specs.WasmReadersTypes.WasmReadersValues.declared.indices.UnpackedIndex.{UnpackedIndex}
 use Rattle.wasm_spec_validity.specs.Expressions.{is_end, behind_end, expression_at, instructions_of, functions_named, named}
 use Rattle.wasm_validator_references.specs.References.{marked}
 use Rattle.wasm_validator_references.specs.Operators.{is_last, function_of, behind_last, mark_if, mark_operators}

@@ -1,8 +1,8 @@
 -- Refusals for want of a proposal.
 use Rattle.std.specs.Prelude.{ℕ, ◌≡◌, false, Option, Some, None}
-use Rattle.wasm_readers_errors.specs.On.{has_flag}
+use Rattle.wasm_readers_errors.specs.WasmReadersFeatures.On.{has_flag}
 use Rattle.wasm_readers_errors.specs.declared.error.Refusal.{Refusal}
-use Rattle.wasm_readers_errors.specs.declared.features.WasmFeatures.{WasmFeatures}
+use Rattle.wasm_readers_errors.specs.WasmReadersFeatures.declared.features.WasmFeatures.{WasmFeatures}
 
 -- a proposal is named, and it is off
 abbrev pub IsOff : WasmFeatures → Option WasmFeatures → Type 0

@@ -5,7 +5,7 @@ use Rattle.std.specs.Prelude.{ℕ, Bool, true, not, List, [], ◌∷◌, Option,
 use Rattle.std.specs.Option.{option_or}
 use Rattle.wasm_readers_errors.specs.WasmSpec.Syntax.{AbstractHeap, any_heap, eq_heap, i31_heap, struct_heap, array_heap, none_heap, func_heap, nofunc_heap, extern_heap, noextern_heap, exn_heap, noexn_heap, cont_heap, nocont_heap, Heap, abstract_heap, concrete, exact, Ref, Val, i32, i64, f32, f64, v128, reference, Storage, i8, i16, unpacked, Field, Comp, func, array, struct, cont}
 use Rattle.wasm_readers_errors.specs.WasmSpec.ValueTypes.{is_without_gc_types}
-use Rattle.wasm_readers_errors.specs.On.{has_flag}
+use Rattle.wasm_readers_errors.specs.WasmReadersFeatures.On.{has_flag}
 use Rattle.wasm_readers_errors.specs.Refusals.{lack_if}
 use Rattle.wasm_readers_errors.specs.declared.error.Fault.{Fault}
 use Rattle.wasm_readers_errors.specs.declared.error.Fault.TheVariants as fault
@@ -14,8 +14,8 @@ use Rattle.wasm_readers_errors.specs.declared.type_rules.GroupRule.TheVariants.{
 use Rattle.wasm_readers_errors.specs.declared.type_rules.ValueTypeRule.{ValueTypeRule}
 use Rattle.wasm_readers_errors.specs.declared.type_rules.ValueTypeRule.TheVariants.{ReferenceTypes, IndexReferences, ExactReferences, SharedReferences, GcTypes, NonNullable, GcHeapTypes, ExceptionReferences, ContinuationReferences}
 use Rattle.wasm_readers_errors.specs.declared.error.Refusal.{Refusal}
-use Rattle.wasm_readers_errors.specs.declared.features.WasmFeatures.{WasmFeatures}
-use Rattle.wasm_readers_errors.specs.declared.features.TheConstants.WasmFeatures.{REFERENCE_TYPES, FUNCTION_REFERENCES, GC, GC_TYPES, CUSTOM_DESCRIPTORS, SHARED_EVERYTHING_THREADS, EXCEPTIONS, STACK_SWITCHING, FLOATS, SIMD, MULTI_VALUE}
+use Rattle.wasm_readers_errors.specs.WasmReadersFeatures.declared.features.WasmFeatures.{WasmFeatures}
+use Rattle.wasm_readers_errors.specs.WasmReadersFeatures.declared.features.TheConstants.WasmFeatures.{REFERENCE_TYPES, FUNCTION_REFERENCES, GC, GC_TYPES, CUSTOM_DESCRIPTORS, SHARED_EVERYTHING_THREADS, EXCEPTIONS, STACK_SWITCHING, FLOATS, SIMD, MULTI_VALUE}
 
 -- the first of several refusals
 abbrev pub first_told : {X : Type 0} → (X → Option Refusal) → List X → Option Refusal

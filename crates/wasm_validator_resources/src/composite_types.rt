@@ -5,7 +5,7 @@ ghost use Rattle.std.specs.List.{list_all};
 ghost use Rattle.wasm_readers_errors.specs.WasmSpec.GroupRules.{field_storage};
 ghost use Rattle.wasm_readers_errors.specs.WasmSpec.ValueTypes.{allows_storage, allows_val};
 ghost use Rattle.wasm_spec_rules.specs.FeatureFlags.{features_of};
-ghost use Rattle.wasm_readers_errors.specs.WasmReadersTypes.SeenValues.{field_of, storage_of, val_of};
+ghost use Rattle.wasm_readers_errors.specs.WasmReadersTypes.WasmReadersValues.SeenValues.{field_of, storage_of, val_of};
 ghost use Rattle.wasm_readers_errors.specs.WasmReadersTypes.SeenTypes.{array_of, comp_of, cont_of, func_of, struct_of};
 ghost use Rattle.wasm_validator_resources.specs.Allowed.{allows_comp};
 ghost use Rattle.wasm_readers_errors.specs.Refusals.{refused};

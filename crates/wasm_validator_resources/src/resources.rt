@@ -8,9 +8,9 @@ ghost use Rattle.wasm_spec_rules.specs.Contexts.{Context};
 ghost use Rattle.wasm_spec_rules.specs.FeatureFlags.{features_of};
 ghost use Rattle.wasm_readers_errors.specs.WasmReadersTypes.SeenExterns.{table_of, memory_of, global_of};
 ghost use Rattle.wasm_readers_errors.specs.WasmReadersTypes.SeenTypes.{sub_of};
-ghost use Rattle.wasm_readers_errors.specs.WasmReadersTypes.SeenValues.{heap_of, ref_of, val_of, HeapFits};
-ghost use Rattle.wasm_readers_errors.specs.WasmReadersTypes.declared.indices.UnpackedIndex.{UnpackedIndex};
-ghost use Rattle.wasm_readers_errors.specs.WasmReadersTypes.declared.indices.UnpackedIndex.TheVariants.{Id};
+ghost use Rattle.wasm_readers_errors.specs.WasmReadersTypes.WasmReadersValues.SeenValues.{heap_of, ref_of, val_of, HeapFits};
+ghost use Rattle.wasm_readers_errors.specs.WasmReadersTypes.WasmReadersValues.declared.indices.UnpackedIndex.{UnpackedIndex};
+ghost use Rattle.wasm_readers_errors.specs.WasmReadersTypes.WasmReadersValues.declared.indices.UnpackedIndex.TheVariants.{Id};
 ghost use Rattle.wasm_spec_rules.specs.Attempts.{passes, among};
 ghost use Rattle.wasm_validator_resources.specs.Answers.{world, sub_in, sub_of_id, function_type_in, tag_in, heap_in, ref_in, val_in, signature_seen, IsWrittenHeap, IsWrittenVal, Puts};
 

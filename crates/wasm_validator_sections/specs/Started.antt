@@ -1,7 +1,7 @@
 -- What stands of a module's code, from the start of its code section on.
 use Rattle.std.specs.Prelude.{ℕ, suc, ◌-◌}
 use Rattle.wasm_spec_rules.specs.Contexts.{Context}
-use Rattle.wasm_readers_types.specs.declared.indices.UnpackedIndex.{UnpackedIndex}
+use Rattle.wasm_readers_types.specs.WasmReadersValues.declared.indices.UnpackedIndex.{UnpackedIndex}
 use Rattle.wasm_validator_core_resources.specs.ModuleContexts.{flagged_from}
 use Rattle.wasm_laws_modules.specs.BodyContexts.{code_context}
 use Rattle.wasm_validator_types.specs.Spaces.{Spaces}

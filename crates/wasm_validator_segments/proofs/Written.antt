@@ -8,7 +8,7 @@ use Rattle.wasm_spec.specs.BinaryTypes.{abstract_heap_from, abstract_heap_at, re
 use Rattle.wasm_spec.specs.BinarySections.{funcref}
 use Rattle.wasm_spec.proofs.Renaming.{Renames, renames_if, renames_map, renames_same_map, renames_same_then, heap-renames, global-renames}
 use Rattle.wasm_readers.specs.Written.{written}
-use Rattle.wasm_readers_types.specs.declared.indices.UnpackedIndex.{UnpackedIndex}
+use Rattle.wasm_readers_types.specs.WasmReadersValues.declared.indices.UnpackedIndex.{UnpackedIndex}
 use Rattle.wasm_validator_resources.specs.Answers.{IsWrittenHeap, IsWrittenVal}
 use Rattle.wasm_validator_segments.specs.Elements.{written_type_at}
 

@@ -2,7 +2,7 @@
 -- Core Specification 3.0, Validation, Modules (Element Segments).
 use Rattle.std.specs.Prelude.{◌≡◌, ℕ, ◌<◌, ◌≤◌, List, ◌++◌, length, get_or, Some}
 use Rattle.wasm_spec_rules.specs.Contexts.{Context}
-use Rattle.wasm_readers_types.specs.declared.indices.UnpackedIndex.{UnpackedIndex}
+use Rattle.wasm_readers_types.specs.WasmReadersValues.declared.indices.UnpackedIndex.{UnpackedIndex}
 use Rattle.wasm_validator_segments.specs.Elements.{behind_function}
 use Rattle.wasm_validator_segments.specs.Lists.{behind_many}
 

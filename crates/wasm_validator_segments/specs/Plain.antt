@@ -5,7 +5,7 @@ use Rattle.wasm_spec.specs.Syntax.{Table, reference}
 use Rattle.wasm_spec.specs.BinarySections.{funcref, ref_func}
 use Rattle.wasm_spec.specs.Features.{Features}
 use Rattle.wasm_spec_rules.specs.Contexts.{Context}
-use Rattle.wasm_readers_types.specs.declared.indices.UnpackedIndex.{UnpackedIndex}
+use Rattle.wasm_readers_types.specs.WasmReadersValues.declared.indices.UnpackedIndex.{UnpackedIndex}
 use Rattle.wasm_validator_segments.specs.Elements.{typed_element_at}
 
 -- The first table may hold any functions, and has addresses of 32 bits.

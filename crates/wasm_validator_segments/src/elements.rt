@@ -5,7 +5,7 @@ ghost use Rattle.wasm_spec.specs.BinaryTypes.{flags_at};
 ghost use Rattle.wasm_spec_rules.specs.FeatureFlags.{features_of};
 ghost use Rattle.wasm_readers.specs.WasmReadersBytes.Reader.{SameInput, position_in, rest, RefusedFrom};
 ghost use Rattle.wasm_readers_errors.specs.Errors.{Reads};
-ghost use Rattle.wasm_readers_types.specs.SeenValues.{val_of, ref_of};
+ghost use Rattle.wasm_readers_types.specs.WasmReadersValues.SeenValues.{val_of, ref_of};
 ghost use Rattle.wasm_validator_constants.specs.Checked.{IsRefusedAt, StandsIn};
 ghost use Rattle.wasm_validator_segments.specs.Answers.{GoesPast};
 ghost use Rattle.wasm_validator_segments.specs.Elements.{index_if, written_type_at, may_go, reference_at, items_type_at, segment_table_at, behind_items, typed_items_at, typed_element_from, typed_element_at};

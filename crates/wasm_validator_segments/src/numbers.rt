@@ -3,7 +3,7 @@
 ghost use Rattle.std.specs.Prelude.{◌≡◌, ◌≤◌, Some, OnSome};
 ghost use Rattle.wasm_spec.specs.Syntax.{i32, i64};
 ghost use Rattle.wasm_readers.specs.WasmReadersBytes.Reader.{SameInput, position_in, rest};
-ghost use Rattle.wasm_readers_types.specs.SeenValues.{val_of};
+ghost use Rattle.wasm_readers_types.specs.WasmReadersValues.SeenValues.{val_of};
 ghost use Rattle.wasm_operators.specs.Control.{end_};
 ghost use Rattle.wasm_operators.specs.Instructions.{control, instruction_at};
 ghost use Rattle.wasm_validator_segments.specs.Numbers.{IsAnywhere};

@@ -12,8 +12,8 @@ use Rattle.wasm_spec.specs.GroupRules.{IsValidType}
 use Rattle.wasm_spec.proofs.Numbering.{members-close}
 use Rattle.wasm_spec.proofs.Shifting.{refs_option-map, refs_comp-map}
 use Rattle.wasm_readers_types.specs.SeenTypes.{sub_of}
-use Rattle.wasm_readers_types.specs.declared.indices.UnpackedIndex.{UnpackedIndex}
-use Rattle.wasm_readers_types.specs.declared.indices.UnpackedIndex.TheVariants.{Module, RecGroup, Id}
+use Rattle.wasm_readers_types.specs.WasmReadersValues.declared.indices.UnpackedIndex.{UnpackedIndex}
+use Rattle.wasm_readers_types.specs.WasmReadersValues.declared.indices.UnpackedIndex.TheVariants.{Module, RecGroup, Id}
 use Rattle.wasm_readers_types.specs.declared.types.SubType.{SubType}
 use Rattle.wasm_validator_type_list.specs.WasmValidatorTypeGroups.Groups.{first_of}
 use Rattle.wasm_validator_type_list.specs.Listable.{IsKnown, AreListable}

@@ -10,11 +10,11 @@ use Rattle.std.proofs.lemmas.Option.{same_Some}
 use Rattle.wasm_spec.specs.Syntax.{Val, Field, Comp, func, array, struct, cont, unpacked, Sub, map_val, map_storage, map_field, map_comp}
 use Rattle.wasm_spec.specs.Matching.{is_shared_val, is_shared_storage}
 use Rattle.wasm_spec.specs.GroupRules.{storages, field_storage, is_func, IsFunction}
-use Rattle.wasm_readers_types.specs.SeenValues.{val_of, storage_of, field_of}
+use Rattle.wasm_readers_types.specs.WasmReadersValues.SeenValues.{val_of, storage_of, field_of}
 use Rattle.wasm_readers_types.specs.SeenTypes.{comp_of}
-use Rattle.wasm_readers_types.specs.declared.values.ValType.{ValType}
-use Rattle.wasm_readers_types.specs.declared.values.FieldType.{FieldType}
-use Rattle.wasm_readers_types.specs.declared.indices.UnpackedIndex.{UnpackedIndex}
+use Rattle.wasm_readers_types.specs.WasmReadersValues.declared.values.ValType.{ValType}
+use Rattle.wasm_readers_types.specs.WasmReadersValues.declared.values.FieldType.{FieldType}
+use Rattle.wasm_readers_types.specs.WasmReadersValues.declared.indices.UnpackedIndex.{UnpackedIndex}
 use Rattle.wasm_readers_types.specs.declared.types.FuncType.{FuncType}
 use Rattle.wasm_readers_types.specs.declared.types.StructType.{StructType}
 use Rattle.wasm_readers_types.specs.declared.types.CompositeInnerType.{CompositeInnerType}

@@ -15,8 +15,8 @@ use Rattle.wasm_validator_resources.specs.WasmReadersErrors.declared.error.Refus
 use Rattle.wasm_validator_resources.specs.WasmReadersErrors.declared.type_rules.DescriptorRule.TheVariants.{Descriptors, DescriptorOfNonStruct, DescribesOfNonStruct}
 use Rattle.wasm_validator_resources.specs.WasmReadersErrors.declared.type_rules.GroupRule.TheVariants.{Subtypes, Arrays, ArrayGcTypes, Structs, StructGcTypes}
 use Rattle.wasm_validator_resources.specs.WasmReadersErrors.declared.type_rules.ValueTypeRule.TheVariants.{ReferenceTypes}
-use Rattle.wasm_validator_resources.specs.WasmReadersErrors.declared.features.WasmFeatures.{WasmFeatures}
-use Rattle.wasm_validator_resources.specs.WasmReadersErrors.declared.features.TheConstants.WasmFeatures.{REFERENCE_TYPES, GC, GC_TYPES, CUSTOM_DESCRIPTORS, MULTI_VALUE}
+use Rattle.wasm_validator_resources.specs.WasmReadersErrors.WasmReadersFeatures.declared.features.WasmFeatures.{WasmFeatures}
+use Rattle.wasm_validator_resources.specs.WasmReadersErrors.WasmReadersFeatures.declared.features.TheConstants.WasmFeatures.{REFERENCE_TYPES, GC, GC_TYPES, CUSTOM_DESCRIPTORS, MULTI_VALUE}
 use Rattle.wasm_readers_types.specs.declared.types.SubType.{SubType}
 use Rattle.wasm_validator_type_list.specs.WasmValidatorTypeGroups.Groups.{first_of, IsInGroup}
 use Rattle.wasm_validator_type_list.specs.Declares.{declares}

@@ -16,8 +16,8 @@ use Rattle.wasm_validator_resources.specs.WasmReadersErrors.declared.error.Refus
 use Rattle.wasm_validator_resources.specs.WasmReadersErrors.declared.type_rules.DescriptorRule.{DescriptorRule}
 use Rattle.wasm_validator_resources.specs.WasmReadersErrors.declared.type_rules.DescriptorRule.TheVariants.{Descriptors, DescriptorOfNonStruct, DescribesOfNonStruct, SubtypeWithDescriptor, SubtypeWithoutDescriptor, DescribedSupertype, DescriptorSupertype, NonDescriptorSupertype, DescriptorOfNonDescriptor, DescriptorWithoutDescribes, DescribesWithoutDescriptor, DescriptorFinality}
 use Rattle.wasm_validator_resources.specs.WasmReadersErrors.declared.type_rules.GroupRule.TheVariants.{Subtypes, FinalSupertype, SupertypeMatch, SharedComposites, SharedMembers}
-use Rattle.wasm_validator_resources.specs.WasmReadersErrors.declared.features.WasmFeatures.{WasmFeatures}
-use Rattle.wasm_validator_resources.specs.WasmReadersErrors.declared.features.TheConstants.WasmFeatures.{GC, SHARED_EVERYTHING_THREADS, CUSTOM_DESCRIPTORS}
+use Rattle.wasm_validator_resources.specs.WasmReadersErrors.WasmReadersFeatures.declared.features.WasmFeatures.{WasmFeatures}
+use Rattle.wasm_validator_resources.specs.WasmReadersErrors.WasmReadersFeatures.declared.features.TheConstants.WasmFeatures.{GC, SHARED_EVERYTHING_THREADS, CUSTOM_DESCRIPTORS}
 use Rattle.wasm_readers_types.specs.declared.types.SubType.{SubType}
 use Rattle.wasm_validator_type_list.specs.WasmValidatorTypeGroups.Groups.{IsInGroup}
 use Rattle.wasm_validator_type_list.specs.Declares.{declares}

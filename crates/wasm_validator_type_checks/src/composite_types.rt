@@ -9,7 +9,7 @@ ghost use Rattle.wasm_spec.specs.ValueTypes.{implies};
 ghost use Rattle.wasm_spec.specs.GroupRules.{is_func, IsFunction, IsContinuationOfFunction};
 ghost use Rattle.wasm_validator_resources.specs.WasmReadersErrors.Refusals.{refused};
 ghost use Rattle.wasm_validator_resources.specs.WasmSpecRules.FeatureFlags.{features_of};
-ghost use Rattle.wasm_readers_types.specs.SeenValues.{heap_of, val_of, storage_of, field_of};
+ghost use Rattle.wasm_readers_types.specs.WasmReadersValues.SeenValues.{heap_of, val_of, storage_of, field_of};
 ghost use Rattle.wasm_readers_types.specs.SeenTypes.{comp_of};
 ghost use Rattle.wasm_validator_type_list.specs.Listing.{types_in};
 ghost use Rattle.wasm_validator_type_list.specs.Declares.{declares};

@@ -2,7 +2,7 @@
 
 ghost use Rattle.std.specs.Prelude.{◌≡◌, ◌<◌, length, slice_index_or, option_map, IfSome};
 ghost use Rattle.std.specs.Bool.{Decides};
-ghost use Rattle.wasm_readers_types.specs.SeenValues.{index_of};
+ghost use Rattle.wasm_readers_types.specs.WasmReadersValues.SeenValues.{index_of};
 ghost use Rattle.wasm_spec.specs.Declared.{supertype_of, descriptor_of, described_by};
 ghost use Rattle.wasm_readers_types.specs.declared.types.SubType.{SubType};
 ghost use Rattle.wasm_validator_type_list.specs.Listable.{AreListable};

@@ -7,7 +7,7 @@ use Rattle.std.proofs.lemmas.List.Concat.{flat_map-append}
 use Rattle.std.proofs.lemmas.List.Elements.{All-head, All-tail, All-push, All-weaker}
 use Rattle.std.proofs.Math.Seq.{drop-append_seam, take-length}
 use Rattle.std.specs.declared.ops.Range.{Range}
-use Rattle.wasm_readers_types.specs.declared.indices.CoreTypeId.{CoreTypeId}
+use Rattle.wasm_readers_types.specs.WasmReadersValues.declared.indices.CoreTypeId.{CoreTypeId}
 use Rattle.wasm_validator_type_groups.specs.Groups.{all_in, first_of, IsInGroup}
 use Rattle.wasm_validator_type_groups.specs.Spans.{span, spans_from, spans_of}
 use Rattle.wasm_validator_type_groups.specs.Flat.{cut_out, cut, IsWithin, AreParted}

@@ -2,7 +2,7 @@
 use Rattle.std.specs.Prelude.{ℕ, ◌≡◌, ◌≤◌, ◌<◌, ◌+◌, List, map, length, slice_index, slice_index_or, slice_range}
 use Rattle.std.specs.List.{All}
 use Rattle.std.specs.declared.ops.Range.{Range}
-use Rattle.wasm_readers_types.specs.declared.indices.CoreTypeId.{CoreTypeId}
+use Rattle.wasm_readers_types.specs.WasmReadersValues.declared.indices.CoreTypeId.{CoreTypeId}
 use Rattle.wasm_validator_type_groups.specs.declared.grouped_list.GroupedList.TheInside.{Inside}
 use Rattle.wasm_validator_type_groups.specs.Groups.{all_in, first_of, IsInGroup}
 use Rattle.wasm_validator_type_groups.specs.Spans.{span}

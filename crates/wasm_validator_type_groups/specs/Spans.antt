@@ -1,7 +1,7 @@
 -- The ranges of ids of groups.
 use Rattle.std.specs.Prelude.{ℕ, ◌+◌, List, [], ◌∷◌, length}
 use Rattle.std.specs.declared.ops.Range.{Range}
-use Rattle.wasm_readers_types.specs.declared.indices.CoreTypeId.{CoreTypeId}
+use Rattle.wasm_readers_types.specs.WasmReadersValues.declared.indices.CoreTypeId.{CoreTypeId}
 
 -- the range of ids with the numbers from the first to below the second
 abbrev pub span : ℕ → ℕ → Range CoreTypeId

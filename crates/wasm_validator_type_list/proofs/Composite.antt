@@ -7,10 +7,10 @@ use Rattle.std.proofs.lemmas.Option.{same_Some, slice_get_within, slice_get-get_
 use Rattle.wasm_readers_errors.specs.WasmSpec.Syntax.{map_val, map_field, map_comp, map_sub}
 use Rattle.wasm_readers_errors.specs.WasmSpec.References.{refs_option, refs_comp, refs_sub}
 use Rattle.wasm_readers_errors.specs.WasmSpec.Matching.{MatchesVal, MatchesFields, MatchesComp, MatchesSub}
-use Rattle.wasm_readers_errors.specs.WasmReadersTypes.SeenValues.{val_of, field_of}
+use Rattle.wasm_readers_errors.specs.WasmReadersTypes.WasmReadersValues.SeenValues.{val_of, field_of}
 use Rattle.wasm_readers_errors.specs.WasmReadersTypes.SeenTypes.{comp_of, sub_of}
-use Rattle.wasm_readers_errors.specs.WasmReadersTypes.declared.values.ValType.{ValType}
-use Rattle.wasm_readers_errors.specs.WasmReadersTypes.declared.values.FieldType.{FieldType}
+use Rattle.wasm_readers_errors.specs.WasmReadersTypes.WasmReadersValues.declared.values.ValType.{ValType}
+use Rattle.wasm_readers_errors.specs.WasmReadersTypes.WasmReadersValues.declared.values.FieldType.{FieldType}
 use Rattle.wasm_readers_errors.specs.WasmReadersTypes.declared.types.FuncType.{FuncType}
 use Rattle.wasm_readers_errors.specs.WasmReadersTypes.declared.types.StructType.{StructType}
 use Rattle.wasm_readers_errors.specs.WasmReadersTypes.declared.types.CompositeInnerType.{CompositeInnerType}

@@ -6,15 +6,15 @@ use Rattle.std.proofs.lemmas.List.Elements.{All-head, All-tail, All-cons, All-ni
 use Rattle.std.proofs.lemmas.Bool.{cases_lt}
 use Rattle.std.specs.declared.ops.Range.{Range}
 use Rattle.wasm_readers_errors.specs.WasmSpec.Syntax.{Field, Sub}
-use Rattle.wasm_readers_errors.specs.WasmReadersTypes.Indices.{number_of}
-use Rattle.wasm_readers_errors.specs.WasmReadersTypes.declared.indices.TheConstants.{MAX_IDS}
-use Rattle.wasm_readers_errors.specs.WasmReadersTypes.declared.indices.CoreTypeId.{CoreTypeId}
-use Rattle.wasm_readers_errors.specs.WasmReadersTypes.declared.indices.UnpackedIndex.{UnpackedIndex}
-use Rattle.wasm_readers_errors.specs.WasmReadersTypes.declared.indices.UnpackedIndex.TheVariants.{Module, RecGroup, Id}
-use Rattle.wasm_readers_errors.specs.WasmReadersTypes.SeenValues.{val_of, field_of}
+use Rattle.wasm_readers_errors.specs.WasmReadersTypes.WasmReadersValues.Indices.{number_of}
+use Rattle.wasm_readers_errors.specs.WasmReadersTypes.WasmReadersValues.declared.indices.TheConstants.{MAX_IDS}
+use Rattle.wasm_readers_errors.specs.WasmReadersTypes.WasmReadersValues.declared.indices.CoreTypeId.{CoreTypeId}
+use Rattle.wasm_readers_errors.specs.WasmReadersTypes.WasmReadersValues.declared.indices.UnpackedIndex.{UnpackedIndex}
+use Rattle.wasm_readers_errors.specs.WasmReadersTypes.WasmReadersValues.declared.indices.UnpackedIndex.TheVariants.{Module, RecGroup, Id}
+use Rattle.wasm_readers_errors.specs.WasmReadersTypes.WasmReadersValues.SeenValues.{val_of, field_of}
 use Rattle.wasm_readers_errors.specs.WasmReadersTypes.SeenTypes.{comp_of}
-use Rattle.wasm_readers_errors.specs.WasmReadersTypes.declared.values.ValType.{ValType}
-use Rattle.wasm_readers_errors.specs.WasmReadersTypes.declared.values.FieldType.{FieldType}
+use Rattle.wasm_readers_errors.specs.WasmReadersTypes.WasmReadersValues.declared.values.ValType.{ValType}
+use Rattle.wasm_readers_errors.specs.WasmReadersTypes.WasmReadersValues.declared.values.FieldType.{FieldType}
 use Rattle.wasm_readers_errors.specs.WasmReadersTypes.declared.types.FuncType.{FuncType}
 use Rattle.wasm_readers_errors.specs.WasmReadersTypes.declared.types.StructType.{StructType}
 use Rattle.wasm_readers_errors.specs.WasmReadersTypes.declared.types.CompositeInnerType.{CompositeInnerType}

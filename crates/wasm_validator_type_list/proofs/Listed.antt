@@ -10,8 +10,8 @@ use Rattle.wasm_readers_errors.specs.WasmSpec.TypeLists.{ListedUse, by_id, by_po
 use Rattle.wasm_readers_errors.specs.WasmSpec.TypeLaws.{IsKnownUse, MentionsKnown}
 use Rattle.wasm_readers_errors.proofs.WasmSpec.Shifting.{refs_option-map, refs_comp-map}
 use Rattle.wasm_readers_errors.proofs.WasmSpec.Agreement.{map_sub-undone}
-use Rattle.wasm_readers_errors.specs.WasmReadersTypes.declared.indices.UnpackedIndex.{UnpackedIndex}
-use Rattle.wasm_readers_errors.specs.WasmReadersTypes.declared.indices.UnpackedIndex.TheVariants.{Module, RecGroup, Id}
+use Rattle.wasm_readers_errors.specs.WasmReadersTypes.WasmReadersValues.declared.indices.UnpackedIndex.{UnpackedIndex}
+use Rattle.wasm_readers_errors.specs.WasmReadersTypes.WasmReadersValues.declared.indices.UnpackedIndex.TheVariants.{Module, RecGroup, Id}
 use Rattle.wasm_readers_errors.specs.WasmReadersTypes.declared.types.SubType.{SubType}
 use Rattle.wasm_readers_errors.specs.WasmReadersTypes.SeenTypes.{sub_of}
 use Rattle.wasm_readers_errors.specs.WasmReadersTypes.SeenApart.{subs_of-apart}

@@ -3,7 +3,7 @@ use Rattle.std.specs.Prelude.{ℕ, ◌≡◌, ◌<◌, ◌≤◌, Bool, true, fa
 use Rattle.std.specs.declared.option.Option.TheVariants.{Some}
 use Rattle.wasm_readers_errors.specs.WasmSpec.Syntax.{Sub}
 use Rattle.wasm_readers_errors.specs.WasmSpec.TypeLaws.{HasNoRepetition}
-use Rattle.wasm_readers_errors.specs.WasmReadersTypes.declared.indices.UnpackedIndex.{UnpackedIndex}
+use Rattle.wasm_readers_errors.specs.WasmReadersTypes.WasmReadersValues.declared.indices.UnpackedIndex.{UnpackedIndex}
 use Rattle.wasm_readers_errors.specs.WasmReadersTypes.SeenTypes.{sub_of}
 use Rattle.wasm_readers_errors.specs.WasmReadersTypes.declared.types.SubType.{SubType}
 use Rattle.wasm_validator_type_ancestors.specs.WasmValidatorTypeGroups.Places.{IsNew}

@@ -8,7 +8,7 @@ use Rattle.wasm_readers_errors.specs.declared.error.Error.TheVariants.{Refused, 
 use Rattle.wasm_readers_errors.specs.declared.error.Fault.TheVariants.{Rule, OutOfGroup}
 use Rattle.wasm_readers_errors.specs.declared.error.Refusal.{Refusal}
 use Rattle.wasm_readers_errors.specs.declared.error.Rule.TheVariants.{TooManyTypes}
-use Rattle.wasm_readers_errors.specs.WasmReadersTypes.declared.indices.TheConstants.{MAX_IDS}
+use Rattle.wasm_readers_errors.specs.WasmReadersTypes.WasmReadersValues.declared.indices.TheConstants.{MAX_IDS}
 
 -- there would be more types than ids
 abbrev pub too_many_types : ℕ → Refusal

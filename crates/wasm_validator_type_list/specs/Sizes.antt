@@ -1,7 +1,7 @@
 -- How large types are, in parts.
 use Rattle.std.specs.Prelude.{ℕ, ◌+◌, ◌-◌, ◌*◌, length}
 use Rattle.std.specs.declared.ops.Range.{Range}
-use Rattle.wasm_readers_errors.specs.WasmReadersTypes.declared.indices.CoreTypeId.{CoreTypeId}
+use Rattle.wasm_readers_errors.specs.WasmReadersTypes.WasmReadersValues.declared.indices.CoreTypeId.{CoreTypeId}
 use Rattle.wasm_readers_errors.specs.WasmReadersTypes.declared.types.CompositeInnerType.{CompositeInnerType}
 use Rattle.wasm_readers_errors.specs.WasmReadersTypes.declared.types.CompositeInnerType.TheVariants.{Func, Array, Struct, Cont}
 use Rattle.wasm_readers_errors.specs.WasmReadersTypes.declared.types.SubType.{SubType}

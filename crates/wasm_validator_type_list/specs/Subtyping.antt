@@ -3,12 +3,12 @@ use Rattle.std.specs.Prelude.{ℕ, ◌<◌}
 use Rattle.std.specs.List.{All}
 use Rattle.wasm_readers_errors.specs.WasmSpec.Syntax.{Heap, Ref, Val, map_heap, map_ref, map_val}
 use Rattle.wasm_readers_errors.specs.WasmSpec.References.{refs_heap, refs_val}
-use Rattle.wasm_readers_errors.specs.WasmReadersTypes.declared.indices.UnpackedIndex.{UnpackedIndex}
-use Rattle.wasm_readers_errors.specs.WasmReadersTypes.declared.indices.UnpackedIndex.TheVariants.{Module, RecGroup, Id}
-use Rattle.wasm_readers_errors.specs.WasmReadersTypes.declared.values.HeapType.{HeapType}
-use Rattle.wasm_readers_errors.specs.WasmReadersTypes.declared.values.RefType.{RefType}
-use Rattle.wasm_readers_errors.specs.WasmReadersTypes.declared.values.ValType.{ValType}
-use Rattle.wasm_readers_errors.specs.WasmReadersTypes.SeenValues.{heap_of, ref_of, val_of}
+use Rattle.wasm_readers_errors.specs.WasmReadersTypes.WasmReadersValues.declared.indices.UnpackedIndex.{UnpackedIndex}
+use Rattle.wasm_readers_errors.specs.WasmReadersTypes.WasmReadersValues.declared.indices.UnpackedIndex.TheVariants.{Module, RecGroup, Id}
+use Rattle.wasm_readers_errors.specs.WasmReadersTypes.WasmReadersValues.declared.values.HeapType.{HeapType}
+use Rattle.wasm_readers_errors.specs.WasmReadersTypes.WasmReadersValues.declared.values.RefType.{RefType}
+use Rattle.wasm_readers_errors.specs.WasmReadersTypes.WasmReadersValues.declared.values.ValType.{ValType}
+use Rattle.wasm_readers_errors.specs.WasmReadersTypes.WasmReadersValues.SeenValues.{heap_of, ref_of, val_of}
 use Rattle.wasm_validator_type_list.specs.Lookups.{leads_to}
 
 -- the reference is the id of one of so many types

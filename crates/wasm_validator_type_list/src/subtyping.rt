@@ -2,10 +2,10 @@ ghost use Rattle.std.specs.Prelude.{◌≡◌};
 ghost use Rattle.std.specs.Bool.{Decides};
 ghost use Rattle.wasm_readers_errors.specs.WasmSpec.Matching.{kind_of, bottom_of, top_of};
 ghost use Rattle.wasm_readers_errors.specs.WasmSpec.MatchingTests.{matches_abstract};
-ghost use Rattle.wasm_readers_errors.specs.WasmReadersTypes.Indices.{IsId};
+ghost use Rattle.wasm_readers_errors.specs.WasmReadersTypes.WasmReadersValues.Indices.{IsId};
 ghost use Rattle.wasm_readers_errors.specs.WasmReadersTypes.SeenTypes.{comp_of};
-ghost use Rattle.wasm_readers_errors.specs.WasmReadersTypes.SeenValues.{abstract_heap_of};
-ghost use Rattle.wasm_readers_errors.specs.WasmReadersTypes.declared.indices.UnpackedIndex.TheVariants.{Id};
+ghost use Rattle.wasm_readers_errors.specs.WasmReadersTypes.WasmReadersValues.SeenValues.{abstract_heap_of};
+ghost use Rattle.wasm_readers_errors.specs.WasmReadersTypes.WasmReadersValues.declared.indices.UnpackedIndex.TheVariants.{Id};
 
 use std::alloc::Allocator;
 use wasm_readers_errors::readers_types::{

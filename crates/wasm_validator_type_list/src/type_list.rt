@@ -1,8 +1,8 @@
 ghost use Rattle.std.specs.Prelude.{◌≡◌, ◌+◌, ◌<◌, ◌≤◌, true, length, slice_index_or, IfOk, IfErr, IfSome, IsOk, IsSome, IsTrue, ◌↔◌};
 ghost use Rattle.std.specs.declared.option.Option.TheVariants.{None};
-ghost use Rattle.wasm_readers_errors.specs.WasmReadersTypes.SeenValues.{index_of};
-ghost use Rattle.wasm_readers_errors.specs.WasmReadersTypes.Indices.{number_of, module_of};
-ghost use Rattle.wasm_readers_errors.specs.WasmReadersTypes.declared.indices.TheConstants.{MAX_IDS};
+ghost use Rattle.wasm_readers_errors.specs.WasmReadersTypes.WasmReadersValues.SeenValues.{index_of};
+ghost use Rattle.wasm_readers_errors.specs.WasmReadersTypes.WasmReadersValues.Indices.{number_of, module_of};
+ghost use Rattle.wasm_readers_errors.specs.WasmReadersTypes.WasmReadersValues.declared.indices.TheConstants.{MAX_IDS};
 ghost use Rattle.wasm_validator_type_ancestors.specs.WasmValidatorTypeGroups.Groups.{first_of, IsInGroup};
 ghost use Rattle.wasm_validator_type_ancestors.specs.WasmValidatorTypeGroups.Spans.{spans_of};
 ghost use Rattle.wasm_validator_type_ancestors.specs.WasmValidatorTypeGroups.Elements.{ids_left, ids_of_group};

@@ -3,7 +3,7 @@ use Rattle.std.specs.Prelude.{ℕ, ◌<◌, ⊤, List}
 use Rattle.std.specs.List.{All}
 use Rattle.wasm_spec_rules.specs.WasmSpec.Syntax.{Extern, func_extern, func_exact_extern, table_extern, memory_extern, global_extern, tag_extern}
 use Rattle.wasm_spec_rules.specs.WasmReadersTypes.SeenExterns.{table_of, memory_of, global_of}
-use Rattle.wasm_spec_rules.specs.WasmReadersTypes.declared.indices.UnpackedIndex.{UnpackedIndex}
+use Rattle.wasm_spec_rules.specs.WasmReadersTypes.WasmReadersValues.declared.indices.UnpackedIndex.{UnpackedIndex}
 use Rattle.wasm_validator_types.specs.declared.entity_type.EntityType.{EntityType}
 use Rattle.wasm_validator_types.specs.declared.entity_type.EntityType.TheVariants.{Func, FuncExact, Table, Memory, Global, Tag}
 

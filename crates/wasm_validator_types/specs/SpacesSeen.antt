@@ -6,8 +6,8 @@ use Rattle.indexmap.specs.Layout.{set_value_at}
 use Rattle.std.specs.String.{string_bytes}
 use Rattle.std.specs.declared.string.String.{String}
 use Rattle.wasm_spec_rules.specs.WasmReadersTypes.SeenExterns.{table_of, memory_of, global_of}
-use Rattle.wasm_spec_rules.specs.WasmReadersTypes.SeenValues.{ref_of}
-use Rattle.wasm_spec_rules.specs.WasmReadersTypes.declared.indices.CoreTypeId.{CoreTypeId}
+use Rattle.wasm_spec_rules.specs.WasmReadersTypes.WasmReadersValues.SeenValues.{ref_of}
+use Rattle.wasm_spec_rules.specs.WasmReadersTypes.WasmReadersValues.declared.indices.CoreTypeId.{CoreTypeId}
 use Rattle.wasm_validator_types.specs.declared.entity_type.EntityType.{EntityType}
 use Rattle.wasm_validator_types.specs.declared.index_spaces.IndexSpaces.TheInside.{Inside}
 use Rattle.wasm_validator_types.specs.Entities.{Entity, entity_of, IsAmong}

@@ -2,7 +2,7 @@ ghost use Rattle.std.specs.Prelude.{◌≡◌, ◌+◌, ◌≤◌, ◌<◌, ◌&
 ghost use Rattle.std.specs.List.{list_all};
 ghost use Rattle.wasm_spec.specs.Syntax.{map_comp, map_sub};
 ghost use Rattle.wasm_spec.specs.References.{refs_option, refs_comp};
-ghost use Rattle.wasm_readers_types.specs.SeenValues.{index_of};
+ghost use Rattle.wasm_readers_types.specs.WasmReadersValues.SeenValues.{index_of};
 ghost use Rattle.wasm_readers_types.specs.SeenTypes.{comp_of, sub_of};
 ghost use Rattle.wasm_validator_canonical.specs.Answers.{Says, IsAt};
 ghost use Rattle.wasm_validator_canonical.specs.Refusals.{late_by};

@@ -1,6 +1,6 @@
 use Rattle.std.proofs.Common.{sym, ◌∙◌, ap}
 use Rattle.wasm_spec.specs.Syntax.{Val}
-use Rattle.wasm_readers_types.specs.declared.indices.UnpackedIndex.{UnpackedIndex}
+use Rattle.wasm_readers_types.specs.WasmReadersValues.declared.indices.UnpackedIndex.{UnpackedIndex}
 use Rattle.wasm_operator_checks.specs.WasmOperatorSteps.Machine.{same_number}
 use Rattle.wasm_operator_checks.proofs.Acting.{needed, refused_here, plainly, refused_later}
 use Rattle.wasm_operator_checks.proofs.Typing.{nothing_typed, two_i32s_typed, data_held}

@@ -1,4 +1,4 @@
-use Rattle.wasm_readers_types.specs.SeenValues.{field_of}
+use Rattle.wasm_readers_types.specs.WasmReadersValues.SeenValues.{field_of}
 use Rattle.wasm_operator_checks.specs.DeclaredTypes.{is_missing}
 use Rattle.wasm_operator_arrays.proofs.Elements.{mutable_held}
 use Rattle.wasm_operator_arrays.proofs.reached.reach_mutable.Goals as goal

@@ -1,4 +1,4 @@
-use Rattle.wasm_readers_types.specs.SeenValues.{val_of}
+use Rattle.wasm_readers_types.specs.WasmReadersValues.SeenValues.{val_of}
 use Rattle.wasm_operator_blocks.proofs.Resolved.{value_known}
 use Rattle.wasm_operator_blocks.proofs.openings.resolve_value.Goals as goal
 

@@ -1,5 +1,5 @@
 use Rattle.std.proofs.Common.{◌≡◌, ◌-◌, ◌≤◌, Some, length, drop, map}
-use Rattle.wasm_validator_resources.specs.WasmReadersTypes.SeenValues.{val_of}
+use Rattle.wasm_validator_resources.specs.WasmReadersTypes.WasmReadersValues.SeenValues.{val_of}
 use Rattle.wasm_operator_stacks.specs.WasmOperatorSteps.Machine.{pop_vals}
 use Rattle.wasm_validator_resources.specs.Answers.{world}
 use Rattle.wasm_operator_stacks.specs.Seen.{state_of, below}

@@ -1,5 +1,5 @@
 use Rattle.std.proofs.Common.{map, ◌∙◌, ap}
-use Rattle.wasm_readers_types.specs.SeenValues.{val_of}
+use Rattle.wasm_readers_types.specs.WasmReadersValues.SeenValues.{val_of}
 use Rattle.wasm_operator_numbers.proofs.WasmOperatorChecks.Acting.{needed, plainly}
 use Rattle.wasm_operator_control.proofs.Called.{function_held, function_params, function_results}
 use Rattle.wasm_operator_control.proofs.calls.call.Goals as goal

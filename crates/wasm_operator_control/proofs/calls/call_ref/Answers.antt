@@ -1,5 +1,5 @@
 use Rattle.std.proofs.Common.{rules, map, ◌∙◌, ap}
-use Rattle.wasm_readers_types.specs.SeenValues.{val_of}
+use Rattle.wasm_readers_types.specs.WasmReadersValues.SeenValues.{val_of}
 use Rattle.wasm_operator_numbers.proofs.WasmOperatorChecks.Acting.{needed, plainly, has_held}
 use Rattle.wasm_operator_numbers.proofs.WasmOperatorChecks.Typing.{both_typed}
 use Rattle.wasm_operator_control.proofs.Called.{type_held, type_params, type_results, null_typed}

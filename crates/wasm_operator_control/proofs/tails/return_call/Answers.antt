@@ -1,5 +1,5 @@
 use Rattle.std.proofs.Common.{map, sym, ◌∙◌, ap}
-use Rattle.wasm_readers_types.specs.SeenValues.{val_of}
+use Rattle.wasm_readers_types.specs.WasmReadersValues.SeenValues.{val_of}
 use Rattle.wasm_operator_numbers.proofs.WasmOperatorChecks.Acting.{needed, refused_here, refused_later, refused_takes, halting}
 use Rattle.wasm_operator_numbers.proofs.Comparing.{match_held}
 use Rattle.wasm_operator_control.proofs.Called.{function_held, function_params, function_results, function_unreached}

@@ -1,5 +1,5 @@
 use Rattle.std.proofs.Common.{map, refl, sym, ◌∙◌, ap}
-use Rattle.wasm_readers_types.specs.SeenValues.{val_of}
+use Rattle.wasm_readers_types.specs.WasmReadersValues.SeenValues.{val_of}
 use Rattle.wasm_operator_numbers.proofs.WasmOperatorChecks.Acting.{needed, refused_here, refused_later, refused_takes, halting}
 use Rattle.wasm_operator_numbers.proofs.WasmOperatorChecks.Typing.{both_typed, first_untyped, second_untyped}
 use Rattle.wasm_operator_numbers.proofs.Comparing.{match_held}

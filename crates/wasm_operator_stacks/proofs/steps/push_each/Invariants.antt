@@ -1,5 +1,5 @@
 use Rattle.std.proofs.Common.{◌≡◌, ◌-◌, ◌≤◌, length, drop, take, map}
-use Rattle.wasm_operators_plain.specs.WasmReadersTypes.SeenValues.{val_of}
+use Rattle.wasm_operators_plain.specs.WasmReadersTypes.WasmReadersValues.SeenValues.{val_of}
 use Rattle.wasm_operator_steps.specs.Machine.{pushed_onto}
 use Rattle.wasm_operator_stacks.specs.SeenOperands.{operand_of}
 use Rattle.wasm_operator_stacks.proofs.steps.push_each.Given as goal

@@ -1,5 +1,5 @@
 use Rattle.std.proofs.Common.{◌≡◌, drop, map}
-use Rattle.wasm_readers_types.specs.SeenValues.{field_of}
+use Rattle.wasm_readers_types.specs.WasmReadersValues.SeenValues.{field_of}
 use Rattle.wasm_operator_checks.specs.WasmOperatorSteps.Meanings.{all_have_defaults}
 use Rattle.wasm_operator_structs.proofs.fields.have_defaults.Given as goal
 

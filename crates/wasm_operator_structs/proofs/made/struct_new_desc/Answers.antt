@@ -1,8 +1,8 @@
 use Rattle.std.proofs.Common.{refl, ◌∙◌, ap, [], ◌∷◌}
 use Rattle.std.specs.Option.{option_map}
 use Rattle.std.specs.Prelude.{Option, Some}
-use Rattle.wasm_readers_types.specs.SeenValues.{index_of}
-use Rattle.wasm_readers_types.specs.declared.indices.PackedIndex.{PackedIndex}
+use Rattle.wasm_readers_types.specs.WasmReadersValues.SeenValues.{index_of}
+use Rattle.wasm_readers_types.specs.WasmReadersValues.declared.indices.PackedIndex.{PackedIndex}
 use Rattle.wasm_operator_checks.specs.WasmOperatorStacks.SeenTypeWords.{val_in}
 use Rattle.wasm_operator_checks.specs.WasmValidatorResources.Answers.{world}
 use Rattle.wasm_operator_checks.specs.WasmOperatorStacks.Seen.{state_of, below}

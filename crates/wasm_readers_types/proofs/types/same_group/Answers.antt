@@ -1,6 +1,6 @@
 use Rattle.std.specs.Prelude.{map}
 use Rattle.std.proofs.Common.{ap}
-use Rattle.wasm_readers_types.specs.Exactness.{exact-as}
+use Rattle.wasm_readers_values.specs.Exactness.{exact-as}
 use Rattle.wasm_readers_types.specs.SeenTypes.{sub_of}
 use Rattle.wasm_readers_types.specs.SeenApart.{subs_of-apart}
 use Rattle.wasm_readers_types.specs.TypesExact.{group-exact}

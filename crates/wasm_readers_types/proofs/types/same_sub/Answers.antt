@@ -1,5 +1,5 @@
 use Rattle.std.proofs.Common.{ap}
-use Rattle.wasm_readers_types.specs.Exactness.{exact-as}
+use Rattle.wasm_readers_values.specs.Exactness.{exact-as}
 use Rattle.wasm_readers_types.specs.SeenTypes.{sub_of}
 use Rattle.wasm_readers_types.specs.SeenApart.{sub_of-apart}
 use Rattle.wasm_readers_types.specs.TypesExact.{sub-exact}

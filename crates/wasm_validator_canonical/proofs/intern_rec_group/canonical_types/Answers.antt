@@ -5,8 +5,8 @@ use Rattle.std.proofs.lemmas.List.{length-map}
 use Rattle.wasm_spec.specs.Syntax.{map_sub}
 use Rattle.wasm_spec_rules.specs.FeatureFlags.{features_of}
 use Rattle.wasm_readers_types.specs.SeenTypes.{sub_of, rec_of}
-use Rattle.wasm_readers_types.specs.declared.indices.CoreTypeId.{CoreTypeId}
-use Rattle.wasm_readers_types.specs.declared.indices.TheConstants.{MAX_IDS}
+use Rattle.wasm_readers_types.specs.WasmReadersValues.declared.indices.CoreTypeId.{CoreTypeId}
+use Rattle.wasm_readers_types.specs.WasmReadersValues.declared.indices.TheConstants.{MAX_IDS}
 use Rattle.wasm_validator_canonical.specs.Answers.{Says, IsAt}
 use Rattle.wasm_validator_canonical.specs.Indices.{numbers, canonical_index, are_bound, extends_at_most_one, extend_at_most_one}
 use Rattle.wasm_validator_canonical.proofs.Canonical.{and_false}

@@ -1,6 +1,6 @@
 use Rattle.std.proofs.Common.{◌≡◌, drop, map}
 use Rattle.std.specs.List.{list_all}
-use Rattle.wasm_readers_types.specs.SeenValues.{val_of}
+use Rattle.wasm_readers_types.specs.WasmReadersValues.SeenValues.{val_of}
 use Rattle.wasm_validator_canonical.specs.Indices.{has_no_index}
 use Rattle.wasm_validator_canonical.proofs.type_canonicalizer.have_index.Given as goal
 

@@ -1,6 +1,6 @@
 use Rattle.std.proofs.Common.{◌≡◌, map, take}
 use Rattle.wasm_spec.specs.Syntax.{map_field}
-use Rattle.wasm_readers_types.specs.SeenValues.{field_of}
+use Rattle.wasm_readers_types.specs.WasmReadersValues.SeenValues.{field_of}
 use Rattle.wasm_validator_core_resources.specs.ById.{as_id}
 use Rattle.wasm_validator_core_resources.proofs.by_ids.fields.Given as goal
 

@@ -1,5 +1,5 @@
 use Rattle.std.proofs.Common.{◌≡◌, map, take}
-use Rattle.wasm_readers_types.specs.SeenValues.{index_of}
+use Rattle.wasm_readers_types.specs.WasmReadersValues.SeenValues.{index_of}
 use Rattle.wasm_validator_core_resources.specs.ById.{as_id}
 use Rattle.wasm_validator_core_resources.proofs.by_ids.supertypes.Given as goal
 

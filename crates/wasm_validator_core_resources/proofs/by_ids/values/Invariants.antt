@@ -1,6 +1,6 @@
 use Rattle.std.proofs.Common.{◌≡◌, map, take}
 use Rattle.wasm_spec.specs.Syntax.{map_val}
-use Rattle.wasm_readers_types.specs.SeenValues.{val_of}
+use Rattle.wasm_readers_types.specs.WasmReadersValues.SeenValues.{val_of}
 use Rattle.wasm_validator_core_resources.specs.ById.{as_id}
 use Rattle.wasm_validator_core_resources.proofs.by_ids.values.Given as goal
 

@@ -1,5 +1,5 @@
 use Rattle.std.proofs.Common.{ℕ, ◌<◌, get_or}
-use Rattle.wasm_readers_types.specs.declared.values.ValType.{ValType}
+use Rattle.wasm_readers_types.specs.WasmReadersValues.declared.values.ValType.{ValType}
 use Rattle.wasm_validator_type_list.specs.Grouped.{ValsMatch}
 use Rattle.wasm_validator_matches.proofs.composites.all_vals_match.Given as goal
 

@@ -1,4 +1,4 @@
-use Rattle.wasm_readers_errors.specs.declared.features.TheConstants.WasmFeatures.{STANDARD}
+use Rattle.wasm_readers_errors.specs.WasmReadersFeatures.declared.features.TheConstants.WasmFeatures.{STANDARD}
 use Rattle.std.proofs.Common.{subst}
 use Rattle.wasm_validator_modules.specs.Verdict.{DecidesModule}
 use Rattle.wasm_validator_modules.specs.Standing.{Standing}

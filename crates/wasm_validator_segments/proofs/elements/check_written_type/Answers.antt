@@ -1,5 +1,5 @@
 use Rattle.wasm_readers.specs.WasmReadersBytes.Reader.{rest}
-use Rattle.wasm_readers_types.specs.SeenValues.{ref_of}
+use Rattle.wasm_readers_types.specs.WasmReadersValues.SeenValues.{ref_of}
 use Rattle.wasm_validator_segments.proofs.Written.{type_written}
 use Rattle.wasm_validator_segments.proofs.elements.check_written_type.Goals as goal
 

@@ -1,4 +1,4 @@
-use Rattle.wasm_readers_types.specs.SeenValues.{val_of}
+use Rattle.wasm_readers_types.specs.WasmReadersValues.SeenValues.{val_of}
 use Rattle.wasm_readers.specs.WasmReadersBytes.Reader.{rest}
 use Rattle.wasm_validator_constants.specs.Typed.{typed_state}
 use Rattle.wasm_validator_segments.proofs.Typing.{goes_past, goes_nowhere}

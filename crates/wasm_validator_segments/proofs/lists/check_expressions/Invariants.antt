@@ -1,6 +1,6 @@
 use Rattle.std.proofs.Common.{◌≡◌, ◌≤◌}
 use Rattle.wasm_spec_rules.specs.FeatureFlags.{features_of}
-use Rattle.wasm_readers_types.specs.SeenValues.{val_of}
+use Rattle.wasm_readers_types.specs.WasmReadersValues.SeenValues.{val_of}
 use Rattle.wasm_readers.specs.WasmReadersBytes.Reader.{SameInput, position_in, rest}
 use Rattle.wasm_validator_segments.specs.Expressions.{behind_expression}
 use Rattle.wasm_validator_segments.specs.Lists.{behind_many}

@@ -2,8 +2,8 @@ use Rattle.std.proofs.Common.{sym, ◌∙◌, ◌<◌, ◌≤◌, true, false, l
 use Rattle.wasm_spec.specs.Syntax.{map_storage}
 use Rattle.wasm_spec.specs.References.{refs_field}
 use Rattle.wasm_spec.specs.Matching.{is_shared_storage}
-use Rattle.wasm_readers_types.specs.SeenValues.{storage_of, field_of}
-use Rattle.wasm_readers_types.specs.declared.values.FieldType.{FieldType}
+use Rattle.wasm_readers_types.specs.WasmReadersValues.SeenValues.{storage_of, field_of}
+use Rattle.wasm_readers_types.specs.WasmReadersValues.declared.values.FieldType.{FieldType}
 use Rattle.wasm_validator_type_list.specs.Declares.{declares}
 use Rattle.wasm_validator_type_list.specs.Grouped.{leads_in, AreIn}
 use Rattle.wasm_validator_type_list.proofs.Grouped.{item_holds}

@@ -2,8 +2,8 @@ use Rattle.std.proofs.Common.{sym, ◌∙◌, ◌<◌, ◌≤◌, true, false, l
 use Rattle.wasm_spec.specs.Syntax.{map_val}
 use Rattle.wasm_spec.specs.References.{refs_val}
 use Rattle.wasm_spec.specs.Matching.{is_shared_val}
-use Rattle.wasm_readers_types.specs.SeenValues.{val_of}
-use Rattle.wasm_readers_types.specs.declared.values.ValType.{ValType}
+use Rattle.wasm_readers_types.specs.WasmReadersValues.SeenValues.{val_of}
+use Rattle.wasm_readers_types.specs.WasmReadersValues.declared.values.ValType.{ValType}
 use Rattle.wasm_validator_type_list.specs.Declares.{declares}
 use Rattle.wasm_validator_type_list.specs.Grouped.{leads_in, AreIn}
 use Rattle.wasm_validator_type_list.proofs.Grouped.{item_holds}

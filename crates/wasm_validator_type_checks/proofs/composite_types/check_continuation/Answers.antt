@@ -1,6 +1,6 @@
 use Rattle.std.proofs.Common.{ap, ◌∙◌}
 use Rattle.wasm_spec.specs.Syntax.{map_comp}
-use Rattle.wasm_readers_types.specs.SeenValues.{index_of}
+use Rattle.wasm_readers_types.specs.WasmReadersValues.SeenValues.{index_of}
 use Rattle.wasm_readers_types.specs.SeenTypes.{comp_of}
 use Rattle.wasm_validator_type_list.specs.Declares.{declares}
 use Rattle.wasm_validator_type_list.specs.Grouped.{leads_in}

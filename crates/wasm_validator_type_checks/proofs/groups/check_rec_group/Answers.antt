@@ -1,6 +1,6 @@
 use Rattle.std.proofs.Common.{◌≡◌, ◌<◌, ◌+◌, length, ap, arith}
 use Rattle.std.specs.declared.ops.Range.{Range}
-use Rattle.wasm_readers_types.specs.declared.indices.CoreTypeId.{CoreTypeId}
+use Rattle.wasm_readers_types.specs.WasmReadersValues.declared.indices.CoreTypeId.{CoreTypeId}
 use Rattle.wasm_validator_type_list.specs.WasmValidatorTypeGroups.Groups.{first_of, IsInGroup}
 use Rattle.wasm_validator_type_list.specs.Listing.{types_in}
 use Rattle.wasm_validator_type_list.proofs.DefTypes.{first_of-within}

@@ -1,7 +1,7 @@
 use Rattle.std.proofs.Common.{◌≡◌, take, drop, map}
 use Rattle.std.specs.List.{list_all}
 use Rattle.wasm_spec.specs.Syntax.{map_field}
-use Rattle.wasm_readers_types.specs.SeenValues.{field_of}
+use Rattle.wasm_readers_types.specs.WasmReadersValues.SeenValues.{field_of}
 use Rattle.wasm_validator_canonical.specs.Indices.{canonical_by, knows_field}
 use Rattle.wasm_validator_canonical.proofs.type_canonicalizer.TypeCanonicalizer.fields.Given as goal
 

@@ -1,6 +1,6 @@
 use Rattle.std.proofs.Common.{◌≡◌, take, drop, map}
 use Rattle.std.specs.List.{list_all}
-use Rattle.wasm_readers_types.specs.SeenValues.{index_of}
+use Rattle.wasm_readers_types.specs.WasmReadersValues.SeenValues.{index_of}
 use Rattle.wasm_validator_canonical.specs.Indices.{canonical_by, is_earlier}
 use Rattle.wasm_validator_canonical.proofs.type_canonicalizer.TypeCanonicalizer.supertypes.Given as goal
 

@@ -12,7 +12,7 @@ use Rattle.wasm_validator_modules.specs.Standing.{Standing, Moves}
 use Rattle.wasm_validator_modules.specs.States.{stage_of, after_section, order_at}
 use Rattle.wasm_validator_modules.proofs.SectionMoves.{adds_beside, section_moves, nothing_more}
 use Rattle.wasm_validator_modules.proofs.Sections.{open-ids, open-valid, open-first, kept-ids, kept-valid, kept-first}
-use Rattle.wasm_readers_errors.specs.declared.features.WasmFeatures.{WasmFeatures}
+use Rattle.wasm_readers_errors.specs.WasmReadersFeatures.declared.features.WasmFeatures.{WasmFeatures}
 use Rattle.wasm_validator_types.specs.Spaces.{Spaces}
 use Rattle.wasm_validator_sections.specs.WasmValidatorCore.declared.error.Error.{Error}
 use Rattle.wasm_readers_errors.specs.Refusals.{plain}

@@ -12,7 +12,7 @@ use Rattle.std.specs.Prelude.{IfErr}
 use Rattle.wasm_validator_sections.specs.declared.module_state.ModuleState.{ModuleState}
 use Rattle.wasm_validator_modules.specs.Ready.{AreIdsIn, AreValidIn, AreFirstIn}
 use Rattle.wasm_validator_modules.proofs.KeptTypes.{grown-first}
-use Rattle.wasm_readers_errors.specs.declared.features.WasmFeatures.{WasmFeatures}
+use Rattle.wasm_readers_errors.specs.WasmReadersFeatures.declared.features.WasmFeatures.{WasmFeatures}
 use Rattle.wasm_validator_types.specs.Spaces.{Spaces}
 use Rattle.wasm_validator_sections.specs.WasmValidatorCore.declared.error.Error.{Error}
 use Rattle.wasm_validator_sections.specs.WasmValidatorCore.Answers.{TypesSoFar}

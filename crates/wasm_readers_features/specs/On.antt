@@ -1,7 +1,7 @@
 -- Whether a proposal is on.
 use Rattle.std.specs.Prelude.{ℕ, ◌==◌, Bool}
 use Rattle.std.specs.Int.RustNames.{bit_and}
-use Rattle.wasm_readers_errors.specs.declared.features.WasmFeatures.{WasmFeatures}
+use Rattle.wasm_readers_features.specs.declared.features.WasmFeatures.{WasmFeatures}
 
 -- the flag of this weight is set
 abbrev pub has_flag : ℕ → WasmFeatures → Bool

@@ -5,20 +5,20 @@ use Rattle.std.specs.Coded.{le_prop}
 use Rattle.std.specs.Prelude.{ℕ}
 use Rattle.std.proofs.Common.{rules}
 use denote.Enum.Bare.{same_true, true_same}
-use Rattle.wasm_readers_types.specs.Indices.{number_of, number_in, indexed, AreBytes}
-use Rattle.wasm_readers_types.specs.contracts.indices.IndexForm as form
-use Rattle.wasm_readers_types.specs.contracts.indices.IndexFormPartialEq.TheImpl as form_eq
-use Rattle.wasm_readers_types.specs.declared.indices.IndexForm.{IndexForm}
-use Rattle.wasm_readers_types.specs.declared.indices.TheConstants.{MAX_IDS}
+use Rattle.wasm_readers_values.specs.Indices.{number_of, number_in, indexed, AreBytes}
+use Rattle.wasm_readers_values.specs.contracts.indices.IndexForm as form
+use Rattle.wasm_readers_values.specs.contracts.indices.IndexFormPartialEq.TheImpl as form_eq
+use Rattle.wasm_readers_values.specs.declared.indices.IndexForm.{IndexForm}
+use Rattle.wasm_readers_values.specs.declared.indices.TheConstants.{MAX_IDS}
 use Rattle.std.proofs.lemmas.Bool.Decides.{Decides-eqb}
-use Rattle.wasm_readers_types.specs.Exactness.{exact-as, and-exact}
-use Rattle.wasm_readers_types.specs.contracts.indices.CoreTypeIdPartialEq.TheImpl as id_eq
-use Rattle.wasm_readers_types.specs.contracts.indices.PackedIndexPartialEq.TheImpl as packed_eq
-use Rattle.wasm_readers_types.specs.declared.indices.CoreTypeId.{CoreTypeId}
-use Rattle.wasm_readers_types.specs.declared.indices.PackedIndex.{PackedIndex}
-use Rattle.wasm_readers_types.specs.contracts.indices.UnpackedIndexPartialEq.TheImpl.{ghosts}
-use Rattle.wasm_readers_types.specs.declared.indices.UnpackedIndex.{UnpackedIndex}
-use Rattle.wasm_readers_types.specs.declared.indices.UnpackedIndex.TheVariants.{Module, RecGroup, Id}
+use Rattle.wasm_readers_values.specs.Exactness.{exact-as, and-exact}
+use Rattle.wasm_readers_values.specs.contracts.indices.CoreTypeIdPartialEq.TheImpl as id_eq
+use Rattle.wasm_readers_values.specs.contracts.indices.PackedIndexPartialEq.TheImpl as packed_eq
+use Rattle.wasm_readers_values.specs.declared.indices.CoreTypeId.{CoreTypeId}
+use Rattle.wasm_readers_values.specs.declared.indices.PackedIndex.{PackedIndex}
+use Rattle.wasm_readers_values.specs.contracts.indices.UnpackedIndexPartialEq.TheImpl.{ghosts}
+use Rattle.wasm_readers_values.specs.declared.indices.UnpackedIndex.{UnpackedIndex}
+use Rattle.wasm_readers_values.specs.declared.indices.UnpackedIndex.TheVariants.{Module, RecGroup, Id}
 
 pub id-exact : (x y : CoreTypeId) → Decides (id_eq.ghosts.eq x y) (x ≡ y)
 id-exact x y = exact-as (Decides-eqb x.index y.index) (λ e i. record { index = e i }) (ap (λ r. r.index))

@@ -3,27 +3,27 @@ use Rattle.std.specs.Prelude.{◌≡◌, refl}
 use Rattle.std.specs.Bool.{Decides}
 use Rattle.std.proofs.Common.{ap, rules}
 use denote.Enum.Bare.{same_true, true_same}
-use Rattle.wasm_readers_types.specs.Exactness.{bool-exact, enum_exact, and-exact, exact-as}
-use Rattle.wasm_readers_types.specs.IndicesExact.{packed-exact, unpacked-exact}
-use Rattle.wasm_readers_types.specs.declared.values.AbstractHeapType.{AbstractHeapType}
-use Rattle.wasm_readers_types.specs.declared.values.HeapType.{HeapType}
-use Rattle.wasm_readers_types.specs.declared.values.PackedHeap.{PackedHeap}
-use Rattle.wasm_readers_types.specs.declared.values.RefType.{RefType}
-use Rattle.wasm_readers_types.specs.declared.values.ValType.{ValType}
-use Rattle.wasm_readers_types.specs.declared.values.StorageType.{StorageType}
-use Rattle.wasm_readers_types.specs.declared.values.FieldType.{FieldType}
-use Rattle.wasm_readers_types.specs.contracts.values.AbstractHeapType as abstract
-use Rattle.wasm_readers_types.specs.contracts.values.HeapType as heap
-use Rattle.wasm_readers_types.specs.contracts.values.PackedHeap as packed
-use Rattle.wasm_readers_types.specs.contracts.values.ValType as val
-use Rattle.wasm_readers_types.specs.contracts.values.StorageType as storage
-use Rattle.wasm_readers_types.specs.contracts.values.AbstractHeapTypePartialEq.TheImpl as abstract_eq
-use Rattle.wasm_readers_types.specs.contracts.values.HeapTypePartialEq.TheImpl as heap_eq
-use Rattle.wasm_readers_types.specs.contracts.values.PackedHeapPartialEq.TheImpl as packed_eq
-use Rattle.wasm_readers_types.specs.contracts.values.RefTypePartialEq.TheImpl as ref_eq
-use Rattle.wasm_readers_types.specs.contracts.values.ValTypePartialEq.TheImpl as val_eq
-use Rattle.wasm_readers_types.specs.contracts.values.StorageTypePartialEq.TheImpl as storage_eq
-use Rattle.wasm_readers_types.specs.contracts.values.FieldTypePartialEq.TheImpl as field_eq
+use Rattle.wasm_readers_values.specs.Exactness.{bool-exact, enum_exact, and-exact, exact-as}
+use Rattle.wasm_readers_values.specs.IndicesExact.{packed-exact, unpacked-exact}
+use Rattle.wasm_readers_values.specs.declared.values.AbstractHeapType.{AbstractHeapType}
+use Rattle.wasm_readers_values.specs.declared.values.HeapType.{HeapType}
+use Rattle.wasm_readers_values.specs.declared.values.PackedHeap.{PackedHeap}
+use Rattle.wasm_readers_values.specs.declared.values.RefType.{RefType}
+use Rattle.wasm_readers_values.specs.declared.values.ValType.{ValType}
+use Rattle.wasm_readers_values.specs.declared.values.StorageType.{StorageType}
+use Rattle.wasm_readers_values.specs.declared.values.FieldType.{FieldType}
+use Rattle.wasm_readers_values.specs.contracts.values.AbstractHeapType as abstract
+use Rattle.wasm_readers_values.specs.contracts.values.HeapType as heap
+use Rattle.wasm_readers_values.specs.contracts.values.PackedHeap as packed
+use Rattle.wasm_readers_values.specs.contracts.values.ValType as val
+use Rattle.wasm_readers_values.specs.contracts.values.StorageType as storage
+use Rattle.wasm_readers_values.specs.contracts.values.AbstractHeapTypePartialEq.TheImpl as abstract_eq
+use Rattle.wasm_readers_values.specs.contracts.values.HeapTypePartialEq.TheImpl as heap_eq
+use Rattle.wasm_readers_values.specs.contracts.values.PackedHeapPartialEq.TheImpl as packed_eq
+use Rattle.wasm_readers_values.specs.contracts.values.RefTypePartialEq.TheImpl as ref_eq
+use Rattle.wasm_readers_values.specs.contracts.values.ValTypePartialEq.TheImpl as val_eq
+use Rattle.wasm_readers_values.specs.contracts.values.StorageTypePartialEq.TheImpl as storage_eq
+use Rattle.wasm_readers_values.specs.contracts.values.FieldTypePartialEq.TheImpl as field_eq
 
 pub abstract-exact : (x y : AbstractHeapType) → Decides (abstract_eq.ghosts.eq x y) (x ≡ y)
 abstract-exact x y = (same_true abstract.the_type (search rules) x y, true_same abstract.the_type x y)

@@ -1,7 +1,7 @@
 ghost use Rattle.std.specs.Prelude.{◌≡◌, ◌<◌, ℕ, Option, IfSome, IsSome, IsTrue, ◌↔◌};
 ghost use Rattle.std.proofs.Common.{rules};
-ghost use Rattle.wasm_readers_types.specs.declared.indices.TheConstants.{MAX_IDS};
-ghost use Rattle.wasm_readers_types.specs.Indices.{number_of, number_in, AreBytes, indexed, Fits, IsId, module_of, id_of};
+ghost use Rattle.wasm_readers_values.specs.declared.indices.TheConstants.{MAX_IDS};
+ghost use Rattle.wasm_readers_values.specs.Indices.{number_of, number_in, AreBytes, indexed, Fits, IsId, module_of, id_of};
 
 use crate::exact::{Exact, Faithful};
 use std::fmt;
@@ -18,7 +18,7 @@ pub struct CoreTypeId {
 }
 
 impl Exact for CoreTypeId {
-    ghost use Rattle.wasm_readers_types.specs.IndicesExact.{id-exact};
+    ghost use Rattle.wasm_readers_values.specs.IndicesExact.{id-exact};
 
     ghost exact = { id-exact };
 }
@@ -56,7 +56,7 @@ pub enum UnpackedIndex {
 }
 
 impl Exact for UnpackedIndex {
-    ghost use Rattle.wasm_readers_types.specs.IndicesExact.{unpacked-exact};
+    ghost use Rattle.wasm_readers_values.specs.IndicesExact.{unpacked-exact};
 
     ghost exact = { unpacked-exact };
 }
@@ -66,7 +66,7 @@ impl Faithful for UnpackedIndex {
 }
 
 impl UnpackedIndex {
-    ghost use Rattle.wasm_readers_types.specs.SeenValues.{index_of};
+    ghost use Rattle.wasm_readers_values.specs.SeenValues.{index_of};
 
     /// The index packed: none where a place in a group or an id is [`MAX_IDS`] or more.
     pub fn pack(&self) -> Option<PackedIndex>
@@ -103,7 +103,7 @@ pub struct PackedIndex {
 }
 
 impl Exact for PackedIndex {
-    ghost use Rattle.wasm_readers_types.specs.IndicesExact.{packed-exact};
+    ghost use Rattle.wasm_readers_values.specs.IndicesExact.{packed-exact};
 
     ghost exact = { packed-exact };
 }
@@ -113,7 +113,7 @@ impl Faithful for PackedIndex {
 }
 
 impl PackedIndex {
-    ghost use Rattle.wasm_readers_types.specs.SeenValues.{index_of};
+    ghost use Rattle.wasm_readers_values.specs.SeenValues.{index_of};
 
     /// The index in this form with this number.
     #[inline(always)]

@@ -3,21 +3,21 @@ use Rattle.std.specs.Prelude.{Bool, Option}
 use Rattle.std.specs.declared.option.Option.TheVariants.{None, Some}
 use Rattle.wasm_spec.specs.Syntax as syntax
 use Rattle.wasm_spec.specs.Syntax.{AbstractHeap, Heap, Ref, Val, Storage, Field}
-use Rattle.wasm_readers_types.specs.Indices.{Fits, indexed, number_in}
-use Rattle.wasm_readers_types.specs.declared.indices.PackedIndex.{PackedIndex}
-use Rattle.wasm_readers_types.specs.declared.indices.UnpackedIndex.{UnpackedIndex}
-use Rattle.wasm_readers_types.specs.declared.values.AbstractHeapType.{AbstractHeapType}
-use Rattle.wasm_readers_types.specs.declared.values.AbstractHeapType.TheVariants as abstract
-use Rattle.wasm_readers_types.specs.declared.values.HeapType.{HeapType}
-use Rattle.wasm_readers_types.specs.declared.values.HeapType.TheVariants as heap
-use Rattle.wasm_readers_types.specs.declared.values.PackedHeap.{PackedHeap}
-use Rattle.wasm_readers_types.specs.declared.values.PackedHeap.TheVariants as packed
-use Rattle.wasm_readers_types.specs.declared.values.RefType.{RefType}
-use Rattle.wasm_readers_types.specs.declared.values.ValType.{ValType}
-use Rattle.wasm_readers_types.specs.declared.values.ValType.TheVariants as val
-use Rattle.wasm_readers_types.specs.declared.values.StorageType.{StorageType}
-use Rattle.wasm_readers_types.specs.declared.values.StorageType.TheVariants as storage
-use Rattle.wasm_readers_types.specs.declared.values.FieldType.{FieldType}
+use Rattle.wasm_readers_values.specs.Indices.{Fits, indexed, number_in}
+use Rattle.wasm_readers_values.specs.declared.indices.PackedIndex.{PackedIndex}
+use Rattle.wasm_readers_values.specs.declared.indices.UnpackedIndex.{UnpackedIndex}
+use Rattle.wasm_readers_values.specs.declared.values.AbstractHeapType.{AbstractHeapType}
+use Rattle.wasm_readers_values.specs.declared.values.AbstractHeapType.TheVariants as abstract
+use Rattle.wasm_readers_values.specs.declared.values.HeapType.{HeapType}
+use Rattle.wasm_readers_values.specs.declared.values.HeapType.TheVariants as heap
+use Rattle.wasm_readers_values.specs.declared.values.PackedHeap.{PackedHeap}
+use Rattle.wasm_readers_values.specs.declared.values.PackedHeap.TheVariants as packed
+use Rattle.wasm_readers_values.specs.declared.values.RefType.{RefType}
+use Rattle.wasm_readers_values.specs.declared.values.ValType.{ValType}
+use Rattle.wasm_readers_values.specs.declared.values.ValType.TheVariants as val
+use Rattle.wasm_readers_values.specs.declared.values.StorageType.{StorageType}
+use Rattle.wasm_readers_values.specs.declared.values.StorageType.TheVariants as storage
+use Rattle.wasm_readers_values.specs.declared.values.FieldType.{FieldType}
 
 abbrev pub abstract_heap_of : AbstractHeapType → AbstractHeap
 abstract_heap_of abstract.Func = syntax.func_heap

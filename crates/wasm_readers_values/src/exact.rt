@@ -29,13 +29,13 @@ impl Exact for u64 {
 }
 
 impl Exact for bool {
-    ghost use Rattle.wasm_readers_types.specs.Exactness.{bool-exact};
+    ghost use Rattle.wasm_readers_values.specs.Exactness.{bool-exact};
 
     ghost exact = { bool-exact };
 }
 
 impl<T: Exact> Exact for Option<T> {
-    ghost use Rattle.wasm_readers_types.specs.Exactness.{option-exact};
+    ghost use Rattle.wasm_readers_values.specs.Exactness.{option-exact};
 
     ghost exact = { option-exact T.exact };
 }
@@ -65,7 +65,7 @@ impl Faithful for bool {
 }
 
 impl<T: Faithful> Faithful for Option<T> {
-    ghost use Rattle.wasm_readers_types.specs.Exactness.{option-faithful};
+    ghost use Rattle.wasm_readers_values.specs.Exactness.{option-faithful};
 
     ghost faithful = { option-faithful _ T.faithful (λ b h. h) (λ a h. h) };
 }

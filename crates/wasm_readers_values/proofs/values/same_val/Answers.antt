@@ -1,9 +1,9 @@
 use Rattle.std.proofs.Common.{ap}
-use Rattle.wasm_readers_types.specs.Exactness.{exact-as}
-use Rattle.wasm_readers_types.specs.SeenValues.{val_of}
-use Rattle.wasm_readers_types.specs.SeenApart.{val_of-apart}
-use Rattle.wasm_readers_types.specs.ValuesExact.{val-exact}
-use Rattle.wasm_readers_types.proofs.values.same_val.Goals as goal
+use Rattle.wasm_readers_values.specs.Exactness.{exact-as}
+use Rattle.wasm_readers_values.specs.SeenValues.{val_of}
+use Rattle.wasm_readers_values.specs.ValuesApart.{val_of-apart}
+use Rattle.wasm_readers_values.specs.ValuesExact.{val-exact}
+use Rattle.wasm_readers_values.proofs.values.same_val.Goals as goal
 
 pub returns-clause-seen : goal.returns-clause-seen
 returns-clause-seen c =

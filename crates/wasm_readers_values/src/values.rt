@@ -1,7 +1,7 @@
 ghost use Rattle.std.specs.Prelude.{◌≡◌, true, false, IfSome, IsSome, ◌↔◌};
 ghost use Rattle.std.specs.Bool.{Decides};
-ghost use Rattle.wasm_readers_types.specs.Indices.{Fits};
-ghost use Rattle.wasm_readers_types.specs.SeenValues.{val_of, heap_of, ref_of, HeapFits, index_in, concrete_ref, index_of};
+ghost use Rattle.wasm_readers_values.specs.Indices.{Fits};
+ghost use Rattle.wasm_readers_values.specs.SeenValues.{val_of, heap_of, ref_of, HeapFits, index_in, concrete_ref, index_of};
 ghost use Rattle.std.proofs.Common.{rules};
 
 use crate::exact::{Exact, Faithful};
@@ -111,37 +111,37 @@ pub struct FieldType {
 }
 
 impl Exact for AbstractHeapType {
-    ghost use Rattle.wasm_readers_types.specs.ValuesExact.{abstract-exact};
+    ghost use Rattle.wasm_readers_values.specs.ValuesExact.{abstract-exact};
 
     ghost exact = { abstract-exact };
 }
 
 impl Exact for HeapType {
-    ghost use Rattle.wasm_readers_types.specs.ValuesExact.{heap-exact};
+    ghost use Rattle.wasm_readers_values.specs.ValuesExact.{heap-exact};
 
     ghost exact = { heap-exact };
 }
 
 impl Exact for RefType {
-    ghost use Rattle.wasm_readers_types.specs.ValuesExact.{ref-exact};
+    ghost use Rattle.wasm_readers_values.specs.ValuesExact.{ref-exact};
 
     ghost exact = { ref-exact };
 }
 
 impl Exact for ValType {
-    ghost use Rattle.wasm_readers_types.specs.ValuesExact.{val-exact};
+    ghost use Rattle.wasm_readers_values.specs.ValuesExact.{val-exact};
 
     ghost exact = { val-exact };
 }
 
 impl Exact for StorageType {
-    ghost use Rattle.wasm_readers_types.specs.ValuesExact.{storage-exact};
+    ghost use Rattle.wasm_readers_values.specs.ValuesExact.{storage-exact};
 
     ghost exact = { storage-exact };
 }
 
 impl Exact for FieldType {
-    ghost use Rattle.wasm_readers_types.specs.ValuesExact.{field-exact};
+    ghost use Rattle.wasm_readers_values.specs.ValuesExact.{field-exact};
 
     ghost exact = { field-exact };
 }

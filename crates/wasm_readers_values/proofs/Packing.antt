@@ -1,8 +1,8 @@
 -- The bytes of a number.
 use Rattle.std.specs.Prelude.{ℕ, ◌≡◌, ◌<◌, ◌/◌, ◌%◌, ◌^◌}
 use Rattle.std.proofs.Common.{ap, arith, subst, sym}
-use Rattle.wasm_readers_types.specs.Indices.{number_of, number_in, indexed, AreBytes}
-use Rattle.wasm_readers_types.specs.declared.indices.IndexForm.{IndexForm}
+use Rattle.wasm_readers_values.specs.Indices.{number_of, number_in, indexed, AreBytes}
+use Rattle.wasm_readers_values.specs.declared.indices.IndexForm.{IndexForm}
 
 pub number_of_bytes : (n : ℕ) → n < 2 ^ 32 → number_in (n / 16777216) (n / 65536 % 256) (n / 256 % 256) (n % 256) ≡ n
 number_of_bytes n h = omega (arith, h)

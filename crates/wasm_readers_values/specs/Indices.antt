@@ -1,12 +1,12 @@
 -- What an index says, in its three forms.
 use Rattle.std.specs.Prelude.{ℕ, ◌<◌, ◌+◌, ◌*◌, Option}
 use Rattle.std.specs.declared.option.Option.TheVariants.{None, Some}
-use Rattle.wasm_readers_types.specs.declared.indices.TheConstants.{MAX_IDS}
-use Rattle.wasm_readers_types.specs.declared.indices.CoreTypeId.{CoreTypeId}
-use Rattle.wasm_readers_types.specs.declared.indices.IndexForm.{IndexForm}
-use Rattle.wasm_readers_types.specs.declared.indices.IndexForm.TheVariants as form
-use Rattle.wasm_readers_types.specs.declared.indices.UnpackedIndex.{UnpackedIndex}
-use Rattle.wasm_readers_types.specs.declared.indices.UnpackedIndex.TheVariants.{Module, RecGroup, Id}
+use Rattle.wasm_readers_values.specs.declared.indices.TheConstants.{MAX_IDS}
+use Rattle.wasm_readers_values.specs.declared.indices.CoreTypeId.{CoreTypeId}
+use Rattle.wasm_readers_values.specs.declared.indices.IndexForm.{IndexForm}
+use Rattle.wasm_readers_values.specs.declared.indices.IndexForm.TheVariants as form
+use Rattle.wasm_readers_values.specs.declared.indices.UnpackedIndex.{UnpackedIndex}
+use Rattle.wasm_readers_values.specs.declared.indices.UnpackedIndex.TheVariants.{Module, RecGroup, Id}
 
 -- the number that has to be below MAX_IDS for the index to be packed: none in a module's index, which is given as 0
 abbrev pub number_of : UnpackedIndex → ℕ

@@ -1,0 +1,2 @@
+pub use Rattle.wasm_spec.proofs as WasmSpec
+pub mod Packing
