@@ -7,15 +7,15 @@ use Rattle.wasm_readers_types.specs.WasmReadersValues.declared.indices.UnpackedI
 use Rattle.wasm_operators.specs.SeenLists.{GivesFront}
 use Rattle.wasm_operators.specs.declared.control.Catch.{Catch}
 use Rattle.wasm_operators.specs.declared.control.Catch.TheVariants as catch
-use Rattle.wasm_operator_checks.specs.WasmOperatorSteps.Actions.{OperandTypes, of_tag, params, label, joined, is_exception, each_matches}
+use Rattle.wasm_operator_control.specs.WasmOperatorChecks.WasmOperatorSteps.Actions.{OperandTypes, of_tag, params, label, joined, is_exception, each_matches}
 use Rattle.wasm_spec_rules.specs.Attempts.{passes}
-use Rattle.wasm_operator_checks.specs.WasmOperatorSteps.Matching.{matches_vals}
-use Rattle.wasm_operator_checks.specs.WasmOperatorSteps.Meanings.{types_at, holds}
-use Rattle.wasm_operator_checks.specs.WasmOperatorSteps.Shapes.{nothing, exception, catch_checks}
-use Rattle.wasm_operator_checks.specs.WasmValidatorResources.Answers.{world}
-use Rattle.wasm_operator_checks.specs.WasmOperatorStacks.Seen.{state_of, around}
-use Rattle.wasm_operator_checks.specs.WasmOperatorStacks.declared.stacks.Stacks.{Stacks}
-use Rattle.wasm_operator_checks.specs.Steps.{typed, held}
+use Rattle.wasm_operator_control.specs.WasmOperatorChecks.WasmOperatorSteps.Matching.{matches_vals}
+use Rattle.wasm_operator_control.specs.WasmOperatorChecks.WasmOperatorSteps.Meanings.{types_at, holds}
+use Rattle.wasm_operator_control.specs.WasmOperatorChecks.WasmOperatorSteps.Shapes.{nothing, exception, catch_checks}
+use Rattle.wasm_operator_control.specs.WasmOperatorChecks.WasmValidatorResources.Answers.{world}
+use Rattle.wasm_operator_control.specs.WasmOperatorChecks.WasmOperatorStacks.Seen.{state_of, around}
+use Rattle.wasm_operator_control.specs.WasmOperatorChecks.WasmOperatorStacks.declared.stacks.Stacks.{Stacks}
+use Rattle.wasm_operator_control.specs.WasmOperatorChecks.Steps.{typed, held}
 use Rattle.wasm_operator_blocks.specs.Known.{hold_all, all_held}
 use Rattle.wasm_operator_blocks.specs.Sent.{thrown_in, exception_val, sends}
 use Rattle.wasm_operator_blocks.proofs.Throwing.{thrown_held, thrown_typed, not_thrown}

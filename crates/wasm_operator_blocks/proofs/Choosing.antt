@@ -6,13 +6,13 @@ use Rattle.wasm_spec.specs.ValueTypes.{allows_val}
 use Rattle.wasm_spec_rules.specs.Contexts.{Context}
 use Rattle.wasm_spec_rules.specs.FeatureFlags.{features_of}
 use Rattle.wasm_readers_types.specs.WasmReadersValues.declared.indices.UnpackedIndex.{UnpackedIndex}
-use Rattle.wasm_operator_checks.specs.WasmOperatorSteps.Actions.{Action, these, allows, need, take, choose}
-use Rattle.wasm_operator_checks.specs.WasmOperatorSteps.Machine.{Operand, bottom, bottom_reference, open_reference, known, State, pop_any, pop_val, push_operand, chosen, same_number}
-use Rattle.wasm_operator_checks.specs.WasmOperatorSteps.Shapes.{one}
-use Rattle.wasm_operator_checks.specs.WasmValidatorResources.Answers.{world, written_index, val_in, val_resolved}
-use Rattle.wasm_operator_checks.specs.WasmOperatorStacks.Seen.{state_of}
-use Rattle.wasm_operator_checks.specs.WasmOperatorStacks.declared.stacks.Stacks.{Stacks}
-use Rattle.wasm_operator_checks.specs.Steps.{acted, typed, held}
+use Rattle.wasm_operator_control.specs.WasmOperatorChecks.WasmOperatorSteps.Actions.{Action, these, allows, need, take, choose}
+use Rattle.wasm_operator_control.specs.WasmOperatorChecks.WasmOperatorSteps.Machine.{Operand, bottom, bottom_reference, open_reference, known, State, pop_any, pop_val, push_operand, chosen, same_number}
+use Rattle.wasm_operator_control.specs.WasmOperatorChecks.WasmOperatorSteps.Shapes.{one}
+use Rattle.wasm_operator_control.specs.WasmOperatorChecks.WasmValidatorResources.Answers.{world, written_index, val_in, val_resolved}
+use Rattle.wasm_operator_control.specs.WasmOperatorChecks.WasmOperatorStacks.Seen.{state_of}
+use Rattle.wasm_operator_control.specs.WasmOperatorChecks.WasmOperatorStacks.declared.stacks.Stacks.{Stacks}
+use Rattle.wasm_operator_control.specs.WasmOperatorChecks.Steps.{acted, typed, held}
 use Rattle.wasm_operator_blocks.proofs.Resolved.{same_allowed}
 
 -- one of two operands that were looked at

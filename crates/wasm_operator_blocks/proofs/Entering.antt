@@ -7,20 +7,20 @@ use Rattle.wasm_spec.specs.Syntax.{Val, i32}
 use Rattle.wasm_spec_rules.specs.Contexts.{Context}
 use Rattle.wasm_readers_types.specs.WasmReadersValues.declared.indices.UnpackedIndex.{UnpackedIndex}
 use Rattle.wasm_operators.specs.Control.{Block, empty_block, value_block, func_block}
-use Rattle.wasm_operator_checks.specs.WasmOperatorSteps.Actions.{OperandTypes, Check, has, exceptions, Action, take, enter}
+use Rattle.wasm_operator_control.specs.WasmOperatorChecks.WasmOperatorSteps.Actions.{OperandTypes, Check, has, exceptions, Action, take, enter}
 use Rattle.wasm_spec_rules.specs.Attempts.{◌>>=◌, guard}
-use Rattle.wasm_operator_checks.specs.WasmOperatorSteps.Bodies.{Surroundings}
-use Rattle.wasm_operator_checks.specs.WasmOperatorSteps.Machine.{Kind, State, pop_val, pop_vals, push_frame}
+use Rattle.wasm_operator_control.specs.WasmOperatorChecks.WasmOperatorSteps.Bodies.{Surroundings}
+use Rattle.wasm_operator_control.specs.WasmOperatorChecks.WasmOperatorSteps.Machine.{Kind, State, pop_val, pop_vals, push_frame}
 use Rattle.wasm_spec_rules.specs.Signatures.{Signature}
-use Rattle.wasm_operator_checks.specs.WasmOperatorSteps.Meanings.{resolve_block, block_signature, types_at, holds, run}
-use Rattle.wasm_operator_checks.specs.WasmOperatorSteps.Shapes.{block_checks, nothing, one}
-use Rattle.wasm_operator_checks.specs.WasmOperatorSteps.Steps.{checked}
-use Rattle.wasm_operator_checks.specs.WasmValidatorResources.Answers.{world}
-use Rattle.wasm_operator_checks.specs.WasmOperatorStacks.Seen.{state_of, around}
-use Rattle.wasm_operator_checks.specs.WasmOperatorStacks.declared.stacks.Stacks.{Stacks}
-use Rattle.wasm_operator_checks.specs.Steps.{Took, acted, held}
-use Rattle.wasm_operator_checks.specs.declared.faults.OperatorError.{OperatorError}
-use Rattle.wasm_operator_checks.proofs.Acting.{took_along}
+use Rattle.wasm_operator_control.specs.WasmOperatorChecks.WasmOperatorSteps.Meanings.{resolve_block, block_signature, types_at, holds, run}
+use Rattle.wasm_operator_control.specs.WasmOperatorChecks.WasmOperatorSteps.Shapes.{block_checks, nothing, one}
+use Rattle.wasm_operator_control.specs.WasmOperatorChecks.WasmOperatorSteps.Steps.{checked}
+use Rattle.wasm_operator_control.specs.WasmOperatorChecks.WasmValidatorResources.Answers.{world}
+use Rattle.wasm_operator_control.specs.WasmOperatorChecks.WasmOperatorStacks.Seen.{state_of, around}
+use Rattle.wasm_operator_control.specs.WasmOperatorChecks.WasmOperatorStacks.declared.stacks.Stacks.{Stacks}
+use Rattle.wasm_operator_control.specs.WasmOperatorChecks.Steps.{Took, acted, held}
+use Rattle.wasm_operator_control.specs.WasmOperatorChecks.declared.faults.OperatorError.{OperatorError}
+use Rattle.wasm_operator_control.proofs.WasmOperatorChecks.Acting.{took_along}
 use Rattle.wasm_operator_control.specs.Blocks.{signature_in}
 use Rattle.wasm_operator_control.specs.Entered.{entered}
 use Rattle.wasm_operator_blocks.specs.Known.{hold_all, all_held, taken_by, block_known}

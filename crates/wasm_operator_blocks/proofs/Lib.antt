@@ -1,3 +1,4 @@
+pub use Rattle.wasm_operator_control.proofs.WasmOperatorChecks as WasmOperatorChecks
 pub mod Given
 pub mod Resolved
 pub mod Entering
@@ -8,3 +9,4 @@ pub mod Tabled
 pub mod Sending
 pub mod Catching
 pub mod Writing
+pub mod Cited

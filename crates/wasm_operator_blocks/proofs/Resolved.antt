@@ -11,9 +11,9 @@ use Rattle.wasm_readers_types.specs.WasmReadersValues.declared.indices.UnpackedI
 use Rattle.wasm_operators.specs.Control.{Block, empty_block, value_block, func_block}
 use Rattle.wasm_spec_rules.specs.Attempts.{◌>>=◌, guard, passes}
 use Rattle.wasm_spec_rules.specs.Signatures.{Signature, signature_of}
-use Rattle.wasm_operator_checks.specs.WasmOperatorSteps.Meanings.{resolve_block}
-use Rattle.wasm_operator_checks.specs.WasmValidatorResources.Answers.{sub_in, written_index, val_in, val_resolved}
-use Rattle.wasm_operator_checks.specs.WasmOperatorStacks.declared.stacks.Stacks.{Stacks}
+use Rattle.wasm_operator_control.specs.WasmOperatorChecks.WasmOperatorSteps.Meanings.{resolve_block}
+use Rattle.wasm_operator_control.specs.WasmOperatorChecks.WasmValidatorResources.Answers.{sub_in, written_index, val_in, val_resolved}
+use Rattle.wasm_operator_control.specs.WasmOperatorChecks.WasmOperatorStacks.declared.stacks.Stacks.{Stacks}
 use Rattle.wasm_operator_control.specs.Callees.{type_in}
 use Rattle.wasm_operator_blocks.specs.Known.{taken_by, block_known}
 

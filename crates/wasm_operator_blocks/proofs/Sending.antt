@@ -8,11 +8,11 @@ use Rattle.wasm_spec_rules.specs.Contexts.{Context}
 use Rattle.wasm_readers_types.specs.WasmReadersValues.SeenValues.{val_of}
 use Rattle.wasm_readers_types.specs.WasmReadersValues.declared.indices.UnpackedIndex.{UnpackedIndex}
 use Rattle.wasm_readers_types.specs.WasmReadersValues.declared.values.ValType.{ValType}
-use Rattle.wasm_operator_checks.specs.WasmOperatorSteps.Actions.{label}
-use Rattle.wasm_operator_checks.specs.WasmOperatorSteps.Matching.{matches_vals}
-use Rattle.wasm_operator_checks.specs.WasmValidatorResources.Answers.{world}
-use Rattle.wasm_operator_checks.specs.WasmOperatorStacks.declared.stacks.Stacks.{Stacks}
-use Rattle.wasm_operator_checks.specs.Steps.{typed}
+use Rattle.wasm_operator_control.specs.WasmOperatorChecks.WasmOperatorSteps.Actions.{label}
+use Rattle.wasm_operator_control.specs.WasmOperatorChecks.WasmOperatorSteps.Matching.{matches_vals}
+use Rattle.wasm_operator_control.specs.WasmOperatorChecks.WasmValidatorResources.Answers.{world}
+use Rattle.wasm_operator_control.specs.WasmOperatorChecks.WasmOperatorStacks.declared.stacks.Stacks.{Stacks}
+use Rattle.wasm_operator_control.specs.WasmOperatorChecks.Steps.{typed}
 use Rattle.wasm_operator_blocks.specs.Sent.{exception_val, sends}
 
 and_false : (b : Bool) → (b && false) ≡ false

@@ -7,15 +7,15 @@ use Rattle.wasm_spec.specs.Syntax.{Val, i32}
 use Rattle.wasm_spec_rules.specs.Contexts.{Context}
 use Rattle.wasm_readers_types.specs.WasmReadersValues.declared.indices.UnpackedIndex.{UnpackedIndex}
 use Rattle.wasm_operators.specs.SeenLists.{GivesFront}
-use Rattle.wasm_operator_checks.specs.WasmOperatorSteps.Actions.{label, Action, take, branch_to_one_of}
+use Rattle.wasm_operator_control.specs.WasmOperatorChecks.WasmOperatorSteps.Actions.{label, Action, take, branch_to_one_of}
 use Rattle.wasm_spec_rules.specs.Attempts.{◌>>=◌, guard}
-use Rattle.wasm_operator_checks.specs.WasmOperatorSteps.Machine.{State, become_unreachable, pop_val, pop_vals}
-use Rattle.wasm_operator_checks.specs.WasmOperatorSteps.Meanings.{label_at, labels_fit, run}
-use Rattle.wasm_operator_checks.specs.WasmOperatorSteps.Shapes.{one}
-use Rattle.wasm_operator_checks.specs.WasmValidatorResources.Answers.{world}
-use Rattle.wasm_operator_checks.specs.WasmOperatorStacks.Seen.{state_of, around, below}
-use Rattle.wasm_operator_checks.specs.WasmOperatorStacks.declared.stacks.Stacks.{Stacks}
-use Rattle.wasm_operator_checks.specs.Steps.{acted, typed}
+use Rattle.wasm_operator_control.specs.WasmOperatorChecks.WasmOperatorSteps.Machine.{State, become_unreachable, pop_val, pop_vals}
+use Rattle.wasm_operator_control.specs.WasmOperatorChecks.WasmOperatorSteps.Meanings.{label_at, labels_fit, run}
+use Rattle.wasm_operator_control.specs.WasmOperatorChecks.WasmOperatorSteps.Shapes.{one}
+use Rattle.wasm_operator_control.specs.WasmOperatorChecks.WasmValidatorResources.Answers.{world}
+use Rattle.wasm_operator_control.specs.WasmOperatorChecks.WasmOperatorStacks.Seen.{state_of, around, below}
+use Rattle.wasm_operator_control.specs.WasmOperatorChecks.WasmOperatorStacks.declared.stacks.Stacks.{Stacks}
+use Rattle.wasm_operator_control.specs.WasmOperatorChecks.Steps.{acted, typed}
 use Rattle.wasm_operator_blocks.specs.Fitting.{fits, all_fit, LastPasses}
 use Rattle.wasm_operator_blocks.proofs.Given.{front_given, none_left, fewer}
 

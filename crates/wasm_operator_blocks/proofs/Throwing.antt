@@ -5,15 +5,15 @@ use Rattle.std.specs.Prelude.{Option, Some, None, slice_get}
 use Rattle.wasm_spec.specs.Syntax.{Val, Sub, abstract_heap, exn_heap, reference}
 use Rattle.wasm_spec_rules.specs.Contexts.{Context}
 use Rattle.wasm_readers_types.specs.WasmReadersValues.declared.indices.UnpackedIndex.{UnpackedIndex}
-use Rattle.wasm_operator_checks.specs.WasmOperatorSteps.Actions.{of_tag, params, is_exception}
+use Rattle.wasm_operator_control.specs.WasmOperatorChecks.WasmOperatorSteps.Actions.{of_tag, params, is_exception}
 use Rattle.wasm_spec_rules.specs.Attempts.{◌>>=◌, guard, passes}
 use Rattle.wasm_spec_rules.specs.Signatures.{Signature, signature_of}
-use Rattle.wasm_operator_checks.specs.WasmOperatorSteps.Meanings.{signature_at}
-use Rattle.wasm_operator_checks.specs.WasmOperatorSteps.Shapes.{one, reference_to}
-use Rattle.wasm_operator_checks.specs.WasmValidatorResources.Answers.{world, sub_in, tag_in}
-use Rattle.wasm_operator_checks.specs.WasmOperatorStacks.Seen.{around}
-use Rattle.wasm_operator_checks.specs.WasmOperatorStacks.declared.stacks.Stacks.{Stacks}
-use Rattle.wasm_operator_checks.specs.Steps.{typed, held}
+use Rattle.wasm_operator_control.specs.WasmOperatorChecks.WasmOperatorSteps.Meanings.{signature_at}
+use Rattle.wasm_operator_control.specs.WasmOperatorChecks.WasmOperatorSteps.Shapes.{one, reference_to}
+use Rattle.wasm_operator_control.specs.WasmOperatorChecks.WasmValidatorResources.Answers.{world, sub_in, tag_in}
+use Rattle.wasm_operator_control.specs.WasmOperatorChecks.WasmOperatorStacks.Seen.{around}
+use Rattle.wasm_operator_control.specs.WasmOperatorChecks.WasmOperatorStacks.declared.stacks.Stacks.{Stacks}
+use Rattle.wasm_operator_control.specs.WasmOperatorChecks.Steps.{typed, held}
 use Rattle.wasm_operator_blocks.specs.Sent.{thrown_in}
 
 module _ (C : Context UnpackedIndex) (n : ℕ) where

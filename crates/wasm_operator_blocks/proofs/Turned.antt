@@ -10,20 +10,20 @@ use Rattle.wasm_spec_rules.specs.Contexts.{Context}
 use Rattle.wasm_readers_types.specs.WasmReadersValues.declared.indices.UnpackedIndex.{UnpackedIndex}
 use Rattle.wasm_operators.specs.Control.{Block, empty_block, value_block, func_block}
 use Rattle.wasm_spec_rules.specs.Attempts.{◌>>=◌}
-use Rattle.wasm_operator_checks.specs.WasmOperatorSteps.Actions.{turn_to_else}
-use Rattle.wasm_operator_checks.specs.WasmOperatorSteps.Bodies.{Surroundings}
-use Rattle.wasm_operator_checks.specs.WasmOperatorSteps.Machine as machine
-use Rattle.wasm_operator_checks.specs.WasmOperatorSteps.Machine.{else_kind, is_if, State, pop_vals, push_vals, push_frame}
+use Rattle.wasm_operator_control.specs.WasmOperatorChecks.WasmOperatorSteps.Actions.{turn_to_else}
+use Rattle.wasm_operator_control.specs.WasmOperatorChecks.WasmOperatorSteps.Bodies.{Surroundings}
+use Rattle.wasm_operator_control.specs.WasmOperatorChecks.WasmOperatorSteps.Machine as machine
+use Rattle.wasm_operator_control.specs.WasmOperatorChecks.WasmOperatorSteps.Machine.{else_kind, is_if, State, pop_vals, push_vals, push_frame}
 use Rattle.wasm_spec_rules.specs.Signatures.{Signature}
-use Rattle.wasm_operator_checks.specs.WasmOperatorSteps.Meanings.{block_signature, turn_in}
-use Rattle.wasm_operator_checks.specs.WasmValidatorResources.Answers.{world}
-use Rattle.wasm_operator_checks.specs.WasmOperatorStacks.Seen.{state_of, around, below}
-use Rattle.wasm_operator_checks.specs.WasmOperatorStacks.SeenOperands.{operand_of}
-use Rattle.wasm_operator_checks.specs.WasmOperatorStacks.SeenBlocks.{block_in, kind_of, frame_of, frames_seen}
-use Rattle.wasm_operator_checks.specs.WasmOperatorStacks.declared.word.Word.{Word}
-use Rattle.wasm_operator_checks.specs.WasmOperatorStacks.declared.stacks.Frame.{Frame}
-use Rattle.wasm_operator_checks.specs.WasmOperatorStacks.declared.stacks.Stacks.{Stacks}
-use Rattle.wasm_operator_checks.specs.Steps.{acted}
+use Rattle.wasm_operator_control.specs.WasmOperatorChecks.WasmOperatorSteps.Meanings.{block_signature, turn_in}
+use Rattle.wasm_operator_control.specs.WasmOperatorChecks.WasmValidatorResources.Answers.{world}
+use Rattle.wasm_operator_control.specs.WasmOperatorChecks.WasmOperatorStacks.Seen.{state_of, around, below}
+use Rattle.wasm_operator_control.specs.WasmOperatorChecks.WasmOperatorStacks.SeenOperands.{operand_of}
+use Rattle.wasm_operator_control.specs.WasmOperatorChecks.WasmOperatorStacks.SeenBlocks.{block_in, kind_of, frame_of, frames_seen}
+use Rattle.wasm_operator_control.specs.WasmOperatorChecks.WasmOperatorStacks.declared.word.Word.{Word}
+use Rattle.wasm_operator_control.specs.WasmOperatorChecks.WasmOperatorStacks.declared.stacks.Frame.{Frame}
+use Rattle.wasm_operator_control.specs.WasmOperatorChecks.WasmOperatorStacks.declared.stacks.Stacks.{Stacks}
+use Rattle.wasm_operator_control.specs.WasmOperatorChecks.Steps.{acted}
 use Rattle.wasm_operator_control.specs.Blocks.{signature_in}
 use Rattle.wasm_operator_blocks.specs.Again.{again}
 

@@ -10,13 +10,13 @@ use Rattle.wasm_readers.specs.Written.{written}
 use Rattle.wasm_readers_types.specs.WasmReadersValues.declared.indices.UnpackedIndex.{UnpackedIndex}
 use Rattle.wasm_operators.specs.Control.{select_of}
 use Rattle.wasm_operators.specs.SeenLists.{begun_by, first_items, GivesFront}
-use Rattle.wasm_operator_checks.specs.WasmOperatorSteps.Machine.{State}
-use Rattle.wasm_operator_checks.specs.WasmOperatorSteps.Shapes.{parametric_shape}
-use Rattle.wasm_operator_checks.specs.WasmOperatorSteps.Steps.{actions_of}
-use Rattle.wasm_operator_checks.specs.WasmValidatorResources.Answers.{written_index, IsWrittenHeap, IsWrittenVal}
-use Rattle.wasm_operator_checks.specs.WasmOperatorStacks.declared.stacks.Stacks.{Stacks}
-use Rattle.wasm_operator_checks.specs.Steps.{Took, acted}
-use Rattle.wasm_operator_checks.specs.declared.faults.OperatorError.{OperatorError}
+use Rattle.wasm_operator_control.specs.WasmOperatorChecks.WasmOperatorSteps.Machine.{State}
+use Rattle.wasm_operator_control.specs.WasmOperatorChecks.WasmOperatorSteps.Shapes.{parametric_shape}
+use Rattle.wasm_operator_control.specs.WasmOperatorChecks.WasmOperatorSteps.Steps.{actions_of}
+use Rattle.wasm_operator_control.specs.WasmOperatorChecks.WasmValidatorResources.Answers.{written_index, IsWrittenHeap, IsWrittenVal}
+use Rattle.wasm_operator_control.specs.WasmOperatorChecks.WasmOperatorStacks.declared.stacks.Stacks.{Stacks}
+use Rattle.wasm_operator_control.specs.WasmOperatorChecks.Steps.{Took, acted}
+use Rattle.wasm_operator_control.specs.WasmOperatorChecks.declared.faults.OperatorError.{OperatorError}
 use Rattle.wasm_operator_blocks.proofs.Given.{front_given, none_left}
 
 some_same : {X : Type 0} (x y : X) → Some x ≡ Some y → x ≡ y

@@ -1,7 +1,7 @@
 -- A frame that begins again as `else`.
 use Rattle.std.specs.Prelude.{false, ◌-◌, List, [], ◌∷◌, length, drop}
 use Rattle.wasm_readers_types.specs.WasmReadersValues.declared.indices.UnpackedIndex.{UnpackedIndex}
-use Rattle.wasm_operator_checks.specs.WasmOperatorSteps.Machine.{else_kind, Frame, State}
+use Rattle.wasm_operator_control.specs.WasmOperatorChecks.WasmOperatorSteps.Machine.{else_kind, Frame, State}
 
 abbrev pub again_in : List (Frame UnpackedIndex) → State UnpackedIndex → State UnpackedIndex
 again_in [] s = s

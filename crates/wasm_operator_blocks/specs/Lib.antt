@@ -1,3 +1,4 @@
+pub use Rattle.wasm_operator_control.specs.WasmOperatorChecks as WasmOperatorChecks
 pub mod Written
 pub mod Known
 pub mod Sent

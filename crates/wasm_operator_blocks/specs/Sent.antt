@@ -3,13 +3,13 @@ use Rattle.std.specs.Prelude.{ℕ, Bool, ◌==◌, List, length, Option, false}
 use Rattle.wasm_spec.specs.Syntax.{Val, reference, abstract_heap, exn_heap}
 use Rattle.wasm_spec_rules.specs.Contexts.{Context}
 use Rattle.wasm_readers_types.specs.WasmReadersValues.declared.indices.UnpackedIndex.{UnpackedIndex}
-use Rattle.wasm_operator_checks.specs.WasmOperatorSteps.Actions.{label}
+use Rattle.wasm_operator_control.specs.WasmOperatorChecks.WasmOperatorSteps.Actions.{label}
 use Rattle.wasm_spec_rules.specs.Attempts.{◌>>=◌, guard, passes}
-use Rattle.wasm_operator_checks.specs.WasmOperatorSteps.Matching.{matches_vals}
-use Rattle.wasm_operator_checks.specs.WasmOperatorSteps.Meanings.{types_at}
-use Rattle.wasm_operator_checks.specs.WasmValidatorResources.Answers.{world, tag_in}
-use Rattle.wasm_operator_checks.specs.WasmOperatorStacks.Seen.{state_of, around}
-use Rattle.wasm_operator_checks.specs.WasmOperatorStacks.declared.stacks.Stacks.{Stacks}
+use Rattle.wasm_operator_control.specs.WasmOperatorChecks.WasmOperatorSteps.Matching.{matches_vals}
+use Rattle.wasm_operator_control.specs.WasmOperatorChecks.WasmOperatorSteps.Meanings.{types_at}
+use Rattle.wasm_operator_control.specs.WasmOperatorChecks.WasmValidatorResources.Answers.{world, tag_in}
+use Rattle.wasm_operator_control.specs.WasmOperatorChecks.WasmOperatorStacks.Seen.{state_of, around}
+use Rattle.wasm_operator_control.specs.WasmOperatorChecks.WasmOperatorStacks.declared.stacks.Stacks.{Stacks}
 
 -- what an exception of a tag holds, where it is a tag of exceptions
 abbrev pub thrown_in : Context UnpackedIndex → ℕ → Option (List (Val UnpackedIndex))

@@ -8,7 +8,7 @@ use Rattle.wasm_operators.specs.SeenControl.{block_of, control_of, parametric_of
 use Rattle.wasm_operators.specs.declared.control.BlockType.{BlockType}
 use Rattle.wasm_operators.specs.declared.control.ControlOperator.{ControlOperator}
 use Rattle.wasm_operators.specs.declared.control.ParametricOperator.{ParametricOperator}
-use Rattle.wasm_operator_checks.specs.WasmValidatorResources.Answers.{written_index, IsWrittenVal}
+use Rattle.wasm_operator_control.specs.WasmOperatorChecks.WasmValidatorResources.Answers.{written_index, IsWrittenVal}
 
 abbrev pub block_written : BlockType → Block ℕ
 block_written b = map_block written_index (block_of b)

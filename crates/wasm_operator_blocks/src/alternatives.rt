@@ -2,19 +2,19 @@
 
 ghost use Rattle.std.specs.Prelude.{◌≡◌, true};
 ghost use Rattle.wasm_operators.specs.Control.{else_};
-ghost use Rattle.wasm_operator_checks.specs.WasmOperatorSteps.Machine.{is_if};
-ghost use Rattle.wasm_operator_checks.specs.WasmOperatorSteps.Shapes.{control_shape};
-ghost use Rattle.wasm_operator_checks.specs.WasmOperatorStacks.Seen.{state_of, Kept};
-ghost use Rattle.wasm_operator_checks.specs.WasmOperatorStacks.SeenBlocks.{kind_of};
-ghost use Rattle.wasm_operator_checks.specs.Steps.{Performs};
+ghost use Rattle.wasm_operator_control.specs.WasmOperatorChecks.WasmOperatorSteps.Machine.{is_if};
+ghost use Rattle.wasm_operator_control.specs.WasmOperatorChecks.WasmOperatorSteps.Shapes.{control_shape};
+ghost use Rattle.wasm_operator_control.specs.WasmOperatorChecks.WasmOperatorStacks.Seen.{state_of, Kept};
+ghost use Rattle.wasm_operator_control.specs.WasmOperatorChecks.WasmOperatorStacks.SeenBlocks.{kind_of};
+ghost use Rattle.wasm_operator_control.specs.WasmOperatorChecks.Steps.{Performs};
 ghost use Rattle.wasm_operator_blocks.specs.Again.{again};
 
 use std::alloc::Allocator;
-use wasm_operator_checks::operator_stacks::Stacks;
-use wasm_operator_checks::validator_resources::WasmModuleResources;
-use wasm_operator_checks::{
+use wasm_operator_control::operator_checks::{
     OperatorError, OperatorFault, OperatorRule, check_types, exchange_types,
 };
+use wasm_operator_control::operator_stacks::Stacks;
+use wasm_operator_control::validator_resources::WasmModuleResources;
 use wasm_operator_control::{block_gives, block_takes};
 use wasm_operators::FrameKind;
 
@@ -52,7 +52,7 @@ fn begin_again<A: Allocator>(stacks: &mut Stacks<A>)
 /// Refuses operands that aren't what the frame gives (`Operand`), others above those that stood
 /// below it (`OperandsLeft`), and a frame that isn't that of an `if` (`ElseWithoutIf`). Where it is
 /// refused, all stays.
-#[tactic(auto, using(wasm_operator_checks::proofs::Acting::acts, crate::proofs::Turned::turns))]
+#[tactic(auto, using(crate::proofs::Cited::acts, crate::proofs::Turned::turns))]
 pub fn turn_to_else<A: Allocator, T: WasmModuleResources>(
     stacks: &mut Stacks<A>,
     resources: &T,

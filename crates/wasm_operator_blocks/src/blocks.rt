@@ -3,23 +3,23 @@
 ghost use Rattle.std.specs.Prelude.{◌≡◌};
 ghost use Rattle.wasm_operators.specs.Control.{block, loop, if_};
 ghost use Rattle.wasm_operators.specs.SeenControl.{block_of};
-ghost use Rattle.wasm_operator_checks.specs.WasmOperatorSteps.Shapes.{control_shape, opening, block_checks, nothing};
-ghost use Rattle.wasm_operator_checks.specs.WasmOperatorStacks.Seen.{Kept};
-ghost use Rattle.wasm_operator_checks.specs.WasmOperatorStacks.SeenBlocks.{kind_of};
-ghost use Rattle.wasm_operator_checks.specs.Steps.{Performs};
+ghost use Rattle.wasm_operator_control.specs.WasmOperatorChecks.WasmOperatorSteps.Shapes.{control_shape, opening, block_checks, nothing};
+ghost use Rattle.wasm_operator_control.specs.WasmOperatorChecks.WasmOperatorStacks.Seen.{Kept};
+ghost use Rattle.wasm_operator_control.specs.WasmOperatorChecks.WasmOperatorStacks.SeenBlocks.{kind_of};
+ghost use Rattle.wasm_operator_control.specs.WasmOperatorChecks.Steps.{Performs};
 ghost use Rattle.wasm_operator_blocks.specs.Written.{block_written, IsWrittenBlock};
 
 use crate::openings::resolve;
 use std::alloc::Allocator;
-use wasm_operator_checks::operator_stacks::{Stacks, TypeWord};
-use wasm_operator_checks::validator_resources::WasmModuleResources;
-use wasm_operator_checks::{OperatorError, check_type};
 use wasm_operator_control::open_frame;
+use wasm_operator_control::operator_checks::{OperatorError, check_type};
+use wasm_operator_control::operator_stacks::{Stacks, TypeWord};
+use wasm_operator_control::validator_resources::WasmModuleResources;
 use wasm_operators::operators_plain::NumberType;
 use wasm_operators::{BlockType, FrameKind};
 
 /// Opens a frame of this kind, over what its type takes.
-#[tactic(auto, using(wasm_operator_checks::proofs::Acting::acts, crate::proofs::Entering::enters))]
+#[tactic(auto, using(crate::proofs::Cited::acts, crate::proofs::Entering::enters))]
 fn open_plain<A: Allocator, T: WasmModuleResources>(
     stacks: &mut Stacks<A>,
     resources: &T,
@@ -85,7 +85,7 @@ pub fn open_loop<A: Allocator, T: WasmModuleResources>(
 ///
 /// Refuses what [`open_block`] refuses, and a condition that isn't of `i32` (`Operand`). Where it
 /// is refused, all stays.
-#[tactic(auto, using(wasm_operator_checks::proofs::Acting::acts, crate::proofs::Entering::enters))]
+#[tactic(auto, using(crate::proofs::Cited::acts, crate::proofs::Entering::enters))]
 pub fn open_if<A: Allocator, T: WasmModuleResources>(
     stacks: &mut Stacks<A>,
     resources: &T,

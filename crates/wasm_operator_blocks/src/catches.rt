@@ -4,18 +4,18 @@ ghost use Rattle.std.specs.Prelude.{◌≡◌, ◌∷◌, ◌++◌, [], is_ok, m
 ghost use Rattle.wasm_readers_types.specs.WasmReadersValues.SeenValues.{val_of};
 ghost use Rattle.wasm_operators.specs.Control.{catch_at};
 ghost use Rattle.wasm_operators.specs.SeenLists.{listed};
-ghost use Rattle.wasm_operator_checks.specs.WasmOperatorSteps.Matching.{matches_vals};
-ghost use Rattle.wasm_operator_checks.specs.WasmOperatorSteps.Shapes.{catch_checks};
-ghost use Rattle.wasm_operator_checks.specs.WasmValidatorResources.Answers.{world};
-ghost use Rattle.wasm_operator_checks.specs.SeenTypes.{types_seen};
+ghost use Rattle.wasm_operator_control.specs.WasmOperatorChecks.WasmOperatorSteps.Matching.{matches_vals};
+ghost use Rattle.wasm_operator_control.specs.WasmOperatorChecks.WasmOperatorSteps.Shapes.{catch_checks};
+ghost use Rattle.wasm_operator_control.specs.WasmOperatorChecks.WasmValidatorResources.Answers.{world};
+ghost use Rattle.wasm_operator_control.specs.WasmOperatorChecks.SeenTypes.{types_seen};
 ghost use Rattle.wasm_operator_blocks.specs.Known.{all_held};
 ghost use Rattle.wasm_operator_blocks.specs.Sent.{exception_val, sends};
 
 use crate::exceptions::thrown_types;
 use std::alloc::Allocator;
-use wasm_operator_checks::operator_stacks::Stacks;
-use wasm_operator_checks::validator_resources::WasmModuleResources;
-use wasm_operator_checks::{OperatorFault, OperatorRule, ValTypes, match_all};
+use wasm_operator_control::operator_checks::{OperatorFault, OperatorRule, ValTypes, match_all};
+use wasm_operator_control::operator_stacks::Stacks;
+use wasm_operator_control::validator_resources::WasmModuleResources;
 use wasm_operator_control::{label_types, match_types};
 use wasm_operators::{Catch, Listed};
 use wasm_readers_types::{AbstractHeapType, HeapType, RefType, ValType};

@@ -8,19 +8,19 @@ ghost use Rattle.wasm_readers.specs.Written.{written};
 ghost use Rattle.wasm_readers_types.specs.WasmReadersValues.SeenValues.{val_of};
 ghost use Rattle.wasm_operators.specs.Control.{select, select_of};
 ghost use Rattle.wasm_operators.specs.SeenLists.{listed};
-ghost use Rattle.wasm_operator_checks.specs.WasmOperatorSteps.Machine.{chosen, same_number};
-ghost use Rattle.wasm_operator_checks.specs.WasmOperatorSteps.Shapes.{parametric_shape};
-ghost use Rattle.wasm_operator_checks.specs.WasmValidatorResources.Answers.{written_index, IsWrittenVal};
-ghost use Rattle.wasm_operator_checks.specs.WasmOperatorStacks.Seen.{Kept};
-ghost use Rattle.wasm_operator_checks.specs.WasmOperatorStacks.SeenOperands.{operand_of};
-ghost use Rattle.wasm_operator_checks.specs.Steps.{Performs};
+ghost use Rattle.wasm_operator_control.specs.WasmOperatorChecks.WasmOperatorSteps.Machine.{chosen, same_number};
+ghost use Rattle.wasm_operator_control.specs.WasmOperatorChecks.WasmOperatorSteps.Shapes.{parametric_shape};
+ghost use Rattle.wasm_operator_control.specs.WasmOperatorChecks.WasmValidatorResources.Answers.{written_index, IsWrittenVal};
+ghost use Rattle.wasm_operator_control.specs.WasmOperatorChecks.WasmOperatorStacks.Seen.{Kept};
+ghost use Rattle.wasm_operator_control.specs.WasmOperatorChecks.WasmOperatorStacks.SeenOperands.{operand_of};
+ghost use Rattle.wasm_operator_control.specs.WasmOperatorChecks.Steps.{Performs};
 
 use std::alloc::Allocator;
-use wasm_operator_checks::operator_stacks::{Operand, Stacks, TypeWord, Word};
-use wasm_operator_checks::validator_resources::WasmModuleResources;
-use wasm_operator_checks::{
+use wasm_operator_control::operator_checks::{
     OperatorError, OperatorFault, OperatorRule, Takes, ValTypes, check_type, has, look, plain,
 };
+use wasm_operator_control::operator_stacks::{Operand, Stacks, TypeWord, Word};
+use wasm_operator_control::validator_resources::WasmModuleResources;
 use wasm_operators::Listed;
 use wasm_operators::operators_plain::NumberType;
 use wasm_readers::readers_errors::WasmFeatures;
@@ -79,7 +79,7 @@ fn choose(first: Word, second: Word) -> Option<Word>
 ///
 /// Refuses a condition that isn't of `i32` (`Operand`), operands that aren't there (`AnyOperand`),
 /// and operands that are references or of two types (`Selected`). Where it is refused, all stays.
-#[tactic(auto, using(wasm_operator_checks::proofs::Acting::acts, crate::proofs::Choosing::selects))]
+#[tactic(auto, using(crate::proofs::Cited::acts, crate::proofs::Choosing::selects))]
 pub fn select<A: Allocator, T: WasmModuleResources>(
     stacks: &mut Stacks<A>,
     resources: &T,
@@ -118,7 +118,7 @@ pub fn select<A: Allocator, T: WasmModuleResources>(
 /// Refuses it without the proposal of reference types (`ReferenceTypes`), a type that the features
 /// or the module don't have (`ValueType`), and operands that aren't of these types (`Operand`).
 /// Where it is refused, all stays.
-#[tactic(auto, using(wasm_operator_checks::proofs::Acting::acts, crate::proofs::Choosing::typed_selects))]
+#[tactic(auto, using(crate::proofs::Cited::acts, crate::proofs::Choosing::typed_selects))]
 pub fn select_of<A: Allocator, T: WasmModuleResources>(
     stacks: &mut Stacks<A>,
     resources: &T,
@@ -156,7 +156,7 @@ pub fn select_of<A: Allocator, T: WasmModuleResources>(
 ///
 /// Refuses any other number of types (`Selected`), and what [`select_of`] refuses. Where it is
 /// refused, all stays.
-#[tactic(auto, using(wasm_operator_checks::proofs::Acting::acts, crate::proofs::Writing::lists))]
+#[tactic(auto, using(crate::proofs::Cited::acts, crate::proofs::Writing::lists))]
 pub fn select_typed<'a, A: Allocator, T: WasmModuleResources>(
     stacks: &mut Stacks<A>,
     resources: &T,

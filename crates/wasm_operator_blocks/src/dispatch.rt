@@ -1,9 +1,9 @@
 //! Control, parametric and variable operators by their name.
 
 ghost use Rattle.wasm_operators.specs.SeenControl.{control_of};
-ghost use Rattle.wasm_operator_checks.specs.WasmOperatorSteps.Shapes.{control_shape, parametric_shape, variable_shape};
-ghost use Rattle.wasm_operator_checks.specs.WasmOperatorStacks.Seen.{Kept};
-ghost use Rattle.wasm_operator_checks.specs.Steps.{Performs};
+ghost use Rattle.wasm_operator_control.specs.WasmOperatorChecks.WasmOperatorSteps.Shapes.{control_shape, parametric_shape, variable_shape};
+ghost use Rattle.wasm_operator_control.specs.WasmOperatorChecks.WasmOperatorStacks.Seen.{Kept};
+ghost use Rattle.wasm_operator_control.specs.WasmOperatorChecks.Steps.{Performs};
 ghost use Rattle.wasm_operator_blocks.specs.Written.{control_written, parametric_written, IsWrittenControl};
 
 use crate::alternatives::turn_to_else;
@@ -13,9 +13,9 @@ use crate::exceptions::{throw, throw_ref};
 use crate::tables::branch_by_table;
 use crate::tries::open_try_table;
 use std::alloc::Allocator;
-use wasm_operator_checks::OperatorError;
-use wasm_operator_checks::operator_stacks::Stacks;
-use wasm_operator_checks::validator_resources::WasmModuleResources;
+use wasm_operator_control::operator_checks::OperatorError;
+use wasm_operator_control::operator_stacks::Stacks;
+use wasm_operator_control::validator_resources::WasmModuleResources;
 use wasm_operator_control::{
     branch, branch_if, do_nothing, drop_any, end, give_back, global_get, global_set, local_get,
     local_set, local_tee, trap,

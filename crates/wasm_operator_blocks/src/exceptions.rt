@@ -3,15 +3,17 @@
 ghost use Rattle.std.specs.Prelude.{◌≡◌, Some, None, IfOk, OnErr, map};
 ghost use Rattle.wasm_operators.specs.Control.{throw, throw_ref};
 ghost use Rattle.wasm_readers_types.specs.WasmReadersValues.SeenValues.{val_of};
-ghost use Rattle.wasm_operator_checks.specs.WasmOperatorSteps.Shapes.{control_shape};
-ghost use Rattle.wasm_operator_checks.specs.WasmOperatorStacks.Seen.{Kept};
-ghost use Rattle.wasm_operator_checks.specs.Steps.{Performs};
+ghost use Rattle.wasm_operator_control.specs.WasmOperatorChecks.WasmOperatorSteps.Shapes.{control_shape};
+ghost use Rattle.wasm_operator_control.specs.WasmOperatorChecks.WasmOperatorStacks.Seen.{Kept};
+ghost use Rattle.wasm_operator_control.specs.WasmOperatorChecks.Steps.{Performs};
 ghost use Rattle.wasm_operator_blocks.specs.Sent.{thrown_in};
 
 use std::alloc::Allocator;
-use wasm_operator_checks::operator_stacks::{Stacks, TypeWord};
-use wasm_operator_checks::validator_resources::WasmModuleResources;
-use wasm_operator_checks::{OperatorError, OperatorFault, OperatorRule, ValTypes, halt, has};
+use wasm_operator_control::operator_checks::{
+    OperatorError, OperatorFault, OperatorRule, ValTypes, halt, has,
+};
+use wasm_operator_control::operator_stacks::{Stacks, TypeWord};
+use wasm_operator_control::validator_resources::WasmModuleResources;
 use wasm_readers::readers_errors::WasmFeatures;
 use wasm_readers_types::{RefType, ValType};
 
@@ -45,7 +47,7 @@ pub(crate) fn thrown_types<'a, T: WasmModuleResources>(
 /// Refuses it without the proposal of exceptions (`Exceptions`), a tag that isn't there
 /// (`UnknownTag`) or has results (`TagResults`), and operands that aren't what the tag takes
 /// (`Operand`). Where it is refused, all stays.
-#[tactic(auto, using(wasm_operator_checks::proofs::Acting::acts, crate::proofs::Throwing::throws))]
+#[tactic(auto, using(crate::proofs::Cited::acts, crate::proofs::Throwing::throws))]
 pub fn throw<A: Allocator, T: WasmModuleResources>(
     stacks: &mut Stacks<A>,
     resources: &T,
@@ -71,7 +73,7 @@ pub fn throw<A: Allocator, T: WasmModuleResources>(
 ///
 /// Refuses it without the proposal of exceptions (`Exceptions`), and an operand that is no such
 /// reference (`Operand`). Where it is refused, all stays.
-#[tactic(auto, using(wasm_operator_checks::proofs::Acting::acts, crate::proofs::Throwing::throws))]
+#[tactic(auto, using(crate::proofs::Cited::acts, crate::proofs::Throwing::throws))]
 pub fn throw_ref<A: Allocator, T: WasmModuleResources>(
     stacks: &mut Stacks<A>,
     resources: &T,

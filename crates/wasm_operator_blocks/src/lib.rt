@@ -22,3 +22,20 @@ pub use tries::open_try_table;
 
 // Blocks stand on calls, so who steps through blocks finds these here.
 pub use wasm_operator_control::step_call;
+
+/// Passed on from `wasm_operator_stacks`.
+pub mod operator_stacks {
+    pub use wasm_operator_control::operator_stacks::{
+        BlockWord, LocalWord, Locals, MAX_LOCALS, Operand, Stacks, TypeWord,
+    };
+}
+
+/// Passed on from `wasm_validator_resources`.
+pub mod validator_resources {
+    pub use wasm_operator_control::validator_resources::WasmModuleResources;
+}
+
+/// Passed on from `wasm_operator_checks`.
+pub mod operator_checks {
+    pub use wasm_operator_control::operator_checks::{OperatorError, OperatorFault, OperatorRule};
+}

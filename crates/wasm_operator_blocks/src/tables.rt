@@ -4,19 +4,19 @@ ghost use Rattle.std.specs.Prelude.{◌≡◌, ◌≤◌, true, Some, is_ok, len
 ghost use Rattle.wasm_spec.specs.Values.{u32_at};
 ghost use Rattle.wasm_operators.specs.Control.{br_table};
 ghost use Rattle.wasm_operators.specs.SeenLists.{listed};
-ghost use Rattle.wasm_operator_checks.specs.WasmOperatorSteps.Shapes.{control_shape};
-ghost use Rattle.wasm_operator_checks.specs.WasmOperatorStacks.Seen.{state_of, Kept};
-ghost use Rattle.wasm_operator_checks.specs.Steps.{Performs};
-ghost use Rattle.wasm_operator_checks.specs.SeenTypes.{types_seen};
+ghost use Rattle.wasm_operator_control.specs.WasmOperatorChecks.WasmOperatorSteps.Shapes.{control_shape};
+ghost use Rattle.wasm_operator_control.specs.WasmOperatorChecks.WasmOperatorStacks.Seen.{state_of, Kept};
+ghost use Rattle.wasm_operator_control.specs.WasmOperatorChecks.Steps.{Performs};
+ghost use Rattle.wasm_operator_control.specs.WasmOperatorChecks.SeenTypes.{types_seen};
 ghost use Rattle.wasm_operator_blocks.specs.Fitting.{fits, all_fit, LastPasses};
 
 use std::alloc::Allocator;
-use wasm_operator_checks::operator_stacks::{Stacks, TypeWord};
-use wasm_operator_checks::validator_resources::WasmModuleResources;
-use wasm_operator_checks::{
+use wasm_operator_control::label_types;
+use wasm_operator_control::operator_checks::{
     OperatorError, OperatorFault, OperatorRule, ValTypes, check_type, check_types,
 };
-use wasm_operator_control::label_types;
+use wasm_operator_control::operator_stacks::{Stacks, TypeWord};
+use wasm_operator_control::validator_resources::WasmModuleResources;
 use wasm_operators::operators_plain::NumberType;
 use wasm_operators::{BrTable, Listed};
 
@@ -122,7 +122,7 @@ fn check_targets<'a, A: Allocator, T: WasmModuleResources>(
 /// Refuses an index that isn't of `i32` and operands that aren't what a label takes (`Operand`), a
 /// label that isn't there (`UnknownLabel`), and one that takes more or fewer operands than the
 /// default (`LabelTypes`). Where it is refused, all stays.
-#[tactic(auto, using(wasm_operator_checks::proofs::Acting::acts, crate::proofs::Tabled::tables))]
+#[tactic(auto, using(crate::proofs::Cited::acts, crate::proofs::Tabled::tables))]
 pub fn branch_by_table<'a, A: Allocator, T: WasmModuleResources>(
     stacks: &mut Stacks<A>,
     resources: &T,

@@ -4,18 +4,18 @@ ghost use Rattle.std.specs.Prelude.{◌≡◌};
 ghost use Rattle.wasm_operators.specs.Control.{try_table, catch_at};
 ghost use Rattle.wasm_operators.specs.SeenControl.{block_of};
 ghost use Rattle.wasm_operators.specs.SeenLists.{listed};
-ghost use Rattle.wasm_operator_checks.specs.WasmOperatorSteps.Shapes.{control_shape};
-ghost use Rattle.wasm_operator_checks.specs.WasmOperatorStacks.Seen.{Kept};
-ghost use Rattle.wasm_operator_checks.specs.Steps.{Performs};
+ghost use Rattle.wasm_operator_control.specs.WasmOperatorChecks.WasmOperatorSteps.Shapes.{control_shape};
+ghost use Rattle.wasm_operator_control.specs.WasmOperatorChecks.WasmOperatorStacks.Seen.{Kept};
+ghost use Rattle.wasm_operator_control.specs.WasmOperatorChecks.Steps.{Performs};
 ghost use Rattle.wasm_operator_blocks.specs.Written.{block_written, IsWrittenBlock};
 
 use crate::catches::check_catches;
 use crate::openings::resolve;
 use std::alloc::Allocator;
-use wasm_operator_checks::operator_stacks::Stacks;
-use wasm_operator_checks::validator_resources::WasmModuleResources;
-use wasm_operator_checks::{OperatorError, OperatorFault, OperatorRule, has};
 use wasm_operator_control::open_frame;
+use wasm_operator_control::operator_checks::{OperatorError, OperatorFault, OperatorRule, has};
+use wasm_operator_control::operator_stacks::Stacks;
+use wasm_operator_control::validator_resources::WasmModuleResources;
 use wasm_operators::{FrameKind, TryTable};
 use wasm_readers::readers_errors::WasmFeatures;
 
@@ -29,7 +29,7 @@ use wasm_readers::readers_errors::WasmFeatures;
 /// tag that isn't there (`UnknownTag`) or has results (`TagResults`), a label that isn't there
 /// (`UnknownLabel`) or takes other types (`CatchTypes`), and operands that aren't what the block
 /// takes (`Operand`). Where it is refused, all stays.
-#[tactic(auto, using(wasm_operator_checks::proofs::Acting::acts, crate::proofs::Entering::tries))]
+#[tactic(auto, using(crate::proofs::Cited::acts, crate::proofs::Entering::tries))]
 pub fn open_try_table<'a, A: Allocator, T: WasmModuleResources>(
     stacks: &mut Stacks<A>,
     resources: &T,

@@ -10,14 +10,14 @@ use Rattle.wasm_spec.specs.ValueTypes.{allows_heap, allows_ref, allows_val}
 use Rattle.wasm_spec_rules.specs.Contexts.{Context}
 use Rattle.wasm_spec_rules.specs.FeatureFlags.{features_of}
 use Rattle.wasm_readers_types.specs.WasmReadersValues.declared.indices.UnpackedIndex.{UnpackedIndex}
-use Rattle.wasm_operator_checks.specs.WasmOperatorSteps.Actions.{may_be_cast}
+use Rattle.wasm_operator_references.specs.WasmOperatorChecks.WasmOperatorSteps.Actions.{may_be_cast}
 use Rattle.wasm_spec_rules.specs.Attempts.{◌>>=◌}
 use Rattle.wasm_spec_rules.specs.Signatures.{resolve_heap, resolve_ref}
-use Rattle.wasm_operator_checks.specs.WasmOperatorSteps.Meanings.{casts}
-use Rattle.wasm_operator_checks.specs.WasmValidatorResources.Answers.{IsWrittenHeap, world, written_index}
-use Rattle.wasm_operator_checks.specs.WasmOperatorStacks.Seen.{around}
-use Rattle.wasm_operator_checks.specs.WasmOperatorStacks.declared.stacks.Stacks.{Stacks}
-use Rattle.wasm_operator_checks.specs.Steps.{held}
+use Rattle.wasm_operator_references.specs.WasmOperatorChecks.WasmOperatorSteps.Meanings.{casts}
+use Rattle.wasm_operator_references.specs.WasmOperatorChecks.WasmValidatorResources.Answers.{IsWrittenHeap, world, written_index}
+use Rattle.wasm_operator_references.specs.WasmOperatorChecks.WasmOperatorStacks.Seen.{around}
+use Rattle.wasm_operator_references.specs.WasmOperatorChecks.WasmOperatorStacks.declared.stacks.Stacks.{Stacks}
+use Rattle.wasm_operator_references.specs.WasmOperatorChecks.Steps.{held}
 use Rattle.wasm_operator_casts.specs.Tops.{top_in}
 
 -- what the features allow, whatever identities are

@@ -5,16 +5,16 @@ use Rattle.wasm_spec.specs.Matching.{is_shared_heap}
 use Rattle.wasm_spec.specs.Syntax.{AbstractHeap, i31_heap, abstract_heap, Ref, Val, reference, i32}
 use Rattle.wasm_spec_rules.specs.Contexts.{Context}
 use Rattle.wasm_readers_types.specs.WasmReadersValues.declared.indices.UnpackedIndex.{UnpackedIndex}
-use Rattle.wasm_operator_checks.specs.WasmOperatorSteps.Actions.{these, take_below, give, convert}
+use Rattle.wasm_operator_references.specs.WasmOperatorChecks.WasmOperatorSteps.Actions.{these, take_below, give, convert}
 use Rattle.wasm_spec_rules.specs.Attempts.{guard}
-use Rattle.wasm_operator_checks.specs.WasmOperatorSteps.Bodies.{Surroundings}
-use Rattle.wasm_operator_checks.specs.WasmOperatorSteps.Machine.{Operand, State, known, push_operand}
-use Rattle.wasm_operator_checks.specs.WasmOperatorSteps.Meanings.{converted, is_below_either}
-use Rattle.wasm_operator_checks.specs.WasmOperatorSteps.Shapes.{small_integer}
-use Rattle.wasm_operator_checks.specs.WasmValidatorResources.Answers.{world}
-use Rattle.wasm_operator_checks.specs.WasmOperatorStacks.Seen.{state_of, around}
-use Rattle.wasm_operator_checks.specs.WasmOperatorStacks.declared.stacks.Stacks.{Stacks}
-use Rattle.wasm_operator_checks.specs.Steps.{acted, typed}
+use Rattle.wasm_operator_references.specs.WasmOperatorChecks.WasmOperatorSteps.Bodies.{Surroundings}
+use Rattle.wasm_operator_references.specs.WasmOperatorChecks.WasmOperatorSteps.Machine.{Operand, State, known, push_operand}
+use Rattle.wasm_operator_references.specs.WasmOperatorChecks.WasmOperatorSteps.Meanings.{converted, is_below_either}
+use Rattle.wasm_operator_references.specs.WasmOperatorChecks.WasmOperatorSteps.Shapes.{small_integer}
+use Rattle.wasm_operator_references.specs.WasmOperatorChecks.WasmValidatorResources.Answers.{world}
+use Rattle.wasm_operator_references.specs.WasmOperatorChecks.WasmOperatorStacks.Seen.{state_of, around}
+use Rattle.wasm_operator_references.specs.WasmOperatorChecks.WasmOperatorStacks.declared.stacks.Stacks.{Stacks}
+use Rattle.wasm_operator_references.specs.WasmOperatorChecks.Steps.{acted, typed}
 use Rattle.wasm_operator_references.specs.SeenReferences.{pop_below}
 use Rattle.wasm_operator_references.proofs.Comparable.{found_below, missing_below}
 

@@ -2,3 +2,4 @@ pub mod Topping
 pub mod Converting
 pub mod Sending
 pub mod Casting
+pub mod Cited

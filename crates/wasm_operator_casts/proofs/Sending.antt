@@ -5,18 +5,18 @@ use Rattle.wasm_spec.specs.MatchingTests.{World, matches_val}
 use Rattle.wasm_spec.specs.Syntax.{Ref, Val, reference}
 use Rattle.wasm_spec_rules.specs.Contexts.{Context}
 use Rattle.wasm_readers_types.specs.WasmReadersValues.declared.indices.UnpackedIndex.{UnpackedIndex}
-use Rattle.wasm_operator_checks.specs.WasmOperatorSteps.Actions.{has, gc, allows, may_be_cast, each_matches, these, front, last, label, joined, Action, need, take, give}
+use Rattle.wasm_operator_references.specs.WasmOperatorChecks.WasmOperatorSteps.Actions.{has, gc, allows, may_be_cast, each_matches, these, front, last, label, joined, Action, need, take, give}
 use Rattle.wasm_spec_rules.specs.Attempts.{◌>>=◌, guard, last_of, front_of}
-use Rattle.wasm_operator_checks.specs.WasmOperatorSteps.Machine.{State}
-use Rattle.wasm_operator_checks.specs.WasmOperatorSteps.Shapes.{difference}
-use Rattle.wasm_operator_checks.specs.WasmValidatorResources.Answers.{world}
-use Rattle.wasm_operator_checks.specs.WasmOperatorStacks.Seen.{state_of}
-use Rattle.wasm_operator_checks.specs.WasmOperatorStacks.declared.stacks.Stacks.{Stacks}
-use Rattle.wasm_operator_checks.proofs.Acting.{needed, plainly, took_along}
-use Rattle.wasm_operator_checks.proofs.Typing.{both_typed}
-use Rattle.wasm_operator_checks.specs.Steps.{Took, acted, typed, held}
-use Rattle.wasm_operator_checks.specs.SeenTypes.{exchanged}
-use Rattle.wasm_operator_checks.specs.declared.faults.OperatorError.{OperatorError}
+use Rattle.wasm_operator_references.specs.WasmOperatorChecks.WasmOperatorSteps.Machine.{State}
+use Rattle.wasm_operator_references.specs.WasmOperatorChecks.WasmOperatorSteps.Shapes.{difference}
+use Rattle.wasm_operator_references.specs.WasmOperatorChecks.WasmValidatorResources.Answers.{world}
+use Rattle.wasm_operator_references.specs.WasmOperatorChecks.WasmOperatorStacks.Seen.{state_of}
+use Rattle.wasm_operator_references.specs.WasmOperatorChecks.WasmOperatorStacks.declared.stacks.Stacks.{Stacks}
+use Rattle.wasm_operator_references.proofs.WasmOperatorChecks.Acting.{needed, plainly, took_along}
+use Rattle.wasm_operator_references.proofs.WasmOperatorChecks.Typing.{both_typed}
+use Rattle.wasm_operator_references.specs.WasmOperatorChecks.Steps.{Took, acted, typed, held}
+use Rattle.wasm_operator_references.specs.WasmOperatorChecks.SeenTypes.{exchanged}
+use Rattle.wasm_operator_references.specs.WasmOperatorChecks.declared.faults.OperatorError.{OperatorError}
 use Rattle.wasm_operator_references.proofs.Writing.{reference_typed}
 use Rattle.wasm_operator_casts.specs.Sent.{sending, IsCastable}
 use Rattle.wasm_operator_casts.proofs.Casting.{heap_resolved}

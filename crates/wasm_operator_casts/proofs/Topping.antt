@@ -7,11 +7,11 @@ use Rattle.wasm_spec.specs.MatchingTests.{same_abstract}
 use Rattle.wasm_spec.specs.Syntax.{AbstractHeap, cont_heap, abstract_heap, concrete, exact, Ref, Sub, Val, reference}
 use Rattle.wasm_spec_rules.specs.Contexts.{Context}
 use Rattle.wasm_readers_types.specs.WasmReadersValues.declared.indices.UnpackedIndex.{UnpackedIndex}
-use Rattle.wasm_operator_checks.specs.WasmOperatorSteps.Actions.{top, can_be_tested}
+use Rattle.wasm_operator_references.specs.WasmOperatorChecks.WasmOperatorSteps.Actions.{top, can_be_tested}
 use Rattle.wasm_spec_rules.specs.Attempts.{◌>>=◌}
-use Rattle.wasm_operator_checks.specs.WasmValidatorResources.Answers.{world, sub_in}
-use Rattle.wasm_operator_checks.specs.WasmOperatorStacks.declared.stacks.Stacks.{Stacks}
-use Rattle.wasm_operator_checks.specs.Steps.{typed, held}
+use Rattle.wasm_operator_references.specs.WasmOperatorChecks.WasmValidatorResources.Answers.{world, sub_in}
+use Rattle.wasm_operator_references.specs.WasmOperatorChecks.WasmOperatorStacks.declared.stacks.Stacks.{Stacks}
+use Rattle.wasm_operator_references.specs.WasmOperatorChecks.Steps.{typed, held}
 use Rattle.wasm_operator_casts.specs.Tops.{top_in}
 
 module _ (D : UnpackedIndex → Option (Sub UnpackedIndex)) where

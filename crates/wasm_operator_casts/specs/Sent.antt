@@ -6,16 +6,16 @@ use Rattle.wasm_spec_rules.specs.Contexts.{Context}
 use Rattle.wasm_readers_types.specs.WasmReadersValues.SeenValues.{ref_of}
 use Rattle.wasm_readers_types.specs.WasmReadersValues.declared.indices.UnpackedIndex.{UnpackedIndex}
 use Rattle.wasm_readers_types.specs.WasmReadersValues.declared.values.RefType.{RefType}
-use Rattle.wasm_operator_checks.specs.WasmOperatorSteps.Actions.{has, gc, allows, may_be_cast, Action, need}
+use Rattle.wasm_operator_references.specs.WasmOperatorChecks.WasmOperatorSteps.Actions.{has, gc, allows, may_be_cast, Action, need}
 use Rattle.wasm_spec_rules.specs.Attempts.{◌>>=◌, guard, last_of, front_of}
-use Rattle.wasm_operator_checks.specs.WasmOperatorSteps.Machine.{State}
+use Rattle.wasm_operator_references.specs.WasmOperatorChecks.WasmOperatorSteps.Machine.{State}
 use Rattle.wasm_spec_rules.specs.Signatures.{resolve_ref}
-use Rattle.wasm_operator_checks.specs.WasmOperatorStacks.Seen.{state_of}
-use Rattle.wasm_operator_checks.specs.WasmOperatorStacks.declared.stacks.Stacks.{Stacks}
-use Rattle.wasm_operator_checks.specs.Steps.{Took, acted, held}
-use Rattle.wasm_operator_checks.specs.SeenTypes.{exchanged}
-use Rattle.wasm_operator_checks.specs.declared.faults.OperatorFault.{OperatorFault}
-use Rattle.wasm_operator_checks.specs.declared.faults.OperatorError.TheVariants.{Refused}
+use Rattle.wasm_operator_references.specs.WasmOperatorChecks.WasmOperatorStacks.Seen.{state_of}
+use Rattle.wasm_operator_references.specs.WasmOperatorChecks.WasmOperatorStacks.declared.stacks.Stacks.{Stacks}
+use Rattle.wasm_operator_references.specs.WasmOperatorChecks.Steps.{Took, acted, held}
+use Rattle.wasm_operator_references.specs.WasmOperatorChecks.SeenTypes.{exchanged}
+use Rattle.wasm_operator_references.specs.WasmOperatorChecks.declared.faults.OperatorFault.{OperatorFault}
+use Rattle.wasm_operator_references.specs.WasmOperatorChecks.declared.faults.OperatorError.TheVariants.{Refused}
 
 -- Where a label takes these types, the last of which a type matches that is sent: the others taken with one on top, and given with
 -- another on top.

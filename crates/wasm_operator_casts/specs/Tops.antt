@@ -8,7 +8,7 @@ use Rattle.wasm_readers_types.specs.WasmReadersValues.declared.indices.UnpackedI
 use Rattle.wasm_readers_types.specs.WasmReadersValues.declared.values.AbstractHeapType.{AbstractHeapType}
 use Rattle.wasm_spec_rules.specs.Attempts.{◌>>=◌}
 use Rattle.wasm_spec_rules.specs.Signatures.{resolve_heap}
-use Rattle.wasm_operator_checks.specs.WasmValidatorResources.Answers.{world}
+use Rattle.wasm_operator_references.specs.WasmOperatorChecks.WasmValidatorResources.Answers.{world}
 
 abbrev pub top_seen : Bool × AbstractHeapType → Heap UnpackedIndex
 top_seen p = abstract_heap p.0 (abstract_heap_of p.1)

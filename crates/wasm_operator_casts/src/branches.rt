@@ -8,19 +8,19 @@ ghost use Rattle.wasm_spec_rules.specs.FeatureFlags.{features_of};
 ghost use Rattle.wasm_readers_types.specs.WasmReadersValues.SeenValues.{ref_of};
 ghost use Rattle.wasm_operators.specs.References.{br_on_cast, br_on_cast_fail};
 ghost use Rattle.wasm_spec_rules.specs.Signatures.{resolve_ref};
-ghost use Rattle.wasm_operator_checks.specs.WasmOperatorSteps.Meanings.{casts};
-ghost use Rattle.wasm_operator_checks.specs.WasmOperatorSteps.Shapes.{cast_shape};
-ghost use Rattle.wasm_operator_checks.specs.WasmValidatorResources.Answers.{IsWrittenHeap, world, written_index};
-ghost use Rattle.wasm_operator_checks.specs.WasmOperatorStacks.Seen.{around, Kept};
-ghost use Rattle.wasm_operator_checks.specs.Steps.{Performs};
+ghost use Rattle.wasm_operator_references.specs.WasmOperatorChecks.WasmOperatorSteps.Meanings.{casts};
+ghost use Rattle.wasm_operator_references.specs.WasmOperatorChecks.WasmOperatorSteps.Shapes.{cast_shape};
+ghost use Rattle.wasm_operator_references.specs.WasmOperatorChecks.WasmValidatorResources.Answers.{IsWrittenHeap, world, written_index};
+ghost use Rattle.wasm_operator_references.specs.WasmOperatorChecks.WasmOperatorStacks.Seen.{around, Kept};
+ghost use Rattle.wasm_operator_references.specs.WasmOperatorChecks.Steps.{Performs};
 ghost use Rattle.wasm_operator_casts.specs.Sent.{Castable};
 
 use crate::sends::send;
 use crate::tops::top_of;
 use std::alloc::Allocator;
-use wasm_operator_checks::operator_stacks::Stacks;
-use wasm_operator_checks::validator_resources::{WasmModuleResources, check_ref_type};
-use wasm_operator_checks::{OperatorError, OperatorFault, OperatorRule, has};
+use wasm_operator_references::operator_checks::{OperatorError, OperatorFault, OperatorRule, has};
+use wasm_operator_references::operator_stacks::Stacks;
+use wasm_operator_references::validator_resources::{WasmModuleResources, check_ref_type};
 use wasm_operator_references::{matches_abstract, unknown_type};
 use wasm_readers_errors::WasmFeatures;
 use wasm_readers_types::{RefType, ValType};
@@ -75,7 +75,7 @@ fn casts<A: Allocator, T: WasmModuleResources>(
 }
 
 /// The two types of a branch on a cast with identities, where the one may be cast to the other.
-#[tactic(auto, using(wasm_operator_checks::proofs::Acting::acts, crate::proofs::Casting::castables))]
+#[tactic(auto, using(crate::proofs::Cited::acts, crate::proofs::Casting::castables))]
 fn cast_types<A: Allocator, T: WasmModuleResources>(
     stacks: &Stacks<A>,
     resources: &T,
@@ -133,7 +133,7 @@ fn difference(from: RefType, to: RefType) -> RefType
 /// Refuses unknown types, types that the features don't allow, and a type that can't be cast to the
 /// other; an unknown label, one whose last type isn't that of the cast, and operands that aren't a
 /// reference above the label's other types.
-#[tactic(auto, using(wasm_operator_checks::proofs::Acting::acts, crate::proofs::Sending::kept_on))]
+#[tactic(auto, using(crate::proofs::Cited::acts, crate::proofs::Sending::kept_on))]
 pub fn br_on_cast<A: Allocator, T: WasmModuleResources>(
     stacks: &mut Stacks<A>,
     resources: &T,
@@ -161,7 +161,7 @@ pub fn br_on_cast<A: Allocator, T: WasmModuleResources>(
 /// Refuses unknown types, types that the features don't allow, and a type that can't be cast to the
 /// other; an unknown label, one whose last type isn't that of a failed cast, and operands that
 /// aren't a reference above the label's other types.
-#[tactic(auto, using(wasm_operator_checks::proofs::Acting::acts, crate::proofs::Sending::kept_on))]
+#[tactic(auto, using(crate::proofs::Cited::acts, crate::proofs::Sending::kept_on))]
 pub fn br_on_cast_fail<A: Allocator, T: WasmModuleResources>(
     stacks: &mut Stacks<A>,
     resources: &T,

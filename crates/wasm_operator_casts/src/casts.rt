@@ -3,18 +3,18 @@
 ghost use Rattle.wasm_spec.specs.Syntax.{map_heap};
 ghost use Rattle.wasm_readers_types.specs.WasmReadersValues.SeenValues.{heap_of};
 ghost use Rattle.wasm_operators.specs.References.{ref_cast, ref_test, reference_to};
-ghost use Rattle.wasm_operator_checks.specs.WasmOperatorSteps.Shapes.{cast_shape};
-ghost use Rattle.wasm_operator_checks.specs.WasmValidatorResources.Answers.{IsWrittenHeap, written_index};
-ghost use Rattle.wasm_operator_checks.specs.WasmOperatorStacks.Seen.{Kept};
-ghost use Rattle.wasm_operator_checks.specs.Steps.{Performs};
+ghost use Rattle.wasm_operator_references.specs.WasmOperatorChecks.WasmOperatorSteps.Shapes.{cast_shape};
+ghost use Rattle.wasm_operator_references.specs.WasmOperatorChecks.WasmValidatorResources.Answers.{IsWrittenHeap, written_index};
+ghost use Rattle.wasm_operator_references.specs.WasmOperatorChecks.WasmOperatorStacks.Seen.{Kept};
+ghost use Rattle.wasm_operator_references.specs.WasmOperatorChecks.Steps.{Performs};
 
 use crate::tops::{abstract_to, can_be_tested, top_of};
 use std::alloc::Allocator;
-use wasm_operator_checks::operator_stacks::{Stacks, TypeWord};
-use wasm_operator_checks::validator_resources::WasmModuleResources;
-use wasm_operator_checks::{
+use wasm_operator_references::operator_checks::{
     OperatorError, OperatorFault, OperatorRule, Takes, ValTypes, has, plain,
 };
+use wasm_operator_references::operator_stacks::{Stacks, TypeWord};
+use wasm_operator_references::validator_resources::WasmModuleResources;
 use wasm_operator_references::{allows_heap, resolve, unknown_type};
 use wasm_operators::operators_plain::NumberType;
 use wasm_readers_errors::WasmFeatures;
@@ -27,7 +27,7 @@ use wasm_readers_types::HeapType;
 ///
 /// Refuses an unknown type, one that the features don't allow, one of continuations, and an operand
 /// of another hierarchy.
-#[tactic(auto, using(wasm_operator_checks::proofs::Acting::acts, crate::proofs::Topping::tests))]
+#[tactic(auto, using(crate::proofs::Cited::acts, crate::proofs::Topping::tests))]
 pub fn ref_test<A: Allocator, T: WasmModuleResources>(
     stacks: &mut Stacks<A>,
     resources: &T,
@@ -68,7 +68,7 @@ pub fn ref_test<A: Allocator, T: WasmModuleResources>(
 ///
 /// Refuses an unknown type, one that the features don't allow, one of continuations, and an operand
 /// of another hierarchy.
-#[tactic(auto, using(wasm_operator_checks::proofs::Acting::acts, crate::proofs::Topping::tests, wasm_operator_references::proofs::Writing::written))]
+#[tactic(auto, using(crate::proofs::Cited::acts, crate::proofs::Topping::tests, wasm_operator_references::proofs::Writing::written))]
 pub fn ref_cast<A: Allocator, T: WasmModuleResources>(
     stacks: &mut Stacks<A>,
     resources: &T,

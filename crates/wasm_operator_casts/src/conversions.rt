@@ -5,23 +5,23 @@ ghost use Rattle.wasm_spec.specs.Syntax.{abstract_heap, i32};
 ghost use Rattle.wasm_readers_types.specs.WasmReadersValues.SeenValues.{abstract_heap_of};
 ghost use Rattle.wasm_readers_types.specs.WasmReadersValues.declared.indices.UnpackedIndex.{UnpackedIndex};
 ghost use Rattle.wasm_operators.specs.WasmOperatorsPlain.declared.conversions.ConversionOperator.TheVariants.{AnyConvertExtern, ExternConvertAny, RefI31, I31GetS, RefI31Shared};
-ghost use Rattle.wasm_operator_checks.specs.WasmOperatorSteps.Actions.{has as has_check, gc, allows};
-ghost use Rattle.wasm_operator_checks.specs.WasmOperatorSteps.Bodies.{Surroundings};
-ghost use Rattle.wasm_operator_checks.specs.WasmOperatorSteps.Meanings.{converted};
-ghost use Rattle.wasm_operator_checks.specs.WasmOperatorSteps.Shapes.{conversion_shape, converting, plain, one, reference_to, small_integer};
-ghost use Rattle.wasm_operator_checks.specs.WasmValidatorResources.Answers.{world};
-ghost use Rattle.wasm_operator_checks.specs.WasmOperatorStacks.SeenOperands.{operand_of};
-ghost use Rattle.wasm_operator_checks.specs.WasmOperatorStacks.Seen.{Kept};
-ghost use Rattle.wasm_operator_checks.specs.Steps.{Performs};
+ghost use Rattle.wasm_operator_references.specs.WasmOperatorChecks.WasmOperatorSteps.Actions.{has as has_check, gc, allows};
+ghost use Rattle.wasm_operator_references.specs.WasmOperatorChecks.WasmOperatorSteps.Bodies.{Surroundings};
+ghost use Rattle.wasm_operator_references.specs.WasmOperatorChecks.WasmOperatorSteps.Meanings.{converted};
+ghost use Rattle.wasm_operator_references.specs.WasmOperatorChecks.WasmOperatorSteps.Shapes.{conversion_shape, converting, plain, one, reference_to, small_integer};
+ghost use Rattle.wasm_operator_references.specs.WasmOperatorChecks.WasmValidatorResources.Answers.{world};
+ghost use Rattle.wasm_operator_references.specs.WasmOperatorChecks.WasmOperatorStacks.SeenOperands.{operand_of};
+ghost use Rattle.wasm_operator_references.specs.WasmOperatorChecks.WasmOperatorStacks.Seen.{Kept};
+ghost use Rattle.wasm_operator_references.specs.WasmOperatorChecks.Steps.{Performs};
 ghost use Rattle.wasm_operator_references.specs.SeenReferences.{reference_seen};
 
 use crate::tops::abstract_to;
 use std::alloc::Allocator;
-use wasm_operator_checks::operator_stacks::{Stacks, TypeWord, Word};
-use wasm_operator_checks::validator_resources::WasmModuleResources;
-use wasm_operator_checks::{
+use wasm_operator_references::operator_checks::{
     OperatorError, OperatorFault, OperatorRule, Takes, ValTypes, has, plain,
 };
+use wasm_operator_references::operator_stacks::{Stacks, TypeWord, Word};
+use wasm_operator_references::validator_resources::WasmModuleResources;
 use wasm_operator_references::{Referenced, allows_heap, look_below};
 use wasm_operators::operators_plain::NumberType;
 use wasm_readers_errors::WasmFeatures;
@@ -48,7 +48,7 @@ fn converted<T: WasmModuleResources>(
 }
 
 /// Turns a reference below one abstract heap type into one to another.
-#[tactic(auto, using(wasm_operator_checks::proofs::Acting::acts, crate::proofs::Converting::converts))]
+#[tactic(auto, using(crate::proofs::Cited::acts, crate::proofs::Converting::converts))]
 fn convert<A: Allocator, T: WasmModuleResources>(
     stacks: &mut Stacks<A>,
     resources: &T,
@@ -120,7 +120,7 @@ pub fn extern_convert_any<A: Allocator, T: WasmModuleResources>(
 }
 
 /// Makes a reference of an integer, where the features allow its type.
-#[tactic(auto, using(wasm_operator_checks::proofs::Acting::acts))]
+#[tactic(auto, using(crate::proofs::Cited::acts))]
 fn box_integer<A: Allocator, T: WasmModuleResources>(
     stacks: &mut Stacks<A>,
     resources: &T,
@@ -151,7 +151,7 @@ fn box_integer<A: Allocator, T: WasmModuleResources>(
 /// # Errors
 ///
 /// Refuses what is no `i32`.
-#[tactic(auto, using(wasm_operator_checks::proofs::Acting::acts))]
+#[tactic(auto, using(crate::proofs::Cited::acts))]
 pub fn ref_i31<A: Allocator, T: WasmModuleResources>(
     stacks: &mut Stacks<A>,
     resources: &T,
@@ -171,7 +171,7 @@ pub fn ref_i31<A: Allocator, T: WasmModuleResources>(
 /// # Errors
 ///
 /// Refuses what is no `i32`.
-#[tactic(auto, using(wasm_operator_checks::proofs::Acting::acts))]
+#[tactic(auto, using(crate::proofs::Cited::acts))]
 pub fn ref_i31_shared<A: Allocator, T: WasmModuleResources>(
     stacks: &mut Stacks<A>,
     resources: &T,
@@ -192,7 +192,7 @@ pub fn ref_i31_shared<A: Allocator, T: WasmModuleResources>(
 /// # Errors
 ///
 /// Refuses what is no reference below `i31`, shared or not.
-#[tactic(auto, using(wasm_operator_checks::proofs::Acting::acts, crate::proofs::Converting::measures))]
+#[tactic(auto, using(crate::proofs::Cited::acts, crate::proofs::Converting::measures))]
 pub fn i31_get<A: Allocator, T: WasmModuleResources>(
     stacks: &mut Stacks<A>,
     resources: &T,

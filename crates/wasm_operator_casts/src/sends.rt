@@ -3,27 +3,27 @@
 ghost use Rattle.std.specs.Prelude.{◌++◌, ◌∷◌, []};
 ghost use Rattle.wasm_spec.specs.Syntax.{reference};
 ghost use Rattle.wasm_readers_types.specs.WasmReadersValues.SeenValues.{ref_of};
-ghost use Rattle.wasm_operator_checks.specs.WasmOperatorStacks.SeenTypeWords.{val_in};
-ghost use Rattle.wasm_operator_checks.specs.WasmOperatorSteps.Actions.{label};
-ghost use Rattle.wasm_operator_checks.specs.WasmValidatorResources.Answers.{world};
-ghost use Rattle.wasm_operator_checks.specs.WasmOperatorStacks.Seen.{Kept};
-ghost use Rattle.wasm_operator_checks.specs.Steps.{Turns, typed};
-ghost use Rattle.wasm_operator_checks.specs.SeenTypes.{exchanged, types_seen};
+ghost use Rattle.wasm_operator_references.specs.WasmOperatorChecks.WasmOperatorStacks.SeenTypeWords.{val_in};
+ghost use Rattle.wasm_operator_references.specs.WasmOperatorChecks.WasmOperatorSteps.Actions.{label};
+ghost use Rattle.wasm_operator_references.specs.WasmOperatorChecks.WasmValidatorResources.Answers.{world};
+ghost use Rattle.wasm_operator_references.specs.WasmOperatorChecks.WasmOperatorStacks.Seen.{Kept};
+ghost use Rattle.wasm_operator_references.specs.WasmOperatorChecks.Steps.{Turns, typed};
+ghost use Rattle.wasm_operator_references.specs.WasmOperatorChecks.SeenTypes.{exchanged, types_seen};
 ghost use Rattle.wasm_operator_casts.specs.Sent.{sending};
 
 use std::alloc::Allocator;
-use wasm_operator_checks::operator_stacks::{Stacks, TypeWord, Word};
-use wasm_operator_checks::validator_resources::WasmModuleResources;
-use wasm_operator_checks::{
+use wasm_operator_references::operator_checks::{
     OperatorError, OperatorFault, OperatorRule, ValTypes, check_type, check_types,
 };
 use wasm_operator_references::operator_control::label_types;
+use wasm_operator_references::operator_stacks::{Stacks, TypeWord, Word};
+use wasm_operator_references::validator_resources::WasmModuleResources;
 use wasm_operator_references::{exchange_with, front_types, last_type};
 use wasm_readers_types::{RefType, ValType};
 
 /// Takes operands of some types with one of another type on top, and gives the same types with one
 /// of a third type on top. Where that can't be, all stays.
-#[tactic(auto, using(wasm_operator_checks::proofs::Acting::acts, wasm_operator_checks::proofs::Taking::with_one))]
+#[tactic(auto, using(crate::proofs::Cited::acts, crate::proofs::Cited::with_one))]
 fn exchange_top<'a, A: Allocator, T: WasmModuleResources>(
     stacks: &mut Stacks<A>,
     resources: &T,
@@ -53,7 +53,7 @@ fn exchange_top<'a, A: Allocator, T: WasmModuleResources>(
 /// Branches to a label whose last type matches what is sent: takes the label's other types with one
 /// of a type on top, and gives them with one of another type on top. Where that can't be, all
 /// stays.
-#[tactic(auto, using(wasm_operator_checks::proofs::Acting::acts, crate::proofs::Sending::sends))]
+#[tactic(auto, using(crate::proofs::Cited::acts, crate::proofs::Sending::sends))]
 pub(crate) fn send<A: Allocator, T: WasmModuleResources>(
     stacks: &mut Stacks<A>,
     resources: &T,

@@ -2,10 +2,10 @@
 
 ghost use Rattle.wasm_operators.specs.Maps.{map_cast};
 ghost use Rattle.wasm_operators.specs.SeenReferences.{cast_of};
-ghost use Rattle.wasm_operator_checks.specs.WasmOperatorSteps.Shapes.{cast_shape, conversion_shape};
-ghost use Rattle.wasm_operator_checks.specs.WasmValidatorResources.Answers.{written_index};
-ghost use Rattle.wasm_operator_checks.specs.WasmOperatorStacks.Seen.{Kept};
-ghost use Rattle.wasm_operator_checks.specs.Steps.{Performs};
+ghost use Rattle.wasm_operator_references.specs.WasmOperatorChecks.WasmOperatorSteps.Shapes.{cast_shape, conversion_shape};
+ghost use Rattle.wasm_operator_references.specs.WasmOperatorChecks.WasmValidatorResources.Answers.{written_index};
+ghost use Rattle.wasm_operator_references.specs.WasmOperatorChecks.WasmOperatorStacks.Seen.{Kept};
+ghost use Rattle.wasm_operator_references.specs.WasmOperatorChecks.Steps.{Performs};
 ghost use Rattle.wasm_operator_casts.specs.Written.{IsWrittenCast};
 
 use crate::branches::{br_on_cast, br_on_cast_fail};
@@ -14,9 +14,9 @@ use crate::conversions::{
     any_convert_extern, extern_convert_any, i31_get, ref_i31, ref_i31_shared,
 };
 use std::alloc::Allocator;
-use wasm_operator_checks::OperatorError;
-use wasm_operator_checks::operator_stacks::Stacks;
-use wasm_operator_checks::validator_resources::WasmModuleResources;
+use wasm_operator_references::operator_checks::OperatorError;
+use wasm_operator_references::operator_stacks::Stacks;
+use wasm_operator_references::validator_resources::WasmModuleResources;
 use wasm_operators::{CastOperator, ConversionOperator};
 
 /// A test or cast of a reference (Core Specification 3.0, Validation, Instructions, Reference

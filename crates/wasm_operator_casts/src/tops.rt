@@ -7,11 +7,11 @@ ghost use Rattle.wasm_spec.specs.MatchingTests.{same_abstract};
 ghost use Rattle.wasm_spec.specs.Syntax.{abstract_heap, concrete, cont_heap, exact, map_heap};
 ghost use Rattle.wasm_readers_types.specs.SeenTypes.{comp_of};
 ghost use Rattle.wasm_readers_types.specs.WasmReadersValues.SeenValues.{abstract_heap_of, heap_of, ref_of};
-ghost use Rattle.wasm_operator_checks.specs.WasmValidatorResources.Answers.{IsWrittenHeap, written_index};
+ghost use Rattle.wasm_operator_references.specs.WasmOperatorChecks.WasmValidatorResources.Answers.{IsWrittenHeap, written_index};
 ghost use Rattle.wasm_operator_casts.specs.Tops.{top_in, top_seen};
 
 use std::alloc::Allocator;
-use wasm_operator_checks::validator_resources::WasmModuleResources;
+use wasm_operator_references::validator_resources::WasmModuleResources;
 use wasm_readers_types::{AbstractHeapType, CompositeInnerType, HeapType, RefType, UnpackedIndex};
 
 /// The greatest type of the hierarchy of an abstract heap type.

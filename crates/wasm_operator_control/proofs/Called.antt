@@ -5,20 +5,20 @@ use Rattle.std.specs.Prelude.{Option, Some, None, Err, slice_get}
 use Rattle.wasm_readers_types.specs.WasmSpec.Syntax.{Val, Ref, reference, abstract_heap, func_heap, Sub}
 use Rattle.wasm_readers_types.specs.WasmSpec.MatchingTests.{matches_val}
 use Rattle.wasm_readers_types.specs.WasmSpec.ValueTypes.{implies}
-use Rattle.wasm_validator_resources.specs.WasmSpecRules.Contexts.{Context}
+use Rattle.wasm_operator_numbers.specs.WasmOperatorChecks.WasmValidatorResources.WasmSpecRules.Contexts.{Context}
 use Rattle.wasm_readers_types.specs.SeenTypes.{comp_of}
 use Rattle.wasm_readers_types.specs.WasmReadersValues.declared.indices.UnpackedIndex.{UnpackedIndex}
 use Rattle.wasm_readers_types.specs.declared.types.FuncType.{FuncType}
 use Rattle.wasm_readers_types.specs.declared.types.CompositeInnerType.{CompositeInnerType}
 use Rattle.wasm_readers_types.specs.declared.types.CompositeInnerType.TheVariants.{Func, Array, Struct, Cont}
 use Rattle.wasm_operator_numbers.specs.WasmOperatorSteps.Actions.{Action, need, these, params, results, of_type, of_function, table_element, reaches_type, reaches_function}
-use Rattle.wasm_validator_resources.specs.WasmSpecRules.Attempts.{◌>>=◌, guard, passes}
+use Rattle.wasm_operator_numbers.specs.WasmOperatorChecks.WasmValidatorResources.WasmSpecRules.Attempts.{◌>>=◌, guard, passes}
 use Rattle.wasm_operator_numbers.specs.WasmOperatorSteps.Machine.{State}
-use Rattle.wasm_validator_resources.specs.WasmSpecRules.Signatures.{Signature, signature_of, resolve_val}
+use Rattle.wasm_operator_numbers.specs.WasmOperatorChecks.WasmValidatorResources.WasmSpecRules.Signatures.{Signature, signature_of, resolve_val}
 use Rattle.wasm_operator_numbers.specs.WasmOperatorSteps.Shapes.{nullable_to, holds_functions}
 use Rattle.wasm_operator_numbers.specs.WasmOperatorStacks.SeenTypeWords.{val_in}
 use Rattle.wasm_operator_numbers.specs.WasmOperatorStacks.declared.type_word.TypeWord.{TypeWord}
-use Rattle.wasm_validator_resources.specs.Answers.{world, sub_in}
+use Rattle.wasm_operator_numbers.specs.WasmOperatorChecks.WasmValidatorResources.Answers.{world, sub_in}
 use Rattle.wasm_operator_numbers.specs.WasmOperatorStacks.declared.stacks.Stacks.{Stacks}
 use Rattle.wasm_operator_numbers.specs.WasmOperatorChecks.Steps.{Took, acted, typed, held}
 use Rattle.wasm_operator_numbers.specs.WasmOperatorChecks.declared.faults.OperatorFault.{OperatorFault}

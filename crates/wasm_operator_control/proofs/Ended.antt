@@ -6,18 +6,18 @@ use Rattle.std.proofs.lemmas.Bool.Decides.{nat_tests}
 use Rattle.std.proofs.lemmas.List.{length-drop, length-map}
 use Rattle.wasm_readers_types.specs.WasmSpec.MatchingTests.{World}
 use Rattle.wasm_readers_types.specs.WasmSpec.Syntax.{Val}
-use Rattle.wasm_validator_resources.specs.WasmSpecRules.Contexts.{Context}
+use Rattle.wasm_operator_numbers.specs.WasmOperatorChecks.WasmValidatorResources.WasmSpecRules.Contexts.{Context}
 use Rattle.wasm_readers_types.specs.WasmReadersValues.declared.indices.UnpackedIndex.{UnpackedIndex}
-use Rattle.wasm_operators.specs.Control.{Block, empty_block, value_block, func_block}
-use Rattle.wasm_validator_resources.specs.WasmSpecRules.Attempts.{◌>>=◌}
+use Rattle.wasm_operator_numbers.specs.WasmOperators.Control.{Block, empty_block, value_block, func_block}
+use Rattle.wasm_operator_numbers.specs.WasmOperatorChecks.WasmValidatorResources.WasmSpecRules.Attempts.{◌>>=◌}
 use Rattle.wasm_operator_numbers.specs.WasmOperatorSteps.Actions.{leave}
 use Rattle.wasm_operator_numbers.specs.WasmOperatorSteps.Bodies.{Surroundings}
 use Rattle.wasm_operator_numbers.specs.WasmOperatorSteps.Matching.{matches_vals}
 use Rattle.wasm_operator_numbers.specs.WasmOperatorSteps.Machine as machine
 use Rattle.wasm_operator_numbers.specs.WasmOperatorSteps.Machine.{Kind, block_kind, loop_kind, if_kind, else_kind, try_table_kind, State, pop_vals, push_vals}
-use Rattle.wasm_validator_resources.specs.WasmSpecRules.Signatures.{Signature}
+use Rattle.wasm_operator_numbers.specs.WasmOperatorChecks.WasmValidatorResources.WasmSpecRules.Signatures.{Signature}
 use Rattle.wasm_operator_numbers.specs.WasmOperatorSteps.Meanings.{block_signature, leave_in, may_end}
-use Rattle.wasm_validator_resources.specs.Answers.{world}
+use Rattle.wasm_operator_numbers.specs.WasmOperatorChecks.WasmValidatorResources.Answers.{world}
 use Rattle.wasm_operator_numbers.specs.WasmOperatorStacks.Seen.{state_of, around, below}
 use Rattle.wasm_operator_numbers.specs.WasmOperatorStacks.SeenOperands.{operand_of}
 use Rattle.wasm_operator_numbers.specs.WasmOperatorStacks.SeenBlocks.{block_in, kind_of, frame_of}

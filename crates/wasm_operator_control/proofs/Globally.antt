@@ -4,7 +4,7 @@ use Rattle.std.specs.Option.{option_map}
 use Rattle.std.specs.Prelude.{Some, None, slice_get}
 use Rattle.wasm_readers_types.specs.WasmSpec.Syntax.{Val}
 use Rattle.wasm_readers_types.specs.WasmSpec.ValueTypes.{implies}
-use Rattle.wasm_validator_resources.specs.WasmSpecRules.Contexts.{Context}
+use Rattle.wasm_operator_numbers.specs.WasmOperatorChecks.WasmValidatorResources.WasmSpecRules.Contexts.{Context}
 use Rattle.wasm_readers_types.specs.SeenExterns.{global_of}
 use Rattle.wasm_readers_types.specs.WasmReadersValues.SeenValues.{val_of}
 use Rattle.wasm_readers_types.specs.declared.externs.GlobalType.{GlobalType}

@@ -4,14 +4,14 @@ use Rattle.std.specs.Option.{option_map}
 use Rattle.std.specs.Prelude.{zero, suc, Option, Some, None, slice_get}
 use Rattle.std.proofs.lemmas.Option.{slice_get-map}
 use Rattle.wasm_readers_types.specs.WasmSpec.Syntax.{Val}
-use Rattle.wasm_validator_resources.specs.WasmSpecRules.Contexts.{Context}
+use Rattle.wasm_operator_numbers.specs.WasmOperatorChecks.WasmValidatorResources.WasmSpecRules.Contexts.{Context}
 use Rattle.wasm_readers_types.specs.WasmReadersValues.declared.indices.UnpackedIndex.{UnpackedIndex}
-use Rattle.wasm_operators.specs.Control.{Block, empty_block, value_block, func_block}
-use Rattle.wasm_validator_resources.specs.WasmSpecRules.Attempts.{last_of}
+use Rattle.wasm_operator_numbers.specs.WasmOperators.Control.{Block, empty_block, value_block, func_block}
+use Rattle.wasm_operator_numbers.specs.WasmOperatorChecks.WasmValidatorResources.WasmSpecRules.Attempts.{last_of}
 use Rattle.wasm_operator_numbers.specs.WasmOperatorSteps.Actions.{label, returned}
-use Rattle.wasm_validator_resources.specs.WasmSpecRules.Signatures.{Signature}
+use Rattle.wasm_operator_numbers.specs.WasmOperatorChecks.WasmValidatorResources.WasmSpecRules.Signatures.{Signature}
 use Rattle.wasm_operator_numbers.specs.WasmOperatorSteps.Meanings.{block_signature, label_by}
-use Rattle.wasm_validator_resources.specs.Answers.{world}
+use Rattle.wasm_operator_numbers.specs.WasmOperatorChecks.WasmValidatorResources.Answers.{world}
 use Rattle.wasm_operator_numbers.specs.WasmOperatorStacks.Seen.{state_of, around}
 use Rattle.wasm_operator_numbers.specs.WasmOperatorStacks.SeenBlocks.{block_in, kind_of, frame_of, frames_seen}
 use Rattle.wasm_operator_numbers.specs.WasmOperatorStacks.declared.stacks.Frame.{Frame}

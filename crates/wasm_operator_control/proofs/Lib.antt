@@ -1,3 +1,4 @@
+pub use Rattle.wasm_operator_numbers.proofs.WasmOperatorChecks as WasmOperatorChecks
 pub mod Locally
 pub mod Globally
 pub mod Labelled

@@ -3,12 +3,12 @@ use Rattle.std.proofs.Common.{◌≡◌, ℕ, Bool, true, false, ◌||◌, List,
 use Rattle.std.specs.Option.{option_map}
 use Rattle.std.specs.Prelude.{Some, None, slice_get}
 use Rattle.wasm_readers_types.specs.WasmSpec.Syntax.{Val}
-use Rattle.wasm_validator_resources.specs.WasmSpecRules.Contexts.{Context}
+use Rattle.wasm_operator_numbers.specs.WasmOperatorChecks.WasmValidatorResources.WasmSpecRules.Contexts.{Context}
 use Rattle.wasm_readers_types.specs.WasmReadersValues.declared.indices.UnpackedIndex.{UnpackedIndex}
-use Rattle.wasm_validator_resources.specs.WasmSpecRules.Attempts.{among}
+use Rattle.wasm_operator_numbers.specs.WasmOperatorChecks.WasmValidatorResources.WasmSpecRules.Attempts.{among}
 use Rattle.wasm_operator_numbers.specs.WasmOperatorSteps.Actions.{Action, local, local_is_set, take, give, take_any, set}
 use Rattle.wasm_operator_numbers.specs.WasmOperatorSteps.Machine.{Operand, Frame, State, pop_any, pop_val, push_operand, set_local, known}
-use Rattle.wasm_validator_resources.specs.Answers.{world}
+use Rattle.wasm_operator_numbers.specs.WasmOperatorChecks.WasmValidatorResources.Answers.{world}
 use Rattle.wasm_operator_numbers.specs.WasmOperatorStacks.Locals.{local_of}
 use Rattle.wasm_operator_numbers.specs.WasmOperatorStacks.Seen.{state_of, below}
 use Rattle.wasm_operator_numbers.specs.WasmOperatorStacks.declared.local_word.LocalWord.{LocalWord}

@@ -5,7 +5,7 @@ use Rattle.std.proofs.lemmas.List.{length-drop}
 use Rattle.wasm_readers_types.specs.WasmSpec.Syntax.{Val}
 use Rattle.wasm_readers_types.specs.WasmSpec.MatchingTests.{World}
 use Rattle.wasm_readers_types.specs.WasmReadersValues.declared.indices.UnpackedIndex.{UnpackedIndex}
-use Rattle.wasm_operators.specs.Control.{Block}
+use Rattle.wasm_operator_numbers.specs.WasmOperators.Control.{Block}
 use Rattle.wasm_operator_numbers.specs.WasmOperatorSteps.Machine.{Kind, State, pop_vals, push_vals}
 use Rattle.wasm_operator_numbers.specs.WasmOperatorStacks.Seen.{below, with_frame}
 use Rattle.wasm_operator_control.specs.Entered.{entered}

@@ -7,7 +7,7 @@ use Rattle.wasm_readers_types.specs.WasmSpec.MatchingTests.{World, matches_val}
 use Rattle.wasm_readers_types.specs.WasmReadersValues.SeenValues.{val_of}
 use Rattle.wasm_readers_types.specs.WasmReadersValues.declared.indices.UnpackedIndex.{UnpackedIndex}
 use Rattle.wasm_readers_types.specs.WasmReadersValues.declared.values.ValType.{ValType}
-use Rattle.wasm_validator_resources.specs.WasmSpecRules.Attempts.{passes}
+use Rattle.wasm_operator_numbers.specs.WasmOperatorChecks.WasmValidatorResources.WasmSpecRules.Attempts.{passes}
 use Rattle.wasm_operator_numbers.specs.WasmOperatorSteps.Matching.{matches_vals}
 
 -- none, and one

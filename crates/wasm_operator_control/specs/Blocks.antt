@@ -2,14 +2,14 @@
 use Rattle.std.specs.Prelude.{ℕ, Bool, true, [], ◌∷◌, Option, Some}
 use Rattle.std.specs.Option.{option_map}
 use Rattle.wasm_readers_types.specs.WasmSpec.MatchingTests.{World}
-use Rattle.wasm_validator_resources.specs.WasmSpecRules.Contexts.{Context}
+use Rattle.wasm_operator_numbers.specs.WasmOperatorChecks.WasmValidatorResources.WasmSpecRules.Contexts.{Context}
 use Rattle.wasm_readers_types.specs.WasmReadersValues.declared.indices.UnpackedIndex.{UnpackedIndex}
-use Rattle.wasm_operators.specs.Control.{Block, empty_block, value_block, func_block}
-use Rattle.wasm_validator_resources.specs.WasmSpecRules.Attempts.{◌>>=◌}
+use Rattle.wasm_operator_numbers.specs.WasmOperators.Control.{Block, empty_block, value_block, func_block}
+use Rattle.wasm_operator_numbers.specs.WasmOperatorChecks.WasmValidatorResources.WasmSpecRules.Attempts.{◌>>=◌}
 use Rattle.wasm_operator_numbers.specs.WasmOperatorSteps.Machine.{Kind, block_kind, loop_kind, if_kind, else_kind, try_table_kind}
 use Rattle.wasm_operator_numbers.specs.WasmOperatorSteps.Matching.{matches_vals}
-use Rattle.wasm_validator_resources.specs.WasmSpecRules.Signatures.{Signature, signature_of}
-use Rattle.wasm_validator_resources.specs.Answers.{sub_in}
+use Rattle.wasm_operator_numbers.specs.WasmOperatorChecks.WasmValidatorResources.WasmSpecRules.Signatures.{Signature, signature_of}
+use Rattle.wasm_operator_numbers.specs.WasmOperatorChecks.WasmValidatorResources.Answers.{sub_in}
 
 -- the function type of a type index
 abbrev pub function_in : Context UnpackedIndex → ℕ → Option (Signature UnpackedIndex)

@@ -1,11 +1,11 @@
 -- What a body may call.
 use Rattle.std.specs.Prelude.{ℕ, Bool, Option, slice_get}
 use Rattle.wasm_readers_types.specs.WasmSpec.ValueTypes.{implies}
-use Rattle.wasm_validator_resources.specs.WasmSpecRules.Contexts.{Context}
+use Rattle.wasm_operator_numbers.specs.WasmOperatorChecks.WasmValidatorResources.WasmSpecRules.Contexts.{Context}
 use Rattle.wasm_readers_types.specs.WasmReadersValues.declared.indices.UnpackedIndex.{UnpackedIndex}
-use Rattle.wasm_validator_resources.specs.WasmSpecRules.Attempts.{◌>>=◌, guard}
-use Rattle.wasm_validator_resources.specs.WasmSpecRules.Signatures.{Signature, signature_of}
-use Rattle.wasm_validator_resources.specs.Answers.{sub_in}
+use Rattle.wasm_operator_numbers.specs.WasmOperatorChecks.WasmValidatorResources.WasmSpecRules.Attempts.{◌>>=◌, guard}
+use Rattle.wasm_operator_numbers.specs.WasmOperatorChecks.WasmValidatorResources.WasmSpecRules.Signatures.{Signature, signature_of}
+use Rattle.wasm_operator_numbers.specs.WasmOperatorChecks.WasmValidatorResources.Answers.{sub_in}
 
 -- the function type of a type index, and that of a function, from a shared function or from another
 unfoldable pub type_in : Context UnpackedIndex → Bool → ℕ → Option (Signature UnpackedIndex)

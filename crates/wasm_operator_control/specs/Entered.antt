@@ -3,8 +3,8 @@ use Rattle.std.specs.Prelude.{List, Option, Some}
 use Rattle.wasm_readers_types.specs.WasmSpec.Syntax.{Val}
 use Rattle.wasm_readers_types.specs.WasmSpec.MatchingTests.{World}
 use Rattle.wasm_readers_types.specs.WasmReadersValues.declared.indices.UnpackedIndex.{UnpackedIndex}
-use Rattle.wasm_operators.specs.Control.{Block}
-use Rattle.wasm_validator_resources.specs.WasmSpecRules.Attempts.{◌>>=◌}
+use Rattle.wasm_operator_numbers.specs.WasmOperators.Control.{Block}
+use Rattle.wasm_operator_numbers.specs.WasmOperatorChecks.WasmValidatorResources.WasmSpecRules.Attempts.{◌>>=◌}
 use Rattle.wasm_operator_numbers.specs.WasmOperatorSteps.Machine.{Kind, State, pop_vals, push_frame}
 
 unfoldable pub entered : World UnpackedIndex → Kind → Block UnpackedIndex → List (Val UnpackedIndex) → State UnpackedIndex → Option (State UnpackedIndex)

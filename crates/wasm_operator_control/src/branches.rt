@@ -1,7 +1,7 @@
 //! Branches.
 
 ghost use Rattle.std.specs.Prelude.{◌≡◌};
-ghost use Rattle.wasm_operators.specs.Control.{br, br_if, return_, unreachable, nop};
+ghost use Rattle.wasm_operator_numbers.specs.WasmOperators.Control.{br, br_if, return_, unreachable, nop};
 ghost use Rattle.wasm_operator_numbers.specs.WasmOperatorSteps.Shapes.{control_shape};
 ghost use Rattle.wasm_operator_numbers.specs.WasmOperatorStacks.Seen.{Kept};
 ghost use Rattle.wasm_operator_numbers.specs.WasmOperatorChecks.Steps.{Performs};
@@ -13,8 +13,8 @@ use wasm_operator_numbers::operator_checks::{
     OperatorError, OperatorFault, OperatorRule, Takes, ValTypes, halt, plain, plain_with,
 };
 use wasm_operator_numbers::operator_stacks::{Stacks, TypeWord};
-use wasm_operators::operators_plain::NumberType;
-use wasm_validator_resources::WasmModuleResources;
+use wasm_operator_numbers::operators_plain::NumberType;
+use wasm_operator_numbers::validator_resources::WasmModuleResources;
 
 /// `nop`.
 #[tactic(auto, using(crate::proofs::Cited::acts, crate::proofs::Cited::types))]

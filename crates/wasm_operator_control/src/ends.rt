@@ -2,9 +2,9 @@
 
 ghost use Rattle.std.specs.Prelude.{◌≡◌, Some};
 ghost use Rattle.wasm_operator_numbers.specs.WasmOperatorSteps.Matching.{matches_vals};
-ghost use Rattle.wasm_validator_resources.specs.WasmSpecRules.Signatures.{Signature};
+ghost use Rattle.wasm_operator_numbers.specs.WasmOperatorChecks.WasmValidatorResources.WasmSpecRules.Signatures.{Signature};
 ghost use Rattle.wasm_operator_numbers.specs.WasmOperatorSteps.Shapes.{closing};
-ghost use Rattle.wasm_validator_resources.specs.Answers.{world};
+ghost use Rattle.wasm_operator_numbers.specs.WasmOperatorChecks.WasmValidatorResources.Answers.{world};
 ghost use Rattle.wasm_readers_types.specs.WasmReadersValues.declared.indices.UnpackedIndex.{UnpackedIndex};
 ghost use Rattle.wasm_operator_numbers.specs.WasmOperatorStacks.Seen.{Kept};
 ghost use Rattle.wasm_operator_numbers.specs.WasmOperatorStacks.SeenBlocks.{block_in, kind_of};
@@ -17,8 +17,8 @@ use wasm_operator_numbers::operator_checks::{
     OperatorError, OperatorFault, OperatorRule, check_types, exchange_types, match_all,
 };
 use wasm_operator_numbers::operator_stacks::{Block, BlockWord, Stacks};
-use wasm_operators::FrameKind;
-use wasm_validator_resources::WasmModuleResources;
+use wasm_operator_numbers::operators::FrameKind;
+use wasm_operator_numbers::validator_resources::WasmModuleResources;
 
 /// Whether an `if` of this type may end without `else`.
 #[tactic(auto, using(crate::proofs::Ended::ends))]

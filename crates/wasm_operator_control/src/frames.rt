@@ -1,7 +1,7 @@
 //! Frames that are opened.
 
 ghost use Rattle.std.specs.Prelude.{◌≤◌, length};
-ghost use Rattle.wasm_validator_resources.specs.Answers.{world};
+ghost use Rattle.wasm_operator_numbers.specs.WasmOperatorChecks.WasmValidatorResources.Answers.{world};
 ghost use Rattle.wasm_operator_numbers.specs.WasmOperatorStacks.Seen.{state_of, below, Kept};
 ghost use Rattle.wasm_operator_numbers.specs.WasmOperatorStacks.SeenBlocks.{block_in, kind_of};
 ghost use Rattle.wasm_operator_numbers.specs.WasmOperatorChecks.Steps.{Turns};
@@ -13,8 +13,8 @@ use wasm_operator_numbers::operator_checks::{
     OperatorError, ValTypes, check_types, exchange_types,
 };
 use wasm_operator_numbers::operator_stacks::{BlockWord, Stacks};
-use wasm_operators::FrameKind;
-use wasm_validator_resources::WasmModuleResources;
+use wasm_operator_numbers::operators::FrameKind;
+use wasm_operator_numbers::validator_resources::WasmModuleResources;
 
 /// Opens a frame of this kind and type, by identities, over what it takes, below so many operands
 /// that are taken already. Where that can't be, all stays.

@@ -1,7 +1,7 @@
 //! Operators on globals.
 
 ghost use Rattle.std.specs.Prelude.{◌≡◌, slice_get};
-ghost use Rattle.wasm_operators.specs.WasmOperatorsPlain.declared.variables.VariableOperator.TheVariants.{GlobalGet, GlobalSet};
+ghost use Rattle.wasm_operator_numbers.specs.WasmOperators.WasmOperatorsPlain.declared.variables.VariableOperator.TheVariants.{GlobalGet, GlobalSet};
 ghost use Rattle.wasm_operator_numbers.specs.WasmOperatorSteps.Shapes.{variable_shape};
 ghost use Rattle.wasm_operator_numbers.specs.WasmOperatorStacks.Seen.{Kept};
 ghost use Rattle.wasm_operator_numbers.specs.WasmOperatorChecks.Steps.{Performs};
@@ -11,8 +11,8 @@ use wasm_operator_numbers::operator_checks::{
     OperatorError, OperatorFault, OperatorRule, Takes, ValTypes, plain, reaches,
 };
 use wasm_operator_numbers::operator_stacks::{Stacks, TypeWord};
+use wasm_operator_numbers::validator_resources::WasmModuleResources;
 use wasm_readers_types::GlobalType;
-use wasm_validator_resources::WasmModuleResources;
 
 /// `global.get`.
 #[tactic(auto, using(crate::proofs::Cited::acts, crate::proofs::Globally::globals))]

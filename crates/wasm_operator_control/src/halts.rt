@@ -2,7 +2,7 @@
 
 ghost use Rattle.std.specs.Prelude.{◌++◌, ◌∷◌, []};
 ghost use Rattle.wasm_operator_numbers.specs.WasmOperatorStacks.SeenTypeWords.{val_in};
-ghost use Rattle.wasm_validator_resources.specs.Answers.{world};
+ghost use Rattle.wasm_operator_numbers.specs.WasmOperatorChecks.WasmValidatorResources.Answers.{world};
 ghost use Rattle.wasm_operator_numbers.specs.WasmOperatorStacks.Seen.{Kept};
 ghost use Rattle.wasm_operator_numbers.specs.WasmOperatorChecks.Steps.{Turns};
 ghost use Rattle.wasm_operator_numbers.specs.WasmOperatorChecks.SeenTypes.{types_seen, halted};
@@ -12,7 +12,7 @@ use wasm_operator_numbers::operator_checks::{
     OperatorError, OperatorFault, OperatorRule, ValTypes, check_type, check_types,
 };
 use wasm_operator_numbers::operator_stacks::{Stacks, TypeWord};
-use wasm_validator_resources::WasmModuleResources;
+use wasm_operator_numbers::validator_resources::WasmModuleResources;
 
 /// Takes operands of some types with one of another type on top, and leaves the rest of the
 /// innermost frame's code unreached. Where that can't be, all stays.

@@ -3,9 +3,9 @@
 ghost use Rattle.std.specs.Prelude.{◌≡◌, slice_get};
 ghost use Rattle.std.specs.Option.{option_map};
 ghost use Rattle.wasm_operator_numbers.specs.WasmOperatorSteps.Actions.{label, returned};
-ghost use Rattle.wasm_validator_resources.specs.WasmSpecRules.Attempts.{last_of};
+ghost use Rattle.wasm_operator_numbers.specs.WasmOperatorChecks.WasmValidatorResources.WasmSpecRules.Attempts.{last_of};
 ghost use Rattle.wasm_operator_numbers.specs.WasmOperatorSteps.Meanings.{label_by};
-ghost use Rattle.wasm_validator_resources.specs.Answers.{signature_seen};
+ghost use Rattle.wasm_operator_numbers.specs.WasmOperatorChecks.WasmValidatorResources.Answers.{signature_seen};
 ghost use Rattle.wasm_operator_numbers.specs.WasmOperatorStacks.Seen.{state_of};
 ghost use Rattle.wasm_operator_numbers.specs.WasmOperatorStacks.SeenBlocks.{block_in, kind_of, frame_of};
 ghost use Rattle.wasm_operator_numbers.specs.WasmOperatorChecks.Steps.{typed};
@@ -15,9 +15,9 @@ ghost use Rattle.wasm_operator_control.specs.Blocks.{function_in, signature_in};
 use std::alloc::Allocator;
 use wasm_operator_numbers::operator_checks::ValTypes;
 use wasm_operator_numbers::operator_stacks::{Block, BlockWord, Frame, Stacks};
-use wasm_operators::FrameKind;
+use wasm_operator_numbers::operators::FrameKind;
+use wasm_operator_numbers::validator_resources::WasmModuleResources;
 use wasm_readers_types::{CompositeInnerType, FuncType};
-use wasm_validator_resources::WasmModuleResources;
 
 /// The function type of this type index, if it is one.
 pub fn function_type<'a, T: WasmModuleResources>(

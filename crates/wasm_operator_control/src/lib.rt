@@ -33,3 +33,23 @@ pub mod operator_numbers {
         access_memory, allows_number, bulk_memory, compute, constant, step_table,
     };
 }
+
+/// Passed on from `wasm_operator_stacks`.
+pub mod operator_stacks {
+    pub use wasm_operator_numbers::operator_stacks::{
+        Block, BlockWord, LocalWord, Locals, MAX_LOCALS, Operand, Stacks, TypeWord, Word,
+    };
+}
+
+/// Passed on from `wasm_validator_resources`.
+pub mod validator_resources {
+    pub use wasm_operator_numbers::validator_resources::{WasmModuleResources, check_ref_type};
+}
+
+/// Passed on from `wasm_operator_checks`.
+pub mod operator_checks {
+    pub use wasm_operator_numbers::operator_checks::{
+        OperatorError, OperatorFault, OperatorRule, Takes, ValTypes, address, check_type,
+        check_types, exchange_types, halt, has, look, match_all, matches, plain,
+    };
+}

@@ -2,8 +2,8 @@
 
 ghost use Rattle.std.specs.Prelude.{◌≡◌, ◌||◌, OnOk, OnErr, IsSome, Some, slice_get};
 ghost use Rattle.std.specs.Option.{option_map};
-ghost use Rattle.wasm_operators.specs.WasmOperatorsPlain.declared.variables.VariableOperator.TheVariants.{LocalGet, LocalSet, LocalTee};
-ghost use Rattle.wasm_validator_resources.specs.WasmSpecRules.Attempts.{among};
+ghost use Rattle.wasm_operator_numbers.specs.WasmOperators.WasmOperatorsPlain.declared.variables.VariableOperator.TheVariants.{LocalGet, LocalSet, LocalTee};
+ghost use Rattle.wasm_operator_numbers.specs.WasmOperatorChecks.WasmValidatorResources.WasmSpecRules.Attempts.{among};
 ghost use Rattle.wasm_operator_numbers.specs.WasmOperatorSteps.Machine.{set_local};
 ghost use Rattle.wasm_operator_numbers.specs.WasmOperatorSteps.Shapes.{variable_shape, dropping};
 ghost use Rattle.wasm_operator_numbers.specs.WasmOperatorStacks.Locals.{local_of};
@@ -15,7 +15,7 @@ use wasm_operator_numbers::operator_checks::{
     OperatorError, OperatorFault, OperatorRule, Takes, ValTypes, check_type, look, plain,
 };
 use wasm_operator_numbers::operator_stacks::{LocalWord, Locals, Stacks, Word};
-use wasm_validator_resources::WasmModuleResources;
+use wasm_operator_numbers::validator_resources::WasmModuleResources;
 
 /// Whether a local is set by now.
 #[inline(always)]

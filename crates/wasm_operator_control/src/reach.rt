@@ -3,16 +3,16 @@
 ghost use Rattle.std.specs.Prelude.{◌≡◌, Some, None, IfOk, OnErr};
 ghost use Rattle.std.specs.Option.{option_map};
 ghost use Rattle.wasm_operator_numbers.specs.WasmOperatorStacks.SeenTypeWords.{val_in};
-ghost use Rattle.wasm_validator_resources.specs.WasmSpecRules.Signatures.{resolve_val};
+ghost use Rattle.wasm_operator_numbers.specs.WasmOperatorChecks.WasmValidatorResources.WasmSpecRules.Signatures.{resolve_val};
 ghost use Rattle.wasm_operator_numbers.specs.WasmOperatorSteps.Shapes.{nullable_to};
-ghost use Rattle.wasm_validator_resources.specs.Answers.{signature_seen};
+ghost use Rattle.wasm_operator_numbers.specs.WasmOperatorChecks.WasmValidatorResources.Answers.{signature_seen};
 ghost use Rattle.wasm_operator_control.specs.Callees.{type_in, function_in};
 
 use std::alloc::Allocator;
 use wasm_operator_numbers::operator_checks::{OperatorFault, OperatorRule, reaches};
 use wasm_operator_numbers::operator_stacks::{Stacks, TypeWord};
+use wasm_operator_numbers::validator_resources::WasmModuleResources;
 use wasm_readers_types::{CompositeInnerType, FuncType, HeapType, RefType, UnpackedIndex};
-use wasm_validator_resources::WasmModuleResources;
 
 /// The function type of this type index.
 ///

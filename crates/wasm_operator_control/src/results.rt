@@ -3,9 +3,9 @@
 ghost use Rattle.std.specs.Prelude.{◌≡◌, map};
 ghost use Rattle.wasm_readers_types.specs.WasmReadersValues.SeenValues.{val_of};
 ghost use Rattle.wasm_operator_numbers.specs.WasmOperatorSteps.Actions.{returned};
-ghost use Rattle.wasm_validator_resources.specs.WasmSpecRules.Attempts.{passes};
+ghost use Rattle.wasm_operator_numbers.specs.WasmOperatorChecks.WasmValidatorResources.WasmSpecRules.Attempts.{passes};
 ghost use Rattle.wasm_operator_numbers.specs.WasmOperatorSteps.Matching.{matches_vals};
-ghost use Rattle.wasm_validator_resources.specs.Answers.{world};
+ghost use Rattle.wasm_operator_numbers.specs.WasmOperatorChecks.WasmValidatorResources.Answers.{world};
 ghost use Rattle.wasm_operator_numbers.specs.WasmOperatorChecks.Steps.{typed};
 ghost use Rattle.wasm_operator_numbers.specs.WasmOperatorChecks.SeenTypes.{types_seen};
 
@@ -13,8 +13,8 @@ use crate::returned_types;
 use std::alloc::Allocator;
 use wasm_operator_numbers::operator_checks::{ValTypes, match_all};
 use wasm_operator_numbers::operator_stacks::{Stacks, TypeWord};
+use wasm_operator_numbers::validator_resources::WasmModuleResources;
 use wasm_readers_types::ValType;
-use wasm_validator_resources::WasmModuleResources;
 
 /// A list of types. One or none of them is taken out of its list, so that no loop goes over it.
 #[inline(always)]

@@ -9,8 +9,8 @@ use crate::tails::{return_call, return_call_indirect, return_call_ref};
 use std::alloc::Allocator;
 use wasm_operator_numbers::operator_checks::OperatorError;
 use wasm_operator_numbers::operator_stacks::Stacks;
-use wasm_operators::operators_plain::CallOperator;
-use wasm_validator_resources::WasmModuleResources;
+use wasm_operator_numbers::operators_plain::CallOperator;
+use wasm_operator_numbers::validator_resources::WasmModuleResources;
 
 /// A call or a tail call (Core Specification 3.0, Validation, Control Instructions).
 ///

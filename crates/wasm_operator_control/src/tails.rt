@@ -1,6 +1,6 @@
 //! Tail calls: the callee gives what the body gives, and takes its place.
 
-ghost use Rattle.wasm_operators.specs.WasmOperatorsPlain.declared.calls.CallOperator.TheVariants.{ReturnCall, ReturnCallIndirect, ReturnCallRef};
+ghost use Rattle.wasm_operator_numbers.specs.WasmOperators.WasmOperatorsPlain.declared.calls.CallOperator.TheVariants.{ReturnCall, ReturnCallIndirect, ReturnCallRef};
 ghost use Rattle.wasm_operator_numbers.specs.WasmOperatorSteps.Shapes.{call_shape};
 ghost use Rattle.wasm_operator_numbers.specs.WasmOperatorStacks.Seen.{Kept};
 ghost use Rattle.wasm_operator_numbers.specs.WasmOperatorChecks.Steps.{Performs};
@@ -13,10 +13,10 @@ use wasm_operator_numbers::operator_checks::{
     OperatorError, OperatorFault, OperatorRule, ValTypes, address, halt, has,
 };
 use wasm_operator_numbers::operator_stacks::Stacks;
+use wasm_operator_numbers::readers_errors::WasmFeatures;
 use wasm_operator_numbers::table_reached;
+use wasm_operator_numbers::validator_resources::WasmModuleResources;
 use wasm_readers_types::ValType;
-use wasm_validator_resources::WasmModuleResources;
-use wasm_validator_resources::readers_errors::WasmFeatures;
 
 /// `return_call`: takes a function's parameters, and what follows isn't reached (Core Specification
 /// 3.0, Validation, Control Instructions).

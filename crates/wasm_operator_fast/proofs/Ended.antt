@@ -3,17 +3,17 @@ use Rattle.std.proofs.Common.{◌≡◌, ◌-◌, true, false, [], ◌∷◌, le
 use Rattle.std.specs.Prelude.{Some}
 use Rattle.wasm_spec.specs.MatchingTests.{World}
 use Rattle.wasm_spec.specs.Syntax.{Val}
-use Rattle.wasm_operator_checks.specs.WasmSpecRules.Contexts.{Context}
+use Rattle.wasm_operator_control.specs.WasmOperatorChecks.WasmSpecRules.Contexts.{Context}
 use Rattle.wasm_readers_types.specs.WasmReadersValues.declared.indices.UnpackedIndex.{UnpackedIndex}
 use Rattle.wasm_operators.specs.Control.{empty_block, value_block}
-use Rattle.wasm_operator_checks.specs.WasmOperatorSteps.Actions.{leave}
-use Rattle.wasm_operator_checks.specs.WasmOperatorSteps.Machine.{Kind, block_kind, loop_kind, if_kind, else_kind, try_table_kind, is_if, State, known, pop_val, push_operand}
-use Rattle.wasm_operator_checks.specs.WasmSpecRules.Signatures.{Signature}
-use Rattle.wasm_operator_checks.specs.WasmValidatorResources.Answers.{world}
-use Rattle.wasm_operator_checks.specs.WasmOperatorStacks.Seen.{state_of, below}
-use Rattle.wasm_operator_checks.specs.WasmOperatorStacks.SeenBlocks.{block_in, kind_of}
-use Rattle.wasm_operator_checks.specs.WasmOperatorStacks.declared.stacks.Stacks.{Stacks}
-use Rattle.wasm_operator_checks.specs.Steps.{acted}
+use Rattle.wasm_operator_control.specs.WasmOperatorChecks.WasmOperatorSteps.Actions.{leave}
+use Rattle.wasm_operator_control.specs.WasmOperatorChecks.WasmOperatorSteps.Machine.{Kind, block_kind, loop_kind, if_kind, else_kind, try_table_kind, is_if, State, known, pop_val, push_operand}
+use Rattle.wasm_operator_control.specs.WasmOperatorChecks.WasmSpecRules.Signatures.{Signature}
+use Rattle.wasm_operator_control.specs.WasmOperatorChecks.WasmValidatorResources.Answers.{world}
+use Rattle.wasm_operator_control.specs.WasmOperatorChecks.WasmOperatorStacks.Seen.{state_of, below}
+use Rattle.wasm_operator_control.specs.WasmOperatorChecks.WasmOperatorStacks.SeenBlocks.{block_in, kind_of}
+use Rattle.wasm_operator_control.specs.WasmOperatorChecks.WasmOperatorStacks.declared.stacks.Stacks.{Stacks}
+use Rattle.wasm_operator_control.specs.WasmOperatorChecks.Steps.{acted}
 use Rattle.wasm_operator_control.specs.Blocks.{signature_in, ends_in}
 use Rattle.wasm_operator_control.proofs.Ended.{end_is}
 

@@ -3,17 +3,17 @@ use Rattle.std.proofs.Common.{◌≡◌, ℕ, Bool, true, List, [], ◌∷◌, r
 use Rattle.std.specs.Prelude.{Some, Option, Result, Ok, Err}
 use Rattle.wasm_spec.specs.Syntax.{Val}
 use Rattle.wasm_spec.specs.ValueTypes.{allows_val}
-use Rattle.wasm_operator_checks.specs.WasmSpecRules.Contexts.{Context}
-use Rattle.wasm_operator_checks.specs.WasmSpecRules.FeatureFlags.{features_of}
+use Rattle.wasm_operator_control.specs.WasmOperatorChecks.WasmSpecRules.Contexts.{Context}
+use Rattle.wasm_operator_control.specs.WasmOperatorChecks.WasmSpecRules.FeatureFlags.{features_of}
 use Rattle.wasm_readers_types.specs.WasmReadersValues.declared.indices.UnpackedIndex.{UnpackedIndex}
-use Rattle.wasm_operator_checks.specs.WasmOperatorSteps.Actions.{OperandTypes, Check, allows, Action, need, take, give}
-use Rattle.wasm_operator_checks.specs.WasmOperatorSteps.Machine.{State}
-use Rattle.wasm_operator_checks.specs.WasmValidatorResources.Answers.{world}
-use Rattle.wasm_operator_checks.specs.WasmOperatorStacks.Seen.{state_of}
-use Rattle.wasm_operator_checks.specs.WasmOperatorStacks.declared.stacks.Stacks.{Stacks}
-use Rattle.wasm_operator_checks.specs.Steps.{Took, acted, typed, held}
-use Rattle.wasm_operator_checks.specs.SeenTypes.{exchanged}
-use Rattle.wasm_operator_checks.proofs.Acting as acting
+use Rattle.wasm_operator_control.specs.WasmOperatorChecks.WasmOperatorSteps.Actions.{OperandTypes, Check, allows, Action, need, take, give}
+use Rattle.wasm_operator_control.specs.WasmOperatorChecks.WasmOperatorSteps.Machine.{State}
+use Rattle.wasm_operator_control.specs.WasmOperatorChecks.WasmValidatorResources.Answers.{world}
+use Rattle.wasm_operator_control.specs.WasmOperatorChecks.WasmOperatorStacks.Seen.{state_of}
+use Rattle.wasm_operator_control.specs.WasmOperatorChecks.WasmOperatorStacks.declared.stacks.Stacks.{Stacks}
+use Rattle.wasm_operator_control.specs.WasmOperatorChecks.Steps.{Took, acted, typed, held}
+use Rattle.wasm_operator_control.specs.WasmOperatorChecks.SeenTypes.{exchanged}
+use Rattle.wasm_operator_control.proofs.WasmOperatorChecks.Acting as acting
 use Rattle.wasm_operator_fast.specs.Fast.{Fast}
 use Rattle.wasm_operator_fast.specs.declared.not_taken.NotTaken.{NotTaken}
 

@@ -4,7 +4,7 @@ use Rattle.std.specs.Option.{option_map}
 use Rattle.std.specs.Prelude.{Some, None, Option, Result, Ok, Err, nat_lt}
 use Rattle.std.proofs.lemmas.Bool.Decides.{nat_tests}
 use Rattle.wasm_spec.specs.Values.{u32_at, signed_at}
-use Rattle.wasm_operator_checks.specs.WasmSpecRules.Contexts.{Context}
+use Rattle.wasm_operator_control.specs.WasmOperatorChecks.WasmSpecRules.Contexts.{Context}
 use Rattle.wasm_operators_plain.specs.WasmReaders.Written.{written}
 use Rattle.wasm_readers_types.specs.WasmReadersValues.declared.indices.UnpackedIndex.{UnpackedIndex}
 use Rattle.wasm_operators_plain.specs.Calls.{call_from}
@@ -26,15 +26,15 @@ use Rattle.wasm_operators.specs.Control.{Block, block_at, parametric_from, drop_
 use Rattle.wasm_operators.specs.References.{reference_from}
 use Rattle.wasm_operators.specs.Instructions.{Instruction, instruction_at, plain_from, variable, constant, numeric, parametric, control, call, access}
 use Rattle.wasm_operators.specs.Maps.{map_block, map_instruction}
-use Rattle.wasm_operator_checks.specs.WasmOperatorSteps.Actions.{allows}
-use Rattle.wasm_operator_checks.specs.WasmOperatorSteps.Machine.{State}
-use Rattle.wasm_operator_checks.specs.WasmOperatorSteps.Shapes.{Shape, shape_of, call_shape, variable_shape, computing, dropping, choosing, access_shape, control_shape, plain, one, nothing, closing, number_type}
-use Rattle.wasm_operator_checks.specs.WasmSpecRules.Attempts.{◌>>=◌}
-use Rattle.wasm_operator_checks.specs.WasmOperatorSteps.Steps.{is_open, step_in, actions_of}
-use Rattle.wasm_operator_checks.specs.WasmValidatorResources.Answers.{world, written_index}
-use Rattle.wasm_operator_checks.specs.WasmOperatorStacks.Seen.{state_of, around}
-use Rattle.wasm_operator_checks.specs.WasmOperatorStacks.declared.stacks.Stacks.{Stacks}
-use Rattle.wasm_operator_checks.specs.Steps.{acted}
+use Rattle.wasm_operator_control.specs.WasmOperatorChecks.WasmOperatorSteps.Actions.{allows}
+use Rattle.wasm_operator_control.specs.WasmOperatorChecks.WasmOperatorSteps.Machine.{State}
+use Rattle.wasm_operator_control.specs.WasmOperatorChecks.WasmOperatorSteps.Shapes.{Shape, shape_of, call_shape, variable_shape, computing, dropping, choosing, access_shape, control_shape, plain, one, nothing, closing, number_type}
+use Rattle.wasm_operator_control.specs.WasmOperatorChecks.WasmSpecRules.Attempts.{◌>>=◌}
+use Rattle.wasm_operator_control.specs.WasmOperatorChecks.WasmOperatorSteps.Steps.{is_open, step_in, actions_of}
+use Rattle.wasm_operator_control.specs.WasmOperatorChecks.WasmValidatorResources.Answers.{world, written_index}
+use Rattle.wasm_operator_control.specs.WasmOperatorChecks.WasmOperatorStacks.Seen.{state_of, around}
+use Rattle.wasm_operator_control.specs.WasmOperatorChecks.WasmOperatorStacks.declared.stacks.Stacks.{Stacks}
+use Rattle.wasm_operator_control.specs.WasmOperatorChecks.Steps.{acted}
 use Rattle.wasm_operator_fast.specs.Blocks.{block_giving, block_named}
 use Rattle.wasm_operator_fast.specs.Fast.{Fast}
 use Rattle.wasm_operator_fast.specs.Fused.{Fused, performed, performed_from, step_at}

@@ -7,3 +7,4 @@ mod Entered
 mod BlockTypes
 mod Passing
 mod Selecting
+pub mod Cited

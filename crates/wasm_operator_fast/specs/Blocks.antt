@@ -5,8 +5,8 @@ use Rattle.wasm_spec.specs.ValueTypes.{allows_val}
 use Rattle.wasm_readers_types.specs.WasmReadersValues.declared.indices.UnpackedIndex.{UnpackedIndex}
 use Rattle.wasm_operators_plain.specs.declared.signatures.NumberType.{NumberType}
 use Rattle.wasm_operators.specs.Control.{Block, empty_block, value_block}
-use Rattle.wasm_operator_checks.specs.WasmOperatorSteps.Shapes.{number_type}
-use Rattle.wasm_operator_checks.specs.WasmOperatorStacks.SeenTypeWords.{number_val}
+use Rattle.wasm_operator_control.specs.WasmOperatorChecks.WasmOperatorSteps.Shapes.{number_type}
+use Rattle.wasm_operator_control.specs.WasmOperatorChecks.WasmOperatorStacks.SeenTypeWords.{number_val}
 
 -- as it is written
 abbrev pub block_giving : Option NumberType → Block ℕ

@@ -1,13 +1,13 @@
 -- The words for fast steps.
 use Rattle.std.specs.Prelude.{◌≡◌, ◌≤◌, ℕ, length, Option, Some, Result, Ok, Err, ⊤}
-use Rattle.wasm_operator_checks.specs.WasmSpecRules.Contexts.{Context}
+use Rattle.wasm_operator_control.specs.WasmOperatorChecks.WasmSpecRules.Contexts.{Context}
 use Rattle.wasm_readers_types.specs.WasmReadersValues.declared.indices.UnpackedIndex.{UnpackedIndex}
-use Rattle.wasm_operator_checks.specs.WasmOperatorSteps.Machine.{State}
-use Rattle.wasm_operator_checks.specs.WasmOperatorSteps.Shapes.{Shape}
-use Rattle.wasm_operator_checks.specs.WasmOperatorSteps.Steps.{actions_of}
-use Rattle.wasm_operator_checks.specs.WasmOperatorStacks.Seen.{state_of, below}
-use Rattle.wasm_operator_checks.specs.WasmOperatorStacks.declared.stacks.Stacks.{Stacks}
-use Rattle.wasm_operator_checks.specs.Steps.{acted}
+use Rattle.wasm_operator_control.specs.WasmOperatorChecks.WasmOperatorSteps.Machine.{State}
+use Rattle.wasm_operator_control.specs.WasmOperatorChecks.WasmOperatorSteps.Shapes.{Shape}
+use Rattle.wasm_operator_control.specs.WasmOperatorChecks.WasmOperatorSteps.Steps.{actions_of}
+use Rattle.wasm_operator_control.specs.WasmOperatorChecks.WasmOperatorStacks.Seen.{state_of, below}
+use Rattle.wasm_operator_control.specs.WasmOperatorChecks.WasmOperatorStacks.declared.stacks.Stacks.{Stacks}
+use Rattle.wasm_operator_control.specs.WasmOperatorChecks.Steps.{acted}
 use Rattle.wasm_operator_fast.specs.declared.not_taken.NotTaken.{NotTaken}
 
 -- operands that were looked for, and how many they are

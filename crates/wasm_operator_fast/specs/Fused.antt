@@ -1,22 +1,22 @@
 -- Reading an instruction and taking its step.
 use Rattle.std.specs.Prelude.{◌≡◌, ℕ, List, Option, Some, None, Result, Ok, Err}
 use Rattle.wasm_spec.specs.MatchingTests.{World}
-use Rattle.wasm_operator_checks.specs.WasmSpecRules.Contexts.{Context}
+use Rattle.wasm_operator_control.specs.WasmOperatorChecks.WasmSpecRules.Contexts.{Context}
 use Rattle.wasm_readers_bytes.specs.Reader.{rest}
 use Rattle.wasm_readers_bytes.specs.declared.binary_reader.BinaryReader.{BinaryReader}
 use Rattle.wasm_operators_plain.specs.WasmReaders.Written.{written}
 use Rattle.wasm_readers_types.specs.WasmReadersValues.declared.indices.UnpackedIndex.{UnpackedIndex}
 use Rattle.wasm_operators.specs.Instructions.{Instruction, instruction_at, plain_from}
 use Rattle.wasm_operators.specs.Maps.{map_instruction}
-use Rattle.wasm_operator_checks.specs.WasmSpecRules.Attempts.{◌>>=◌}
-use Rattle.wasm_operator_checks.specs.WasmOperatorSteps.Bodies.{Surroundings}
-use Rattle.wasm_operator_checks.specs.WasmOperatorSteps.Machine.{State}
-use Rattle.wasm_operator_checks.specs.WasmOperatorSteps.Shapes.{shape_of}
-use Rattle.wasm_operator_checks.specs.WasmOperatorSteps.Steps.{step_in, actions_of}
-use Rattle.wasm_operator_checks.specs.WasmValidatorResources.Answers.{written_index}
-use Rattle.wasm_operator_checks.specs.WasmOperatorStacks.Seen.{state_of}
-use Rattle.wasm_operator_checks.specs.WasmOperatorStacks.declared.stacks.Stacks.{Stacks}
-use Rattle.wasm_operator_checks.specs.Steps.{acted}
+use Rattle.wasm_operator_control.specs.WasmOperatorChecks.WasmSpecRules.Attempts.{◌>>=◌}
+use Rattle.wasm_operator_control.specs.WasmOperatorChecks.WasmOperatorSteps.Bodies.{Surroundings}
+use Rattle.wasm_operator_control.specs.WasmOperatorChecks.WasmOperatorSteps.Machine.{State}
+use Rattle.wasm_operator_control.specs.WasmOperatorChecks.WasmOperatorSteps.Shapes.{shape_of}
+use Rattle.wasm_operator_control.specs.WasmOperatorChecks.WasmOperatorSteps.Steps.{step_in, actions_of}
+use Rattle.wasm_operator_control.specs.WasmOperatorChecks.WasmValidatorResources.Answers.{written_index}
+use Rattle.wasm_operator_control.specs.WasmOperatorChecks.WasmOperatorStacks.Seen.{state_of}
+use Rattle.wasm_operator_control.specs.WasmOperatorChecks.WasmOperatorStacks.declared.stacks.Stacks.{Stacks}
+use Rattle.wasm_operator_control.specs.WasmOperatorChecks.Steps.{acted}
 use Rattle.wasm_operator_fast.specs.declared.not_taken.NotTaken.{NotTaken}
 
 -- the step of an instruction that was read, and the bytes behind it

@@ -2,17 +2,17 @@
 
 ghost use Rattle.std.specs.Prelude.{◌≡◌, ◌&&◌, ◌||◌, ◌^◌, nat_le, nat_lt, true};
 ghost use Rattle.wasm_operators_plain.specs.Memories.{max_align_of};
-ghost use Rattle.wasm_operator_checks.specs.WasmOperatorSteps.Shapes.{access_shape, loading, storing, number_type};
-ghost use Rattle.wasm_operator_checks.specs.WasmOperatorStacks.Seen.{Kept};
+ghost use Rattle.wasm_operator_control.specs.WasmOperatorChecks.WasmOperatorSteps.Shapes.{access_shape, loading, storing, number_type};
+ghost use Rattle.wasm_operator_control.specs.WasmOperatorChecks.WasmOperatorStacks.Seen.{Kept};
 ghost use Rattle.wasm_operator_fast.specs.Fast.{Performs};
 
 use crate::not_taken::NotTaken;
 use crate::plain::plain;
 use std::alloc::Allocator;
-use wasm_operator_checks::operator_stacks::{Stacks, TypeWord};
-use wasm_operator_checks::validator_resources::WasmModuleResources;
-use wasm_operator_checks::{Takes, ValTypes, address};
+use wasm_operator_control::operator_checks::{Takes, ValTypes, address};
 use wasm_operator_control::operator_numbers::allows_number;
+use wasm_operator_control::operator_stacks::{Stacks, TypeWord};
+use wasm_operator_control::validator_resources::WasmModuleResources;
 use wasm_operators_plain::{MemArg, MemoryOperator, NumberType, max_align};
 use wasm_readers_types::MemoryType;
 
@@ -27,7 +27,7 @@ fn fits(memory: MemoryType, op: MemoryOperator, arg: MemArg) -> bool
 
 /// A load of a number of this type.
 #[inline(always)]
-#[tactic(auto, using(crate::proofs::Fasting::acts, wasm_operator_checks::proofs::Typing::memories))]
+#[tactic(auto, using(crate::proofs::Fasting::acts, crate::proofs::Cited::memories))]
 fn load<A: Allocator, T: WasmModuleResources>(
     stacks: &mut Stacks<A>,
     resources: &T,
@@ -60,7 +60,7 @@ fn load<A: Allocator, T: WasmModuleResources>(
 
 /// A store of a number of this type.
 #[inline(always)]
-#[tactic(auto, using(crate::proofs::Fasting::acts, wasm_operator_checks::proofs::Typing::memories))]
+#[tactic(auto, using(crate::proofs::Fasting::acts, crate::proofs::Cited::memories))]
 fn store<A: Allocator, T: WasmModuleResources>(
     stacks: &mut Stacks<A>,
     resources: &T,

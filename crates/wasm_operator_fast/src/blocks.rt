@@ -3,22 +3,22 @@
 ghost use Rattle.std.specs.Prelude.{◌≡◌, ◌≤◌, IfOk, OnOk, true, length};
 ghost use Rattle.std.specs.declared.option.Option.TheVariants.{Some};
 ghost use Rattle.wasm_spec.specs.Syntax.{i32};
-ghost use Rattle.wasm_operator_checks.specs.WasmSpecRules.FeatureFlags.{features_of};
-ghost use Rattle.wasm_operator_checks.specs.WasmValidatorResources.Answers.{world};
-ghost use Rattle.wasm_operator_checks.specs.WasmOperatorSteps.Machine.{pop_val};
+ghost use Rattle.wasm_operator_control.specs.WasmOperatorChecks.WasmSpecRules.FeatureFlags.{features_of};
+ghost use Rattle.wasm_operator_control.specs.WasmOperatorChecks.WasmValidatorResources.Answers.{world};
+ghost use Rattle.wasm_operator_control.specs.WasmOperatorChecks.WasmOperatorSteps.Machine.{pop_val};
 ghost use Rattle.wasm_operators.specs.Control.{block, loop, if_};
-ghost use Rattle.wasm_operator_checks.specs.WasmOperatorSteps.Shapes.{control_shape, opening, block_checks, nothing};
-ghost use Rattle.wasm_operator_checks.specs.WasmOperatorStacks.Seen.{state_of, below, Kept};
-ghost use Rattle.wasm_operator_checks.specs.WasmOperatorStacks.SeenBlocks.{block_in, kind_of};
+ghost use Rattle.wasm_operator_control.specs.WasmOperatorChecks.WasmOperatorSteps.Shapes.{control_shape, opening, block_checks, nothing};
+ghost use Rattle.wasm_operator_control.specs.WasmOperatorChecks.WasmOperatorStacks.Seen.{state_of, below, Kept};
+ghost use Rattle.wasm_operator_control.specs.WasmOperatorChecks.WasmOperatorStacks.SeenBlocks.{block_in, kind_of};
 ghost use Rattle.wasm_operator_fast.specs.Blocks.{block_giving, block_named, allows_giving};
 ghost use Rattle.wasm_operator_fast.specs.Fast.{Performs};
 
 use crate::not_taken::NotTaken;
 use crate::peeks::peek;
 use std::alloc::Allocator;
-use wasm_operator_checks::operator_stacks::{BlockWord, Stacks, TypeWord};
-use wasm_operator_checks::validator_resources::WasmModuleResources;
 use wasm_operator_control::operator_numbers::allows_number;
+use wasm_operator_control::operator_stacks::{BlockWord, Stacks, TypeWord};
+use wasm_operator_control::validator_resources::WasmModuleResources;
 use wasm_operators::FrameKind;
 use wasm_operators_plain::NumberType;
 

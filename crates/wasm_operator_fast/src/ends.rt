@@ -1,17 +1,17 @@
 //! The end of a frame.
 
 ghost use Rattle.std.specs.Prelude.{◌≡◌};
-ghost use Rattle.wasm_operator_checks.specs.WasmOperatorSteps.Machine.{is_if};
-ghost use Rattle.wasm_operator_checks.specs.WasmOperatorSteps.Shapes.{closing};
-ghost use Rattle.wasm_operator_checks.specs.WasmOperatorStacks.Seen.{Kept};
-ghost use Rattle.wasm_operator_checks.specs.WasmOperatorStacks.SeenBlocks.{kind_of};
+ghost use Rattle.wasm_operator_control.specs.WasmOperatorChecks.WasmOperatorSteps.Machine.{is_if};
+ghost use Rattle.wasm_operator_control.specs.WasmOperatorChecks.WasmOperatorSteps.Shapes.{closing};
+ghost use Rattle.wasm_operator_control.specs.WasmOperatorChecks.WasmOperatorStacks.Seen.{Kept};
+ghost use Rattle.wasm_operator_control.specs.WasmOperatorChecks.WasmOperatorStacks.SeenBlocks.{kind_of};
 ghost use Rattle.wasm_operator_fast.specs.Fast.{Performs};
 
 use crate::not_taken::NotTaken;
 use crate::peeks::peek;
 use std::alloc::Allocator;
-use wasm_operator_checks::operator_stacks::{Block, Stacks};
-use wasm_operator_checks::validator_resources::WasmModuleResources;
+use wasm_operator_control::operator_stacks::{Block, Stacks};
+use wasm_operator_control::validator_resources::WasmModuleResources;
 use wasm_operators::FrameKind;
 
 /// Whether a frame is that of an `if` before its `else`.

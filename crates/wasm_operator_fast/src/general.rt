@@ -3,15 +3,15 @@
 ghost use Rattle.wasm_operators_plain.specs.declared.calls.CallOperator.TheVariants.{Call};
 ghost use Rattle.wasm_operators_plain.specs.declared.variables.VariableOperator.TheVariants.{GlobalGet, GlobalSet};
 ghost use Rattle.wasm_operators.specs.Control.{br, br_if, return_};
-ghost use Rattle.wasm_operator_checks.specs.WasmOperatorSteps.Shapes.{call_shape, control_shape, dropping, variable_shape};
-ghost use Rattle.wasm_operator_checks.specs.WasmOperatorStacks.Seen.{Kept};
+ghost use Rattle.wasm_operator_control.specs.WasmOperatorChecks.WasmOperatorSteps.Shapes.{call_shape, control_shape, dropping, variable_shape};
+ghost use Rattle.wasm_operator_control.specs.WasmOperatorChecks.WasmOperatorStacks.Seen.{Kept};
 ghost use Rattle.wasm_operator_fast.specs.Fast.{Performs};
 
 use crate::not_taken::NotTaken;
 use crate::plain::as_fast;
 use std::alloc::Allocator;
-use wasm_operator_checks::operator_stacks::Stacks;
-use wasm_operator_checks::validator_resources::WasmModuleResources;
+use wasm_operator_control::operator_stacks::Stacks;
+use wasm_operator_control::validator_resources::WasmModuleResources;
 use wasm_operator_control::{branch, branch_if, call, drop_any, give_back, global_get, global_set};
 
 /// `global.get`.

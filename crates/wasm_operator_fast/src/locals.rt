@@ -3,18 +3,18 @@
 ghost use Rattle.std.specs.Prelude.{◌≡◌, Some, IfOk, slice_get, true};
 ghost use Rattle.std.specs.Option.{option_map};
 ghost use Rattle.wasm_operators_plain.specs.declared.variables.VariableOperator.TheVariants.{LocalGet, LocalSet, LocalTee};
-ghost use Rattle.wasm_operator_checks.specs.WasmOperatorSteps.Shapes.{variable_shape};
-ghost use Rattle.wasm_operator_checks.specs.WasmOperatorStacks.Locals.{local_of};
-ghost use Rattle.wasm_operator_checks.specs.WasmOperatorStacks.Seen.{Kept};
+ghost use Rattle.wasm_operator_control.specs.WasmOperatorChecks.WasmOperatorSteps.Shapes.{variable_shape};
+ghost use Rattle.wasm_operator_control.specs.WasmOperatorChecks.WasmOperatorStacks.Locals.{local_of};
+ghost use Rattle.wasm_operator_control.specs.WasmOperatorChecks.WasmOperatorStacks.Seen.{Kept};
 ghost use Rattle.wasm_operator_fast.specs.Fast.{Performs};
 
 use crate::not_taken::NotTaken;
 use crate::peeks::peek;
 use crate::plain::plain;
 use std::alloc::Allocator;
-use wasm_operator_checks::operator_stacks::{LocalWord, Stacks};
-use wasm_operator_checks::validator_resources::WasmModuleResources;
-use wasm_operator_checks::{Takes, ValTypes};
+use wasm_operator_control::operator_checks::{Takes, ValTypes};
+use wasm_operator_control::operator_stacks::{LocalWord, Stacks};
+use wasm_operator_control::validator_resources::WasmModuleResources;
 
 /// The local of this index, where it is set from the start.
 #[inline(always)]

@@ -2,23 +2,23 @@
 
 ghost use Rattle.std.specs.Prelude.{◌≡◌, ◌∷◌, []};
 ghost use Rattle.wasm_operators_plain.specs.declared.signatures.Signature.TheVariants.{Unary, Binary};
-ghost use Rattle.wasm_operator_checks.specs.WasmOperatorSteps.Actions.{allows};
-ghost use Rattle.wasm_operator_checks.specs.WasmOperatorSteps.Shapes.{computing, number_type, nothing, one, plain as plain_shape};
-ghost use Rattle.wasm_operator_checks.specs.WasmOperatorStacks.Seen.{Kept};
+ghost use Rattle.wasm_operator_control.specs.WasmOperatorChecks.WasmOperatorSteps.Actions.{allows};
+ghost use Rattle.wasm_operator_control.specs.WasmOperatorChecks.WasmOperatorSteps.Shapes.{computing, number_type, nothing, one, plain as plain_shape};
+ghost use Rattle.wasm_operator_control.specs.WasmOperatorChecks.WasmOperatorStacks.Seen.{Kept};
 ghost use Rattle.wasm_operator_fast.specs.Fast.{Performs};
 
 use crate::not_taken::NotTaken;
 use crate::plain::plain;
 use std::alloc::Allocator;
-use wasm_operator_checks::operator_stacks::{Stacks, TypeWord};
-use wasm_operator_checks::validator_resources::WasmModuleResources;
-use wasm_operator_checks::{Takes, ValTypes};
+use wasm_operator_control::operator_checks::{Takes, ValTypes};
 use wasm_operator_control::operator_numbers::allows_number;
+use wasm_operator_control::operator_stacks::{Stacks, TypeWord};
+use wasm_operator_control::validator_resources::WasmModuleResources;
 use wasm_operators_plain::{NumberType, Signature};
 
 /// An operator that takes a number and gives one.
 #[inline(always)]
-#[tactic(auto, using(crate::proofs::Fasting::acts, wasm_operator_checks::proofs::Typing::types))]
+#[tactic(auto, using(crate::proofs::Fasting::acts, crate::proofs::Cited::types))]
 fn unary<A: Allocator, T: WasmModuleResources>(
     stacks: &mut Stacks<A>,
     resources: &T,
@@ -45,7 +45,7 @@ fn unary<A: Allocator, T: WasmModuleResources>(
 
 /// An operator that takes two numbers of one type and gives one.
 #[inline(always)]
-#[tactic(auto, using(crate::proofs::Fasting::acts, wasm_operator_checks::proofs::Typing::types))]
+#[tactic(auto, using(crate::proofs::Fasting::acts, crate::proofs::Cited::types))]
 fn binary<A: Allocator, T: WasmModuleResources>(
     stacks: &mut Stacks<A>,
     resources: &T,
@@ -89,7 +89,7 @@ pub(crate) fn compute<A: Allocator, T: WasmModuleResources>(
 
 /// A constant of a number type.
 #[inline(always)]
-#[tactic(auto, using(crate::proofs::Fasting::acts, wasm_operator_checks::proofs::Typing::types))]
+#[tactic(auto, using(crate::proofs::Fasting::acts, crate::proofs::Cited::types))]
 pub(crate) fn constant<A: Allocator, T: WasmModuleResources>(
     stacks: &mut Stacks<A>,
     resources: &T,

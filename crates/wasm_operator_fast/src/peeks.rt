@@ -1,18 +1,18 @@
 //! Looks at operands whose types are known.
 
 ghost use Rattle.std.specs.Prelude.{◌≡◌, ◌≤◌, ◌+◌, Some, length, OnOk};
-ghost use Rattle.wasm_operator_checks.specs.WasmOperatorStacks.SeenTypeWords.{val_in};
-ghost use Rattle.wasm_operator_checks.specs.WasmOperatorSteps.Machine.{known, pop_any, pop_val, pop_vals, push_operand};
-ghost use Rattle.wasm_operator_checks.specs.WasmValidatorResources.Answers.{world};
-ghost use Rattle.wasm_operator_checks.specs.WasmOperatorStacks.Seen.{state_of, below};
-ghost use Rattle.wasm_operator_checks.specs.SeenTypes.{takes_seen};
+ghost use Rattle.wasm_operator_control.specs.WasmOperatorChecks.WasmOperatorStacks.SeenTypeWords.{val_in};
+ghost use Rattle.wasm_operator_control.specs.WasmOperatorChecks.WasmOperatorSteps.Machine.{known, pop_any, pop_val, pop_vals, push_operand};
+ghost use Rattle.wasm_operator_control.specs.WasmOperatorChecks.WasmValidatorResources.Answers.{world};
+ghost use Rattle.wasm_operator_control.specs.WasmOperatorChecks.WasmOperatorStacks.Seen.{state_of, below};
+ghost use Rattle.wasm_operator_control.specs.WasmOperatorChecks.SeenTypes.{takes_seen};
 ghost use Rattle.wasm_operator_fast.specs.Fast.{Peeked};
 
 use crate::not_taken::NotTaken;
 use std::alloc::Allocator;
-use wasm_operator_checks::Takes;
-use wasm_operator_checks::operator_stacks::{Stacks, TypeWord};
-use wasm_operator_checks::validator_resources::WasmModuleResources;
+use wasm_operator_control::operator_checks::Takes;
+use wasm_operator_control::operator_stacks::{Stacks, TypeWord};
+use wasm_operator_control::validator_resources::WasmModuleResources;
 
 /// Looks whether an operand that is known to be of this type is in the innermost frame, below so
 /// many others.
@@ -50,7 +50,7 @@ pub(crate) fn peek<A: Allocator, T: WasmModuleResources>(
 /// Looks whether the operands are on top that an operator takes, at most three, and how many they
 /// are.
 #[inline(always)]
-#[tactic(auto, using(wasm_operator_checks::proofs::Taking::two, crate::proofs::Peeking::three))]
+#[tactic(auto, using(crate::proofs::Cited::two, crate::proofs::Peeking::three))]
 pub(crate) fn peek_takes<'a, A: Allocator, T: WasmModuleResources>(
     stacks: &Stacks<A>,
     resources: &T,

@@ -2,8 +2,8 @@
 
 ghost use Rattle.std.specs.Prelude.{◌≡◌, ◌≤◌, ◌<◌, Some, OnOk, OnErr};
 ghost use Rattle.wasm_readers_bytes.specs.Reader.{SameInput, position_in, rest};
-ghost use Rattle.wasm_operator_checks.specs.WasmValidatorResources.Answers.{world};
-ghost use Rattle.wasm_operator_checks.specs.WasmOperatorStacks.Seen.{state_of, around, Kept};
+ghost use Rattle.wasm_operator_control.specs.WasmOperatorChecks.WasmValidatorResources.Answers.{world};
+ghost use Rattle.wasm_operator_control.specs.WasmOperatorChecks.WasmOperatorStacks.Seen.{state_of, around, Kept};
 ghost use Rattle.wasm_operator_fast.specs.Fused.{Fuses, step_at};
 
 use crate::accesses::access;
@@ -19,8 +19,8 @@ use crate::not_taken::NotTaken;
 use crate::numbers::{compute, constant};
 use crate::signatures::signature;
 use std::alloc::Allocator;
-use wasm_operator_checks::operator_stacks::Stacks;
-use wasm_operator_checks::validator_resources::WasmModuleResources;
+use wasm_operator_control::operator_stacks::Stacks;
+use wasm_operator_control::validator_resources::WasmModuleResources;
 use wasm_operators_plain::readers::BinaryReader;
 use wasm_operators_plain::{NumberType, access_from_opcode, numeric_from_opcode};
 

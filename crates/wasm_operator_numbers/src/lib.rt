@@ -22,7 +22,7 @@ pub use tables::{table_fill, table_get, table_grow, table_set, table_size};
 /// Passed on from `wasm_operator_stacks`.
 pub mod operator_stacks {
     pub use wasm_operator_checks::operator_stacks::{
-        Block, BlockWord, Frame, LocalWord, Locals, Stacks, TypeWord, Word,
+        Block, BlockWord, Frame, LocalWord, Locals, MAX_LOCALS, Operand, Stacks, TypeWord, Word,
     };
 }
 
@@ -30,6 +30,27 @@ pub mod operator_stacks {
 pub mod operator_checks {
     pub use wasm_operator_checks::{
         OperatorError, OperatorFault, OperatorRule, Takes, ValTypes, address, check_type,
-        check_types, exchange_types, halt, has, look, match_all, plain, plain_with, reaches,
+        check_types, exchange_types, halt, has, look, match_all, matches, plain, plain_with,
+        reaches,
     };
+}
+
+/// Passed on from `wasm_validator_resources`.
+pub mod validator_resources {
+    pub use wasm_operator_checks::validator_resources::{WasmModuleResources, check_ref_type};
+}
+
+/// Passed on from `wasm_readers_errors`.
+pub mod readers_errors {
+    pub use wasm_readers_errors::WasmFeatures;
+}
+
+/// Passed on from `wasm_operators_plain`.
+pub mod operators_plain {
+    pub use wasm_operators::operators_plain::{CallOperator, NumberType};
+}
+
+/// Passed on from `wasm_operators`.
+pub mod operators {
+    pub use wasm_operators::FrameKind;
 }

@@ -4,18 +4,18 @@ use Rattle.std.specs.Prelude.{suc, Some, None, Option}
 use Rattle.std.proofs.lemmas.Bool.Decides.{nat_tests}
 use Rattle.wasm_spec.specs.Syntax.{Val}
 use Rattle.wasm_spec.specs.MatchingTests.{World}
-use Rattle.wasm_operator_checks.specs.WasmSpecRules.Contexts.{Context}
+use Rattle.wasm_operator_control.specs.WasmOperatorChecks.WasmSpecRules.Contexts.{Context}
 use Rattle.wasm_readers_types.specs.WasmReadersValues.declared.indices.UnpackedIndex.{UnpackedIndex}
-use Rattle.wasm_operator_checks.specs.WasmOperatorSteps.Actions.{label, last, front, Action, take, give, make_non_null, branch_on_null}
-use Rattle.wasm_operator_checks.specs.WasmSpecRules.Attempts.{◌>>=◌, last_of, front_of}
-use Rattle.wasm_operator_checks.specs.WasmOperatorSteps.Bodies.{Surroundings}
-use Rattle.wasm_operator_checks.specs.WasmOperatorSteps.Machine.{Operand, Frame, State, as_reference, bottom, matches_operand, non_null, pop_any, pop_reference, pop_vals, popped, push_operand, push_vals}
-use Rattle.wasm_operator_checks.specs.WasmOperatorSteps.Meanings.{label_at, run}
-use Rattle.wasm_operator_checks.proofs.WasmOperatorSteps.TakenInTurn.{types_at-frames, pop_any-frames, pop_vals-frames}
-use Rattle.wasm_operator_checks.specs.WasmValidatorResources.Answers.{world}
-use Rattle.wasm_operator_checks.specs.WasmOperatorStacks.Seen.{state_of, around}
-use Rattle.wasm_operator_checks.specs.WasmOperatorStacks.declared.stacks.Stacks.{Stacks}
-use Rattle.wasm_operator_checks.specs.Steps.{acted, typed}
+use Rattle.wasm_operator_control.specs.WasmOperatorChecks.WasmOperatorSteps.Actions.{label, last, front, Action, take, give, make_non_null, branch_on_null}
+use Rattle.wasm_operator_control.specs.WasmOperatorChecks.WasmSpecRules.Attempts.{◌>>=◌, last_of, front_of}
+use Rattle.wasm_operator_control.specs.WasmOperatorChecks.WasmOperatorSteps.Bodies.{Surroundings}
+use Rattle.wasm_operator_control.specs.WasmOperatorChecks.WasmOperatorSteps.Machine.{Operand, Frame, State, as_reference, bottom, matches_operand, non_null, pop_any, pop_reference, pop_vals, popped, push_operand, push_vals}
+use Rattle.wasm_operator_control.specs.WasmOperatorChecks.WasmOperatorSteps.Meanings.{label_at, run}
+use Rattle.wasm_operator_control.proofs.WasmOperatorChecks.WasmOperatorSteps.TakenInTurn.{types_at-frames, pop_any-frames, pop_vals-frames}
+use Rattle.wasm_operator_control.specs.WasmOperatorChecks.WasmValidatorResources.Answers.{world}
+use Rattle.wasm_operator_control.specs.WasmOperatorChecks.WasmOperatorStacks.Seen.{state_of, around}
+use Rattle.wasm_operator_control.specs.WasmOperatorChecks.WasmOperatorStacks.declared.stacks.Stacks.{Stacks}
+use Rattle.wasm_operator_control.specs.WasmOperatorChecks.Steps.{acted, typed}
 
 -- an operand that was taken, and the state without it
 abbrev Popped : Type 0

@@ -3,15 +3,15 @@ use Rattle.std.proofs.Common.{◌≡◌, ℕ, Bool, true, false, ◌&&◌, [], �
 use Rattle.std.specs.Option.{option_map}
 use Rattle.std.specs.Prelude.{Some, None, Option, IsSome, slice_get, if◌then◌else◌}
 use Rattle.wasm_spec.specs.Syntax.{Heap, concrete, exact, Ref, Val, reference}
-use Rattle.wasm_operator_checks.specs.WasmSpecRules.Contexts.{Context}
-use Rattle.wasm_operator_checks.specs.WasmSpecRules.FeatureFlags.{features_of}
+use Rattle.wasm_operator_control.specs.WasmOperatorChecks.WasmSpecRules.Contexts.{Context}
+use Rattle.wasm_operator_control.specs.WasmOperatorChecks.WasmSpecRules.FeatureFlags.{features_of}
 use Rattle.wasm_readers_types.specs.WasmReadersValues.declared.indices.UnpackedIndex.{UnpackedIndex}
-use Rattle.wasm_operator_checks.specs.WasmOperatorSteps.Actions.{function_reference, function_is_referenced}
-use Rattle.wasm_operator_checks.specs.WasmSpecRules.Attempts.{◌>>=◌, passes, among}
-use Rattle.wasm_operator_checks.specs.WasmSpecRules.Signatures.{resolve_ref}
-use Rattle.wasm_operator_checks.specs.WasmOperatorSteps.Meanings.{one, ref_to}
-use Rattle.wasm_operator_checks.specs.WasmOperatorStacks.declared.stacks.Stacks.{Stacks}
-use Rattle.wasm_operator_checks.specs.Steps.{typed, held}
+use Rattle.wasm_operator_control.specs.WasmOperatorChecks.WasmOperatorSteps.Actions.{function_reference, function_is_referenced}
+use Rattle.wasm_operator_control.specs.WasmOperatorChecks.WasmSpecRules.Attempts.{◌>>=◌, passes, among}
+use Rattle.wasm_operator_control.specs.WasmOperatorChecks.WasmSpecRules.Signatures.{resolve_ref}
+use Rattle.wasm_operator_control.specs.WasmOperatorChecks.WasmOperatorSteps.Meanings.{one, ref_to}
+use Rattle.wasm_operator_control.specs.WasmOperatorChecks.WasmOperatorStacks.declared.stacks.Stacks.{Stacks}
+use Rattle.wasm_operator_control.specs.WasmOperatorChecks.Steps.{typed, held}
 
 -- by whether the function is exact, and custom descriptors are on
 abbrev described : Bool → ℕ → Heap ℕ

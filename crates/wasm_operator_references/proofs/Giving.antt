@@ -6,11 +6,11 @@ use Rattle.wasm_spec.specs.Syntax.{Val}
 use Rattle.wasm_readers_types.specs.WasmReadersValues.SeenValues.{val_of}
 use Rattle.wasm_readers_types.specs.WasmReadersValues.declared.indices.UnpackedIndex.{UnpackedIndex}
 use Rattle.wasm_readers_types.specs.WasmReadersValues.declared.values.ValType.{ValType}
-use Rattle.wasm_operator_checks.specs.WasmSpecRules.Attempts.{last_of, front_of}
-use Rattle.wasm_operator_checks.specs.WasmOperatorSteps.Machine.{Operand, State, known, pushed_onto, push_operand, push_vals}
-use Rattle.wasm_operator_checks.specs.WasmOperatorStacks.Seen.{below}
-use Rattle.wasm_operator_checks.specs.WasmOperatorStacks.SeenOperands.{operand_of}
-use Rattle.wasm_operator_checks.specs.WasmOperatorStacks.declared.word.Word.{Word}
+use Rattle.wasm_operator_control.specs.WasmOperatorChecks.WasmSpecRules.Attempts.{last_of, front_of}
+use Rattle.wasm_operator_control.specs.WasmOperatorChecks.WasmOperatorSteps.Machine.{Operand, State, known, pushed_onto, push_operand, push_vals}
+use Rattle.wasm_operator_control.specs.WasmOperatorChecks.WasmOperatorStacks.Seen.{below}
+use Rattle.wasm_operator_control.specs.WasmOperatorChecks.WasmOperatorStacks.SeenOperands.{operand_of}
+use Rattle.wasm_operator_control.specs.WasmOperatorChecks.WasmOperatorStacks.declared.word.Word.{Word}
 
 -- the last of a list, and the others
 pub none_last : (vs : List ValType) → length vs ≡ 0 → None ≡ last_of (map val_of vs)

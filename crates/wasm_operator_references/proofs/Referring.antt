@@ -2,13 +2,13 @@
 use Rattle.std.proofs.Common.{◌≡◌, [], ◌∷◌, refl}
 use Rattle.std.specs.Prelude.{Some, None}
 use Rattle.wasm_spec.specs.Syntax.{i32}
-use Rattle.wasm_operator_checks.specs.WasmSpecRules.Contexts.{Context}
+use Rattle.wasm_operator_control.specs.WasmOperatorChecks.WasmSpecRules.Contexts.{Context}
 use Rattle.wasm_readers_types.specs.WasmReadersValues.declared.indices.UnpackedIndex.{UnpackedIndex}
-use Rattle.wasm_operator_checks.specs.WasmOperatorSteps.Actions.{these, take_reference, make_non_null, give}
-use Rattle.wasm_operator_checks.specs.WasmOperatorSteps.Machine.{Operand, State, known, as_reference, non_null, pop_any, pop_reference, push_operand}
-use Rattle.wasm_operator_checks.specs.WasmOperatorStacks.Seen.{state_of}
-use Rattle.wasm_operator_checks.specs.WasmOperatorStacks.declared.stacks.Stacks.{Stacks}
-use Rattle.wasm_operator_checks.specs.Steps.{acted}
+use Rattle.wasm_operator_control.specs.WasmOperatorChecks.WasmOperatorSteps.Actions.{these, take_reference, make_non_null, give}
+use Rattle.wasm_operator_control.specs.WasmOperatorChecks.WasmOperatorSteps.Machine.{Operand, State, known, as_reference, non_null, pop_any, pop_reference, push_operand}
+use Rattle.wasm_operator_control.specs.WasmOperatorChecks.WasmOperatorStacks.Seen.{state_of}
+use Rattle.wasm_operator_control.specs.WasmOperatorChecks.WasmOperatorStacks.declared.stacks.Stacks.{Stacks}
+use Rattle.wasm_operator_control.specs.WasmOperatorChecks.Steps.{acted}
 use Rattle.wasm_operator_references.specs.SeenReferences.{reference_seen}
 use Rattle.wasm_operator_references.specs.declared.referenced.Referenced.{Referenced}
 

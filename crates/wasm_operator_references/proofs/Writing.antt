@@ -5,14 +5,14 @@ use Rattle.std.specs.Prelude.{Some, None}
 use Rattle.wasm_spec.specs.Syntax.{AbstractHeap, Heap, abstract_heap, Ref, Val, reference}
 use Rattle.wasm_spec.specs.Features.{Features}
 use Rattle.wasm_spec.specs.ValueTypes.{allows_ref, allows_val}
-use Rattle.wasm_operator_checks.specs.WasmSpecRules.Contexts.{Context}
+use Rattle.wasm_operator_control.specs.WasmOperatorChecks.WasmSpecRules.Contexts.{Context}
 use Rattle.wasm_readers_types.specs.WasmReadersValues.declared.indices.UnpackedIndex.{UnpackedIndex}
-use Rattle.wasm_operator_checks.specs.WasmOperatorSteps.Actions.{these}
-use Rattle.wasm_operator_checks.specs.WasmSpecRules.Signatures.{resolve_ref}
-use Rattle.wasm_operator_checks.specs.WasmOperatorSteps.Shapes.{reference_to}
-use Rattle.wasm_operator_checks.specs.WasmValidatorResources.Answers.{heap_in}
-use Rattle.wasm_operator_checks.specs.WasmOperatorStacks.declared.stacks.Stacks.{Stacks}
-use Rattle.wasm_operator_checks.specs.Steps.{typed}
+use Rattle.wasm_operator_control.specs.WasmOperatorChecks.WasmOperatorSteps.Actions.{these}
+use Rattle.wasm_operator_control.specs.WasmOperatorChecks.WasmSpecRules.Signatures.{resolve_ref}
+use Rattle.wasm_operator_control.specs.WasmOperatorChecks.WasmOperatorSteps.Shapes.{reference_to}
+use Rattle.wasm_operator_control.specs.WasmOperatorChecks.WasmValidatorResources.Answers.{heap_in}
+use Rattle.wasm_operator_control.specs.WasmOperatorChecks.WasmOperatorStacks.declared.stacks.Stacks.{Stacks}
+use Rattle.wasm_operator_control.specs.WasmOperatorChecks.Steps.{typed}
 
 pub abstract_allowed : (F : Features) (n s : Bool) (a : AbstractHeap) (r : Ref UnpackedIndex) (b : Bool) → r ≡ record { nullable = n; heap = abstract_heap s a } → b ≡ allows_ref F r → b ≡ allows_val {R = ℕ} F (reference_to n (abstract_heap s a))
 abstract_allowed F n s a r b e f = rw e at f

@@ -1,2 +1,3 @@
+pub use Rattle.wasm_operator_control.specs.WasmOperatorChecks as WasmOperatorChecks
 pub mod SeenReferences
 pub mod Written

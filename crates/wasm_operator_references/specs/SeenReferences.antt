@@ -4,12 +4,12 @@ use Rattle.wasm_spec.specs.Syntax.{AbstractHeap, reference}
 use Rattle.wasm_spec.specs.MatchingTests.{World}
 use Rattle.wasm_readers_types.specs.WasmReadersValues.SeenValues.{ref_of, abstract_heap_of}
 use Rattle.wasm_readers_types.specs.WasmReadersValues.declared.indices.UnpackedIndex.{UnpackedIndex}
-use Rattle.wasm_operator_checks.specs.WasmSpecRules.Attempts.{◌>>=◌, guard}
-use Rattle.wasm_operator_checks.specs.WasmOperatorSteps.Bodies.{Surroundings}
-use Rattle.wasm_operator_checks.specs.WasmOperatorSteps.Machine.{Operand, bottom_reference, open_reference, known, State, pop_reference}
-use Rattle.wasm_operator_checks.specs.WasmOperatorSteps.Meanings.{is_below_either}
-use Rattle.wasm_operator_checks.specs.WasmOperatorStacks.Seen.{below}
-use Rattle.wasm_operator_checks.specs.declared.faults.OperatorFault.{OperatorFault}
+use Rattle.wasm_operator_control.specs.WasmOperatorChecks.WasmSpecRules.Attempts.{◌>>=◌, guard}
+use Rattle.wasm_operator_control.specs.WasmOperatorChecks.WasmOperatorSteps.Bodies.{Surroundings}
+use Rattle.wasm_operator_control.specs.WasmOperatorChecks.WasmOperatorSteps.Machine.{Operand, bottom_reference, open_reference, known, State, pop_reference}
+use Rattle.wasm_operator_control.specs.WasmOperatorChecks.WasmOperatorSteps.Meanings.{is_below_either}
+use Rattle.wasm_operator_control.specs.WasmOperatorChecks.WasmOperatorStacks.Seen.{below}
+use Rattle.wasm_operator_control.specs.WasmOperatorChecks.declared.faults.OperatorFault.{OperatorFault}
 use Rattle.wasm_operator_references.specs.declared.referenced.Referenced.{Referenced}
 use Rattle.wasm_operator_references.specs.declared.referenced.Referenced.TheVariants as referenced
 

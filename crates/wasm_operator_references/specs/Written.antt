@@ -2,7 +2,7 @@
 use Rattle.std.specs.Prelude.{⊤}
 use Rattle.wasm_readers_types.specs.WasmReadersValues.declared.indices.UnpackedIndex.{UnpackedIndex}
 use Rattle.wasm_operators.specs.References.{Reference, ref_null, ref_is_null, ref_eq, ref_as_non_null, ref_func, br_on_null, br_on_non_null}
-use Rattle.wasm_operator_checks.specs.WasmValidatorResources.Answers.{IsWrittenHeap}
+use Rattle.wasm_operator_control.specs.WasmOperatorChecks.WasmValidatorResources.Answers.{IsWrittenHeap}
 
 abbrev pub IsWrittenReference : Reference UnpackedIndex → Type 0
 IsWrittenReference (ref_null h) = IsWrittenHeap h

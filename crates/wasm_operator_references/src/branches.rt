@@ -1,19 +1,19 @@
 //! Branches on null.
 
 ghost use Rattle.wasm_operators.specs.References.{br_on_null, br_on_non_null};
-ghost use Rattle.wasm_operator_checks.specs.WasmOperatorSteps.Shapes.{reference_shape};
-ghost use Rattle.wasm_operator_checks.specs.WasmOperatorStacks.Seen.{Kept};
-ghost use Rattle.wasm_operator_checks.specs.Steps.{Performs};
+ghost use Rattle.wasm_operator_control.specs.WasmOperatorChecks.WasmOperatorSteps.Shapes.{reference_shape};
+ghost use Rattle.wasm_operator_control.specs.WasmOperatorChecks.WasmOperatorStacks.Seen.{Kept};
+ghost use Rattle.wasm_operator_control.specs.WasmOperatorChecks.Steps.{Performs};
 
 use crate::given::{exchange_with, front_types, last_type};
 use crate::referenced::{look_reference, non_null};
 use std::alloc::Allocator;
-use wasm_operator_checks::operator_stacks::Stacks;
-use wasm_operator_checks::validator_resources::WasmModuleResources;
-use wasm_operator_checks::{
+use wasm_operator_control::label_types;
+use wasm_operator_control::operator_checks::{
     OperatorError, OperatorFault, OperatorRule, check_types, exchange_types, has, matches,
 };
-use wasm_operator_control::label_types;
+use wasm_operator_control::operator_stacks::Stacks;
+use wasm_operator_control::validator_resources::WasmModuleResources;
 use wasm_readers_errors::WasmFeatures;
 
 /// `br_on_null` (Core Specification 3.0, Validation, Instructions, Control Instructions).
@@ -21,7 +21,7 @@ use wasm_readers_errors::WasmFeatures;
 /// # Errors
 ///
 /// Refuses an unknown label, and operands that aren't a reference above what the label takes.
-#[tactic(auto, using(wasm_operator_checks::proofs::Acting::acts))]
+#[tactic(auto, using(crate::proofs::Cited::acts))]
 pub fn br_on_null<A: Allocator, T: WasmModuleResources>(
     stacks: &mut Stacks<A>,
     resources: &T,
@@ -63,7 +63,7 @@ pub fn br_on_null<A: Allocator, T: WasmModuleResources>(
 ///
 /// Refuses an unknown label, one whose last type isn't that of the reference without null, and
 /// operands that aren't a reference above the other types.
-#[tactic(auto, using(wasm_operator_checks::proofs::Acting::acts))]
+#[tactic(auto, using(crate::proofs::Cited::acts))]
 pub fn br_on_non_null<A: Allocator, T: WasmModuleResources>(
     stacks: &mut Stacks<A>,
     resources: &T,

@@ -6,19 +6,19 @@ ghost use Rattle.wasm_spec.specs.Syntax.{abstract_heap};
 ghost use Rattle.wasm_readers_types.specs.WasmReadersValues.SeenValues.{abstract_heap_of, ref_of};
 ghost use Rattle.wasm_readers_types.specs.WasmReadersValues.declared.indices.UnpackedIndex.{UnpackedIndex};
 ghost use Rattle.wasm_operators.specs.References.{ref_eq};
-ghost use Rattle.wasm_operator_checks.specs.WasmOperatorSteps.Bodies.{Surroundings};
-ghost use Rattle.wasm_operator_checks.specs.WasmOperatorSteps.Meanings.{is_below_either, agree};
-ghost use Rattle.wasm_operator_checks.specs.WasmOperatorSteps.Shapes.{reference_shape};
-ghost use Rattle.wasm_operator_checks.specs.WasmValidatorResources.Answers.{world};
-ghost use Rattle.wasm_operator_checks.specs.WasmOperatorStacks.Seen.{state_of, around, below, Kept};
-ghost use Rattle.wasm_operator_checks.specs.Steps.{Performs};
+ghost use Rattle.wasm_operator_control.specs.WasmOperatorChecks.WasmOperatorSteps.Bodies.{Surroundings};
+ghost use Rattle.wasm_operator_control.specs.WasmOperatorChecks.WasmOperatorSteps.Meanings.{is_below_either, agree};
+ghost use Rattle.wasm_operator_control.specs.WasmOperatorChecks.WasmOperatorSteps.Shapes.{reference_shape};
+ghost use Rattle.wasm_operator_control.specs.WasmOperatorChecks.WasmValidatorResources.Answers.{world};
+ghost use Rattle.wasm_operator_control.specs.WasmOperatorChecks.WasmOperatorStacks.Seen.{state_of, around, below, Kept};
+ghost use Rattle.wasm_operator_control.specs.WasmOperatorChecks.Steps.{Performs};
 ghost use Rattle.wasm_operator_references.specs.SeenReferences.{reference_seen, LookedAt, pop_below};
 
 use crate::referenced::{Referenced, look_reference};
 use std::alloc::Allocator;
-use wasm_operator_checks::operator_stacks::{Stacks, Word};
-use wasm_operator_checks::validator_resources::WasmModuleResources;
-use wasm_operator_checks::{OperatorError, OperatorFault, OperatorRule, has};
+use wasm_operator_control::operator_checks::{OperatorError, OperatorFault, OperatorRule, has};
+use wasm_operator_control::operator_stacks::{Stacks, Word};
+use wasm_operator_control::validator_resources::WasmModuleResources;
 use wasm_operators::operators_plain::NumberType;
 use wasm_readers_errors::WasmFeatures;
 use wasm_readers_types::{AbstractHeapType, HeapType, RefType, ValType};
@@ -131,7 +131,7 @@ fn agree<T: WasmModuleResources>(resources: &T, first: Referenced, second: Refer
 /// # Errors
 ///
 /// Refuses what isn't two references below `eq`, and two of which one alone is shared.
-#[tactic(auto, using(wasm_operator_checks::proofs::Acting::acts, crate::proofs::Comparable::equals))]
+#[tactic(auto, using(crate::proofs::Cited::acts, crate::proofs::Comparable::equals))]
 pub fn ref_eq<A: Allocator, T: WasmModuleResources>(
     stacks: &mut Stacks<A>,
     resources: &T,

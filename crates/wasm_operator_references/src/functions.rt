@@ -2,22 +2,22 @@
 
 ghost use Rattle.std.specs.Prelude.{◌≡◌, ◌&&◌, if◌then◌else◌, IsSome, slice_get};
 ghost use Rattle.wasm_spec.specs.Syntax.{concrete, exact, map_heap};
-ghost use Rattle.wasm_operator_checks.specs.WasmSpecRules.FeatureFlags.{features_of};
+ghost use Rattle.wasm_operator_control.specs.WasmOperatorChecks.WasmSpecRules.FeatureFlags.{features_of};
 ghost use Rattle.wasm_readers_types.specs.WasmReadersValues.SeenValues.{heap_of};
 ghost use Rattle.wasm_operators.specs.References.{ref_func};
-ghost use Rattle.wasm_operator_checks.specs.WasmSpecRules.Attempts.{passes};
-ghost use Rattle.wasm_operator_checks.specs.WasmOperatorSteps.Shapes.{reference_shape};
-ghost use Rattle.wasm_operator_checks.specs.WasmValidatorResources.Answers.{IsWrittenHeap, written_index};
-ghost use Rattle.wasm_operator_checks.specs.WasmOperatorStacks.Seen.{Kept};
-ghost use Rattle.wasm_operator_checks.specs.Steps.{Performs};
+ghost use Rattle.wasm_operator_control.specs.WasmOperatorChecks.WasmSpecRules.Attempts.{passes};
+ghost use Rattle.wasm_operator_control.specs.WasmOperatorChecks.WasmOperatorSteps.Shapes.{reference_shape};
+ghost use Rattle.wasm_operator_control.specs.WasmOperatorChecks.WasmValidatorResources.Answers.{IsWrittenHeap, written_index};
+ghost use Rattle.wasm_operator_control.specs.WasmOperatorChecks.WasmOperatorStacks.Seen.{Kept};
+ghost use Rattle.wasm_operator_control.specs.WasmOperatorChecks.Steps.{Performs};
 
 use crate::written::resolve;
 use std::alloc::Allocator;
-use wasm_operator_checks::operator_stacks::{Stacks, TypeWord};
-use wasm_operator_checks::validator_resources::WasmModuleResources;
-use wasm_operator_checks::{
+use wasm_operator_control::operator_checks::{
     OperatorError, OperatorFault, OperatorRule, Takes, ValTypes, has, plain,
 };
+use wasm_operator_control::operator_stacks::{Stacks, TypeWord};
+use wasm_operator_control::validator_resources::WasmModuleResources;
 use wasm_readers_errors::WasmFeatures;
 use wasm_readers_types::{HeapType, UnpackedIndex};
 
@@ -57,7 +57,7 @@ fn described(is_exact: bool, type_index: u32) -> HeapType
 /// # Errors
 ///
 /// Refuses an unknown function, and one that isn't referenced outside of the bodies.
-#[tactic(auto, using(wasm_operator_checks::proofs::Acting::acts))]
+#[tactic(auto, using(crate::proofs::Cited::acts))]
 pub fn ref_func<A: Allocator, T: WasmModuleResources>(
     stacks: &mut Stacks<A>,
     resources: &T,

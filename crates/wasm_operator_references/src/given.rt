@@ -2,16 +2,16 @@
 
 ghost use Rattle.std.specs.Prelude.{◌≡◌, ◌≤◌, length, OnOk, OnErr};
 ghost use Rattle.std.specs.Option.{option_map};
-ghost use Rattle.wasm_operator_checks.specs.WasmOperatorStacks.SeenTypeWords.{val_in};
-ghost use Rattle.wasm_operator_checks.specs.WasmSpecRules.Attempts.{last_of, front_of};
-ghost use Rattle.wasm_operator_checks.specs.WasmOperatorSteps.Machine.{push_operand, push_vals};
-ghost use Rattle.wasm_operator_checks.specs.WasmOperatorStacks.SeenOperands.{operand_of};
-ghost use Rattle.wasm_operator_checks.specs.WasmOperatorStacks.Seen.{state_of, below, Kept};
-ghost use Rattle.wasm_operator_checks.specs.SeenTypes.{types_seen};
+ghost use Rattle.wasm_operator_control.specs.WasmOperatorChecks.WasmOperatorStacks.SeenTypeWords.{val_in};
+ghost use Rattle.wasm_operator_control.specs.WasmOperatorChecks.WasmSpecRules.Attempts.{last_of, front_of};
+ghost use Rattle.wasm_operator_control.specs.WasmOperatorChecks.WasmOperatorSteps.Machine.{push_operand, push_vals};
+ghost use Rattle.wasm_operator_control.specs.WasmOperatorChecks.WasmOperatorStacks.SeenOperands.{operand_of};
+ghost use Rattle.wasm_operator_control.specs.WasmOperatorChecks.WasmOperatorStacks.Seen.{state_of, below, Kept};
+ghost use Rattle.wasm_operator_control.specs.WasmOperatorChecks.SeenTypes.{types_seen};
 
 use std::alloc::{AllocError, Allocator};
-use wasm_operator_checks::operator_stacks::{Stacks, TypeWord, Word};
-use wasm_operator_checks::{ValTypes, exchange_types};
+use wasm_operator_control::operator_checks::{ValTypes, exchange_types};
+use wasm_operator_control::operator_stacks::{Stacks, TypeWord, Word};
 
 /// The last of some types, if there is one.
 #[tactic(auto, using(crate::proofs::Giving::lists))]

@@ -23,3 +23,21 @@ pub use written::{allows_heap, resolve, unknown_type};
 pub mod operator_control {
     pub use wasm_operator_control::label_types;
 }
+
+/// Passed on from `wasm_operator_stacks`.
+pub mod operator_stacks {
+    pub use wasm_operator_control::operator_stacks::{Stacks, TypeWord, Word};
+}
+
+/// Passed on from `wasm_validator_resources`.
+pub mod validator_resources {
+    pub use wasm_operator_control::validator_resources::{WasmModuleResources, check_ref_type};
+}
+
+/// Passed on from `wasm_operator_checks`.
+pub mod operator_checks {
+    pub use wasm_operator_control::operator_checks::{
+        OperatorError, OperatorFault, OperatorRule, Takes, ValTypes, check_type, check_types, has,
+        plain,
+    };
+}

@@ -3,19 +3,19 @@
 ghost use Rattle.wasm_spec.specs.Syntax.{map_heap};
 ghost use Rattle.wasm_readers_types.specs.WasmReadersValues.SeenValues.{heap_of};
 ghost use Rattle.wasm_operators.specs.References.{ref_null, ref_is_null, ref_as_non_null};
-ghost use Rattle.wasm_operator_checks.specs.WasmOperatorSteps.Shapes.{reference_shape};
-ghost use Rattle.wasm_operator_checks.specs.WasmValidatorResources.Answers.{IsWrittenHeap, written_index};
-ghost use Rattle.wasm_operator_checks.specs.WasmOperatorStacks.Seen.{Kept};
-ghost use Rattle.wasm_operator_checks.specs.Steps.{Performs};
+ghost use Rattle.wasm_operator_control.specs.WasmOperatorChecks.WasmOperatorSteps.Shapes.{reference_shape};
+ghost use Rattle.wasm_operator_control.specs.WasmOperatorChecks.WasmValidatorResources.Answers.{IsWrittenHeap, written_index};
+ghost use Rattle.wasm_operator_control.specs.WasmOperatorChecks.WasmOperatorStacks.Seen.{Kept};
+ghost use Rattle.wasm_operator_control.specs.WasmOperatorChecks.Steps.{Performs};
 
 use crate::referenced::{look_reference, non_null};
 use crate::written::{allows_heap, resolve, unknown_type};
 use std::alloc::Allocator;
-use wasm_operator_checks::operator_stacks::{Stacks, TypeWord, Word};
-use wasm_operator_checks::validator_resources::WasmModuleResources;
-use wasm_operator_checks::{
+use wasm_operator_control::operator_checks::{
     OperatorError, OperatorFault, OperatorRule, Takes, ValTypes, has, plain,
 };
+use wasm_operator_control::operator_stacks::{Stacks, TypeWord, Word};
+use wasm_operator_control::validator_resources::WasmModuleResources;
 use wasm_operators::operators_plain::NumberType;
 use wasm_readers_errors::WasmFeatures;
 use wasm_readers_types::HeapType;
@@ -25,7 +25,7 @@ use wasm_readers_types::HeapType;
 /// # Errors
 ///
 /// Refuses a type that the features don't allow, and one that the module doesn't have.
-#[tactic(auto, using(wasm_operator_checks::proofs::Acting::acts, wasm_operator_checks::proofs::Typing::types, crate::proofs::Writing::written))]
+#[tactic(auto, using(crate::proofs::Cited::acts, crate::proofs::Cited::types, crate::proofs::Writing::written))]
 pub fn ref_null<A: Allocator, T: WasmModuleResources>(
     stacks: &mut Stacks<A>,
     resources: &T,
@@ -58,7 +58,7 @@ pub fn ref_null<A: Allocator, T: WasmModuleResources>(
 /// # Errors
 ///
 /// Refuses what is no reference.
-#[tactic(auto, using(wasm_operator_checks::proofs::Acting::acts, crate::proofs::Referring::nulls))]
+#[tactic(auto, using(crate::proofs::Cited::acts, crate::proofs::Referring::nulls))]
 pub fn ref_is_null<A: Allocator, T: WasmModuleResources>(
     stacks: &mut Stacks<A>,
     _resources: &T,
@@ -84,7 +84,7 @@ pub fn ref_is_null<A: Allocator, T: WasmModuleResources>(
 /// # Errors
 ///
 /// Refuses what is no reference.
-#[tactic(auto, using(wasm_operator_checks::proofs::Acting::acts, crate::proofs::Referring::nulls))]
+#[tactic(auto, using(crate::proofs::Cited::acts, crate::proofs::Referring::nulls))]
 pub fn ref_as_non_null<A: Allocator, T: WasmModuleResources>(
     stacks: &mut Stacks<A>,
     _resources: &T,

@@ -2,14 +2,14 @@
 
 ghost use Rattle.std.specs.Prelude.{◌≡◌, ◌≤◌, length};
 ghost use Rattle.std.specs.Option.{option_map};
-ghost use Rattle.wasm_operator_checks.specs.WasmOperatorSteps.Machine.{as_reference, non_null, pop_reference};
-ghost use Rattle.wasm_operator_checks.specs.WasmOperatorStacks.SeenOperands.{operand_of, operand_seen};
-ghost use Rattle.wasm_operator_checks.specs.WasmOperatorStacks.Seen.{state_of, below};
+ghost use Rattle.wasm_operator_control.specs.WasmOperatorChecks.WasmOperatorSteps.Machine.{as_reference, non_null, pop_reference};
+ghost use Rattle.wasm_operator_control.specs.WasmOperatorChecks.WasmOperatorStacks.SeenOperands.{operand_of, operand_seen};
+ghost use Rattle.wasm_operator_control.specs.WasmOperatorChecks.WasmOperatorStacks.Seen.{state_of, below};
 ghost use Rattle.wasm_operator_references.specs.SeenReferences.{reference_seen, LookedAt};
 
 use std::alloc::Allocator;
-use wasm_operator_checks::operator_stacks::{Operand, Stacks, TypeWord, Word};
-use wasm_operator_checks::{OperatorFault, OperatorRule, look};
+use wasm_operator_control::operator_checks::{OperatorFault, OperatorRule, look};
+use wasm_operator_control::operator_stacks::{Operand, Stacks, TypeWord, Word};
 use wasm_readers_types::{AbstractHeapType, RefType, ValType};
 
 /// A reference among operands: of a known type, and in code that isn't reached of any reference

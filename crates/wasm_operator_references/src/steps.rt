@@ -2,10 +2,10 @@
 
 ghost use Rattle.wasm_operators.specs.Maps.{map_reference};
 ghost use Rattle.wasm_operators.specs.SeenReferences.{reference_of};
-ghost use Rattle.wasm_operator_checks.specs.WasmOperatorSteps.Shapes.{reference_shape};
-ghost use Rattle.wasm_operator_checks.specs.WasmValidatorResources.Answers.{written_index};
-ghost use Rattle.wasm_operator_checks.specs.WasmOperatorStacks.Seen.{Kept};
-ghost use Rattle.wasm_operator_checks.specs.Steps.{Performs};
+ghost use Rattle.wasm_operator_control.specs.WasmOperatorChecks.WasmOperatorSteps.Shapes.{reference_shape};
+ghost use Rattle.wasm_operator_control.specs.WasmOperatorChecks.WasmValidatorResources.Answers.{written_index};
+ghost use Rattle.wasm_operator_control.specs.WasmOperatorChecks.WasmOperatorStacks.Seen.{Kept};
+ghost use Rattle.wasm_operator_control.specs.WasmOperatorChecks.Steps.{Performs};
 ghost use Rattle.wasm_operator_references.specs.Written.{IsWrittenReference};
 
 use crate::branches::{br_on_non_null, br_on_null};
@@ -13,9 +13,9 @@ use crate::comparing::ref_eq;
 use crate::functions::ref_func;
 use crate::nulls::{ref_as_non_null, ref_is_null, ref_null};
 use std::alloc::Allocator;
-use wasm_operator_checks::OperatorError;
-use wasm_operator_checks::operator_stacks::Stacks;
-use wasm_operator_checks::validator_resources::WasmModuleResources;
+use wasm_operator_control::operator_checks::OperatorError;
+use wasm_operator_control::operator_stacks::Stacks;
+use wasm_operator_control::validator_resources::WasmModuleResources;
 use wasm_operators::ReferenceOperator;
 
 /// An operator on references (Core Specification 3.0, Validation, Instructions, Reference

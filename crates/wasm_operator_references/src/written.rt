@@ -4,17 +4,17 @@ ghost use Rattle.std.specs.Prelude.{◌≡◌, ◌&&◌, ◌||◌};
 ghost use Rattle.std.specs.Option.{option_map};
 ghost use Rattle.wasm_spec.specs.Syntax.{map_heap};
 ghost use Rattle.wasm_spec.specs.ValueTypes.{allows_val};
-ghost use Rattle.wasm_operator_checks.specs.WasmSpecRules.FeatureFlags.{features_of};
+ghost use Rattle.wasm_operator_control.specs.WasmOperatorChecks.WasmSpecRules.FeatureFlags.{features_of};
 ghost use Rattle.wasm_readers_types.specs.WasmReadersValues.SeenValues.{heap_of, ref_of};
 ghost use Rattle.wasm_operators.specs.References.{reference_to};
-ghost use Rattle.wasm_operator_checks.specs.WasmSpecRules.Signatures.{resolve_ref};
-ghost use Rattle.wasm_operator_checks.specs.WasmOperatorSteps.Shapes.{reference_to as val_to};
-ghost use Rattle.wasm_operator_checks.specs.WasmValidatorResources.Answers.{IsWrittenHeap, written_index};
+ghost use Rattle.wasm_operator_control.specs.WasmOperatorChecks.WasmSpecRules.Signatures.{resolve_ref};
+ghost use Rattle.wasm_operator_control.specs.WasmOperatorChecks.WasmOperatorSteps.Shapes.{reference_to as val_to};
+ghost use Rattle.wasm_operator_control.specs.WasmOperatorChecks.WasmValidatorResources.Answers.{IsWrittenHeap, written_index};
 
 use std::alloc::Allocator;
-use wasm_operator_checks::operator_stacks::Stacks;
-use wasm_operator_checks::validator_resources::{WasmModuleResources, check_ref_type};
-use wasm_operator_checks::{OperatorFault, OperatorRule, has};
+use wasm_operator_control::operator_checks::{OperatorFault, OperatorRule, has};
+use wasm_operator_control::operator_stacks::Stacks;
+use wasm_operator_control::validator_resources::{WasmModuleResources, check_ref_type};
 use wasm_readers_errors::WasmFeatures;
 use wasm_readers_types::{HeapType, RefType, UnpackedIndex};
 

@@ -4,20 +4,20 @@ use Rattle.std.proofs.lemmas.List.{length-map}
 use Rattle.std.specs.Option.{option_map}
 use Rattle.std.specs.Prelude.{Option, Some, Err}
 use Rattle.wasm_spec.specs.Syntax.{Val, Sub}
-use Rattle.wasm_operator_checks.specs.WasmSpecRules.Contexts.{Context}
+use Rattle.wasm_operator_blocks.specs.WasmOperatorChecks.WasmSpecRules.Contexts.{Context}
 use Rattle.wasm_readers_types.specs.WasmReadersValues.declared.indices.UnpackedIndex.{UnpackedIndex}
 use Rattle.wasm_readers_types.specs.WasmReadersValues.SeenValues.{val_of}
 use Rattle.wasm_readers_types.specs.WasmReadersValues.declared.values.ValType.{ValType}
 use Rattle.wasm_operators.specs.Control.{Block}
-use Rattle.wasm_operator_checks.specs.WasmSpecRules.Attempts.{◌>>=◌}
-use Rattle.wasm_operator_checks.specs.WasmOperatorSteps.Bodies.{Local}
-use Rattle.wasm_operator_checks.specs.WasmOperatorSteps.Machine.{State, block_kind, push_frame}
-use Rattle.wasm_operator_checks.specs.WasmSpecRules.Signatures.{Signature, signature_of}
-use Rattle.wasm_operator_checks.specs.WasmOperatorSteps.Steps.{start}
-use Rattle.wasm_operator_checks.specs.WasmValidatorResources.Answers.{sub_in}
+use Rattle.wasm_operator_blocks.specs.WasmOperatorChecks.WasmSpecRules.Attempts.{◌>>=◌}
+use Rattle.wasm_operator_blocks.specs.WasmOperatorChecks.WasmOperatorSteps.Bodies.{Local}
+use Rattle.wasm_operator_blocks.specs.WasmOperatorChecks.WasmOperatorSteps.Machine.{State, block_kind, push_frame}
+use Rattle.wasm_operator_blocks.specs.WasmOperatorChecks.WasmSpecRules.Signatures.{Signature, signature_of}
+use Rattle.wasm_operator_blocks.specs.WasmOperatorChecks.WasmOperatorSteps.Steps.{start}
+use Rattle.wasm_operator_blocks.specs.WasmOperatorChecks.WasmValidatorResources.Answers.{sub_in}
 use Rattle.wasm_operator_fast.specs.WasmOperatorControl.Blocks.{function_in}
-use Rattle.wasm_operator_checks.specs.declared.faults.OperatorError.{OperatorError}
-use Rattle.wasm_operator_checks.specs.declared.faults.OperatorError.TheVariants.{Refused, OutOfMemory}
+use Rattle.wasm_operator_blocks.specs.WasmOperatorChecks.declared.faults.OperatorError.{OperatorError}
+use Rattle.wasm_operator_blocks.specs.WasmOperatorChecks.declared.faults.OperatorError.TheVariants.{Refused, OutOfMemory}
 use Rattle.wasm_operator_validator.specs.Typed.{parameter, HasMany, IsRefused}
 
 abbrev nothing : State UnpackedIndex

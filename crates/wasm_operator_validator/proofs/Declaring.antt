@@ -3,10 +3,10 @@ use Rattle.std.proofs.Common.{◌≡◌, ℕ, ◌+◌, ◌<◌, ◌≤◌, Bool,
 use Rattle.std.specs.Prelude.{Option, Some, None, Ok, Err, replicate, IsTrue, ◌↔◌}
 use Rattle.wasm_spec.specs.Syntax.{Val}
 use Rattle.wasm_readers_types.specs.WasmReadersValues.declared.indices.UnpackedIndex.{UnpackedIndex}
-use Rattle.wasm_operator_checks.specs.WasmOperatorSteps.Bodies.{Local}
-use Rattle.wasm_operator_checks.specs.WasmOperatorSteps.Meanings.{has_default}
-use Rattle.wasm_operator_checks.specs.declared.faults.OperatorError.{OperatorError}
-use Rattle.wasm_operator_checks.specs.declared.faults.OperatorError.TheVariants.{Refused, OutOfMemory}
+use Rattle.wasm_operator_blocks.specs.WasmOperatorChecks.WasmOperatorSteps.Bodies.{Local}
+use Rattle.wasm_operator_blocks.specs.WasmOperatorChecks.WasmOperatorSteps.Meanings.{has_default}
+use Rattle.wasm_operator_blocks.specs.WasmOperatorChecks.declared.faults.OperatorError.{OperatorError}
+use Rattle.wasm_operator_blocks.specs.WasmOperatorChecks.declared.faults.OperatorError.TheVariants.{Refused, OutOfMemory}
 use Rattle.wasm_operator_validator.specs.Typed.{locals_in, declared_local, IsRefused, Defines}
 use Rattle.wasm_operator_validator.specs.declared.validator.OperatorValidator.{OperatorValidator}
 use Rattle.wasm_operator_validator.proofs.Defining.{local_is}

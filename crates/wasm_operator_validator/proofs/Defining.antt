@@ -5,9 +5,9 @@ use Rattle.wasm_spec.specs.Syntax.{Val}
 use Rattle.wasm_readers_types.specs.WasmReadersValues.SeenValues.{val_of}
 use Rattle.wasm_readers_types.specs.WasmReadersValues.declared.indices.UnpackedIndex.{UnpackedIndex}
 use Rattle.wasm_readers_types.specs.WasmReadersValues.declared.values.ValType.{ValType}
-use Rattle.wasm_operator_checks.specs.WasmOperatorSteps.Bodies.{Local}
-use Rattle.wasm_operator_checks.specs.WasmOperatorStacks.Locals.{local_of}
-use Rattle.wasm_operator_checks.specs.WasmOperatorStacks.declared.local_word.LocalWord.{LocalWord}
+use Rattle.wasm_operator_blocks.specs.WasmOperatorChecks.WasmOperatorSteps.Bodies.{Local}
+use Rattle.wasm_operator_blocks.specs.WasmOperatorChecks.WasmOperatorStacks.Locals.{local_of}
+use Rattle.wasm_operator_blocks.specs.WasmOperatorChecks.WasmOperatorStacks.declared.local_word.LocalWord.{LocalWord}
 use Rattle.wasm_operator_validator.specs.Typed.{parameter}
 
 -- parameters, one after another

@@ -8,12 +8,12 @@ use Rattle.wasm_spec.specs.Syntax.{exact, Val, reference, Comp, func, array, str
 use Rattle.wasm_spec.specs.MatchingTests.{World}
 use Rattle.wasm_readers_types.specs.WasmReadersValues.declared.indices.UnpackedIndex.{UnpackedIndex}
 use Rattle.wasm_operators.specs.Control.{Block, empty_block, value_block, func_block}
-use Rattle.wasm_operator_checks.specs.WasmSpecRules.Attempts.{◌>>=◌, last_of, front_of}
-use Rattle.wasm_operator_checks.specs.WasmOperatorSteps.Bodies.{Surroundings}
-use Rattle.wasm_operator_checks.specs.WasmOperatorSteps.Machine.{Kind, block_kind, loop_kind, if_kind, else_kind, try_table_kind, Frame, State}
-use Rattle.wasm_operator_checks.specs.WasmOperatorSteps.Actions.{Signed, of_type, of_function, of_tag, OperandTypes, these, params, results, label, returned, local, global, function_reference, new_reference, fields, element, field, table_address, memory_address, table_element, segment, lesser_table_address, lesser_memory_address, top, descriptor_of, repeated, front, last, joined}
-use Rattle.wasm_operator_checks.specs.WasmSpecRules.Signatures.{Signature, signature_of, resolve_val, resolve_vals}
-use Rattle.wasm_operator_checks.specs.WasmOperatorSteps.Meanings.{fields_of, copies, one, unpack_field, label_by, ref_to, exact_if, function_heap, element_at, field_at, address, table_is_64, memory_is_64, both, top_heap, descriptor_at, sub_at, type_signature, block_signature, signature_at, types_at}
+use Rattle.wasm_operator_blocks.specs.WasmOperatorChecks.WasmSpecRules.Attempts.{◌>>=◌, last_of, front_of}
+use Rattle.wasm_operator_blocks.specs.WasmOperatorChecks.WasmOperatorSteps.Bodies.{Surroundings}
+use Rattle.wasm_operator_blocks.specs.WasmOperatorChecks.WasmOperatorSteps.Machine.{Kind, block_kind, loop_kind, if_kind, else_kind, try_table_kind, Frame, State}
+use Rattle.wasm_operator_blocks.specs.WasmOperatorChecks.WasmOperatorSteps.Actions.{Signed, of_type, of_function, of_tag, OperandTypes, these, params, results, label, returned, local, global, function_reference, new_reference, fields, element, field, table_address, memory_address, table_element, segment, lesser_table_address, lesser_memory_address, top, descriptor_of, repeated, front, last, joined}
+use Rattle.wasm_operator_blocks.specs.WasmOperatorChecks.WasmSpecRules.Signatures.{Signature, signature_of, resolve_val, resolve_vals}
+use Rattle.wasm_operator_blocks.specs.WasmOperatorChecks.WasmOperatorSteps.Meanings.{fields_of, copies, one, unpack_field, label_by, ref_to, exact_if, function_heap, element_at, field_at, address, table_is_64, memory_is_64, both, top_heap, descriptor_at, sub_at, type_signature, block_signature, signature_at, types_at}
 use Rattle.wasm_operator_validator.specs.Arities.{takes_of, gives_of, func_counts, field_count, one_of, label_count, type_counts, signature_counts, block_counts, how_many}
 use Rattle.wasm_operator_validator.specs.Lengths.{lengths_of, asked_of, CountsAreLengths}
 

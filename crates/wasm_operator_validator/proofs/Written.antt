@@ -3,7 +3,7 @@ use Rattle.std.proofs.Common.{◌≡◌, sym, ap, subst, ◌∙◌, ℕ, List, O
 use Rattle.std.specs.Option.{option_map}
 use Rattle.wasm_spec.specs.Syntax.{Heap, Val, abstract_heap, concrete, exact, reference, i32, i64, f32, f64, v128, map_heap, map_val}
 use Rattle.wasm_readers.specs.Written.{written}
-use Rattle.wasm_operator_checks.specs.WasmValidatorResources.Answers.{written_index, IsWrittenHeap, IsWrittenVal}
+use Rattle.wasm_operator_blocks.specs.WasmOperatorChecks.WasmValidatorResources.Answers.{written_index, IsWrittenHeap, IsWrittenVal}
 use Rattle.wasm_operators.specs.Control as control
 use Rattle.wasm_operators.specs.Control.{Block, empty_block, value_block, func_block, Control}
 use Rattle.wasm_operators.specs.References.{Reference, ref_null, ref_is_null, ref_eq, ref_as_non_null, ref_func, br_on_null, br_on_non_null, Cast, ref_test, ref_cast, br_on_cast, br_on_cast_fail}

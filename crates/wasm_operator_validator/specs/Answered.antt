@@ -2,16 +2,16 @@
 -- Core Specification 3.0, Validation, Conventions (Contexts), and Appendix, Validation Algorithm (Data Structures).
 use Rattle.std.specs.Prelude.{◌-◌, ◌^◌, ℕ, List, map, take, Option, slice_get}
 use Rattle.std.specs.Option.{option_map, option_and_then}
-use Rattle.wasm_operator_checks.specs.WasmSpecRules.Contexts.{Context}
+use Rattle.wasm_operator_blocks.specs.WasmOperatorChecks.WasmSpecRules.Contexts.{Context}
 use Rattle.wasm_readers_types.specs.WasmReadersValues.declared.indices.UnpackedIndex.{UnpackedIndex}
 use Rattle.wasm_operators.specs.Control.{Block}
-use Rattle.wasm_operator_checks.specs.WasmOperatorSteps.Machine.{Kind, Frame}
+use Rattle.wasm_operator_blocks.specs.WasmOperatorChecks.WasmOperatorSteps.Machine.{Kind, Frame}
 use Rattle.wasm_operator_validator.specs.Arities.{in_u32}
 use Rattle.wasm_operator_validator.specs.Asked.{Asked}
 use Rattle.wasm_operator_validator.specs.Lengths.{lengths_of}
-use Rattle.wasm_operator_checks.specs.WasmValidatorResources.Answers.{sub_in, sub_of_id, tag_in}
-use Rattle.wasm_operator_checks.specs.WasmOperatorStacks.Seen.{state_of}
-use Rattle.wasm_operator_checks.specs.WasmOperatorStacks.declared.stacks.Stacks.{Stacks}
+use Rattle.wasm_operator_blocks.specs.WasmOperatorChecks.WasmValidatorResources.Answers.{sub_in, sub_of_id, tag_in}
+use Rattle.wasm_operator_blocks.specs.WasmOperatorChecks.WasmOperatorStacks.Seen.{state_of}
+use Rattle.wasm_operator_blocks.specs.WasmOperatorChecks.WasmOperatorStacks.declared.stacks.Stacks.{Stacks}
 
 -- the block type and the kind of a frame
 abbrev pub label_seen : Frame UnpackedIndex → Block UnpackedIndex × Kind

@@ -9,10 +9,10 @@ use Rattle.wasm_operators.specs.Control.{Block, empty_block, value_block, func_b
 use Rattle.wasm_operators.specs.Maps.{map_instruction}
 use Rattle.wasm_operators.specs.SeenOperators.{operator_of}
 use Rattle.wasm_operators.specs.declared.operators.Operator.{Operator}
-use Rattle.wasm_operator_checks.specs.WasmSpecRules.Attempts.{last_of}
-use Rattle.wasm_operator_checks.specs.WasmOperatorSteps.Machine.{Kind, loop_kind}
-use Rattle.wasm_operator_checks.specs.WasmOperatorSteps.Actions.{Signed, of_type, of_function, of_tag, OperandTypes, these, params, results, label, returned, fields, repeated, front, last, joined}
-use Rattle.wasm_operator_checks.specs.WasmOperatorSteps.Shapes.{Shape, plain, ending, opening, closing, turning, dropping, choosing, never, testing_null, asserting_non_null, branching_on_null, branching_on_non_null, branching_by_table, setting, giving_back, measuring, comparing, converting, shape_of}
+use Rattle.wasm_operator_blocks.specs.WasmOperatorChecks.WasmSpecRules.Attempts.{last_of}
+use Rattle.wasm_operator_blocks.specs.WasmOperatorChecks.WasmOperatorSteps.Machine.{Kind, loop_kind}
+use Rattle.wasm_operator_blocks.specs.WasmOperatorChecks.WasmOperatorSteps.Actions.{Signed, of_type, of_function, of_tag, OperandTypes, these, params, results, label, returned, fields, repeated, front, last, joined}
+use Rattle.wasm_operator_blocks.specs.WasmOperatorChecks.WasmOperatorSteps.Shapes.{Shape, plain, ending, opening, closing, turning, dropping, choosing, never, testing_null, asserting_non_null, branching_on_null, branching_on_non_null, branching_by_table, setting, giving_back, measuring, comparing, converting, shape_of}
 use Rattle.wasm_operator_validator.specs.Asked.{Asked}
 
 -- words on numbers that may not be there

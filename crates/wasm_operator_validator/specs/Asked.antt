@@ -6,7 +6,7 @@ use Rattle.wasm_readers_types.specs.WasmReadersValues.declared.indices.UnpackedI
 use Rattle.wasm_operators.specs.Control.{Block}
 use Rattle.wasm_operators.specs.declared.control.FrameKind.{FrameKind}
 use Rattle.wasm_operators.specs.declared.control.FrameKind.TheVariants as frame
-use Rattle.wasm_operator_checks.specs.WasmOperatorSteps.Machine.{Kind, block_kind, loop_kind, if_kind, else_kind, try_table_kind}
+use Rattle.wasm_operator_blocks.specs.WasmOperatorChecks.WasmOperatorSteps.Machine.{Kind, block_kind, loop_kind, if_kind, else_kind, try_table_kind}
 
 -- Answers, where there is one: the type of a type index and of an id, the type index of a function, and how many parameters and
 -- results the type of a tag has; and the block type and the kind of each frame, the innermost first.

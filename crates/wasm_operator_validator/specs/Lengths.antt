@@ -5,11 +5,11 @@ use Rattle.wasm_spec.specs.Syntax.{Val}
 use Rattle.wasm_spec.specs.MatchingTests.{World}
 use Rattle.wasm_readers_types.specs.WasmReadersValues.declared.indices.UnpackedIndex.{UnpackedIndex}
 use Rattle.wasm_readers_types.specs.WasmReadersValues.declared.indices.UnpackedIndex.TheVariants.{Id}
-use Rattle.wasm_operator_checks.specs.WasmOperatorSteps.Bodies.{Surroundings}
-use Rattle.wasm_operator_checks.specs.WasmOperatorSteps.Machine.{Frame, State}
-use Rattle.wasm_operator_checks.specs.WasmOperatorSteps.Actions.{of_tag, OperandTypes}
-use Rattle.wasm_operator_checks.specs.WasmSpecRules.Signatures.{Signature}
-use Rattle.wasm_operator_checks.specs.WasmOperatorSteps.Meanings.{sub_at, signature_at, types_at}
+use Rattle.wasm_operator_blocks.specs.WasmOperatorChecks.WasmOperatorSteps.Bodies.{Surroundings}
+use Rattle.wasm_operator_blocks.specs.WasmOperatorChecks.WasmOperatorSteps.Machine.{Frame, State}
+use Rattle.wasm_operator_blocks.specs.WasmOperatorChecks.WasmOperatorSteps.Actions.{of_tag, OperandTypes}
+use Rattle.wasm_operator_blocks.specs.WasmOperatorChecks.WasmSpecRules.Signatures.{Signature}
+use Rattle.wasm_operator_blocks.specs.WasmOperatorChecks.WasmOperatorSteps.Meanings.{sub_at, signature_at, types_at}
 use Rattle.wasm_operator_validator.specs.Arities.{how_many}
 use Rattle.wasm_operator_validator.specs.Asked.{Asked}
 

@@ -1,6 +1,6 @@
-pub use Rattle.wasm_operator_checks.specs.WasmOperatorSteps as WasmOperatorSteps
-pub use Rattle.wasm_operator_checks.specs.WasmOperatorStacks as WasmOperatorStacks
-pub use Rattle.wasm_operator_checks.specs as WasmOperatorChecks
+pub use Rattle.wasm_operator_blocks.specs.WasmOperatorChecks.WasmOperatorSteps as WasmOperatorSteps
+pub use Rattle.wasm_operator_blocks.specs.WasmOperatorChecks.WasmOperatorStacks as WasmOperatorStacks
+pub use Rattle.wasm_operator_blocks.specs.WasmOperatorChecks as WasmOperatorChecks
 pub use Rattle.wasm_operator_fast.specs.WasmOperatorControl as WasmOperatorControl
 pub use Rattle.wasm_operator_fast.specs as WasmOperatorFast
 pub mod Asked

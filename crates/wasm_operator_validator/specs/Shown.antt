@@ -4,9 +4,9 @@ use Rattle.std.specs.Prelude.{Option, Some, None}
 use Rattle.wasm_spec.specs.Syntax.{Val}
 use Rattle.wasm_readers_types.specs.WasmReadersValues.declared.indices.UnpackedIndex.{UnpackedIndex}
 use Rattle.wasm_operators.specs.SeenControl.{block_of}
-use Rattle.wasm_operator_checks.specs.WasmOperatorSteps.Machine as machine
-use Rattle.wasm_operator_checks.specs.WasmOperatorSteps.Machine.{Operand, known}
-use Rattle.wasm_operator_checks.specs.WasmOperatorStacks.SeenBlocks.{kind_of}
+use Rattle.wasm_operator_blocks.specs.WasmOperatorChecks.WasmOperatorSteps.Machine as machine
+use Rattle.wasm_operator_blocks.specs.WasmOperatorChecks.WasmOperatorSteps.Machine.{Operand, known}
+use Rattle.wasm_operator_blocks.specs.WasmOperatorChecks.WasmOperatorStacks.SeenBlocks.{kind_of}
 use Rattle.wasm_operator_validator.specs.declared.queries.Frame.{Frame}
 
 -- the type of an operand, where it is known

@@ -1,18 +1,18 @@
 -- One operator on the stacks of a body, by the table of steps.
 -- Core Specification 3.0, Validation, Instructions.
 use Rattle.std.specs.Prelude.{Result, ⊤}
-use Rattle.wasm_operator_checks.specs.WasmSpecRules.Contexts.{Context}
+use Rattle.wasm_operator_blocks.specs.WasmOperatorChecks.WasmSpecRules.Contexts.{Context}
 use Rattle.wasm_readers_types.specs.WasmReadersValues.declared.indices.UnpackedIndex.{UnpackedIndex}
 use Rattle.wasm_operators.specs.Instructions.{Instruction, control, reference, cast}
 use Rattle.wasm_operators.specs.Maps.{map_instruction}
-use Rattle.wasm_operator_checks.specs.WasmOperatorSteps.Steps.{step_in}
-use Rattle.wasm_operator_checks.specs.WasmValidatorResources.Answers.{world, written_index}
-use Rattle.wasm_operator_checks.specs.WasmOperatorStacks.Seen.{state_of, around}
-use Rattle.wasm_operator_checks.specs.WasmOperatorStacks.declared.stacks.Stacks.{Stacks}
+use Rattle.wasm_operator_blocks.specs.WasmOperatorChecks.WasmOperatorSteps.Steps.{step_in}
+use Rattle.wasm_operator_blocks.specs.WasmOperatorChecks.WasmValidatorResources.Answers.{world, written_index}
+use Rattle.wasm_operator_blocks.specs.WasmOperatorChecks.WasmOperatorStacks.Seen.{state_of, around}
+use Rattle.wasm_operator_blocks.specs.WasmOperatorChecks.WasmOperatorStacks.declared.stacks.Stacks.{Stacks}
 use Rattle.wasm_operator_casts.specs.WrittenReferences.{IsWrittenReference}
 use Rattle.wasm_operator_casts.specs.Written.{IsWrittenCast}
-use Rattle.wasm_operator_checks.specs.Steps.{Took}
-use Rattle.wasm_operator_checks.specs.declared.faults.OperatorError.{OperatorError}
+use Rattle.wasm_operator_blocks.specs.WasmOperatorChecks.Steps.{Took}
+use Rattle.wasm_operator_blocks.specs.WasmOperatorChecks.declared.faults.OperatorError.{OperatorError}
 use Rattle.wasm_operator_blocks.specs.Written.{IsWrittenControl}
 
 -- one step by an operator whose types name type indices of a module

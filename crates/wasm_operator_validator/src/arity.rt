@@ -12,7 +12,7 @@ use crate::validator::OperatorValidator;
 use crate::visitor::OperatorVisitor;
 use crate::{FrameStack, ModuleArity};
 use std::alloc::Allocator;
-use wasm_operator_checks::validator_resources::WasmModuleResources;
+use wasm_operator_blocks::validator_resources::WasmModuleResources;
 use wasm_operator_fast::operator_control::frame_at;
 use wasm_operators::{BlockType, FrameKind};
 use wasm_readers_types::{CompositeInnerType, ContType, FuncType, RefType, SubType, UnpackedIndex};

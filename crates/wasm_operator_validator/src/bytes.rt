@@ -2,14 +2,14 @@
 
 ghost use Rattle.std.specs.Prelude.{◌≡◌, ◌≤◌, ◌<◌, ◌||◌, Some, false, not, is_ok, IfErr, OnOk, OnErr};
 ghost use Rattle.wasm_readers.specs.WasmReadersBytes.Reader.{SameInput, position_in, rest};
-ghost use Rattle.wasm_operator_checks.specs.WasmOperatorStacks.Seen.{Kept};
+ghost use Rattle.wasm_operator_blocks.specs.WasmOperatorChecks.WasmOperatorStacks.Seen.{Kept};
 ghost use Rattle.wasm_operator_validator.specs.Typed.{typed_state};
 ghost use Rattle.wasm_operator_validator.specs.Checked.{StandsIn};
 ghost use Rattle.wasm_operator_validator.specs.Reads.{ReadsStep, stepped};
 
 use crate::validator::OperatorValidator;
 use std::alloc::Allocator;
-use wasm_operator_checks::validator_resources::WasmModuleResources;
+use wasm_operator_blocks::validator_resources::WasmModuleResources;
 use wasm_operator_fast::{NotTaken, fast_step};
 use wasm_operators::read_operator;
 use wasm_readers::BinaryReader;

@@ -6,7 +6,7 @@ ghost use Rattle.wasm_readers.specs.Written.{written};
 ghost use Rattle.wasm_operators.specs.Maps.{map_block, map_control, map_parametric};
 ghost use Rattle.wasm_operators.specs.SeenControl.{block_of, control_of, parametric_of};
 ghost use Rattle.wasm_operators.specs.SeenLists.{listed};
-ghost use Rattle.wasm_operator_checks.specs.WasmOperatorSteps.Shapes.{control_shape, call_shape, parametric_shape};
+ghost use Rattle.wasm_operator_blocks.specs.WasmOperatorChecks.WasmOperatorSteps.Shapes.{control_shape, call_shape, parametric_shape};
 ghost use Rattle.wasm_operator_validator.specs.Arities.{pair, plus, takes_of, block_counts, arity, index_number};
 
 use crate::counts::{

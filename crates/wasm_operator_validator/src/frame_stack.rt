@@ -2,7 +2,7 @@
 
 ghost use Rattle.std.specs.Prelude.{◌≡◌, List, slice_get};
 ghost use Rattle.std.specs.Option.{option_map};
-ghost use Rattle.wasm_operator_checks.specs.WasmOperatorSteps.Machine.{Kind};
+ghost use Rattle.wasm_operator_blocks.specs.WasmOperatorChecks.WasmOperatorSteps.Machine.{Kind};
 ghost use Rattle.wasm_operator_validator.specs.Asked.{kind_of};
 
 use wasm_operators::FrameKind;

@@ -8,7 +8,7 @@ ghost use Rattle.wasm_operator_validator.specs.Shown.{known_type, shown_frame};
 
 use crate::validator::OperatorValidator;
 use std::alloc::Allocator;
-use wasm_operator_checks::operator_stacks::Operand;
+use wasm_operator_blocks::operator_stacks::Operand;
 use wasm_operator_fast::operator_control::frame_at;
 use wasm_operators::{BlockType, FrameKind};
 use wasm_readers::readers_errors::WasmFeatures;

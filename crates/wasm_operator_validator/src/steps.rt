@@ -1,16 +1,16 @@
 //! One step by any operator.
 
 ghost use Rattle.wasm_operators.specs.SeenOperators.{operator_of};
-ghost use Rattle.wasm_operator_checks.specs.WasmOperatorStacks.Seen.{Kept};
+ghost use Rattle.wasm_operator_blocks.specs.WasmOperatorChecks.WasmOperatorStacks.Seen.{Kept};
 ghost use Rattle.wasm_operator_validator.specs.Stepped.{Steps, IsWrittenInstruction};
 
 use std::alloc::Allocator;
 use wasm_operator_arrays::step_array;
+use wasm_operator_blocks::operator_checks::{OperatorError, OperatorFault, OperatorRule};
+use wasm_operator_blocks::operator_stacks::Stacks;
+use wasm_operator_blocks::validator_resources::WasmModuleResources;
 use wasm_operator_blocks::{step_call, step_control, step_parametric, step_variable};
 use wasm_operator_casts::{step_cast, step_conversion, step_reference};
-use wasm_operator_checks::operator_stacks::Stacks;
-use wasm_operator_checks::validator_resources::WasmModuleResources;
-use wasm_operator_checks::{OperatorError, OperatorFault, OperatorRule};
 use wasm_operator_fast::operator_numbers::{
     access_memory, bulk_memory, compute, constant, step_table,
 };

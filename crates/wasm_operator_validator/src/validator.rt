@@ -1,13 +1,13 @@
 //! The validator of operators.
 
 ghost use Rattle.std.specs.Prelude.{◌≡◌, ◌≤◌, ◌+◌, ◌++◌, [], true, false, not, ◌||◌, length, map, is_ok, IfErr, IfOk, OnOk, IsSome};
-ghost use Rattle.wasm_operator_checks.specs.WasmSpecRules.FeatureFlags.{features_of};
+ghost use Rattle.wasm_operator_blocks.specs.WasmOperatorChecks.WasmSpecRules.FeatureFlags.{features_of};
 ghost use Rattle.wasm_readers_types.specs.WasmReadersValues.SeenValues.{val_of};
 ghost use Rattle.wasm_operators.specs.SeenOperators.{operator_of};
-ghost use Rattle.wasm_operator_checks.specs.WasmOperatorSteps.Meanings.{has_default};
-ghost use Rattle.wasm_operator_checks.specs.WasmOperatorSteps.Steps.{is_finished};
-ghost use Rattle.wasm_operator_checks.specs.WasmValidatorResources.Answers.{val_in, IsWrittenVal};
-ghost use Rattle.wasm_operator_checks.specs.WasmOperatorStacks.Seen.{Kept};
+ghost use Rattle.wasm_operator_blocks.specs.WasmOperatorChecks.WasmOperatorSteps.Meanings.{has_default};
+ghost use Rattle.wasm_operator_blocks.specs.WasmOperatorChecks.WasmOperatorSteps.Steps.{is_finished};
+ghost use Rattle.wasm_operator_blocks.specs.WasmOperatorChecks.WasmValidatorResources.Answers.{val_in, IsWrittenVal};
+ghost use Rattle.wasm_operator_blocks.specs.WasmOperatorChecks.WasmOperatorStacks.Seen.{Kept};
 ghost use Rattle.wasm_operator_fast.specs.WasmOperatorControl.Blocks.{function_in};
 ghost use Rattle.wasm_operator_validator.specs.Stepped.{Steps, IsWrittenInstruction};
 ghost use Rattle.wasm_operator_validator.specs.Visited.{IsToldAt, StepsAt};
@@ -15,11 +15,11 @@ ghost use Rattle.wasm_operator_validator.specs.Typed.{typed_state, parameter, Be
 
 use crate::steps::step;
 use std::alloc::{AllocError, Allocator, Global};
-use wasm_operator_checks::operator_stacks::{
+use wasm_operator_blocks::operator_checks::{OperatorError, OperatorFault, OperatorRule};
+use wasm_operator_blocks::operator_stacks::{
     BlockWord, LocalWord, Locals, MAX_LOCALS, Stacks, TypeWord,
 };
-use wasm_operator_checks::validator_resources::WasmModuleResources;
-use wasm_operator_checks::{OperatorError, OperatorFault, OperatorRule};
+use wasm_operator_blocks::validator_resources::WasmModuleResources;
 use wasm_operators::{FrameKind, Operator};
 use wasm_readers::readers_errors::{Error, WasmFeatures};
 use wasm_readers_types::{CompositeInnerType, ValType};

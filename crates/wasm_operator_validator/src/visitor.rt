@@ -2,14 +2,14 @@
 
 ghost use Rattle.std.specs.Prelude.{◌≡◌, true, false, not, ◌||◌, is_ok, IfErr};
 ghost use Rattle.wasm_operators.specs.SeenOperators.{operator_of};
-ghost use Rattle.wasm_operator_checks.specs.WasmOperatorStacks.Seen.{Kept};
+ghost use Rattle.wasm_operator_blocks.specs.WasmOperatorChecks.WasmOperatorStacks.Seen.{Kept};
 ghost use Rattle.wasm_operator_validator.specs.Stepped.{IsWrittenInstruction};
 ghost use Rattle.wasm_operator_validator.specs.Typed.{typed_state};
 ghost use Rattle.wasm_operator_validator.specs.Visited.{IsToldAt, StepsAt};
 
 use crate::validator::OperatorValidator;
 use std::alloc::{Allocator, Global};
-use wasm_operator_checks::validator_resources::WasmModuleResources;
+use wasm_operator_blocks::validator_resources::WasmModuleResources;
 use wasm_operators::Operator;
 use wasm_readers::readers_errors::Error;
 

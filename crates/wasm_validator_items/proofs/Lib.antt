@@ -1,3 +1,5 @@
+pub use Rattle.wasm_validator_core_resources.proofs as WasmValidatorCoreResources
+pub use Rattle.wasm_validator_core.proofs as WasmValidatorCore
 pub use Rattle.wasm_validator_segments.proofs.Finding
 mod Loops
 mod Places

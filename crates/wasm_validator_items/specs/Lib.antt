@@ -1,3 +1,5 @@
+pub use Rattle.wasm_validator_core_resources.specs as WasmValidatorCoreResources
+pub use Rattle.wasm_validator_core.specs as WasmValidatorCore
 pub use Rattle.wasm_validator_segments.specs.Expressions
 pub mod Machine
 pub mod Answers

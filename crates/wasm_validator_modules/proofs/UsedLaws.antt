@@ -15,8 +15,8 @@ use Rattle.wasm_validator_sections.specs.WasmValidatorReferences.Naming.{PiecesN
 use Rattle.wasm_validator_sections.proofs.WasmValidatorReferences.Referenced.{pieces_name_what_is_referenced}
 use Rattle.wasm_validator_sections.specs.WasmValidatorReferences.Marks.{MarkedFlagsSayNames}
 use Rattle.wasm_validator_sections.proofs.WasmValidatorReferences.Marks.{flags_say_names}
-use Rattle.wasm_validator_core_resources.specs.ModuleContexts.{FlagsSayReferences}
-use Rattle.wasm_validator_core_resources.proofs.Lists.{flags_say_references}
+use Rattle.wasm_validator_sections.specs.WasmLawsContexts.WasmValidatorCoreResources.ModuleContexts.{FlagsSayReferences}
+use Rattle.wasm_validator_sections.proofs.WasmValidatorCoreResources.Lists.{flags_say_references}
 
 pub record UsedLaws : Type 0 where
   pub lists : AllListsAreAdded

@@ -7,7 +7,7 @@ use Rattle.wasm_validator_type_list.specs.Listing.{Listing}
 use Rattle.wasm_validator_canonical.specs.Groups.{AreValid}
 use Rattle.wasm_validator_type_list.specs.DefTypes.{types_of_list}
 use Rattle.wasm_validator_sections.specs.WasmValidatorCore.Ready.{IsOpenFor, AreIdsOf}
-use Rattle.wasm_validator_core_resources.specs.ById.{AreFirstByIds}
+use Rattle.wasm_validator_sections.specs.WasmLawsContexts.WasmValidatorCoreResources.ById.{AreFirstByIds}
 use Rattle.wasm_validator_modules.specs.declared.validator.State.{State}
 use Rattle.wasm_validator_modules.specs.declared.validator.State.TheVariants.{Unparsed, Module, Code, End, Failed}
 use Rattle.wasm_validator_modules.specs.declared.validator.Validator.TheInside.{Inside}

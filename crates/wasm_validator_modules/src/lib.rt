@@ -25,9 +25,9 @@ pub use wasm_readers::{
 pub use wasm_validator_canonical::{
     InternRecGroup, TypeCanonicalizer, canonicalize_and_intern_rec_group, intern_rec_group_of,
 };
-pub use wasm_validator_core_resources::ValidatorResources;
 pub use wasm_validator_matches::{Matches, WithRecGroup, func_signature_matches};
 pub use wasm_validator_sections::validator_core::{Error, Module};
+pub use wasm_validator_sections::validator_core_resources::ValidatorResources;
 pub use wasm_validator_sections::validator_func::{
     FuncToValidate, FuncValidator, FuncValidatorAllocations,
 };

@@ -17,8 +17,8 @@ use crate::validator::Validator;
 use std::alloc::{AllocError, Allocator, Global};
 use wasm_parser::{FunctionBody, ParseAll, Parser, Payload};
 use wasm_readers::WasmFeatures;
-use wasm_validator_core_resources::ValidatorResources;
 use wasm_validator_sections::validator_core::Error;
+use wasm_validator_sections::validator_core_resources::ValidatorResources;
 use wasm_validator_sections::validator_func::{FuncToValidate, FuncValidatorAllocations};
 use wasm_validator_types::{Types, ValidatorId};
 

@@ -33,8 +33,8 @@ use wasm_readers::{
     Refusal, Rule, SectionLimited, Table, TagType, WasmFeatures,
 };
 use wasm_validator_canonical::{needs_type_canonicalization, types_are_apart};
-use wasm_validator_core_resources::ValidatorResources;
 use wasm_validator_sections::validator_core::{Error, Module, check_data_count};
+use wasm_validator_sections::validator_core_resources::ValidatorResources;
 use wasm_validator_sections::validator_func::FuncToValidate;
 use wasm_validator_sections::{
     CodeState, Constants, ModuleState, add_functions, add_imports, add_memories, add_tags,

@@ -6,7 +6,7 @@ use Rattle.wasm_spec.specs.BinaryTypes.{sub_at, rec_from, rec_at}
 use Rattle.wasm_spec.specs.Values.{byte_at, list_at}
 use Rattle.wasm_spec_rules.proofs.Tests.{map_some, then_some}
 use Rattle.wasm_readers.specs.Sections.{next_item}
-use Rattle.wasm_validator_core.specs.WasmValidatorCanonical.Groups.{has_form}
+use Rattle.wasm_validator_items.specs.WasmValidatorCore.WasmValidatorCanonical.Groups.{has_form}
 use Rattle.wasm_validator_sections.proofs.ItemSteps.{item_read}
 
 module _ {R : Type 0} where

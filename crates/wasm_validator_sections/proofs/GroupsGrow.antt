@@ -10,12 +10,12 @@ use Rattle.wasm_spec_rules.proofs.Tests.{guarded, map_some}
 use Rattle.wasm_readers_errors.specs.WasmReadersFeatures.declared.features.WasmFeatures.{WasmFeatures}
 use Rattle.wasm_readers_types.specs.WasmReadersValues.declared.indices.UnpackedIndex.{UnpackedIndex}
 use Rattle.wasm_validator_type_list.proofs.Grouped.{all-left}
-use Rattle.wasm_validator_core.specs.WasmValidatorCanonical.Groups.{AreValid, with_written}
-use Rattle.wasm_validator_core.proofs.WasmValidatorCanonical.Steps.{written_front}
+use Rattle.wasm_validator_items.specs.WasmValidatorCore.WasmValidatorCanonical.Groups.{AreValid, with_written}
+use Rattle.wasm_validator_items.proofs.WasmValidatorCore.WasmValidatorCanonical.Steps.{written_front}
 use Rattle.wasm_validator_types.specs.Spaces.{Spaces}
-use Rattle.wasm_validator_core.specs.declared.limits.TheConstants.{MAX_TYPES}
-use Rattle.wasm_validator_core.specs.Answers.{TypesSoFar, HasValidTypes}
-use Rattle.wasm_validator_core.specs.Machine.{with_ids, add_group}
+use Rattle.wasm_validator_items.specs.WasmValidatorCore.declared.limits.TheConstants.{MAX_TYPES}
+use Rattle.wasm_validator_items.specs.WasmValidatorCore.Answers.{TypesSoFar, HasValidTypes}
+use Rattle.wasm_validator_items.specs.WasmValidatorCore.Machine.{with_ids, add_group}
 
 module _ (V : TypesSoFar → Type 0) (left : (us more : TypesSoFar) → V (us ++ more) → V us) (features : WasmFeatures) where
   abbrev Over : TypesSoFar × Spaces → Type 0

@@ -8,10 +8,10 @@ use Rattle.std.specs.declared.result.Result.TheVariants as results
 use Rattle.wasm_spec_rules.specs.Sections.{each}
 use Rattle.wasm_spec_rules.proofs.Tests.{guarded, then_some}
 use Rattle.wasm_readers.specs.Sections.{next_item}
-use Rattle.wasm_validator_core.proofs.AddedGroups.{refusal}
-use Rattle.wasm_validator_core.specs.declared.error.Error.{Error}
-use Rattle.wasm_validator_core.specs.declared.error.Error.TheVariants.{Refused, DuplicateExport, OutOfMemory}
-use Rattle.wasm_validator_core.specs.Answers.{IsNowhere, Adds, AddsWhere}
+use Rattle.wasm_validator_items.proofs.WasmValidatorCore.AddedGroups.{refusal}
+use Rattle.wasm_validator_items.specs.WasmValidatorCore.declared.error.Error.{Error}
+use Rattle.wasm_validator_items.specs.WasmValidatorCore.declared.error.Error.TheVariants.{Refused, DuplicateExport, OutOfMemory}
+use Rattle.wasm_validator_items.specs.WasmValidatorCore.Answers.{IsNowhere, Adds, AddsWhere}
 use Rattle.wasm_validator_sections.specs.Sections.{read_each}
 
 -- what holds after items one after another held before them, where that is so of each

@@ -1,5 +1,6 @@
+pub use Rattle.wasm_validator_items.proofs.WasmValidatorCoreResources as WasmValidatorCoreResources
 pub use Rattle.wasm_validator_references.proofs as WasmValidatorReferences
-pub use Rattle.wasm_validator_core.proofs.WasmValidatorChecks as WasmValidatorChecks
+pub use Rattle.wasm_validator_items.proofs.WasmValidatorCore.WasmValidatorChecks as WasmValidatorChecks
 pub use Rattle.wasm_laws_modules.proofs.WasmLawsCore as WasmLawsCore
 pub use Rattle.wasm_laws_modules.proofs.WasmLawsContexts as WasmLawsContexts
 pub use Rattle.wasm_laws_modules.proofs as WasmLawsModules

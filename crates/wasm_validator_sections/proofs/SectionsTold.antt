@@ -18,12 +18,12 @@ use Rattle.wasm_readers.specs.Sections.{next_item, NextItem}
 use Rattle.wasm_readers.specs.SectionsSeen.{SameSection, items_rest, items_end, next_item_at}
 use Rattle.wasm_readers.specs.declared.section_limited.SectionItems.{SectionItems}
 use Rattle.wasm_validator_types.specs.Spaces.{Spaces}
-use Rattle.wasm_validator_core.specs.declared.error.Error.{Error}
-use Rattle.wasm_validator_core.specs.declared.error.Error.TheVariants.{Refused, DuplicateExport, OutOfMemory}
-use Rattle.wasm_validator_core.specs.Answers.{Adds, AddsWhere, IsNowhere}
-use Rattle.wasm_validator_core.specs.Errors.{IsAt, lifted}
-use Rattle.wasm_validator_core.specs.Told.{Tells, TellsExport}
-use Rattle.wasm_validator_core.proofs.AddedGroups.{refusal}
+use Rattle.wasm_validator_items.specs.WasmValidatorCore.declared.error.Error.{Error}
+use Rattle.wasm_validator_items.specs.WasmValidatorCore.declared.error.Error.TheVariants.{Refused, DuplicateExport, OutOfMemory}
+use Rattle.wasm_validator_items.specs.WasmValidatorCore.Answers.{Adds, AddsWhere, IsNowhere}
+use Rattle.wasm_validator_items.specs.WasmValidatorCore.Errors.{IsAt, lifted}
+use Rattle.wasm_validator_items.specs.WasmValidatorCore.Told.{Tells, TellsExport}
+use Rattle.wasm_validator_items.proofs.WasmValidatorCore.AddedGroups.{refusal}
 use Rattle.wasm_validator_sections.specs.SectionsTold.{IsNone, OfContent, TellsFormat, TellsAt, TellsNamedAt, Either, Read, Added, TellsEach, TellsCount}
 use Rattle.wasm_validator_sections.proofs.ItemSteps.{no_item, item_is}
 

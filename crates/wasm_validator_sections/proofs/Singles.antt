@@ -15,12 +15,12 @@ use Rattle.wasm_readers_types.specs.declared.types.SubType.{SubType}
 use Rattle.wasm_validator_type_list.specs.DefTypes.{def_types}
 use Rattle.wasm_validator_type_list.specs.Listable.{AreListable}
 use Rattle.wasm_validator_types.specs.Spaces.{Spaces}
-use Rattle.wasm_validator_core.specs.Answers.{TypesSoFar, Adds}
-use Rattle.wasm_validator_core.specs.declared.error.Error.{Error}
-use Rattle.wasm_validator_core.specs.declared.error.Error.TheVariants.{Refused, DuplicateExport, OutOfMemory}
-use Rattle.wasm_validator_core.specs.declared.limits.TheConstants.{MAX_ELEMENT_SEGMENTS}
-use Rattle.wasm_validator_core_resources.specs.IndexContexts.{id_of}
-use Rattle.wasm_validator_core_resources.specs.ListContexts.{list_declares}
+use Rattle.wasm_validator_items.specs.WasmValidatorCore.Answers.{TypesSoFar, Adds}
+use Rattle.wasm_validator_items.specs.WasmValidatorCore.declared.error.Error.{Error}
+use Rattle.wasm_validator_items.specs.WasmValidatorCore.declared.error.Error.TheVariants.{Refused, DuplicateExport, OutOfMemory}
+use Rattle.wasm_validator_items.specs.WasmValidatorCore.declared.limits.TheConstants.{MAX_ELEMENT_SEGMENTS}
+use Rattle.wasm_validator_items.specs.WasmValidatorCoreResources.IndexContexts.{id_of}
+use Rattle.wasm_validator_items.specs.WasmValidatorCoreResources.ListContexts.{list_declares}
 use Rattle.wasm_laws_modules.specs.WasmLawsContexts.ListedTypes.{types_declare}
 use Rattle.wasm_laws_modules.proofs.WasmLawsContexts.ListedTypes.{lists_declare_their_types}
 use Rattle.wasm_validator_references.specs.WasmSpecValidity.Expressions.{expression_at}

@@ -1,6 +1,6 @@
 pub use Rattle.wasm_validator_references.specs as WasmValidatorReferences
-pub use Rattle.wasm_validator_core.specs.WasmValidatorChecks as WasmValidatorChecks
-pub use Rattle.wasm_validator_core.specs as WasmValidatorCore
+pub use Rattle.wasm_validator_items.specs.WasmValidatorCore.WasmValidatorChecks as WasmValidatorChecks
+pub use Rattle.wasm_validator_items.specs.WasmValidatorCore as WasmValidatorCore
 pub use Rattle.wasm_laws_modules.specs.WasmLawsCore as WasmLawsCore
 pub use Rattle.wasm_laws_modules.specs.WasmLawsContexts as WasmLawsContexts
 pub use Rattle.wasm_validator_func.specs as WasmValidatorFunc

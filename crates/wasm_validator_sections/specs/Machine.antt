@@ -11,10 +11,10 @@ use Rattle.wasm_spec_rules.specs.Limits.{most_tables, most_memories}
 use Rattle.wasm_readers.specs.Written.{written}
 use Rattle.wasm_readers_errors.specs.WasmReadersFeatures.declared.features.WasmFeatures.{WasmFeatures}
 use Rattle.wasm_validator_types.specs.Spaces.{Spaces}
-use Rattle.wasm_validator_core.specs.declared.limits.TheConstants.{MAX_TYPES, MAX_IMPORTS, MAX_FUNCTIONS, MAX_GLOBALS, MAX_TAGS, MAX_EXPORTS, MAX_ELEMENT_SEGMENTS, MAX_DATA_SEGMENTS}
-use Rattle.wasm_validator_core.specs.Machine.{add_group}
-use Rattle.wasm_validator_core.specs.Items.{is_startable, is_data_count, add_import, add_function, add_memory, add_tag, add_export}
-use Rattle.wasm_validator_core.specs.Answers.{TypesSoFar}
+use Rattle.wasm_validator_items.specs.WasmValidatorCore.declared.limits.TheConstants.{MAX_TYPES, MAX_IMPORTS, MAX_FUNCTIONS, MAX_GLOBALS, MAX_TAGS, MAX_EXPORTS, MAX_ELEMENT_SEGMENTS, MAX_DATA_SEGMENTS}
+use Rattle.wasm_validator_items.specs.WasmValidatorCore.Machine.{add_group}
+use Rattle.wasm_validator_items.specs.WasmValidatorCore.Items.{is_startable, is_data_count, add_import, add_function, add_memory, add_tag, add_export}
+use Rattle.wasm_validator_items.specs.WasmValidatorCore.Answers.{TypesSoFar}
 use Rattle.wasm_laws_modules.specs.WasmLawsContexts.ListedTypes.{types_declare}
 use Rattle.wasm_validator_references.specs.WasmSpecValidity.Expressions.{expression_at}
 use Rattle.wasm_validator_sections.specs.Sections.{read_section}

@@ -24,14 +24,14 @@ use Rattle.wasm_readers.specs.declared.section_limited.SectionLimited.{SectionLi
 use Rattle.wasm_validator_type_list.specs.Listing.{Listing}
 use Rattle.wasm_validator_type_list.specs.DefTypes.{types_of_list}
 use Rattle.wasm_validator_types.specs.Spaces.{Spaces, is_exported}
-use Rattle.wasm_validator_core.specs.declared.error.Error.{Error}
-use Rattle.wasm_validator_core.specs.declared.error.Error.TheVariants.{Refused, DuplicateExport, OutOfMemory}
-use Rattle.wasm_validator_core.specs.declared.limits.TheConstants.{MAX_TYPES, MAX_IMPORTS, MAX_FUNCTIONS, MAX_GLOBALS, MAX_TAGS, MAX_EXPORTS, MAX_ELEMENT_SEGMENTS, MAX_DATA_SEGMENTS}
-use Rattle.wasm_validator_core.specs.Answers.{TypesSoFar, IsNowhere, HasValidTypes}
-use Rattle.wasm_validator_core.specs.Errors.{IsAt, IfContent}
-use Rattle.wasm_validator_core.specs.Items.{add_import, add_function, add_memory, add_tag, add_export, exported_entity}
-use Rattle.wasm_validator_core.specs.Machine.{add_group}
-use Rattle.wasm_validator_core.specs.Told.{told_of_import, told_of_added_function, told_of_added_memory, told_of_added_tag, ToldOfAddedGroup, told_of_entity}
+use Rattle.wasm_validator_items.specs.WasmValidatorCore.declared.error.Error.{Error}
+use Rattle.wasm_validator_items.specs.WasmValidatorCore.declared.error.Error.TheVariants.{Refused, DuplicateExport, OutOfMemory}
+use Rattle.wasm_validator_items.specs.WasmValidatorCore.declared.limits.TheConstants.{MAX_TYPES, MAX_IMPORTS, MAX_FUNCTIONS, MAX_GLOBALS, MAX_TAGS, MAX_EXPORTS, MAX_ELEMENT_SEGMENTS, MAX_DATA_SEGMENTS}
+use Rattle.wasm_validator_items.specs.WasmValidatorCore.Answers.{TypesSoFar, IsNowhere, HasValidTypes}
+use Rattle.wasm_validator_items.specs.WasmValidatorCore.Errors.{IsAt, IfContent}
+use Rattle.wasm_validator_items.specs.WasmValidatorCore.Items.{add_import, add_function, add_memory, add_tag, add_export, exported_entity}
+use Rattle.wasm_validator_items.specs.WasmValidatorCore.Machine.{add_group}
+use Rattle.wasm_validator_items.specs.WasmValidatorCore.Told.{told_of_import, told_of_added_function, told_of_added_memory, told_of_added_tag, ToldOfAddedGroup, told_of_entity}
 
 -- nothing
 abbrev pub IsNone : {X : Type 0} → Option X → Type 0

@@ -6,8 +6,8 @@ use Rattle.wasm_spec.specs.BinarySections.{table_entry_at, global_entry_at, elem
 use Rattle.wasm_spec.specs.Features.{Features}
 use Rattle.wasm_readers.specs.Written.{written}
 use Rattle.wasm_validator_types.specs.Spaces.{Spaces}
-use Rattle.wasm_validator_core.specs.declared.limits.TheConstants.{MAX_ELEMENT_SEGMENTS}
-use Rattle.wasm_validator_core.specs.Answers.{TypesSoFar}
+use Rattle.wasm_validator_items.specs.WasmValidatorCore.declared.limits.TheConstants.{MAX_ELEMENT_SEGMENTS}
+use Rattle.wasm_validator_items.specs.WasmValidatorCore.Answers.{TypesSoFar}
 use Rattle.wasm_laws_modules.specs.WasmLawsContexts.ListedTypes.{types_declare}
 use Rattle.wasm_validator_references.specs.WasmSpecValidity.Expressions.{expression_at}
 use Rattle.wasm_validator_references.specs.References.{names_at, table_names, global_names, element_names}

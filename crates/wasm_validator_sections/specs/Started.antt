@@ -2,10 +2,10 @@
 use Rattle.std.specs.Prelude.{ℕ, suc, ◌-◌}
 use Rattle.wasm_spec_rules.specs.Contexts.{Context}
 use Rattle.wasm_readers_types.specs.WasmReadersValues.declared.indices.UnpackedIndex.{UnpackedIndex}
-use Rattle.wasm_validator_core_resources.specs.ModuleContexts.{flagged_from}
+use Rattle.wasm_validator_items.specs.WasmValidatorCoreResources.ModuleContexts.{flagged_from}
 use Rattle.wasm_laws_modules.specs.BodyContexts.{code_context}
 use Rattle.wasm_validator_types.specs.Spaces.{Spaces}
-use Rattle.wasm_validator_core.specs.Answers.{TypesSoFar}
+use Rattle.wasm_validator_items.specs.WasmValidatorCore.Answers.{TypesSoFar}
 use Rattle.wasm_validator_sections.specs.Bodies.{expected_bodies}
 use Rattle.wasm_validator_sections.specs.declared.code_state.CodeState.{CodeState}
 use Rattle.wasm_validator_sections.specs.Noted.{Noted}

@@ -4,8 +4,8 @@ ghost use Rattle.std.specs.Prelude.{◌≡◌, ◌+◌, ◌-◌, ◌==◌, not, 
 ghost use Rattle.wasm_readers_bytes.specs.Reader.{original, position_in};
 ghost use Rattle.wasm_parser.specs.Seen.{body_of, body_reader};
 ghost use Rattle.wasm_readers_errors.specs.Refusals.{plain};
-ghost use Rattle.wasm_validator_core.specs.Ready.{AreHeld};
-ghost use Rattle.wasm_validator_core_resources.specs.ById.{AreFirstByIds};
+ghost use Rattle.wasm_validator_items.specs.WasmValidatorCore.Ready.{AreHeld};
+ghost use Rattle.wasm_validator_items.specs.WasmValidatorCoreResources.ById.{AreFirstByIds};
 ghost use Rattle.wasm_validator_sections.specs.Bodies.{expected_bodies};
 ghost use Rattle.wasm_validator_sections.specs.declared.code_state.TheConstants.{MAX_FUNCTION_SIZE};
 ghost use Rattle.wasm_validator_type_list.specs.DefTypes.{types_of_list};
@@ -18,9 +18,9 @@ use std::alloc::{AllocError, Allocator};
 use std::rc::Rc;
 use wasm_parser::FunctionBody;
 use wasm_readers::{Counted, Fault, WasmFeatures};
-use wasm_validator_core::{Error, check_max};
-use wasm_validator_core_resources::ValidatorResources;
 use wasm_validator_func::FuncToValidate;
+use wasm_validator_items::validator_core::{Error, check_max};
+use wasm_validator_items::validator_core_resources::ValidatorResources;
 use wasm_validator_types::TypeList;
 
 /// The start of the code of a module: its lists are shared from now on, and what bodies look up is

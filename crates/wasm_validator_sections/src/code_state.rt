@@ -5,7 +5,7 @@ ghost use Rattle.wasm_validator_sections.specs.Bodies.{expected_bodies};
 
 use std::alloc::{Allocator, Global};
 use std::rc::Rc;
-use wasm_validator_core_resources::ValidatorResources;
+use wasm_validator_items::validator_core_resources::ValidatorResources;
 use wasm_validator_types::IndexSpaces;
 
 /// The most bytes of a function's body.

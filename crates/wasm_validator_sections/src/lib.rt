@@ -23,10 +23,15 @@ pub use wasm_validator_items::{
 
 /// Passed on from `wasm_validator_core`.
 pub mod validator_core {
-    pub use wasm_validator_core::{Error, Module, check_data_count};
+    pub use wasm_validator_items::validator_core::{Error, Module, check_data_count};
 }
 
 /// Passed on from `wasm_validator_func`.
 pub mod validator_func {
     pub use wasm_validator_func::{FuncToValidate, FuncValidator, FuncValidatorAllocations};
+}
+
+/// Passed on from `wasm_validator_core_resources`.
+pub mod validator_core_resources {
+    pub use wasm_validator_items::validator_core_resources::ValidatorResources;
 }

@@ -6,10 +6,10 @@ ghost use Rattle.wasm_readers.specs.SectionsSeen.{count_of, bytes_of, section_st
 ghost use Rattle.wasm_validator_references.specs.References.{names_of_tables, names_of_globals, names_of_exports, names_of_elements};
 ghost use Rattle.wasm_validator_sections.specs.Noted.{naming, noted_of};
 ghost use Rattle.wasm_validator_type_list.specs.DefTypes.{types_of_list};
-ghost use Rattle.wasm_validator_core.specs.WasmValidatorCanonical.Groups.{AreValid};
-ghost use Rattle.wasm_validator_core.specs.Answers.{Adds, AddsWhere, HasValidTypes};
-ghost use Rattle.wasm_validator_core.specs.Ready.{IsOpenFor, AreHeld, AreIdsOf};
-ghost use Rattle.wasm_validator_core_resources.specs.ById.{AreFirstByIds};
+ghost use Rattle.wasm_validator_items.specs.WasmValidatorCore.WasmValidatorCanonical.Groups.{AreValid};
+ghost use Rattle.wasm_validator_items.specs.WasmValidatorCore.Answers.{Adds, AddsWhere, HasValidTypes};
+ghost use Rattle.wasm_validator_items.specs.WasmValidatorCore.Ready.{IsOpenFor, AreHeld, AreIdsOf};
+ghost use Rattle.wasm_validator_items.specs.WasmValidatorCoreResources.ById.{AreFirstByIds};
 ghost use Rattle.wasm_validator_sections.specs.Machine.{type_items, import_items, function_items, table_items, memory_items, tag_items, global_items, export_items, element_items, data_items};
 ghost use Rattle.wasm_validator_sections.specs.SectionsTold.{OfContent, StandsBetween, TellsTypes, TellsImports, TellsFunctions, TellsTables, TellsMemories, TellsTags, TellsGlobals, TellsExports, TellsElements, TellsData};
 
@@ -19,7 +19,7 @@ use wasm_readers::{
     Counted, Data, Element, Export, Global, Import, MemoryType, RecGroup, SectionLimited, Table,
     TagType, WasmFeatures,
 };
-use wasm_validator_core::{
+use wasm_validator_items::validator_core::{
     Error, MAX_DATA_SEGMENTS, MAX_ELEMENT_SEGMENTS, MAX_EXPORTS, MAX_FUNCTIONS, MAX_GLOBALS,
     MAX_IMPORTS, MAX_TAGS, MAX_TYPES, Module, check_max,
 };

@@ -6,12 +6,12 @@ ghost use Rattle.wasm_readers_bytes.specs.Reader.{SameInput, position_in, rest};
 ghost use Rattle.wasm_readers_types.specs.SeenExterns.{table_of};
 ghost use Rattle.wasm_validator_type_list.specs.DefTypes.{types_of_list};
 ghost use Rattle.wasm_validator_types.specs.Spaces.{no_spaces};
-ghost use Rattle.wasm_validator_core.specs.Errors.{IsAt};
-ghost use Rattle.wasm_validator_core.specs.Answers.{Adds};
-ghost use Rattle.wasm_validator_core.specs.Ready.{AreHeld};
-ghost use Rattle.wasm_validator_core.specs.Told.{Tells, told_of_added_table};
-ghost use Rattle.wasm_validator_core.specs.Items.{add_table};
-ghost use Rattle.wasm_validator_core_resources.specs.ById.{AreFirstByIds};
+ghost use Rattle.wasm_validator_items.specs.WasmValidatorCore.Errors.{IsAt};
+ghost use Rattle.wasm_validator_items.specs.WasmValidatorCore.Answers.{Adds};
+ghost use Rattle.wasm_validator_items.specs.WasmValidatorCore.Ready.{AreHeld};
+ghost use Rattle.wasm_validator_items.specs.WasmValidatorCore.Told.{Tells, told_of_added_table};
+ghost use Rattle.wasm_validator_items.specs.WasmValidatorCore.Items.{add_table};
+ghost use Rattle.wasm_validator_items.specs.WasmValidatorCoreResources.ById.{AreFirstByIds};
 ghost use Rattle.wasm_validator_references.specs.References.{marked};
 ghost use Rattle.wasm_validator_items.specs.Answers.{StandsBehind};
 ghost use Rattle.wasm_validator_sections.specs.Singles.{next_table, next_global, next_element, next_data, names_of_table, names_of_global, names_of_element};
@@ -19,8 +19,8 @@ ghost use Rattle.wasm_validator_sections.specs.Singles.{next_table, next_global,
 use crate::single_items;
 use std::alloc::{Allocator, Global};
 use wasm_readers::{BinaryReader, TableType, WasmFeatures};
-use wasm_validator_core::{Error, Module};
 use wasm_validator_items::Constants;
+use wasm_validator_items::validator_core::{Error, Module};
 use wasm_validator_references::{ReferencedFunctions, mark_element, mark_global, mark_table};
 use wasm_validator_types::TypeList;
 

@@ -5,15 +5,15 @@ ghost use Rattle.std.specs.Prelude.{◌≡◌, ◌≤◌, ◌+◌, nat_le, is_ok
 ghost use Rattle.wasm_spec_rules.specs.FeatureFlags.{features_of};
 ghost use Rattle.wasm_readers_bytes.specs.Reader.{SameInput, position_in, rest};
 ghost use Rattle.wasm_validator_type_list.specs.DefTypes.{types_of_list};
-ghost use Rattle.wasm_validator_core.specs.Answers.{Adds};
-ghost use Rattle.wasm_validator_core.specs.Ready.{AreHeld};
-ghost use Rattle.wasm_validator_core_resources.specs.ById.{AreFirstByIds};
+ghost use Rattle.wasm_validator_items.specs.WasmValidatorCore.Answers.{Adds};
+ghost use Rattle.wasm_validator_items.specs.WasmValidatorCore.Ready.{AreHeld};
+ghost use Rattle.wasm_validator_items.specs.WasmValidatorCoreResources.ById.{AreFirstByIds};
 ghost use Rattle.wasm_validator_items.specs.Answers.{StandsBehind};
 ghost use Rattle.wasm_validator_sections.specs.Singles.{next_table, next_global, next_element, next_data};
 
 use std::alloc::Allocator;
 use wasm_readers::{BinaryReader, Counted, Refusal, WasmFeatures};
-use wasm_validator_core::{Error, MAX_ELEMENT_SEGMENTS, Module, check_max};
+use wasm_validator_items::validator_core::{Error, MAX_ELEMENT_SEGMENTS, Module, check_max};
 use wasm_validator_items::{
     Constants, add_next_element, add_next_global, add_next_table, check_next_data,
     tells_types_apart,

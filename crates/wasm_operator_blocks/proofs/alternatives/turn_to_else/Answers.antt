@@ -1,7 +1,7 @@
 use Rattle.std.proofs.Common.{◌-◌, sym, ◌∙◌, ap}
-use Rattle.wasm_operator_checks.specs.WasmOperatorStacks.Seen.{state_of}
-use Rattle.wasm_operator_checks.specs.SeenTypes.{types_seen}
-use Rattle.wasm_operator_checks.proofs.Acting.{took_ok}
+use Rattle.wasm_operator_control.specs.WasmOperatorChecks.WasmOperatorStacks.Seen.{state_of}
+use Rattle.wasm_operator_control.specs.WasmOperatorChecks.SeenTypes.{types_seen}
+use Rattle.wasm_operator_control.proofs.WasmOperatorChecks.Acting.{took_ok}
 use Rattle.wasm_operator_blocks.proofs.Turned.{turn_is}
 use Rattle.wasm_operator_blocks.proofs.alternatives.turn_to_else.Goals as goal
 

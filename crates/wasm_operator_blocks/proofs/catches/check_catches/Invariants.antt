@@ -1,7 +1,7 @@
 use Rattle.std.proofs.Common.{◌≡◌, length}
 use Rattle.wasm_operators.specs.Control.{catch_at}
 use Rattle.wasm_operators.specs.SeenLists.{items_left}
-use Rattle.wasm_operator_checks.specs.WasmOperatorSteps.Shapes.{catch_checks}
+use Rattle.wasm_operator_control.specs.WasmOperatorChecks.WasmOperatorSteps.Shapes.{catch_checks}
 use Rattle.wasm_operator_blocks.specs.Known.{all_held}
 use Rattle.wasm_operator_blocks.proofs.catches.check_catches.Given as goal
 

@@ -1,5 +1,5 @@
 use Rattle.std.proofs.Common.{refl}
-use Rattle.wasm_operator_checks.proofs.Acting.{took_ok, took_refused}
+use Rattle.wasm_operator_control.proofs.WasmOperatorChecks.Acting.{took_ok, took_refused}
 use Rattle.wasm_operator_blocks.proofs.Choosing.{none_chosen, one_chosen}
 use Rattle.wasm_operator_blocks.proofs.choices.select.Goals as goal
 

@@ -1,6 +1,6 @@
 use Rattle.std.proofs.Common.{rules}
 use Rattle.wasm_readers_types.specs.WasmReadersValues.SeenValues.{val_of}
-use Rattle.wasm_operator_checks.proofs.Acting.{needed, plainly, has_held}
+use Rattle.wasm_operator_control.proofs.WasmOperatorChecks.Acting.{needed, plainly, has_held}
 use Rattle.wasm_operator_blocks.proofs.Choosing.{written_allowed, three_typed, one_typed}
 use Rattle.wasm_operator_blocks.proofs.choices.select_of.Goals as goal
 

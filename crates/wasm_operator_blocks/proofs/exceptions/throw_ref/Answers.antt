@@ -1,5 +1,5 @@
 use Rattle.std.proofs.Common.{rules}
-use Rattle.wasm_operator_checks.proofs.Acting.{needed, halting, has_held}
+use Rattle.wasm_operator_control.proofs.WasmOperatorChecks.Acting.{needed, halting, has_held}
 use Rattle.wasm_operator_blocks.proofs.Throwing.{exception_typed}
 use Rattle.wasm_operator_blocks.proofs.exceptions.throw_ref.Goals as goal
 

@@ -1,6 +1,6 @@
 use Rattle.std.proofs.Common.{rules, map, ap}
 use Rattle.wasm_readers_types.specs.WasmReadersValues.SeenValues.{val_of}
-use Rattle.wasm_operator_checks.specs.WasmValidatorResources.Answers.{signature_seen}
+use Rattle.wasm_operator_control.specs.WasmOperatorChecks.WasmValidatorResources.Answers.{signature_seen}
 use Rattle.wasm_operator_blocks.proofs.Resolved.{function_known}
 use Rattle.wasm_operator_blocks.proofs.openings.resolve_function.Goals as goal
 

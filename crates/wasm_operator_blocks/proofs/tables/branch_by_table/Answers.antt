@@ -1,5 +1,5 @@
-use Rattle.wasm_operator_checks.specs.WasmOperatorStacks.Seen.{state_of}
-use Rattle.wasm_operator_checks.proofs.Acting.{took_ok}
+use Rattle.wasm_operator_control.specs.WasmOperatorChecks.WasmOperatorStacks.Seen.{state_of}
+use Rattle.wasm_operator_control.proofs.WasmOperatorChecks.Acting.{took_ok}
 use Rattle.wasm_operator_blocks.proofs.Tabled.{table_is}
 use Rattle.wasm_operator_blocks.proofs.tables.branch_by_table.Goals as goal
 

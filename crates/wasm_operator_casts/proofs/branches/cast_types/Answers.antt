@@ -1,5 +1,5 @@
 use Rattle.std.proofs.Common.{rules, sym, ◌∙◌}
-use Rattle.wasm_operator_checks.proofs.Acting.{has_held, allows_held, refused_here, refused_later}
+use Rattle.wasm_operator_references.proofs.WasmOperatorChecks.Acting.{has_held, allows_held, refused_here, refused_later}
 use Rattle.wasm_operator_casts.proofs.Casting.{cast_held, from_unresolved, to_unresolved}
 use Rattle.wasm_operator_casts.proofs.branches.cast_types.Goals as goal
 

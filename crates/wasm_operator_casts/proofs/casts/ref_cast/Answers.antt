@@ -1,5 +1,5 @@
 use Rattle.std.proofs.Common.{rules, sym, ◌∙◌}
-use Rattle.wasm_operator_checks.proofs.Acting.{needed, has_held, allows_held, plainly, refused_here, refused_later}
+use Rattle.wasm_operator_references.proofs.WasmOperatorChecks.Acting.{needed, has_held, allows_held, plainly, refused_here, refused_later}
 use Rattle.wasm_operator_references.proofs.Writing.{reference_typed}
 use Rattle.wasm_operator_casts.proofs.Topping.{tested_held, top_typed}
 use Rattle.wasm_operator_casts.proofs.casts.ref_cast.Goals as goal

@@ -1,6 +1,6 @@
 use Rattle.std.proofs.Common.{rules, sym, ◌∙◌}
-use Rattle.wasm_operator_checks.proofs.Acting.{needed, has_held, allows_held, plainly, refused_here, refused_later}
-use Rattle.wasm_operator_checks.proofs.Typing.{i32_typed}
+use Rattle.wasm_operator_references.proofs.WasmOperatorChecks.Acting.{needed, has_held, allows_held, plainly, refused_here, refused_later}
+use Rattle.wasm_operator_references.proofs.WasmOperatorChecks.Typing.{i32_typed}
 use Rattle.wasm_operator_casts.proofs.Topping.{tested_held, top_typed}
 use Rattle.wasm_operator_casts.proofs.casts.ref_test.Goals as goal
 

@@ -1,6 +1,6 @@
 use Rattle.std.proofs.Common.{sym, ◌∙◌}
-use Rattle.wasm_operator_checks.proofs.Acting.{needed, allows_held, plainly}
-use Rattle.wasm_operator_checks.proofs.Typing.{i32_typed}
+use Rattle.wasm_operator_references.proofs.WasmOperatorChecks.Acting.{needed, allows_held, plainly}
+use Rattle.wasm_operator_references.proofs.WasmOperatorChecks.Typing.{i32_typed}
 use Rattle.wasm_operator_casts.proofs.Converting.{boxed_typed}
 use Rattle.wasm_operator_casts.proofs.conversions.box_integer.Goals as goal
 

@@ -1,5 +1,5 @@
 use Rattle.std.proofs.Common.{rules, sym, ◌∙◌}
-use Rattle.wasm_operator_checks.proofs.Acting.{needed, has_held, allows_held, took_ok}
+use Rattle.wasm_operator_references.proofs.WasmOperatorChecks.Acting.{needed, has_held, allows_held, took_ok}
 use Rattle.wasm_operator_casts.proofs.Converting.{is_converted}
 use Rattle.wasm_operator_casts.proofs.conversions.convert.Goals as goal
 

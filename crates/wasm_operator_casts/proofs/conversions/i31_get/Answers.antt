@@ -1,7 +1,7 @@
 use Rattle.std.proofs.Common.{rules, ◌∙◌, ap}
-use Rattle.wasm_operator_checks.specs.WasmOperatorSteps.Machine.{push_operand}
-use Rattle.wasm_operator_checks.specs.WasmOperatorStacks.Seen.{state_of, below}
-use Rattle.wasm_operator_checks.proofs.Acting.{needed, has_held, took_ok}
+use Rattle.wasm_operator_references.specs.WasmOperatorChecks.WasmOperatorSteps.Machine.{push_operand}
+use Rattle.wasm_operator_references.specs.WasmOperatorChecks.WasmOperatorStacks.Seen.{state_of, below}
+use Rattle.wasm_operator_references.proofs.WasmOperatorChecks.Acting.{needed, has_held, took_ok}
 use Rattle.wasm_operator_casts.proofs.Converting.{is_measured}
 use Rattle.wasm_operator_casts.proofs.conversions.i31_get.Goals as goal
 

@@ -1,5 +1,5 @@
 use Rattle.std.proofs.Common.{rules}
-use Rattle.wasm_operator_checks.proofs.Acting.{needed, has_held}
+use Rattle.wasm_operator_references.proofs.WasmOperatorChecks.Acting.{needed, has_held}
 use Rattle.wasm_operator_casts.proofs.conversions.ref_i31_shared.Goals as goal
 
 pub returns-clause-took : goal.returns-clause-took

@@ -1,12 +1,12 @@
 use Rattle.std.proofs.Common.{refl, [], ◌∷◌, ◌++◌, sym, ◌∙◌, ap}
-use Rattle.wasm_operator_checks.specs.WasmOperatorStacks.SeenTypeWords.{val_in}
-use Rattle.wasm_operator_checks.specs.WasmOperatorSteps.Machine.{push_operand, push_vals}
-use Rattle.wasm_operator_checks.proofs.WasmOperatorSteps.TakenInTurn.{push_vals-append}
-use Rattle.wasm_operator_checks.specs.WasmValidatorResources.Answers.{world}
-use Rattle.wasm_operator_checks.specs.WasmOperatorStacks.Seen.{state_of, below}
-use Rattle.wasm_operator_checks.specs.SeenTypes.{types_seen}
-use Rattle.wasm_operator_checks.proofs.Acting.{took_ok, took_refused}
-use Rattle.wasm_operator_checks.proofs.Taking.{rest_missing, all_exchanged}
+use Rattle.wasm_operator_references.specs.WasmOperatorChecks.WasmOperatorStacks.SeenTypeWords.{val_in}
+use Rattle.wasm_operator_references.specs.WasmOperatorChecks.WasmOperatorSteps.Machine.{push_operand, push_vals}
+use Rattle.wasm_operator_references.proofs.WasmOperatorChecks.WasmOperatorSteps.TakenInTurn.{push_vals-append}
+use Rattle.wasm_operator_references.specs.WasmOperatorChecks.WasmValidatorResources.Answers.{world}
+use Rattle.wasm_operator_references.specs.WasmOperatorChecks.WasmOperatorStacks.Seen.{state_of, below}
+use Rattle.wasm_operator_references.specs.WasmOperatorChecks.SeenTypes.{types_seen}
+use Rattle.wasm_operator_references.proofs.WasmOperatorChecks.Acting.{took_ok, took_refused}
+use Rattle.wasm_operator_references.proofs.WasmOperatorChecks.Taking.{rest_missing, all_exchanged}
 use Rattle.wasm_operator_casts.proofs.sends.exchange_top.Goals as goal
 
 pub returns-in-Err-check_types-clause-took : goal.returns-in-Err-check_types-clause-took

@@ -1,5 +1,5 @@
 use Rattle.std.proofs.Common.{refl}
-use Rattle.wasm_operator_checks.proofs.Acting.{took_refused}
+use Rattle.wasm_operator_references.proofs.WasmOperatorChecks.Acting.{took_refused}
 use Rattle.wasm_operator_casts.proofs.Sending.{unsent_type, is_sent}
 use Rattle.wasm_operator_casts.proofs.sends.send.Goals as goal
 

@@ -1,4 +1,4 @@
-use Rattle.wasm_validator_resources.specs.Answers.{world}
+use Rattle.wasm_operator_numbers.specs.WasmOperatorChecks.WasmValidatorResources.Answers.{world}
 use Rattle.wasm_operator_numbers.specs.WasmOperatorStacks.Seen.{state_of}
 use Rattle.wasm_operator_numbers.specs.WasmOperatorStacks.SeenBlocks.{block_in, kind_of}
 use Rattle.wasm_operator_numbers.specs.WasmOperatorChecks.SeenTypes.{types_seen}

@@ -1,6 +1,6 @@
 use Rattle.std.proofs.Common.{refl}
 use Rattle.wasm_operator_numbers.specs.WasmOperatorStacks.SeenTypeWords.{val_in}
-use Rattle.wasm_validator_resources.specs.Answers.{world}
+use Rattle.wasm_operator_numbers.specs.WasmOperatorChecks.WasmValidatorResources.Answers.{world}
 use Rattle.wasm_operator_numbers.specs.WasmOperatorStacks.Seen.{state_of, below}
 use Rattle.wasm_operator_numbers.specs.WasmOperatorChecks.Steps.{Took}
 use Rattle.wasm_operator_numbers.specs.WasmOperatorChecks.SeenTypes.{types_seen}

@@ -1,6 +1,6 @@
 use Rattle.std.proofs.Common.{◌≡◌, subst}
 use Rattle.std.specs.Prelude.{Some, None, IfOk, OnErr}
-use Rattle.wasm_validator_resources.specs.Answers.{signature_seen}
+use Rattle.wasm_operator_numbers.specs.WasmOperatorChecks.WasmValidatorResources.Answers.{signature_seen}
 use Rattle.wasm_operator_control.proofs.Called.{of_its_type, function_unknown}
 use Rattle.wasm_operator_control.proofs.reach.function_reached.Goals as goal
 

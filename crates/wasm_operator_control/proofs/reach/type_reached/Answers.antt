@@ -1,6 +1,6 @@
 use Rattle.std.proofs.Common.{sym, ◌∙◌, ap}
 use Rattle.wasm_readers_types.specs.SeenTypes.{comp_of, sub_of}
-use Rattle.wasm_validator_resources.specs.WasmSpecRules.Signatures.{signature_of}
+use Rattle.wasm_operator_numbers.specs.WasmOperatorChecks.WasmValidatorResources.WasmSpecRules.Signatures.{signature_of}
 use Rattle.wasm_operator_control.proofs.Called.{unsigned, type_found, type_unshared, type_unsigned, type_unknown}
 use Rattle.wasm_operator_control.proofs.reach.type_reached.Goals as goal
 

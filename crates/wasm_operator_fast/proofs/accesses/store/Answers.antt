@@ -1,5 +1,5 @@
 use Rattle.std.proofs.Common.{rules}
-use Rattle.wasm_operator_checks.proofs.Typing.{nothing_typed, memory_typed, number_typed, joined_typed, aligned_held}
+use Rattle.wasm_operator_control.proofs.WasmOperatorChecks.Typing.{nothing_typed, memory_typed, number_typed, joined_typed, aligned_held}
 use Rattle.wasm_operator_fast.proofs.Fasting.{needed, plainly, allows_held}
 use Rattle.wasm_operator_fast.proofs.accesses.store.Goals as goal
 

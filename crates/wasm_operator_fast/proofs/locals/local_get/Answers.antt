@@ -1,4 +1,4 @@
-use Rattle.wasm_operator_checks.proofs.Typing.{nothing_typed}
+use Rattle.wasm_operator_control.proofs.WasmOperatorChecks.Typing.{nothing_typed}
 use Rattle.wasm_operator_fast.proofs.Fasting.{needed, plainly}
 use Rattle.wasm_operator_fast.proofs.Locally.{already_held, typed_as}
 use Rattle.wasm_operator_fast.proofs.locals.local_get.Goals as goal

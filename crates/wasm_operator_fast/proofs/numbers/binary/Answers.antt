@@ -1,5 +1,5 @@
 use Rattle.std.proofs.Common.{rules}
-use Rattle.wasm_operator_checks.proofs.Typing.{number_typed, two_numbers_typed}
+use Rattle.wasm_operator_control.proofs.WasmOperatorChecks.Typing.{number_typed, two_numbers_typed}
 use Rattle.wasm_operator_fast.proofs.Fasting.{needed, plainly, allows_held}
 use Rattle.wasm_operator_fast.proofs.numbers.binary.Goals as goal
 

@@ -1,5 +1,5 @@
 use Rattle.std.proofs.Common.{arith, refl, sym}
-use Rattle.wasm_operator_checks.specs.WasmOperatorStacks.SeenTypeWords.{val_in}
+use Rattle.wasm_operator_control.specs.WasmOperatorChecks.WasmOperatorStacks.SeenTypeWords.{val_in}
 use Rattle.wasm_operator_fast.proofs.Peeking.{peeked, found_there}
 use Rattle.wasm_operator_fast.proofs.peeks.peek.Goals as goal
 

@@ -1,6 +1,6 @@
-use Rattle.wasm_operator_checks.specs.WasmOperatorStacks.SeenTypeWords.{val_in}
-use Rattle.wasm_operator_checks.specs.WasmValidatorResources.Answers.{world}
-use Rattle.wasm_operator_checks.specs.WasmOperatorStacks.Seen.{state_of, below}
+use Rattle.wasm_operator_control.specs.WasmOperatorChecks.WasmOperatorStacks.SeenTypeWords.{val_in}
+use Rattle.wasm_operator_control.specs.WasmOperatorChecks.WasmValidatorResources.Answers.{world}
+use Rattle.wasm_operator_control.specs.WasmOperatorChecks.WasmOperatorStacks.Seen.{state_of, below}
 use Rattle.wasm_operator_fast.proofs.Peeking.{three_there}
 use Rattle.wasm_operator_fast.proofs.peeks.peek_takes.Goals as goal
 

@@ -1,7 +1,7 @@
-use Rattle.wasm_operator_checks.specs.WasmValidatorResources.Answers.{world}
-use Rattle.wasm_operator_checks.specs.WasmOperatorStacks.Seen.{state_of, below}
-use Rattle.wasm_operator_checks.specs.SeenTypes.{types_seen, takes_seen}
-use Rattle.wasm_operator_checks.proofs.Taking.{are_exchanged}
+use Rattle.wasm_operator_control.specs.WasmOperatorChecks.WasmValidatorResources.Answers.{world}
+use Rattle.wasm_operator_control.specs.WasmOperatorChecks.WasmOperatorStacks.Seen.{state_of, below}
+use Rattle.wasm_operator_control.specs.WasmOperatorChecks.SeenTypes.{types_seen, takes_seen}
+use Rattle.wasm_operator_control.proofs.WasmOperatorChecks.Taking.{are_exchanged}
 use Rattle.wasm_operator_fast.specs.Fast.{Fast}
 use Rattle.wasm_operator_fast.proofs.plain.plain.Goals as goal
 

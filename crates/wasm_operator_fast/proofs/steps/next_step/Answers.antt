@@ -1,5 +1,5 @@
 use Rattle.wasm_readers_bytes.specs.Reader.{rest}
-use Rattle.wasm_operator_checks.specs.WasmOperatorStacks.Seen.{state_of}
+use Rattle.wasm_operator_control.specs.WasmOperatorChecks.WasmOperatorStacks.Seen.{state_of}
 use Rattle.wasm_operator_fast.proofs.Fusing.{is_taken}
 use Rattle.wasm_operator_fast.proofs.steps.next_step.Goals as goal
 

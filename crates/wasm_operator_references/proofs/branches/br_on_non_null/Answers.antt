@@ -1,5 +1,5 @@
 use Rattle.std.proofs.Common.{rules, refl}
-use Rattle.wasm_operator_checks.proofs.Acting.{needed, has_held, refused_later, took_ok, took_refused}
+use Rattle.wasm_operator_control.proofs.WasmOperatorChecks.Acting.{needed, has_held, refused_later, took_ok, took_refused}
 use Rattle.wasm_operator_references.proofs.Branching.{none_on_other, unlabeled_on_other, last_on_other, unmatched_on_other, missing_on_other, branched_on_other}
 use Rattle.wasm_operator_references.proofs.branches.br_on_non_null.Goals as goal
 

@@ -1,5 +1,5 @@
 use Rattle.std.proofs.Common.{rules, refl}
-use Rattle.wasm_operator_checks.proofs.Acting.{needed, has_held, refused_later, took_ok, took_refused}
+use Rattle.wasm_operator_control.proofs.WasmOperatorChecks.Acting.{needed, has_held, refused_later, took_ok, took_refused}
 use Rattle.wasm_operator_references.proofs.Branching.{none_on_null, unlabeled_on_null, missing_on_null, branched_on_null}
 use Rattle.wasm_operator_references.proofs.branches.br_on_null.Goals as goal
 

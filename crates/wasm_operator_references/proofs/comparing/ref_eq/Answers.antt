@@ -1,7 +1,7 @@
 use Rattle.std.proofs.Common.{rules, ◌∙◌, ap}
-use Rattle.wasm_operator_checks.specs.WasmOperatorSteps.Machine.{push_operand}
-use Rattle.wasm_operator_checks.specs.WasmOperatorStacks.Seen.{state_of, below}
-use Rattle.wasm_operator_checks.proofs.Acting.{needed, has_held, took_ok}
+use Rattle.wasm_operator_control.specs.WasmOperatorChecks.WasmOperatorSteps.Machine.{push_operand}
+use Rattle.wasm_operator_control.specs.WasmOperatorChecks.WasmOperatorStacks.Seen.{state_of, below}
+use Rattle.wasm_operator_control.proofs.WasmOperatorChecks.Acting.{needed, has_held, took_ok}
 use Rattle.wasm_operator_references.proofs.Comparable.{compared}
 use Rattle.wasm_operator_references.proofs.comparing.ref_eq.Goals as goal
 

@@ -1,6 +1,6 @@
 use Rattle.std.proofs.Common.{rules, sym, ◌∙◌}
-use Rattle.wasm_operator_checks.proofs.Acting.{needed, has_held, plainly, refused_gives, refused_here, refused_later}
-use Rattle.wasm_operator_checks.proofs.Typing.{nothing_typed}
+use Rattle.wasm_operator_control.proofs.WasmOperatorChecks.Acting.{needed, has_held, plainly, refused_gives, refused_here, refused_later}
+use Rattle.wasm_operator_control.proofs.WasmOperatorChecks.Typing.{nothing_typed}
 use Rattle.wasm_operator_references.proofs.Functional.{function_missing, function_typed, function_untyped, referenced_held}
 use Rattle.wasm_operator_references.proofs.functions.ref_func.Goals as goal
 

@@ -1,7 +1,7 @@
 use Rattle.std.proofs.Common.{◌-◌, arith, refl, ◌∙◌, ap}
-use Rattle.wasm_operator_checks.specs.WasmOperatorStacks.Seen.{state_of}
-use Rattle.wasm_operator_checks.specs.WasmOperatorStacks.SeenOperands.{operand_of}
-use Rattle.wasm_operator_checks.specs.SeenTypes.{types_seen}
+use Rattle.wasm_operator_control.specs.WasmOperatorChecks.WasmOperatorStacks.Seen.{state_of}
+use Rattle.wasm_operator_control.specs.WasmOperatorChecks.WasmOperatorStacks.SeenOperands.{operand_of}
+use Rattle.wasm_operator_control.specs.WasmOperatorChecks.SeenTypes.{types_seen}
 use Rattle.wasm_operator_references.proofs.Giving.{given_above, given_with, given_within, taken_back}
 use Rattle.wasm_operator_references.proofs.given.exchange_with.Goals as goal
 

@@ -1,5 +1,5 @@
 use Rattle.std.proofs.Common.{rules}
-use Rattle.wasm_operator_checks.proofs.Acting.{needed, has_held, took_ok}
+use Rattle.wasm_operator_control.proofs.WasmOperatorChecks.Acting.{needed, has_held, took_ok}
 use Rattle.wasm_operator_references.proofs.Referring.{is_asserted}
 use Rattle.wasm_operator_references.proofs.nulls.ref_as_non_null.Goals as goal
 

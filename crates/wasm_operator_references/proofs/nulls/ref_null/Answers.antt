@@ -1,6 +1,6 @@
 use Rattle.std.proofs.Common.{rules, sym, ◌∙◌}
-use Rattle.wasm_operator_checks.proofs.Acting.{needed, has_held, allows_held, plainly}
-use Rattle.wasm_operator_checks.proofs.Typing.{nothing_typed}
+use Rattle.wasm_operator_control.proofs.WasmOperatorChecks.Acting.{needed, has_held, allows_held, plainly}
+use Rattle.wasm_operator_control.proofs.WasmOperatorChecks.Typing.{nothing_typed}
 use Rattle.wasm_operator_references.proofs.Writing.{reference_typed}
 use Rattle.wasm_operator_references.proofs.nulls.ref_null.Goals as goal
 

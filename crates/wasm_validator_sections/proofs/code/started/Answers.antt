@@ -2,10 +2,10 @@ use Rattle.std.proofs.Common.{◌≡◌, sym, ap, subst, ◌∙◌, ℕ, ◌<◌
 use Rattle.wasm_spec.specs.Trees.{DefType}
 use Rattle.wasm_validator_type_list.specs.DefTypes.{types_of_list}
 use Rattle.wasm_validator_types.specs.Spaces.{Spaces}
-use Rattle.wasm_validator_core_resources.specs.ById.{AreFirstByIds}
-use Rattle.wasm_validator_core_resources.specs.ModuleContexts.{exact_flags, flagged_from}
-use Rattle.wasm_validator_core_resources.specs.ListContexts.{list_declares}
-use Rattle.wasm_validator_core_resources.specs.IndexContexts.{id_of}
+use Rattle.wasm_validator_items.specs.WasmValidatorCoreResources.ById.{AreFirstByIds}
+use Rattle.wasm_validator_items.specs.WasmValidatorCoreResources.ModuleContexts.{exact_flags, flagged_from}
+use Rattle.wasm_validator_items.specs.WasmValidatorCoreResources.ListContexts.{list_declares}
+use Rattle.wasm_validator_items.specs.WasmValidatorCoreResources.IndexContexts.{id_of}
 use Rattle.wasm_laws_modules.specs.WasmLawsContexts.ListedTypes.{types_declare}
 use Rattle.wasm_laws_modules.proofs.WasmLawsContexts.ListedTypes.{lists_declare_their_types}
 use Rattle.wasm_laws_modules.specs.BodyContexts.{code_context}

@@ -2,17 +2,17 @@ use Rattle.std.proofs.Common.{◌≡◌, refl, sym, ◌∙◌, ℕ, ◌+◌, ◌
 use Rattle.wasm_readers_bytes.specs.Reader.{input, position_in}
 use Rattle.wasm_spec.specs.BinaryModules.{Export, export_at}
 use Rattle.wasm_spec_rules.specs.FeatureFlags.{features_of}
-use Rattle.wasm_validator_core.specs.declared.limits.TheConstants.{MAX_EXPORTS}
+use Rattle.wasm_validator_items.specs.WasmValidatorCore.declared.limits.TheConstants.{MAX_EXPORTS}
 use Rattle.wasm_readers.specs.SectionsSeen.{count_of, bytes_of, section_start, section_end, items_left, items_rest}
 use Rattle.wasm_readers.specs.Items.{export_of}
-use Rattle.wasm_validator_core.specs.Items.{add_export, exported_entity}
-use Rattle.wasm_validator_core.specs.Told.{told_of_entity}
+use Rattle.wasm_validator_items.specs.WasmValidatorCore.Items.{add_export, exported_entity}
+use Rattle.wasm_validator_items.specs.WasmValidatorCore.Told.{told_of_entity}
 use Rattle.wasm_readers_errors.specs.declared.error.Counted.TheVariants as counted
 use Rattle.wasm_validator_type_list.specs.DefTypes.{types_of_list}
 use Rattle.wasm_validator_types.specs.Spaces.{Spaces}
-use Rattle.wasm_validator_core.specs.declared.error.Error.{Error}
-use Rattle.wasm_validator_core.specs.declared.error.Error.TheVariants.{Refused}
-use Rattle.wasm_validator_core.specs.Errors.{lifted}
+use Rattle.wasm_validator_items.specs.WasmValidatorCore.declared.error.Error.{Error}
+use Rattle.wasm_validator_items.specs.WasmValidatorCore.declared.error.Error.TheVariants.{Refused}
+use Rattle.wasm_validator_items.specs.WasmValidatorCore.Errors.{lifted}
 use Rattle.wasm_validator_sections.specs.Sections.{read_each}
 use Rattle.wasm_validator_sections.specs.Machine.{export_items}
 use Rattle.wasm_validator_sections.specs.SectionsTold.{TellsEach, TellsCount, IsNone, OfContent, TellsOfExport, TellsNamedAt}

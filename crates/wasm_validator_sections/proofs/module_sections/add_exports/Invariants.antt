@@ -3,7 +3,7 @@ use Rattle.wasm_spec.specs.BinaryModules.{export_at}
 use Rattle.wasm_spec_rules.specs.FeatureFlags.{features_of}
 use Rattle.wasm_readers.specs.SectionsSeen.{count_of, bytes_of, section_start, section_end, items_left, items_rest, next_item_at, items_end}
 use Rattle.wasm_validator_type_list.specs.DefTypes.{types_of_list}
-use Rattle.wasm_validator_core.specs.Items.{add_export}
+use Rattle.wasm_validator_items.specs.WasmValidatorCore.Items.{add_export}
 use Rattle.wasm_validator_sections.specs.Sections.{read_each}
 use Rattle.wasm_validator_sections.specs.SectionsTold.{IsNone, TellsOfExport}
 use Rattle.wasm_validator_sections.proofs.SectionsTold.{ToldOfAll}

@@ -1,17 +1,17 @@
 use Rattle.std.proofs.Common.{◌≡◌, sym, subst, ◌∙◌, ℕ, ◌+◌, ◌≤◌, true, false, leb, length, arith}
 use Rattle.wasm_readers_bytes.specs.Reader.{input, position_in}
 use Rattle.wasm_spec.specs.Values.{u32_at}
-use Rattle.wasm_validator_core.specs.declared.limits.TheConstants.{MAX_FUNCTIONS}
+use Rattle.wasm_validator_items.specs.WasmValidatorCore.declared.limits.TheConstants.{MAX_FUNCTIONS}
 use Rattle.wasm_readers.specs.SectionsSeen.{count_of, bytes_of, section_start, section_end, items_left, items_rest}
-use Rattle.wasm_validator_core.specs.Items.{add_function}
-use Rattle.wasm_validator_core.specs.Told.{told_of_added_function}
+use Rattle.wasm_validator_items.specs.WasmValidatorCore.Items.{add_function}
+use Rattle.wasm_validator_items.specs.WasmValidatorCore.Told.{told_of_added_function}
 use Rattle.wasm_readers_errors.specs.declared.error.Counted.TheVariants as counted
 use Rattle.wasm_validator_type_list.specs.DefTypes.{types_of_list}
 use Rattle.wasm_validator_types.specs.Spaces.{Spaces}
-use Rattle.wasm_validator_core.specs.declared.error.Error.{Error}
-use Rattle.wasm_validator_core.specs.declared.error.Error.TheVariants.{Refused}
-use Rattle.wasm_validator_core.specs.Errors.{lifted}
-use Rattle.wasm_validator_core.specs.Ready.{AreHeld}
+use Rattle.wasm_validator_items.specs.WasmValidatorCore.declared.error.Error.{Error}
+use Rattle.wasm_validator_items.specs.WasmValidatorCore.declared.error.Error.TheVariants.{Refused}
+use Rattle.wasm_validator_items.specs.WasmValidatorCore.Errors.{lifted}
+use Rattle.wasm_validator_items.specs.WasmValidatorCore.Ready.{AreHeld}
 use Rattle.wasm_validator_sections.specs.SectionsTold.{TellsEach, TellsCount, IsNone, OfContent, tells_function}
 use Rattle.wasm_validator_sections.proofs.ItemSteps.{read_each-step}
 use Rattle.wasm_validator_sections.proofs.SectionsTold.{told_onward, unread_told, refused_told, over_told, err_as, items_here, same_end, item_told}

@@ -2,8 +2,8 @@ use Rattle.std.proofs.Common.{◌≡◌, ◌≤◌}
 use Rattle.wasm_spec.specs.Values.{u32_at}
 use Rattle.wasm_readers.specs.SectionsSeen.{count_of, bytes_of, section_start, section_end, items_left, items_rest, next_item_at, items_end}
 use Rattle.wasm_validator_type_list.specs.DefTypes.{types_of_list}
-use Rattle.wasm_validator_core.specs.Items.{add_function}
-use Rattle.wasm_validator_core.specs.Ready.{AreHeld}
+use Rattle.wasm_validator_items.specs.WasmValidatorCore.Items.{add_function}
+use Rattle.wasm_validator_items.specs.WasmValidatorCore.Ready.{AreHeld}
 use Rattle.wasm_validator_sections.specs.Sections.{read_each}
 use Rattle.wasm_validator_sections.specs.SectionsTold.{IsNone, tells_function}
 use Rattle.wasm_validator_sections.proofs.SectionsTold.{ToldOfAll}

@@ -6,13 +6,13 @@ use Rattle.wasm_spec_rules.specs.FeatureFlags.{features_of}
 use Rattle.wasm_spec_rules.specs.Limits.{most_memories}
 use Rattle.wasm_readers.specs.SectionsSeen.{count_of, bytes_of, section_start, section_end, items_left, items_rest}
 use Rattle.wasm_readers_types.specs.SeenExterns.{memory_of}
-use Rattle.wasm_validator_core.specs.Items.{add_memory}
-use Rattle.wasm_validator_core.specs.Told.{told_of_added_memory}
+use Rattle.wasm_validator_items.specs.WasmValidatorCore.Items.{add_memory}
+use Rattle.wasm_validator_items.specs.WasmValidatorCore.Told.{told_of_added_memory}
 use Rattle.wasm_readers_errors.specs.declared.error.Counted.TheVariants as counted
 use Rattle.wasm_validator_types.specs.Spaces.{Spaces}
-use Rattle.wasm_validator_core.specs.declared.error.Error.{Error}
-use Rattle.wasm_validator_core.specs.declared.error.Error.TheVariants.{Refused}
-use Rattle.wasm_validator_core.specs.Errors.{lifted}
+use Rattle.wasm_validator_items.specs.WasmValidatorCore.declared.error.Error.{Error}
+use Rattle.wasm_validator_items.specs.WasmValidatorCore.declared.error.Error.TheVariants.{Refused}
+use Rattle.wasm_validator_items.specs.WasmValidatorCore.Errors.{lifted}
 use Rattle.wasm_validator_sections.specs.SectionsTold.{TellsEach, TellsCount, IsNone, OfContent, tells_memory}
 use Rattle.wasm_validator_sections.proofs.ItemSteps.{read_each-step}
 use Rattle.wasm_validator_sections.proofs.SectionsTold.{told_onward, unread_told, refused_told, over_told, err_as, items_here, same_end, item_told}

@@ -2,7 +2,7 @@ use Rattle.std.proofs.Common.{◌≡◌, ◌≤◌}
 use Rattle.wasm_spec.specs.BinaryTypes.{memory_at}
 use Rattle.wasm_spec_rules.specs.FeatureFlags.{features_of}
 use Rattle.wasm_readers.specs.SectionsSeen.{count_of, bytes_of, section_start, section_end, items_left, items_rest, next_item_at, items_end}
-use Rattle.wasm_validator_core.specs.Items.{add_memory}
+use Rattle.wasm_validator_items.specs.WasmValidatorCore.Items.{add_memory}
 use Rattle.wasm_validator_sections.specs.Sections.{read_each}
 use Rattle.wasm_validator_sections.specs.SectionsTold.{IsNone, tells_memory}
 use Rattle.wasm_validator_sections.proofs.SectionsTold.{ToldOfAll}

@@ -6,14 +6,14 @@ use Rattle.wasm_readers.specs.Written.{written}
 use Rattle.wasm_readers.specs.SectionsSeen.{count_of, bytes_of, section_start, section_end, items_left, items_rest}
 use Rattle.wasm_readers_types.specs.SeenTypes.{rec_of}
 use Rattle.wasm_validator_type_list.specs.DefTypes.{types_of_list}
-use Rattle.wasm_validator_core.specs.declared.limits.TheConstants.{MAX_TYPES}
-use Rattle.wasm_validator_core.specs.Answers.{IsNowhere, HasValidTypes}
-use Rattle.wasm_validator_core.specs.Machine.{add_group}
+use Rattle.wasm_validator_items.specs.WasmValidatorCore.declared.limits.TheConstants.{MAX_TYPES}
+use Rattle.wasm_validator_items.specs.WasmValidatorCore.Answers.{IsNowhere, HasValidTypes}
+use Rattle.wasm_validator_items.specs.WasmValidatorCore.Machine.{add_group}
 use Rattle.wasm_validator_sections.specs.Sections.{read_each}
 use Rattle.wasm_validator_sections.specs.Machine.{type_items}
-use Rattle.wasm_validator_core.specs.declared.error.Error.{Error}
-use Rattle.wasm_validator_core.specs.declared.error.Error.TheVariants.{Refused}
-use Rattle.wasm_validator_core.specs.Errors.{lifted}
+use Rattle.wasm_validator_items.specs.WasmValidatorCore.declared.error.Error.{Error}
+use Rattle.wasm_validator_items.specs.WasmValidatorCore.declared.error.Error.TheVariants.{Refused}
+use Rattle.wasm_validator_items.specs.WasmValidatorCore.Errors.{lifted}
 use Rattle.wasm_validator_sections.specs.SectionsTold.{OfContent, TellsEach, TellsCount, TellsOfGroup, tells_group}
 use Rattle.wasm_validator_sections.proofs.SectionsTold.{told_onward, unread_told, refused_told, over_told, err_as, items_here, same_end, group_told}
 use Rattle.wasm_validator_sections.proofs.ItemSteps.{fewer_left, read_each-step, read_each-nowhere, adds_nowhere, if_nowhere}

@@ -3,12 +3,12 @@ use Rattle.wasm_spec.specs.BinaryTypes.{rec_at}
 use Rattle.wasm_readers.specs.Written.{written}
 use Rattle.wasm_readers.specs.SectionsSeen.{count_of, bytes_of, section_start, section_end, items_left, items_rest, next_item_at, items_end}
 use Rattle.wasm_spec_rules.specs.FeatureFlags.{features_of}
-use Rattle.wasm_validator_core.specs.WasmValidatorCanonical.Groups.{AreValid}
+use Rattle.wasm_validator_items.specs.WasmValidatorCore.WasmValidatorCanonical.Groups.{AreValid}
 use Rattle.wasm_validator_type_list.specs.DefTypes.{types_of_list}
-use Rattle.wasm_validator_core.specs.Machine.{add_group}
+use Rattle.wasm_validator_items.specs.WasmValidatorCore.Machine.{add_group}
 use Rattle.wasm_validator_sections.specs.Sections.{read_each}
-use Rattle.wasm_validator_core.specs.Ready.{IsOpenFor, AreIdsOf}
-use Rattle.wasm_validator_core.specs.Answers.{IsNowhere, HasValidTypes}
+use Rattle.wasm_validator_items.specs.WasmValidatorCore.Ready.{IsOpenFor, AreIdsOf}
+use Rattle.wasm_validator_items.specs.WasmValidatorCore.Answers.{IsNowhere, HasValidTypes}
 use Rattle.wasm_validator_sections.specs.SectionsTold.{tells_group}
 use Rattle.wasm_validator_sections.proofs.SectionsTold.{ToldOfAll}
 use Rattle.wasm_validator_sections.proofs.module_sections.add_types.Given as goal

@@ -3,7 +3,7 @@ use Rattle.wasm_spec.specs.BinarySections.{element_at}
 use Rattle.wasm_readers.specs.Written.{written}
 use Rattle.wasm_validator_references.specs.WasmSpecValidity.Expressions.{expression_at}
 use Rattle.wasm_laws_modules.specs.WasmLawsContexts.ListedTypes.{types_declare}
-use Rattle.wasm_validator_core.specs.declared.limits.TheConstants.{MAX_ELEMENT_SEGMENTS}
+use Rattle.wasm_validator_items.specs.WasmValidatorCore.declared.limits.TheConstants.{MAX_ELEMENT_SEGMENTS}
 use Rattle.wasm_validator_sections.specs.Entries.{add_element}
 use Rattle.wasm_validator_references.specs.References.{element_names}
 use Rattle.wasm_readers.specs.SectionsSeen.{count_of, bytes_of}

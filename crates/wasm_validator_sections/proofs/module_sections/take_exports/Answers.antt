@@ -1,8 +1,8 @@
 use Rattle.std.proofs.Common.{length}
 use Rattle.wasm_spec.specs.BinaryModules.{export_at}
 use Rattle.wasm_spec_rules.specs.LinkRules.{exported_functions}
-use Rattle.wasm_validator_core.specs.declared.limits.TheConstants.{MAX_EXPORTS}
-use Rattle.wasm_validator_core.specs.Items.{add_export}
+use Rattle.wasm_validator_items.specs.WasmValidatorCore.declared.limits.TheConstants.{MAX_EXPORTS}
+use Rattle.wasm_validator_items.specs.WasmValidatorCore.Items.{add_export}
 use Rattle.wasm_readers.specs.SectionsSeen.{count_of, bytes_of}
 use Rattle.wasm_spec_rules.specs.FeatureFlags.{features_of}
 use Rattle.wasm_validator_type_list.specs.DefTypes.{types_of_list}

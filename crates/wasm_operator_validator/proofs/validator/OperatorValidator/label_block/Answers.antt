@@ -1,6 +1,6 @@
 use Rattle.std.proofs.Common.{arith}
 use Rattle.wasm_operators.specs.SeenControl.{block_of}
-use Rattle.wasm_operator_checks.specs.WasmOperatorStacks.Seen.{state_of}
+use Rattle.wasm_operator_blocks.specs.WasmOperatorChecks.WasmOperatorStacks.Seen.{state_of}
 use Rattle.wasm_operator_validator.proofs.Answering.{label_there, no_label, none_behind}
 use Rattle.wasm_operator_validator.proofs.validator.OperatorValidator.label_block.Goals as goal
 

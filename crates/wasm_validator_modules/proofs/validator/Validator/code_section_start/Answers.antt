@@ -4,7 +4,7 @@ use Rattle.wasm_validator_type_list.specs.DefTypes.{types_of_list}
 use Rattle.wasm_validator_types.specs.Spaces.{Spaces}
 use Rattle.wasm_validator_canonical.specs.Groups.{AreValid}
 use Rattle.wasm_validator_sections.specs.WasmValidatorCore.Ready.{IsOpenFor, AreIdsOf}
-use Rattle.wasm_validator_core_resources.specs.ById.{AreFirstByIds}
+use Rattle.wasm_validator_sections.specs.WasmLawsContexts.WasmValidatorCoreResources.ById.{AreFirstByIds}
 use Rattle.wasm_validator_modules.proofs.Sections.{open-ids, open-valid, open-first}
 use Rattle.wasm_validator_modules.proofs.validator.Validator.code_section_start.Goals as goal
 

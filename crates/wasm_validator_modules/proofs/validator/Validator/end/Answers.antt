@@ -6,7 +6,7 @@ use Rattle.wasm_validator_canonical.specs.Groups.{AreValid}
 use Rattle.wasm_validator_type_list.specs.DefTypes.{types_of_list}
 use Rattle.wasm_validator_types.specs.Shown.{shown_of}
 use Rattle.wasm_validator_sections.specs.WasmValidatorCore.Ready.{IsOpenFor}
-use Rattle.wasm_validator_core_resources.specs.ById.{AreFirstByIds}
+use Rattle.wasm_validator_sections.specs.WasmLawsContexts.WasmValidatorCoreResources.ById.{AreFirstByIds}
 use Rattle.wasm_validator_modules.specs.Standing.{Standing}
 use Rattle.wasm_validator_modules.specs.States.{ended_spaces}
 use Rattle.wasm_validator_modules.proofs.Sections.{ended_from_open, shown_from_open, read-valid, read-first, shown-valid, shown-ids}

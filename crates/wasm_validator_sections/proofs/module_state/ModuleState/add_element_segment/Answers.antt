@@ -4,7 +4,7 @@ use Rattle.wasm_spec_rules.specs.FeatureFlags.{features_of}
 use Rattle.wasm_readers_bytes.specs.Reader.{rest}
 use Rattle.wasm_readers.specs.Written.{written}
 use Rattle.wasm_validator_type_list.specs.DefTypes.{types_of_list}
-use Rattle.wasm_validator_core.specs.declared.limits.TheConstants.{MAX_ELEMENT_SEGMENTS}
+use Rattle.wasm_validator_items.specs.WasmValidatorCore.declared.limits.TheConstants.{MAX_ELEMENT_SEGMENTS}
 use Rattle.wasm_laws_modules.specs.WasmLawsContexts.ListedTypes.{types_declare}
 use Rattle.wasm_validator_references.specs.WasmSpecValidity.Expressions.{expression_at}
 use Rattle.wasm_validator_references.specs.References.{element_names}

@@ -1,0 +1,3 @@
+-- What attributes here name of the crates below.
+pub use Rattle.wasm_operator_control.proofs.WasmOperatorChecks.Acting.{acts}
+pub use Rattle.wasm_operator_control.proofs.WasmOperatorChecks.Typing.{types}
