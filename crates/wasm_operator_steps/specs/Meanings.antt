@@ -5,6 +5,7 @@ use Rattle.std.specs.Option.{option_map}
 use Rattle.wasm_spec_rules.specs.WasmSpec.Syntax.{AbstractHeap, eq_heap, cont_heap, Heap, abstract_heap, concrete, exact, Ref, Val, i32, i64, f32, f64, v128, reference, Storage, i8, i16, unpacked, Field, Comp, array, struct, Sub, Memory}
 use Rattle.wasm_spec_rules.specs.WasmSpec.Features.{Features}
 use Rattle.wasm_spec_rules.specs.WasmSpec.ValueTypes.{implies, allows_val}
+pub use Rattle.wasm_spec_rules.specs.WasmSpec.Defaults.{unpack, has_default}
 use Rattle.wasm_spec_rules.specs.WasmSpec.Matching.{top_of_heap, is_shared_heap}
 use Rattle.wasm_spec_rules.specs.WasmSpec.MatchingTests.{same_flag, same_abstract, World, matches_heap, matches_ref}
 use Rattle.wasm_operators.specs.Control.{Block, empty_block, value_block, func_block}
@@ -37,23 +38,12 @@ module _ {R : Type 0} where
   element_of (array x) = Some x
   element_of _ = None
 
-  -- what a field holds as a value
-  abbrev pub unpack : Storage R → Val R
-  unpack i8 = i32
-  unpack i16 = i32
-  unpack (unpacked v) = v
-
   abbrev pub unpack_field : Field R → Val R
   unpack_field x = unpack x.storage
 
   abbrev pub is_packed : Storage R → Bool
   is_packed (unpacked v) = false
   is_packed _ = true
-
-  -- value types that have a default: numbers, vectors, and references that may be null
-  abbrev pub has_default : Val R → Bool
-  has_default (reference r) = r.nullable
-  has_default _ = true
 
   abbrev pub all_have_defaults : List (Field R) → Bool
   all_have_defaults [] = true

@@ -11,10 +11,12 @@ pub mod Features
 pub mod Closing
 pub mod Declared
 pub mod ValueTypes
+pub mod Defaults
 pub mod Matching
 pub mod GroupRules
 pub mod TypeLists
 pub mod MatchingTests
+pub mod LinkMatching
 pub mod TypeLaws
 pub mod TypeExamples
 pub mod TreeCode

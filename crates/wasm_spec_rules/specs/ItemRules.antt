@@ -8,6 +8,7 @@ use Rattle.wasm_readers_errors.specs.WasmSpec.Features.{Features}
 use Rattle.wasm_readers_errors.specs.WasmSpec.Trees.{DefType, declared}
 use Rattle.wasm_readers_errors.specs.WasmSpec.ValueTypes.{allows_ref, allows_val}
 use Rattle.wasm_readers_errors.specs.WasmSpec.Matching.{is_shared_heap, is_shared_val}
+use Rattle.wasm_readers_errors.specs.WasmSpec.LinkMatching.{page_log}
 use Rattle.wasm_spec_rules.specs.IndexSpaces.{IsFunctionType, signature_at, ref_over, val_over, IsRefInRange, IsValInRange}
 use Rattle.wasm_spec_rules.specs.Parts.{Expression}
 
@@ -43,10 +44,6 @@ pub record IsValidTableEntry (F : Features) (types : List DefType) (t : TableEnt
   pub ty : IsValidTable F types t.ty
   pub without_init_may_be_null : t.init ≡ None → IsTrue t.ty.element.nullable
   pub init_needs_function_references : IsTrue (is_some t.init) → IsTrue F.function_references
-
--- the logarithm of a page's size in bytes
-abbrev pub page_log : Memory → ℕ
-page_log m = elim m.page_size_log2 [ None ↦ 16 | Some n ↦ n ]
 
 -- the most pages of a memory: what its addresses reach, of 64 bits at most so many as a number of 64 bits counts
 abbrev pub most_pages : Memory → ℕ
