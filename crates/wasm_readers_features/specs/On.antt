@@ -21,3 +21,45 @@ exceptions_on = has_flag 512
 
 abbrev pub component_model_on : WasmFeatures → Bool
 component_model_on = has_flag 262144
+
+abbrev pub mutable_global_on : WasmFeatures → Bool
+mutable_global_on = has_flag 1
+
+abbrev pub reference_types_on : WasmFeatures → Bool
+reference_types_on = has_flag 2
+
+abbrev pub bulk_memory_on : WasmFeatures → Bool
+bulk_memory_on = has_flag 8
+
+abbrev pub threads_on : WasmFeatures → Bool
+threads_on = has_flag 32
+
+abbrev pub shared_everything_threads_on : WasmFeatures → Bool
+shared_everything_threads_on = has_flag 64
+
+abbrev pub multi_memory_on : WasmFeatures → Bool
+multi_memory_on = has_flag 256
+
+abbrev pub memory64_on : WasmFeatures → Bool
+memory64_on = has_flag 1024
+
+abbrev pub extended_const_on : WasmFeatures → Bool
+extended_const_on = has_flag 2048
+
+abbrev pub function_references_on : WasmFeatures → Bool
+function_references_on = has_flag 4096
+
+abbrev pub gc_on : WasmFeatures → Bool
+gc_on = has_flag 8192
+
+abbrev pub gc_types_on : WasmFeatures → Bool
+gc_types_on = has_flag 16384
+
+abbrev pub custom_page_sizes_on : WasmFeatures → Bool
+custom_page_sizes_on = has_flag 32768
+
+abbrev pub custom_descriptors_on : WasmFeatures → Bool
+custom_descriptors_on = has_flag 65536
+
+abbrev pub stack_switching_on : WasmFeatures → Bool
+stack_switching_on = has_flag 131072

@@ -1,4 +1,5 @@
 ghost use Rattle.std.specs.Prelude.{⊤, ◌≡◌, [], ◌∷◌, codes};
+ghost use Rattle.wasm_readers_features.specs.On.{mutable_global_on, reference_types_on, multi_value_on, bulk_memory_on, simd_on, threads_on, shared_everything_threads_on, floats_on, multi_memory_on, exceptions_on, memory64_on, extended_const_on, function_references_on, gc_on, gc_types_on, custom_page_sizes_on, custom_descriptors_on, stack_switching_on, component_model_on};
 
 use bitflags::{Flag, Flags, bitflag_items};
 
@@ -54,6 +55,153 @@ impl WasmFeatures {
     /// All but `SHARED_EVERYTHING_THREADS`, `CUSTOM_DESCRIPTORS`, `STACK_SWITCHING`,
     /// `CUSTOM_PAGE_SIZES` and `COMPONENT_MODEL`.
     pub const STANDARD: WasmFeatures = WasmFeatures(32703);
+
+    /// No proposal.
+    pub fn empty() -> WasmFeatures
+        ensures { result.0 ≡ 0 }
+    {
+        WasmFeatures(0)
+    }
+
+    /// Every proposal.
+    pub fn all() -> WasmFeatures
+        ensures { result.0 ≡ 524287 }
+    {
+        WasmFeatures(524287)
+    }
+
+    /// Whether `MUTABLE_GLOBAL` is on: mutable globals are imported and exported.
+    pub fn mutable_global(&self) -> bool
+        ensures { result ≡ mutable_global_on self.now }
+    {
+        self.contains(WasmFeatures::MUTABLE_GLOBAL)
+    }
+
+    /// Whether `REFERENCE_TYPES` is on: values that are references, and more than one table.
+    pub fn reference_types(&self) -> bool
+        ensures { result ≡ reference_types_on self.now }
+    {
+        self.contains(WasmFeatures::REFERENCE_TYPES)
+    }
+
+    /// Whether `MULTI_VALUE` is on: more than one result.
+    pub fn multi_value(&self) -> bool
+        ensures { result ≡ multi_value_on self.now }
+    {
+        self.contains(WasmFeatures::MULTI_VALUE)
+    }
+
+    /// Whether `BULK_MEMORY` is on: passive segments, and the data count section.
+    pub fn bulk_memory(&self) -> bool
+        ensures { result ≡ bulk_memory_on self.now }
+    {
+        self.contains(WasmFeatures::BULK_MEMORY)
+    }
+
+    /// Whether `SIMD` is on: vectors of 128 bits.
+    pub fn simd(&self) -> bool
+        ensures { result ≡ simd_on self.now }
+    {
+        self.contains(WasmFeatures::SIMD)
+    }
+
+    /// Whether `THREADS` is on: shared memories.
+    pub fn threads(&self) -> bool
+        ensures { result ≡ threads_on self.now }
+    {
+        self.contains(WasmFeatures::THREADS)
+    }
+
+    /// Whether `SHARED_EVERYTHING_THREADS` is on: types, tables and globals that are shared between threads.
+    pub fn shared_everything_threads(&self) -> bool
+        ensures { result ≡ shared_everything_threads_on self.now }
+    {
+        self.contains(WasmFeatures::SHARED_EVERYTHING_THREADS)
+    }
+
+    /// Whether `FLOATS` is on: floating-point types.
+    pub fn floats(&self) -> bool
+        ensures { result ≡ floats_on self.now }
+    {
+        self.contains(WasmFeatures::FLOATS)
+    }
+
+    /// Whether `MULTI_MEMORY` is on: more than one memory.
+    pub fn multi_memory(&self) -> bool
+        ensures { result ≡ multi_memory_on self.now }
+    {
+        self.contains(WasmFeatures::MULTI_MEMORY)
+    }
+
+    /// Whether `EXCEPTIONS` is on: tags, and references to exceptions.
+    pub fn exceptions(&self) -> bool
+        ensures { result ≡ exceptions_on self.now }
+    {
+        self.contains(WasmFeatures::EXCEPTIONS)
+    }
+
+    /// Whether `MEMORY64` is on: memories and tables of 64 bits.
+    pub fn memory64(&self) -> bool
+        ensures { result ≡ memory64_on self.now }
+    {
+        self.contains(WasmFeatures::MEMORY64)
+    }
+
+    /// Whether `EXTENDED_CONST` is on: sums and products in constant expressions.
+    pub fn extended_const(&self) -> bool
+        ensures { result ≡ extended_const_on self.now }
+    {
+        self.contains(WasmFeatures::EXTENDED_CONST)
+    }
+
+    /// Whether `FUNCTION_REFERENCES` is on: references to types by index, and ones that may not be null.
+    pub fn function_references(&self) -> bool
+        ensures { result ≡ function_references_on self.now }
+    {
+        self.contains(WasmFeatures::FUNCTION_REFERENCES)
+    }
+
+    /// Whether `GC` is on: recursion groups, sub types, structures and arrays.
+    pub fn gc(&self) -> bool
+        ensures { result ≡ gc_on self.now }
+    {
+        self.contains(WasmFeatures::GC)
+    }
+
+    /// Whether `GC_TYPES` is on: types of what is collected, besides functions and exceptions.
+    pub fn gc_types(&self) -> bool
+        ensures { result ≡ gc_types_on self.now }
+    {
+        self.contains(WasmFeatures::GC_TYPES)
+    }
+
+    /// Whether `CUSTOM_PAGE_SIZES` is on: memories whose pages have one byte.
+    pub fn custom_page_sizes(&self) -> bool
+        ensures { result ≡ custom_page_sizes_on self.now }
+    {
+        self.contains(WasmFeatures::CUSTOM_PAGE_SIZES)
+    }
+
+    /// Whether `CUSTOM_DESCRIPTORS` is on: descriptor clauses, and exact references.
+    pub fn custom_descriptors(&self) -> bool
+        ensures { result ≡ custom_descriptors_on self.now }
+    {
+        self.contains(WasmFeatures::CUSTOM_DESCRIPTORS)
+    }
+
+    /// Whether `STACK_SWITCHING` is on: continuations.
+    pub fn stack_switching(&self) -> bool
+        ensures { result ≡ stack_switching_on self.now }
+    {
+        self.contains(WasmFeatures::STACK_SWITCHING)
+    }
+
+    /// Whether `COMPONENT_MODEL` is on: components, which are not validated.
+    pub fn component_model(&self) -> bool
+        ensures { result ≡ component_model_on self.now }
+    {
+        self.contains(WasmFeatures::COMPONENT_MODEL)
+    }
 }
 
 impl Flags for WasmFeatures {

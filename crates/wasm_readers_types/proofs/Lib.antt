@@ -1,2 +1,3 @@
 pub use Rattle.wasm_readers_values.proofs.WasmSpec as WasmSpec
 pub mod Clones
+pub mod MatchingMemories

@@ -5,4 +5,5 @@ pub mod TypesExact
 pub mod TypesFaithful
 pub mod SeenExterns
 pub mod ExternsExact
+pub mod Entities
 pub mod SeenApart

@@ -52,6 +52,20 @@ IsFunc (Array a) = ⊥
 IsFunc (Struct s) = ⊥
 IsFunc (Cont c) = ⊥
 
+-- it is an array type
+abbrev pub IsArray : {A : Type 0} → CompositeInnerType A → Type 0
+IsArray (Func f) = ⊥
+IsArray (Array a) = Unit {0}
+IsArray (Struct s) = ⊥
+IsArray (Cont c) = ⊥
+
+-- it is a structure type
+abbrev pub IsStruct : {A : Type 0} → CompositeInnerType A → Type 0
+IsStruct (Func f) = ⊥
+IsStruct (Array a) = ⊥
+IsStruct (Struct s) = Unit {0}
+IsStruct (Cont c) = ⊥
+
 -- the final sub type of a composite type that extends nothing and has no descriptor
 abbrev pub final_func : Comp UnpackedIndex → Bool → Sub UnpackedIndex
 final_func c shared = record {

@@ -1,6 +1,6 @@
 ghost use Rattle.std.proofs.Common.{rules};
 
-use wasm_readers_values::{Exact, Faithful, RefType, ValType};
+use wasm_readers_values::{CoreTypeId, Exact, Faithful, RefType, ValType};
 
 /// A table type (Core Specification 3.0, Structure, Types, Table Types).
 #[derive(Clone, Copy, PartialEq, Eq, Hash, Debug)]
@@ -75,6 +75,24 @@ pub enum TypeRef {
     Global(GlobalType),
     /// A tag.
     Tag(TagType),
+}
+
+/// The type of what a module imports or exports (Core Specification 3.0, Validation, Types,
+/// External Types). A reference in the type of a table or a global is the id of a type.
+#[derive(Clone, Copy, PartialEq, Eq, Debug)]
+pub enum EntityType {
+    /// A function of the type with this id, or of a subtype.
+    Func(CoreTypeId),
+    /// A function of exactly the type with this id.
+    FuncExact(CoreTypeId),
+    /// A table of this type.
+    Table(TableType),
+    /// A memory of this type.
+    Memory(MemoryType),
+    /// A global of this type.
+    Global(GlobalType),
+    /// A tag of the function type with this id.
+    Tag(CoreTypeId),
 }
 
 /// The kinds of what a module imports and exports (Core Specification 3.0, Binary Format, Modules,

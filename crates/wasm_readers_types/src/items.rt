@@ -1,6 +1,8 @@
 ghost use Rattle.std.specs.Prelude.{◌≡◌, ◌++◌, ◌∷◌, [], length, OnOk, OnErr, IfErr, IsTrue, ◌↔◌};
 ghost use Rattle.std.specs.List.{AllZip};
 ghost use Rattle.std.specs.Cmp.Lexicographic.{pointwise, lists_equiv, lists_per};
+ghost use Rattle.core.specs.Slice.Iter.{iter_rest};
+ghost use Rattle.core.specs.Iterator.Adapters.{IterYieldsInOrder, IterYieldsInReverse};
 ghost use Rattle.std.specs.Hash as fed;
 ghost use Rattle.std.specs.Hash.{items_Alike};
 
@@ -8,6 +10,7 @@ use std::alloc::{AllocError, AllocFailed, Allocator, Global};
 use std::fmt;
 use std::hash::{Hash, Hasher};
 use std::marker::Model;
+use std::slice::Iter;
 use wasm_readers_values::{Exact, Faithful};
 
 /// A list of `T`. A contract sees the list alone, and neither capacity nor allocator.
@@ -68,6 +71,15 @@ impl<T, A: Allocator> Items<T, A> {
         ensures { result.now ≡ self.now }
     {
         self.vec.as_slice()
+    }
+
+    /// An iterator over the items, in order.
+    pub fn iter(&self) -> Iter<'_, T>
+        ensures rest { iter_rest result ≡ self.now }
+        ensures runs { IterYieldsInOrder T }
+        ensures runs_back { IterYieldsInReverse T }
+    {
+        self.vec.as_slice().iter()
     }
 
     /// Puts `item` at the end. Where memory is refused, the list stays as it was and `item` comes

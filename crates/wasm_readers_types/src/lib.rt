@@ -3,10 +3,15 @@
 
 mod externs;
 mod items;
+mod links;
+mod text;
 mod types;
 
-pub use externs::{ExternalKind, GlobalType, MemoryType, TableType, TagKind, TagType, TypeRef};
+pub use externs::{
+    EntityType, ExternalKind, GlobalType, MemoryType, TableType, TagKind, TagType, TypeRef,
+};
 pub use items::Items;
+pub use links::limits_match;
 pub use types::{
     ArrayType, CompositeInnerType, CompositeType, ContType, FuncType, RecGroup, StructType,
     SubType, same_group, same_sub,

@@ -1,8 +1,8 @@
-ghost use Rattle.std.specs.Prelude.{◌≡◌, ◌∷◌, [], true, false, IfOk, IfErr};
+ghost use Rattle.std.specs.Prelude.{◌≡◌, ◌∷◌, [], true, false, length, IfOk, IfErr};
 ghost use Rattle.std.specs.Bool.{Decides};
 ghost use Rattle.wasm_readers_values.specs.WasmSpec.Syntax as syntax;
 ghost use Rattle.wasm_readers_values.specs.SeenValues.{val_of};
-ghost use Rattle.wasm_readers_types.specs.SeenTypes.{func_of, sub_of, rec_of, final_func, IsFunc};
+ghost use Rattle.wasm_readers_types.specs.SeenTypes.{func_of, sub_of, rec_of, final_func, IsFunc, IsArray, IsStruct};
 ghost use Rattle.std.proofs.Common.{rules};
 
 use crate::items::Items;
@@ -134,6 +134,20 @@ impl<A: Allocator> FuncType<A> {
         self.results.as_slice()
     }
 
+    /// How many values the function takes.
+    pub fn len_inputs(&self) -> usize
+        ensures { result ≡ length self.now.params }
+    {
+        self.params.len()
+    }
+
+    /// How many values the function gives.
+    pub fn len_outputs(&self) -> usize
+        ensures { result ≡ length self.now.results }
+    {
+        self.results.len()
+    }
+
     /// What the function takes and what it gives, in the memory that they are in.
     pub fn into_parts(self) -> (Vec<ValType, A>, Vec<ValType, A>)
         ensures params { result.0.items ≡ self.params }
@@ -162,13 +176,61 @@ impl<A: Allocator> SubType<A> {
         }
     }
 
-    /// The function type, where it is a function's.
+    /// The function type of a sub type that is a function's.
     pub fn unwrap_func(&self) -> &FuncType<A>
         requires { IsFunc self.now.composite_type.inner }
         ensures { self.now.composite_type.inner ≡ CompositeInnerType.Func result.now }
     {
-        match &self.composite_type.inner {
+        self.composite_type.unwrap_func()
+    }
+
+    /// The array type of a sub type that is an array's.
+    pub fn unwrap_array(&self) -> &ArrayType
+        requires { IsArray self.now.composite_type.inner }
+        ensures { self.now.composite_type.inner ≡ CompositeInnerType.Array result.now }
+    {
+        self.composite_type.unwrap_array()
+    }
+
+    /// The structure type of a sub type that is a structure's.
+    pub fn unwrap_struct(&self) -> &StructType<A>
+        requires { IsStruct self.now.composite_type.inner }
+        ensures { self.now.composite_type.inner ≡ CompositeInnerType.Struct result.now }
+    {
+        self.composite_type.unwrap_struct()
+    }
+}
+
+impl<A: Allocator> CompositeType<A> {
+    /// The function type of a composite type that is a function's.
+    pub fn unwrap_func(&self) -> &FuncType<A>
+        requires { IsFunc self.now.inner }
+        ensures { self.now.inner ≡ CompositeInnerType.Func result.now }
+    {
+        match &self.inner {
             CompositeInnerType::Func(signature) => signature,
+            _ => unreachable!(),
+        }
+    }
+
+    /// The array type of a composite type that is an array's.
+    pub fn unwrap_array(&self) -> &ArrayType
+        requires { IsArray self.now.inner }
+        ensures { self.now.inner ≡ CompositeInnerType.Array result.now }
+    {
+        match &self.inner {
+            CompositeInnerType::Array(array) => array,
+            _ => unreachable!(),
+        }
+    }
+
+    /// The structure type of a composite type that is a structure's.
+    pub fn unwrap_struct(&self) -> &StructType<A>
+        requires { IsStruct self.now.inner }
+        ensures { self.now.inner ≡ CompositeInnerType.Struct result.now }
+    {
+        match &self.inner {
+            CompositeInnerType::Struct(structure) => structure,
             _ => unreachable!(),
         }
     }

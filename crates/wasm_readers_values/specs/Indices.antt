@@ -30,6 +30,12 @@ module_of (Module i) = Some i
 module_of (RecGroup i) = None
 module_of (Id id) = None
 
+-- the place in the recursion group that the index stands in
+abbrev pub place_of : UnpackedIndex → Option ℕ
+place_of (Module i) = None
+place_of (RecGroup i) = Some i
+place_of (Id id) = None
+
 -- the id
 abbrev pub id_of : UnpackedIndex → Option CoreTypeId
 id_of (Module i) = None

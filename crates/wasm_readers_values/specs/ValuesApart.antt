@@ -1,7 +1,6 @@
 -- Value types that say the same in the abstract syntax are the same: what each function of SeenValues forgets is nothing.
 use Rattle.std.specs.Prelude.{◌≡◌, List, [], ◌∷◌, map, refl}
-use Rattle.std.specs.Prelude.{ℕ, Option, option_map, ◌/◌, ◌%◌, ◌<◌}
-use Rattle.std.specs.declared.option.Option.TheVariants.{None, Some}
+use Rattle.std.specs.Prelude.{ℕ, ◌/◌, ◌%◌, ◌<◌}
 use Rattle.std.proofs.Common.{ap, sym, ◌∙◌, lit<, arith}
 use Rattle.wasm_readers_values.specs.Indices.{number_of, number_in, AreBytes}
 use Rattle.wasm_readers_values.specs.IndicesExact.{Bytes, key_of, index_by, packed_by, packed-same}

@@ -1,7 +1,7 @@
 ghost use Rattle.std.specs.Prelude.{◌≡◌, ◌<◌, ℕ, Option, IfSome, IsSome, IsTrue, ◌↔◌};
 ghost use Rattle.std.proofs.Common.{rules};
 ghost use Rattle.wasm_readers_values.specs.declared.indices.TheConstants.{MAX_IDS};
-ghost use Rattle.wasm_readers_values.specs.Indices.{number_of, number_in, AreBytes, indexed, Fits, IsId, module_of, id_of};
+ghost use Rattle.wasm_readers_values.specs.Indices.{number_of, number_in, AreBytes, indexed, Fits, IsId, module_of, place_of, id_of};
 
 use crate::exact::{Exact, Faithful};
 use std::fmt;
@@ -43,8 +43,7 @@ impl CoreTypeId {
     }
 }
 
-/// What a type refers to another type by.
-/// A type index (Core Specification 3.0, Structure, Types, Type Use), in one of three forms.
+/// What a type refers to another type by: a type index (Core Specification 3.0, Structure, Types, Type Use), in one of three forms.
 #[derive(Clone, Copy, PartialEq, Eq, PartialOrd, Ord, Hash, Debug)]
 pub enum UnpackedIndex {
     /// A type index of a module, as it is written there.
@@ -77,6 +76,43 @@ impl UnpackedIndex {
             UnpackedIndex::Module(index) => Some(PackedIndex::from_module_index(index)),
             UnpackedIndex::RecGroup(index) => PackedIndex::from_rec_group_index(index),
             UnpackedIndex::Id(id) => PackedIndex::from_id(id),
+        }
+    }
+
+    /// Whether it is an id, and so means the same type wherever it stands.
+    pub fn is_canonical(&self) -> bool
+        ensures { IsTrue result ↔ IsId self.now }
+    {
+        matches!(self, UnpackedIndex::Id(_))
+    }
+
+    /// The module's type index, where it is one.
+    pub fn as_module_index(&self) -> Option<u32>
+        ensures { result ≡ module_of self.now }
+    {
+        match self {
+            UnpackedIndex::Module(index) => Some(*index),
+            UnpackedIndex::RecGroup(_) | UnpackedIndex::Id(_) => None,
+        }
+    }
+
+    /// The place in the recursion group, where it is one.
+    pub fn as_rec_group_index(&self) -> Option<u32>
+        ensures { result ≡ place_of self.now }
+    {
+        match self {
+            UnpackedIndex::RecGroup(index) => Some(*index),
+            UnpackedIndex::Module(_) | UnpackedIndex::Id(_) => None,
+        }
+    }
+
+    /// The id, where it is one.
+    pub fn as_core_type_id(&self) -> Option<CoreTypeId>
+        ensures { result ≡ id_of self.now }
+    {
+        match self {
+            UnpackedIndex::Id(id) => Some(*id),
+            UnpackedIndex::Module(_) | UnpackedIndex::RecGroup(_) => None,
         }
     }
 }
@@ -202,6 +238,16 @@ impl PackedIndex {
         match self.form {
             IndexForm::Module => Some(self.number()),
             IndexForm::RecGroup | IndexForm::Id => None,
+        }
+    }
+
+    /// The place in the recursion group, where it is one.
+    pub fn as_rec_group_index(&self) -> Option<u32>
+        ensures { result ≡ place_of (index_of self.now) }
+    {
+        match self.form {
+            IndexForm::RecGroup => Some(self.number()),
+            IndexForm::Module | IndexForm::Id => None,
         }
     }
 

@@ -1,7 +1,8 @@
-//! Types in the text format (Core Specification 3.0, Text Format, Types).
+//! Value types in the text format (Core Specification 3.0, Text Format, Types), with indices that say
+//! what they are.
 
-use crate::indices::UnpackedIndex;
-use crate::values::{AbstractHeapType, HeapType, RefType, ValType};
+use crate::indices::{CoreTypeId, PackedIndex, UnpackedIndex};
+use crate::values::{AbstractHeapType, FieldType, HeapType, RefType, StorageType, ValType};
 use std::fmt;
 
 impl AbstractHeapType {
@@ -46,12 +47,31 @@ impl AbstractHeapType {
     }
 }
 
-/// The number of a type, whichever way it is named.
-fn number(index: UnpackedIndex) -> u32 {
-    match index {
-        UnpackedIndex::Module(number) => number,
-        UnpackedIndex::RecGroup(number) => number,
-        UnpackedIndex::Id(id) => id.index() as u32,
+/// `(id 3)`: the number is the type's place in the list of types.
+impl fmt::Display for CoreTypeId {
+    fn fmt<W: fmt::Write>(&self, f: &mut fmt::Formatter<W>) -> fmt::Result {
+        let number = self.index();
+        write!(f, "(id {number})")
+    }
+}
+
+/// `(module 3)`, `(recgroup 3)` or `(id 3)`: a type index of a module, a place in the recursion group,
+/// or the id of a type.
+impl fmt::Display for UnpackedIndex {
+    fn fmt<W: fmt::Write>(&self, f: &mut fmt::Formatter<W>) -> fmt::Result {
+        match *self {
+            UnpackedIndex::Module(number) => write!(f, "(module {number})"),
+            UnpackedIndex::RecGroup(number) => write!(f, "(recgroup {number})"),
+            UnpackedIndex::Id(id) => write!(f, "{id}"),
+        }
+    }
+}
+
+/// As the index that it packs.
+impl fmt::Display for PackedIndex {
+    fn fmt<W: fmt::Write>(&self, f: &mut fmt::Formatter<W>) -> fmt::Result {
+        let index = self.unpack();
+        write!(f, "{index}")
     }
 }
 
@@ -67,12 +87,12 @@ impl fmt::Display for HeapType {
                 }
             }
             HeapType::Concrete(index) => {
-                let number = number(*index);
-                write!(f, "{number}")
+                let index = *index;
+                write!(f, "{index}")
             }
             HeapType::Exact(index) => {
-                let number = number(*index);
-                write!(f, "(exact {number})")
+                let index = *index;
+                write!(f, "(exact {index})")
             }
         }
     }
@@ -103,6 +123,28 @@ impl fmt::Display for ValType {
                 let ty = *ty;
                 write!(f, "{ty}")
             }
+        }
+    }
+}
+
+impl fmt::Display for StorageType {
+    fn fmt<W: fmt::Write>(&self, f: &mut fmt::Formatter<W>) -> fmt::Result {
+        match *self {
+            StorageType::I8 => f.write_str("i8"),
+            StorageType::I16 => f.write_str("i16"),
+            StorageType::Val(ty) => write!(f, "{ty}"),
+        }
+    }
+}
+
+/// `i32`, or `(mut i32)` where the field can be written.
+impl fmt::Display for FieldType {
+    fn fmt<W: fmt::Write>(&self, f: &mut fmt::Formatter<W>) -> fmt::Result {
+        let ty = self.element_type;
+        if self.mutable {
+            write!(f, "(mut {ty})")
+        } else {
+            write!(f, "{ty}")
         }
     }
 }

@@ -1,7 +1,9 @@
-ghost use Rattle.std.specs.Prelude.{◌≡◌, true, false, IfSome, IsSome, ◌↔◌};
+ghost use Rattle.std.specs.Prelude.{◌≡◌, ◌≢◌, true, false, None, IfSome, IsSome, IsTrue, ◌↔◌};
+ghost use Rattle.std.specs.Option.{option_map};
 ghost use Rattle.std.specs.Bool.{Decides};
 ghost use Rattle.wasm_readers_values.specs.Indices.{Fits};
-ghost use Rattle.wasm_readers_values.specs.SeenValues.{val_of, heap_of, ref_of, HeapFits, index_in, concrete_ref, index_of};
+ghost use Rattle.wasm_readers_values.specs.SeenValues.{val_of, storage_of, heap_of, ref_of, HeapFits, index_in, concrete_ref, index_of};
+ghost use Rattle.wasm_spec.specs.Defaults.{unpack, has_default, reference_in};
 ghost use Rattle.std.proofs.Common.{rules};
 
 use crate::exact::{Exact, Faithful};
@@ -190,20 +192,56 @@ impl RefType {
     pub const FUNC: RefType = abstract_ref!(false, Func);
     /// `(ref null extern)`, written `externref`.
     pub const EXTERNREF: RefType = abstract_ref!(true, Extern);
+    /// `(ref extern)`.
+    pub const EXTERN: RefType = abstract_ref!(false, Extern);
     /// `(ref null any)`, written `anyref`.
     pub const ANYREF: RefType = abstract_ref!(true, Any);
+    /// `(ref any)`.
+    pub const ANY: RefType = abstract_ref!(false, Any);
+    /// `(ref null none)`, written `nullref`.
+    pub const NULLREF: RefType = abstract_ref!(true, None);
+    /// `(ref none)`.
+    pub const NONE: RefType = abstract_ref!(false, None);
+    /// `(ref null noextern)`, written `nullexternref`.
+    pub const NULLEXTERNREF: RefType = abstract_ref!(true, NoExtern);
+    /// `(ref noextern)`.
+    pub const NOEXTERN: RefType = abstract_ref!(false, NoExtern);
+    /// `(ref null nofunc)`, written `nullfuncref`.
+    pub const NULLFUNCREF: RefType = abstract_ref!(true, NoFunc);
+    /// `(ref nofunc)`.
+    pub const NOFUNC: RefType = abstract_ref!(false, NoFunc);
     /// `(ref null eq)`, written `eqref`.
     pub const EQREF: RefType = abstract_ref!(true, Eq);
-    /// `(ref null i31)`, written `i31ref`.
-    pub const I31REF: RefType = abstract_ref!(true, I31);
+    /// `(ref eq)`.
+    pub const EQ: RefType = abstract_ref!(false, Eq);
     /// `(ref null struct)`, written `structref`.
     pub const STRUCTREF: RefType = abstract_ref!(true, Struct);
+    /// `(ref struct)`.
+    pub const STRUCT: RefType = abstract_ref!(false, Struct);
     /// `(ref null array)`, written `arrayref`.
     pub const ARRAYREF: RefType = abstract_ref!(true, Array);
+    /// `(ref array)`.
+    pub const ARRAY: RefType = abstract_ref!(false, Array);
+    /// `(ref null i31)`, written `i31ref`.
+    pub const I31REF: RefType = abstract_ref!(true, I31);
+    /// `(ref i31)`.
+    pub const I31: RefType = abstract_ref!(false, I31);
     /// `(ref null exn)`, written `exnref`.
     pub const EXNREF: RefType = abstract_ref!(true, Exn);
+    /// `(ref exn)`.
+    pub const EXN: RefType = abstract_ref!(false, Exn);
+    /// `(ref null noexn)`, written `nullexnref`.
+    pub const NULLEXNREF: RefType = abstract_ref!(true, NoExn);
+    /// `(ref noexn)`.
+    pub const NOEXN: RefType = abstract_ref!(false, NoExn);
     /// `(ref null cont)`, written `contref`.
     pub const CONTREF: RefType = abstract_ref!(true, Cont);
+    /// `(ref cont)`.
+    pub const CONT: RefType = abstract_ref!(false, Cont);
+    /// `(ref null nocont)`, written `nullcontref`.
+    pub const NULLCONTREF: RefType = abstract_ref!(true, NoCont);
+    /// `(ref nocont)`.
+    pub const NOCONT: RefType = abstract_ref!(false, NoCont);
 
     /// The reference type to this heap type: none where the index in it can't be packed.
     pub fn new(nullable: bool, heap_type: HeapType) -> Option<RefType>
@@ -289,6 +327,47 @@ impl ValType {
     pub const EXNREF: ValType = ValType::Ref(RefType::EXNREF);
     /// `(ref null cont)`, written `contref`.
     pub const CONTREF: ValType = ValType::Ref(RefType::CONTREF);
+
+    /// Whether it is a reference type.
+    pub fn is_reference_type(&self) -> bool
+        ensures { IsTrue result ↔ (reference_in (val_of self.now) ≢ None) }
+    {
+        matches!(self, ValType::Ref(_))
+    }
+
+    /// The reference type, where it is one.
+    pub fn as_reference_type(&self) -> Option<RefType>
+        ensures { option_map ref_of result ≡ reference_in (val_of self.now) }
+    {
+        match self {
+            ValType::Ref(ty) => Some(*ty),
+            _ => None,
+        }
+    }
+
+    /// Whether it has a default: numbers, vectors and references that may be null have one, 0 and
+    /// null (Core Specification 3.0, Validation, Types, Defaultable Types).
+    pub fn is_defaultable(&self) -> bool
+        ensures { result ≡ has_default (val_of self.now) }
+    {
+        match self {
+            ValType::Ref(ty) => ty.is_nullable(),
+            _ => true,
+        }
+    }
+}
+
+impl StorageType {
+    /// What a field of this type holds as a value: integers of 8 and of 16 bits are read as ones of
+    /// 32 (Core Specification 3.0, Structure, Types, Aggregate Types).
+    pub fn unpack(&self) -> ValType
+        ensures { val_of result ≡ unpack (storage_of self.now) }
+    {
+        match self {
+            StorageType::I8 | StorageType::I16 => ValType::I32,
+            StorageType::Val(ty) => *ty,
+        }
+    }
 }
 
 /// Whether two value types are the same, and so say the same: what `==` says.
