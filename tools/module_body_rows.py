@@ -100,7 +100,7 @@ def text_of(message, ids):
         message = message.replace('(exact $type)', '$type')
         if message.count('$type') == len(ids):
             for i in ids:
-                message = message.replace('$type', str(i), 1)
+                message = message.replace('$type', f'(id {i})', 1)
     return B.shown(message).strip()
 
 

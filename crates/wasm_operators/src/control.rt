@@ -14,6 +14,7 @@ use wasm_operators_plain::readers::BinaryReader;
 use wasm_operators_plain::readers::types::read_val_type;
 use wasm_operators_plain::readers_errors::{Fault, Malformed, Refusal};
 use wasm_operators_plain::readers_types::ValType;
+use wasm_operators_plain::unknown_opcode;
 
 /// The type of a block (Core Specification 3.0, Binary Format, Instructions, Control Instructions).
 #[derive(Clone, Copy, PartialEq, Eq, Debug)]
@@ -251,7 +252,7 @@ pub(crate) fn read_control<'a>(
         0x1f => Ok(ControlOperator::TryTable {
             try_table: read_try_table(reader)?,
         }),
-        _ => Err(Refusal::new(Fault::Malformed(Malformed::Opcode), offset)),
+        _ => Err(unknown_opcode(opcode, offset)),
     }
 }
 
@@ -277,6 +278,6 @@ pub(crate) fn read_parametric<'a>(
         0x1c => Ok(ParametricOperator::TypedSelect {
             tys: read_listed(reader)?,
         }),
-        _ => Err(Refusal::new(Fault::Malformed(Malformed::Opcode), offset)),
+        _ => Err(unknown_opcode(opcode, offset)),
     }
 }

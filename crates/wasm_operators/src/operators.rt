@@ -11,13 +11,14 @@ use crate::control::{ControlOperator, ParametricOperator, read_control, read_par
 use crate::frequent::next_frequent;
 use crate::references::{CastOperator, ReferenceOperator, read_cast, read_reference};
 use wasm_operators_plain::readers::BinaryReader;
-use wasm_operators_plain::readers_errors::{Fault, Malformed, Refusal};
+use wasm_operators_plain::readers_errors::Refusal;
 use wasm_operators_plain::{
     ArrayOperator, BulkMemoryOperator, CallOperator, ConstantOperator, ConversionOperator, MemArg,
     MemoryOperator, NumericOperator, SaturatingOperator, StructOperator, TableOperator,
     VariableOperator, access_from_opcode, conversion_from_code, numeric_from_opcode, read_array,
     read_call, read_constant, read_memarg, read_memory, read_memory_size, read_struct, read_table,
     read_table_access, read_variable, read_vector, saturating_from_code, shared_from_code,
+    unknown_opcode, unknown_prefixed_opcode,
 };
 
 /// An operator, by its family (Core Specification 3.0, Binary Format, Instructions).
@@ -39,17 +40,6 @@ pub enum Operator<'a> {
     Conversion(ConversionOperator),
     Struct(StructOperator),
     Array(ArrayOperator),
-}
-
-/// A refusal of an opcode that stands at this offset.
-fn unknown(offset: u64) -> Refusal
-    ensures { result ≡ record {
-      fault = Fault.Malformed Malformed.Opcode;
-      offset = offset;
-      missing = None;
-    } }
-{
-    Refusal::new(Fault::Malformed(Malformed::Opcode), offset)
 }
 
 /// The operator of this code behind the prefix `0xfb`, which stood at this offset.
@@ -76,7 +66,7 @@ fn read_aggregate<'a>(
     } else if code < 32 {
         match conversion_from_code(code) {
             Some(op) => Ok(Operator::Conversion(op)),
-            None => Err(unknown(offset)),
+            None => Err(unknown_prefixed_opcode(0xfb, code, offset)),
         }
     } else {
         Ok(Operator::Struct(read_struct(reader, code, offset)?))
@@ -101,7 +91,7 @@ fn read_bulk<'a>(
     if code < 8 {
         match saturating_from_code(code) {
             Some(op) => Ok(Operator::Saturating(op)),
-            None => Err(unknown(offset)),
+            None => Err(unknown_prefixed_opcode(0xfc, code, offset)),
         }
     } else if code < 12 {
         Ok(Operator::BulkMemory(read_memory(reader, code, offset)?))
@@ -132,9 +122,9 @@ fn read_prefixed<'a>(
         0xfd => Ok(Operator::Constant(read_vector(reader, code, offset)?)),
         0xfe => match shared_from_code(code) {
             Some(op) => Ok(Operator::Conversion(op)),
-            None => Err(unknown(offset)),
+            None => Err(unknown_prefixed_opcode(0xfe, code, offset)),
         },
-        _ => Err(unknown(offset)),
+        _ => Err(unknown_opcode(prefix, offset)),
     }
 }
 
@@ -168,7 +158,7 @@ fn read_plain<'a>(
     } else if opcode < 0x3f {
         match access_from_opcode(opcode) {
             Some(op) => Ok(Operator::Memory(op, read_memarg(reader)?)),
-            None => Err(unknown(offset)),
+            None => Err(unknown_opcode(opcode, offset)),
         }
     } else if opcode < 0x41 {
         Ok(Operator::BulkMemory(read_memory_size(reader, opcode, offset)?))
@@ -177,7 +167,7 @@ fn read_plain<'a>(
     } else if opcode < 0xd0 {
         match numeric_from_opcode(opcode) {
             Some(op) => Ok(Operator::Numeric(op)),
-            None => Err(unknown(offset)),
+            None => Err(unknown_opcode(opcode, offset)),
         }
     } else {
         Ok(Operator::Reference(read_reference(reader, opcode, offset)?))
@@ -200,6 +190,8 @@ fn read_any<'a>(reader: &mut BinaryReader<'a>) -> Result<Operator<'a>, Refusal>
     let opcode = reader.read_u8()?;
     if opcode < 0xfb {
         read_plain(reader, opcode, offset)
+    } else if opcode == 0xff {
+        Err(unknown_opcode(opcode, offset))
     } else {
         let code = reader.read_var_u32()?;
         read_prefixed(reader, opcode, code, offset)

@@ -13,6 +13,7 @@ use wasm_operators_plain::readers::BinaryReader;
 use wasm_operators_plain::readers::types::read_heap_type;
 use wasm_operators_plain::readers_errors::{Fault, Malformed, Refusal};
 use wasm_operators_plain::readers_types::{HeapType, RefType};
+use wasm_operators_plain::{unknown_opcode, unknown_prefixed_opcode};
 
 /// Operators on references (Core Specification 3.0, Binary Format, Instructions, Reference
 /// Instructions), with the branches on null.
@@ -87,7 +88,7 @@ pub(crate) fn read_reference(
         0xd6 => Ok(ReferenceOperator::BrOnNonNull {
             relative_depth: reader.read_var_u32()?,
         }),
-        _ => Err(Refusal::new(Fault::Malformed(Malformed::Opcode), offset)),
+        _ => Err(unknown_opcode(opcode, offset)),
     }
 }
 
@@ -189,6 +190,6 @@ pub(crate) fn read_cast(
                 to_ref_type,
             })
         }
-        _ => Err(Refusal::new(Fault::Malformed(Malformed::Opcode), offset)),
+        _ => Err(unknown_prefixed_opcode(0xfb, code, offset)),
     }
 }

@@ -5,8 +5,9 @@ ghost use Rattle.wasm_readers.specs.WasmReadersBytes.Reader.{SameInput, position
 ghost use Rattle.wasm_operators_plain.specs.Refusals.{RefusedBetween};
 ghost use Rattle.wasm_operators_plain.specs.Arrays.{array_from};
 
+use crate::opcodes::unknown_prefixed_opcode;
 use wasm_readers::BinaryReader;
-use wasm_readers::readers_errors::{Fault, Malformed, Refusal};
+use wasm_readers::readers_errors::Refusal;
 
 /// Operators on arrays (Core Specification 3.0, Binary Format, Instructions, Aggregate
 /// Instructions).
@@ -122,6 +123,6 @@ pub fn read_array(
             array_type_index: reader.read_var_u32()?,
             array_elem_index: reader.read_var_u32()?,
         }),
-        _ => Err(Refusal::new(Fault::Malformed(Malformed::Opcode), offset)),
+        _ => Err(unknown_prefixed_opcode(0xfb, code, offset)),
     }
 }

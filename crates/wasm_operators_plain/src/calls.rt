@@ -5,8 +5,9 @@ ghost use Rattle.wasm_readers.specs.WasmReadersBytes.Reader.{SameInput, position
 ghost use Rattle.wasm_operators_plain.specs.Refusals.{RefusedBetween};
 ghost use Rattle.wasm_operators_plain.specs.Calls.{call_from};
 
+use crate::opcodes::unknown_opcode;
 use wasm_readers::BinaryReader;
-use wasm_readers::readers_errors::{Fault, Malformed, Refusal};
+use wasm_readers::readers_errors::Refusal;
 
 /// Calls and tail calls (Core Specification 3.0, Binary Format, Instructions, Control
 /// Instructions).
@@ -57,6 +58,6 @@ pub fn read_call(
         0x15 => Ok(CallOperator::ReturnCallRef {
             type_index: reader.read_var_u32()?,
         }),
-        _ => Err(Refusal::new(Fault::Malformed(Malformed::Opcode), offset)),
+        _ => Err(unknown_opcode(opcode, offset)),
     }
 }

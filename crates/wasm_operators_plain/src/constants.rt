@@ -5,8 +5,9 @@ ghost use Rattle.wasm_readers.specs.WasmReadersBytes.Reader.{SameInput, position
 ghost use Rattle.wasm_operators_plain.specs.Refusals.{RefusedBetween};
 ghost use Rattle.wasm_operators_plain.specs.Constants.{bits_32_at, bits_64_at, bits_128_at, constant_from, vector_from};
 
+use crate::opcodes::{unknown_opcode, unknown_prefixed_opcode};
 use wasm_readers::BinaryReader;
-use wasm_readers::readers_errors::{Fault, Malformed, Refusal};
+use wasm_readers::readers_errors::Refusal;
 
 /// A floating-point number of 32 bits, as its bits.
 #[derive(Clone, Copy, PartialEq, Eq, Debug)]
@@ -114,7 +115,7 @@ pub fn read_constant(
         0x44 => Ok(ConstantOperator::F64Const {
             value: Ieee64(read_bits_64(reader)?),
         }),
-        _ => Err(Refusal::new(Fault::Malformed(Malformed::Opcode), offset)),
+        _ => Err(unknown_opcode(opcode, offset)),
     }
 }
 
@@ -138,6 +139,6 @@ pub fn read_vector(
             value: read_bits_128(reader)?,
         })
     } else {
-        Err(Refusal::new(Fault::Malformed(Malformed::Opcode), offset))
+        Err(unknown_prefixed_opcode(0xfd, code, offset))
     }
 }

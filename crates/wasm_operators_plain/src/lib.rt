@@ -14,6 +14,7 @@ mod constants;
 mod conversions;
 mod memories;
 mod numeric;
+mod opcodes;
 mod signatures;
 mod structs;
 mod tables;
@@ -28,6 +29,7 @@ pub use memories::{
     read_memory, read_memory_size,
 };
 pub use numeric::{NumericOperator, SaturatingOperator, numeric_from_opcode, saturating_from_code};
+pub use opcodes::{unknown_opcode, unknown_prefixed_opcode};
 pub use signatures::{NumberType, Signature, numeric_signature, saturating_signature};
 pub use structs::{StructOperator, read_struct};
 pub use tables::{TableOperator, read_table, read_table_access};

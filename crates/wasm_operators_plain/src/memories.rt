@@ -6,6 +6,7 @@ ghost use Rattle.wasm_operators_plain.specs.Refusals.{RefusedBetween};
 ghost use Rattle.wasm_operators_plain.specs.Memories.{max_align_of, access_opcode, access_from, memarg_at, memory_size_from, memory_from};
 ghost use Rattle.wasm_operators_plain.specs.declared.memories.MemoryOperator.{MemoryOperator};
 
+use crate::opcodes::{unknown_opcode, unknown_prefixed_opcode};
 use wasm_readers::BinaryReader;
 use wasm_readers::readers_errors::{Fault, Malformed, Refusal};
 
@@ -155,7 +156,7 @@ pub fn read_memory_size(
         0x40 => Ok(BulkMemoryOperator::MemoryGrow {
             mem: reader.read_var_u32()?,
         }),
-        _ => Err(Refusal::new(Fault::Malformed(Malformed::Opcode), offset)),
+        _ => Err(unknown_opcode(opcode, offset)),
     }
 }
 
@@ -189,7 +190,7 @@ pub fn read_memory(
         11 => Ok(BulkMemoryOperator::MemoryFill {
             mem: reader.read_var_u32()?,
         }),
-        _ => Err(Refusal::new(Fault::Malformed(Malformed::Opcode), offset)),
+        _ => Err(unknown_prefixed_opcode(0xfc, code, offset)),
     }
 }
 

@@ -5,8 +5,9 @@ ghost use Rattle.wasm_readers.specs.WasmReadersBytes.Reader.{SameInput, position
 ghost use Rattle.wasm_operators_plain.specs.Refusals.{RefusedBetween};
 ghost use Rattle.wasm_operators_plain.specs.Tables.{table_access_from, table_from};
 
+use crate::opcodes::{unknown_opcode, unknown_prefixed_opcode};
 use wasm_readers::BinaryReader;
-use wasm_readers::readers_errors::{Fault, Malformed, Refusal};
+use wasm_readers::readers_errors::Refusal;
 
 /// Operators on tables (Core Specification 3.0, Binary Format, Instructions, Table Instructions).
 #[derive(Clone, Copy, Debug)]
@@ -44,7 +45,7 @@ pub fn read_table_access(
         0x26 => Ok(TableOperator::TableSet {
             table: reader.read_var_u32()?,
         }),
-        _ => Err(Refusal::new(Fault::Malformed(Malformed::Opcode), offset)),
+        _ => Err(unknown_opcode(opcode, offset)),
     }
 }
 
@@ -84,6 +85,6 @@ pub fn read_table(
         17 => Ok(TableOperator::TableFill {
             table: reader.read_var_u32()?,
         }),
-        _ => Err(Refusal::new(Fault::Malformed(Malformed::Opcode), offset)),
+        _ => Err(unknown_prefixed_opcode(0xfc, code, offset)),
     }
 }

@@ -5,8 +5,9 @@ ghost use Rattle.wasm_readers.specs.WasmReadersBytes.Reader.{SameInput, position
 ghost use Rattle.wasm_operators_plain.specs.Refusals.{RefusedBetween};
 ghost use Rattle.wasm_operators_plain.specs.Variables.{variable_from};
 
+use crate::opcodes::unknown_opcode;
 use wasm_readers::BinaryReader;
-use wasm_readers::readers_errors::{Fault, Malformed, Refusal};
+use wasm_readers::readers_errors::Refusal;
 
 /// Operators on locals and globals (Core Specification 3.0, Binary Format, Instructions, Variable
 /// Instructions).
@@ -51,6 +52,6 @@ pub fn read_variable(
         0x24 => Ok(VariableOperator::GlobalSet {
             global_index: reader.read_var_u32()?,
         }),
-        _ => Err(Refusal::new(Fault::Malformed(Malformed::Opcode), offset)),
+        _ => Err(unknown_opcode(opcode, offset)),
     }
 }

@@ -142,7 +142,7 @@ pub fn read_table_head(reader: &mut BinaryReader<'_>) -> Result<TableHead, Refus
     let start = *reader;
     let has_init = reader.read_u8()? == 0x40;
     if has_init {
-        read_flags(reader, 0, Malformed::ReferenceType)?;
+        read_flags(reader, 0, Malformed::TableEncoding)?;
     } else {
         *reader = start;
     }

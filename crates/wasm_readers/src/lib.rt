@@ -20,8 +20,8 @@ pub use lists::read_list;
 pub use section_limited::{FromReader, SectionItems, SectionLimited};
 pub use wasm_readers_bytes::BinaryReader;
 pub use wasm_readers_bytes::readers_errors::{
-    Counted, DescriptorRule, Error, Fault, GroupRule, ItemKind, ItemRule, Malformed, OutOfOrder,
-    Refusal, Rule, ValueTypeRule, WasmFeatures,
+    Counted, DescriptorRule, Error, Fault, GroupRule, Integer, ItemKind, ItemRule, Malformed,
+    OutOfOrder, Refusal, Rule, ValueTypeRule, WasmFeatures,
 };
 pub use wasm_readers_bytes::readers_types::{
     AbstractHeapType, ArrayType, CompositeInnerType, CompositeType, ContType, CoreTypeId,
@@ -40,8 +40,8 @@ pub fn table_heads_begin_tables()
 /// Passed on from `wasm_readers_types`.
 pub mod readers_types {
     pub use wasm_readers_bytes::readers_types::{
-        AbstractHeapType, CoreTypeId, ExternalKind, GlobalType, HeapType, Items, MemoryType,
-        RecGroup, RefType, SubType, TableType, TypeRef, UnpackedIndex, ValType,
+        AbstractHeapType, CoreTypeId, EntityType, ExternalKind, GlobalType, HeapType, Items,
+        MemoryType, RecGroup, RefType, SubType, TableType, TypeRef, UnpackedIndex, ValType,
     };
 }
 

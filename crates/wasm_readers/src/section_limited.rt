@@ -35,13 +35,15 @@ pub trait FromReader<'a, A: Allocator>: Sized + Drop {
 }
 
 impl<'a, A: Allocator> FromReader<'a, A> for u32 {
+    ghost use Rattle.wasm_readers_bytes.specs.WasmReadersErrors.declared.error.Integer.TheVariants.{U32};
+
     ghost Value = { ℕ };
 
     ghost encoded = { u32_at };
 
     ghost value = { λ n. n };
 
-    ghost refuses = { NumberRefused 32 };
+    ghost refuses = { NumberRefused U32 32 };
 
     fn from_reader(_alloc: A, reader: &mut BinaryReader<'a>) -> Result<u32, Error> {
         Ok(reader.read_var_u32()?)

@@ -9,6 +9,7 @@ ghost use Rattle.wasm_readers_bytes.specs.Reader.{input, SameInput, position_in,
 ghost use Rattle.wasm_readers_bytes.specs.WasmReadersErrors.Refusals.{plain};
 ghost use Rattle.wasm_readers_bytes.specs.WasmReadersErrors.Errors.{Reads};
 ghost use Rattle.wasm_readers.specs.Written.{written};
+ghost use Rattle.wasm_readers.specs.Refusals.{begins_reference, IsToldOfFirst};
 ghost use Rattle.wasm_readers_bytes.specs.WasmReadersTypes.WasmReadersValues.SeenValues.{abstract_heap_of, heap_of, HeapFits, ref_of, val_of, storage_of, field_of};
 
 use crate::section_limited::FromReader;
@@ -119,7 +120,6 @@ pub fn read_heap_type(reader: &mut BinaryReader<'_>) -> Result<HeapType, Refusal
 /// # Errors
 ///
 /// Refused where the bytes encode none, at a byte offset from the start of the input.
-#[tactic(auto, unfolding(crate::proofs::Cited::ref_at))]
 pub fn read_ref_type(reader: &mut BinaryReader<'_>) -> Result<RefType, Refusal>
     ensures same { SameInput reader.old reader.new }
     ensures onward { position_in reader.old ≤ position_in reader.new }
@@ -128,6 +128,24 @@ pub fn read_ref_type(reader: &mut BinaryReader<'_>) -> Result<RefType, Refusal>
         ≡ Some (ref_of x, rest reader.new)) }
     ensures further { OnOk result (position_in reader.old < position_in reader.new) }
     ensures err { OnErr result (ref_at written (rest reader.old) ≡ None) }
+    ensures told { IfErr result (λ r. IsToldOfFirst Malformed.ReferenceType
+        (begins_reference (rest reader.old)) reader.old r) }
+{
+    read_ref_type_or(reader, Malformed::ReferenceType)
+}
+
+/// The same, with what is told of a byte that begins none.
+#[tactic(auto, unfolding(crate::proofs::Cited::ref_at))]
+fn read_ref_type_or(reader: &mut BinaryReader<'_>, malformed: Malformed) -> Result<RefType, Refusal>
+    ensures same { SameInput reader.old reader.new }
+    ensures onward { position_in reader.old ≤ position_in reader.new }
+    ensures refusal { IfErr result (RefusedFrom reader.old) }
+    ensures ok { IfOk result (λ x. ref_at written (rest reader.old)
+        ≡ Some (ref_of x, rest reader.new)) }
+    ensures further { OnOk result (position_in reader.old < position_in reader.new) }
+    ensures err { OnErr result (ref_at written (rest reader.old) ≡ None) }
+    ensures told { IfErr result (λ r. IsToldOfFirst malformed
+        (begins_reference (rest reader.old)) reader.old r) }
 {
     let offset = reader.original_position();
     match reader.read_u8()? {
@@ -136,7 +154,7 @@ pub fn read_ref_type(reader: &mut BinaryReader<'_>) -> Result<RefType, Refusal>
         0x65 => Ok(abstract_reference(true, read_abstract_heap_type(reader)?)),
         byte => match abstract_heap_type(byte) {
             Some(ty) => Ok(abstract_reference(false, ty)),
-            None => Err(Refusal::new(Fault::Malformed(Malformed::ReferenceType), offset)),
+            None => Err(Refusal::new(Fault::Malformed(malformed), offset)),
         },
     }
 }
@@ -172,6 +190,8 @@ pub fn read_val_type(reader: &mut BinaryReader<'_>) -> Result<ValType, Refusal>
         ≡ Some (val_of x, rest reader.new)) }
     ensures further { OnOk result (position_in reader.old < position_in reader.new) }
     ensures err { OnErr result (val_at written (rest reader.old) ≡ None) }
+    ensures told { IfErr result (λ r. IsToldOfFirst Malformed.ValueType
+        (begins_reference (rest reader.old)) reader.old r) }
 {
     let start = *reader;
     match reader.read_u8()? {
@@ -182,7 +202,7 @@ pub fn read_val_type(reader: &mut BinaryReader<'_>) -> Result<ValType, Refusal>
         0x7b => Ok(ValType::V128),
         _ => {
             *reader = start;
-            Ok(ValType::Ref(read_ref_type(reader)?))
+            Ok(ValType::Ref(read_ref_type_or(reader, Malformed::ValueType)?))
         }
     }
 }
@@ -229,21 +249,22 @@ pub fn read_field_type(reader: &mut BinaryReader<'_>) -> Result<FieldType, Refus
     ensures err { OnErr result (field_at written (rest reader.old) ≡ None) }
 {
     let element_type = read_storage_type(reader)?;
-    let mutable = read_flag(reader)?;
+    let mutable = read_mutability(reader)?;
     Ok(FieldType {
         element_type,
         mutable,
     })
 }
 
-/// A flag: a byte that is 0 or 1.
+/// Whether a field may be set: a byte that is 0 or 1 (Core Specification 3.0, Binary Format, Types,
+/// Composite Types).
 ///
 /// # Errors
 ///
 /// Refused where the next byte is another, or there is no byte: at its byte offset from the start
 /// of the input.
 #[tactic(auto, unfolding(crate::proofs::Cited::flag_at))]
-pub fn read_flag(reader: &mut BinaryReader<'_>) -> Result<bool, Refusal>
+pub fn read_mutability(reader: &mut BinaryReader<'_>) -> Result<bool, Refusal>
     ensures same { SameInput reader.old reader.new }
     ensures onward { position_in reader.old ≤ position_in reader.new }
     ensures refusal { IfErr result (RefusedFrom reader.old) }
@@ -251,14 +272,14 @@ pub fn read_flag(reader: &mut BinaryReader<'_>) -> Result<bool, Refusal>
     ensures further { OnOk result (position_in reader.old < position_in reader.new) }
     ensures err { OnErr result (flag_at (rest reader.old) ≡ None) }
     ensures told { IfErr result (λ r. r ≡ plain
-        (Fault.Malformed (byte_fault Malformed.Flag (rest reader.old)))
+        (Fault.Malformed (byte_fault Malformed.Mutability (rest reader.old)))
         (place_of_next reader.old)) }
 {
     let offset = reader.original_position();
     match reader.read_u8()? {
         0 => Ok(false),
         1 => Ok(true),
-        _ => Err(Refusal::new(Fault::Malformed(Malformed::Flag), offset)),
+        _ => Err(Refusal::new(Fault::Malformed(Malformed::Mutability), offset)),
     }
 }
 

@@ -4,7 +4,10 @@ use Rattle.wasm_readers_errors.specs.declared.error.Fault.{Fault}
 use Rattle.wasm_readers_errors.specs.declared.error.Fault.TheVariants.{Malformed}
 use Rattle.wasm_readers_errors.specs.declared.error.Malformed as declared
 use Rattle.wasm_readers_errors.specs.declared.error.Malformed.TheVariants.{UnexpectedEnd, IntegerTooLong, IntegerTooLarge, NotUtf8, HeapType}
+use Rattle.wasm_readers_errors.specs.declared.error.Integer.{Integer}
+use Rattle.wasm_readers_errors.specs.declared.error.Integer.TheVariants.{S33}
 use Rattle.wasm_readers_errors.specs.declared.error.Refusal.{Refusal}
+use Rattle.wasm_readers_errors.specs.Refusals.{plain}
 use Rattle.wasm_readers_errors.specs.declared.error.Error.{Error}
 use Rattle.wasm_readers_errors.specs.declared.error.Error.TheVariants.{Refused, OutOfMemory}
 use Rattle.wasm_readers_bytes.specs.declared.binary_reader.BinaryReader.{BinaryReader}
@@ -53,18 +56,36 @@ abbrev pub byte_fault : declared.Malformed → List ℕ → declared.Malformed
 byte_fault fault [] = UnexpectedEnd
 byte_fault fault (byte ∷ bytes) = fault
 
--- What is told of bytes that encode no unsigned number of so many bits: the first of their end, a last byte with bits
--- beyond the width, and a byte that is one too many.
-abbrev pub unsigned_fault : ℕ → List ℕ → declared.Malformed
-unsigned_fault bits [] = UnexpectedEnd
-unsigned_fault bits (n ∷ more) =
-    if nat_lt n (2 ^ 7) then IntegerTooLarge
-    else (if nat_lt 7 bits then unsigned_fault (bits - 7) more else IntegerTooLong)
+-- What is told of bytes that encode no number of so many bits, be it signed or not: the first of their end, a last byte with
+-- bits beyond the width, and a byte that is one too many.
+abbrev pub number_fault : declared.Malformed → declared.Malformed → ℕ → List ℕ → declared.Malformed
+number_fault large long bits [] = UnexpectedEnd
+number_fault large long bits (n ∷ more) =
+    if nat_lt n (2 ^ 7) then large
+    else (if nat_lt 7 bits then number_fault large long (bits - 7) more else long)
 
--- What is told where a type index is wanted: a number that is there is negative.
-abbrev pub index_fault : {N : Type 0} → Option N → declared.Malformed
-index_fault None = IntegerTooLong
-index_fault (Some n) = HeapType
+-- How many bytes stand before the one for which that is told.
+abbrev pub before_wrong : ℕ → List ℕ → ℕ
+before_wrong bits [] = 0
+before_wrong bits (n ∷ more) =
+    if nat_lt n (2 ^ 7) then 0
+    else (if nat_lt 7 bits then before_wrong (bits - 7) more + 1 else 0)
+
+-- what is told of bytes that encode no such number
+abbrev pub integer_fault : Integer → ℕ → List ℕ → declared.Malformed
+integer_fault integer bits bytes = number_fault (IntegerTooLarge integer) (IntegerTooLong integer) bits bytes
+
+-- the refusal of what is next, which encodes no such number, at the byte that is wrong
+abbrev pub integer_refusal : Integer → ℕ → BinaryReader → Refusal
+integer_refusal integer bits r =
+    plain (Malformed (integer_fault integer bits (rest r))) (place_of_next r + before_wrong bits (rest r))
+
+-- The refusal where a type index is wanted as a signed number: one that is there is negative, at its first byte. Bits beyond the
+-- width are told as a byte too many.
+abbrev pub index_refusal : {N : Type 0} → BinaryReader → Option N → Refusal
+index_refusal r None =
+    plain (Malformed (number_fault (IntegerTooLong S33) (IntegerTooLong S33) 33 (rest r))) (place_of_next r + before_wrong 33 (rest r))
+index_refusal r (Some n) = plain (Malformed HeapType) (place_of_next r)
 
 -- What is told of a size and its bytes: where the size is there, the bytes end.
 abbrev pub sized_fault : {N : Type 0} → declared.Malformed → Option N → declared.Malformed
@@ -75,3 +96,14 @@ sized_fault of_size (Some n) = UnexpectedEnd
 abbrev pub name_fault : {N : Type 0} → declared.Malformed → Option N → declared.Malformed
 name_fault of_bytes None = of_bytes
 name_fault of_bytes (Some n) = NotUtf8
+
+-- Where a size and its bytes are refused, by a reader that stood at the first and stands at the second: at the byte of the size that is
+-- wrong, and where the size is there behind it.
+abbrev pub sized_place : {N : Type 0} → BinaryReader → BinaryReader → Option N → ℕ
+sized_place old new None = place_of_next old + before_wrong 32 (rest old)
+sized_place old new (Some n) = place_of_next new
+
+-- Where a name is refused: where its bytes are there, at the last of them, before which the reader stands behind them.
+abbrev pub name_place : {N : Type 0} → ℕ → BinaryReader → Option N → ℕ
+name_place of_bytes new None = of_bytes
+name_place of_bytes new (Some n) = place_of_next new - 1

@@ -1,9 +1,9 @@
 ghost use Rattle.std.specs.Prelude.{◌≡◌, ◌==◌, ◌≤◌, ◌<◌, ◌^◌, ◌-◌, ◌+◌, ◌≤ℤ◌, ◌<ℤ◌, ◌-ℤ◌, pos, IfOk, OnOk, OnErr, IfSome, OnSome, IfNone, length, take, drop, slice_range, [], ◌∷◌, ◌++◌, Some, None, IfErr};
 ghost use Rattle.wasm_readers_errors.specs.WasmSpec.Values.{byte_at, u32_at, u64_at, s33_index_at, bytes_at, sized_at, name_at, signed_at as integer_at, unsigned_at};
 
-use crate::leb128::{long_signed_at, signed_at};
+use crate::leb128::{long_signed_at, signed_at, wrong_number};
 use std::ops::Range;
-use wasm_readers_errors::{Fault, Malformed, Refusal};
+use wasm_readers_errors::{Fault, Integer, Malformed, Refusal};
 
 /// Bytes that are read from their front. A reader that has refused bytes stands somewhere behind
 /// where it stood before, or there, in the same bytes.
@@ -17,7 +17,7 @@ pub struct BinaryReader<'a> {
 }
 
 impl<'a> BinaryReader<'a> {
-    ghost use Rattle.wasm_readers_bytes.specs.Reader.{input, SameInput, position_in, original, rest, RefusedFrom, place_of_next, unsigned_fault, index_fault, sized_fault, name_fault};
+    ghost use Rattle.wasm_readers_bytes.specs.Reader.{input, SameInput, position_in, original, rest, RefusedFrom, place_of_next, number_fault, before_wrong, integer_fault, integer_refusal, index_refusal, sized_fault, name_fault, sized_place, name_place};
     ghost use Rattle.wasm_readers_errors.specs.Refusals.{plain};
 
     /// A reader of these bytes, the first of which stands at this offset of the whole input.
@@ -57,6 +57,20 @@ impl<'a> BinaryReader<'a> {
         self.position >= self.buffer.len()
     }
 
+    /// Whether nothing is left to read, by the name that this has in the Rust crate.
+    pub fn eof(&self) -> bool
+        ensures { result ≡ (length (rest self.now) == 0) }
+    {
+        self.is_empty()
+    }
+
+    /// How many bytes are left to read.
+    pub fn bytes_remaining(&self) -> usize
+        ensures { result ≡ length (rest self.now) }
+    {
+        self.buffer.len() - self.position
+    }
+
     /// The bytes that are left.
     pub fn remaining(&self) -> &'a [u8]
         ensures { result.now ≡ rest self.now }
@@ -87,23 +101,33 @@ impl<'a> BinaryReader<'a> {
         Refusal::new(Fault::Malformed(malformed), self.original_position())
     }
 
-    /// The next byte, and without a refusal where there is none.
-    #[inline(always)]
-    fn next_byte(&mut self) -> Result<u8, Malformed>
-        ensures same { SameInput self.old self.new }
-        ensures ok { IfOk result (λ byte. rest self.old ≡ byte ∷ rest self.new) }
-        ensures further { OnOk result (position_in self.new ≡ position_in self.old + 1) }
-        ensures err { OnErr result (rest self.old ≡ []) }
-        ensures unread { OnErr result (self.new ≡ self.old) }
-        ensures told { IfErr result (λ m. m ≡ Malformed.UnexpectedEnd) }
+    /// The refusal of what is next, which encodes no number of at most `bits` bits: at the byte that
+    /// is wrong, as `large` where it has bits beyond the width, and as `long` where it is one too
+    /// many.
+    #[inline(never)]
+    fn number_refusal(&self, bits: u8, large: Malformed, long: Malformed) -> Refusal
+        ensures told { result ≡ plain
+            (Fault.Malformed (number_fault large long bits (rest self.now)))
+            (place_of_next self.now + before_wrong bits (rest self.now)) }
+        ensures within { result.offset ≤ original self.now + length (input self.now) }
     {
-        if self.position < self.buffer.len() {
-            let byte = self.buffer[self.position];
-            self.position += 1;
-            Ok(byte)
-        } else {
-            Err(Malformed::UnexpectedEnd)
-        }
+        let (malformed, before) = wrong_number(self.remaining(), bits, large, long);
+        Refusal::new(
+            Fault::Malformed(malformed),
+            self.original_position() + before as u64,
+        )
+    }
+
+    /// The same of this number.
+    fn integer_refusal(&self, integer: Integer, bits: u8) -> Refusal
+        ensures told { result ≡ integer_refusal integer bits self.now }
+        ensures within { result.offset ≤ original self.now + length (input self.now) }
+    {
+        self.number_refusal(
+            bits,
+            Malformed::IntegerTooLarge(integer),
+            Malformed::IntegerTooLong(integer),
+        )
     }
 
     /// The next byte, if there is one.
@@ -115,7 +139,13 @@ impl<'a> BinaryReader<'a> {
         ensures none { IfNone result (rest self.old ≡ []) }
         ensures unread { IfNone result (self.new ≡ self.old) }
     {
-        self.next_byte().ok()
+        if self.position < self.buffer.len() {
+            let byte = self.buffer[self.position];
+            self.position += 1;
+            Some(byte)
+        } else {
+            None
+        }
     }
 
     /// The next byte where it is below 128, as the last byte of a number is.
@@ -151,9 +181,9 @@ impl<'a> BinaryReader<'a> {
         ensures told { IfErr result (λ r. r ≡ plain (Fault.Malformed Malformed.UnexpectedEnd)
             (place_of_next self.old)) }
     {
-        match self.next_byte() {
-            Ok(byte) => Ok(byte),
-            Err(malformed) => Err(self.refusal(malformed)),
+        match self.next_u8() {
+            Some(byte) => Ok(byte),
+            None => Err(self.refusal(Malformed::UnexpectedEnd)),
         }
     }
 
@@ -163,8 +193,8 @@ impl<'a> BinaryReader<'a> {
     /// # Errors
     ///
     /// Refused where the bytes encode none: the end comes first, the last byte that is allowed has
-    /// bits beyond the width, or a byte follows it. The offset is that of the byte behind those
-    /// that were read, and the reader stands there.
+    /// bits beyond the width, or a byte follows it. The offset is that of the end or of that last
+    /// byte. The reader stays where it stood.
     pub fn read_var_u32(&mut self) -> Result<u32, Refusal>
         ensures same { SameInput self.old self.new }
         ensures onward { position_in self.old ≤ position_in self.new }
@@ -172,12 +202,11 @@ impl<'a> BinaryReader<'a> {
         ensures ok { IfOk result (λ n. u32_at (rest self.old) ≡ Some (n, rest self.new)) }
         ensures further { OnOk result (position_in self.old < position_in self.new) }
         ensures err { OnErr result (u32_at (rest self.old) ≡ None) }
-        ensures told { IfErr result (λ r. r ≡ plain
-            (Fault.Malformed (unsigned_fault 32 (rest self.old))) (place_of_next self.new)) }
+        ensures told { IfErr result (λ r. r ≡ integer_refusal Integer.U32 32 self.old) }
     {
-        match self.next_u32() {
-            Ok(number) => Ok(number),
-            Err(malformed) => Err(self.refusal(malformed)),
+        match self.next_var_u32() {
+            Some(number) => Ok(number),
+            None => Err(self.integer_refusal(Integer::U32, 32)),
         }
     }
 
@@ -189,70 +218,54 @@ impl<'a> BinaryReader<'a> {
         ensures some { IfSome result (λ n. u32_at (rest self.old) ≡ Some (n, rest self.new)) }
         ensures further { OnSome result (position_in self.old < position_in self.new) }
         ensures none { IfNone result (u32_at (rest self.old) ≡ None) }
-    {
-        self.next_u32().ok()
-    }
-
-    /// The same, and why it isn't there.
-    #[inline(always)]
-    fn next_u32(&mut self) -> Result<u32, Malformed>
-        ensures same { SameInput self.old self.new }
-        ensures onward { position_in self.old ≤ position_in self.new }
-        ensures ok { IfOk result (λ n. u32_at (rest self.old) ≡ Some (n, rest self.new)) }
-        ensures further { OnOk result (position_in self.old < position_in self.new) }
-        ensures err { OnErr result (u32_at (rest self.old) ≡ None) }
-        ensures told { IfErr result (λ m. m ≡ unsigned_fault 32 (rest self.old)) }
+        ensures unread { IfNone result (self.new ≡ self.old) }
     {
         match self.next_last_byte() {
-            Some(byte) => Ok(u32::from(byte)),
+            Some(byte) => Some(u32::from(byte)),
             None => {
                 // The reader itself is not lent, so that it can be kept in registers.
                 let mut behind = *self;
-                let number = behind.next_long_u32();
+                let number = behind.next_long_u32()?;
                 self.go_on_from(&behind);
-                number
+                Some(number)
             }
         }
     }
 
-    /// The same, of more than one byte or none, and why it isn't there.
+    /// The same, of more than one byte or none. Where it isn't there the reader stands behind what was
+    /// read.
     #[inline(never)]
-    fn next_long_u32(&mut self) -> Result<u32, Malformed>
+    fn next_long_u32(&mut self) -> Option<u32>
         ensures same { SameInput self.old self.new }
         ensures onward { position_in self.old ≤ position_in self.new }
-        ensures ok { IfOk result (λ n. u32_at (rest self.old) ≡ Some (n, rest self.new)) }
-        ensures further { OnOk result (position_in self.old < position_in self.new) }
-        ensures err { OnErr result (u32_at (rest self.old) ≡ None) }
-        ensures told { IfErr result (λ m. m ≡ unsigned_fault 32 (rest self.old)) }
+        ensures some { IfSome result (λ n. u32_at (rest self.old) ≡ Some (n, rest self.new)) }
+        ensures further { OnSome result (position_in self.old < position_in self.new) }
+        ensures none { IfNone result (u32_at (rest self.old) ≡ None) }
     {
-        let first = self.next_byte()?;
+        let first = self.next_u8()?;
         if first < 128 {
-            return Ok(u32::from(first));
+            return Some(u32::from(first));
         }
-        let second = self.next_byte()?;
+        let second = self.next_u8()?;
         if second < 128 {
-            return Ok(u32::from(first - 128) + (u32::from(second) << 7));
+            return Some(u32::from(first - 128) + (u32::from(second) << 7));
         }
-        let third = self.next_byte()?;
+        let third = self.next_u8()?;
         let low = u32::from(first - 128) + (u32::from(second - 128) << 7);
         if third < 128 {
-            return Ok(low + (u32::from(third) << 14));
+            return Some(low + (u32::from(third) << 14));
         }
-        let fourth = self.next_byte()?;
+        let fourth = self.next_u8()?;
         let low = low + (u32::from(third - 128) << 14);
         if fourth < 128 {
-            return Ok(low + (u32::from(fourth) << 21));
+            return Some(low + (u32::from(fourth) << 21));
         }
-        let fifth = self.next_byte()?;
+        let fifth = self.next_u8()?;
         let low = low + (u32::from(fourth - 128) << 21);
         if fifth < 16 {
-            Ok(low + (u32::from(fifth) << 28))
+            Some(low + (u32::from(fifth) << 28))
         } else {
-            Err(if fifth < 128 {
-                Malformed::IntegerTooLarge
-            } else {
-                Malformed::IntegerTooLong
-            })
+            None
         }
     }
 
@@ -262,8 +275,8 @@ impl<'a> BinaryReader<'a> {
     /// # Errors
     ///
     /// Refused where the bytes encode none: the end comes first, the last byte that is allowed has
-    /// bits beyond the width, or a byte follows it. The offset is that of the byte behind those
-    /// that were read, and the reader stands there.
+    /// bits beyond the width, or a byte follows it. The offset is that of the end or of that last
+    /// byte. The reader stays where it stood.
     pub fn read_var_u64(&mut self) -> Result<u64, Refusal>
         ensures same { SameInput self.old self.new }
         ensures onward { position_in self.old ≤ position_in self.new }
@@ -271,12 +284,11 @@ impl<'a> BinaryReader<'a> {
         ensures ok { IfOk result (λ n. u64_at (rest self.old) ≡ Some (n, rest self.new)) }
         ensures further { OnOk result (position_in self.old < position_in self.new) }
         ensures err { OnErr result (u64_at (rest self.old) ≡ None) }
-        ensures told { IfErr result (λ r. r ≡ plain
-            (Fault.Malformed (unsigned_fault 64 (rest self.old))) (place_of_next self.new)) }
+        ensures told { IfErr result (λ r. r ≡ integer_refusal Integer.U64 64 self.old) }
     {
-        match self.next_u64() {
-            Ok(number) => Ok(number),
-            Err(malformed) => Err(self.refusal(malformed)),
+        match self.next_var_u64() {
+            Some(number) => Ok(number),
+            None => Err(self.integer_refusal(Integer::U64, 64)),
         }
     }
 
@@ -288,109 +300,93 @@ impl<'a> BinaryReader<'a> {
         ensures some { IfSome result (λ n. u64_at (rest self.old) ≡ Some (n, rest self.new)) }
         ensures further { OnSome result (position_in self.old < position_in self.new) }
         ensures none { IfNone result (u64_at (rest self.old) ≡ None) }
-    {
-        self.next_u64().ok()
-    }
-
-    /// The same, and why it isn't there.
-    #[inline(always)]
-    fn next_u64(&mut self) -> Result<u64, Malformed>
-        ensures same { SameInput self.old self.new }
-        ensures onward { position_in self.old ≤ position_in self.new }
-        ensures ok { IfOk result (λ n. u64_at (rest self.old) ≡ Some (n, rest self.new)) }
-        ensures further { OnOk result (position_in self.old < position_in self.new) }
-        ensures err { OnErr result (u64_at (rest self.old) ≡ None) }
-        ensures told { IfErr result (λ m. m ≡ unsigned_fault 64 (rest self.old)) }
+        ensures unread { IfNone result (self.new ≡ self.old) }
     {
         match self.next_last_byte() {
-            Some(byte) => Ok(u64::from(byte)),
+            Some(byte) => Some(u64::from(byte)),
             None => {
                 // The reader itself is not lent, so that it can be kept in registers.
                 let mut behind = *self;
-                let number = behind.next_long_u64();
+                let number = behind.next_long_u64()?;
                 self.go_on_from(&behind);
-                number
+                Some(number)
             }
         }
     }
 
-    /// The same, of more than one byte or none, and why it isn't there.
+    /// The same, of more than one byte or none. Where it isn't there the reader stands behind what was
+    /// read.
     #[inline(never)]
-    fn next_long_u64(&mut self) -> Result<u64, Malformed>
+    fn next_long_u64(&mut self) -> Option<u64>
         ensures same { SameInput self.old self.new }
         ensures onward { position_in self.old ≤ position_in self.new }
-        ensures ok { IfOk result (λ n. u64_at (rest self.old) ≡ Some (n, rest self.new)) }
-        ensures further { OnOk result (position_in self.old < position_in self.new) }
-        ensures err { OnErr result (u64_at (rest self.old) ≡ None) }
-        ensures told { IfErr result (λ m. m ≡ unsigned_fault 64 (rest self.old)) }
+        ensures some { IfSome result (λ n. u64_at (rest self.old) ≡ Some (n, rest self.new)) }
+        ensures further { OnSome result (position_in self.old < position_in self.new) }
+        ensures none { IfNone result (u64_at (rest self.old) ≡ None) }
     {
-        let first = self.next_byte()?;
+        let first = self.next_u8()?;
         if first < 128 {
-            return Ok(u64::from(first));
+            return Some(u64::from(first));
         }
-        let second = self.next_byte()?;
+        let second = self.next_u8()?;
         let low = u64::from(first - 128);
         if second < 128 {
-            return Ok(low + (u64::from(second) << 7));
+            return Some(low + (u64::from(second) << 7));
         }
-        let third = self.next_byte()?;
+        let third = self.next_u8()?;
         let low = low + (u64::from(second - 128) << 7);
         if third < 128 {
-            return Ok(low + (u64::from(third) << 14));
+            return Some(low + (u64::from(third) << 14));
         }
-        let fourth = self.next_byte()?;
+        let fourth = self.next_u8()?;
         let low = low + (u64::from(third - 128) << 14);
         if fourth < 128 {
-            return Ok(low + (u64::from(fourth) << 21));
+            return Some(low + (u64::from(fourth) << 21));
         }
         let low = low + (u64::from(fourth - 128) << 21);
-        Ok(low + (self.next_upper_bits()? << 28))
+        Some(low + (self.next_upper_bits()? << 28))
     }
 
-    /// The bits of such a number behind its first 28, and why they aren't there.
-    fn next_upper_bits(&mut self) -> Result<u64, Malformed>
+    /// The bits of such a number behind its first 28, if they are there.
+    fn next_upper_bits(&mut self) -> Option<u64>
         ensures same { SameInput self.old self.new }
         ensures onward { position_in self.old ≤ position_in self.new }
-        ensures ok { IfOk result (λ n. unsigned_at 36 (rest self.old) ≡ Some (n, rest self.new)) }
-        ensures fits { IfOk result (λ n. n < 2 ^ 36) }
-        ensures further { OnOk result (position_in self.old < position_in self.new) }
-        ensures err { OnErr result (unsigned_at 36 (rest self.old) ≡ None) }
-        ensures told { IfErr result (λ m. m ≡ unsigned_fault 36 (rest self.old)) }
+        ensures some { IfSome result (λ n. unsigned_at 36 (rest self.old)
+            ≡ Some (n, rest self.new)) }
+        ensures fits { IfSome result (λ n. n < 2 ^ 36) }
+        ensures further { OnSome result (position_in self.old < position_in self.new) }
+        ensures none { IfNone result (unsigned_at 36 (rest self.old) ≡ None) }
     {
-        let first = self.next_byte()?;
+        let first = self.next_u8()?;
         if first < 128 {
-            return Ok(u64::from(first));
+            return Some(u64::from(first));
         }
-        let second = self.next_byte()?;
+        let second = self.next_u8()?;
         let low = u64::from(first - 128);
         if second < 128 {
-            return Ok(low + (u64::from(second) << 7));
+            return Some(low + (u64::from(second) << 7));
         }
-        let third = self.next_byte()?;
+        let third = self.next_u8()?;
         let low = low + (u64::from(second - 128) << 7);
         if third < 128 {
-            return Ok(low + (u64::from(third) << 14));
+            return Some(low + (u64::from(third) << 14));
         }
-        let fourth = self.next_byte()?;
+        let fourth = self.next_u8()?;
         let low = low + (u64::from(third - 128) << 14);
         if fourth < 128 {
-            return Ok(low + (u64::from(fourth) << 21));
+            return Some(low + (u64::from(fourth) << 21));
         }
-        let fifth = self.next_byte()?;
+        let fifth = self.next_u8()?;
         let low = low + (u64::from(fourth - 128) << 21);
         if fifth < 128 {
-            return Ok(low + (u64::from(fifth) << 28));
+            return Some(low + (u64::from(fifth) << 28));
         }
-        let sixth = self.next_byte()?;
+        let sixth = self.next_u8()?;
         let low = low + (u64::from(fifth - 128) << 28);
         if sixth < 2 {
-            Ok(low + (u64::from(sixth) << 35))
+            Some(low + (u64::from(sixth) << 35))
         } else {
-            Err(if sixth < 128 {
-                Malformed::IntegerTooLarge
-            } else {
-                Malformed::IntegerTooLong
-            })
+            None
         }
     }
 
@@ -399,8 +395,9 @@ impl<'a> BinaryReader<'a> {
     ///
     /// # Errors
     ///
-    /// Refused, at the offset of its first byte, as no heap type where the number is negative, and
-    /// as too long where the bytes encode none. The reader stays where it stood.
+    /// Refused where the number is negative, as no heap type, at the offset of its first byte; and
+    /// where the bytes encode none: as cut off at the offset of the end, and else as too long at the
+    /// offset of the last byte that is allowed. The reader stays where it stood.
     pub fn read_var_s33_index(&mut self) -> Result<u32, Refusal>
         ensures same { SameInput self.old self.new }
         ensures onward { position_in self.old ≤ position_in self.new }
@@ -408,9 +405,8 @@ impl<'a> BinaryReader<'a> {
         ensures ok { IfOk result (λ n. s33_index_at (rest self.old) ≡ Some (n, rest self.new)) }
         ensures further { OnOk result (position_in self.old < position_in self.new) }
         ensures err { OnErr result ((s33_index_at (rest self.old) ≡ None) × (self.new ≡ self.old)) }
-        ensures told { IfErr result (λ r. r ≡ plain
-            (Fault.Malformed (index_fault (integer_at 33 (rest self.old))))
-            (place_of_next self.old)) }
+        ensures told { IfErr result (λ r. r
+            ≡ index_refusal self.old (integer_at 33 (rest self.old))) }
     {
         match signed_at(self.remaining(), 33) {
             Some((value, used)) => {
@@ -420,7 +416,10 @@ impl<'a> BinaryReader<'a> {
                 self.position += used;
                 Ok(value as u32)
             }
-            None => Err(self.refusal(Malformed::IntegerTooLong)),
+            None => {
+                let long = Malformed::IntegerTooLong(Integer::S33);
+                Err(self.number_refusal(33, long, long))
+            }
         }
     }
 
@@ -448,8 +447,9 @@ impl<'a> BinaryReader<'a> {
     ///
     /// # Errors
     ///
-    /// Refused as too long, at the offset of its first byte, where the bytes encode none, whatever
-    /// the cause. The reader stays where it stood.
+    /// Refused where the bytes encode none: the end comes first, the last byte that is allowed has
+    /// bits beyond the width, or a byte follows it. The offset is that of the end or of that last
+    /// byte. The reader stays where it stood.
     pub fn read_var_i32(&mut self) -> Result<i32, Refusal>
         ensures same { SameInput self.old self.new }
         ensures onward { position_in self.old ≤ position_in self.new }
@@ -457,12 +457,11 @@ impl<'a> BinaryReader<'a> {
         ensures ok { IfOk result (λ n. integer_at 32 (rest self.old) ≡ Some (n, rest self.new)) }
         ensures further { OnOk result (position_in self.old < position_in self.new) }
         ensures err { OnErr result (integer_at 32 (rest self.old) ≡ None) }
-        ensures told { IfErr result (λ r. r ≡ plain (Fault.Malformed Malformed.IntegerTooLong)
-            (place_of_next self.old)) }
+        ensures told { IfErr result (λ r. r ≡ integer_refusal Integer.I32 32 self.old) }
     {
         match self.next_var_i32() {
             Some(value) => Ok(value),
-            None => Err(self.refusal(Malformed::IntegerTooLong)),
+            None => Err(self.integer_refusal(Integer::I32, 32)),
         }
     }
 
@@ -492,8 +491,9 @@ impl<'a> BinaryReader<'a> {
     ///
     /// # Errors
     ///
-    /// Refused as too long, at the offset of its first byte, where the bytes encode none, whatever
-    /// the cause. The reader stays where it stood.
+    /// Refused where the bytes encode none: the end comes first, the last byte that is allowed has
+    /// bits beyond the width, or a byte follows it. The offset is that of the end or of that last
+    /// byte. The reader stays where it stood.
     pub fn read_var_i64(&mut self) -> Result<i64, Refusal>
         ensures same { SameInput self.old self.new }
         ensures onward { position_in self.old ≤ position_in self.new }
@@ -501,12 +501,11 @@ impl<'a> BinaryReader<'a> {
         ensures ok { IfOk result (λ n. integer_at 64 (rest self.old) ≡ Some (n, rest self.new)) }
         ensures further { OnOk result (position_in self.old < position_in self.new) }
         ensures err { OnErr result (integer_at 64 (rest self.old) ≡ None) }
-        ensures told { IfErr result (λ r. r ≡ plain (Fault.Malformed Malformed.IntegerTooLong)
-            (place_of_next self.old)) }
+        ensures told { IfErr result (λ r. r ≡ integer_refusal Integer.I64 64 self.old) }
     {
         match self.next_var_i64() {
             Some(value) => Ok(value),
-            None => Err(self.refusal(Malformed::IntegerTooLong)),
+            None => Err(self.integer_refusal(Integer::I64, 64)),
         }
     }
 
@@ -549,6 +548,7 @@ impl<'a> BinaryReader<'a> {
         ensures ok { IfOk result (λ part. bytes_at size (rest self.old)
             ≡ Some (rest part, rest self.new)) }
         ensures err { OnErr result (bytes_at size (rest self.old) ≡ None) }
+        ensures unread { OnErr result (self.new ≡ self.old) }
         ensures told { IfErr result (λ r. r ≡ plain (Fault.Malformed Malformed.UnexpectedEnd)
             (place_of_next self.old)) }
     {
@@ -585,8 +585,10 @@ impl<'a> BinaryReader<'a> {
         ensures further { OnOk result (position_in self.old < position_in self.new) }
         ensures err { OnErr result (sized_at (rest self.old) ≡ None) }
         ensures told { IfErr result (λ r. r.fault
-            ≡ Fault.Malformed (sized_fault (unsigned_fault 32 (rest self.old))
+            ≡ Fault.Malformed (sized_fault (integer_fault Integer.U32 32 (rest self.old))
             (u32_at (rest self.old)))) }
+        ensures place { IfErr result (λ r. r.offset
+            ≡ sized_place self.old self.new (u32_at (rest self.old))) }
     {
         let size = self.read_var_u32()?;
         self.read_reader(size as usize)
@@ -598,7 +600,7 @@ impl<'a> BinaryReader<'a> {
     /// # Errors
     ///
     /// Refused as by [`BinaryReader::read_sized`]; and where the bytes are no text, at the offset
-    /// of the first of them.
+    /// of the last of them, wherever the fault is.
     #[tactic(auto, using(crate::proofs::Texts::name_from_text, crate::proofs::Texts::no_name_from_no_text))]
     pub fn read_string(&mut self) -> Result<&'a str, Refusal>
         ensures same { SameInput self.old self.new }
@@ -610,13 +612,19 @@ impl<'a> BinaryReader<'a> {
         ensures err { OnErr result (name_at (rest self.old) ≡ None) }
         ensures told { IfErr result (λ r. r.fault
             ≡ Fault.Malformed (name_fault
-            (sized_fault (unsigned_fault 32 (rest self.old)) (u32_at (rest self.old)))
+            (sized_fault (integer_fault Integer.U32 32 (rest self.old)) (u32_at (rest self.old)))
             (sized_at (rest self.old)))) }
+        ensures place { IfErr result (λ r. r.offset
+            ≡ name_place (sized_place self.old self.new (u32_at (rest self.old))) self.new
+            (sized_at (rest self.old))) }
     {
         let part = self.read_sized()?;
         match std::str::from_utf8(part.remaining()) {
             Ok(name) => Ok(name),
-            Err(_) => Err(part.refusal(Malformed::NotUtf8)),
+            Err(_) => {
+                let last = self.original_position() - 1;
+                Err(Refusal::new(Fault::Malformed(Malformed::NotUtf8), last))
+            }
         }
     }
 }

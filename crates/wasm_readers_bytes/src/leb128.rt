@@ -1,5 +1,8 @@
 ghost use Rattle.std.specs.Prelude.{◌≡◌, ◌≤◌, ◌<◌, ◌^◌, ◌-◌, ◌≤ℤ◌, ◌<ℤ◌, ◌-ℤ◌, ◌+ℤ◌, ◌*ℤ◌, pos, IfSome, IfNone, length, drop};
 ghost use Rattle.wasm_readers_errors.specs.WasmSpec.Values.{signed_at as encoded_at};
+ghost use Rattle.wasm_readers_bytes.specs.Reader.{number_fault, before_wrong};
+
+use wasm_readers_errors::Malformed;
 
 /// The signed number of at most `bits` bits at the front, and how many bytes it takes.
 #[tactic(auto, using(crate::proofs::Powers::signed_powers))]
@@ -72,4 +75,32 @@ fn joined(high: i64, low: u8) -> i64
     ensures { result ≡ pos (2 ^ 7) *ℤ high +ℤ pos (low - 2 ^ 7) }
 {
     high * 128 + i64::from(low - 128)
+}
+
+/// What is told of bytes that encode no number of at most `bits` bits, and how many bytes stand
+/// before the one that is wrong: of a last byte with bits beyond the width `large`, of one byte too
+/// many `long`.
+pub(crate) fn wrong_number(
+    bytes: &[u8],
+    bits: u8,
+    large: Malformed,
+    long: Malformed,
+) -> (Malformed, usize)
+    ensures fault { result.0 ≡ number_fault large long bits bytes.now }
+    ensures before { result.1 ≡ before_wrong bits bytes.now }
+    ensures within { result.1 ≤ length bytes.now }
+{
+    match bytes {
+        [] => (Malformed::UnexpectedEnd, 0),
+        [byte, more @ ..] => {
+            if *byte < 128 {
+                (large, 0)
+            } else if bits > 7 {
+                let (malformed, before) = wrong_number(more, bits - 7, large, long);
+                (malformed, before + 1)
+            } else {
+                (long, 0)
+            }
+        }
+    }
 }

@@ -12,17 +12,17 @@ pub use binary_reader::BinaryReader;
 pub mod readers_types {
     pub use wasm_readers_errors::readers_types::{
         AbstractHeapType, ArrayType, CompositeInnerType, CompositeType, ContType, CoreTypeId,
-        ExternalKind, FieldType, FuncType, GlobalType, HeapType, Items, MAX_IDS, MemoryType,
-        PackedIndex, RecGroup, RefType, StorageType, StructType, SubType, TableType, TagKind,
-        TagType, TypeRef, UnpackedIndex, ValType,
+        EntityType, ExternalKind, FieldType, FuncType, GlobalType, HeapType, Items, MAX_IDS,
+        MemoryType, PackedIndex, RecGroup, RefType, StorageType, StructType, SubType, TableType,
+        TagKind, TagType, TypeRef, UnpackedIndex, ValType,
     };
 }
 
 /// Passed on from `wasm_readers_errors`.
 pub mod readers_errors {
     pub use wasm_readers_errors::{
-        Counted, DescriptorRule, Error, Fault, GatedConstant, GroupRule, ItemKind, ItemRule,
-        Malformed, OperatorRule, OutOfOrder, Refusal, Rule, ValueTypeRule, WasmFeatures, hold,
-        require, require_if,
+        Counted, DescriptorRule, Error, Fault, GatedConstant, GroupRule, Integer, ItemKind,
+        ItemRule, Malformed, OperatorRule, OutOfOrder, Refusal, Rule, ValueTypeRule, WasmFeatures,
+        hold, require, require_if,
     };
 }

@@ -4,3 +4,4 @@ pub use Rattle.wasm_readers_features.specs as WasmReadersFeatures
 pub mod Errors
 pub mod Refusals
 pub mod Lifting
+pub mod Opcodes

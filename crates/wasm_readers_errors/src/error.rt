@@ -1,4 +1,5 @@
 ghost use Rattle.std.specs.Prelude.{◌≡◌};
+ghost use Rattle.wasm_readers_errors.specs.Opcodes.{is_vector_code, is_vector_gap};
 
 use crate::item_rules::ItemRule;
 use crate::operator_rules::{GatedConstant, OperatorRule};
@@ -8,15 +9,44 @@ use std::fmt;
 use wasm_readers_features::WasmFeatures;
 use wasm_readers_types::ValType;
 
+/// The numbers of the binary format, by their sign and their width in bits (Core Specification 3.0,
+/// Binary Format, Values, Integers).
+#[derive(Clone, Copy, PartialEq, Eq, Debug)]
+pub enum Integer {
+    /// Unsigned, 32 bits: indices, sizes and counts.
+    U32,
+    /// Unsigned, 64 bits: limits, and offsets of memory arguments.
+    U64,
+    /// Signed, 33 bits: type indices where a heap type or a block type may stand.
+    S33,
+    /// Signed, 32 bits: constants.
+    I32,
+    /// Signed, 64 bits: constants.
+    I64,
+}
+
+impl Integer {
+    fn text<'a>(self) -> &'a str {
+        match self {
+            Integer::U32 => "u32",
+            Integer::U64 => "u64",
+            Integer::S33 => "s33",
+            Integer::I32 => "i32",
+            Integer::I64 => "i64",
+        }
+    }
+}
+
 /// Where bytes don't follow the binary format.
 #[derive(Clone, Copy, PartialEq, Eq, Debug)]
 pub enum Malformed {
     /// The bytes end where more must stand.
     UnexpectedEnd,
-    /// A number takes more bytes than its width allows, or a signed one is none of its width.
-    IntegerTooLong,
+    /// A number takes more bytes than its width allows; one of 33 bits also where its last byte has
+    /// bits beyond the width.
+    IntegerTooLong(Integer),
     /// The last byte of a number has bits beyond its width.
-    IntegerTooLarge,
+    IntegerTooLarge(Integer),
     /// A name is not text in UTF-8.
     NotUtf8,
     /// What stands for a heap type is none.
@@ -27,8 +57,16 @@ pub enum Malformed {
     ValueType,
     /// What stands for a composite type is none.
     CompositeType,
-    /// A flag is neither 0 nor 1.
-    Flag,
+    /// The byte that says whether a field may be set is neither 0 nor 1.
+    Mutability,
+    /// The byte between `0x40` and the type of a table with an initializer is not 0.
+    TableEncoding,
+    /// The flags of an element segment are none.
+    ElementFlags,
+    /// The kind of an element segment's items is not that of functions.
+    ElementKind,
+    /// The flags of a data segment are none.
+    DataFlags,
     /// The flags of a table or memory type have a bit without a meaning.
     LimitsFlags,
     /// The flags of a global type have a bit without a meaning.
@@ -51,8 +89,14 @@ pub enum Malformed {
     FunctionAndCodeCounts,
     /// There are not as many data segments as the data count says.
     DataCounts,
-    /// No operator has this opcode.
-    Opcode,
+    /// No operator has this opcode, which is one byte.
+    Opcode(u8),
+    /// No operator has this opcode: a prefix, and the number behind it.
+    PrefixedOpcode(u8, u32),
+    /// An operator on vectors other than `v128.const`, which are not served.
+    VectorOperator,
+    /// An atomic operator, which are not served.
+    AtomicOperator,
     /// The alignment of a memory operator is too large.
     Alignment,
     /// The flags of a cast have a bit without a meaning.
@@ -62,17 +106,58 @@ pub enum Malformed {
 }
 
 impl Malformed {
+    ghost use Rattle.wasm_readers_errors.specs.Opcodes.{told_of_prefixed};
+
+    /// What is told of this number behind this prefix, where no operator that is served has it (Core
+    /// Specification 3.0, Binary Format, Instructions).
+    pub fn of_prefixed_opcode(prefix: u8, code: u32) -> Malformed
+        ensures { result ≡ told_of_prefixed prefix code }
+    {
+        if prefix == 0xfe {
+            Malformed::AtomicOperator
+        } else if prefix == 0xfd && is_vector_code(code) {
+            Malformed::VectorOperator
+        } else {
+            Malformed::PrefixedOpcode(prefix, code)
+        }
+    }
+
+    fn write<W: fmt::Write>(self, f: &mut fmt::Formatter<W>) -> fmt::Result {
+        match self {
+            Malformed::IntegerTooLong(integer) => write_integer(
+                f,
+                integer.text(),
+                "integer representation too long",
+            ),
+            Malformed::IntegerTooLarge(integer) => write_integer(
+                f,
+                integer.text(),
+                "integer too large",
+            ),
+            Malformed::Opcode(opcode) => write!(f, "illegal opcode {opcode:#04x}"),
+            Malformed::PrefixedOpcode(prefix, code) => write!(
+                f,
+                "illegal opcode {prefix:#04x} {code}"
+            ),
+            other => f.write_str(other.text()),
+        }
+    }
+
     fn text<'a>(self) -> &'a str {
         match self {
             Malformed::UnexpectedEnd => "unexpected end-of-file",
-            Malformed::IntegerTooLong => "invalid LEB128: integer representation too long",
-            Malformed::IntegerTooLarge => "invalid LEB128: integer too large",
+            Malformed::IntegerTooLong(_) | Malformed::IntegerTooLarge(_) => "invalid integer",
             Malformed::NotUtf8 => "malformed UTF-8 encoding",
             Malformed::HeapType => "invalid heap type",
             Malformed::ReferenceType => "malformed reference type",
             Malformed::ValueType => "invalid value type",
             Malformed::CompositeType => "invalid leading byte for composite type",
-            Malformed::Flag => "invalid mutability byte",
+            Malformed::Mutability => "malformed mutability byte for field type",
+            Malformed::TableEncoding => "invalid table encoding",
+            Malformed::ElementFlags => "invalid flags byte in element segment",
+            Malformed::ElementKind =>
+                "only the function external type is supported in elem segment",
+            Malformed::DataFlags => "invalid flags byte in data segment",
             Malformed::LimitsFlags => "invalid limits flags",
             Malformed::GlobalFlags => "malformed mutability -- or shared flags",
             Malformed::TagAttribute => "invalid tag attributes",
@@ -86,11 +171,50 @@ impl Malformed {
             Malformed::FunctionAndCodeCounts =>
                 "function and code section have inconsistent lengths",
             Malformed::DataCounts => "data count and data section have inconsistent lengths",
-            Malformed::Opcode => "illegal opcode",
+            Malformed::Opcode(_) | Malformed::PrefixedOpcode(_, _) => "illegal opcode",
+            Malformed::VectorOperator => "vector operators are not served",
+            Malformed::AtomicOperator => "atomic operators are not served",
             Malformed::Alignment => "malformed memop alignment: alignment too large",
             Malformed::CastFlags => "malformed cast flags",
             Malformed::CatchKind => "invalid leading byte for a catch clause",
         }
+    }
+}
+
+/// Whether a vector operator has this number behind the prefix `0xfd` (Core Specification 3.0,
+/// Binary Format, Instructions, Vector Instructions).
+fn is_vector_code(code: u32) -> bool
+    ensures { result ≡ is_vector_code code }
+{
+    code < 276 && !is_vector_gap(code)
+}
+
+/// Whether no vector operator has this number, though some have greater ones.
+fn is_vector_gap(code: u32) -> bool
+    ensures { result ≡ is_vector_gap code }
+{
+    match code {
+        154
+        | 162
+        | 165
+        | 166
+        | 175
+        | 176
+        | 178
+        | 179
+        | 180
+        | 187
+        | 194
+        | 197
+        | 198
+        | 207
+        | 208
+        | 210
+        | 211
+        | 212
+        | 226
+        | 238 => true,
+        _ => false,
     }
 }
 
@@ -296,7 +420,7 @@ pub enum Fault {
 impl fmt::Display for Fault {
     fn fmt<W: fmt::Write>(&self, f: &mut fmt::Formatter<W>) -> fmt::Result {
         match self {
-            Fault::Malformed(malformed) => f.write_str(malformed.text()),
+            Fault::Malformed(malformed) => malformed.write(f),
             Fault::OutOfOrder(order) => f.write_str(order.text()),
             Fault::Rule(rule) => f.write_str(rule.text()),
             Fault::Group(rule) => f.write_str(rule.text()),
@@ -331,6 +455,14 @@ impl fmt::Display for Fault {
             Fault::ComponentHeader(number) => write_component_header(f, *number),
         }
     }
+}
+
+fn write_integer<W: fmt::Write>(
+    f: &mut fmt::Formatter<W>,
+    integer: &str,
+    what: &str,
+) -> fmt::Result {
+    write!(f, "invalid var_{integer}: {what}")
 }
 
 fn write_unknown_type<W: fmt::Write>(
@@ -472,6 +604,14 @@ impl Error {
             Error::Refused(refusal) => refusal.missing,
             Error::OutOfMemory => None,
         }
+    }
+
+    /// The message, which prints without the offset. A text is printed and never stored, so that
+    /// this is the error itself.
+    pub fn message(&self) -> &Error
+        ensures { result.now ≡ self.now }
+    {
+        self
     }
 }
 

@@ -7,7 +7,7 @@ pub mod operator_rules;
 pub mod refusals;
 pub mod type_rules;
 
-pub use error::{Counted, Error, Fault, ItemKind, Malformed, OutOfOrder, Refusal, Rule};
+pub use error::{Counted, Error, Fault, Integer, ItemKind, Malformed, OutOfOrder, Refusal, Rule};
 pub use item_rules::ItemRule;
 pub use operator_rules::{GatedConstant, OperatorRule};
 pub use refusals::{hold, require, require_if};
@@ -18,8 +18,8 @@ pub use wasm_readers_features::WasmFeatures;
 pub mod readers_types {
     pub use wasm_readers_types::{
         AbstractHeapType, ArrayType, CompositeInnerType, CompositeType, ContType, CoreTypeId,
-        ExternalKind, FieldType, FuncType, GlobalType, HeapType, Items, MAX_IDS, MemoryType,
-        PackedIndex, RecGroup, RefType, StorageType, StructType, SubType, TableType, TagKind,
-        TagType, TypeRef, UnpackedIndex, ValType,
+        EntityType, ExternalKind, FieldType, FuncType, GlobalType, HeapType, Items, MAX_IDS,
+        MemoryType, PackedIndex, RecGroup, RefType, StorageType, StructType, SubType, TableType,
+        TagKind, TagType, TypeRef, UnpackedIndex, ValType, limits_match,
     };
 }

@@ -50,7 +50,7 @@ fn read_kind(reader: &mut BinaryReader<'_>) -> Result<u8, Refusal>
     let offset = reader.original_position();
     let kind = reader.read_u8()?;
     if kind > 0 {
-        return Err(Refusal::new(Fault::Malformed(Malformed::Flag), offset));
+        return Err(Refusal::new(Fault::Malformed(Malformed::ElementKind), offset));
     }
     Ok(kind)
 }
@@ -120,7 +120,7 @@ fn mark_element_from<A: Allocator + Copy>(
             mark_type_and_expressions(referenced, reader)
         }
         _ => Err(Error::Refused(Refusal::new(
-            Fault::Malformed(Malformed::Flag),
+            Fault::Malformed(Malformed::ElementFlags),
             reader.original_position(),
         ))),
     }

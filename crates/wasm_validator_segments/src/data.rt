@@ -1,8 +1,9 @@
 //! Data segments.
 
-ghost use Rattle.std.specs.Prelude.{◌≤◌, IfErr};
+ghost use Rattle.std.specs.Prelude.{◌≡◌, ◌≤◌, IfErr};
 ghost use Rattle.wasm_spec_rules.specs.FeatureFlags.{features_of};
 ghost use Rattle.wasm_readers.specs.WasmReadersBytes.Reader.{SameInput, position_in, rest};
+ghost use Rattle.wasm_readers_errors.specs.Refusals.{plain};
 ghost use Rattle.wasm_validator_constants.specs.Checked.{IsRefusedAt, StandsIn};
 ghost use Rattle.wasm_validator_segments.specs.Answers.{GoesPast};
 ghost use Rattle.wasm_validator_segments.specs.Data.{behind_data_mode, behind_data};
@@ -17,10 +18,10 @@ use wasm_validator_resources::WasmModuleResources;
 
 /// The refusal of a segment's flag, at this offset.
 #[inline(never)]
-pub(crate) fn unknown_flag(offset: u64) -> Error
-    ensures { IsRefusedAt offset result }
+pub(crate) fn unknown_flag(malformed: Malformed, offset: u64) -> Error
+    ensures { result ≡ Error.Refused (plain (Fault.Malformed malformed) offset) }
 {
-    Error::Refused(Refusal::new(Fault::Malformed(Malformed::Flag), offset))
+    Error::Refused(Refusal::new(Fault::Malformed(malformed), offset))
 }
 
 /// The refusal of a segment that isn't active, at this offset.
@@ -31,7 +32,7 @@ pub(crate) fn no_bulk_memory(rule: ItemRule, offset: u64) -> Error
     Error::Refused(Refusal::missing(Fault::Item(rule), offset, WasmFeatures::BULK_MEMORY))
 }
 
-/// Reads where a data segment with this flag goes, and types its offset.
+/// Reads where a data segment with this flag, which is at most 2, goes, and types its offset.
 fn check_data_mode<'a, A: Allocator + Copy, T: WasmModuleResources>(
     memory: &mut ExpressionMemory<A>,
     features: WasmFeatures,
@@ -40,6 +41,7 @@ fn check_data_mode<'a, A: Allocator + Copy, T: WasmModuleResources>(
     flag: u32,
     reader: &mut BinaryReader<'a>,
 ) -> Result<(), Error>
+    requires { flag ≤ 2 }
     ensures past { GoesPast result (behind_data_mode (T.context resources.now)
         (features_of features) imported_globals flag (rest reader.old)) (rest reader.new) }
     ensures input { SameInput reader.old reader.new }
@@ -55,7 +57,7 @@ fn check_data_mode<'a, A: Allocator + Copy, T: WasmModuleResources>(
             let offset = reader.original_position();
             Err(no_bulk_memory(ItemRule::PassiveData, offset))
         }
-        2 => {
+        _ => {
             let memory_index = reader.read_var_u32()?;
             check_memory_offset(
                 memory,
@@ -66,7 +68,6 @@ fn check_data_mode<'a, A: Allocator + Copy, T: WasmModuleResources>(
                 reader,
             )
         }
-        _ => Err(unknown_flag(reader.original_position())),
     }
 }
 
@@ -93,7 +94,11 @@ pub fn check_data<'a, A: Allocator + Copy, T: WasmModuleResources>(
     ensures onward { position_in reader.old ≤ position_in reader.new }
     ensures place { IfErr result (StandsIn reader.old) }
 {
+    let offset = reader.original_position();
     let flag = reader.read_var_u32()?;
+    if flag > 2 {
+        return Err(unknown_flag(Malformed::DataFlags, offset));
+    }
     check_data_mode(memory, features, resources, imported_globals, flag, reader)?;
     reader.read_sized()?;
     Ok(())

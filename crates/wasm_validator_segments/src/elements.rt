@@ -47,7 +47,7 @@ fn read_kind(reader: &mut BinaryReader<'_>) -> Result<u8, Refusal>
     let offset = reader.original_position();
     let kind = reader.read_u8()?;
     if kind > 0 {
-        return Err(Refusal::new(Fault::Malformed(Malformed::Flag), offset));
+        return Err(Refusal::new(Fault::Malformed(Malformed::ElementKind), offset));
     }
     Ok(kind)
 }
@@ -226,7 +226,7 @@ fn check_items_for<'a, A: Allocator + Copy, T: WasmModuleResources>(
     Ok(ty)
 }
 
-/// Reads an element segment with this flag.
+/// Reads an element segment with this flag, which is at most 7.
 fn check_element_from<'a, A: Allocator + Copy, T: WasmModuleResources>(
     memory: &mut ExpressionMemory<A>,
     features: WasmFeatures,
@@ -235,15 +235,13 @@ fn check_element_from<'a, A: Allocator + Copy, T: WasmModuleResources>(
     flag: u32,
     reader: &mut BinaryReader<'a>,
 ) -> Result<ValType, Error>
+    requires { flag ≤ 7 }
     ensures reads { Reads val_of result (typed_element_from (T.context resources.now)
         (features_of features) imported_globals flag (rest reader.old)) (rest reader.new) }
     ensures input { SameInput reader.old reader.new }
     ensures onward { position_in reader.old ≤ position_in reader.new }
     ensures place { IfErr result (StandsIn reader.old) }
 {
-    if flag > 7 {
-        return Err(unknown_flag(reader.original_position()));
-    }
     let table = check_segment_table(memory, features, resources, imported_globals, flag, reader)?;
     let ty = check_items_type(features, resources, flag, reader)?;
     check_items_for(
@@ -275,6 +273,10 @@ fn check_any_element<'a, A: Allocator + Copy, T: WasmModuleResources>(
     ensures place { IfErr result (StandsIn reader.old) }
 {
     let flag = reader.read_var_u32()?;
+    if flag > 7 {
+        let last = reader.original_position() - 1;
+        return Err(unknown_flag(Malformed::ElementFlags, last));
+    }
     check_element_from(memory, features, resources, imported_globals, flag, reader)
 }
 
