@@ -1,4 +1,6 @@
 pub use Rattle.wasm_validator_type_groups.proofs as WasmValidatorTypeGroups
+pub mod Items
+pub mod ListableGroups
 pub mod Results
 pub mod Store
 pub mod Growth

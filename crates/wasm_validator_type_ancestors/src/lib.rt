@@ -1,13 +1,16 @@
 //! Of each type of a list the number of its proper ancestors, and where these are few the list of
-//! them, so that one look-up tells whether a type is below another.
+//! them, so that one look-up tells whether a type is below another; and which groups may be added to
+//! a list.
 #![tactic(auto)]
 
 mod ancestor_lists;
 mod entries;
 mod link_count;
+mod listable;
 
 pub use ancestor_lists::AncestorLists;
 pub use link_count::LinkCount;
+pub use listable::{group_is_listable, type_is_listable};
 
 /// Passed on from `wasm_validator_type_groups`.
 pub mod validator_type_groups {

@@ -14,4 +14,4 @@ pub use composite_types::check_composite_type;
 pub use descriptors::check_descriptors;
 pub use groups::{check_rec_group, check_type};
 pub use laws::{ids_keep_rules_as_types, sub_types_match_as_types};
-pub use subtypes::check_subtype;
+pub use subtypes::{MAX_WASM_SUBTYPING_DEPTH, check_subtype};

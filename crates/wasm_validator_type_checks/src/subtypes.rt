@@ -20,8 +20,11 @@ use wasm_validator_resources::readers_errors::{
 };
 use wasm_validator_type_list::TypeList;
 
+/// The most proper ancestors of a type.
+pub const MAX_WASM_SUBTYPING_DEPTH: u32 = 63;
+
 /// How many proper ancestors are too many.
-const TOO_DEEP: u32 = 64;
+const TOO_DEEP: u32 = MAX_WASM_SUBTYPING_DEPTH + 1;
 
 /// Accepts where the type is final and extends nothing, or the proposal for sub types is on.
 fn check_extending<A: Allocator>(

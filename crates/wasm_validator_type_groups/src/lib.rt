@@ -19,5 +19,8 @@ pub use snapshot_list::SnapshotList;
 
 /// Passed on from `wasm_readers_types`.
 pub mod readers_types {
-    pub use wasm_readers_types::{CoreTypeId, SubType, UnpackedIndex};
+    pub use wasm_readers_types::{
+        CompositeInnerType, CoreTypeId, FieldType, HeapType, PackedIndex, StorageType, SubType,
+        UnpackedIndex, ValType,
+    };
 }

@@ -7,7 +7,6 @@ pub mod Depths
 pub mod Sound
 pub mod Refused
 pub mod Lookups
-pub mod Sizes
 pub mod Declares
 pub mod Reading
 pub mod Subtyping

@@ -7,7 +7,6 @@
 mod laws;
 mod subtyping;
 mod type_alloc;
-mod type_info;
 mod type_list;
 mod with_rec_group;
 
@@ -15,7 +14,6 @@ pub use laws::{
     ids_are_a_world, ids_match_as_types, types_declare_what_ids_declare, types_have_their_places,
 };
 pub use type_alloc::TypeAlloc;
-pub use type_info::{TypeData, TypeIdentifier, TypeInfo};
 pub use type_list::TypeList;
 pub use wasm_validator_type_ancestors::LinkCount;
 pub use wasm_validator_type_ancestors::validator_type_groups::{

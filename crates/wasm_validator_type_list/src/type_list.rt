@@ -22,7 +22,9 @@ use wasm_validator_type_ancestors::validator_type_groups::{
 };
 
 mod depths;
+mod holding;
 mod interning;
+mod links;
 mod matching;
 mod relations;
 mod total;

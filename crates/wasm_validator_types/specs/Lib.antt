@@ -1,5 +1,5 @@
 pub use Rattle.wasm_validator_type_list.specs as WasmValidatorTypeList
-pub mod Entities
+pub use Rattle.wasm_spec_rules.specs.WasmReadersTypes.Entities as Entities
 pub mod Spaces
 pub mod SpacesSeen
 pub mod Rows

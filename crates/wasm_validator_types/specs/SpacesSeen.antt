@@ -8,7 +8,7 @@ use Rattle.std.specs.declared.string.String.{String}
 use Rattle.wasm_spec_rules.specs.WasmReadersTypes.SeenExterns.{table_of, memory_of, global_of}
 use Rattle.wasm_spec_rules.specs.WasmReadersTypes.WasmReadersValues.SeenValues.{ref_of}
 use Rattle.wasm_spec_rules.specs.WasmReadersTypes.WasmReadersValues.declared.indices.CoreTypeId.{CoreTypeId}
-use Rattle.wasm_validator_types.specs.declared.entity_type.EntityType.{EntityType}
+use Rattle.wasm_spec_rules.specs.WasmReadersTypes.declared.externs.EntityType.{EntityType}
 use Rattle.wasm_validator_types.specs.declared.index_spaces.IndexSpaces.TheInside.{Inside}
 use Rattle.wasm_validator_types.specs.Entities.{Entity, entity_of, IsAmong}
 use Rattle.wasm_validator_types.specs.Spaces.{Spaces, with_import}

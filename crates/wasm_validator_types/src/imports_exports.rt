@@ -3,11 +3,10 @@ ghost use Rattle.wasm_validator_types.specs.Rows.{all_imports};
 ghost use Rattle.wasm_validator_types.specs.Left.{imports_left, exports_left};
 ghost use Rattle.wasm_validator_types.specs.SpacesSeen.{shown_import, shown_export};
 
-use crate::entity_type::EntityType;
 use crate::index_spaces::{ExportMap, ImportMap};
 use indexmap::map::Iter;
 use std::alloc::{Allocator, Global};
-use wasm_readers::readers_types::Items;
+use wasm_readers::readers_types::{EntityType, Items};
 
 /// The imports of a module, each with its two names: pairs of names in the order in which they
 /// first came, and the imports of one pair together.

@@ -13,13 +13,14 @@ ghost use Rattle.wasm_validator_types.specs.Left.{imports_left, exports_left};
 ghost use Rattle.wasm_validator_types.specs.Rows.{all_imports};
 ghost use Rattle.wasm_validator_types.specs.SpacesSeen.{numbers, PutsAt, AddsToPair};
 
-use crate::entity_type::EntityType;
 use crate::imports_exports::{CoreExports, CoreImports};
 use indexmap::IndexMap;
 use std::alloc::{AllocError, Allocator, Global};
 use std::hash::{BuildHasherDefault, FoldHasher};
 use std::marker::Model;
-use wasm_readers::readers_types::{CoreTypeId, GlobalType, Items, MemoryType, RefType, TableType};
+use wasm_readers::readers_types::{
+    CoreTypeId, EntityType, GlobalType, Items, MemoryType, RefType, TableType,
+};
 
 /// What is imported under each pair of names.
 pub(crate) type ImportMap<A> = IndexMap<

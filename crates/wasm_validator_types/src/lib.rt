@@ -2,19 +2,17 @@
 //! the list of all types that outlive validation.
 #![tactic(auto)]
 
-mod entity_type;
 mod id;
 mod imports_exports;
 pub mod index_spaces;
 mod named;
 mod shown;
 
-pub use entity_type::EntityType;
 pub use id::ValidatorId;
 pub use imports_exports::{CoreExports, CoreImports};
 pub use index_spaces::IndexSpaces;
 pub use shown::{Types, TypesRef};
+pub use wasm_readers::readers_types::EntityType;
 pub use wasm_validator_type_list::{
-    RecGroupElements, RecGroupId, SnapshotList, TypeAlloc, TypeData, TypeIdentifier, TypeInfo,
-    TypeList,
+    RecGroupElements, RecGroupId, SnapshotList, TypeAlloc, TypeList,
 };

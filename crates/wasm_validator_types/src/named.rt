@@ -9,11 +9,10 @@ ghost use Rattle.wasm_readers.specs.Items.{export_of};
 ghost use Rattle.wasm_validator_types.specs.Entities.{entity_of, IsAmong};
 ghost use Rattle.wasm_validator_types.specs.Named.{imported_entity, named_entity, named_function, named_tag};
 
-use crate::entity_type::EntityType;
 use crate::index_spaces::IndexSpaces;
 use std::alloc::Allocator;
 use wasm_readers::Export;
-use wasm_readers::readers_types::{CoreTypeId, ExternalKind, TypeRef};
+use wasm_readers::readers_types::{CoreTypeId, EntityType, ExternalKind, TypeRef};
 
 /// The id of the type with this index, if there is one.
 fn type_id_at<A: Allocator + Copy>(spaces: &IndexSpaces<A>, index: u32) -> Option<CoreTypeId>

@@ -15,7 +15,6 @@ ghost use Rattle.wasm_validator_types.specs.Left.{imports_left, exports_left};
 ghost use Rattle.wasm_validator_types.specs.Rows.{all_imports};
 ghost use Rattle.wasm_validator_types.specs.Shown.{shown_of, shown_by, HoldsIds, HoldsImports, HoldsExports};
 
-use crate::entity_type::EntityType;
 use crate::id::ValidatorId;
 use crate::imports_exports::{CoreExports, CoreImports};
 use crate::index_spaces::IndexSpaces;
@@ -26,7 +25,7 @@ use std::ops::{Index, Range};
 use std::rc::Rc;
 use wasm_readers::readers_errors::WasmFeatures;
 use wasm_readers::readers_types::{
-    CoreTypeId, GlobalType, MemoryType, RefType, SubType, TableType,
+    CoreTypeId, EntityType, GlobalType, MemoryType, RefType, SubType, TableType,
 };
 use wasm_readers::{Export, Import};
 use wasm_validator_type_list::{RecGroupElements, RecGroupId, TypeList};

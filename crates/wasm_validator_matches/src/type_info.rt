@@ -1,12 +1,11 @@
 ghost use Rattle.std.specs.Prelude.{◌≡◌, ◌<◌, ◌≤◌, ◌^◌, ℕ, Bool, true, false, List};
-ghost use Rattle.wasm_validator_type_list.specs.Sizes.{size_of_inner};
+ghost use Rattle.wasm_validator_matches.specs.Sizes.{size_of_inner};
 
-use crate::type_list::TypeList;
 use std::alloc::Allocator;
 use std::fmt::Debug;
 use std::ops::Range;
-use wasm_readers_errors::readers_types::{CompositeInnerType, CoreTypeId, SubType};
-use wasm_validator_type_ancestors::validator_type_groups::{RecGroupId, SnapshotList};
+use wasm_readers_types::{CompositeInnerType, CoreTypeId, SubType};
+use wasm_validator_type_list::{RecGroupId, SnapshotList, TypeList};
 
 /// What is known of a type before it is looked at: how large it is.
 #[derive(Clone, Copy, PartialEq, Eq, PartialOrd, Ord, Hash, Debug)]
@@ -82,7 +81,7 @@ impl<A: Allocator> TypeData<A> for SubType<A> {
 
     ghost IS_CORE_SUB_TYPE = { true };
 
-    ghost use Rattle.wasm_validator_type_list.specs.Sizes.{size_of_sub};
+    ghost use Rattle.wasm_validator_matches.specs.Sizes.{size_of_sub};
 
     ghost size = { size_of_sub };
 
@@ -135,7 +134,7 @@ impl<A: Allocator> TypeData<A> for Range<CoreTypeId> {
 
     ghost IS_CORE_SUB_TYPE = { false };
 
-    ghost use Rattle.wasm_validator_type_list.specs.Sizes.{size_of_group};
+    ghost use Rattle.wasm_validator_matches.specs.Sizes.{size_of_group};
 
     ghost size = { size_of_group };
 
@@ -147,7 +146,7 @@ impl<A: Allocator> TypeData<A> for Range<CoreTypeId> {
 impl<A: Allocator + Copy> TypeIdentifier<A> for RecGroupId {
     type Data = Range<CoreTypeId>;
 
-    ghost use Rattle.wasm_validator_type_ancestors.specs.WasmValidatorTypeGroups.Spans.{spans_of};
+    ghost use Rattle.wasm_validator_type_list.specs.WasmValidatorTypeGroups.Spans.{spans_of};
 
     ghost number = { λ id. id.index };
 

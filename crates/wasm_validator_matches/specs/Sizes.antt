@@ -1,10 +1,10 @@
 -- How large types are, in parts.
 use Rattle.std.specs.Prelude.{ℕ, ◌+◌, ◌-◌, ◌*◌, length}
 use Rattle.std.specs.declared.ops.Range.{Range}
-use Rattle.wasm_readers_errors.specs.WasmReadersTypes.WasmReadersValues.declared.indices.CoreTypeId.{CoreTypeId}
-use Rattle.wasm_readers_errors.specs.WasmReadersTypes.declared.types.CompositeInnerType.{CompositeInnerType}
-use Rattle.wasm_readers_errors.specs.WasmReadersTypes.declared.types.CompositeInnerType.TheVariants.{Func, Array, Struct, Cont}
-use Rattle.wasm_readers_errors.specs.WasmReadersTypes.declared.types.SubType.{SubType}
+use Rattle.wasm_readers_types.specs.WasmReadersValues.declared.indices.CoreTypeId.{CoreTypeId}
+use Rattle.wasm_readers_types.specs.declared.types.CompositeInnerType.{CompositeInnerType}
+use Rattle.wasm_readers_types.specs.declared.types.CompositeInnerType.TheVariants.{Func, Array, Struct, Cont}
+use Rattle.wasm_readers_types.specs.declared.types.SubType.{SubType}
 
 abbrev pub size_of_inner : {A : Type 0} → CompositeInnerType A → ℕ
 size_of_inner (Func f) = 2 + length f.params + length f.results
