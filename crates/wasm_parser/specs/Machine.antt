@@ -1,5 +1,5 @@
 -- The framing of a module, read from the front: one step for each piece.
-use Rattle.std.specs.Prelude.{◌≡◌, ℕ, ◌-◌, Bool, true, List, [], ◌∷◌, length, Option, Some, None, ◌==◌, nat_eq, nat_lt, nat_le, ◌||◌, ◌+◌, if◌then◌else◌}
+use Rattle.std.specs.Prelude.{◌≡◌, ℕ, ◌-◌, Bool, true, List, [], ◌∷◌, ◌++◌, length, Option, Some, None, ◌==◌, nat_eq, nat_lt, nat_le, ◌||◌, ◌+◌, if◌then◌else◌}
 use Rattle.std.specs.Option.{option_map, option_and_then}
 use Rattle.std.specs.Cmp.Lexicographic.{pointwise}
 use Rattle.wasm_spec.specs.Values.{u32_at, bytes_at, sized_at}
@@ -25,6 +25,10 @@ pub record State : Type 0 where
 
 abbrev pub start : List ℕ → State
 start bytes = record { stage = at_header; bytes = bytes; place = 0; code = []; left = 0; counts = nothing_yet }
+
+-- the header of a module: the magic, the version 1 and the kind 0
+abbrev pub core_header : List ℕ
+core_header = magic ++ (1 ∷ 0 ∷ []) ++ (0 ∷ 0 ∷ [])
 
 -- the version of a kind that is known
 abbrev pub version_of : State → ℕ → ℕ × List ℕ → Option (Piece × State)

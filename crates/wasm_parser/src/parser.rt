@@ -1,8 +1,9 @@
-ghost use Rattle.std.specs.Prelude.{◌≡◌, ◌≢◌, ◌≤◌, ◌<◌, ◌^◌, ◌-◌, ◌+◌, IfOk, OnOk, OnErr, IfErr, IfSome, length, drop, [], ◌∷◌, ◌++◌, Some, None, IsTrue};
+ghost use Rattle.std.specs.Prelude.{◌≡◌, ◌≢◌, ◌≤◌, ◌<◌, ◌^◌, ◌-◌, ◌+◌, IfOk, OnOk, OnErr, IfErr, IfSome, length, drop, [], ◌∷◌, ◌++◌, Some, None, IsTrue, nat_eq};
+ghost use Rattle.std.specs.List.{starts_with};
 ghost use Rattle.std.specs.Option.{option_map};
 ghost use Rattle.wasm_readers.specs.WasmReadersBytes.Reader.{SameInput, position_in, original, rest, RefusedFrom};
 ghost use Rattle.wasm_spec.specs.Framing.{place, piece_of, number_of, agrees, u16_at};
-ghost use Rattle.wasm_parser.specs.Machine.{start, header_of, numbers_of, entry_of, contents_of, alone_of, section_of, ending_of, part_of, behind, at_sections, failed, next_of};
+ghost use Rattle.wasm_parser.specs.Machine.{start, core_header, header_of, numbers_of, entry_of, contents_of, alone_of, section_of, ending_of, part_of, behind, at_sections, failed, next_of};
 ghost use Rattle.wasm_parser.specs.Seen.{offset_of, seen, state};
 ghost use Rattle.wasm_parser.specs.Places.{reader_end, IsPartOf, OfSameInput, IsInInput, ReadsInput, starts_at, ends_at, stands_at, stands_in_code, input_end, section_size, body_size, part_size, part_end, next_size, next_end, IsFormat, refused_with, CodeIsLast, BodiesAreLast};
 
@@ -64,6 +65,9 @@ impl<A: Allocator> Drop for ParseAll<'_, A> {
 
 /// The bytes with which each module begins (Core Specification 3.0, Binary Format, Modules).
 const MAGIC: [u8; 4] = [0x00, 0x61, 0x73, 0x6d];
+
+/// The magic number, the version 1 and the kind 0, each of the two in two bytes.
+const CORE_HEADER: [u8; 8] = [0x00, 0x61, 0x73, 0x6d, 0x01, 0x00, 0x00, 0x00];
 
 /// The place of each section among the others, by the section's id; custom sections have none.
 const PLACES: [u8; 14] = [0, 1, 2, 3, 4, 5, 7, 8, 9, 10, 12, 13, 11, 6];
@@ -153,6 +157,16 @@ fn read_piece<'a, A: Allocator + Copy>(
             contents: body.remaining(),
             range: body.range(),
         }),
+    }
+}
+
+impl Parser {
+    /// Whether these bytes begin as those of a module do: with the magic number, the version 1 and
+    /// the kind 0 (Core Specification 3.0, Binary Format, Modules). What follows is not looked at.
+    pub fn is_core_wasm(bytes: &[u8]) -> bool
+        ensures { result ≡ starts_with nat_eq bytes.now core_header }
+    {
+        bytes.starts_with(&CORE_HEADER)
     }
 }
 
