@@ -62,7 +62,7 @@ fn begun<'a>(
 /// was refused.
 fn state(
     validator: &FuncValidator<&SampleResources<'_, Global>>,
-) -> (usize, usize, Option<Option<ValType>>, bool) {
+) -> (u32, u32, Option<Option<ValType>>, bool) {
     (
         validator.operand_stack_height(),
         validator.control_stack_height(),
@@ -75,8 +75,8 @@ fn state(
 fn leads_to<'a>(
     validator: &mut FuncValidator<&SampleResources<'_, Global>>,
     op: &Operator<'a>,
-    operands: usize,
-    frames: usize,
+    operands: u32,
+    frames: u32,
 ) -> bool
     requires { IsWrittenInstruction (operator_of op.now) }
 {

@@ -97,7 +97,7 @@ fn branch_types<'a, T: WasmModuleResources>(
 
 /// The frame of this label, counted from the innermost, if there is one.
 #[tactic(auto, using(crate::proofs::Labelled::frames))]
-pub fn frame_at<A: Allocator>(stacks: &Stacks<A>, depth: u32) -> Option<Frame>
+pub fn frame_at<A: Allocator>(stacks: &Stacks<A>, depth: usize) -> Option<Frame>
     ensures { option_map frame_of result ≡ slice_get (state_of stacks.now).frames depth }
 {
     if !stacks.is_open {
@@ -106,7 +106,7 @@ pub fn frame_at<A: Allocator>(stacks: &Stacks<A>, depth: u32) -> Option<Frame>
     if depth == 0 {
         Some(stacks.frame)
     } else {
-        stacks.outer.get(depth as usize - 1)
+        stacks.outer.get(depth - 1)
     }
 }
 
@@ -120,7 +120,7 @@ pub fn label_types<'a, A: Allocator, T: WasmModuleResources>(
     ensures { typed stacks.now (T.context resources.now) (label depth)
         ≡ option_map types_seen result }
 {
-    match frame_at(stacks, depth) {
+    match frame_at(stacks, depth as usize) {
         Some(frame) => branch_types(resources, frame.kind, frame.block),
         None => None,
     }

@@ -71,7 +71,7 @@ impl<A: Allocator> OperatorValidator<A> {
         if depth == 4_294_967_295 {
             return None;
         }
-        match frame_at(&self.stacks, depth) {
+        match frame_at(&self.stacks, depth as usize) {
             Some(frame) => Some((frame.block.block_type(), frame.kind)),
             None => None,
         }

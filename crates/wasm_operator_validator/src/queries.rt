@@ -1,6 +1,6 @@
 //! What a validator of operators shows.
 
-ghost use Rattle.std.specs.Prelude.{◌≡◌, ◌<◌, ◌^◌, length, slice_get};
+ghost use Rattle.std.specs.Prelude.{◌≡◌, ◌≤◌, ◌<◌, ◌^◌, ◌-◌, length, slice_get};
 ghost use Rattle.std.specs.Option.{option_map};
 ghost use Rattle.wasm_readers_types.specs.WasmReadersValues.SeenValues.{val_of};
 ghost use Rattle.wasm_operator_validator.specs.Typed.{typed_state, locals_in};
@@ -26,12 +26,24 @@ pub struct Frame {
     pub init_height: usize,
 }
 
+/// A number as far as 32 bits count.
+fn as_far_as_counted(height: usize) -> u32
+    ensures few { height < 2 ^ 32 → result ≡ height }
+    ensures many { 2 ^ 32 ≤ height → result ≡ 2 ^ 32 - 1 }
+{
+    if height < 4_294_967_296 {
+        height as u32
+    } else {
+        4_294_967_295
+    }
+}
+
 impl<A: Allocator> OperatorValidator<A> {
     /// The features.
-    pub fn features(&self) -> WasmFeatures
-        ensures { result ≡ self.now.stacks.features }
+    pub fn features(&self) -> &WasmFeatures
+        ensures { result.now ≡ self.now.stacks.features }
     {
-        self.stacks.features
+        &self.stacks.features
     }
 
     /// How many locals there are, parameters included.
@@ -52,11 +64,13 @@ impl<A: Allocator> OperatorValidator<A> {
         }
     }
 
-    /// How many operands there are.
-    pub fn operand_stack_height(&self) -> usize
-        ensures { result ≡ length (typed_state self.now).operands }
+    /// How many operands there are, as far as 32 bits count.
+    pub fn operand_stack_height(&self) -> u32
+        ensures few { length (typed_state self.now).operands < 2 ^ 32
+            → result ≡ length (typed_state self.now).operands }
+        ensures many { 2 ^ 32 ≤ length (typed_state self.now).operands → result ≡ 2 ^ 32 - 1 }
     {
-        self.stacks.operands.len()
+        as_far_as_counted(self.stacks.operands.len())
     }
 
     /// The type of the operand at this depth, the top at 0: nothing where there is no such
@@ -74,20 +88,21 @@ impl<A: Allocator> OperatorValidator<A> {
         }
     }
 
-    /// How many frames are open.
-    pub fn control_stack_height(&self) -> usize
-        ensures { length (typed_state self.now).frames < 2 ^ 64
+    /// How many frames are open, as far as 32 bits count.
+    pub fn control_stack_height(&self) -> u32
+        ensures few { length (typed_state self.now).frames < 2 ^ 32
             → result ≡ length (typed_state self.now).frames }
+        ensures many { 2 ^ 32 ≤ length (typed_state self.now).frames → result ≡ 2 ^ 32 - 1 }
     {
         if self.stacks.is_open {
-            self.stacks.outer.len().saturating_add(1)
+            as_far_as_counted(self.stacks.outer.len().saturating_add(1))
         } else {
             0
         }
     }
 
     /// The frame at this depth, the innermost at 0, if there is one.
-    pub fn get_control_frame(&self, depth: u32) -> Option<Frame>
+    pub fn get_control_frame(&self, depth: usize) -> Option<Frame>
         ensures { option_map shown_frame result ≡ slice_get (typed_state self.now).frames depth }
     {
         match frame_at(&self.stacks, depth) {

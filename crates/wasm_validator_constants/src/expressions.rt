@@ -84,7 +84,7 @@ pub fn check_constant_operator<'a, A: Allocator, T: WasmModuleResources>(
     ensures same { Kept validator.old.stacks validator.new.stacks }
     ensures failed { OnOk result (validator.new.failed ≡ false) }
 {
-    let features = validator.features();
+    let features = *validator.features();
     if !is_constant(features, op) {
         return Err(not_constant(op, offset));
     }

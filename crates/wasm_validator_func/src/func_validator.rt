@@ -1,6 +1,6 @@
 //! The validator of one function body.
 
-ghost use Rattle.std.specs.Prelude.{◌≡◌, ◌≤◌, ◌<◌, ◌^◌, ◌||◌, true, false, not, is_ok, is_some, length, slice_get, IfOk, IfErr, OnErr};
+ghost use Rattle.std.specs.Prelude.{◌≡◌, ◌≤◌, ◌<◌, ◌^◌, ◌-◌, ◌||◌, true, false, not, is_ok, is_some, length, slice_get, IfOk, IfErr, OnErr};
 ghost use Rattle.std.specs.Option.{option_map};
 ghost use Rattle.wasm_readers_bytes.specs.Reader.{SameInput, position_in, rest};
 ghost use Rattle.wasm_spec_rules.specs.FeatureFlags.{features_of};
@@ -292,8 +292,8 @@ impl<T: WasmModuleResources, A: Allocator> FuncValidator<T, A> {
     }
 
     /// The features.
-    pub fn features(&self) -> WasmFeatures
-        ensures { result ≡ self.now.validator.stacks.features }
+    pub fn features(&self) -> &WasmFeatures
+        ensures { result.now ≡ self.now.validator.stacks.features }
     {
         self.validator.features()
     }
@@ -327,9 +327,12 @@ impl<T: WasmModuleResources, A: Allocator> FuncValidator<T, A> {
         self.validator.get_local_type(index)
     }
 
-    /// How many operands there are.
-    pub fn operand_stack_height(&self) -> usize
-        ensures { result ≡ length (typed_state self.now.validator).operands }
+    /// How many operands there are, as far as 32 bits count.
+    pub fn operand_stack_height(&self) -> u32
+        ensures few { length (typed_state self.now.validator).operands < 2 ^ 32
+            → result ≡ length (typed_state self.now.validator).operands }
+        ensures many { 2 ^ 32 ≤ length (typed_state self.now.validator).operands
+            → result ≡ 2 ^ 32 - 1 }
     {
         self.validator.operand_stack_height()
     }
@@ -343,16 +346,18 @@ impl<T: WasmModuleResources, A: Allocator> FuncValidator<T, A> {
         self.validator.get_operand_type(depth)
     }
 
-    /// How many frames are open.
-    pub fn control_stack_height(&self) -> usize
-        ensures { length (typed_state self.now.validator).frames < 2 ^ 64
+    /// How many frames are open, as far as 32 bits count.
+    pub fn control_stack_height(&self) -> u32
+        ensures few { length (typed_state self.now.validator).frames < 2 ^ 32
             → result ≡ length (typed_state self.now.validator).frames }
+        ensures many { 2 ^ 32 ≤ length (typed_state self.now.validator).frames
+            → result ≡ 2 ^ 32 - 1 }
     {
         self.validator.control_stack_height()
     }
 
     /// The frame at this depth, the innermost at 0, if there is one.
-    pub fn get_control_frame(&self, depth: u32) -> Option<Frame>
+    pub fn get_control_frame(&self, depth: usize) -> Option<Frame>
         ensures { option_map shown_frame result
             ≡ slice_get (typed_state self.now.validator).frames depth }
     {
