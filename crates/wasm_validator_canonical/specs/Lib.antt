@@ -2,6 +2,7 @@ pub mod Indices
 pub mod Depths
 pub mod Refusals
 pub mod Found
+pub mod References
 pub mod Groups
 pub mod Answers
 pub mod Interned

@@ -13,12 +13,14 @@ ghost use Rattle.wasm_validator_canonical.specs.Interned.{next_ids, AddsWrittenG
 ghost use Rattle.wasm_validator_canonical.specs.Refusals.{unknown_type};
 ghost use Rattle.wasm_validator_canonical.specs.Told.{IfContent, ToldOfAdded};
 ghost use Rattle.wasm_validator_canonical.specs.Indices.{numbers};
+ghost use Rattle.wasm_validator_canonical.specs.References.{LeadsTo};
+ghost use Rattle.wasm_validator_type_list.specs.WasmValidatorTypeGroups.Groups.{first_of};
 
 use crate::intern_rec_group::canonicalize_and_intern_rec_group;
 use std::alloc::{AllocError, Allocator};
 use wasm_readers_errors::{Error, Fault, Refusal, WasmFeatures};
-use wasm_readers_types::{CoreTypeId, RecGroup};
-use wasm_validator_type_list::{RecGroupElements, TypeList};
+use wasm_readers_types::{CoreTypeId, PackedIndex, RecGroup, UnpackedIndex};
+use wasm_validator_type_list::{RecGroupElements, RecGroupId, TypeList};
 
 /// A module whose types are in a list of types: it has their ids, in the order of their indices.
 pub trait InternRecGroup<A: Allocator + Copy>: Sized {
@@ -26,6 +28,9 @@ pub trait InternRecGroup<A: Allocator + Copy>: Sized {
     ghost use Rattle.wasm_validator_canonical.specs.Refusals.{unknown_type};
     ghost use Rattle.wasm_validator_type_list.specs.WasmValidatorTypeGroups.Elements.{ids_left};
     ghost use Rattle.wasm_validator_canonical.specs.Indices.{numbers};
+    ghost use Rattle.wasm_validator_canonical.specs.References.{LeadsTo};
+    ghost use Rattle.wasm_validator_type_list.specs.WasmValidatorTypeGroups.Groups.{first_of};
+    ghost use Rattle.wasm_readers_types.specs.WasmReadersValues.SeenValues.{index_of};
 
     ghost ids: { Self → List ℕ };
 
@@ -86,6 +91,46 @@ pub trait InternRecGroup<A: Allocator + Copy>: Sized {
         ensures refusal { IfErr result (λ r. r ≡ unknown_type index offset) }
     {
         id_at(self.type_ids(), index, offset)
+    }
+
+    /// The id that a reference leads to which is written in a type of this group: an id leads to
+    /// itself, a position to the type there of the group, and an index to the type of the module.
+    /// The list must have the group. `offset` is where the reference stands in the input.
+    ///
+    /// # Errors
+    ///
+    /// Refused where the module has no type with this index, or the group no such position.
+    fn at_packed_index(
+        &self,
+        types: &TypeList<A>,
+        rec_group: RecGroupId,
+        index: PackedIndex,
+        offset: u64,
+    ) -> Result<CoreTypeId, Refusal>
+        requires { rec_group.index < length types.now.groups }
+        ensures { LeadsTo (ids self.now) (first_of types.now.groups rec_group.index)
+            (first_of types.now.groups (rec_group.index + 1)) offset (index_of index) result }
+    {
+        id_of_reference(self.type_ids(), types, rec_group, index.unpack(), offset)
+    }
+}
+
+/// The id that a reference leads to, among these ids of a module and in this group.
+fn id_of_reference<A: Allocator + Copy>(
+    ids: &[CoreTypeId],
+    types: &TypeList<A>,
+    rec_group: RecGroupId,
+    index: UnpackedIndex,
+    offset: u64,
+) -> Result<CoreTypeId, Refusal>
+    requires { rec_group.index < length types.now.groups }
+    ensures { LeadsTo (numbers ids.now) (first_of types.now.groups rec_group.index)
+        (first_of types.now.groups (rec_group.index + 1)) offset index result }
+{
+    match index {
+        UnpackedIndex::Module(index) => id_at(ids, index, offset),
+        UnpackedIndex::RecGroup(place) => types.rec_group_local_id(rec_group, place, offset),
+        UnpackedIndex::Id(id) => Ok(id),
     }
 }
 
