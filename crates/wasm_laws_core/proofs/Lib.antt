@@ -13,3 +13,4 @@ pub mod ExportNames
 pub mod AddedExports
 pub mod AllLists
 pub mod Starts
+pub mod HeldTypes

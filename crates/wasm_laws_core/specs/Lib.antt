@@ -7,3 +7,4 @@ pub mod Lists
 pub mod Laws
 pub mod Imports
 pub mod Exports
+pub mod Held

@@ -2,6 +2,7 @@
 #![tactic(auto)]
 
 ghost use Rattle.wasm_laws_core.specs.Exports.{ExportsAreAddedBehind};
+ghost use Rattle.wasm_laws_core.specs.Held.{ShownTypesAreHeld};
 ghost use Rattle.wasm_laws_core.specs.Imports.{OneImportIsAdded};
 ghost use Rattle.wasm_laws_core.specs.Laws.{ImportsAreAdded, FunctionsAreAdded, TablesAreAdded, MemoriesAreAdded, TagsAreAdded, ExportsAreAdded, ValidListsAreAdded, StartsAreDecided};
 
@@ -41,4 +42,11 @@ pub fn valid_lists_are_added()
 /// and takes and gives nothing (Core Specification 3.0, Validation, Modules, Start Function).
 pub fn starts_are_decided()
     ensures { StartsAreDecided }
+{}
+
+/// Where the parts of a module are valid, and the list of types has each of its ids, all types that
+/// the module's state shows name ids of the list only: those of tables, globals and element segments,
+/// of imports and of exports (Core Specification 3.0, Validation, Conventions, Contexts).
+pub fn shown_types_are_held()
+    ensures { ShownTypesAreHeld }
 {}

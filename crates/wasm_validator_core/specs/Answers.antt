@@ -6,7 +6,7 @@ use Rattle.wasm_spec_rules.specs.FeatureFlags.{features_of}
 use Rattle.wasm_readers_errors.specs.WasmReadersFeatures.declared.features.WasmFeatures.{WasmFeatures}
 use Rattle.wasm_validator_checks.specs.WasmValidatorCanonical.Groups.{AreValid}
 use Rattle.wasm_validator_core.specs.declared.error.Error.{Error}
-use Rattle.wasm_validator_core.specs.declared.error.Error.TheVariants.{Refused, DuplicateExport, OutOfMemory}
+use Rattle.wasm_validator_core.specs.declared.error.Error.TheVariants.{Refused, DuplicateExport, InFunction, OutOfMemory}
 pub use Rattle.wasm_validator_checks.specs.Sizes.{TypesSoFar}
 
 -- A call that changes what it is given moves to where the machine moves; where it refuses the content so does the
@@ -15,6 +15,7 @@ abbrev pub Adds : {T A S : Type 0} → Result T (Error A) → Option S → S →
 Adds (Ok x) next new = next ≡ Some new
 Adds (Err (Refused r)) next new = next ≡ None
 Adds (Err (DuplicateExport name offset)) next new = next ≡ None
+Adds (Err (InFunction index r)) next new = ⊥
 Adds (Err OutOfMemory) next new = ⊤
 
 -- The machine moves nowhere, or to where this doesn't hold.
@@ -26,6 +27,7 @@ abbrev pub AddsWhere : {T A S : Type 0} → (S → Type 0) → Result T (Error A
 AddsWhere P (Ok x) next new = next ≡ Some new
 AddsWhere P (Err (Refused r)) next new = IsNowhere P next
 AddsWhere P (Err (DuplicateExport name offset)) next new = IsNowhere P next
+AddsWhere P (Err (InFunction index r)) next new = ⊥
 AddsWhere P (Err OutOfMemory) next new = ⊤
 
 -- the types of all modules so far are valid

@@ -30,7 +30,7 @@ use Rattle.wasm_validator_checks.specs.Told.{told_of_function, told_of_defined_t
 use Rattle.wasm_validator_checks.specs.WasmValidatorTypes.Entities.{Entity}
 use Rattle.wasm_validator_checks.specs.WasmValidatorTypes.Spaces.{Spaces, is_exported}
 use Rattle.wasm_validator_core.specs.declared.error.Error.{Error}
-use Rattle.wasm_validator_core.specs.declared.error.Error.TheVariants.{Refused, DuplicateExport, OutOfMemory}
+use Rattle.wasm_validator_core.specs.declared.error.Error.TheVariants.{Refused, DuplicateExport, InFunction, OutOfMemory}
 use Rattle.wasm_validator_core.specs.declared.limits.TheConstants.{MAX_TYPES, MAX_FUNCTIONS, MAX_GLOBALS, MAX_TAGS, MAX_DATA_SEGMENTS}
 use Rattle.wasm_validator_core.specs.Answers.{TypesSoFar}
 use Rattle.wasm_validator_core.specs.Items.{types_of_module, listed, entity, entity_size, grown, arity_of_function, takes_and_gives_nothing}
@@ -40,6 +40,7 @@ abbrev pub Tells : {T A : Type 0} → Result T (Error A) → Option Refusal → 
 Tells (Ok x) told = told ≡ None
 Tells (Err (Refused r)) told = told ≡ Some r
 Tells (Err (DuplicateExport name offset)) told = ⊥
+Tells (Err (InFunction index r)) told = ⊥
 Tells (Err OutOfMemory) told = ⊤
 
 -- The same of the call that adds an export under this name: where this tells nothing, the name may be one that is taken,
@@ -48,6 +49,7 @@ abbrev pub TellsExport : {T A : Type 0} → Spaces → List ℕ → ℕ → Resu
 TellsExport s name place (Ok x) told = told ≡ None
 TellsExport s name place (Err (Refused r)) told = told ≡ Some r
 TellsExport s name place (Err (DuplicateExport n offset)) told = (told ≡ None) × (string_bytes n ≡ name) × (offset ≡ place) × IsTrue (is_exported s.exports name)
+TellsExport s name place (Err (InFunction index r)) told = ⊥
 TellsExport s name place (Err OutOfMemory) told = ⊤
 
 -- the kinds that have an index space

@@ -12,12 +12,14 @@ pub enum Error<A: Allocator = Global> {
     Refused(Refusal),
     /// The module exports two items under this name. The offset is that of the second one.
     DuplicateExport { name: String<A>, offset: u64 },
+    /// The body of the function with this index is refused.
+    InFunction { index: u32, refusal: Refusal },
     OutOfMemory,
 }
 
 impl<A: Allocator> Error<A> {
     ghost use Rattle.std.specs.Prelude.{IsTrue, ◌↔◌};
-    ghost use Rattle.wasm_validator_core.specs.Errors.{IsMemory, IsContent, offset_of, missing_of};
+    ghost use Rattle.wasm_validator_core.specs.Errors.{IsMemory, IsContent, offset_of, missing_of, function_of, lifted_in};
 
     /// A refusal that no proposal lifts.
     pub fn new(fault: Fault, offset: u64) -> Error<A>
@@ -42,6 +44,7 @@ impl<A: Allocator> Error<A> {
         match self {
             Error::Refused(refusal) => refusal.offset,
             Error::DuplicateExport { name: _, offset } => *offset,
+            Error::InFunction { index: _, refusal } => refusal.offset,
             Error::OutOfMemory => 0,
         }
     }
@@ -53,8 +56,40 @@ impl<A: Allocator> Error<A> {
         match self {
             Error::Refused(refusal) => refusal.missing,
             Error::DuplicateExport { name: _, offset: _ } => None,
+            Error::InFunction { index: _, refusal } => refusal.missing,
             Error::OutOfMemory => None,
         }
+    }
+
+    /// The error of a body, of the function with this index.
+    pub fn in_function(index: u32, error: wasm_readers::Error) -> Error<A>
+        ensures { result ≡ lifted_in index error }
+    {
+        match error {
+            wasm_readers::Error::Refused(refusal) => Error::InFunction { index, refusal },
+            wasm_readers::Error::OutOfMemory => Error::OutOfMemory,
+        }
+    }
+
+    /// The index of the function whose body is refused, where it is a body: functions that are
+    /// imported are counted.
+    pub fn function(&self) -> Option<u32>
+        ensures { result ≡ function_of self.now }
+    {
+        match self {
+            Error::Refused(_) => None,
+            Error::DuplicateExport { name: _, offset: _ } => None,
+            Error::InFunction { index, refusal: _ } => Some(*index),
+            Error::OutOfMemory => None,
+        }
+    }
+
+    /// The message, which prints without the offset. A text is printed and never stored, so that
+    /// this is the error itself.
+    pub fn message(&self) -> &Error<A>
+        ensures { result.now ≡ self.now }
+    {
+        self
     }
 }
 
@@ -68,6 +103,10 @@ impl<A: Allocator> fmt::Display for Error<A> {
             }
             Error::DuplicateExport { name, offset: _ } => {
                 write!(f, "duplicate export name `{name}` already defined")
+            }
+            Error::InFunction { index: _, refusal } => {
+                let fault = refusal.fault;
+                write!(f, "{fault}")
             }
             Error::OutOfMemory => f.write_str("out of memory"),
         }

@@ -8,7 +8,7 @@ use Rattle.wasm_readers_errors.specs.declared.error.Error.TheVariants as read
 use Rattle.wasm_readers.specs.WasmReadersBytes.Reader.{SameInput, input, original, position_in}
 use Rattle.wasm_readers.specs.WasmReadersBytes.declared.binary_reader.BinaryReader.{BinaryReader}
 use Rattle.wasm_validator_core.specs.declared.error.Error.{Error}
-use Rattle.wasm_validator_core.specs.declared.error.Error.TheVariants.{Refused, DuplicateExport, OutOfMemory}
+use Rattle.wasm_validator_core.specs.declared.error.Error.TheVariants.{Refused, DuplicateExport, InFunction, OutOfMemory}
 use Rattle.wasm_validator_core.specs.Errors.{IsAt, IsMemory, lifted}
 use Rattle.wasm_validator_segments.specs.Checked.{StandsIn}
 use Rattle.wasm_validator_items.specs.Answers.{StandsBetween, StandsBehind}
@@ -18,18 +18,21 @@ module _ {A : Type 0} where
   pub wider : (from to low high : ℕ) (e : Error A) → low ≤ from → to ≤ high → StandsBetween from to e → StandsBetween low high e
   wider from to low high (Refused r) a b h = let l = h.0 in let m = h.1 in (omega (arith, a, l), omega (arith, b, m))
   wider from to low high (DuplicateExport name offset) a b h = let l = h.0 in let m = h.1 in (omega (arith, a, l), omega (arith, b, m))
+  wider from to low high (InFunction index r) a b h = let l = h.0 in let m = h.1 in (omega (arith, a, l), omega (arith, b, m))
   wider from to low high OutOfMemory a b h = tt
 
   -- at an offset between the bounds
   pub at_between : (place from to : ℕ) (e : Error A) → from ≤ place → place ≤ to → IsAt place e → StandsBetween from to e
   at_between place from to (Refused r) a b h = (omega (arith, a, h), omega (arith, b, h))
   at_between place from to (DuplicateExport name offset) a b h = (omega (arith, a, h), omega (arith, b, h))
+  at_between place from to (InFunction index r) a b h = (omega (arith, a, h), omega (arith, b, h))
   at_between place from to OutOfMemory a b h = tt
 
   -- a refusal of memory stands nowhere
   pub memory_behind : (r : BinaryReader) (e : Error A) → IsMemory e → StandsBehind r e
   memory_behind r (Refused x) h = absurd h
   memory_behind r (DuplicateExport name offset) h = absurd h
+  memory_behind r (InFunction index x) h = absurd h
   memory_behind r OutOfMemory h = tt
 
   -- behind what was read further

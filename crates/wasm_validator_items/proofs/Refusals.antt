@@ -7,7 +7,7 @@ use Rattle.std.specs.declared.result.Result.TheVariants.{Ok, Err}
 use Rattle.wasm_readers_errors.specs.declared.error.Error as below
 use Rattle.wasm_readers_errors.specs.declared.error.Error.TheVariants as read
 use Rattle.wasm_validator_core.specs.declared.error.Error.{Error}
-use Rattle.wasm_validator_core.specs.declared.error.Error.TheVariants.{Refused, DuplicateExport, OutOfMemory}
+use Rattle.wasm_validator_core.specs.declared.error.Error.TheVariants.{Refused, DuplicateExport, InFunction, OutOfMemory}
 use Rattle.wasm_validator_core.specs.Answers.{Adds}
 use Rattle.wasm_readers_errors.specs.Errors.{Reads}
 use Rattle.wasm_validator_core.specs.Errors.{IsMemory, lifted}
@@ -34,18 +34,21 @@ module _ {A : Type 0} where
   pub memory_refuses : {X : Type 0} (e : Error A) (o : Option X) → IsMemory e → Refuses e o
   memory_refuses (Refused r) o h = absurd h
   memory_refuses (DuplicateExport name offset) o h = absurd h
+  memory_refuses (InFunction index r) o h = absurd h
   memory_refuses OutOfMemory o h = tt
 
   -- an error of a part, where nothing of that part is nothing of the whole
   pub refuses_whole : {X Y : Type 0} (e : Error A) (o : Option X) (p : Option Y) → (o ≡ None → p ≡ None) → Refuses e o → Refuses e p
   refuses_whole (Refused r) o p f h = f h
   refuses_whole (DuplicateExport name offset) o p f h = f h
+  refuses_whole (InFunction index r) o p f h = h
   refuses_whole OutOfMemory o p f h = tt
 
   -- an item that isn't added
   pub adding_refuses : {X : Type 0} (e : Error A) (o : Option X) (x : X) → Adds {T = Unit {0}} (Err e) o x → Refuses e o
   adding_refuses (Refused r) o x h = h
   adding_refuses (DuplicateExport name offset) o x h = h
+  adding_refuses (InFunction index r) o x h = h
   adding_refuses OutOfMemory o x h = tt
 
   -- nothing is added where an error is handed on
@@ -53,6 +56,7 @@ module _ {A : Type 0} where
   adds_nothing (Ok x) p y h = absurd h
   adds_nothing (Err (Refused r)) p y h = h
   adds_nothing (Err (DuplicateExport name offset)) p y h = h
+  adds_nothing (Err (InFunction index r)) p y h = h
   adds_nothing (Err OutOfMemory) p y h = tt
 
 -- an error that is handed on, and is one

@@ -1,6 +1,7 @@
 -- Bodies that are validated one after another.
 use Rattle.std.proofs.Common.{◌≡◌, refl, sym, ap, subst, ◌∙◌, inl, inr, ℕ, ◌≤◌, length, map, List, [], ◌∷◌, ◌++◌, All, Some, None, arith}
 use Rattle.std.proofs.lemmas.List.{map-append}
+use Rattle.std.specs.declared.result.Result.TheVariants as results
 use Rattle.wasm_spec_rules.specs.Contexts.{Context}
 use Rattle.wasm_readers_types.specs.WasmReadersValues.declared.indices.UnpackedIndex.{UnpackedIndex}
 use Rattle.wasm_readers_errors.specs.declared.error.Error.{Error}
@@ -11,31 +12,37 @@ use Rattle.wasm_validator_sections.specs.WasmValidatorFunc.declared.func_validat
 use Rattle.wasm_validator_sections.specs.WasmValidatorFunc.Functions.{Refuses, StandsInOrFirst}
 use Rattle.wasm_validator_type_list.proofs.Grouped.{all-right}
 use Rattle.wasm_validator_sections.specs.WasmValidatorCore.declared.error.Error as whole
-use Rattle.wasm_validator_sections.specs.WasmValidatorCore.Errors.{lifted}
+use Rattle.wasm_validator_sections.specs.WasmValidatorCore.Errors.{lifted_in}
 use Rattle.wasm_validator_sections.specs.SectionsTold.{StandsBetween}
 use Rattle.wasm_readers_errors.specs.WasmReadersFeatures.declared.features.WasmFeatures.{WasmFeatures}
 use Rattle.wasm_validator_modules.specs.States.{BodyToValidate}
-use Rattle.wasm_validator_modules.specs.Payloads.{body_seen, bodies_seen, pending_seen, pending_in, EndsBy, AllEndBy, GivenEndBy, StandsBy, IsBodyOfIts}
+use Rattle.wasm_validator_modules.specs.Payloads.{body_seen, bodies_seen, pending_seen, pending_in, EndsBy, AllEndBy, GivenEndBy, StandsBy, IsBodyOfIts, DecidesBodies}
 use Rattle.wasm_validator_modules.specs.declared.payload.PendingBody.{PendingBody}
 use Rattle.wasm_validator_modules.specs.declared.payload.Bodies.{Bodies}
 use Rattle.wasm_validator_modules.specs.declared.payload.ValidPayload.{ValidPayload}
 use Rattle.wasm_validator_modules.specs.declared.payload.ValidPayload.TheVariants.{Ok, Func, End}
 
 -- one of some
-one_of : {X : Type 0} (P : X → Type 0) (xs ys rest : List X) (x : X) → xs ≡ ys ++ x ∷ rest → All P xs → P x
+pub one_of : {X : Type 0} (P : X → Type 0) (xs ys rest : List X) (x : X) → xs ≡ ys ++ x ∷ rest → All P xs → P x
 one_of P xs ys rest x e h = all-right P ys (x ∷ rest) (subst (All P) e h) 0 x (omega arith)
 
--- where one is refused, not all are valid
-refuses_more : (P Q : Type 0) (e : Error) → (Q → P) → Refuses P e → Refuses Q e
-refuses_more P Q (Refused r) f h = λ q. h (f q)
-refuses_more P Q OutOfMemory f h = tt
-
-pub refused_one : (features : WasmFeatures) (context : Context UnpackedIndex) (xs ys rest : List PendingBody) (p : PendingBody) (e : Error) → xs ≡ ys ++ p ∷ rest
-    → Refuses (IsBodyOfIts (pending_seen features context p)) e → Refuses (All IsBodyOfIts (map (pending_seen features context) xs)) e
-refused_one features context xs ys rest p e same h =
+-- where one is refused, that is told, with its function
+pub refused_one : {A : Type 0} (features : WasmFeatures) (context : Context UnpackedIndex) (xs ys rest : List PendingBody) (p : PendingBody) (e : Error) (f : whole.Error A) → f ≡ lifted_in p.index e → xs ≡ ys ++ p ∷ rest
+    → Refuses (IsBodyOfIts (pending_seen features context p)) e → DecidesBodies {T = Unit {0}} (map (pending_seen features context) xs) (results.Err f)
+refused_one {A} features context xs ys rest p (Refused r) f is same h =
     let seen : List PendingBody → List BodyToValidate = map (pending_seen features context) in
-    refuses_more (IsBodyOfIts (pending_seen features context p)) (All IsBodyOfIts (seen xs)) e
-    (λ all. one_of IsBodyOfIts (seen xs) (seen ys) (seen rest) (pending_seen features context p) (ap seen same ∙ map-append (pending_seen features context) ys (p ∷ rest)) all) h
+    let P : whole.Error A → Type 0 = λ w. DecidesBodies {T = Unit {0}} (seen xs) (results.Err w) in
+    subst P (sym is) (record {
+      before = seen ys;
+      body = pending_seen features context p;
+      behind = seen rest;
+      split = ap seen same ∙ map-append (pending_seen features context) ys (p ∷ rest);
+      its_index = refl;
+      invalid = h;
+    })
+refused_one {A} features context xs ys rest p OutOfMemory f is same h =
+    let P : whole.Error A → Type 0 = λ w. DecidesBodies {T = Unit {0}} (map (pending_seen features context) xs) (results.Err w) in
+    subst P (sym is) tt
 
 -- a refusal stands where its body ends, or before
 stands_in : (end : ℕ) (b : FunctionBody) (e : Error) → EndsBy end b → StandsInOrFirst (body_reader b) e → StandsBy end e
@@ -81,10 +88,10 @@ no_items [] e = refl
 no_items (x ∷ xs) e = absurd (omega (arith, e))
 
 -- its refusal, handed on
-pub between_by : {A : Type 0} (end : ℕ) (e : Error) (f : whole.Error A) → f ≡ lifted e → StandsBy end e → StandsBetween 0 end f
-between_by {A} end (Refused r) f same h =
+pub between_in : {A : Type 0} (end index : ℕ) (e : Error) (f : whole.Error A) → f ≡ lifted_in index e → StandsBy end e → StandsBetween 0 end f
+between_in {A} end index (Refused r) f same h =
     let P : whole.Error A → Type 0 = StandsBetween 0 end in
     subst P (sym same) (omega arith, h)
-between_by {A} end OutOfMemory f same h =
+between_in {A} end index OutOfMemory f same h =
     let P : whole.Error A → Type 0 = StandsBetween 0 end in
     subst P (sym same) tt

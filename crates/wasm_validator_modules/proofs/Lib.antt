@@ -33,3 +33,4 @@ pub mod EntriesAdded
 pub mod ImportsAdded
 pub mod ExportsAdded
 pub mod TypesAdded
+pub mod HeldShown

@@ -14,7 +14,7 @@ use Rattle.wasm_validator_modules.specs.declared.payload.ValidPayload.TheVariant
 use Rattle.std.specs.declared.result.Result.{Result}
 use Rattle.std.specs.declared.result.Result.TheVariants as results
 use Rattle.wasm_validator_sections.specs.WasmValidatorCore.declared.error.Error.{Error}
-use Rattle.wasm_validator_sections.specs.WasmValidatorCore.declared.error.Error.TheVariants.{Refused, DuplicateExport, OutOfMemory}
+use Rattle.wasm_validator_sections.specs.WasmValidatorCore.declared.error.Error.TheVariants.{Refused, DuplicateExport, InFunction, OutOfMemory}
 use Rattle.wasm_spec_rules.proofs.Tests.{then_some}
 use Rattle.wasm_validator_sections.specs.WasmValidatorCore.Answers.{IsNowhere}
 use Rattle.wasm_validator_modules.specs.Standing.{Stage, unparsed, in_module, in_code, ended, failed, Standing, at_stage, HoldsValid, Leaves}
@@ -214,6 +214,7 @@ module _ {A : Type 0} where
       → Leaves (refusal T e) (after_piece now p) (left_by now p) now new → (IsNowhere HoldsValid (after_piece now p) → Rejects bytes old) → Validates seen (refusal (Types A × B) e) bytes old new
   refused_whole T seen bytes old now new s s' latest bodies p (Refused r) g n l rejected = (rejected l.0, left_refused (Some r) bytes old now new s s' latest bodies p g n l.0 l.1)
   refused_whole T seen bytes old now new s s' latest bodies p (DuplicateExport name offset) g n l rejected = (rejected l.0, left_refused None bytes old now new s s' latest bodies p g n l.0 l.1)
+  refused_whole T seen bytes old now new s s' latest bodies p (InFunction index r) g n l rejected = l
   refused_whole T seen bytes old now new s s' latest bodies p OutOfMemory g n l rejected = record {
     behind = s;
     reached = now;
@@ -260,6 +261,7 @@ module _ {A : Type 0} where
       → Progress bytes old now s latest bodies → next_of s ≡ None → Validates seen (refusal (Types A × B) e) bytes old now
   refused_format seen bytes old now s latest bodies (Refused r) h g none = refused_bytes (Some r) h bytes old now s latest bodies g none
   refused_format seen bytes old now s latest bodies (DuplicateExport name offset) h g none = absurd h
+  refused_format seen bytes old now s latest bodies (InFunction index r) h g none = absurd h
   refused_format seen bytes old now s latest bodies OutOfMemory h g none = absurd h
 
   -- memory that was refused, as it is handed on
@@ -271,4 +273,5 @@ module _ {A : Type 0} where
   pub between_wider : (a b c d : ℕ) (e : Error A) → c ≤ a → b ≤ d → StandsBetween a b e → StandsBetween c d e
   between_wider a b c d (Refused r) low high h = (omega (arith, low, h.0), omega (arith, high, h.1))
   between_wider a b c d (DuplicateExport name offset) low high h = (omega (arith, low, h.0), omega (arith, high, h.1))
+  between_wider a b c d (InFunction index r) low high h = (omega (arith, low, h.0), omega (arith, high, h.1))
   between_wider a b c d OutOfMemory low high h = tt

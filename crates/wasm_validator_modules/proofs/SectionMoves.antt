@@ -8,7 +8,7 @@ use Rattle.std.specs.declared.result.Result.TheVariants as results
 use Rattle.wasm_readers_errors.specs.WasmReadersFeatures.declared.features.WasmFeatures.{WasmFeatures}
 use Rattle.wasm_validator_types.specs.Spaces.{Spaces}
 use Rattle.wasm_validator_sections.specs.WasmValidatorCore.declared.error.Error.{Error}
-use Rattle.wasm_validator_sections.specs.WasmValidatorCore.declared.error.Error.TheVariants.{Refused, DuplicateExport, OutOfMemory}
+use Rattle.wasm_validator_sections.specs.WasmValidatorCore.declared.error.Error.TheVariants.{Refused, DuplicateExport, InFunction, OutOfMemory}
 use Rattle.wasm_validator_sections.specs.WasmValidatorCore.Answers.{TypesSoFar, IsNowhere, Adds, AddsWhere, HasValidTypes}
 use Rattle.wasm_validator_modules.specs.declared.validator.State.{State}
 use Rattle.wasm_validator_modules.specs.declared.validator.State.TheVariants.{Module}
@@ -35,6 +35,7 @@ module _ (id : ℕ) (features : WasmFeatures) (types : TypesSoFar) (m : Spaces) 
         ∙ (λ i. Some (record { id = id; features = features; stage = in_module types' m'.«module» (sym n i) }))
     moves_here (results.Err (Refused r)) types' m' a n = (nowhere_within a, refl)
     moves_here (results.Err (DuplicateExport name offset)) types' m' a n = (nowhere_within a, refl)
+    moves_here (results.Err (InFunction index r)) types' m' a n = a
     moves_here (results.Err OutOfMemory) types' m' a n = (refl, refl)
 
 module _ {T A : Type 0} (id : ℕ) (features : WasmFeatures) (types : TypesSoFar) (n : ModuleState A) (note : Noted → Noted) (f : WasmFeatures → TypesSoFar × Spaces → Option (TypesSoFar × Spaces)) where
@@ -59,6 +60,7 @@ pub adds_beside : {T A : Type 0} (P : TypesSoFar × Spaces → Type 0) (types : 
 adds_beside P types (results.Ok x) o m a = ap (option_and_then (λ (s : Spaces). Some (types, s))) a
 adds_beside P types (results.Err (Refused r)) o m a = none_nowhere P (option_and_then (λ (s : Spaces). Some (types, s)) o) (ap (option_and_then (λ (s : Spaces). Some (types, s))) a)
 adds_beside P types (results.Err (DuplicateExport name offset)) o m a = none_nowhere P (option_and_then (λ (s : Spaces). Some (types, s)) o) (ap (option_and_then (λ (s : Spaces). Some (types, s))) a)
+adds_beside P types (results.Err (InFunction index r)) o m a = a
 adds_beside P types (results.Err OutOfMemory) o m a = tt
 
 -- with exceptions a refused section of tags leaves what any other does

@@ -21,7 +21,7 @@ use Rattle.wasm_validator_type_list.specs.DefTypes.{def_types, types_of_list}
 use Rattle.wasm_validator_types.specs.Shown.{shown_of, HoldsIds}
 use Rattle.wasm_validator_types.specs.declared.shown.Types as shown
 use Rattle.wasm_validator_sections.specs.WasmValidatorCore.declared.error.Error.{Error}
-use Rattle.wasm_validator_sections.specs.WasmValidatorCore.declared.error.Error.TheVariants.{Refused, DuplicateExport, OutOfMemory}
+use Rattle.wasm_validator_sections.specs.WasmValidatorCore.declared.error.Error.TheVariants.{Refused, DuplicateExport, InFunction, OutOfMemory}
 use Rattle.wasm_validator_canonical.specs.Groups.{AreValid}
 use Rattle.wasm_validator_canonical.proofs.Steps.{all_written_at_most}
 use Rattle.wasm_validator_sections.specs.WasmValidatorCore.Answers.{TypesSoFar, HasValidTypes}
@@ -30,9 +30,10 @@ use Rattle.wasm_validator_sections.specs.Noted.{nothing_noted}
 use Rattle.wasm_validator_sections.specs.Started.{starting}
 use Rattle.wasm_validator_modules.specs.Standing.{Stage, Standing, unparsed, in_module, in_code, ended, failed, fresh, shown_at, HoldsAt, AreValidAt, HoldsValid}
 use Rattle.wasm_validator_modules.specs.States.{after_piece, after_version, BodyToValidate, handed, IsBeforeEnd}
-use Rattle.wasm_validator_modules.specs.Payloads.{Show, after_all, handed_behind, all_handed, Accepts, Rejects, IsBodyOfIts, IsBehindCode, Runs, Validates}
+use Rattle.wasm_validator_modules.specs.Payloads.{Show, after_all, handed_behind, all_handed, Accepts, Rejects, IsBodyOfIts, RefusesOne, DecidesBodies, IsBehindCode, Runs, Validates}
 use Rattle.wasm_validator_modules.specs.Shows.{ShowModule}
 use Rattle.wasm_validator_modules.specs.Driven.{PayloadsDecide}
+use Rattle.wasm_validator_modules.proofs.Bodies.{one_of}
 use Rattle.wasm_validator_modules.specs.Verdict.{StandsApart, AcceptsModule, RefusesModule, RefusesUpToBodies, EndsModule, StopsModule, DecidesModule, DecidesAlone}
 use Rattle.wasm_validator_modules.proofs.AddedTypes.{section, type_space, list_after, as_many_types}
 use Rattle.wasm_validator_modules.proofs.ModuleRun.{step, is_part, are_parts, run_allowed}
@@ -49,14 +50,10 @@ use Rattle.wasm_parser.specs.Machine.{State, start, Run}
 use Rattle.wasm_parser.proofs.Law.{framed_run}
 use Rattle.wasm_spec_rules.specs.Parts.{bodies_of}
 use Rattle.wasm_readers_types.specs.WasmReadersValues.declared.indices.TheConstants.{MAX_IDS}
-use Rattle.wasm_readers_errors.specs.declared.error.Error as reading
-use Rattle.wasm_readers_errors.specs.declared.error.Error.TheVariants as reading_error
-use Rattle.wasm_validator_sections.specs.WasmValidatorCore.Errors.{lifted}
 use Rattle.wasm_spec_validity.specs.Modules.{IsValidUpToBodies, IsValidModule, up_to_bodies}
 use Rattle.wasm_spec_validity.specs.Expressions.{expression_at}
 use Rattle.std.proofs.lemmas.List.{length-append}
 use Rattle.std.proofs.lemmas.Option.{same_Some}
-use Rattle.wasm_validator_sections.specs.WasmValidatorFunc.Functions.{Refuses}
 use Rattle.wasm_validator_sections.specs.Bodies.{expected_bodies}
 
 -- pieces and then others
@@ -432,11 +429,13 @@ module _ {A : Type 0} where
   pub decides_refusal : {B : Type 0} (seen : B → List BodyToValidate) → UsedLaws → (bytes : List ℕ) (old new : Standing) (e : Error A) → HoldsValid old → StandsApart old → Validates seen (results.Err e) bytes old new → DecidesModule (refusal (shown.Types A) e) bytes old new
   decides_refusal seen laws bytes old new (Refused r) valid apart v = (rejects_refuses laws bytes old valid apart v.0, v.1)
   decides_refusal seen laws bytes old new (DuplicateExport name offset) valid apart v = (rejects_refuses laws bytes old valid apart v.0, v.1)
+  decides_refusal seen laws bytes old new (InFunction index r) valid apart v = absurd v
   decides_refusal seen laws bytes old new OutOfMemory valid apart v = v
 
   pub stops : {B : Type 0} (seen : B → List BodyToValidate) → UsedLaws → (bytes : List ℕ) (old new : Standing) (e : Error A) → HoldsValid old → StandsApart old → Validates seen (results.Err e) bytes old new → StopsModule (refusal (shown.Types A) e) bytes old
   stops seen laws bytes old new (Refused r) valid apart v = rejects_up_to_bodies laws bytes old valid apart v.0
   stops seen laws bytes old new (DuplicateExport name offset) valid apart v = rejects_up_to_bodies laws bytes old valid apart v.0
+  stops seen laws bytes old new (InFunction index r) valid apart v = v
   stops seen laws bytes old new OutOfMemory valid apart v = tt
 
   -- where all payloads were accepted
@@ -451,12 +450,22 @@ module _ {A : Type 0} where
   ended_stage : (bytes : List ℕ) (old new : Standing) (t : shown.Types A) → Accepts bytes old new t → IsBehindCode new.stage
   ended_stage bytes old new t a = let r = run_inside bytes old new a.pieces a.framed a.accepted in subst (λ (s : Standing). IsBehindCode s.stage) (sym r.after) tt
 
-  pub decides_body : UsedLaws → (bytes : List ℕ) (old new : Standing) (t : shown.Types A) (bodies : List BodyToValidate) (e : reading.Error) → HoldsValid old → StandsApart old → Runs bytes old new t bodies → Refuses (All IsBodyOfIts bodies) e → DecidesModule (refusal (shown.Types A) (lifted e)) bytes old new
-  decides_body laws bytes old new t bodies (reading_error.Refused r) valid apart ran wrong = (
-    bodies_refuse laws bytes old valid apart ran.accepts.pieces ran.accepts.framed (λ all. wrong (subst (All IsBodyOfIts) ran.hands_out all)),
-    record { behind = (ran.ended).behind; reached = new; taken = (ran.ended).taken; left = inr (inr ((ran.ended).none, refl)) },
+  pub decides_body : UsedLaws → (bytes : List ℕ) (old new : Standing) (t : shown.Types A) (bodies : List BodyToValidate) (e : Error A) → HoldsValid old → StandsApart old → Runs bytes old new t bodies → DecidesBodies {T = Unit {0}} bodies (results.Err e) → DecidesModule (refusal (shown.Types A) e) bytes old new
+  decides_body laws bytes old new t bodies (Refused r) valid apart ran wrong = absurd wrong
+  decides_body laws bytes old new t bodies (DuplicateExport name offset) valid apart ran wrong = absurd wrong
+  decides_body laws bytes old new t bodies (InFunction index r) valid apart ran wrong = (
+    bodies_refuse laws bytes old valid apart ran.accepts.pieces ran.accepts.framed
+        (λ all. wrong.invalid (one_of IsBodyOfIts bodies wrong.before wrong.behind wrong.body wrong.split (subst (All IsBodyOfIts) ran.hands_out all))),
+    (
+      record { behind = (ran.ended).behind; reached = new; taken = (ran.ended).taken; left = inr (inr ((ran.ended).none, refl)) },
+      record {
+        pieces = ran.accepts.pieces;
+        framed = ran.accepts.framed;
+        one = subst (λ (bs : List BodyToValidate). RefusesOne bs index) (sym ran.hands_out) wrong;
+      },
+    ),
   )
-  decides_body laws bytes old new t bodies reading_error.OutOfMemory valid apart ran wrong =
+  decides_body laws bytes old new t bodies OutOfMemory valid apart ran wrong =
       record { behind = (ran.ended).behind; reached = new; taken = (ran.ended).taken; left = inr (ended_stage bytes old new t ran.accepts, refl) }
 
   -- the list has each id of a module that was accepted
@@ -467,4 +476,5 @@ module _ {A : Type 0} where
   decides_alone bytes id features new (results.Ok t) v = (new, v)
   decides_alone bytes id features new (results.Err (Refused e)) v = (room_alone features id bytes v.0, (new, v.1))
   decides_alone bytes id features new (results.Err (DuplicateExport name offset)) v = (room_alone features id bytes v.0, (new, v.1))
+  decides_alone bytes id features new (results.Err (InFunction index r)) v = (room_alone features id bytes v.0, (new, v.1))
   decides_alone bytes id features new (results.Err OutOfMemory) v = tt

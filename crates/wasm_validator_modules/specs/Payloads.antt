@@ -1,5 +1,5 @@
 -- What a payload that is accepted gives.
-use Rattle.std.specs.Prelude.{ℕ, ◌≡◌, ◌≤◌, ◌⊎◌, ◌+◌, ◌++◌, true, List, [], ◌∷◌, map, Option, Some, None, ⊤}
+use Rattle.std.specs.Prelude.{ℕ, ◌≡◌, ◌≤◌, ◌⊎◌, ◌+◌, ◌++◌, true, List, [], ◌∷◌, map, length, Option, Some, None, ⊤}
 use Rattle.wasm_spec_rules.specs.Contexts.{Context}
 use Rattle.wasm_readers_types.specs.WasmReadersValues.declared.indices.UnpackedIndex.{UnpackedIndex}
 use Rattle.std.specs.Option.{option_and_then}
@@ -14,10 +14,12 @@ use Rattle.wasm_spec.specs.Features.{canonical}
 use Rattle.wasm_spec_rules.specs.FeatureFlags.{features_of}
 use Rattle.wasm_validator_type_list.specs.Interned.{AreOnce}
 use Rattle.wasm_validator_type_list.specs.DefTypes.{types_of_list}
+use Rattle.wasm_validator_type_list.specs.Listing.{types_in}
+use Rattle.wasm_validator_sections.specs.WasmLawsCore.Held.{AreOver}
 use Rattle.wasm_validator_types.specs.Shown.{shown_of, HoldsIds}
 use Rattle.wasm_validator_types.specs.declared.shown.Types.{Types}
 use Rattle.wasm_validator_sections.specs.WasmValidatorCore.declared.error.Error.{Error}
-use Rattle.wasm_validator_sections.specs.WasmValidatorCore.declared.error.Error.TheVariants.{Refused, DuplicateExport, OutOfMemory}
+use Rattle.wasm_validator_sections.specs.WasmValidatorCore.declared.error.Error.TheVariants.{Refused, DuplicateExport, InFunction, OutOfMemory}
 use Rattle.wasm_validator_modules.specs.declared.payload.PendingBody.{PendingBody}
 use Rattle.wasm_validator_modules.specs.declared.payload.Bodies.{Bodies}
 use Rattle.wasm_validator_modules.specs.declared.payload.ValidPayload.{ValidPayload}
@@ -55,6 +57,10 @@ ShowsModule s p Ok = IsBeforeEnd p
 ShowsModule s p (Func f b) = IsBeforeEnd p
 ShowsModule s p (End t) = (p ≡ parts.End) × Show s t
 
+-- all types that the index spaces show name ids of types of the list only: those of tables, globals and element segments, of imports and of exports
+abbrev pub HoldsTypes : {A : Type 0} → Types A → Type 0
+HoldsTypes t = AreOver (length (types_in (shown_of t).list)) (shown_of t).spaces
+
 -- the list has each id of the module that has ended
 abbrev pub HoldsIdsAtEnd : {A : Type 0} → ValidPayload A → Type 0
 HoldsIdsAtEnd Ok = ⊤
@@ -77,6 +83,7 @@ TakesBody (results.Ok f) features b g h = (body_taken (body_of b) g ≡ Some h) 
 TakesBody (results.Err (Refused r)) features b g h =
     (body_taken (body_of b) g ≡ None) × (h ≡ body_refused_at g) × (r ≡ plain (body_told g) (original (body_reader b) + position_in (body_reader b)))
 TakesBody (results.Err (DuplicateExport name offset)) features b g h = ⊥
+TakesBody (results.Err (InFunction index r)) features b g h = ⊥
 TakesBody (results.Err OutOfMemory) features b g h = (body_refused_at g ≡ failed) × (h ≡ failed)
 
 -- a payload gave a function
@@ -137,6 +144,23 @@ StandsBy end reading_error.OutOfMemory = ⊤
 -- The bytes are the body of the function that they are handed out for.
 abbrev pub IsBodyOfIts : BodyToValidate → Type 0
 IsBodyOfIts b = IsFunctionBody (features_of b.features) b.context b.ty b.bytes
+
+-- The body of this function is one of these, and isn't valid.
+pub record RefusesOne (bodies : List BodyToValidate) (index : ℕ) : Type 0 where
+  pub before : List BodyToValidate
+  pub body : BodyToValidate
+  pub behind : List BodyToValidate
+  pub split : bodies ≡ before ++ body ∷ behind
+  pub its_index : body.index ≡ index
+  pub invalid : IsBodyOfIts body → ⊥
+
+-- All of these are valid; or one isn't, and it is said of which function; or memory was refused.
+abbrev pub DecidesBodies : {T A : Type 0} → List BodyToValidate → Result T (Error A) → Type 0
+DecidesBodies bodies (results.Ok x) = All IsBodyOfIts bodies
+DecidesBodies bodies (results.Err (Refused r)) = ⊥
+DecidesBodies bodies (results.Err (DuplicateExport name offset)) = ⊥
+DecidesBodies bodies (results.Err (InFunction index r)) = RefusesOne bodies index
+DecidesBodies bodies (results.Err OutOfMemory) = ⊤
 
 -- the types of the module that has ended last
 abbrev pub latest_of : {A : Type 0} → Option (Types A) → ValidPayload A → Option (Types A)
@@ -235,6 +259,7 @@ pub record IsOutOfMemory (bytes : List ℕ) (old new : Standing) : Type 0 where
 abbrev pub TellsFormat : {A : Type 0} → Error A → Type 0
 TellsFormat (Refused r) = IsFormat r
 TellsFormat (DuplicateExport name offset) = ⊥
+TellsFormat (InFunction index r) = ⊥
 TellsFormat OutOfMemory = ⊥
 
 -- The payloads of whole bytes are accepted, with these types, and hand out these bodies.
@@ -248,4 +273,11 @@ abbrev pub Validates : {A B : Type 0} → (B → List BodyToValidate) → Result
 Validates bodies (results.Ok x) bytes old new = Runs bytes old new x.0 (bodies x.1)
 Validates bodies (results.Err (Refused r)) bytes old new = Rejects bytes old × IsLeft (Some r) bytes old new
 Validates bodies (results.Err (DuplicateExport name offset)) bytes old new = Rejects bytes old × IsLeft None bytes old new
+Validates bodies (results.Err (InFunction index r)) bytes old new = ⊥
 Validates bodies (results.Err OutOfMemory) bytes old new = IsOutOfMemory bytes old new
+
+-- The body of this function, which the payloads of the bytes hand out, isn't valid.
+pub record RefusesBody (index : ℕ) (bytes : List ℕ) (old : Standing) : Type 0 where
+  pub pieces : List Piece
+  pub framed : IsFramed bytes pieces
+  pub one : RefusesOne (all_handed old pieces) index

@@ -6,7 +6,7 @@ use Rattle.std.specs.declared.result.Result.TheVariants.{Ok, Err}
 use Rattle.wasm_readers_errors.specs.WasmReadersFeatures.declared.features.WasmFeatures.{WasmFeatures}
 use Rattle.wasm_validator_types.specs.Spaces.{Spaces}
 use Rattle.wasm_validator_sections.specs.WasmValidatorCore.declared.error.Error.{Error}
-use Rattle.wasm_validator_sections.specs.WasmValidatorCore.declared.error.Error.TheVariants.{Refused, DuplicateExport, OutOfMemory}
+use Rattle.wasm_validator_sections.specs.WasmValidatorCore.declared.error.Error.TheVariants.{Refused, DuplicateExport, InFunction, OutOfMemory}
 use Rattle.wasm_spec_rules.specs.FeatureFlags.{features_of}
 use Rattle.wasm_validator_canonical.specs.Groups.{AreValid}
 use Rattle.wasm_validator_sections.specs.WasmValidatorCore.Answers.{TypesSoFar, IsNowhere}
@@ -135,6 +135,7 @@ abbrev pub Leaves : {T A : Type 0} → Result T (Error A) → Option Standing �
 Leaves (Ok x) next left old new = next ≡ Some new
 Leaves (Err (Refused r)) next left old new = IsNowhere HoldsValid next × (new ≡ record old { stage = left })
 Leaves (Err (DuplicateExport name offset)) next left old new = IsNowhere HoldsValid next × (new ≡ record old { stage = left })
+Leaves (Err (InFunction index r)) next left old new = ⊥
 Leaves (Err OutOfMemory) next left old new = (left ≡ failed) × (new ≡ record old { stage = failed })
 
 -- a section's call, which fails the validator where it is refused in a module, and elsewhere changes nothing

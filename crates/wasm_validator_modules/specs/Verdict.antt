@@ -14,11 +14,11 @@ use Rattle.wasm_validator_canonical.specs.Apart.{AreApart}
 use Rattle.wasm_validator_types.specs.Shown.{shown_of}
 use Rattle.wasm_validator_types.specs.declared.shown.Types as shown
 use Rattle.wasm_validator_sections.specs.WasmValidatorCore.declared.error.Error.{Error}
-use Rattle.wasm_validator_sections.specs.WasmValidatorCore.declared.error.Error.TheVariants.{Refused, DuplicateExport, OutOfMemory}
+use Rattle.wasm_validator_sections.specs.WasmValidatorCore.declared.error.Error.TheVariants.{Refused, DuplicateExport, InFunction, OutOfMemory}
 use Rattle.wasm_validator_modules.specs.Shows.{ShowModule}
 use Rattle.wasm_validator_sections.specs.WasmValidatorCore.Answers.{TypesSoFar}
 use Rattle.wasm_validator_modules.specs.Standing.{Standing, unparsed, ended, fresh, HoldsAt}
-use Rattle.wasm_validator_modules.specs.Payloads.{IsLeft, IsOutOfMemory}
+use Rattle.wasm_validator_modules.specs.Payloads.{IsLeft, IsOutOfMemory, RefusesBody}
 
 -- the types that a validator holds are told apart, as its features ask
 abbrev pub StandsApart : Standing → Type 0
@@ -48,11 +48,13 @@ RefusesModule bytes old =
     (before : TypesSoFar) → old.stage ≡ unparsed before
     → (m : IsValidModule (features_of old.features) bytes) → length before + length m.well_formed.types.types ≤ MAX_IDS → ⊥
 
--- what the answer on whole bytes says: of acceptance with no premise, of a refusal unless memory was refused
+-- what the answer on whole bytes says: of acceptance with no premise, of a refusal unless memory was refused; and of which function the body is
+-- that was refused
 abbrev pub DecidesModule : {A : Type 0} → Result (shown.Types A) (Error A) → List ℕ → Standing → Standing → Type 0
 DecidesModule (results.Ok t) bytes old new = AcceptsModule bytes old new t
 DecidesModule (results.Err (Refused r)) bytes old new = RefusesModule bytes old × IsLeft (Some r) bytes old new
 DecidesModule (results.Err (DuplicateExport name offset)) bytes old new = RefusesModule bytes old × IsLeft None bytes old new
+DecidesModule (results.Err (InFunction index r)) bytes old new = RefusesModule bytes old × (IsLeft (Some r) bytes old new × RefusesBody index bytes old)
 DecidesModule (results.Err OutOfMemory) bytes old new = IsOutOfMemory bytes old new
 
 -- The same of a module up to its bodies.
@@ -76,6 +78,7 @@ abbrev pub StopsModule : {A : Type 0} → Result (shown.Types A) (Error A) → L
 StopsModule (results.Ok t) bytes old = ⊥
 StopsModule (results.Err (Refused r)) bytes old = RefusesUpToBodies bytes old
 StopsModule (results.Err (DuplicateExport name offset)) bytes old = RefusesUpToBodies bytes old
+StopsModule (results.Err (InFunction index r)) bytes old = ⊥
 StopsModule (results.Err OutOfMemory) bytes old = ⊤
 
 -- the bytes are a valid module
@@ -91,4 +94,5 @@ abbrev pub DecidesAlone : {A : Type 0} → Result (shown.Types A) (Error A) → 
 DecidesAlone (results.Ok t) bytes id features = (new : Standing) × AcceptsModule bytes (fresh id features) new t
 DecidesAlone (results.Err (Refused r)) bytes id features = AreNoModule features bytes × ((new : Standing) × IsLeft (Some r) bytes (fresh id features) new)
 DecidesAlone (results.Err (DuplicateExport name offset)) bytes id features = AreNoModule features bytes × ((new : Standing) × IsLeft None bytes (fresh id features) new)
+DecidesAlone (results.Err (InFunction index r)) bytes id features = AreNoModule features bytes × ((new : Standing) × (IsLeft (Some r) bytes (fresh id features) new × RefusesBody index bytes (fresh id features)))
 DecidesAlone (results.Err OutOfMemory) bytes id features = ⊤

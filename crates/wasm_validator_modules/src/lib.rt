@@ -12,33 +12,26 @@ pub mod validator;
 pub use bitflags::Flags;
 pub use payload::{ValidPayload, validate};
 pub use validator::Validator;
-pub use wasm_parser::{CustomSectionReader, Encoding, FunctionBody, ParseAll, Parser, Payload};
-pub use wasm_readers::{
-    AbstractHeapType, ArrayType, BinaryReader, CompositeInnerType, CompositeType, ConstExpr,
-    ContType, CoreTypeId, Counted, Data, DataKind, DescriptorRule, Element, ElementItems,
-    ElementKind, Export, ExternalKind, Fault, FieldType, FromReader, FuncType, Global, GlobalType,
-    GroupRule, HeapType, Import, ItemKind, ItemRule, Items, MAX_IDS, Malformed, MemoryType,
-    OutOfOrder, PackedIndex, RecGroup, RefType, Refusal, Rule, SectionItems, SectionLimited,
-    StorageType, StructType, SubType, Table, TableInit, TableType, TagKind, TagType, TypeRef,
-    UnpackedIndex, ValType, ValueTypeRule, WasmFeatures,
-};
 pub use wasm_validator_canonical::{
     InternRecGroup, TypeCanonicalizer, canonicalize_and_intern_rec_group, intern_rec_group_of,
 };
-pub use wasm_validator_matches::{Matches, WithRecGroup, func_signature_matches};
+pub use wasm_validator_matches::{
+    Matches, TypeData, TypeIdentifier, TypeInfo, WithRecGroup, func_signature_matches,
+};
+pub use wasm_validator_resources::WasmModuleResources;
 pub use wasm_validator_sections::validator_core::{Error, Module};
 pub use wasm_validator_sections::validator_core_resources::ValidatorResources;
-pub use wasm_validator_sections::validator_func::{
-    FuncToValidate, FuncValidator, FuncValidatorAllocations,
-};
 pub use wasm_validator_sections::{
-    CodeState, Constants, MAX_FUNCTION_SIZE, MaybeOwned, ModuleState,
+    CodeState, Constants, MAX_FUNCTION_SIZE, MaybeOwned, ModuleState, operator_validator,
+    operators, validator_core, validator_func,
 };
-pub use wasm_validator_type_checks::{check_composite_type, check_descriptors, check_subtype};
+pub use wasm_validator_type_checks::{
+    MAX_WASM_SUBTYPING_DEPTH, check_composite_type, check_descriptors, check_subtype,
+};
 pub use wasm_validator_type_list::LinkCount;
 pub use wasm_validator_types::{
-    CoreExports, CoreImports, EntityType, RecGroupElements, RecGroupId, SnapshotList, TypeAlloc,
-    TypeData, TypeIdentifier, TypeInfo, TypeList, Types, TypesRef, ValidatorId,
+    CoreExports, CoreImports, EntityType, IndexSpaces, RecGroupElements, RecGroupId, SnapshotList,
+    TypeAlloc, TypeList, Types, TypesRef, ValidatorId,
 };
 
 /// A payload that is accepted leads a validator where the state table says, and one that is
@@ -80,8 +73,7 @@ pub fn refused_modules_keep_types()
 /// items that keep their rules on these lists and the limit, and then the list has these items
 /// behind (Core Specification 3.0, Validation, Modules). Of types each recursion group is valid on
 /// the types before it; of exports each names something that is there, no name comes twice, and the
-/// effective size stays below its limit. Constant expressions are typed in the module as far as it
-/// has been read.
+/// effective size stays below its limit. Constant expressions see the module as far as it is read.
 pub fn sections_add_their_items()
     ensures types { TypesAdd }
     ensures imports { ImportsAdd }
@@ -94,3 +86,18 @@ pub fn sections_add_their_items()
     ensures elements { ElementsAdd }
     ensures segments { SegmentsAdd }
 {}
+
+/// Passed on from `wasm_readers` and `wasm_parser`.
+pub mod readers {
+    pub use wasm_parser::{CustomSectionReader, Encoding, FunctionBody, ParseAll, Parser, Payload};
+    pub use wasm_readers::{
+        AbstractHeapType, ArrayType, BinaryReader, CompositeInnerType, CompositeType, ConstExpr,
+        ContType, CoreTypeId, Counted, Data, DataKind, DescriptorRule, Element, ElementItems,
+        ElementKind, Export, ExternalKind, Fault, FieldType, FromReader, FuncType, Global,
+        GlobalType, GroupRule, HeapType, Import, Integer, ItemKind, ItemRule, Items, MAX_IDS,
+        Malformed, MemoryType, OutOfOrder, PackedIndex, RecGroup, RefType, Refusal, Rule,
+        SectionItems, SectionLimited, StorageType, StructType, SubType, Table, TableHead,
+        TableInit, TableType, TagKind, TagType, TypeRef, UnpackedIndex, ValType, ValueTypeRule,
+        WasmFeatures, readers_errors,
+    };
+}

@@ -1,6 +1,5 @@
 ghost use Rattle.wasm_readers_errors.specs.WasmReadersFeatures.declared.features.TheConstants.WasmFeatures.{STANDARD};
 ghost use Rattle.std.specs.Prelude.{ℕ, true, false, ◌≡◌, ◌≤◌, ◌++◌, ◌∷◌, [], IfOk, IfErr, OnOk, OnErr, IfSome, Some, None, length, map};
-ghost use Rattle.std.specs.List.{All};
 ghost use Rattle.std.specs.Option.{option_map};
 ghost use Rattle.wasm_parser.specs.Machine.{next_of};
 ghost use Rattle.wasm_parser.specs.Places.{starts_at, ends_at, input_end, refused_with, ReadsInput};
@@ -10,7 +9,7 @@ ghost use Rattle.wasm_validator_types.specs.Shown.{shown_of, HoldsIds};
 ghost use Rattle.wasm_validator_modules.specs.Standing.{Leaves};
 ghost use Rattle.wasm_validator_sections.specs.WasmValidatorFunc.Functions.{Decides, StandsInOrFirst};
 ghost use Rattle.wasm_validator_modules.specs.States.{after_piece, handed, left_by, IsSection};
-ghost use Rattle.wasm_validator_modules.specs.Payloads.{ShowsModule, HoldsIdsAtEnd, IsFunction, IsKept, IsGivenIn, kept_behind, latest_of, bodies_given, bodies_seen, pending_seen, EndsBy, EachEndsBy, AllEndBy, GivenEndBy, StandsBy, IsBodyOfIts, TellsFormat, Validates};
+ghost use Rattle.wasm_validator_modules.specs.Payloads.{ShowsModule, HoldsIdsAtEnd, HoldsTypes, IsFunction, IsKept, IsGivenIn, kept_behind, latest_of, bodies_given, bodies_seen, pending_seen, EndsBy, EachEndsBy, AllEndBy, GivenEndBy, IsBodyOfIts, DecidesBodies, TellsFormat, Validates};
 ghost use Rattle.wasm_validator_modules.specs.Verdict.{DecidesModule, DecidesAlone, EndsModule, StopsModule};
 
 use crate::validator::Validator;
@@ -130,20 +129,20 @@ impl<A: Allocator + Copy> Validator<A> {
 
     /// Checks the module that these bytes are, and gives its types, which show its index spaces. It
     /// is accepted exactly where it is valid (Core Specification 3.0, Validation, Modules), as far
-    /// as the list of types has room for its own.
-    ///
-    /// The validator has to be fresh or reset: elsewhere the header is refused.
+    /// as the list of types has room for its own. Where the validator is neither fresh nor reset the
+    /// header is refused. What it shows names ids of its list only.
     ///
     /// # Errors
     ///
-    /// Refused where the parser refuses the bytes, as it does; as by [`Validator::payload`] where
-    /// that refuses a payload; behind the end, where a function's body isn't valid, and then the
-    /// validator may be reset; and where memory is. The offset is that of a byte of the input, or
-    /// behind its last.
+    /// Refused where the parser refuses the bytes; as by [`Validator::payload`] where that refuses a
+    /// payload; behind the end, where a function's body isn't valid, with the function's index, and
+    /// then the validator may be reset; and where memory is. The offset is in the input or its end.
+    #[tactic(auto, using(crate::proofs::HeldShown::answer_held))]
     pub fn validate_all(&mut self, bytes: &[u8]) -> Result<Types<A>, Error<A>>
         ensures decided { DecidesModule result bytes.now self.old self.new }
         ensures place { IfErr result (StandsBetween 0 (length bytes.now)) }
         ensures held { IfOk result (λ t. HoldsIds (shown_of t)) }
+        ensures types { IfOk result HoldsTypes }
     {
         answer_all(self, bytes).answer
     }
@@ -214,7 +213,7 @@ pub fn answer_all<A: Allocator + Copy>(validator: &mut Validator<A>, bytes: &[u8
             has_ended: true,
         },
         Err(error) => Answered {
-            answer: Err(Error::from(error)),
+            answer: Err(error),
             has_ended: true,
         },
     }
@@ -336,12 +335,9 @@ fn body_count<'a, A: Allocator>(payload: Payload<'a, A>) -> Option<u32> {
 }
 
 /// Validates the bodies of a module, if its code has some.
-fn validate_bodies<'a, A: Allocator + Copy>(
-    alloc: A,
-    bodies: Bodies<'a, A>,
-) -> Result<(), wasm_readers::Error>
-    ensures decided { Decides (All IsBodyOfIts (bodies_seen bodies.entry)) result }
-    ensures place { (end : ℕ) → AllEndBy end bodies.entry → IfErr result (StandsBy end) }
+fn validate_bodies<'a, A: Allocator + Copy>(alloc: A, bodies: Bodies<'a, A>) -> Result<(), Error<A>>
+    ensures decided { DecidesBodies (bodies_seen bodies.entry) result }
+    ensures place { (end : ℕ) → AllEndBy end bodies.entry → IfErr result (StandsBetween 0 end) }
 {
     let Bodies {
         features,
@@ -360,17 +356,18 @@ fn validate_each<'a, A: Allocator + Copy>(
     features: WasmFeatures,
     resources: &ValidatorResources<A>,
     pending: Vec<PendingBody<'a>, A>,
-) -> Result<(), wasm_readers::Error>
-    ensures decided { Decides (All IsBodyOfIts
-        (map (pending_seen features resources.now) pending.entry.items)) result }
+) -> Result<(), Error<A>>
+    ensures decided { DecidesBodies
+        (map (pending_seen features resources.now) pending.entry.items) result }
     ensures place { (end : ℕ) → EachEndsBy end pending.entry.items
-        → IfErr result (StandsBy end) }
+        → IfErr result (StandsBetween 0 end) }
 {
     let mut allocations = FuncValidatorAllocations::new(alloc);
     'bodies: for waiting in pending {
+        let index = waiting.index;
         match validate_pending(features, resources, waiting, allocations) {
             Ok(more) => allocations = more,
-            Err(error) => return Err(error),
+            Err(error) => return Err(Error::in_function(index, error)),
         }
     }
     Ok(())
@@ -436,6 +433,7 @@ pub fn validate<A: Allocator + Copy>(
     ensures decided { DecidesAlone result bytes.now id STANDARD }
     ensures place { IfErr result (StandsBetween 0 (length bytes.now)) }
     ensures held { IfOk result (λ t. HoldsIds (shown_of t)) }
+    ensures types { IfOk result HoldsTypes }
 {
     Validator::new(alloc, id).validate_all(bytes)
 }

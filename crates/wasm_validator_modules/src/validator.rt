@@ -208,7 +208,7 @@ fn taken<A: Allocator + Copy>(
         → AreFirstIn list types state.new }
 {
     match mem::replace(state, State::Failed) {
-        State::Code(code) => match code.next_code_index_and_type() {
+        State::Code(code) => match code.next_function() {
             Some((index, ty)) => {
                 let (code, function) = handed_out(code, index, ty, features, body)?;
                 *state = State::Code(code);

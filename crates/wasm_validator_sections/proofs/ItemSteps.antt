@@ -10,7 +10,7 @@ use Rattle.wasm_spec_rules.proofs.Tests.{guarded, then_some}
 use Rattle.wasm_readers.specs.Sections.{next_item}
 use Rattle.wasm_validator_items.proofs.WasmValidatorCore.AddedGroups.{refusal}
 use Rattle.wasm_validator_items.specs.WasmValidatorCore.declared.error.Error.{Error}
-use Rattle.wasm_validator_items.specs.WasmValidatorCore.declared.error.Error.TheVariants.{Refused, DuplicateExport, OutOfMemory}
+use Rattle.wasm_validator_items.specs.WasmValidatorCore.declared.error.Error.TheVariants.{Refused, DuplicateExport, InFunction, OutOfMemory}
 use Rattle.wasm_validator_items.specs.WasmValidatorCore.Answers.{IsNowhere, Adds, AddsWhere}
 use Rattle.wasm_validator_sections.specs.Sections.{read_each}
 
@@ -84,11 +84,13 @@ pub ruleset item_laws = (fewer_left, read_each-step, read_each-refused)
 pub adds_refused : {A S : Type 0} (e : Error A) (part whole : Option S) (here there : S) → Adds (refusal e) part here → (part ≡ None → whole ≡ None) → Adds (refusal e) whole there
 adds_refused (Refused r) part whole here there a up = up a
 adds_refused (DuplicateExport name offset) part whole here there a up = up a
+adds_refused (InFunction index r) part whole here there a up = a
 adds_refused OutOfMemory part whole here there a up = tt
 
 pub adds_nowhere : {A S : Type 0} (P : S → Type 0) (e : Error A) (part whole : Option S) (here there : S) → AddsWhere P (refusal e) part here → (IsNowhere P part → IsNowhere P whole) → AddsWhere P (refusal e) whole there
 adds_nowhere P (Refused r) part whole here there a up = up a
 adds_nowhere P (DuplicateExport name offset) part whole here there a up = up a
+adds_nowhere P (InFunction index r) part whole here there a up = a
 adds_nowhere P OutOfMemory part whole here there a up = tt
 
 -- nothing under a test
@@ -110,6 +112,7 @@ failed_with T e = results.Err e
 adds_same : (T : Type 0) {A S : Type 0} (e : Error A) (whole : Option S) (there : S) → Adds (refusal e) whole there → Adds (failed_with T e) whole there
 adds_same T (Refused r) whole there a = a
 adds_same T (DuplicateExport name offset) whole there a = a
+adds_same T (InFunction index r) whole there a = a
 adds_same T OutOfMemory whole there a = a
 
 -- an error that is handed on

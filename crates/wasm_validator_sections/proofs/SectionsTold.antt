@@ -19,7 +19,7 @@ use Rattle.wasm_readers.specs.SectionsSeen.{SameSection, items_rest, items_end, 
 use Rattle.wasm_readers.specs.declared.section_limited.SectionItems.{SectionItems}
 use Rattle.wasm_validator_types.specs.Spaces.{Spaces}
 use Rattle.wasm_validator_items.specs.WasmValidatorCore.declared.error.Error.{Error}
-use Rattle.wasm_validator_items.specs.WasmValidatorCore.declared.error.Error.TheVariants.{Refused, DuplicateExport, OutOfMemory}
+use Rattle.wasm_validator_items.specs.WasmValidatorCore.declared.error.Error.TheVariants.{Refused, DuplicateExport, InFunction, OutOfMemory}
 use Rattle.wasm_validator_items.specs.WasmValidatorCore.Answers.{Adds, AddsWhere, IsNowhere}
 use Rattle.wasm_validator_items.specs.WasmValidatorCore.Errors.{IsAt, lifted}
 use Rattle.wasm_validator_items.specs.WasmValidatorCore.Told.{Tells, TellsExport}
@@ -97,6 +97,9 @@ module _ {A S V : Type 0} (encoded : List ℕ → Option (V × List ℕ)) (add :
     refused_told left n rest after v s place (DuplicateExport name offset) up is here h =
         let at : place ≡ stop - length rest = omega (arith, here) in
         within (DuplicateExport name offset) (up.all (DuplicateExport name offset) (told_here (DuplicateExport name offset) left n rest after v s is h.0 (subst (λ p. tells p s v (DuplicateExport name offset)) at h.1)))
+    refused_told left n rest after v s place (InFunction index r) up is here h =
+        let at : place ≡ stop - length rest = omega (arith, here) in
+        within (InFunction index r) (up.all (InFunction index r) (told_here (InFunction index r) left n rest after v s is h.0 (subst (λ p. tells p s v (InFunction index r)) at h.1)))
     refused_told left n rest after v s place OutOfMemory up is here h = tt
 
 -- a count over its limit
@@ -125,20 +128,24 @@ module _ {A S : Type 0} where
   pub item_told : (e : Error A) (o : Option S) (new : S) (place : ℕ) (told : Option Refusal) → Adds (refusal e) o new → Tells (refusal e) told → IsAt place e → OfContent (λ w. IsNone o × TellsAt place told w) e
   item_told (Refused r) o new place told none tells at = (none, (tells, at))
   item_told (DuplicateExport name offset) o new place told none tells at = absurd tells
+  item_told (InFunction index r) o new place told none tells at = absurd tells
   item_told OutOfMemory o new place told none tells at = tt
 
   pub group_told : (P : S → Type 0) (Q : Error A → Type 0) (e : Error A) (o : Option S) (new : S) (place : ℕ) → AddsWhere P (refusal e) o new → IsAt place e → Q e → OfContent (λ w. IsNowhere P o × (IsAt place w × Q w)) e
   group_told P Q (Refused r) o new place nowhere at told = (nowhere, (at, told))
   group_told P Q (DuplicateExport name offset) o new place nowhere at told = (nowhere, (at, told))
+  group_told P Q (InFunction index r) o new place nowhere at told = absurd nowhere
   group_told P Q OutOfMemory o new place nowhere at told = tt
 
   pub export_told : (e : Error A) (o : Option S) (new : S) (s : Spaces) (name : List ℕ) (place : ℕ) (told : Option Refusal) → Adds (refusal e) o new → TellsExport s name place (refusal e) told → IsAt place e → OfContent (λ w. IsNone o × TellsNamedAt s name place told w) e
   export_told (Refused r) o new s name place told none tells at = (none, (tells, at))
   export_told (DuplicateExport n offset) o new s name place told none tells at = (none, tells)
+  export_told (InFunction index r) o new s name place told none tells at = absurd tells
   export_told OutOfMemory o new s name place told none tells at = tt
 
 -- what holds of each refusal for another reason
 pub of_content : {A : Type 0} (P Q : Error A → Type 0) → ((e : Error A) → P e → Q e) → (e : Error A) → OfContent P e → OfContent Q e
 of_content P Q f (Refused r) h = f (Refused r) h
 of_content P Q f (DuplicateExport name offset) h = f (DuplicateExport name offset) h
+of_content P Q f (InFunction index r) h = f (InFunction index r) h
 of_content P Q f OutOfMemory h = tt

@@ -17,7 +17,7 @@ use Rattle.wasm_validator_type_list.specs.Listable.{AreListable}
 use Rattle.wasm_validator_types.specs.Spaces.{Spaces}
 use Rattle.wasm_validator_items.specs.WasmValidatorCore.Answers.{TypesSoFar, Adds}
 use Rattle.wasm_validator_items.specs.WasmValidatorCore.declared.error.Error.{Error}
-use Rattle.wasm_validator_items.specs.WasmValidatorCore.declared.error.Error.TheVariants.{Refused, DuplicateExport, OutOfMemory}
+use Rattle.wasm_validator_items.specs.WasmValidatorCore.declared.error.Error.TheVariants.{Refused, DuplicateExport, InFunction, OutOfMemory}
 use Rattle.wasm_validator_items.specs.WasmValidatorCore.declared.limits.TheConstants.{MAX_ELEMENT_SEGMENTS}
 use Rattle.wasm_validator_items.specs.WasmValidatorCoreResources.IndexContexts.{id_of}
 use Rattle.wasm_validator_items.specs.WasmValidatorCoreResources.ListContexts.{list_declares}
@@ -37,6 +37,7 @@ kept_adds : {T A S : Type 0} (r : Result T (Error A)) (o p : Option S) (t : S) �
 kept_adds (Ok x) o p t f ok err = sym f ∙ ok
 kept_adds (Err (Refused r)) o p t f ok err = sym f ∙ err
 kept_adds (Err (DuplicateExport name offset)) o p t f ok err = sym f ∙ err
+kept_adds (Err (InFunction index r)) o p t f ok err = err
 kept_adds (Err OutOfMemory) o p t f ok err = tt
 
 -- what each id declares

@@ -25,7 +25,7 @@ use Rattle.wasm_validator_type_list.specs.Listing.{Listing}
 use Rattle.wasm_validator_type_list.specs.DefTypes.{types_of_list}
 use Rattle.wasm_validator_types.specs.Spaces.{Spaces, is_exported}
 use Rattle.wasm_validator_items.specs.WasmValidatorCore.declared.error.Error.{Error}
-use Rattle.wasm_validator_items.specs.WasmValidatorCore.declared.error.Error.TheVariants.{Refused, DuplicateExport, OutOfMemory}
+use Rattle.wasm_validator_items.specs.WasmValidatorCore.declared.error.Error.TheVariants.{Refused, DuplicateExport, InFunction, OutOfMemory}
 use Rattle.wasm_validator_items.specs.WasmValidatorCore.declared.limits.TheConstants.{MAX_TYPES, MAX_IMPORTS, MAX_FUNCTIONS, MAX_GLOBALS, MAX_TAGS, MAX_EXPORTS, MAX_ELEMENT_SEGMENTS, MAX_DATA_SEGMENTS}
 use Rattle.wasm_validator_items.specs.WasmValidatorCore.Answers.{TypesSoFar, IsNowhere, HasValidTypes}
 use Rattle.wasm_validator_items.specs.WasmValidatorCore.Errors.{IsAt, IfContent}
@@ -57,30 +57,35 @@ module _ {A : Type 0} where
   abbrev pub OfContent : (Error A → Type 0) → Error A → Type 0
   OfContent P (Refused r) = P (Refused r)
   OfContent P (DuplicateExport name offset) = P (DuplicateExport name offset)
+  OfContent P (InFunction index r) = P (InFunction index r)
   OfContent P OutOfMemory = ⊤
 
   -- the content is refused at an offset from the first to the second of these
   abbrev pub StandsBetween : ℕ → ℕ → Error A → Type 0
   StandsBetween from to (Refused r) = (from ≤ r.offset) × (r.offset ≤ to)
   StandsBetween from to (DuplicateExport name offset) = (from ≤ offset) × (offset ≤ to)
+  StandsBetween from to (InFunction index r) = (from ≤ r.offset) × (r.offset ≤ to)
   StandsBetween from to OutOfMemory = ⊤
 
   -- bytes between these offsets don't follow the format, which no proposal lifts
   abbrev pub TellsFormat : ℕ → ℕ → Error A → Type 0
   TellsFormat from to (Refused r) = IsMalformed r.fault × (r.missing ≡ None) × (from ≤ r.offset) × (r.offset ≤ to)
   TellsFormat from to (DuplicateExport name offset) = ⊥
+  TellsFormat from to (InFunction index r) = ⊥
   TellsFormat from to OutOfMemory = ⊤
 
   -- this refusal is told of an item at this offset
   abbrev pub TellsAt : ℕ → Option Refusal → Error A → Type 0
   TellsAt place told (Refused r) = (told ≡ Some r) × (r.offset ≡ place)
   TellsAt place told (DuplicateExport name offset) = ⊥
+  TellsAt place told (InFunction index r) = ⊥
   TellsAt place told OutOfMemory = ⊤
 
   -- the same of an export of this name, which may be taken
   abbrev pub TellsNamedAt : Spaces → List ℕ → ℕ → Option Refusal → Error A → Type 0
   TellsNamedAt s name place told (Refused r) = (told ≡ Some r) × (r.offset ≡ place)
   TellsNamedAt s name place told (DuplicateExport n offset) = (told ≡ None) × (string_bytes n ≡ name) × (offset ≡ place) × IsTrue (is_exported s.exports name)
+  TellsNamedAt s name place told (InFunction index r) = ⊥
   TellsNamedAt s name place told OutOfMemory = ⊤
 
   -- Items one after another, with this offset behind the last: one can't be read; or it leads nowhere, and that is told

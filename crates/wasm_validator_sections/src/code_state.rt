@@ -1,10 +1,12 @@
 //! What is kept of a module once its code section has started.
 
-ghost use Rattle.std.specs.Prelude.{◌≡◌, ◌-◌, ◌+◌, ◌==◌, suc, not, true, length, slice_get, is_some, IfSome, Some};
+ghost use Rattle.std.specs.Prelude.{◌≡◌, ◌-◌, ◌+◌, ◌==◌, suc, not, true, length, slice_get, is_ok, is_some, IfOk, IfErr, OnOk, OnErr, IfSome, Some};
+ghost use Rattle.wasm_readers_errors.specs.Refusals.{plain};
 ghost use Rattle.wasm_validator_sections.specs.Bodies.{expected_bodies};
 
 use std::alloc::{Allocator, Global};
 use std::rc::Rc;
+use wasm_readers::{Fault, OutOfOrder, Refusal};
 use wasm_validator_items::validator_core_resources::ValidatorResources;
 use wasm_validator_types::IndexSpaces;
 
@@ -54,7 +56,7 @@ impl<A: Allocator + Copy> CodeState<A> {
     /// The index of the function whose body comes next, and that of its type, where one is to come:
     /// bodies are those of the functions that are defined, in their order (Core Specification 3.0,
     /// Binary Format, Modules, Code Section).
-    pub fn next_code_index_and_type(&self) -> Option<(u32, u32)>
+    pub fn next_function(&self) -> Option<(u32, u32)>
         ensures some { is_some result ≡ not (expected_bodies self.now.spaces.value
             - self.now.taken == 0) }
         ensures index { IfSome result (λ f. f.0
@@ -71,6 +73,36 @@ impl<A: Allocator + Copy> CodeState<A> {
             Some((index, spaces.function_type_index(index)))
         } else {
             None
+        }
+    }
+    /// The index of the function whose body comes next, and that of its type; and takes the body.
+    ///
+    /// # Errors
+    ///
+    /// Refused, at the offset, where no body is to come, which changes nothing.
+    pub fn next_code_index_and_type(&mut self, offset: u64) -> Result<(u32, u32), Refusal>
+        ensures some { is_ok result ≡ not (expected_bodies self.old.spaces.value
+            - self.old.taken == 0) }
+        ensures index { IfOk result (λ f. f.0
+            ≡ length self.old.spaces.value.imported_functions + self.old.taken) }
+        ensures ty { IfOk result (λ f. slice_get self.old.spaces.value.functions f.0
+            ≡ Some f.1) }
+        ensures taken { OnOk result (self.new ≡ record self.old { taken = suc self.old.taken }) }
+        ensures unchanged { OnErr result (self.new ≡ self.old) }
+        ensures told { IfErr result (λ r. r
+            ≡ plain (Fault.OutOfOrder OutOfOrder.CodeEntryWithoutFunction) offset) }
+    {
+        // Asked for what it promises: functions are as many as 32 bits count.
+        let _functions = self.spaces.as_ref().function_count();
+        match self.next_function() {
+            Some(function) => {
+                self.taken += 1;
+                Ok(function)
+            }
+            None => {
+                let fault = Fault::OutOfOrder(OutOfOrder::CodeEntryWithoutFunction);
+                Err(Refusal::new(fault, offset))
+            }
         }
     }
 }

@@ -23,12 +23,34 @@ pub use wasm_validator_items::{
 
 /// Passed on from `wasm_validator_core`.
 pub mod validator_core {
-    pub use wasm_validator_items::validator_core::{Error, Module, check_data_count};
+    pub use wasm_validator_items::validator_core::{
+        Error, MAX_DATA_SEGMENTS, MAX_ELEMENT_SEGMENTS, MAX_EXPORTS, MAX_FUNCTIONS, MAX_GLOBALS,
+        MAX_IMPORTS, MAX_TAGS, MAX_TYPES, Module, check_data_count,
+    };
 }
 
 /// Passed on from `wasm_validator_func`.
 pub mod validator_func {
     pub use wasm_validator_func::{FuncToValidate, FuncValidator, FuncValidatorAllocations};
+}
+
+/// Passed on from `wasm_operators`.
+pub mod operators {
+    pub use wasm_validator_func::operators::{
+        ArrayOperator, BlockType, BrTable, BulkMemoryOperator, CallOperator, CastOperator, Catch,
+        ConstantOperator, ControlOperator, ConversionOperator, FrameKind, Ieee32, Ieee64,
+        Immediate, Listed, ListedItems, MemArg, MemoryOperator, NumericOperator, Operator,
+        ParametricOperator, ReferenceOperator, SaturatingOperator, StructOperator, TableOperator,
+        TryTable, V128, VariableOperator, max_align, read_block_type, read_expression, read_memarg,
+    };
+    pub use wasm_validator_func::read_operator;
+}
+
+/// Passed on from `wasm_operator_validator`.
+pub mod operator_validator {
+    pub use wasm_validator_func::operator_validator::{
+        Frame, FrameStack, ModuleArity, OperatorVisitor, operator_arity,
+    };
 }
 
 /// Passed on from `wasm_validator_core_resources`.

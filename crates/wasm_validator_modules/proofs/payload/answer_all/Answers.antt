@@ -1,10 +1,7 @@
-use Rattle.std.proofs.Common.{sym, subst, List, length, Err}
-use Rattle.wasm_validator_sections.specs.WasmValidatorCore.declared.error.Error.{Error}
+use Rattle.std.proofs.Common.{List, length}
 use Rattle.wasm_validator_modules.specs.declared.payload.Bodies.{Bodies}
 use Rattle.wasm_validator_modules.specs.States.{BodyToValidate}
 use Rattle.wasm_validator_modules.specs.Payloads.{bodies_seen}
-use Rattle.wasm_validator_modules.specs.Verdict.{DecidesModule}
-use Rattle.wasm_validator_modules.proofs.Bodies.{between_by}
 use Rattle.wasm_validator_modules.proofs.UsedLaws.{used_laws}
 use Rattle.wasm_validator_modules.proofs.WholeModules.{decides_refusal, decides_whole, decides_body, stops, ends}
 use Rattle.wasm_validator_modules.proofs.payload.answer_all.Goals as goal
@@ -21,13 +18,11 @@ returns-in-Ok-validate_bodies-clause-decided g c =
 
 pub returns-in-Err-validate_bodies-clause-decided : goal.returns-in-Err-validate_bodies-clause-decided
 returns-in-Err-validate_bodies-clause-decided g c =
-    subst (λ (e : Error g.row.A.Denot). DecidesModule (Err e) c.args.bytes.now c.args.validator.now c.run.new.self) (sym c.from.ensures)
-    (decides_body used_laws c.args.bytes.now c.args.validator.now c.run.new.self c.in-Ok.ended.0 (bodies_seen c.in-Ok.ended.1) c.in-Err-validate_bodies.error
-    c.has_failed-has_failed.ensures.valid c.types_stand_apart.ensures c.in-Ok.ensures.validates c.in-Err-validate_bodies.ensures.decided)
+    decides_body used_laws c.args.bytes.now c.args.validator.now c.run.new.self c.in-Ok.ended.0 (bodies_seen c.in-Ok.ended.1) c.in-Err-validate_bodies.error
+    c.has_failed-has_failed.ensures.valid c.types_stand_apart.ensures c.in-Ok.ensures.validates c.in-Err-validate_bodies.ensures.decided
 
 pub returns-in-Err-validate_bodies-clause-place : goal.returns-in-Err-validate_bodies-clause-place
-returns-in-Err-validate_bodies-clause-place g c =
-    between_by (length c.args.bytes.now) c.in-Err-validate_bodies.error c.from.result c.from.ensures (c.in-Err-validate_bodies.ensures.place (length c.args.bytes.now) c.in-Ok.ensures.within)
+returns-in-Err-validate_bodies-clause-place g c = c.in-Err-validate_bodies.ensures.place (length c.args.bytes.now) c.in-Ok.ensures.within
 
 pub returns-in-Err-clause-stopped : goal.returns-in-Err-clause-stopped
 returns-in-Err-clause-stopped g c =

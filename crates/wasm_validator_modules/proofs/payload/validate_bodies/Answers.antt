@@ -1,9 +1,8 @@
-use Rattle.std.proofs.Common.{sym, subst, All}
-use Rattle.wasm_validator_sections.specs.WasmValidatorFunc.Functions.{Decides}
-use Rattle.wasm_validator_modules.specs.Payloads.{pending_in, IsBodyOfIts}
+use Rattle.std.proofs.Common.{sym, subst}
+use Rattle.wasm_validator_modules.specs.Payloads.{pending_in, DecidesBodies}
 use Rattle.wasm_validator_modules.proofs.payload.validate_bodies.Goals as goal
 
 pub returns-in-Some-clause-decided : goal.returns-in-Some-clause-decided
 returns-in-Some-clause-decided g c =
     let bodies = c.args.bodies in
-    subst (λ kept. Decides (All IsBodyOfIts (pending_in bodies.features kept bodies.pending.items)) c.validate_each.result) (sym c.in-Some.is) c.validate_each.ensures.decided
+    subst (λ kept. DecidesBodies (pending_in bodies.features kept bodies.pending.items) c.validate_each.result) (sym c.in-Some.is) c.validate_each.ensures.decided

@@ -3,7 +3,7 @@ use Rattle.std.proofs.lemmas.List.{map_push}
 use Rattle.std.proofs.lemmas.List.Elements.{All-push}
 use Rattle.wasm_validator_modules.specs.declared.payload.PendingBody.{PendingBody}
 use Rattle.wasm_validator_modules.specs.Payloads.{pending_seen, IsBodyOfIts}
-use Rattle.wasm_validator_modules.proofs.Bodies.{refused_one, stands_by, no_items}
+use Rattle.wasm_validator_modules.proofs.Bodies.{refused_one, stands_by, between_in, no_items}
 use Rattle.wasm_validator_modules.proofs.payload.validate_each.Goals as goal
 
 pub bodies-init : goal.bodies-init
@@ -21,13 +21,14 @@ bodies-preserved g c =
 
 pub returns-in-Err-clause-decided : goal.returns-in-Err-clause-decided
 returns-in-Err-clause-decided g c =
-    refused_one c.args.features c.args.resources.now c.args.pending.items c.bodies.yielded c.next.new.self.rest.items c.in-Some.waiting c.in-Err.error
+    refused_one c.args.features c.args.resources.now c.args.pending.items c.bodies.yielded c.next.new.self.rest.items c.in-Some.waiting c.in-Err.error c.in_function.result c.in_function.ensures
     (c.bodies.invariant.0 ∙ ap (λ xs. c.bodies.yielded ++ xs) c.in-Some.ensures.steps.0) c.in-Err.ensures.decides
 
 pub returns-in-Err-clause-place : goal.returns-in-Err-clause-place
 returns-in-Err-clause-place g c = λ end all.
-    stands_by end c.args.pending.items c.bodies.yielded c.next.new.self.rest.items c.in-Some.waiting c.in-Err.error
-    (c.bodies.invariant.0 ∙ ap (λ xs. c.bodies.yielded ++ xs) c.in-Some.ensures.steps.0) all c.in-Err.ensures.place
+    between_in end c.in-Some.waiting.index c.in-Err.error c.in_function.result c.in_function.ensures
+    (stands_by end c.args.pending.items c.bodies.yielded c.next.new.self.rest.items c.in-Some.waiting c.in-Err.error
+    (c.bodies.invariant.0 ∙ ap (λ xs. c.bodies.yielded ++ xs) c.in-Some.ensures.steps.0) all c.in-Err.ensures.place)
 
 pub returns-clause-decided : goal.returns-clause-decided
 returns-clause-decided g c =
