@@ -70,6 +70,9 @@ def main():
         wrong.append(f"{len(graph)} crates, more than {MOST_CRATES}")
     whole = {name: "\n".join(texts.values()) for name, texts in sources.items()}
     paths = {name: set(re.findall(r"\bRattle\.[\w.]+|\b\w+::\w+", text)) for name, text in whole.items()}
+    for name, text in whole.items():
+        # whole blocks may be passed on in a list of items
+        paths[name].update(f"{it[1]}::{word}" for it in re.finditer(r"\buse (\w+)::\{([^{}]*)\}", text) for word in re.findall(r"\w+", it[2]))
     # each path, with the crates that write it
     writers = {}
     for name, its in paths.items():

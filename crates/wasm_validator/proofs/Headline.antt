@@ -30,7 +30,7 @@ use Rattle.wasm_validator_type_list.proofs.Order.{ids_are_ordered_as_types}
 use Rattle.wasm_validator_types.specs.Shown.{shown_of}
 use Rattle.wasm_validator_types.specs.declared.shown.Types as shown
 use Rattle.wasm_validator_modules.specs.WasmValidatorCore.declared.error.Error.{Error}
-use Rattle.wasm_validator_modules.specs.WasmValidatorCore.declared.error.Error.TheVariants.{Refused, DuplicateExport, OutOfMemory}
+use Rattle.wasm_validator_modules.specs.WasmValidatorCore.declared.error.Error.TheVariants.{Refused, DuplicateExport, InFunction, OutOfMemory}
 use Rattle.wasm_validator_modules.specs.WasmValidatorCore.Answers.{TypesSoFar}
 use Rattle.wasm_validator_modules.specs.Standing.{Stage, unparsed, in_module, in_code, ended, failed, Standing, may_reset, after_reset}
 use Rattle.wasm_validator_modules.specs.Verdict.{RefusesModule, RefusesUpToBodies, StopsModule}
@@ -104,12 +104,14 @@ module _ {A : Type 0} (answers : List (Result (shown.Types A) (Error A))) (modul
   refused_case : (e : Error A) (k : ℕ) (bytes : List ℕ) → NoneLacksMemory F modules answers → Answered k bytes (Err e) → (s : Stood old.features modules answers T k bytes (Err e)) → Room old.features bytes s.placed.held → IsValidModule F bytes → ⊥
   refused_case (Refused r) k bytes none a s room m = let p = s.placed in refuses_in old.features bytes p.old p.held p.same p.decided.0 p.began m (fits_whole bytes p.held room m)
   refused_case (DuplicateExport name offset) k bytes none a s room m = let p = s.placed in refuses_in old.features bytes p.old p.held p.same p.decided.0 p.began m (fits_whole bytes p.held room m)
+  refused_case (InFunction index r) k bytes none a s room m = let p = s.placed in refuses_in old.features bytes p.old p.held p.same p.decided.0 p.began m (fits_whole bytes p.held room m)
   refused_case OutOfMemory k bytes none a s room m = none k a.answered
 
   stops_case : (r : Result (shown.Types A) (Error A)) (k : ℕ) (bytes : List ℕ) → NoneLacksMemory F modules answers → Answered k bytes r → (s : Stood old.features modules answers T k bytes r) → Room old.features bytes s.placed.held → StopsModule r bytes s.placed.old → IsValidUpToBodies F bytes → ⊥
   stops_case (Ok t) k bytes none a s room h m = absurd h
   stops_case (Err (Refused r)) k bytes none a s room h m = let p = s.placed in refuses_up_in old.features bytes p.old p.held p.same h p.began m (fits bytes p.held room m)
   stops_case (Err (DuplicateExport name offset)) k bytes none a s room h m = let p = s.placed in refuses_up_in old.features bytes p.old p.held p.same h p.began m (fits bytes p.held room m)
+  stops_case (Err (InFunction index r)) k bytes none a s room h m = absurd h
   stops_case (Err OutOfMemory) k bytes none a s room h m = none k a.answered
 
   goes_on : (k : ℕ) (bytes : List ℕ) (r : Result (shown.Types A) (Error A)) → Answered k bytes r → suc k < length answers → IsValidUpToBodies F bytes
