@@ -30,3 +30,21 @@ pub fn run<R: Print + AllocGlobal>(rt: &R) -> io::Result<()> {
     }
     Ok(())
 }
+
+/// A module with a group of two types that refer to each other, and an array of the first.
+const TYPES: &[u8] =
+    b"\0asm\x01\0\0\0\x01\x13\x02\x4e\x02\x5f\x01\x63\x01\x01\x60\x02\x7f\x63\0\x01\x7c\x5e\x64\0\0";
+
+/// Prints each type of a module under its id.
+pub fn print_types<R: Print + AllocGlobal>(rt: &R) -> io::Result<()> {
+    let types = match validate(rt.alloc(), TYPES, ValidatorId::from_number(0)) {
+        Ok(types) => types,
+        Err(error) => return println!(rt; "refused at {}: {error}", error.offset()),
+    };
+    let shown = types.as_ref();
+    for index in 0..shown.core_type_count_in_module() {
+        let id = shown.core_type_at_in_module(index);
+        println!(rt; "type {index}, id {}: {}", id.index(), shown[id])?;
+    }
+    Ok(())
+}

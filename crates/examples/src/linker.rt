@@ -1,63 +1,80 @@
-//! A linker compares the ids of types across the modules of one validator: where equal types are
-//! one, two ids are equal exactly where the types are, and a function may be imported where its
-//! type is a subtype of the one that is asked for.
+//! A linker by names alone: each import of one module is looked up among the exports of another by
+//! the name that it has there, and linked where the type of what is found matches the type that is
+//! asked for (Core Specification 3.0, Validation, Matching, External Types).
 
 use std::alloc::Allocator;
 use std::io;
-use wasm_validator::{CoreTypeId, EntityType, Error, Types, Validator, ValidatorId};
+use wasm_validator::{EntityType, Error, TypeList, Types, Validator, ValidatorId};
 
-/// A module that exports the function `f`, of type `[i32] -> []`.
+/// A module that exports one item of each kind: the function `f`, of type `[i32] -> []`; the table
+/// `t`, of 2 entries; the memory `m`, of 1 to 3 pages; the global `g`, which can be written; and the
+/// tag `e`, of the type of `f`.
 const EXPORTER: &[u8] =
-    b"\0asm\x01\0\0\0\x01\x05\x01\x60\x01\x7f\0\x02\x07\x01\x01x\x01f\0\0\x07\x05\x01\x01f\0\0";
-/// A module that imports the function `m.f`, of its second type, which is `[i32] -> []`.
+    b"\0asm\x01\0\0\0\x01\x05\x01\x60\x01\x7f\0\x03\x02\x01\0\x04\x04\x01\x70\0\x02\x05\x04\x01\x01\x01\x03\x0d\x03\x01\0\0\x06\x06\x01\x7f\x01\x41\0\x0b\x07\x15\x05\x01f\0\0\x01t\x01\0\x01m\x02\0\x01g\x03\0\x01e\x04\0\x0a\x04\x01\x02\0\x0b";
+/// A module that imports two items of each kind from `m`, of which only the first fits, or for a tag
+/// one that fits; and the function `h`, which isn't there. Its second type is `[i32] -> []`.
 const IMPORTER: &[u8] =
-    b"\0asm\x01\0\0\0\x01\x08\x02\x60\0\0\x60\x01\x7f\0\x02\x07\x01\x01m\x01f\0\x01";
+    b"\0asm\x01\0\0\0\x01\x08\x02\x60\0\0\x60\x01\x7f\0\x02\x48\x0a\x01m\x01f\0\x01\x01m\x01f\0\0\x01m\x01t\x01\x70\0\x01\x01m\x01t\x01\x6f\0\x01\x01m\x01m\x02\x01\x01\x04\x01m\x01m\x02\x01\x01\x02\x01m\x01g\x03\x7f\x01\x01m\x01g\x03\x7f\0\x01m\x01e\x04\0\x01\x01m\x01h\0\0";
 
-/// The type of the first import, where it is a function.
-fn first_import<A: Allocator + Copy>(types: &Types<A>) -> Option<CoreTypeId> {
-    match types.as_ref().core_imports()?.next()? {
-        (_, _, EntityType::Func(id)) => Some(id),
-        _ => None,
+/// The type of what the module exports under this name, if it exports anything so.
+fn exported<A: Allocator + Copy>(types: &Types<A>, wanted: &str) -> Option<EntityType> {
+    'exports: for (name, entity) in types.as_ref().core_exports()? {
+        if name == wanted {
+            return Some(entity);
+        }
     }
+    None
 }
 
-/// The type of the first export, where it is a function.
-fn first_export<A: Allocator + Copy>(types: &Types<A>) -> Option<CoreTypeId> {
-    match types.as_ref().core_exports()?.next()? {
-        (_, EntityType::Func(id)) => Some(id),
-        _ => None,
-    }
-}
-
-/// Whether a function of this type may be imported as one of the wanted type. The types are those
-/// of the module that was checked last, so that its list has both ids.
+/// Whether what has one type may be linked to an import that asks for the other: the list has all
+/// types that both name, and the first matches the second.
 fn may_be_linked<A: Allocator + Copy>(
-    types: &Types<A>,
-    given: CoreTypeId,
-    wanted: CoreTypeId,
+    list: &TypeList<A>,
+    given: EntityType,
+    asked: EntityType,
 ) -> bool {
-    let list = types.as_ref().type_list();
-    list.get(given).is_some() && list.get(wanted).is_some() && list.id_is_subtype(given, wanted)
+    list.holds_entity(given) && list.holds_entity(asked) && list.entity_is_subtype(given, asked)
 }
 
-/// Checks both modules by one validator, and says whether the export may be linked to the import.
-fn link<A: Allocator + Copy>(alloc: A) -> Result<bool, Error<A>> {
+/// Prints of each import of one module what the other one exports under its name, and whether this
+/// may be linked to it. The list of the module that was checked last has the types of both.
+fn print_links<A: Allocator + Copy, R: Print>(
+    rt: &R,
+    exporter: &Types<A>,
+    importer: &Types<A>,
+) -> io::Result<()> {
+    let shown = importer.as_ref();
+    let imports = match shown.core_imports() {
+        Some(imports) => imports,
+        None => return Ok(()),
+    };
+    'imports: for (_, name, asked) in imports {
+        match exported(exporter, name) {
+            Some(given) if may_be_linked(shown.type_list(), given, asked) => {
+                println!(rt; "{name} {asked}: linked to {given}")?
+            }
+            Some(given) => println!(rt; "{name} {asked}: not linked to {given}")?,
+            None => println!(rt; "{name} {asked}: not exported")?,
+        }
+    }
+    Ok(())
+}
+
+/// Checks both modules by one validator, so that one list has the types of both.
+fn check<A: Allocator + Copy>(alloc: A) -> Result<(Types<A>, Types<A>), Error<A>> {
     let mut validator = Validator::new(alloc, ValidatorId::from_number(0));
     let exporter = validator.validate_all(EXPORTER)?;
     if validator.can_reset() {
         validator.reset();
     }
     let importer = validator.validate_all(IMPORTER)?;
-    match (first_export(&exporter), first_import(&importer)) {
-        (Some(given), Some(wanted)) => Ok(may_be_linked(&importer, given, wanted)),
-        _ => Ok(false),
-    }
+    Ok((exporter, importer))
 }
 
-/// Prints whether the export of one module may be linked to the import of another.
+/// Prints what of one module may be linked to the imports of another.
 pub fn run<R: Print + AllocGlobal>(rt: &R) -> io::Result<()> {
-    match link(rt.alloc()) {
-        Ok(linked) => println!(rt; "may be linked: {linked}"),
+    match check(rt.alloc()) {
+        Ok((exporter, importer)) => print_links(rt, &exporter, &importer),
         Err(error) => println!(rt; "refused at {}: {error}", error.offset()),
     }
 }

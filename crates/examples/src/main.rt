@@ -2,6 +2,7 @@
 #![tactic(auto)]
 
 mod gate;
+mod heights;
 mod inspection;
 mod interning;
 mod interpreter;
@@ -16,5 +17,8 @@ fn main(rt: HostRuntime) -> io::Result<()> {
     linker::run(&rt)?;
     proved_linker::run(&rt)?;
     inspection::run(&rt)?;
+    inspection::print_types(&rt)?;
+    heights::run(&rt)?;
+    heights::print_refused_body(&rt)?;
     interning::run(&rt)
 }
