@@ -10,6 +10,8 @@ import sys
 
 ROOT = os.path.dirname(os.path.dirname(os.path.abspath(__file__)))
 ITEM = re.compile(r"^( *)pub (?:unsafe )?(?:const )?(fn|struct|enum|trait|const|type) (\w+)")
+CONSTANT = re.compile(r" *(?:pub )?(?:const|type) (?!(?:unsafe )?fn )")
+CLAUSE = re.compile(r"\b(?:requires|ensures|ghost)\*?(?: \w+)?\s*$")
 TRAIT_ITEM = re.compile(r"^( +)(fn|const|type) (\w+)")
 IMPL = re.compile(r"^impl(?:<[^{]*?>)? (?:(\w+)(?:<.*>)? for )?([\w:]+)")
 
@@ -30,16 +32,17 @@ def text_before(rows, at):
 
 
 def head_of(rows, at):
-    """A function's signature and clauses, up to its body or the `;` that ends it."""
-    found = []
+    """A function's signature and clauses, up to its body or the `;` that ends it; a constant as a whole, without its `;`."""
+    found, depth, before = [], 0, ""
+    ends = ";" if CONSTANT.match(rows[at]) else ";{"
     for row in rows[at:]:
-        if re.match(r" *\{\}?$", row) and found:
-            break
+        for i, it in enumerate(row):
+            if not depth and it in ends and not (it == "{" and CLAUSE.search(before + row[:i])):
+                return [*found, row[:i].rstrip()] if row[:i].strip() else found
+            depth += (it in "([{") - (it in ")]}")
         found.append(row)
-        if row.endswith((";", " {", "{}")) and "ensures" not in row and "requires" not in row:
-            found[-1] = re.sub(r" ?(;|\{\}?)$", "", row)
-            break
-    return found
+        before += f"{row}\n"
+    sys.exit(f"write_docs: this has no end: {rows[at]}")
 
 
 def signature_and_conditions(rows, at):
