@@ -1,9 +1,10 @@
 #!/usr/bin/env python3
 """write_docs.py [--check]: writes what documents take from the sources: docs/API.md, and the contracts that documents quote.
 
-docs/API.md has each public item of `wasm_validator` with what its source says of it: its text, its signature and its conditions. A quote is
-a block of code in a document behind a line `<!-- from PATH: NAME -->`: it becomes the function or definition NAME as PATH has it. With
---check nothing is written, and the status is 1 where a document differs from what would be; .ci/run calls it so."""
+docs/API.md has each public item of `wasm_validator` with what its source says of it: its text, its signature and its conditions. Its `pub use`
+lines are followed to where each item is declared; one that isn't understood ends this with status 1. A quote is a block of code in a document
+after a line `<!-- from PATH: NAME -->`: it becomes the function or definition NAME as PATH has it. With --check nothing is written, and the
+status is 1 where a document differs from what would be; .ci/run calls it so."""
 import os
 import re
 import sys
@@ -13,7 +14,7 @@ ITEM = re.compile(r"^( *)pub (?:unsafe )?(?:const )?(fn|struct|enum|trait|const|
 CONSTANT = re.compile(r" *(?:pub )?(?:const|type) (?!(?:unsafe )?fn )")
 CLAUSE = re.compile(r"\b(?:requires|ensures|ghost)\*?(?: \w+)?\s*$")
 TRAIT_ITEM = re.compile(r"^( +)(fn|const|type) (\w+)")
-IMPL = re.compile(r"^impl(?:<[^{]*?>)? (?:(\w+)(?:<.*>)? for )?([\w:]+)")
+IMPL = re.compile(r"^impl(?:<[^{]*?>)? (?:([\w:]+)(?:<.*>)? for )?([\w:]+)")
 
 
 def read(path):
@@ -67,29 +68,93 @@ def body_of(rows, at):
     return rows[at : end + 1]
 
 
-def find_items():
-    """(kind, name) -> (path, rows, row) of each public item outside of an `impl`, and of each type its public methods."""
-    items, methods = {}, {}
-    for crate in sorted(os.listdir(f"{ROOT}/crates")):
-        if not crate.startswith("wasm_") or not os.path.isdir(f"{ROOT}/crates/{crate}/src"):
-            continue
-        for top, folders, files in os.walk(f"{ROOT}/crates/{crate}/src"):
-            folders.sort()
-            for name in sorted(files):
-                path = os.path.relpath(f"{top}/{name}", ROOT)
-                rows, owner = read(path).split("\n"), None
-                for at, row in enumerate(rows):
-                    impl = IMPL.match(row)
-                    if impl:
-                        owner = None if impl[1] else impl[2].split("::")[-1]
-                    elif row == "}":
-                        owner = None
-                    item = ITEM.match(row)
-                    if item and not item[1]:
-                        items.setdefault(item[3], []).append((path, rows, at, item[2]))
-                    elif item and owner:
-                        methods.setdefault(owner, []).append((path, rows, at, item[3]))
-    return items, methods
+class Item:
+    """A public item, where it is declared, and the public methods of a type."""
+
+    def __init__(self, kind, name, module, path, rows, at):
+        self.kind, self.name, self.module, self.path, self.rows, self.at, self.methods = kind, name, module, path, rows, at, []
+
+
+class Module:
+    """A module: what it declares, the path of each name that its `use` lines bring in, and the names that it passes on."""
+
+    def __init__(self, above=None, is_public=True):
+        self.above, self.top, self.is_public = above, above.top if above else self, bool(is_public)
+        self.items, self.modules, self.impls, self.used, self.passed = {}, {}, [], {}, []
+
+
+def names_of(text):
+    """The names that a `use` brings in, each with its path, or None where it isn't understood: `a::{b, c as d}` brings in b and d."""
+    while re.search(r"\{[^{}]*\}", text):
+        text = re.sub(r"((?:\w+::)*)\{([^{}]*)\}", lambda it: ",".join(it[1] + one.strip() for one in it[2].split(",") if one.strip()), text)
+    found = [re.fullmatch(r"((?:\w+::)*\w+?)(?:::self)?(?: as (\w+))?", it.strip()) for it in text.split(",")]
+    return None if None in found else [(it[2] or it[1].split("::")[-1], it[1].split("::")) for it in found]
+
+
+def read_module(path, rows, module):
+    """Reads the rows of a module, and the modules in it."""
+    at = 0
+    while at < len(rows):
+        row, end = rows[at], at
+        inner, use = re.match(r"(pub )?mod (\w+)( \{|;)$", row), re.match(r"(pub )?use ", row)
+        item, impl = ITEM.match(row), IMPL.match(row)
+        if inner:
+            below = module.modules[inner[2]] = Module(module, inner[1])
+            if inner[3] == ";":
+                file = f"{path[:-3] if module.above else os.path.dirname(path)}/{inner[2]}.rt"
+                read_module(file, read(file).split("\n"), below)
+            else:
+                end = rows.index("}", at)
+                read_module(path, [re.sub("^    ", "", it) for it in rows[at + 1 : end]], below)
+        elif use:
+            end = next(i for i in range(at, len(rows)) if ";" in rows[i])
+            names = names_of(" ".join(rows[at : end + 1])[use.end() :].partition(";")[0])
+            if names is None and use[1]:
+                sys.exit(f"write_docs: {path}: this line isn't understood: {row}")
+            module.used.update(names or [])
+            module.passed += [it for it, _ in names or [] if use[1]]
+        elif item and not item[1]:
+            module.items[item[3]] = Item(item[2], item[3], module, path, rows, at)
+        elif impl and not impl[1]:
+            end = at if row.endswith("{}") else rows.index("}", at)
+            found = [(i, ITEM.match(rows[i])) for i in range(at, end)]
+            module.impls.append((impl[2].split("::"), [Item(it[2], it[3], module, path, rows, i) for i, it in found if it]))
+        at = end + 1
+
+
+def read_crates():
+    """The top module of each library of the repository by its name. The public methods of types stand at the types."""
+    tops = {}
+    for name in sorted(os.listdir(f"{ROOT}/crates")):
+        path = f"crates/{name}/src/lib.rt"
+        if os.path.isfile(f"{ROOT}/{path}"):
+            tops[name] = Module()
+            read_module(path, read(path).split("\n"), tops[name])
+    left = list(tops.values())
+    while left:
+        module = left.pop()
+        left += module.modules.values()
+        for owner, methods in module.impls:
+            of = find(tops, module, owner)
+            if isinstance(of, Item):
+                of.methods = sorted(of.methods + methods, key=lambda it: (it.path, it.at))
+    return tops
+
+
+def find(tops, module, path):
+    """What a path that is written in a module names: an item, a module, the name of a crate that isn't of the repository, or None."""
+    at = {"crate": module.top, "self": module, "super": module.above, **tops}.get(path[0]) or find_name(tops, module, path[0]) or path[0]
+    for it in path[1:]:
+        at = find_name(tops, at, it) if isinstance(at, Module) else at if isinstance(at, str) else None
+    return at
+
+
+def find_name(tops, module, name):
+    """What a name stands for in a module, as `find` has it."""
+    path, found = module.used.get(name), module.items.get(name) or module.modules.get(name)
+    if found or not path:
+        return found
+    return name if path[0] == name and name not in tops else find(tops, module, path)
 
 
 def write_text(text):
@@ -111,49 +176,53 @@ def write_fields(rows, at, kind):
     return "\n".join(re.sub(r" +$", "", it) for it in whole if not re.match(r" *(///|//|#\[|ghost )", it))
 
 
-def write_item(name, found, methods):
-    path, rows, at, kind = found
-    out = [f"## `{name}`", "", f"`{path}`", ""]
-    text = write_text(text_before(rows, at))
-    if text:
-        out += [text, ""]
-    out += ["```rust", signature_and_conditions(rows, at) if kind == "fn" else write_fields(rows, at, kind), "```", ""]
-    calls = []
-    if kind == "trait":
-        first = at
-        for i, row in enumerate(body_of(rows, at)):
-            item = TRAIT_ITEM.match(row)
-            if item and len(item[1]) == 4 and item[2] == "fn":
-                calls.append((path, rows, first + i, item[3]))
-    elif kind in ("struct", "enum"):
-        calls = methods.get(name, [])
+def write_item(name, item, name_here):
+    """A section on an item, under the name that `wasm_validator` has for it."""
+    calls = item.methods if item.kind in ("struct", "enum") else []
+    if item.kind == "trait":
+        found = [(i, TRAIT_ITEM.match(row)) for i, row in enumerate(body_of(item.rows, item.at), item.at)]
+        calls = [Item("fn", it[3], item.module, item.path, item.rows, i) for i, it in found if it and len(it[1]) == 4 and it[2] == "fn"]
+    code = signature_and_conditions(item.rows, item.at) if item.kind == "fn" else write_fields(item.rows, item.at, item.kind)
+    heads = [signature_and_conditions(it.rows, it.at) for it in calls]
+    words = {(it.module, word) for it, text in zip([item, *calls], [code, *heads]) for word in re.findall(r"\b[A-Z]\w+", text) if word != item.name}
+    others = sorted({(word, other) for module, word in words for other in [name_here(module, word)] if other})
+    where = f"`{item.path}`" + (f", where its name is `{item.name}`" if item.name != name else "")
+    where += "".join(f"; `{word}` here is `{other}`" for word, other in others)
+    text = write_text(text_before(item.rows, item.at))
+    out = [f"## `{name}`", "", where, "", *([text, ""] if text else []), "```rust", code, "```", ""]
     if calls:
-        out += ["```rust"]
-        for path, rows, at, call in calls:
-            if call != calls[0][3]:
-                out.append("")
-            out += [f"/// {it}".rstrip() for it in text_before(rows, at)] + [signature_and_conditions(rows, at)]
-        out += ["```", ""]
+        texts = ["\n".join([*(f"/// {row}".rstrip() for row in text_before(it.rows, it.at)), head]) for it, head in zip(calls, heads)]
+        out += ["```rust", "\n\n".join(texts), "```", ""]
     return out
 
 
 def write_api():
-    exported = re.findall(r"(?m)^pub use [\w:]+::(?:\{([^}]*)\}|(\w+));", read("crates/wasm_validator/src/lib.rt"))
-    names = sorted({it.strip() for group, one in exported for it in (group or one).split(",") if it.strip()}, key=str.lower)
-    items, methods = find_items()
+    tops = read_crates()
+    top = tops["wasm_validator"]
+    found = {it: find_name(tops, top, it) for it in [*top.items, *top.passed]}
+    items = {name: it for name, it in found.items() if isinstance(it, Item)}
+    of_kit = {name: it for name, it in found.items() if isinstance(it, str)}
+    names_of_item = {}
+    for name, it in items.items():
+        names_of_item.setdefault(it, []).append(name)
+    lost = [name for name in found if name not in items and name not in of_kit]
+    lost += [it.name for module in top.modules.values() if module.is_public for it in module.items.values() if it not in names_of_item]
+    if lost:
+        sys.exit(f"write_docs: wasm_validator passes on what isn't found, or has in a module what it doesn't pass on: {' '.join(lost)}")
+
+    def name_here(module, word):
+        """The name under which `wasm_validator` has what a module calls by this word, where that is another."""
+        names = names_of_item.get(find(tops, module, [word]), [])
+        return names[0] if names and word not in names else None
+
     out = ["# The public items of `wasm_validator`", ""]
     out += ["Made by `tools/write_docs.py` from the sources, where each function's `ensures` clauses stand too. Offsets count bytes from the start of the input. A"]
-    out += ["`requires` clause is a condition that the caller keeps; what takes memory answers where it is refused.", ""]
-    lost = []
-    for name in names:
-        found = [it for it in items.get(name, []) if it[3] != "fn" or name[0].islower()]
-        # a type is where it is declared; of functions of one name the one that is exported stands highest
-        if found:
-            out += write_item(name, found[-1] if found[0][3] == "fn" else found[0], methods)
-        else:
-            lost.append(name)
-    if lost:
-        out += ["## Of the kit", "", "Passed on as the kit's crates have them: " + ", ".join(f"`{it}`" for it in lost) + ".", ""]
+    out += ["`requires` clause is a condition that the caller keeps; what takes memory answers where it is refused. Where code names an item that has another name"]
+    out += ["in `wasm_validator`, the line with its file says so.", ""]
+    for name in sorted(items, key=str.lower):
+        out += write_item(name, items[name], name_here)
+    if of_kit:
+        out += ["## Of the kit", "", "Passed on as the kit's crates have them: " + ", ".join(f"`{it}` of `{of_kit[it]}`" for it in sorted(of_kit)) + ".", ""]
     return "\n".join(out).rstrip("\n") + "\n"
 
 
