@@ -10,6 +10,9 @@ import sys
 
 ROOT = os.path.dirname(os.path.dirname(os.path.abspath(__file__)))
 MOST_WALKS, MOST_CRATES, MOST_LINES, MOST_FUNCTIONS = 3_000, 60, 1_500, 110
+# What crates.txt names for a crate though no file of it does. Without that word the crate and all above it would be proved anew for nothing, so
+# the word goes when the crate changes.
+NEEDLESS = {("wasm_validator_core", "core")}
 LAYERS = ("wasm_spec", "wasm_readers", "wasm_operator", "wasm_parser", "wasm_validat", "wasm_laws_", "rows_", "test_", "bench_", "examples")
 
 
@@ -19,10 +22,9 @@ def read(path):
 
 
 def read_graph():
-    """The crates of crates.txt, each with those of the repository that it names."""
+    """The crates of crates.txt, each with those that it names, of the repository and of the kit."""
     rows = (row.split("#")[0].partition(":") for row in read(f"{ROOT}/crates.txt").split("\n"))
-    graph = {head.split()[0]: words.split() for head, colon, words in rows if colon}
-    return {name: [it for it in words if it in graph] for name, words in graph.items()}
+    return {head.split()[0]: words.split() for head, colon, words in rows if colon}
 
 
 def count_walks(graph):
@@ -62,7 +64,8 @@ def passed_on(name, texts):
 
 
 def main():
-    graph = read_graph()
+    words_of = read_graph()
+    graph = {name: [it for it in words if it in words_of] for name, words in words_of.items()}
     sources = {name: read_sources(name) for name in graph}
     walks, wrong = count_walks(graph), []
     wrong += [f"{name}: {count} walks lead down from it, more than {MOST_WALKS}" for name, count in walks.items() if count > MOST_WALKS]
@@ -86,7 +89,12 @@ def main():
             wrong.append(f"{name}: its name begins with no layer's")
         if lines > MOST_LINES or functions > MOST_FUNCTIONS:
             wrong.append(f"{name}: {lines} lines and {functions} functions, more than {MOST_LINES} or {MOST_FUNCTIONS}")
-        wrong += [f"{name}: it names {it}, and no file of it does" for it in graph[name] if it not in whole[name]]
+        for it in words_of[name]:
+            is_named = re.search(rf"\b(?:{it}::|Rattle\.{it}\.)", whole[name])
+            if not is_named and (name, it) not in NEEDLESS:
+                wrong.append(f"{name}: it names {it}, and no file of it does")
+            if is_named and (name, it) in NEEDLESS:
+                wrong.append(f"{name}: a file of it names {it}, so that NEEDLESS of this script need not")
         passed = passed_on(name, texts)
         count_passed += len(passed)
         if name.startswith("wasm_laws_") and any(it.startswith("code/") for it, _ in passed):
