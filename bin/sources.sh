@@ -3,6 +3,27 @@
 
 built=$top/out/wasm-validate
 
+# A signal ends what was started here, and then the call. `rt` is started by `setsid`, so that a signal from the keyboard doesn't reach it too: a
+# second one would cut off what it does at the first.
+trap 'end_with 129' HUP
+trap 'end_with 130' INT
+trap 'end_with 143' TERM
+
+end_with() {
+    local it
+    trap '' HUP INT TERM
+    for it in $(jobs -pr); do kill -TERM "$it" 2>/dev/null; done
+    wait
+    exit "$1"
+}
+
+# Makes `room`, a folder that is removed when the call ends. What a signal has ended may still write for a moment.
+make_room() {
+    room=
+    trap 'rm -rf "$room" 2>/dev/null || { sleep 1; rm -rf "$room"; }' EXIT
+    room=$(mktemp -d) || exit 2
+}
+
 # The crates of the program, one on a line, lowest first.
 crates_of_program() {
     awk '
@@ -50,16 +71,6 @@ find_kit() {
     rt=$(readlink -f "$(command -v rt)") && kit=$(dirname "$(dirname "$rt")") && [ -x "$kit/toolchain/bin/clang" ]
 }
 
-# Waits for a process, which ends with this one; its status is in `status`.
-wait_for() {
-    local process=$1
-    trap 'kill -TERM "$process" 2>/dev/null; wait "$process"; exit 130' INT
-    trap 'kill -TERM "$process" 2>/dev/null; wait "$process"; exit 143' TERM HUP
-    wait "$process"
-    status=$?
-    trap - INT TERM HUP
-}
-
 # A folder that looks like the kit, but for its compiler, which is called for each module that `rt try` makes. Ours compiles the one of the whole
 # program with optimization and without the sanitizer, and ends the try there.
 make_kit() {
@@ -93,8 +104,8 @@ CLANG
 compile_crate() {
     local crate=$1 room=$2
     make_kit "$room" || return 1
-    (cd "$top/crates/$crate" && exec "$room/bin/rt" try) >"$room/try.log" 2>&1 </dev/null &
-    wait_for $!
+    (cd "$top/crates/$crate" && exec setsid "$room/bin/rt" try) >"$room/try.log" 2>&1 </dev/null &
+    wait $!
     [ -s "$room/program.o" ] || return 1
     "$kit/bin/rattle-link" --target x86_64-unknown-linux-gnu --toolchain "$kit/toolchain" -o "$room/program" "$room/program.o" \
         "$kit/c/libos_c.a" "$kit/c/liblibc_c.a" >>"$room/try.log" 2>&1
