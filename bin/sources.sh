@@ -24,6 +24,15 @@ make_room() {
     room=$(mktemp -d) || exit 2
 }
 
+# Finds the kit's folder by its command, for the script of this name. Without the kit the call ends.
+find_kit() {
+    if ! command -v rt >/dev/null; then
+        echo "$1: rt, the command of the Rattle kit, is not in PATH" >&2
+        exit 2
+    fi
+    kit=$(dirname "$(dirname "$(readlink -f "$(command -v rt)")")")
+}
+
 # The crates of the program, one on a line, lowest first.
 crates_of_program() {
     awk '
@@ -43,7 +52,7 @@ crates_of_program() {
 sum_of_sources() {
     (
         cd "$top" || exit
-        readlink -f "$(command -v rt)"
+        echo "$kit"
         find $(crates_of_program | sed 's,.*,crates/&/src crates/&/specs crates/&/proofs,') -type f -print0 2>/dev/null |
             LC_ALL=C sort -z | xargs -0 sha256sum crates.txt
     ) | sha256sum | cut -d' ' -f1
@@ -63,12 +72,6 @@ keep() {
 # Lets one call at a time build, and others wait for it.
 one_at_a_time() {
     mkdir -p "$built" && exec 9>"$built/lock" && flock 9
-}
-
-# Finds the kit's folder by its command.
-find_kit() {
-    local rt
-    rt=$(readlink -f "$(command -v rt)") && kit=$(dirname "$(dirname "$rt")") && [ -x "$kit/toolchain/bin/clang" ]
 }
 
 # A folder that looks like the kit, but for its compiler, which is called for each module that `rt try` makes. Ours compiles the one of the whole
@@ -100,11 +103,11 @@ CLANG
     chmod +x "$1/toolchain/bin/clang"
 }
 
-# Compiles the program of a crate without its proofs, as `program` in this folder.
+# Compiles the program of a crate without its proofs, as `program` in this folder, which gets a log, `try.log`.
 compile_crate() {
     local crate=$1 room=$2
-    make_kit "$room" || return 1
-    (cd "$top/crates/$crate" && exec setsid "$room/bin/rt" try) >"$room/try.log" 2>&1 </dev/null &
+    make_kit "$room" >"$room/try.log" 2>&1 || return 1
+    (cd "$top/crates/$crate" && exec setsid "$room/bin/rt" try) >>"$room/try.log" 2>&1 </dev/null &
     wait $!
     [ -s "$room/program.o" ] || return 1
     "$kit/bin/rattle-link" --target x86_64-unknown-linux-gnu --toolchain "$kit/toolchain" -o "$room/program" "$room/program.o" \
