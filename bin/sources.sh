@@ -48,11 +48,12 @@ crates_of_program() {
         END { visit("wasm_validate") }' "$top/crates.txt"
 }
 
-# A checksum of the program's sources, with their places, and of the kit that is called.
+# A checksum of the program's sources, with their places, and of the kit's place and identity.
 sum_of_sources() {
     (
         cd "$top" || exit
         echo "$kit"
+        cat "$kit/KIT-ID" 2>/dev/null || rt version
         find $(crates_of_program | sed 's,.*,crates/&/src crates/&/specs crates/&/proofs,') -type f -print0 2>/dev/null |
             LC_ALL=C sort -z | xargs -0 sha256sum crates.txt
     ) | sha256sum | cut -d' ' -f1
