@@ -64,15 +64,21 @@ is_built() {
     [ -x "$built/$1" ] && [ "$(cat "$built/$1.sum" 2>/dev/null)" = "$2" ]
 }
 
-# Keeps a program of this kind, of the sources with this sum. A call that runs the one before it goes on with that.
+# Keeps a program of this kind, of the sources with this sum. A call that is running keeps its old file.
 keep() {
     rm -f "$built/$2.sum"
     cp "$1" "$built/$2.new" && chmod +x "$built/$2.new" && mv "$built/$2.new" "$built/$2" && echo "$3" >"$built/$2.sum"
 }
 
-# Lets one call at a time build, and others wait for it.
+# Lets one call at a time build a program of this kind. Another says this line, and waits. Jobs and programs are started with `9>&-`, since the lock
+# is free once nobody has file 9 open.
 one_at_a_time() {
-    mkdir -p "$built" && exec 9>"$built/lock" && flock 9
+    mkdir -p "$built" && exec 9>"$built/$1.lock" || return
+    if ! flock -n 9; then
+        echo "$2" >&2
+        flock 9 &
+        wait $!
+    fi
 }
 
 # A folder that looks like the kit, but for its compiler, which is called for each module that `rt try` makes. Ours compiles the one of the whole
@@ -108,9 +114,9 @@ CLANG
 compile_crate() {
     local crate=$1 room=$2
     make_kit "$room" >"$room/try.log" 2>&1 || return 1
-    (cd "$top/crates/$crate" && exec setsid "$room/bin/rt" try) >>"$room/try.log" 2>&1 </dev/null &
+    (cd "$top/crates/$crate" && exec setsid "$room/bin/rt" try) >>"$room/try.log" 2>&1 </dev/null 9>&- &
     wait $!
     [ -s "$room/program.o" ] || return 1
     "$kit/bin/rattle-link" --target x86_64-unknown-linux-gnu --toolchain "$kit/toolchain" -o "$room/program" "$room/program.o" \
-        "$kit/c/libos_c.a" "$kit/c/liblibc_c.a" >>"$room/try.log" 2>&1
+        "$kit/c/libos_c.a" "$kit/c/liblibc_c.a" >>"$room/try.log" 2>&1 9>&-
 }
