@@ -184,7 +184,7 @@ def write_item(name, item, name_here):
         calls = [Item("fn", it[3], item.module, item.path, item.rows, i) for i, it in found if it and len(it[1]) == 4 and it[2] == "fn"]
     code = signature_and_conditions(item.rows, item.at) if item.kind == "fn" else write_fields(item.rows, item.at, item.kind)
     heads = [signature_and_conditions(it.rows, it.at) for it in calls]
-    words = {(it.module, word) for it, text in zip([item, *calls], [code, *heads]) for word in re.findall(r"\b[A-Z]\w+", text) if word != item.name}
+    words = {(it.module, word) for it, text in zip([item, *calls], [code, *heads]) for word in re.findall(r"\b(?:\w+::)*[A-Z]\w+", text) if word != item.name}
     others = sorted({(word, other) for module, word in words for other in [name_here(module, word)] if other})
     where = f"`{item.path}`" + (f", where its name is `{item.name}`" if item.name != name else "")
     where += "".join(f"; `{word}` here is `{other}`" for word, other in others)
@@ -211,9 +211,10 @@ def write_api():
         sys.exit(f"write_docs: wasm_validator passes on what isn't found, or has in a module what it doesn't pass on: {' '.join(lost)}")
 
     def name_here(module, word):
-        """The name under which `wasm_validator` has what a module calls by this word, where that is another."""
-        names = names_of_item.get(find(tops, module, [word]), [])
-        return names[0] if names and word not in names else None
+        """The name under which `wasm_validator` has what this word or path is in a module, where that is another."""
+        path = word.split("::")
+        names = names_of_item.get(find(tops, module, path), [])
+        return names[0] if names and path[-1] not in names else None
 
     out = ["# The public items of `wasm_validator`", ""]
     out += ["Made by `tools/write_docs.py` from the sources, where each function's `ensures` clauses stand too. Offsets count bytes from the start of the input. A"]
