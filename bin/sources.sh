@@ -11,8 +11,9 @@ trap 'end_with 143' TERM
 
 end_with() {
     local it
-    trap '' HUP INT TERM
+    trap '' HUP INT TERM PIPE
     for it in $(jobs -pr); do kill -TERM "$it" 2>/dev/null; done
+    if [ -n "${room:-}" ]; then echo "${0##*/}: stopped by a signal; its temporary files are being removed" >&2; fi
     wait
     exit "$1"
 }
