@@ -8,3 +8,4 @@ pub mod InRange
 pub mod ModuleOverIds
 pub mod ListedTypes
 pub mod GrownLists
+pub mod GroupTrees

@@ -4,3 +4,4 @@ pub mod Numbered
 pub mod ModuleOverIds
 pub mod ListedTypes
 pub mod GrownLists
+pub mod GroupTrees

@@ -6,6 +6,7 @@
 
 ghost use Rattle.wasm_laws_contexts.specs.ListedTypes.{ListsDeclareTheirTypes};
 ghost use Rattle.wasm_laws_contexts.specs.GrownLists.{FirstTypesStayFirst};
+ghost use Rattle.wasm_laws_contexts.specs.GroupTrees.{GroupsAreRecursiveTypes};
 ghost use Rattle.wasm_laws_contexts.specs.Declaring.{StepsSeeWorldsAlone, StepsRenameInWorlds, VerdictsRenameInWorlds};
 ghost use Rattle.wasm_laws_contexts.specs.Numbered.{AcceptedTypesAreNumbered, IdsRenameNumbers};
 ghost use Rattle.wasm_laws_contexts.specs.ModuleOverIds.{ModulesAreOverIds};
@@ -54,4 +55,13 @@ pub fn lists_declare_their_types<A>()
 #[tactic(auto, using(crate::proofs::GrownLists::first_types_stay_first))]
 pub fn first_types_stay_first<A>()
     ensures { FirstTypesStayFirst A }
+{}
+
+/// The group of an id in a list of types, which `TypeList::rec_group_id_of` answers, is the recursive
+/// type of the type that the id stands for (Core Specification 3.0, Validation, Types, Recursive
+/// Types). The group begins at the id less the type's position, it has as many types as the
+/// recursive type has members, and the type under each of its ids is the member at that position.
+/// Each group of the list may stand behind those before it, as `TypeList::len` says of every list.
+pub fn groups_are_recursive_types<A>()
+    ensures { GroupsAreRecursiveTypes A }
 {}
