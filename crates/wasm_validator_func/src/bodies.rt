@@ -1,6 +1,6 @@
 //! Bodies, read and typed operator by operator.
 
-ghost use Rattle.std.specs.Prelude.{◌≡◌, ◌≤◌, ◌<◌, ◌||◌, not, false, is_ok, IfErr, OnOk};
+ghost use Rattle.std.specs.Prelude.{◌≡◌, ◌≤◌, ◌<◌, ◌||◌, not, true, false, is_ok, IfErr, OnOk};
 ghost use Rattle.wasm_readers_bytes.specs.Reader.{SameInput, position_in, rest};
 ghost use Rattle.wasm_parser.specs.Seen.{body_of, body_reader};
 ghost use Rattle.wasm_validator_resources.specs.Answers.{world};
@@ -13,7 +13,7 @@ ghost use Rattle.wasm_validator_func.specs.Validated.{body_in, Goes, Validates};
 
 use crate::locals::read_declarations;
 use std::alloc::Allocator;
-use wasm_operator_validator::OperatorValidator;
+use wasm_operator_validator::{NotTaken, OperatorValidator};
 use wasm_parser::FunctionBody;
 use wasm_readers::BinaryReader;
 use wasm_readers_errors::{Error, Fault, OperatorRule, Refusal};
@@ -25,6 +25,17 @@ pub(crate) fn refused(rule: OperatorRule, offset: u64) -> Error
     ensures { IsRefusedAt offset result }
 {
     Error::Refused(Refusal::new(Fault::Operator(rule, 0), offset))
+}
+
+/// Want of memory, after which the validator has failed.
+#[inline(never)]
+fn out_of_memory<A: Allocator>(validator: &mut OperatorValidator<A>) -> Error
+    ensures error { result ≡ Error.OutOfMemory }
+    ensures same { Kept validator.old.stacks validator.new.stacks }
+    ensures failed { validator.new.failed ≡ true }
+{
+    validator.fail();
+    Error::OutOfMemory
 }
 
 /// Reads the next operator, and takes its step. The reader itself is not lent, so that it can be
@@ -71,7 +82,8 @@ fn read_instructions<'a, A: Allocator, T: WasmModuleResources>(
     'operators: while !validator.is_finished() {
         match validator.frequent_op(resources, &mut ahead) {
             Ok(()) => continue,
-            Err(_) => {}
+            Err(NotTaken::Left) => {}
+            Err(NotTaken::OutOfMemory) => return Err(out_of_memory(validator)),
         }
         match read_one(validator, resources, &mut ahead) {
             Ok(()) => {}

@@ -198,8 +198,8 @@ impl<T: WasmModuleResources, A: Allocator> FuncValidator<T, A> {
     /// # Errors
     ///
     /// Refused where the bytes begin with no list of declarations, and at a declaration whose type
-    /// the features don't allow or the module doesn't have, or that leads past 50,000 locals; all
-    /// once something was refused; and where memory is.
+    /// the features don't allow or the module doesn't have, or with which there are more than 50,000
+    /// locals; all once something was refused; and where memory is.
     pub fn read_locals<'a>(&mut self, reader: &mut BinaryReader<'a>) -> Result<(), Error>
         ensures declared { self.old.validator.failed ≡ false → Declares result
             (listed_in self.old.validator (T.context self.old.resources) (rest reader.old))
@@ -227,13 +227,14 @@ impl<T: WasmModuleResources, A: Allocator> FuncValidator<T, A> {
     /// # Errors
     ///
     /// Refused, at the offset, where the features don't allow the type, where the module doesn't
-    /// have it, and where it leads past 50,000 locals; all once something was refused; and where
-    /// memory is.
+    /// have it, and where there are more than 50,000 locals with it; all once something was refused;
+    /// and where memory is.
     pub fn define_locals(&mut self, offset: u64, count: u32, ty: ValType) -> Result<(), Error>
         requires { IsWrittenVal (val_of ty) }
         ensures declared { self.old.validator.failed ≡ false → DeclaredAt offset result
             (declared_in self.old.validator (T.context self.old.resources)
             (declaration_of count ty)) (locals_in self.new.validator) }
+        ensures ended { self.old.validator.failed ≡ true → is_ok result ≡ false }
         ensures state { typed_state self.new.validator ≡ typed_state self.old.validator }
         ensures goes { Goes self.old.validator self.new.validator }
         ensures same { (self.new.resources ≡ self.old.resources)

@@ -52,6 +52,7 @@ pub(crate) fn define<A: Allocator, T: WasmModuleResources>(
     ensures declared { validator.old.failed ≡ false → DeclaredAt offset result
         (declared_in validator.old (T.context resources.now) (declaration_of count ty))
         (locals_in validator.new) }
+    ensures ended { validator.old.failed ≡ true → is_ok result ≡ false }
     ensures state { typed_state validator.new ≡ typed_state validator.old }
     ensures goes { Goes validator.old validator.new }
     ensures failed { validator.new.failed ≡ (validator.old.failed || not (is_ok result)) }

@@ -28,7 +28,7 @@ impl<T: WasmModuleResources, A: Allocator> FuncValidator<T, A> {
         OperatorVisitor::new(&mut self.validator, &self.resources)
     }
 
-    /// As [`FuncValidator::visitor`], whose visitor takes every operator, that of vectors too.
+    /// As [`FuncValidator::visitor`]: `v128.const` is the only vector operator that there is.
     pub fn simd_visitor(&mut self) -> OperatorVisitor<'_, '_, T, A>
         ensures* writes_back { sem 𝓛 (Lends (the_row T.row A.row A.Allocator)
             (operators_row A.row A.Allocator) self.entry result.validator

@@ -61,25 +61,25 @@ operators-preserved g c =
     let new = c.read_one.new.reader in
     let far = c.operators.invariant.so_far in
     let going : is_finished (typed_state w) ≡ false = cc in
-    let unfailed : u.failed ≡ false = c.in-Err.ensures.failed ∙ c.operators.invariant.going in
-    let unread : position_in middle ≡ position_in old = ap position_in c.in-Err.ensures.unread in
+    let unfailed : u.failed ≡ false = c.in-Err-Left.ensures.failed ∙ c.operators.invariant.going in
+    let unread : position_in middle ≡ position_in old = ap position_in c.in-Err-Left.ensures.unread in
     let on : position_in middle < position_in new = c.in-Ok-read_one.ensures.further in
     let further : position_in old < position_in new = omega (arith, unread, on) in
     let before = c.operators.invariant.onward in
-    let stepped = from_the_same C w.stacks u.stacks old middle (Ok c.in-Ok-read_one.field-0) (typed_state t) (rest new) c.in-Err.ensures.same c.in-Err.ensures.left c.in-Err.ensures.unread (c.in-Ok-read_one.ensures.took unfailed) in
+    let stepped = from_the_same C w.stacks u.stacks old middle (Ok c.in-Ok-read_one.field-0) (typed_state t) (rest new) c.in-Err-Left.ensures.same c.in-Err-Left.ensures.left c.in-Err-Left.ensures.unread (c.in-Ok-read_one.ensures.took unfailed) in
     let step : step_at (world C) (within v C) (typed_state w) (rest old) ≡ Some (typed_state t, rest new) =
     subst (λ B. step_at (world C) B (typed_state w) (rest old) ≡ Some (typed_state t, rest new)) (kept_around v.stacks w.stacks C c.operators.invariant.kept) stepped in
     record {
       same = search rules;
       onward = omega (arith, further, before);
-      kept = kept_on v.stacks w.stacks t.stacks c.operators.invariant.kept (kept_on w.stacks u.stacks t.stacks c.in-Err.ensures.same c.in-Ok-read_one.ensures.same);
+      kept = kept_on v.stacks w.stacks t.stacks c.operators.invariant.kept (kept_on w.stacks u.stacks t.stacks c.in-Err-Left.ensures.same c.in-Ok-read_one.ensures.same);
       going = c.in-Ok-read_one.ensures.failed ∙ ap (λ b. b || false) unfailed;
       so_far = one_more C (within v C) far.0 (typed_state w) (typed_state t) (rest old) (rest new) (instructions_from (world C) (within v C) (typed_state v) (rest c.args.reader.now))
           far.1 (shorter old new (search rules) further) going step far.2;
     }
 
-pub returns-in-Err-read_one-clause-took : goal.returns-in-Err-read_one-clause-took
-returns-in-Err-read_one-clause-took g c =
+pub returns-in-Err-clause-took : goal.returns-in-Err-clause-took
+returns-in-Err-clause-took g c =
     let C = g.T.WasmModuleResources.context c.args.resources.now in
     let v = c.args.validator.now in
     let w = c.operators.validator in
@@ -90,7 +90,7 @@ returns-in-Err-read_one-clause-took g c =
     let new = c.read_one.new.reader in
     let far = c.operators.invariant.so_far in
     let going : is_finished (typed_state w) ≡ false = cc in
-    let unfailed : u.failed ≡ false = c.in-Err.ensures.failed ∙ c.operators.invariant.going in
-    let stepped = from_the_same C w.stacks u.stacks old middle (Err c.in-Err-read_one.error) (typed_state t) (rest new) c.in-Err.ensures.same c.in-Err.ensures.left c.in-Err.ensures.unread (c.in-Err-read_one.ensures.took unfailed) in
-    stopped_here C (within v C) c.in-Err-read_one.error far.0 (typed_state w) (rest old) (instructions_from (world C) (within v C) (typed_state v) (rest c.args.reader.now)) (typed_state t) (typed_state t) (rest new) (rest c.args.reader.now) going
-    (subst (λ B. ReadsStep (Err c.in-Err-read_one.error) (step_at (world C) B (typed_state w) (rest old)) (typed_state t) (rest new)) (kept_around v.stacks w.stacks C c.operators.invariant.kept) stepped) far.2
+    let unfailed : u.failed ≡ false = c.in-Err-Left.ensures.failed ∙ c.operators.invariant.going in
+    let stepped = from_the_same C w.stacks u.stacks old middle (Err c.in-Err.error) (typed_state t) (rest new) c.in-Err-Left.ensures.same c.in-Err-Left.ensures.left c.in-Err-Left.ensures.unread (c.in-Err.ensures.took unfailed) in
+    stopped_here C (within v C) c.in-Err.error far.0 (typed_state w) (rest old) (instructions_from (world C) (within v C) (typed_state v) (rest c.args.reader.now)) (typed_state t) (typed_state t) (rest new) (rest c.args.reader.now) going
+    (subst (λ B. ReadsStep (Err c.in-Err.error) (step_at (world C) B (typed_state w) (rest old)) (typed_state t) (rest new)) (kept_around v.stacks w.stacks C c.operators.invariant.kept) stepped) far.2
