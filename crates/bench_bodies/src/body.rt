@@ -1,6 +1,6 @@
 //! The body of the bench.
 
-use crate::own_module::OwnModule;
+use examples_own_module::OwnModule;
 use std::alloc::{AllocError, Global};
 use wasm_operators::read_operator;
 use wasm_parser::FunctionBody;

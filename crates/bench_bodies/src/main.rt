@@ -6,9 +6,7 @@
 #![tactic(auto)]
 
 mod body;
-mod heaps;
 mod items;
-mod own_module;
 
 use body::{END, FRONT, count_operators, validate_body};
 use items::count_items;

@@ -1,5 +1,5 @@
-//! A debugger validates each body operator by operator, and prints how many operands and frames
-//! there are behind each.
+//! A debugger validates the first body of a module operator by operator, and prints how many operands
+//! and frames there are after each.
 
 use std::alloc::Allocator;
 use std::io;
@@ -17,7 +17,7 @@ const BYTES: &[u8] =
 const UNBALANCED: &[u8] =
     b"\0asm\x01\0\0\0\x01\x06\x01\x60\x01\x7f\x01\x7f\x02\x07\x01\x01a\x01f\0\0\x03\x03\x02\0\0\x0a\x0c\x02\x04\0\x20\0\x0b\x05\0\x20\0\x6a\x0b";
 
-/// Where an operator stands, and how many operands and frames there are behind it.
+/// The offset of an operator, and how many operands and frames there are after it.
 #[derive(Clone, Copy)]
 struct Height {
     offset: u64,
@@ -25,7 +25,7 @@ struct Height {
     frames: u32,
 }
 
-/// The heights behind each operator of the body.
+/// The heights after each operator of the body.
 fn heights<A: Allocator + Copy>(
     alloc: A,
     function: FuncToValidate<ValidatorResources<A>>,
@@ -47,6 +47,10 @@ fn heights<A: Allocator + Copy>(
             operands: validator.operand_stack_height(),
             frames: validator.control_stack_height(),
         })?;
+    }
+    if validator.control_stack_height() > 0 {
+        // The bytes end before the body does, which is refused here.
+        read_operator(&mut reader)?;
     }
     Ok(heights)
 }

@@ -1,6 +1,6 @@
-//! A linker by names alone: each import of one module is looked up among the exports of another by
-//! the name that it has there, and linked where the type of what is found matches the type that is
-//! asked for (Core Specification 3.0, Validation, Matching, External Types).
+//! A linker of two modules: each import of one is looked up among the exports of the other by its
+//! own name, whatever its module's name is, and linked where the type of what is found matches the
+//! type that is asked for (Core Specification 3.0, Validation, Matching, External Types).
 
 use std::alloc::Allocator;
 use std::io;

@@ -7,6 +7,7 @@ mod inspection;
 mod interning;
 mod interpreter;
 mod linker;
+mod own_look_ups;
 mod proved_linker;
 
 use std::io;
@@ -20,5 +21,6 @@ fn main(rt: HostRuntime) -> io::Result<()> {
     inspection::print_types(&rt)?;
     heights::run(&rt)?;
     heights::print_refused_body(&rt)?;
+    own_look_ups::run(&rt)?;
     interning::run(&rt)
 }

@@ -56,6 +56,6 @@ pub fn may_link<A: Allocator + Copy>(
 pub fn run<R: Print + AllocGlobal>(rt: &R) -> io::Result<()> {
     match may_link(rt.alloc(), &[EXPORTER, IMPORTER], 0, 0) {
         Ok(linked) => println!(rt; "may be given: {linked}"),
-        Err(error) => println!(rt; "no memory, at {}: {error}", error.offset()),
+        Err(error) => println!(rt; "{error}"),
     }
 }

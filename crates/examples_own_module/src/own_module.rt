@@ -1,4 +1,4 @@
-//! What is looked up of the module of the bench, as a user of the library writes it.
+//! A module in a form of its own, with what is looked up of it.
 
 ghost use Rattle.std.specs.Prelude.{◌≡◌, ◌<◌, false, slice_get, IfOk, OnErr};
 ghost use Rattle.std.specs.Option.{option_map};
@@ -12,9 +12,9 @@ ghost use Rattle.wasm_readers_types.specs.WasmReadersValues.declared.indices.Unp
 ghost use Rattle.wasm_readers_types.specs.SeenTypes.{sub_of};
 ghost use Rattle.wasm_readers_types.specs.WasmReadersValues.SeenValues.{abstract_heap_of, heap_of, ref_of};
 ghost use Rattle.wasm_validator_resources.specs.Answers.{world, same_index, written_index, IsWritten};
-ghost use Rattle.bench_bodies.specs.Contexts.{only_id};
+ghost use Rattle.examples_own_module.specs.Contexts.{only_id};
 
-use crate::heaps::{abstract_matches, abstract_top, same_flag};
+use crate::heap_types::{abstract_matches, abstract_top, same_flag};
 use std::alloc::Allocator;
 use wasm_readers_errors::{Fault, Refusal};
 use wasm_readers_types::{
@@ -79,7 +79,7 @@ fn is_nofunc(ty: AbstractHeapType) -> bool
 }
 
 impl<'a, A: Allocator> OwnModule<'a, A> {
-    ghost use Rattle.bench_bodies.specs.Seen.{seen};
+    ghost use Rattle.examples_own_module.specs.Seen.{seen};
 
     /// What the identity declares, if it does.
     fn declared(&self, index: UnpackedIndex) -> Option<&SubType<A>>
@@ -190,7 +190,7 @@ impl<'a, A: Allocator> OwnModule<'a, A> {
 impl<'a, A: Allocator> WasmModuleResources for OwnModule<'a, A> {
     type A = A;
 
-    ghost use Rattle.bench_bodies.specs.Seen.{seen};
+    ghost use Rattle.examples_own_module.specs.Seen.{seen};
 
     ghost context = { seen };
 

@@ -1,0 +1,8 @@
+//! What is looked up of a module that a user keeps in a form of its own, by which the bodies of its
+//! functions are validated.
+#![tactic(auto)]
+
+mod heap_types;
+mod own_module;
+
+pub use own_module::OwnModule;
