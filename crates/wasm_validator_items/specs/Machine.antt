@@ -55,7 +55,7 @@ with_items s (reference r) = with_element s r
 with_items s _ = s
 
 module _ (F : Features) (declares : List (UnpackedIndex × Sub UnpackedIndex)) where
-  -- the bytes behind an expression of this type, which may read the imported globals
+  -- the bytes behind an expression of this type, which may read the immutable globals that there are, without `GC` only imported ones
   unfoldable pub behind_initializer : Spaces → Val UnpackedIndex → List ℕ → Option (List ℕ)
   behind_initializer s v bytes = behind_expression (context_of declares s) F s.imported_globals v bytes
 

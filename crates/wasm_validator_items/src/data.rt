@@ -21,8 +21,8 @@ use wasm_validator_segments::{ExpressionMemory, check_data};
 use wasm_validator_types::{IndexSpaces, TypeList};
 
 /// Reads and types the data segment that the bytes begin with, in the module as far as it has been
-/// read, which it leaves as it is. Its offset may read the imported globals, and is typed in memory
-/// that is used again. The reader goes behind it.
+/// read, which it leaves as it is. Its offset may read the immutable globals, without `GC` only
+/// imported ones, and is typed in memory that is used again. The reader goes behind it.
 ///
 /// The list must have the types of the module; and `types` are all that it has, with ids in the
 /// place of positions in their groups.
@@ -87,9 +87,9 @@ fn check_each_data<'a, A: Allocator + Copy>(
     Err(Error::Refused(Refusal::new(fault, offset)))
 }
 
-/// Reads the data segments of a data section, whose offsets may read the imported globals. They add
-/// nothing to the module. `reader` is the section's, behind its count; and the offsets are typed in
-/// memory that is used again.
+/// Reads the data segments of a data section, whose offsets may read the immutable globals, without
+/// `GC` only imported ones. They add nothing to the module. `reader` is the section's, behind its
+/// count; and the offsets are typed in memory that is used again.
 ///
 /// The list must have the types of the module; and `types` are all that it has, with ids in the
 /// place of positions in their groups.

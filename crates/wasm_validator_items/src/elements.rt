@@ -68,8 +68,8 @@ fn add_segment<A: Allocator + Copy>(opened: &mut Module<A>, ty: ValType) -> Resu
 }
 
 /// Reads the element segment that the bytes begin with, in the module as far as it has been read,
-/// and adds it. Its expressions may read the imported globals, and are typed in memory that is used
-/// again. The reader goes behind it.
+/// and adds it. Its expressions may read the immutable globals, without `GC` only imported ones, and
+/// are typed in memory that is used again. The reader goes behind it.
 ///
 /// The list must have the types of the module; and `types` are all that it has, with ids in the
 /// place of positions in their groups. The number of element segments must fit 32 bits then.

@@ -1,11 +1,8 @@
-//! Sections whose items hold constant expressions: each item is read in the module as far as it has
-//! been read, and added to it (Core Specification 3.0, Validation, Modules).
+//! Sections whose items hold constant expressions: each item is read and typed in one pass, in the
+//! module as far as it has been read, and added to it (Core Specification 3.0, Validation, Modules,
+//! and Binary Format, Modules).
 //!
 //! Each `offset` counts bytes from the start of the input.
-//!
-//! The sections whose items hold constant expressions, read and typed in one pass, are read by the
-//! grammar and then added item by item (Core Specification 3.0, Validation, Modules, and Binary
-//! Format, Modules).
 #![tactic(auto)]
 
 ghost use Rattle.std.specs.Prelude.{ℕ};
@@ -29,8 +26,8 @@ pub use globals::{add_globals, add_next_global};
 pub use tables::{add_next_table, add_tables};
 pub use wasm_validator_segments::ExpressionMemory;
 
-/// Expressions, globals and data segments that are read and typed in one pass are those of the
-/// grammar whose expressions are typed, and each of these is found.
+/// Reading and typing expressions, globals and data segments in one pass accepts exactly those of the
+/// grammar whose expressions are typed.
 pub fn items_are_typed()
     ensures expressions { (C : Context UnpackedIndex) (F : Features) (imported : ℕ)
         → ExpressionsAreTyped C F imported }

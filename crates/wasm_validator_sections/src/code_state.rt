@@ -75,6 +75,7 @@ impl<A: Allocator + Copy> CodeState<A> {
             None
         }
     }
+
     /// The index of the function whose body comes next, and that of its type; and takes the body.
     ///
     /// # Errors

@@ -1,5 +1,5 @@
-//! A module while its sections are read: their items are added one by one to its lists, and what is told
-//! of one that is refused; and its code section, whose bodies are handed out.
+//! A module while its sections are read: their items are added one by one to its index spaces, or an item
+//! is refused; and its code section, whose bodies are handed out.
 #![tactic(auto)]
 
 mod code;
@@ -17,9 +17,7 @@ pub use module_sections::{
     take_elements, take_exports, take_globals, take_tables,
 };
 pub use module_state::ModuleState;
-pub use wasm_validator_items::{
-    Constants, add_data_segments, add_elements, add_globals, add_tables, tells_types_apart,
-};
+pub use wasm_validator_items::{Constants, tells_types_apart};
 
 /// Passed on from `wasm_validator_core`.
 pub mod validator_core {

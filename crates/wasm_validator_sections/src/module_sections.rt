@@ -151,7 +151,7 @@ fn add_tables<'a, A: Allocator + Copy>(
     )?;
     tells_types_apart(list);
     constants.update(list)?;
-    crate::add_tables(
+    wasm_validator_items::add_tables(
         features,
         list,
         &constants.types,
@@ -247,7 +247,7 @@ fn add_globals<'a, A: Allocator + Copy>(
     )?;
     tells_types_apart(list);
     constants.update(list)?;
-    crate::add_globals(
+    wasm_validator_items::add_globals(
         features,
         list,
         &constants.types,
@@ -285,7 +285,7 @@ fn add_elements<'a, A: Allocator + Copy>(
     )?;
     tells_types_apart(list);
     constants.update(list)?;
-    crate::add_elements(
+    wasm_validator_items::add_elements(
         features,
         list,
         &constants.types,
@@ -352,7 +352,7 @@ pub fn check_data_segments<'a, A: Allocator + Copy>(
     )?;
     tells_types_apart(list);
     constants.update(list)?;
-    crate::add_data_segments(
+    wasm_validator_items::add_data_segments(
         features,
         list,
         &constants.types,

@@ -79,8 +79,8 @@ impl<A: Allocator + Copy> ModuleState<A> {
     }
 
     /// Adds the table that the bytes begin with, and notes the functions that it names. Its
-    /// initializer, where it has one, may read the imported globals.
-    /// The reader goes behind it.
+    /// initializer, where it has one, may read the immutable globals that there are, without `GC`
+    /// only imported ones. The reader goes behind it.
     ///
     /// The list must have the types of the module; and what `constants` has must be the first types
     /// of the list, as it is where it is new, and where it was used with the list before that grew.
@@ -123,8 +123,8 @@ impl<A: Allocator + Copy> ModuleState<A> {
     }
 
     /// Adds the global that the bytes begin with, and notes the functions that it names. Its
-    /// initializer may read the imported globals.
-    /// The reader goes behind it.
+    /// initializer may read the immutable globals before it, without `GC` only imported ones. The
+    /// reader goes behind it.
     ///
     /// The list must have the types of the module; and what `constants` has must be the first types
     /// of the list, as it is where it is new, and where it was used with the list before that grew.
@@ -167,8 +167,8 @@ impl<A: Allocator + Copy> ModuleState<A> {
     }
 
     /// Adds the element segment that the bytes begin with, and notes the functions that it names. Its
-    /// expressions may read the imported globals.
-    /// The reader goes behind it.
+    /// expressions may read the immutable globals, without `GC` only imported ones. The reader goes
+    /// behind it.
     ///
     /// The list must have the types of the module; and what `constants` has must be the first types
     /// of the list, as it is where it is new, and where it was used with the list before that grew.
@@ -210,8 +210,8 @@ impl<A: Allocator + Copy> ModuleState<A> {
     }
 
     /// Checks the data segment that the bytes begin with, which adds nothing to the module. Its
-    /// offset may read the imported globals. The reader goes behind it. How many data segments
-    /// there are is asked by who counts them.
+    /// offset may read the immutable globals, without `GC` only imported ones. The reader goes
+    /// behind it. The caller counts the data segments.
     ///
     /// The list must have the types of the module; and what `constants` has must be the first types
     /// of the list, as it is where it is new, and where it was used with the list before that grew.
