@@ -17,7 +17,7 @@ use Rattle.wasm_validator.specs.WasmSpecValidity.Modules.{up_to_bodies}
 use Rattle.wasm_validator.specs.WasmValidatorTypes.declared.shown.Types as shown
 use Rattle.wasm_validator.specs.WasmValidatorCore.declared.error.Error.{Error}
 use Rattle.wasm_validator.specs.WasmValidatorCore.declared.error.Error.TheVariants.{OutOfMemory}
-use Rattle.wasm_validator.specs.Headline.{WritesAtMost, HasRoom, NoneLacksMemory}
+use Rattle.wasm_validator.specs.Headline.{WritesAtMost, HasRoom}
 use Rattle.wasm_validate_files.specs.declared.files.Input.{Input}
 use Rattle.wasm_validate_files.specs.Files.{IsRead, IsUnread, is_unread, bytes_held, AreAllAccepted, HoldsAtMost, HasRoomForAll}
 use Rattle.wasm_validate_files.specs.Answers.{IsOkAt, Tells}
@@ -62,7 +62,7 @@ module _ {A : Type 0} where
       record { counts = take n r.counts; each = room_for_first n files r.counts r.each; fit = omega (arith, less, fit) }
 
   -- no answer is that memory was refused
-  none_lacks : (files : List (Input A)) (answers : List (Told A)) → Tells files answers → NoneLacksMemory (features_of STANDARD) (map bytes_held files) answers
+  none_lacks : (files : List (Input A)) (answers : List (Told A)) → Tells files answers → (k : ℕ) → slice_get answers k ≡ Some (Err OutOfMemory) → ⊥
   none_lacks files answers tells k e =
       tells.with_memory (k, Err OutOfMemory, slice_get_within answers k (Err OutOfMemory) e, get_or_from_slice_get answers k (Err OutOfMemory) (Err OutOfMemory) e, tt)
 
@@ -78,9 +78,8 @@ module _ {A : Type 0} where
       → (k : ℕ) (r : Told A) (d : Input A) → k < length files → slice_get answers k ≡ Some r → IsOkAt answers k
   none_refused files answers tells fits accepted k (Ok t) d l e = (t, e)
   none_refused files answers tells fits accepted k (Err x) d l e =
-      absurd
-      (tells.headline.refused (none_lacks files answers tells) (room files answers fits) k (bytes_held (get_or files k d)) x (record { given = held_at files k d l; answered = e })
-      (accepted k d l).1)
+      let lacks : x ≡ OutOfMemory = tells.headline.refused (room files answers fits) k (bytes_held (get_or files k d)) x (record { given = held_at files k d l; answered = e }) (accepted k d l).1 in
+      absurd (none_lacks files answers tells k (e ∙ ap (λ (y : Error A). Some (Err y)) lacks))
 
   -- and the list of answers doesn't stop
   none_stops : (files : List (Input A)) (answers : List (Told A)) → Tells files answers → HasRoomForAll files → AreAllAccepted files
@@ -93,8 +92,10 @@ module _ {A : Type 0} where
       let read : last < length files = omega (arith, past, l) in
       elim (slice_get_cases answers last).1 [
         | inl at ↦
-            tells.headline.stops (none_lacks files answers tells) (room files answers fits) last (bytes_held (get_or files last d)) at.0
-            (record { given = held_at files last d read; answered = at.2 }) (omega (arith, some)) (omega (arith, all, past, l)) (up_to_bodies (accepted last d read).1)
+            let lacks : at.0 ≡ Err OutOfMemory =
+            tells.headline.stops (room files answers fits) last (bytes_held (get_or files last d)) at.0
+            (record { given = held_at files last d read; answered = at.2 }) (omega (arith, some)) (omega (arith, all, past, l)) (up_to_bodies (accepted last d read).1) in
+            none_lacks files answers tells last (at.2 ∙ ap Some lacks)
         | inr behind ↦ absurd (omega (arith, behind.0, within))
       ]
 

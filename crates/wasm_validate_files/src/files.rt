@@ -25,7 +25,7 @@ pub struct Input<A: Allocator = Global> {
 
 /// Validates files one after another by one validator, prints one line on each, and answers the
 /// exit status. That is `STATUS_OK` only where every file is a valid module, and `STATUS_REFUSED`
-/// only where not all are.
+/// only where not all are, as far as one list has room for the types of all.
 pub fn run<A: Allocator + Copy, W: Write, E: Write>(
     alloc: A,
     files: &[Input<A>],

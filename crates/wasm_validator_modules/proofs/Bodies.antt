@@ -28,8 +28,9 @@ one_of P xs ys rest x e h = all-right P ys (x ∷ rest) (subst (All P) e h) 0 x 
 
 -- where one is refused, that is told, with its function
 pub refused_one : {A : Type 0} (features : WasmFeatures) (context : Context UnpackedIndex) (xs ys rest : List PendingBody) (p : PendingBody) (e : Error) (f : whole.Error A) → f ≡ lifted_in p.index e → xs ≡ ys ++ p ∷ rest
-    → Refuses (IsBodyOfIts (pending_seen features context p)) e → DecidesBodies {T = Unit {0}} (map (pending_seen features context) xs) (results.Err f)
-refused_one {A} features context xs ys rest p (Refused r) f is same h =
+    → All IsBodyOfIts (map (pending_seen features context) ys) → Refuses (IsBodyOfIts (pending_seen features context p)) e
+    → DecidesBodies {T = Unit {0}} (map (pending_seen features context) xs) (results.Err f)
+refused_one {A} features context xs ys rest p (Refused r) f is same valid h =
     let seen : List PendingBody → List BodyToValidate = map (pending_seen features context) in
     let P : whole.Error A → Type 0 = λ w. DecidesBodies {T = Unit {0}} (seen xs) (results.Err w) in
     subst P (sym is) (record {
@@ -38,9 +39,10 @@ refused_one {A} features context xs ys rest p (Refused r) f is same h =
       behind = seen rest;
       split = ap seen same ∙ map-append (pending_seen features context) ys (p ∷ rest);
       its_index = refl;
+      valid_before = valid;
       invalid = h;
     })
-refused_one {A} features context xs ys rest p OutOfMemory f is same h =
+refused_one {A} features context xs ys rest p OutOfMemory f is same valid h =
     let P : whole.Error A → Type 0 = λ w. DecidesBodies {T = Unit {0}} (map (pending_seen features context) xs) (results.Err w) in
     subst P (sym is) tt
 

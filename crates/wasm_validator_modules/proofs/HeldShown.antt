@@ -1,5 +1,5 @@
 -- All types that an accepted module shows name ids of the list only.
-use Rattle.std.proofs.Common.{◌≡◌, sym, subst, ◌∙◌, ap, ℕ, ◌<◌, List, length, All}
+use Rattle.std.proofs.Common.{sym, subst, ℕ, ◌<◌, List, length, All}
 use Rattle.std.specs.Prelude.{IfOk}
 use Rattle.std.specs.declared.result.Result.{Result}
 use Rattle.std.specs.declared.result.Result.TheVariants as results
@@ -8,7 +8,7 @@ use Rattle.wasm_spec.specs.References.{refs_heap, refs_val}
 use Rattle.wasm_spec.specs.Features.{Features, canonical}
 use Rattle.wasm_spec.specs.Trees.{DefType}
 use Rattle.wasm_spec_rules.specs.FeatureFlags.{features_of}
-use Rattle.wasm_spec_rules.specs.IndexSpaces.{IndexSpaces, index_spaces}
+use Rattle.wasm_spec_rules.specs.IndexSpaces.{index_spaces}
 use Rattle.wasm_spec_rules.specs.Modules.{AreValidParts}
 use Rattle.wasm_spec_rules.specs.Parts.{Parts}
 use Rattle.wasm_readers_types.specs.WasmReadersValues.declared.indices.UnpackedIndex.{UnpackedIndex}
@@ -27,7 +27,7 @@ use Rattle.wasm_validator_sections.proofs.WasmLawsCore.HeldTypes.{shown_types_ar
 use Rattle.wasm_validator_modules.specs.Payloads.{HoldsTypes}
 use Rattle.wasm_validator_modules.specs.Shows.{ShowModule}
 use Rattle.wasm_validator_modules.specs.Standing.{Standing}
-use Rattle.wasm_validator_modules.specs.Verdict.{AcceptsModule, DecidesModule, DecidesAlone}
+use Rattle.wasm_validator_modules.specs.Verdict.{AcceptsModule, DecidesModule}
 use Rattle.wasm_validator_modules.proofs.AddedTypes.{as_many_zipped}
 
 module _ (F : Features) (list : TypesSoFar) (s : Spaces) (types : List DefType) (parts : Parts) (n : ℕ) where

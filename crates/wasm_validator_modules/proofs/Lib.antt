@@ -1,4 +1,5 @@
 pub use Rattle.wasm_validator_canonical.proofs as WasmValidatorCanonical
+pub use Rattle.wasm_validator_sections.proofs as WasmValidatorSections
 pub use Rattle.wasm_validator_sections.proofs.WasmLawsCore as WasmLawsCore
 pub mod Sections
 pub mod ToldMoves
@@ -10,6 +11,7 @@ pub mod Runs
 pub mod Bodies
 pub mod KeptContext
 pub mod GoingOn
+pub mod Together
 pub mod AddedTypes
 pub mod ModuleRun
 pub mod SectionLists

@@ -1,7 +1,7 @@
 -- A validator that goes over the payloads of whole bytes.
-use Rattle.std.proofs.Common.{◌≡◌, refl, sym, ap, subst, ◌∙◌, inl, inr, ℕ, ◌≤◌, arith, List, [], ◌∷◌, ◌++◌, Option, Some, None, append_assoc, append-nil}
+use Rattle.std.proofs.Common.{◌≡◌, refl, sym, ap, subst, ◌∙◌, inl, inr, Bool, true, false, true≢false, ℕ, ◌≤◌, arith, List, [], ◌∷◌, ◌++◌, Option, Some, None, append_assoc, append-nil}
 use Rattle.std.specs.Option.{option_and_then}
-use Rattle.std.specs.Prelude.{IsErrAnd}
+use Rattle.std.specs.Prelude.{IsErrAnd, IsSome}
 use Rattle.wasm_spec.specs.Framing as parts
 use Rattle.wasm_spec.specs.Framing.{Piece, IsFramed, Version, Custom, Counted, Start, DataCount, CodeStart, CodeEntry, Unknown}
 use Rattle.wasm_parser.specs.Machine.{State, start, next_of, Run, Given}
@@ -17,9 +17,11 @@ use Rattle.wasm_validator_sections.specs.WasmValidatorCore.declared.error.Error.
 use Rattle.wasm_validator_sections.specs.WasmValidatorCore.declared.error.Error.TheVariants.{Refused, DuplicateExport, InFunction, OutOfMemory}
 use Rattle.wasm_spec_rules.proofs.Tests.{then_some}
 use Rattle.wasm_validator_sections.specs.WasmValidatorCore.Answers.{IsNowhere}
-use Rattle.wasm_validator_modules.specs.Standing.{Stage, unparsed, in_module, in_code, ended, failed, Standing, at_stage, HoldsValid, Leaves}
-use Rattle.wasm_validator_modules.specs.States.{after_piece, BodyToValidate, body_taken, body_at, handed, IsBeforeEnd, left_by}
-use Rattle.wasm_validator_modules.specs.Payloads.{ShowsModule, Show, IsFunction, body_seen, bodies_given, latest_of, after_all, handed_behind, all_handed, Runs, Rejects, HasTaken, IsToldOfFormat, IsLeft, IsBehindCode, IsOutOfMemory, TellsFormat, Validates}
+use Rattle.wasm_validator_sections.specs.WasmValidatorCore.Errors.{IsContent}
+use Rattle.wasm_validator_sections.specs.Started.{starting}
+use Rattle.wasm_validator_modules.specs.Standing.{Stage, unparsed, in_module, in_code, ended, failed, Standing, at_stage, HoldsValid, Leaves, IsEnded, HasNotEnded}
+use Rattle.wasm_validator_modules.specs.States.{after_piece, BodyToValidate, code_started, body_taken, body_at, handed, IsBeforeEnd, left_by, takes_memory, code_count}
+use Rattle.wasm_validator_modules.specs.Payloads.{ShowsModule, Show, IsFunction, KeepsBodies, body_seen, bodies_given, latest_of, after_all, handed_behind, all_handed, Runs, Rejects, HasTaken, IsToldOfFormat, IsLeft, IsBehindCode, IsOutOfMemory, TellsFormat, Validates}
 use Rattle.wasm_validator_sections.specs.SectionsTold.{StandsBetween}
 use Rattle.wasm_validator_modules.proofs.Growing.{body_some}
 use Rattle.wasm_readers_errors.specs.WasmReadersFeatures.declared.features.WasmFeatures.{WasmFeatures}
@@ -63,6 +65,11 @@ next_in s s' p (q ∷ qs) e r =
     let same : here ≡ there = cc in
     (qs, ap (λ (x : Piece × State). x.0 ∷ qs) (sym same))
 
+-- a call that could be refused memory takes some
+some_taken : (takes : Bool) → (takes ≡ false → ⊥) → takes ≡ true
+some_taken true h = refl
+some_taken false h = absurd (h refl)
+
 -- none of them is the end
 abbrev NoEnd : List Piece → Type 0
 NoEnd [] = Unit {0}
@@ -80,13 +87,56 @@ no_end-last (p ∷ ps) n = no_end-last ps n.1
 framed_has_end : (bytes : List ℕ) (ps : List Piece) → IsFramed bytes ps → NoEnd ps → ⊥
 framed_has_end bytes ps f n = no_end-last (Version f.number f.kind ∷ f.others) (subst NoEnd f.all n)
 
--- a body is handed out once the code has started
-with_code : (g : Stage) (features : WasmFeatures) (bytes : List ℕ) (b : BodyToValidate) → body_at features bytes g ≡ b ∷ [] → (h : Stage) → body_taken bytes g ≡ Some h → IsBehindCode h
+-- the code section has started, and the module hasn't ended
+abbrev IsInCode : Stage → Type 0
+IsInCode (unparsed types) = ⊥
+IsInCode (in_module types spaces more) = ⊥
+IsInCode (in_code types spaces more) = Unit {0}
+IsInCode (ended types) = ⊥
+IsInCode failed = ⊥
+
+is_behind : (g : Stage) → IsInCode g → IsBehindCode g
+is_behind (unparsed types) h = h
+is_behind (in_module types spaces more) h = h
+is_behind (in_code types spaces more) h = tt
+is_behind (ended types) h = tt
+is_behind failed h = h
+
+not_ended : (g : Stage) → IsInCode g → IsEnded g → ⊥
+not_ended (unparsed types) h e = e
+not_ended (in_module types spaces more) h e = e
+not_ended (in_code types spaces more) h e = e
+not_ended (ended types) h e = h
+not_ended failed h e = e
+
+-- so it is behind its start
+with_start : (g h : Stage) → code_started g ≡ Some h → IsInCode h
+with_start (unparsed types) h e = absurd cc
+with_start (in_module types spaces more) h e = subst IsInCode (same_Some (in_code types spaces (starting types spaces more)) h e) tt
+with_start (in_code types spaces more) h e = absurd cc
+with_start (ended types) h e = absurd cc
+with_start failed h e = absurd cc
+
+start_in_code : (now now' : Standing) (p : Piece) → IsSome (code_count p) → after_piece now p ≡ Some now' → IsInCode now'.stage
+start_in_code now now' (CodeStart n size) s a =
+    let c = then_some (λ (g : Stage). Some (record now { stage = g })) (code_started now.stage) now' a in
+    subst (λ (s : Standing). IsInCode s.stage) (same_Some (record now { stage = c.0 }) now' c.2) (with_start now.stage c.0 c.1)
+start_in_code now now' (Version number kind) s a = absurd (true≢false (sym s))
+start_in_code now now' (Custom name bytes) s a = absurd (true≢false (sym s))
+start_in_code now now' (Counted id n bytes) s a = absurd (true≢false (sym s))
+start_in_code now now' (Start x) s a = absurd (true≢false (sym s))
+start_in_code now now' (DataCount n) s a = absurd (true≢false (sym s))
+start_in_code now now' (CodeEntry bytes) s a = absurd (true≢false (sym s))
+start_in_code now now' (Unknown id bytes) s a = absurd (true≢false (sym s))
+start_in_code now now' parts.End s a = absurd (true≢false (sym s))
+
+-- and a body is handed out only then
+with_code : (g : Stage) (features : WasmFeatures) (bytes : List ℕ) (b : BodyToValidate) → body_at features bytes g ≡ b ∷ [] → (h : Stage) → body_taken bytes g ≡ Some h → IsInCode h
 with_code (unparsed types) features bytes b e h t = absurd cc
 with_code (in_module types spaces more) features bytes b e h t = absurd cc
 with_code (in_code types spaces more) features bytes b e h t =
     let a = body_some (record { id = 0; features = features; stage = h }) (record { id = 0; features = features; stage = h }) bytes types spaces more (ap (at_stage (record { id = 0; features = features; stage = h })) t) in
-    subst (λ (s : Standing). IsBehindCode s.stage) a.2 tt
+    subst (λ (s : Standing). IsInCode s.stage) a.2 tt
 with_code (ended types) features bytes b e h t = absurd cc
 with_code failed features bytes b e h t = absurd cc
 
@@ -211,23 +261,26 @@ module _ {A : Type 0} where
 
   -- what the refusal of a payload says of the whole
   pub refused_whole : (T : Type 0) {B : Type 0} (seen : B → List BodyToValidate) (bytes : List ℕ) (old now new : Standing) (s s' : State) (latest : Option (Types A)) (bodies : List BodyToValidate) (p : Piece) (e : Error A) → Progress bytes old now s latest bodies → next_of s ≡ Some (Some (p, s'))
-      → Leaves (refusal T e) (after_piece now p) (left_by now p) now new → (IsNowhere HoldsValid (after_piece now p) → Rejects bytes old) → Validates seen (refusal (Types A × B) e) bytes old new
-  refused_whole T seen bytes old now new s s' latest bodies p (Refused r) g n l rejected = (rejected l.0, left_refused (Some r) bytes old now new s s' latest bodies p g n l.0 l.1)
-  refused_whole T seen bytes old now new s s' latest bodies p (DuplicateExport name offset) g n l rejected = (rejected l.0, left_refused None bytes old now new s s' latest bodies p g n l.0 l.1)
-  refused_whole T seen bytes old now new s s' latest bodies p (InFunction index r) g n l rejected = l
-  refused_whole T seen bytes old now new s s' latest bodies p OutOfMemory g n l rejected = record {
-    behind = s;
-    reached = now;
-    taken = has_taken bytes old now s latest bodies g;
-    left = inl (record { next = p; rest = s'; comes = n; fails = l.0; left = l.1 });
-  }
+      → Leaves (refusal T e) (after_piece now p) (left_by now p) now new → (takes_memory now.features p ≡ false → IsContent e) → (new ≡ record now { stage = left_by now p } → HasNotEnded old new) → (IsNowhere HoldsValid (after_piece now p) → Rejects bytes old) → Validates seen (refusal (Types A × B) e) bytes old new
+  refused_whole T seen bytes old now new s s' latest bodies p (Refused r) g n l takes ends rejected = (rejected l.0, left_refused (Some r) bytes old now new s s' latest bodies p g n l.0 l.1, ends l.1)
+  refused_whole T seen bytes old now new s s' latest bodies p (DuplicateExport name offset) g n l takes ends rejected = (rejected l.0, left_refused None bytes old now new s s' latest bodies p g n l.0 l.1, ends l.1)
+  refused_whole T seen bytes old now new s s' latest bodies p (InFunction index r) g n l takes ends rejected = l
+  refused_whole T seen bytes old now new s s' latest bodies p OutOfMemory g n l takes ends rejected = (
+    record {
+      behind = s;
+      reached = now;
+      taken = has_taken bytes old now s latest bodies g;
+      left = inl (record { next = p; rest = s'; comes = n; reads = l.0; takes = some_taken (takes_memory now.features p) takes; fails = l.1; left = l.2 });
+    },
+    λ e. absurd (subst (λ (t : Standing). IsEnded t.stage) l.2 e),
+  )
 
-  given_in_code : (now now' : Standing) (p : Piece) (valid : ValidPayload A) → IsFunction valid → handed now p ≡ bodies_given valid → after_piece now p ≡ Some now' → IsBehindCode now'.stage
+  given_in_code : (now now' : Standing) (p : Piece) (valid : ValidPayload A) → IsFunction valid → handed now p ≡ bodies_given valid → after_piece now p ≡ Some now' → IsInCode now'.stage
   given_in_code now now' p Ok f h a = absurd f
   given_in_code now now' p (End t) f h a = absurd f
   given_in_code now now' (CodeEntry bytes) (Func k b) f h a =
       let c = then_some (λ (g : Stage). Some (record now { stage = g })) (body_taken bytes now.stage) now' a in
-      subst (λ (s : Standing). IsBehindCode s.stage) (same_Some (record now { stage = c.0 }) now' c.2) (with_code now.stage now.features bytes (body_seen k b) h c.0 c.1)
+      subst (λ (s : Standing). IsInCode s.stage) (same_Some (record now { stage = c.0 }) now' c.2) (with_code now.stage now.features bytes (body_seen k b) h c.0 c.1)
   given_in_code now now' (Version number kind) (Func k b) f h a = absurd cc
   given_in_code now now' (Custom name bytes) (Func k b) f h a = absurd cc
   given_in_code now now' (Counted id n bytes) (Func k b) f h a = absurd cc
@@ -237,35 +290,43 @@ module _ {A : Type 0} where
   given_in_code now now' (Unknown id bytes) (Func k b) f h a = absurd cc
   given_in_code now now' parts.End (Func k b) f h a = absurd cc
 
-  -- where there is no memory for a body, the validator stands behind its payload
+  kept_in_code : (now now' : Standing) (p : Piece) (valid : ValidPayload A) → KeepsBodies p valid → handed now p ≡ bodies_given valid → after_piece now p ≡ Some now' → IsInCode now'.stage
+  kept_in_code now now' p valid (inl f) h a = given_in_code now now' p valid f h a
+  kept_in_code now now' p valid (inr s) h a = start_in_code now now' p s a
+
+  -- where there is no memory for a body, or for all where the code starts, the validator stands behind that payload
   pub no_memory : (bytes : List ℕ) (old now now' : Standing) (s s' : State) (p : Piece) (latest : Option (Types A)) (bodies : List BodyToValidate) (valid : ValidPayload A)
-      → Progress bytes old now s latest bodies → next_of s ≡ Some (Some (p, s')) → after_piece now p ≡ Some now' → ShowsModule now p valid → handed now p ≡ bodies_given valid → IsFunction valid → IsOutOfMemory bytes old now'
+      → Progress bytes old now s latest bodies → next_of s ≡ Some (Some (p, s')) → after_piece now p ≡ Some now' → ShowsModule now p valid → handed now p ≡ bodies_given valid → KeepsBodies p valid → IsOutOfMemory bytes old now' × HasNotEnded old now'
   no_memory bytes old now now' s s' p latest bodies valid g e a h given f =
       let more = progress-step bytes old now now' s s' p latest bodies valid g e a h given in
-      record {
-        behind = s';
-        reached = now';
-        taken = has_taken bytes old now' s' (latest_of latest valid) (bodies ++ bodies_given valid) more;
-        left = inr (given_in_code now now' p valid f given a, refl);
-      }
+      let in_its_code = kept_in_code now now' p valid f given a in (
+        record {
+          behind = s';
+          reached = now';
+          taken = has_taken bytes old now' s' (latest_of latest valid) (bodies ++ bodies_given valid) more;
+          left = inr (is_behind now'.stage in_its_code, refl);
+        },
+        λ e. absurd (not_ended now'.stage in_its_code e),
+      )
 
   -- where the parser refuses, the validator stands where it was
-  pub refused_bytes : (told : Option Refusal) → IsToldOfFormat told → (bytes : List ℕ) (old now : Standing) (s : State) (latest : Option (Types A)) (bodies : List BodyToValidate) → Progress bytes old now s latest bodies → next_of s ≡ None → Rejects bytes old × IsLeft told bytes old now
-  refused_bytes told h bytes old now s latest bodies g e = (
+  pub refused_bytes : (told : Option Refusal) → IsToldOfFormat told → (bytes : List ℕ) (old now : Standing) (s : State) (latest : Option (Types A)) (bodies : List BodyToValidate) → Progress bytes old now s latest bodies → next_of s ≡ None → HasNotEnded old now → Rejects bytes old × IsLeft told bytes old now × HasNotEnded old now
+  refused_bytes told h bytes old now s latest bodies g e n = (
     rejected_bytes bytes old now s latest bodies g e,
     record { behind = s; reached = now; taken = has_taken bytes old now s latest bodies g; left = inl (e, h, refl) },
+    n,
   )
 
   -- the parser's refusal, as it is handed on
   pub refused_format : {B : Type 0} (seen : B → List BodyToValidate) (bytes : List ℕ) (old now : Standing) (s : State) (latest : Option (Types A)) (bodies : List BodyToValidate) (e : Error A) → TellsFormat e
-      → Progress bytes old now s latest bodies → next_of s ≡ None → Validates seen (refusal (Types A × B) e) bytes old now
-  refused_format seen bytes old now s latest bodies (Refused r) h g none = refused_bytes (Some r) h bytes old now s latest bodies g none
-  refused_format seen bytes old now s latest bodies (DuplicateExport name offset) h g none = absurd h
-  refused_format seen bytes old now s latest bodies (InFunction index r) h g none = absurd h
-  refused_format seen bytes old now s latest bodies OutOfMemory h g none = absurd h
+      → Progress bytes old now s latest bodies → next_of s ≡ None → HasNotEnded old now → Validates seen (refusal (Types A × B) e) bytes old now
+  refused_format seen bytes old now s latest bodies (Refused r) h g none n = refused_bytes (Some r) h bytes old now s latest bodies g none n
+  refused_format seen bytes old now s latest bodies (DuplicateExport name offset) h g none n = absurd h
+  refused_format seen bytes old now s latest bodies (InFunction index r) h g none n = absurd h
+  refused_format seen bytes old now s latest bodies OutOfMemory h g none n = absurd h
 
   -- memory that was refused, as it is handed on
-  pub told_memory : {B : Type 0} (seen : B → List BodyToValidate) (bytes : List ℕ) (old new : Standing) (r : Result (Types A × B) (Error A)) → IsErrAnd r (λ e. e ≡ OutOfMemory) → IsOutOfMemory bytes old new → Validates seen r bytes old new
+  pub told_memory : {B : Type 0} (seen : B → List BodyToValidate) (bytes : List ℕ) (old new : Standing) (r : Result (Types A × B) (Error A)) → IsErrAnd r (λ e. e ≡ OutOfMemory) → IsOutOfMemory bytes old new × HasNotEnded old new → Validates seen r bytes old new
   told_memory seen bytes old new (results.Ok x) told h = absurd told
   told_memory seen bytes old new (results.Err e) told h = subst (λ (f : Error A). Validates seen (results.Err f) bytes old new) (sym told) h
 

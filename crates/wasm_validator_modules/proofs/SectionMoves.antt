@@ -36,7 +36,7 @@ module _ (id : ℕ) (features : WasmFeatures) (types : TypesSoFar) (m : Spaces) 
     moves_here (results.Err (Refused r)) types' m' a n = (nowhere_within a, refl)
     moves_here (results.Err (DuplicateExport name offset)) types' m' a n = (nowhere_within a, refl)
     moves_here (results.Err (InFunction index r)) types' m' a n = a
-    moves_here (results.Err OutOfMemory) types' m' a n = (refl, refl)
+    moves_here (results.Err OutOfMemory) types' m' a n = (refl, refl, refl)
 
 module _ {T A : Type 0} (id : ℕ) (features : WasmFeatures) (types : TypesSoFar) (n : ModuleState A) (note : Noted → Noted) (f : WasmFeatures → TypesSoFar × Spaces → Option (TypesSoFar × Spaces)) where
   abbrev moves_by : Result T (Error A) → Standing → Standing → Type 0

@@ -401,9 +401,6 @@ rejects_up_to_bodies laws bytes old valid apart rejects T w m room =
     let r = valid_runs laws bytes old valid apart T w m room in
     rejects m.well_formed.pieces m.well_formed.framed r.new r.through r.valid
 
-pub rejects_refuses : UsedLaws → (bytes : List ℕ) (old : Standing) → HoldsValid old → StandsApart old → Rejects bytes old → RefusesModule bytes old
-rejects_refuses laws bytes old valid apart rejects T w m room = rejects_up_to_bodies laws bytes old valid apart rejects T w (up_to_bodies m) room
-
 -- nor is one whose bodies aren't valid
 bodies_refuse : UsedLaws → (bytes : List ℕ) (old : Standing) → HoldsValid old → StandsApart old → (pieces : List Piece) → IsFramed bytes pieces → (All IsBodyOfIts (all_handed old pieces) → ⊥) → RefusesModule bytes old
 bodies_refuse laws bytes old valid apart pieces f wrong T w m room =
@@ -423,20 +420,23 @@ decide_payloads laws bytes old valid apart = (
 room_alone : (features : WasmFeatures) (id : ℕ) (bytes : List ℕ) → RefusesModule bytes (fresh id features) → IsValidModule (features_of features) bytes → ⊥
 room_alone features id bytes h m = let few = m.well_formed.rules.limits.types in h [] refl m (omega (arith, few))
 
+room_up_alone : (features : WasmFeatures) (id : ℕ) (bytes : List ℕ) → RefusesUpToBodies bytes (fresh id features) → IsValidUpToBodies (features_of features) bytes → ⊥
+room_up_alone features id bytes h m = let few = m.well_formed.rules.limits.types in h [] refl m (omega (arith, few))
+
 -- the answers
 module _ {A : Type 0} where
   -- where a payload, or what follows the payloads, was refused
   pub decides_refusal : {B : Type 0} (seen : B → List BodyToValidate) → UsedLaws → (bytes : List ℕ) (old new : Standing) (e : Error A) → HoldsValid old → StandsApart old → Validates seen (results.Err e) bytes old new → DecidesModule (refusal (shown.Types A) e) bytes old new
-  decides_refusal seen laws bytes old new (Refused r) valid apart v = (rejects_refuses laws bytes old valid apart v.0, v.1)
-  decides_refusal seen laws bytes old new (DuplicateExport name offset) valid apart v = (rejects_refuses laws bytes old valid apart v.0, v.1)
+  decides_refusal seen laws bytes old new (Refused r) valid apart v = (rejects_up_to_bodies laws bytes old valid apart v.0, v.1)
+  decides_refusal seen laws bytes old new (DuplicateExport name offset) valid apart v = (rejects_up_to_bodies laws bytes old valid apart v.0, v.1)
   decides_refusal seen laws bytes old new (InFunction index r) valid apart v = absurd v
-  decides_refusal seen laws bytes old new OutOfMemory valid apart v = v
+  decides_refusal seen laws bytes old new OutOfMemory valid apart v = v.0
 
-  pub stops : {B : Type 0} (seen : B → List BodyToValidate) → UsedLaws → (bytes : List ℕ) (old new : Standing) (e : Error A) → HoldsValid old → StandsApart old → Validates seen (results.Err e) bytes old new → StopsModule (refusal (shown.Types A) e) bytes old
-  stops seen laws bytes old new (Refused r) valid apart v = rejects_up_to_bodies laws bytes old valid apart v.0
-  stops seen laws bytes old new (DuplicateExport name offset) valid apart v = rejects_up_to_bodies laws bytes old valid apart v.0
+  pub stops : {B : Type 0} (seen : B → List BodyToValidate) → UsedLaws → (bytes : List ℕ) (old new : Standing) (e : Error A) → HoldsValid old → StandsApart old → Validates seen (results.Err e) bytes old new → StopsModule (refusal (shown.Types A) e) bytes old new
+  stops seen laws bytes old new (Refused r) valid apart v = (rejects_up_to_bodies laws bytes old valid apart v.0, v.2)
+  stops seen laws bytes old new (DuplicateExport name offset) valid apart v = (rejects_up_to_bodies laws bytes old valid apart v.0, v.2)
   stops seen laws bytes old new (InFunction index r) valid apart v = v
-  stops seen laws bytes old new OutOfMemory valid apart v = tt
+  stops seen laws bytes old new OutOfMemory valid apart v = v.1
 
   -- where all payloads were accepted
   pub ends : UsedLaws → (bytes : List ℕ) (old new : Standing) (t : shown.Types A) (bodies : List BodyToValidate) → StandsApart old → Runs bytes old new t bodies → EndsModule bytes old new
@@ -474,7 +474,7 @@ module _ {A : Type 0} where
 
   pub decides_alone : (bytes : List ℕ) (id : ℕ) (features : WasmFeatures) (new : Standing) (r : Result (shown.Types A) (Error A)) → DecidesModule r bytes (fresh id features) new → DecidesAlone r bytes id features
   decides_alone bytes id features new (results.Ok t) v = (new, v)
-  decides_alone bytes id features new (results.Err (Refused e)) v = (room_alone features id bytes v.0, (new, v.1))
-  decides_alone bytes id features new (results.Err (DuplicateExport name offset)) v = (room_alone features id bytes v.0, (new, v.1))
+  decides_alone bytes id features new (results.Err (Refused e)) v = (room_up_alone features id bytes v.0, (new, v.1))
+  decides_alone bytes id features new (results.Err (DuplicateExport name offset)) v = (room_up_alone features id bytes v.0, (new, v.1))
   decides_alone bytes id features new (results.Err (InFunction index r)) v = (room_alone features id bytes v.0, (new, v.1))
   decides_alone bytes id features new (results.Err OutOfMemory) v = tt

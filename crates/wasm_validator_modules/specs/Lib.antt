@@ -1,5 +1,6 @@
 pub use Rattle.wasm_spec_validity.specs as WasmSpecValidity
 pub use Rattle.wasm_validator_canonical.specs as WasmValidatorCanonical
+pub use Rattle.wasm_validator_sections.specs as WasmValidatorSections
 pub use Rattle.wasm_validator_sections.specs.WasmValidatorCore as WasmValidatorCore
 pub mod Standing
 pub mod Codes

@@ -1,5 +1,5 @@
 -- What a payload that is accepted gives.
-use Rattle.std.specs.Prelude.{ℕ, ◌≡◌, ◌≤◌, ◌⊎◌, ◌+◌, ◌++◌, true, List, [], ◌∷◌, map, length, Option, Some, None, ⊤}
+use Rattle.std.specs.Prelude.{ℕ, ◌≡◌, ◌≤◌, ◌⊎◌, ◌+◌, ◌++◌, true, List, [], ◌∷◌, map, length, Option, Some, None, IsSome, ⊤}
 use Rattle.wasm_spec_rules.specs.Contexts.{Context}
 use Rattle.wasm_readers_types.specs.WasmReadersValues.declared.indices.UnpackedIndex.{UnpackedIndex}
 use Rattle.std.specs.Option.{option_and_then}
@@ -35,8 +35,8 @@ use Rattle.wasm_validator_sections.specs.WasmValidatorFunc.declared.func_validat
 use Rattle.wasm_validator_sections.specs.WasmValidatorFunc.Functions.{IsFunctionBody}
 use Rattle.wasm_validator_canonical.specs.Groups.{AreValid}
 use Rattle.wasm_validator_sections.specs.WasmValidatorCore.Answers.{IsNowhere}
-use Rattle.wasm_validator_modules.specs.Standing.{Stage, unparsed, in_module, in_code, ended, Standing, shown_at, failed, body_refused_at, HoldsValid}
-use Rattle.wasm_validator_modules.specs.States.{IsBeforeEnd, body_taken, BodyToValidate, body_at, handed, after_piece, left_by}
+use Rattle.wasm_validator_modules.specs.Standing.{Stage, unparsed, in_module, in_code, ended, Standing, shown_at, failed, body_refused_at, HoldsValid, HasNotEnded}
+use Rattle.wasm_validator_modules.specs.States.{IsBeforeEnd, body_taken, BodyToValidate, body_at, handed, after_piece, left_by, takes_memory, code_count}
 use Rattle.wasm_validator_modules.specs.OrderTold.{body_told}
 use Rattle.wasm_readers_errors.specs.WasmReadersFeatures.declared.features.WasmFeatures.{WasmFeatures}
 
@@ -76,21 +76,25 @@ bodies_given Ok = []
 bodies_given (Func f b) = body_seen f b ∷ []
 bodies_given (End t) = []
 
--- A body is taken, and handed out with its function; or it is refused, and that is told of it, at its first byte. Memory is refused only where
--- it was a body's turn.
+-- A body is taken, and handed out with its function; or it is refused, and that is told of it, at its first byte. Memory is refused only while a
+-- module is being read, and where it was a body's turn.
 abbrev pub TakesBody : {A : Type 0} → Result (FuncToValidate (Context UnpackedIndex)) (Error A) → WasmFeatures → FunctionBody → Stage → Stage → Type 0
 TakesBody (results.Ok f) features b g h = (body_taken (body_of b) g ≡ Some h) × (body_at features (body_of b) g ≡ body_seen f b ∷ [])
 TakesBody (results.Err (Refused r)) features b g h =
     (body_taken (body_of b) g ≡ None) × (h ≡ body_refused_at g) × (r ≡ plain (body_told g) (original (body_reader b) + position_in (body_reader b)))
 TakesBody (results.Err (DuplicateExport name offset)) features b g h = ⊥
 TakesBody (results.Err (InFunction index r)) features b g h = ⊥
-TakesBody (results.Err OutOfMemory) features b g h = (body_refused_at g ≡ failed) × (h ≡ failed)
+TakesBody (results.Err OutOfMemory) features b g h = IsSome (shown_at g) × (body_refused_at g ≡ failed) × (h ≡ failed)
 
 -- a payload gave a function
 abbrev pub IsFunction : {A : Type 0} → ValidPayload A → Type 0
 IsFunction Ok = ⊥
 IsFunction (Func f b) = ⊤
 IsFunction (End t) = ⊥
+
+-- memory is taken to keep a function's body, and for all bodies where the code section starts
+abbrev pub KeepsBodies : {A : Type 0} → Piece → ValidPayload A → Type 0
+KeepsBodies p v = IsFunction v ⊎ IsSome (code_count p)
 
 -- a function whose body is to be validated under these features and in this context, as it was handed out
 abbrev pub pending_seen : WasmFeatures → Context UnpackedIndex → PendingBody → BodyToValidate
@@ -145,16 +149,17 @@ StandsBy end reading_error.OutOfMemory = ⊤
 abbrev pub IsBodyOfIts : BodyToValidate → Type 0
 IsBodyOfIts b = IsFunctionBody (features_of b.features) b.context b.ty b.bytes
 
--- The body of this function is one of these, and isn't valid.
+-- The body of this function is the first of these that isn't valid.
 pub record RefusesOne (bodies : List BodyToValidate) (index : ℕ) : Type 0 where
   pub before : List BodyToValidate
   pub body : BodyToValidate
   pub behind : List BodyToValidate
   pub split : bodies ≡ before ++ body ∷ behind
   pub its_index : body.index ≡ index
+  pub valid_before : All IsBodyOfIts before
   pub invalid : IsBodyOfIts body → ⊥
 
--- All of these are valid; or one isn't, and it is said of which function; or memory was refused.
+-- All of these are valid; or one isn't, and of the first such it is said of which function it is; or memory was refused.
 abbrev pub DecidesBodies : {T A : Type 0} → List BodyToValidate → Result T (Error A) → Type 0
 DecidesBodies bodies (results.Ok x) = All IsBodyOfIts bodies
 DecidesBodies bodies (results.Err (Refused r)) = ⊥
@@ -232,11 +237,13 @@ pub record IsLeft (told : Option Refusal) (bytes : List ℕ) (old new : Standing
   pub taken : HasTaken bytes old reached behind
   pub left : ((next_of behind ≡ None) × IsToldOfFormat told × (new ≡ reached)) ⊎ (HasRefused behind reached new ⊎ ((next_of behind ≡ Some None) × (new ≡ reached)))
 
--- Memory was refused to the next payload. That is so only where a refusal fails the validator.
+-- Memory was refused to the next payload, which takes some, while a module was being read. That is so only where a refusal fails the validator.
 pub record HasNoMemory (behind : State) (reached new : Standing) : Type 0 where
   pub next : Piece
   pub rest : State
   pub comes : next_of behind ≡ Some (Some (next, rest))
+  pub reads : IsSome (shown_at reached.stage)
+  pub takes : takes_memory reached.features next ≡ true
   pub fails : left_by reached next ≡ failed
   pub left : new ≡ record reached { stage = failed }
 
@@ -268,15 +275,16 @@ pub record Runs {A : Type 0} (bytes : List ℕ) (old new : Standing) (t : Types 
   pub hands_out : all_handed old accepts.pieces ≡ bodies
   pub ended : HasTakenAll bytes old new
 
--- what the answer on the payloads of whole bytes says, where `bodies` are those that they hand out
+-- what the answer on the payloads of whole bytes says, where `bodies` are those that they hand out: where it is an error they were not all
+-- accepted, so that the module hasn't ended
 abbrev pub Validates : {A B : Type 0} → (B → List BodyToValidate) → Result (Types A × B) (Error A) → List ℕ → Standing → Standing → Type 0
 Validates bodies (results.Ok x) bytes old new = Runs bytes old new x.0 (bodies x.1)
-Validates bodies (results.Err (Refused r)) bytes old new = Rejects bytes old × IsLeft (Some r) bytes old new
-Validates bodies (results.Err (DuplicateExport name offset)) bytes old new = Rejects bytes old × IsLeft None bytes old new
+Validates bodies (results.Err (Refused r)) bytes old new = Rejects bytes old × IsLeft (Some r) bytes old new × HasNotEnded old new
+Validates bodies (results.Err (DuplicateExport name offset)) bytes old new = Rejects bytes old × IsLeft None bytes old new × HasNotEnded old new
 Validates bodies (results.Err (InFunction index r)) bytes old new = ⊥
-Validates bodies (results.Err OutOfMemory) bytes old new = IsOutOfMemory bytes old new
+Validates bodies (results.Err OutOfMemory) bytes old new = IsOutOfMemory bytes old new × HasNotEnded old new
 
--- The body of this function, which the payloads of the bytes hand out, isn't valid.
+-- The body of this function is the first of those that the payloads of the bytes hand out which isn't valid.
 pub record RefusesBody (index : ℕ) (bytes : List ℕ) (old : Standing) : Type 0 where
   pub pieces : List Piece
   pub framed : IsFramed bytes pieces

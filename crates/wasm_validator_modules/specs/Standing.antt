@@ -1,5 +1,5 @@
 -- Where a validator stands, and the words for calls that move it.
-use Rattle.std.specs.Prelude.{ℕ, ◌≡◌, ◌==◌, if◌then◌else◌, Bool, true, false, [], Option, Some, None, ⊤}
+use Rattle.std.specs.Prelude.{ℕ, ◌≡◌, ◌==◌, if◌then◌else◌, Bool, true, false, [], Option, Some, None, IsSome, ⊤}
 use Rattle.std.specs.Option.{option_and_then}
 use Rattle.std.specs.declared.result.Result.{Result}
 use Rattle.std.specs.declared.result.Result.TheVariants.{Ok, Err}
@@ -130,13 +130,14 @@ abbrev pub HoldsValid : Standing → Type 0
 HoldsValid s = AreValidAt s.features s.stage
 
 -- A call moves to where the machine moves; where it refuses the content the machine moves nowhere, or to where a type
--- isn't valid, and the validator is left at the stage that is given. Memory is refused only where that stage is failed.
+-- isn't valid, and the validator is left at the stage that is given. Memory is refused only while a module is being read, and only where that
+-- stage is failed.
 abbrev pub Leaves : {T A : Type 0} → Result T (Error A) → Option Standing → Stage → Standing → Standing → Type 0
 Leaves (Ok x) next left old new = next ≡ Some new
 Leaves (Err (Refused r)) next left old new = IsNowhere HoldsValid next × (new ≡ record old { stage = left })
 Leaves (Err (DuplicateExport name offset)) next left old new = IsNowhere HoldsValid next × (new ≡ record old { stage = left })
 Leaves (Err (InFunction index r)) next left old new = ⊥
-Leaves (Err OutOfMemory) next left old new = (left ≡ failed) × (new ≡ record old { stage = failed })
+Leaves (Err OutOfMemory) next left old new = IsSome (shown_at old.stage) × (left ≡ failed) × (new ≡ record old { stage = failed })
 
 -- a section's call, which fails the validator where it is refused in a module, and elsewhere changes nothing
 abbrev pub Moves : {T A : Type 0} → Result T (Error A) → Option Standing → Standing → Standing → Type 0
@@ -157,3 +158,7 @@ IsEnded (in_module types spaces more) = ⊥
 IsEnded (in_code types spaces more) = ⊥
 IsEnded (ended types) = ⊤
 IsEnded failed = ⊥
+
+-- the validator isn't at a module's end, unless it was before
+abbrev pub HasNotEnded : Standing → Standing → Type 0
+HasNotEnded old new = IsEnded new.stage → IsEnded old.stage

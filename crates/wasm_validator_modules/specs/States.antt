@@ -220,6 +220,31 @@ left_by s (CodeEntry bytes) = body_refused_at s.stage
 left_by s (Unknown id bytes) = s.stage
 left_by s parts.End = ended_at s.stage
 
+-- Memory may be refused to this payload. The header, custom and unknown sections, the start function and the data count take none, nor do tags
+-- without the exceptions proposal.
+abbrev pub takes_memory : WasmFeatures → Piece → Bool
+takes_memory features (Version number kind) = false
+takes_memory features (Custom name bytes) = false
+takes_memory features (Counted id count bytes) = if id == 13 then (features_of features).exceptions else true
+takes_memory features (Start index) = false
+takes_memory features (DataCount count) = false
+takes_memory features (CodeStart count size) = true
+takes_memory features (CodeEntry bytes) = true
+takes_memory features (Unknown id bytes) = false
+takes_memory features parts.End = true
+
+-- the number of bodies that are to come, where the code section starts
+abbrev pub code_count : Piece → Option ℕ
+code_count (Version number kind) = None
+code_count (Custom name bytes) = None
+code_count (Counted id count bytes) = None
+code_count (Start index) = None
+code_count (DataCount count) = None
+code_count (CodeStart count size) = Some count
+code_count (CodeEntry bytes) = None
+code_count (Unknown id bytes) = None
+code_count parts.End = None
+
 -- the piece is not the end
 abbrev pub IsBeforeEnd : Piece → Type 0
 IsBeforeEnd (Version number kind) = ⊤

@@ -17,7 +17,7 @@ use Rattle.wasm_validator_sections.specs.WasmValidatorCore.declared.error.Error.
 use Rattle.wasm_validator_sections.specs.WasmValidatorCore.declared.error.Error.TheVariants.{Refused, DuplicateExport, InFunction, OutOfMemory}
 use Rattle.wasm_validator_modules.specs.Shows.{ShowModule}
 use Rattle.wasm_validator_sections.specs.WasmValidatorCore.Answers.{TypesSoFar}
-use Rattle.wasm_validator_modules.specs.Standing.{Standing, unparsed, ended, fresh, HoldsAt}
+use Rattle.wasm_validator_modules.specs.Standing.{Standing, unparsed, ended, fresh, HoldsAt, HasNotEnded}
 use Rattle.wasm_validator_modules.specs.Payloads.{IsLeft, IsOutOfMemory, RefusesBody}
 
 -- the types that a validator holds are told apart, as its features ask
@@ -48,20 +48,20 @@ RefusesModule bytes old =
     (before : TypesSoFar) → old.stage ≡ unparsed before
     → (m : IsValidModule (features_of old.features) bytes) → length before + length m.well_formed.types.types ≤ MAX_IDS → ⊥
 
--- what the answer on whole bytes says: of acceptance with no premise, of a refusal unless memory was refused; and of which function the body is
--- that was refused
-abbrev pub DecidesModule : {A : Type 0} → Result (shown.Types A) (Error A) → List ℕ → Standing → Standing → Type 0
-DecidesModule (results.Ok t) bytes old new = AcceptsModule bytes old new t
-DecidesModule (results.Err (Refused r)) bytes old new = RefusesModule bytes old × IsLeft (Some r) bytes old new
-DecidesModule (results.Err (DuplicateExport name offset)) bytes old new = RefusesModule bytes old × IsLeft None bytes old new
-DecidesModule (results.Err (InFunction index r)) bytes old new = RefusesModule bytes old × (IsLeft (Some r) bytes old new × RefusesBody index bytes old)
-DecidesModule (results.Err OutOfMemory) bytes old new = IsOutOfMemory bytes old new
-
 -- The same of a module up to its bodies.
 abbrev pub RefusesUpToBodies : List ℕ → Standing → Type 0
 RefusesUpToBodies bytes old =
     (before : TypesSoFar) → old.stage ≡ unparsed before
     → (m : IsValidUpToBodies (features_of old.features) bytes) → length before + length m.well_formed.types.types ≤ MAX_IDS → ⊥
+
+-- What the answer on whole bytes says: of acceptance with no premise, of a refusal unless memory was refused. One that names no function refuses
+-- the module up to its bodies, and one that does says of which function the first body is that isn't valid.
+abbrev pub DecidesModule : {A : Type 0} → Result (shown.Types A) (Error A) → List ℕ → Standing → Standing → Type 0
+DecidesModule (results.Ok t) bytes old new = AcceptsModule bytes old new t
+DecidesModule (results.Err (Refused r)) bytes old new = RefusesUpToBodies bytes old × IsLeft (Some r) bytes old new
+DecidesModule (results.Err (DuplicateExport name offset)) bytes old new = RefusesUpToBodies bytes old × IsLeft None bytes old new
+DecidesModule (results.Err (InFunction index r)) bytes old new = RefusesModule bytes old × (IsLeft (Some r) bytes old new × RefusesBody index bytes old)
+DecidesModule (results.Err OutOfMemory) bytes old new = IsOutOfMemory bytes old new
 
 -- All payloads were accepted: the bytes are a valid module up to its bodies, and the validator stands at its end, with no more types
 -- than the module's behind those that it had.
@@ -73,13 +73,14 @@ pub record EndsModule (bytes : List ℕ) (old new : Standing) : Type 0 where
   pub at_most : length more ≤ length module_valid.well_formed.types.types
   pub after : new ≡ record old { stage = ended (before ++ more) }
 
--- A payload, or what follows some, was refused: the bytes are no valid module up to its bodies, unless memory was refused.
-abbrev pub StopsModule : {A : Type 0} → Result (shown.Types A) (Error A) → List ℕ → Standing → Type 0
-StopsModule (results.Ok t) bytes old = ⊥
-StopsModule (results.Err (Refused r)) bytes old = RefusesUpToBodies bytes old
-StopsModule (results.Err (DuplicateExport name offset)) bytes old = RefusesUpToBodies bytes old
-StopsModule (results.Err (InFunction index r)) bytes old = ⊥
-StopsModule (results.Err OutOfMemory) bytes old = ⊤
+-- A payload, or what follows some, was refused, or memory for them was: the validator isn't at the module's end. Where memory wasn't refused the
+-- bytes are no valid module up to its bodies.
+abbrev pub StopsModule : {A : Type 0} → Result (shown.Types A) (Error A) → List ℕ → Standing → Standing → Type 0
+StopsModule (results.Ok t) bytes old new = ⊥
+StopsModule (results.Err (Refused r)) bytes old new = RefusesUpToBodies bytes old × HasNotEnded old new
+StopsModule (results.Err (DuplicateExport name offset)) bytes old new = RefusesUpToBodies bytes old × HasNotEnded old new
+StopsModule (results.Err (InFunction index r)) bytes old new = ⊥
+StopsModule (results.Err OutOfMemory) bytes old new = HasNotEnded old new
 
 -- the bytes are a valid module
 abbrev pub AreModule : WasmFeatures → List ℕ → Type 0
@@ -89,10 +90,14 @@ AreModule features bytes = IsValidModule (features_of features) bytes
 abbrev pub AreNoModule : WasmFeatures → List ℕ → Type 0
 AreNoModule features bytes = AreModule features bytes → ⊥
 
+-- nor up to their bodies
+abbrev pub AreNoneUpToBodies : WasmFeatures → List ℕ → Type 0
+AreNoneUpToBodies features bytes = IsValidUpToBodies (features_of features) bytes → ⊥
+
 -- The same of a validator that is made for these bytes: no module has as many types as its list may hold.
 abbrev pub DecidesAlone : {A : Type 0} → Result (shown.Types A) (Error A) → List ℕ → ℕ → WasmFeatures → Type 0
 DecidesAlone (results.Ok t) bytes id features = (new : Standing) × AcceptsModule bytes (fresh id features) new t
-DecidesAlone (results.Err (Refused r)) bytes id features = AreNoModule features bytes × ((new : Standing) × IsLeft (Some r) bytes (fresh id features) new)
-DecidesAlone (results.Err (DuplicateExport name offset)) bytes id features = AreNoModule features bytes × ((new : Standing) × IsLeft None bytes (fresh id features) new)
+DecidesAlone (results.Err (Refused r)) bytes id features = AreNoneUpToBodies features bytes × ((new : Standing) × IsLeft (Some r) bytes (fresh id features) new)
+DecidesAlone (results.Err (DuplicateExport name offset)) bytes id features = AreNoneUpToBodies features bytes × ((new : Standing) × IsLeft None bytes (fresh id features) new)
 DecidesAlone (results.Err (InFunction index r)) bytes id features = AreNoModule features bytes × ((new : Standing) × (IsLeft (Some r) bytes (fresh id features) new × RefusesBody index bytes (fresh id features)))
 DecidesAlone (results.Err OutOfMemory) bytes id features = ⊤

@@ -42,9 +42,9 @@ pub fn state_table()
     ensures refused { RefusedByTable }
 {}
 
-/// Who gives payloads and validates the bodies that they hand out decides the same: where each
-/// payload is accepted up to the end, and each body is valid, the bytes are a valid module, and a
-/// valid module's payloads and bodies are accepted (Core Specification 3.0, Validation, Modules).
+/// The same verdict comes of payloads that are handed in one by one: if each is accepted up to the
+/// end, and each body that they hand out is valid, the bytes are a valid module, and those of a
+/// valid module are accepted (Core Specification 3.0, Validation, Modules).
 pub fn payloads_decide()
     ensures { PayloadsDecide }
 {}
@@ -52,7 +52,7 @@ pub fn payloads_decide()
 /// Where equal types are one, two types of any modules that one validator has accepted, one after
 /// another with `reset` between two of them, have the same id exactly where they are equal: the
 /// same place of equal recursive types (Core Specification 3.0, Validation, Types, Recursive
-/// Types). Others may stand between them that were refused so that the validator could be reset.
+/// Types). Between them modules may have been refused, as long as `reset` was allowed after each.
 pub fn one_id_for_one_type<A>()
     ensures { OneIdForOneType A }
 {}
@@ -62,18 +62,18 @@ pub fn own_id_for_each_type<A>()
     ensures { OwnIdForEachType A }
 {}
 
-/// A module that is refused so that the validator may be reset leaves a list that begins with the
-/// types before it: so the modules of `one_id_for_one_type` may be any that `validate_all` was
-/// handed, as long as `reset` is allowed.
+/// A module that is refused, after which `reset` is allowed, leaves a list that begins with the
+/// types before it: so the modules of `one_id_for_one_type` may be any that were given to `validate_all`,
+/// as long as `reset` was allowed after each.
 pub fn refused_modules_keep_types()
     ensures { RefusedKeepTypes }
 {}
 
-/// Behind any lists that a module has so far a section is accepted exactly where its bytes are
-/// items that keep their rules on these lists and the limit, and then the list has these items
-/// behind (Core Specification 3.0, Validation, Modules). Of types each recursion group is valid on
-/// the types before it; of exports each names something that is there, no name comes twice, and the
-/// effective size stays below its limit. Constant expressions see the module as far as it is read.
+/// Whatever lists a module has so far, a section is accepted exactly where its bytes are items that
+/// keep their rules on these lists and the limit, and then they are appended to the list (Core
+/// Specification 3.0, Validation, Modules). Each recursion group is valid after the types before
+/// it; each export names something that there is, no name comes twice, and the effective size stays
+/// below its limit. Constant expressions see the module as far as it has been read.
 pub fn sections_add_their_items()
     ensures types { TypesAdd }
     ensures imports { ImportsAdd }

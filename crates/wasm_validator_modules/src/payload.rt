@@ -5,11 +5,12 @@ ghost use Rattle.wasm_parser.specs.Machine.{next_of};
 ghost use Rattle.wasm_parser.specs.Places.{starts_at, ends_at, input_end, refused_with, ReadsInput};
 ghost use Rattle.wasm_parser.specs.Seen.{seen, state, body_reader};
 ghost use Rattle.wasm_validator_sections.specs.SectionsTold.{StandsBetween};
+ghost use Rattle.wasm_validator_sections.specs.WasmValidatorCore.Errors.{IsContent};
 ghost use Rattle.wasm_validator_types.specs.Shown.{shown_of, HoldsIds};
 ghost use Rattle.wasm_validator_modules.specs.Standing.{Leaves};
 ghost use Rattle.wasm_validator_sections.specs.WasmValidatorFunc.Functions.{Decides, StandsInOrFirst};
-ghost use Rattle.wasm_validator_modules.specs.States.{after_piece, handed, left_by, IsSection};
-ghost use Rattle.wasm_validator_modules.specs.Payloads.{ShowsModule, HoldsIdsAtEnd, HoldsTypes, IsFunction, IsKept, IsGivenIn, kept_behind, latest_of, bodies_given, bodies_seen, pending_seen, EndsBy, EachEndsBy, AllEndBy, GivenEndBy, IsBodyOfIts, DecidesBodies, TellsFormat, Validates};
+ghost use Rattle.wasm_validator_modules.specs.States.{after_piece, handed, left_by, takes_memory, IsSection};
+ghost use Rattle.wasm_validator_modules.specs.Payloads.{ShowsModule, HoldsIdsAtEnd, HoldsTypes, IsFunction, KeepsBodies, IsKept, IsGivenIn, kept_behind, latest_of, bodies_given, bodies_seen, pending_seen, EndsBy, EachEndsBy, AllEndBy, GivenEndBy, IsBodyOfIts, DecidesBodies, TellsFormat, Validates};
 ghost use Rattle.wasm_validator_modules.specs.Verdict.{DecidesModule, DecidesAlone, EndsModule, StopsModule};
 
 use crate::validator::Validator;
@@ -66,6 +67,8 @@ impl<A: Allocator + Copy> Validator<A> {
             ≡ bodies_given v) }
         ensures within { IfOk result (GivenEndBy (ends_at payload.now)) }
         ensures held { IfOk result HoldsIdsAtEnd }
+        ensures memory { takes_memory self.old.features (seen payload.now) ≡ false
+            → IfErr result IsContent }
         ensures place { starts_at payload.now ≤ ends_at payload.now
             → IfErr result (StandsBetween (starts_at payload.now) (ends_at payload.now)) }
     {
@@ -90,6 +93,8 @@ impl<A: Allocator + Copy> Validator<A> {
         requires { IsSection (seen payload.now) }
         ensures moves { Leaves result (after_piece self.old (seen payload.now))
             (left_by self.old (seen payload.now)) self.old self.new }
+        ensures memory { takes_memory self.old.features (seen payload.now) ≡ false
+            → IfErr result IsContent }
         ensures place { starts_at payload.now ≤ ends_at payload.now
             → IfErr result (StandsBetween (starts_at payload.now) (ends_at payload.now)) }
     {
@@ -130,7 +135,7 @@ impl<A: Allocator + Copy> Validator<A> {
     /// Checks the module that these bytes are, and gives its types, which show its index spaces. It
     /// is accepted exactly where it is valid (Core Specification 3.0, Validation, Modules), as far
     /// as the list of types has room for its own. Where the validator is neither fresh nor reset the
-    /// header is refused. What it shows names ids of its list only.
+    /// header is refused. The types that it gives name only ids of their list.
     ///
     /// # Errors
     ///
@@ -191,7 +196,7 @@ pub fn answer_all<A: Allocator + Copy>(validator: &mut Validator<A>, bytes: &[u8
     ensures decided { DecidesModule result.answer bytes.now validator.old validator.new }
     ensures ended { result.has_ended ≡ true → EndsModule bytes.now validator.old validator.new }
     ensures stopped { result.has_ended ≡ false
-        → StopsModule result.answer bytes.now validator.old }
+        → StopsModule result.answer bytes.now validator.old validator.new }
     ensures place { IfErr result.answer (StandsBetween 0 (length bytes.now)) }
     ensures held { IfOk result.answer (λ t. HoldsIds (shown_of t)) }
 {
@@ -269,7 +274,7 @@ impl<'a, A: Allocator + Copy> Gathered<'a, A> {
         }
     }
 
-    /// Keeps what a payload gave. Where a code section starts, room is made for all its bodies at
+    /// Keeps what a payload gave. Where a code section starts, memory is taken for all its bodies at
     /// once: the parser has found as many functions.
     fn take(
         &mut self,
@@ -285,11 +290,10 @@ impl<'a, A: Allocator + Copy> Gathered<'a, A> {
             ≡ kept_behind self.old.bodies.resources valid.entry) }
         ensures within { (end : ℕ) → AllEndBy end self.old.bodies → GivenEndBy end valid.entry
             → OnOk result (AllEndBy end self.new.bodies) }
-        ensures memory { OnErr result (IsFunction valid.entry) }
+        ensures memory { OnErr result (KeepsBodies (seen payload.entry) valid.entry) }
     {
-        if let Some(count) = body_count(payload) {
-            // Where it is refused, each body takes its own.
-            let _made = self.bodies.pending.reserve_exact(count as usize);
+        if let Payload::CodeSectionStart { count, .. } = payload {
+            self.bodies.pending.reserve_exact(count as usize)?;
         }
         self.keep(valid)
     }
@@ -323,14 +327,6 @@ impl<'a, A: Allocator + Copy> Gathered<'a, A> {
                 Ok(())
             }
         }
-    }
-}
-
-/// How many bodies are to come, where the code section starts.
-fn body_count<'a, A: Allocator>(payload: Payload<'a, A>) -> Option<u32> {
-    match payload {
-        Payload::CodeSectionStart { count, .. } => Some(count),
-        _ => None,
     }
 }
 
@@ -420,7 +416,7 @@ fn next_of_input<'a, A: Allocator + Copy>(
 
 /// Checks with the default features the module that these bytes are, and gives its types, which
 /// show its index spaces. It is accepted exactly where it is valid (Core Specification 3.0,
-/// Validation, Modules). The id is that of the validator that does it.
+/// Validation, Modules). `id` is that of the validator that is made for it.
 ///
 /// # Errors
 ///

@@ -1,5 +1,5 @@
 ghost use Rattle.wasm_readers_errors.specs.WasmReadersFeatures.declared.features.TheConstants.WasmFeatures.{STANDARD};
-ghost use Rattle.std.specs.Prelude.{◌≡◌, List, ◌∷◌, ◌-◌, not, [], IfOk, IfErr, IfSome, IfNone, IsSome, IsErr, OnOk, OnErr, Some, None, true, is_ok, ◌↔◌, ◌+◌};
+ghost use Rattle.std.specs.Prelude.{◌≡◌, List, ◌∷◌, ◌-◌, not, [], IfOk, IfErr, IfSome, IfNone, IsSome, IsErr, OnOk, OnErr, Some, None, true, false, is_ok, ◌↔◌, ◌+◌};
 ghost use Rattle.wasm_validator_sections.specs.WasmValidatorCore.Errors.{IsContent, offset_of};
 ghost use Rattle.wasm_readers.specs.WasmReadersBytes.Reader.{original, position_in};
 ghost use Rattle.wasm_readers_errors.specs.Refusals.{plain};
@@ -337,8 +337,9 @@ impl<A: Allocator + Copy> Validator<A> {
         self.id
     }
 
-    /// Whether a section was refused while a module was being read: then every further section and
-    /// `end` are refused. Elsewhere each type that the validator holds is valid.
+    /// Whether a section or a body that was handed in was refused while a module was being read, or
+    /// memory was: then every further section but custom ones, and `end`, are refused. Elsewhere
+    /// each type that the validator holds is valid.
     pub fn has_failed(&self) -> bool
         ensures failed { result ≡ is_failed self.now }
         ensures valid { HoldsValid self.now }
@@ -346,7 +347,7 @@ impl<A: Allocator + Copy> Validator<A> {
         matches!(self.state, State::Failed)
     }
 
-    /// The types that the validator holds are told apart.
+    /// The types that the validator holds are all different.
     pub(crate) fn types_stand_apart(&self)
         ensures { StandsApart self.now }
     {
@@ -659,6 +660,8 @@ impl<A: Allocator + Copy> Validator<A> {
             (section_end section.now)) }
         ensures told { IfErr result (OfContent (TellsTagSection self.old.features
             section.now self.old.stage)) }
+        ensures content { (features_of self.old.features).exceptions ≡ false
+            → IfErr result IsContent }
     {
         let offset = section.range().start;
         if !self.features.contains(WasmFeatures::EXCEPTIONS) {
@@ -680,8 +683,8 @@ impl<A: Allocator + Copy> Validator<A> {
         }
     }
 
-    /// The globals of a module, with their initializers, which may read the imported globals (Core
-    /// Specification 3.0, Validation, Modules, Globals).
+    /// The globals of a module, with their initializers, which may read the immutable globals before
+    /// them, without `GC` only imported ones (Core Specification 3.0, Validation, Modules, Globals).
     ///
     /// # Errors
     ///
@@ -903,6 +906,7 @@ impl<A: Allocator + Copy> Validator<A> {
     /// Refused always, at its start, which changes nothing.
     pub fn unknown_section(&mut self, id: u8, range: &Range<u64>) -> Result<(), Error<A>>
         ensures moves { Leaves result None self.old.stage self.old self.new }
+        ensures content { IfErr result IsContent }
         ensures refusal { IfErr result (λ e. e ≡ Error.Refused
             (record {
               fault = Fault.UnknownSection id;

@@ -22,7 +22,7 @@ bodies-preserved g c =
 pub returns-in-Err-clause-decided : goal.returns-in-Err-clause-decided
 returns-in-Err-clause-decided g c =
     refused_one c.args.features c.args.resources.now c.args.pending.items c.bodies.yielded c.next.new.self.rest.items c.in-Some.waiting c.in-Err.error c.in_function.result c.in_function.ensures
-    (c.bodies.invariant.0 ∙ ap (λ xs. c.bodies.yielded ++ xs) c.in-Some.ensures.steps.0) c.in-Err.ensures.decides
+    (c.bodies.invariant.0 ∙ ap (λ xs. c.bodies.yielded ++ xs) c.in-Some.ensures.steps.0) c.bodies.invariant.1 c.in-Err.ensures.decides
 
 pub returns-in-Err-clause-place : goal.returns-in-Err-clause-place
 returns-in-Err-clause-place g c = λ end all.

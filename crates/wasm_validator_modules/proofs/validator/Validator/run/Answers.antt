@@ -1,4 +1,4 @@
-use Rattle.std.proofs.Common.{◌≡◌, sym, subst, ◌∙◌, ◌≤◌, arith, Option, None, List, [], ◌++◌, length}
+use Rattle.std.proofs.Common.{◌≡◌, refl, sym, subst, ◌∙◌, ◌≤◌, arith, Option, None, List, [], ◌++◌, length}
 use Rattle.wasm_parser.specs.Places.{starts_at, ends_at, input_end}
 use Rattle.wasm_parser.specs.Seen.{seen, state}
 use Rattle.wasm_parser.proofs.Falls.{falls}
@@ -8,7 +8,8 @@ use Rattle.wasm_validator_modules.specs.declared.payload.Bodies.{Bodies}
 use Rattle.wasm_validator_modules.specs.States.{BodyToValidate}
 use Rattle.wasm_validator_modules.specs.Payloads.{bodies_seen, bodies_given, latest_of, IsGivenIn}
 use Rattle.wasm_parser.specs.Machine.{State}
-use Rattle.wasm_validator_modules.proofs.GoingOn.{IsOn, goes_on, refused_nothing}
+use Rattle.wasm_validator_modules.proofs.GoingOn.{refused_nothing}
+use Rattle.wasm_validator_modules.proofs.Together.{Together, is_on, together_step, refused_together, stuck_together}
 use Rattle.wasm_validator_modules.proofs.Bodies.{none_ends_by, given_wider, nothing_seen}
 use Rattle.wasm_validator_modules.proofs.KeptContext.{IsInKept, given_in, kept_in}
 use Rattle.wasm_validator_modules.proofs.Growing.{same_features}
@@ -24,7 +25,7 @@ payloads-init g c =
           (subst (λ o. P o []) ended (begun c.args.bytes.now (state c.parse_all-payloads.result) c.args.self.now c.parse_all-payloads.ensures.begun)),
       c.parse_all-payloads.ensures.reads,
       omega (arith, c.parse_all-payloads.ensures.whole, c.new.ensures),
-      subst (λ (s : State). IsOn s.stage) (sym c.parse_all-payloads.ensures.begun) tt,
+      subst (λ (s : State). Together s.stage c.args.self.now c.args.self.now) (sym c.parse_all-payloads.ensures.begun) refl,
       none_ends_by (length c.args.bytes.now) c.new-gathered.result.bodies c.new-gathered.ensures.bodies,
       sym (c.new-gathered.ensures.features ∙ c.features.ensures),
       subst (λ kept. IsInKept kept c.args.self.now.stage) (sym c.new-gathered.ensures.resources) tt,
@@ -49,7 +50,7 @@ payloads-preserved g c =
           (subst (λ o. P o (before ++ bodies_given c.in-Ok.valid)) (sym c.in_ok-take-in-Ok.ensures.ended) went),
       c.next_of_input.ensures.reads c.payloads.invariant.1,
       c.next_of_input.ensures.whole ∙ c.payloads.invariant.2,
-      goes_on (state c.payloads.payloads) (seen c.in-Ok-Some.payload) (state c.next_of_input.new.payloads) given,
+      together_step (state c.payloads.payloads) (state c.next_of_input.new.payloads) (seen c.in-Ok-Some.payload) c.args.self.now c.payloads.self c.payload.new.self given c.in-Ok.ensures.moves c.payloads.invariant.3,
       c.in_ok-take-in-Ok.ensures.within (length c.args.bytes.now) c.payloads.invariant.4 (given_wider (ends_at c.in-Ok-Some.payload) (length c.args.bytes.now) c.in-Ok.valid last c.in-Ok.ensures.within),
       same_features c.payloads.self c.payload.new.self (seen c.in-Ok-Some.payload) c.in-Ok.ensures.moves ∙ c.payloads.invariant.5 ∙ sym c.in_ok-take-in-Ok.ensures.features,
       subst (λ kept. IsInKept kept c.payload.new.self.stage) (sym c.in_ok-take-in-Ok.ensures.resources)
@@ -86,14 +87,16 @@ returns-in-Err-payload-clause-validates g c =
     let before = bodies_seen c.payloads.gathered.bodies in
     let gives : Bodies g.row.A.Denot → List BodyToValidate = λ b. bodies_seen b in
     refused_whole (ValidPayload g.row.A.Denot) gives c.args.bytes.now c.args.self.now c.payloads.self c.payload.new.self (state c.payloads.payloads) (state c.next_of_input.new.payloads) c.payloads.gathered.ended before (seen c.in-Ok-Some.payload) c.in-Err-payload.error
-    c.payloads.invariant.0 given c.in-Err-payload.ensures.moves
+    c.payloads.invariant.0 given c.in-Err-payload.ensures.moves c.in-Err-payload.ensures.memory
+    (refused_together (state c.payloads.payloads) (state c.next_of_input.new.payloads) (seen c.in-Ok-Some.payload) c.args.self.now c.payloads.self c.payload.new.self given c.payloads.invariant.3)
     (rejected_payload c.args.bytes.now c.args.self.now c.payloads.self (state c.payloads.payloads) (state c.next_of_input.new.payloads) (seen c.in-Ok-Some.payload) c.payloads.gathered.ended before c.payloads.invariant.0 given)
 
 pub returns-in-Err-clause-validates : goal.returns-in-Err-clause-validates
 returns-in-Err-clause-validates g c =
     let gives : Bodies g.row.A.Denot → List BodyToValidate = λ b. bodies_seen b in
     refused_format gives c.args.bytes.now c.args.self.now c.payloads.self (state c.payloads.payloads) c.payloads.gathered.ended (bodies_seen c.payloads.gathered.bodies) c.in-Err.refused
-    (c.in-Err.ensures.format (refused_nothing c.payloads.payloads c.payloads.invariant.3)) c.payloads.invariant.0 c.in-Err.ensures.err
+    (c.in-Err.ensures.format (refused_nothing c.payloads.payloads (is_on (state c.payloads.payloads).stage c.args.self.now c.payloads.self c.payloads.invariant.3))) c.payloads.invariant.0 c.in-Err.ensures.err
+    (stuck_together (state c.payloads.payloads) c.args.self.now c.payloads.self c.in-Err.ensures.err c.payloads.invariant.3)
 
 pub unreachable-requires : goal.unreachable-requires
 unreachable-requires g c =

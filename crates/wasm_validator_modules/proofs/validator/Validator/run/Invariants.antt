@@ -3,7 +3,7 @@ use Rattle.wasm_parser.specs.Places.{ReadsInput, input_end}
 use Rattle.wasm_parser.specs.Seen.{state}
 use Rattle.wasm_parser.specs.Machine.{most_left}
 use Rattle.wasm_validator_modules.specs.Payloads.{bodies_seen, AllEndBy}
-use Rattle.wasm_validator_modules.proofs.GoingOn.{IsOn}
+use Rattle.wasm_validator_modules.proofs.Together.{Together}
 use Rattle.wasm_validator_modules.proofs.KeptContext.{IsInKept}
 use Rattle.wasm_validator_modules.proofs.Runs.{Progress}
 use Rattle.wasm_validator_modules.proofs.validator.Validator.run.Given as goal
@@ -11,7 +11,7 @@ use Rattle.wasm_validator_modules.proofs.validator.Validator.run.Given as goal
 abbrev pub invariant-payloads : goal.invariant-payloads
 invariant-payloads g l =
     Progress l.bytes l.fn.self l.self (state l.payloads) l.gathered.ended (bodies_seen l.gathered.bodies)
-    × ReadsInput l.payloads × (input_end l.payloads ≡ length l.bytes) × IsOn (state l.payloads).stage × AllEndBy (length l.bytes) l.gathered.bodies × (l.self.features ≡ l.gathered.bodies.features) × IsInKept l.gathered.bodies.resources l.self.stage
+    × ReadsInput l.payloads × (input_end l.payloads ≡ length l.bytes) × Together (state l.payloads).stage l.fn.self l.self × AllEndBy (length l.bytes) l.gathered.bodies × (l.self.features ≡ l.gathered.bodies.features) × IsInKept l.gathered.bodies.resources l.self.stage
 
 abbrev pub decreases-payloads : goal.decreases-payloads
 decreases-payloads g l = most_left (state l.payloads)

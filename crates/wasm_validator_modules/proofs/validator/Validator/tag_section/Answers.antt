@@ -1,4 +1,4 @@
-use Rattle.std.proofs.Common.{refl, ◌≡◌, ap, sym, subst, ◌∙◌, Bool, true}
+use Rattle.std.proofs.Common.{refl, ◌≡◌, ap, sym, subst, ◌∙◌, Bool, true, true≢false}
 use Rattle.std.specs.Prelude.{IfErr}
 use Rattle.wasm_readers.specs.SectionsSeen.{section_start, count_of, bytes_of}
 use Rattle.wasm_readers_errors.specs.Refusals.{plain, lacking}
@@ -62,6 +62,11 @@ returns-in-Ok-clause-moves g c =
     (section_moves id features types c.in-Ok.state (naming (section_names 13 count bytes)) (λ g. section_items g 13 count bytes) c.self.inside.state added.result types (record c.in-Ok.state { «module» = added.new.opened }) c.args.self.now new
     c.in-Ok.ensures.was c.self.view_is (λ i. record { id = id; features = features; stage = stage_of types (sym c.kept.ensures.kept i) })
     (adds_beside (HasValidTypes features) types added.result (other_items (features_of features) types 13 count bytes before) added.new.opened added.ensures.added) (nothing_more added.result (record c.in-Ok.state { «module» = added.new.opened }) c.in-Ok.state refl)))
+
+pub returns-in-Ok-clause-content : goal.returns-in-Ok-clause-content
+returns-in-Ok-clause-content g c =
+    let on : (features_of c.args.self.now.features).exceptions ≡ true = ap (λ (s : Standing). (features_of s.features).exceptions) (sym c.self.view_is) ∙ (sym (c.contains.ensures tt) ∙ c.if-not-contains.false) in
+    λ off. absurd (true≢false (sym on ∙ off))
 
 pub returns-in-Ok-clause-told : goal.returns-in-Ok-clause-told
 returns-in-Ok-clause-told g c =
