@@ -44,8 +44,8 @@ module _ {A : Type 0} (modules : List (Bor (List ℕ))) where
       may = ap may_reset e.after;
     }
 
-    pub stop : StopsModule r bytes start → DecidesEach (answers ++ r ∷ []) (lent modules) old left
-    stop e = s.goes (r ∷ []) left (subst (λ (xs : List (Bor (List ℕ))). DecidesEach (r ∷ []) (lent xs) now left) (sym here) (left, decided, inr (subst (λ (s : Standing). StopsModule r (get_or modules i other).now s) ready (subst (λ (b : List ℕ). StopsModule r b start) is e), refl, refl)))
+    pub stop : StopsModule r bytes start left → DecidesEach (answers ++ r ∷ []) (lent modules) old left
+    stop e = s.goes (r ∷ []) left (subst (λ (xs : List (Bor (List ℕ))). DecidesEach (r ∷ []) (lent xs) now left) (sym here) (left, decided, inr (subst (λ (s : Standing). StopsModule r (get_or modules i other).now s left) ready (subst (λ (b : List ℕ). StopsModule r b start left) is e), refl, refl)))
 
   pub finish : (i : ℕ) (answers : List (Result (shown.Types A) (Error A))) (old now : Standing) → SoFar i answers old now → length modules ≤ i → DecidesEach answers (lent modules) old now
   finish i answers old now s l =

@@ -1,21 +1,23 @@
 -- What the answers on a list of modules say of all of them.
-use Rattle.std.proofs.Common.{◌≡◌, refl, sym, ap, subst, ◌∙◌, ◌⊎◌, inl, inr, ◌↔◌, ℕ, zero, suc, ◌+◌, ◌<◌, ◌≤◌, true, false, List, [], ◌∷◌, ◌++◌, length, slice_get, Some, append-nil, arith, length-append}
-use Rattle.std.specs.List.{AllZip, Contains}
+use Rattle.std.proofs.Common.{◌≡◌, refl, sym, ap, subst, ◌∙◌, ◌⊎◌, inl, inr, ◌↔◌, ℕ, zero, suc, ◌+◌, ◌<◌, ◌≤◌, Bool, true, false, List, [], ◌∷◌, ◌++◌, length, slice_get, Some, None, append-nil, arith, length-append}
+use Rattle.std.specs.Option.{option_and_then}
+use Rattle.std.specs.List.{All, AllZip, Contains}
 use Rattle.std.specs.declared.result.Result.{Result}
 use Rattle.std.specs.declared.result.Result.TheVariants.{Ok, Err}
 use Rattle.std.proofs.lemmas.Bool.{cases_order}
 use Rattle.std.proofs.lemmas.Option.{same_Some, none-some, slice_get_within, get_or_from_slice_get}
-use Rattle.wasm_spec.specs.Syntax.{Sub}
+use Rattle.wasm_spec.specs.Syntax.{Val, map_val, Sub}
+use Rattle.wasm_spec.specs.References.{refs_val}
 use Rattle.wasm_spec.specs.Features.{Features, canonical}
 use Rattle.wasm_spec.specs.Trees.{DefType, declared}
+use Rattle.wasm_spec.specs.GroupRules.{IsValidType}
 use Rattle.wasm_spec.specs.TypeLaws.{HasNoRepetition}
-use Rattle.wasm_spec.specs.Declared.{IsAncestor}
-use Rattle.wasm_spec.specs.Matching.{MatchesSub}
+use Rattle.wasm_spec.specs.Declared.{supertype, IsAncestor}
+use Rattle.wasm_spec.specs.Matching.{MatchesVal, MatchesSub}
 use Rattle.wasm_spec.proofs.Matching.{accepted_types_match_ancestors}
 use Rattle.wasm_spec.proofs.Accepted.{valid_type_section_is_accepted}
-use Rattle.wasm_spec.proofs.Closing.{slice_get-append_left}
 use Rattle.wasm_spec_rules.specs.FeatureFlags.{features_of}
-use Rattle.wasm_validator_modules.specs.WasmSpecValidity.Modules.{IsValidUpToBodies, IsValidModule}
+use Rattle.wasm_validator_modules.specs.WasmSpecValidity.Modules.{IsValidUpToBodies, IsValidModule, up_to_bodies}
 use Rattle.wasm_readers_types.specs.WasmReadersValues.declared.indices.TheConstants.{MAX_IDS}
 use Rattle.wasm_readers_errors.specs.WasmReadersFeatures.declared.features.WasmFeatures.{WasmFeatures}
 use Rattle.wasm_validator_type_list.specs.WasmValidatorTypeGroups.Elements.{numbers_from}
@@ -27,6 +29,7 @@ use Rattle.wasm_validator_type_list.specs.Declares.{declares}
 use Rattle.wasm_validator_type_list.specs.DefTypes.{types_of_list}
 use Rattle.wasm_validator_type_list.specs.Laws.{type_of_id}
 use Rattle.wasm_validator_type_list.proofs.Order.{ids_are_ordered_as_types}
+use Rattle.wasm_validator_type_list.proofs.Joined.{types_declare_what_ids_declare}
 use Rattle.wasm_validator_types.specs.Shown.{shown_of}
 use Rattle.wasm_validator_types.specs.declared.shown.Types as shown
 use Rattle.wasm_validator_modules.specs.WasmValidatorCore.declared.error.Error.{Error}
@@ -35,8 +38,9 @@ use Rattle.wasm_validator_modules.specs.WasmValidatorCore.Answers.{TypesSoFar}
 use Rattle.wasm_validator_modules.specs.Standing.{Stage, unparsed, in_module, in_code, ended, failed, Standing, may_reset, after_reset}
 use Rattle.wasm_validator_modules.specs.Verdict.{RefusesModule, RefusesUpToBodies, StopsModule}
 use Rattle.wasm_validator.specs.Lists.{DecidesEach}
-use Rattle.wasm_validator.specs.Headline.{types_held, Begins, NoneLacksMemory, IsAnswered, IsShown, IsTypeOf, BeginsWith, Headline}
+use Rattle.wasm_validator.specs.Headline.{types_held, Begins, TypeWithId, its_id, its_type, AreUnderOneId, IsAnswered, IsShown, IsTypeOf, IsIn, Headline}
 use Rattle.wasm_validator.proofs.Lists.{begins_all, Room, Placed, Stood, stood, later, few_answers, first_answer}
+use Rattle.wasm_validator.proofs.Ordered.{types_once, all_at, AreAlike, alike, valid_alone, AreJoined, joined_apart, joined_as_one, vals}
 
 -- elements at one place of two lists
 zipped : {X Y : Type 0} (P : X → Y → Type 0) (xs : List X) (ys : List Y) → AllZip P xs ys → (k : ℕ) (x : X) (y : Y) → slice_get xs k ≡ Some x → slice_get ys k ≡ Some y → P x y
@@ -101,18 +105,18 @@ module _ {A : Type 0} (answers : List (Result (shown.Types A) (Error A))) (modul
   fits_whole : (bytes : List ℕ) (held : TypesSoFar) → Room old.features bytes held → (m : IsValidModule F bytes) → length held + length m.well_formed.types.types ≤ MAX_IDS
   fits_whole bytes held r m = let written = r.writes m.well_formed in let fits = r.fits in omega (arith, written, fits)
 
-  refused_case : (e : Error A) (k : ℕ) (bytes : List ℕ) → NoneLacksMemory F modules answers → Answered k bytes (Err e) → (s : Stood old.features modules answers T k bytes (Err e)) → Room old.features bytes s.placed.held → IsValidModule F bytes → ⊥
-  refused_case (Refused r) k bytes none a s room m = let p = s.placed in refuses_in old.features bytes p.old p.held p.same p.decided.0 p.began m (fits_whole bytes p.held room m)
-  refused_case (DuplicateExport name offset) k bytes none a s room m = let p = s.placed in refuses_in old.features bytes p.old p.held p.same p.decided.0 p.began m (fits_whole bytes p.held room m)
-  refused_case (InFunction index r) k bytes none a s room m = let p = s.placed in refuses_in old.features bytes p.old p.held p.same p.decided.0 p.began m (fits_whole bytes p.held room m)
-  refused_case OutOfMemory k bytes none a s room m = none k a.answered
+  refused_case : (e : Error A) (k : ℕ) (bytes : List ℕ) → (s : Stood old.features modules answers T k bytes (Err e)) → Room old.features bytes s.placed.held → IsValidModule F bytes → e ≡ OutOfMemory
+  refused_case (Refused r) k bytes s room m = let p = s.placed in absurd (refuses_up_in old.features bytes p.old p.held p.same p.decided.0 p.began (up_to_bodies m) (fits bytes p.held room (up_to_bodies m)))
+  refused_case (DuplicateExport name offset) k bytes s room m = let p = s.placed in absurd (refuses_up_in old.features bytes p.old p.held p.same p.decided.0 p.began (up_to_bodies m) (fits bytes p.held room (up_to_bodies m)))
+  refused_case (InFunction index r) k bytes s room m = let p = s.placed in absurd (refuses_in old.features bytes p.old p.held p.same p.decided.0 p.began m (fits_whole bytes p.held room m))
+  refused_case OutOfMemory k bytes s room m = refl
 
-  stops_case : (r : Result (shown.Types A) (Error A)) (k : ℕ) (bytes : List ℕ) → NoneLacksMemory F modules answers → Answered k bytes r → (s : Stood old.features modules answers T k bytes r) → Room old.features bytes s.placed.held → StopsModule r bytes s.placed.old → IsValidUpToBodies F bytes → ⊥
-  stops_case (Ok t) k bytes none a s room h m = absurd h
-  stops_case (Err (Refused r)) k bytes none a s room h m = let p = s.placed in refuses_up_in old.features bytes p.old p.held p.same h p.began m (fits bytes p.held room m)
-  stops_case (Err (DuplicateExport name offset)) k bytes none a s room h m = let p = s.placed in refuses_up_in old.features bytes p.old p.held p.same h p.began m (fits bytes p.held room m)
-  stops_case (Err (InFunction index r)) k bytes none a s room h m = absurd h
-  stops_case (Err OutOfMemory) k bytes none a s room h m = none k a.answered
+  stops_case : (r : Result (shown.Types A) (Error A)) (k : ℕ) (bytes : List ℕ) → (s : Stood old.features modules answers T k bytes r) → Room old.features bytes s.placed.held → StopsModule r bytes s.placed.old s.placed.new → IsValidUpToBodies F bytes → r ≡ Err OutOfMemory
+  stops_case (Ok t) k bytes s room h m = absurd h
+  stops_case (Err (Refused r)) k bytes s room h m = let p = s.placed in absurd (refuses_up_in old.features bytes p.old p.held p.same h.0 p.began m (fits bytes p.held room m))
+  stops_case (Err (DuplicateExport name offset)) k bytes s room h m = let p = s.placed in absurd (refuses_up_in old.features bytes p.old p.held p.same h.0 p.began m (fits bytes p.held room m))
+  stops_case (Err (InFunction index r)) k bytes s room h m = absurd h
+  stops_case (Err OutOfMemory) k bytes s room h m = refl
 
   goes_on : (k : ℕ) (bytes : List ℕ) (r : Result (shown.Types A) (Error A)) → Answered k bytes r → suc k < length answers → IsValidUpToBodies F bytes
   goes_on k bytes r a l =
@@ -193,22 +197,76 @@ module _ {A : Type 0} (answers : List (Result (shown.Types A) (Error A))) (modul
       let g = second.0 in
       (λ e. (same, omega (arith, e, f, g)), λ e. let hi = e.1 in omega (arith, hi, f, g))
 
-  -- the type that an id stands for in a list that begins with a module's
-  listed : (l : Listing A) (k : ℕ) (t : shown.Types A) (i x : ℕ) (e : DefType) → canonical F ≡ true → BeginsWith F modules answers l t → TypeOf k t i x e → slice_get (types_of_list l) x ≡ Some e
-  listed l k t i x e c front p =
-      let us = types_of_list (shown_of t).list in
-      let s = stands_as_one us x e c (stands k t i x e p) in
-      ap (λ (vs : TypesSoFar). slice_get vs x) front.is ∙ slice_get-append_left us front.more x (slice_get_within us x s.listed s.is_there) ∙ s.is_there ∙ ap Some (s.same refl)
+  abbrev In : Listing A → TypeWithId → Type 0
+  In l p = IsIn F modules answers l p
 
-  ordered : canonical F ≡ true → (l : Listing A) → AreListable l.groups → HasNoRepetition (types_of_list l) → (j k : ℕ) (t u : shown.Types A) (h i x y : ℕ) (a b : DefType) → BeginsWith F modules answers l t → BeginsWith F modules answers l u
-      → TypeOf j t h x a → TypeOf k u i y b → IsAncestor (declares l.groups) x y ↔ IsAncestor declared a b
-  ordered c l able once j k t u h i x y a b m n p q =
-      let ts = types_of_list l in
-      let here = listed l j t h x a c m p in
-      let there = listed l k u i y b c n q in
-      let law = ids_are_ordered_as_types l.is_canonical l.groups a able once x y (slice_get_within ts x a here) (slice_get_within ts y b there) in
-      subst (λ (z : DefType). IsAncestor (declares l.groups) x y ↔ IsAncestor declared a z) (get_or_from_slice_get ts y b a there)
-      (subst (λ (z : DefType). IsAncestor (declares l.groups) x y ↔ IsAncestor declared z (type_of_id ts a y)) (get_or_from_slice_get ts x a a here) law)
+  -- one id of one module's list is that of one type
+  same_type : (j k : ℕ) (t u : shown.Types A) (h i x y : ℕ) (a b : DefType) → TypeOf j t h x a → TypeOf k u i y b → j ≡ k → h ≡ i → a ≡ b
+  same_type j k t u h i x y a b p q same at =
+      let given : Some p.bytes ≡ Some q.bytes = sym p.accepted.given ∙ ap (slice_get modules) same ∙ q.accepted.given in
+      let types = types_once F p.bytes q.bytes (same_Some p.bytes q.bytes given) p.shown.module_valid.well_formed q.shown.module_valid.well_formed in
+      same_Some a b (sym p.its_type ∙ ap (slice_get p.shown.module_valid.well_formed.types.types) at ∙ ap (λ (ts : List DefType). slice_get ts i) types ∙ q.its_type)
+
+  module _ (l : Listing A) (able : AreListable l.groups) (once : HasNoRepetition (types_of_list l)) where
+    -- the id's type in the list has what the type of the module has
+    stands_in : (p : TypeWithId) → In l p → StandsFor (canonical F) (types_of_list l) p.id p.ty
+    stands_in p h =
+        let s = stands h.module_index h.types h.type_index p.id p.ty h.is_type in
+        record { listed = s.listed; is_there = h.kept ∙ s.is_there; same_position = s.same_position; same_members = s.same_members; same = s.same }
+
+    valid_in : (p : TypeWithId) → In l p → IsValidType F declared p.ty
+    valid_in p h =
+        let types = h.is_type.shown.module_valid.well_formed.types in
+        all_at (IsValidType F declared) types.types h.type_index p.ty types.valid h.is_type.its_type
+
+    alike_in : (p : TypeWithId) → In l p → AreAlike (declares l.groups) p.id p.ty
+    alike_in p h =
+        let s = stands_in p h in
+        let v = valid_in p h in
+        alike (declares l.groups) (type_of_id (types_of_list l) p.ty) p.id s.listed p.ty v.sub (types_declare_what_ids_declare l.is_canonical l.groups p.ty able p.id s.listed s.is_there) s.same_position s.same_members v.declares
+
+    -- where equal types aren't one
+    joined_in_apart : canonical F ≡ false → (p q : TypeWithId) → In l p → In l q → AreJoined F (declares l.groups) p q
+    joined_in_apart c p q h g =
+        let a = alike_in p h in
+        let v = valid_in p h in
+        let declared_same : v.sub ≡ a.there = same_Some v.sub a.there (sym v.declares ∙ a.type_declares) in
+        let none : supertype a.there ≡ None = ap (λ (s : Sub DefType). supertype s) (sym declared_same) ∙ valid_alone F p.ty c v in
+        joined_apart F (declares l.groups) p q c (ap (option_and_then supertype) a.id_declares ∙ a.no_supertype none)
+        (λ e.
+        let one = (own_id_case h.module_index g.module_index h.types g.types h.type_index g.type_index p.id q.id p.ty q.ty (cases_order h.module_index g.module_index) c h.is_type g.is_type).0 e in
+        same_type h.module_index g.module_index h.types g.types h.type_index g.type_index p.id q.id p.ty q.ty h.is_type g.is_type one.0 one.1)
+
+    -- where they are
+    there_as_one : canonical F ≡ true → (p : TypeWithId) → In l p → slice_get (types_of_list l) p.id ≡ Some p.ty
+    there_as_one c p h = let s = stands_as_one (types_of_list l) p.id p.ty c (stands_in p h) in s.is_there ∙ ap Some (s.same refl)
+
+    joined_in_as_one : canonical F ≡ true → (p q : TypeWithId) → In l p → In l q → AreJoined F (declares l.groups) p q
+    joined_in_as_one c p q h g =
+        let ts = types_of_list l in
+        let here = there_as_one c p h in
+        let there = there_as_one c q g in
+        let law = ids_are_ordered_as_types l.is_canonical l.groups p.ty able once p.id q.id (slice_get_within ts p.id p.ty here) (slice_get_within ts q.id q.ty there) in
+        joined_as_one F (declares l.groups) p q c
+        (subst (λ (z : DefType). IsAncestor (declares l.groups) p.id q.id ↔ IsAncestor declared p.ty z) (get_or_from_slice_get ts q.id q.ty p.ty there)
+        (subst (λ (z : DefType). IsAncestor (declares l.groups) p.id q.id ↔ IsAncestor declared z (type_of_id ts p.ty q.id)) (get_or_from_slice_get ts p.id p.ty p.ty here) law))
+        ((λ e. same_Some p.ty q.ty (sym here ∙ ap (slice_get ts) e ∙ there)), (λ e. once.one_id p.id q.id q.ty (here ∙ ap Some e) there))
+
+    joined_case : (b : Bool) → canonical F ≡ b → (p q : TypeWithId) → In l p → In l q → AreJoined F (declares l.groups) p q
+    joined_case true c p q h g = joined_in_as_one c p q h g
+    joined_case false c p q h g = joined_in_apart c p q h g
+
+    joined_in : (p q : TypeWithId) → In l p → In l q → AreJoined F (declares l.groups) p q
+    joined_in p q h g = joined_case (canonical F) refl p q h g
+
+  ordered : (l : Listing A) → AreListable l.groups → HasNoRepetition (types_of_list l) → (p q : TypeWithId) → In l p → In l q
+      → IsAncestor (declares l.groups) p.id q.id ↔ (IsAncestor declared p.ty q.ty × (canonical F ≡ false → p.id ≡ q.id))
+  ordered l able once p q h g = (joined_in l able once p q h g).order
+
+  matched : (l : Listing A) → AreListable l.groups → HasNoRepetition (types_of_list l) → (v w : Val TypeWithId) → All (In l) (refs_val v) → All (In l) (refs_val w)
+      → MatchesVal (declares l.groups) (map_val its_id v) (map_val its_id w)
+      ↔ (MatchesVal declared (map_val its_type v) (map_val its_type w) × (canonical F ≡ false → AreUnderOneId (refs_val v) (refs_val w)))
+  matched l able once v w h g = vals F (declares l.groups) (In l) (alike_in l able once) (joined_in l able once) v w h g
 
   ancestors_match : (k : ℕ) (t : shown.Types A) (i x : ℕ) (a b : DefType) (s u : Sub DefType) → TypeOf k t i x a → IsAncestor declared a b → declared a ≡ Some s → declared b ≡ Some u → MatchesSub declared s u
   ancestors_match k t i x a b s u p above here there =
@@ -218,14 +276,15 @@ module _ {A : Type 0} (answers : List (Result (shown.Types A) (Error A))) (modul
   pub headline_from : Headline F modules answers T
   headline_from = record {
     accepted = accepted;
-    refused = λ none room k bytes e a m. let s = place k bytes (Err e) a in refused_case e k bytes none a s (s.room room) m;
+    refused = λ room k bytes e a m. let s = place k bytes (Err e) a in refused_case e k bytes s (s.room room) m;
     goes_on = goes_on;
-    stops = λ none room k bytes r a e l m. let s = place k bytes r a in stops_case r k bytes none a s (s.room room) (s.last e l) m;
+    stops = λ room k bytes r a e l m. let s = place k bytes r a in stops_case r k bytes s (s.room room) (s.last e l) m;
     at_most = few_answers answers modules old new d;
     first = first_answer answers modules old new d;
     one_id = λ c j k t u h i x y a b p q. one_id_case j k t u h i x y a b (cases_order j k) c p q;
     own_id = λ c j k t u h i x y a b p q. own_id_case j k t u h i x y a b (cases_order j k) c p q;
     ordered = ordered;
+    matched = matched;
     ancestors_match = ancestors_match;
     kept = kept;
     kept_before = λ k bytes t a. adds T bytes t (place k bytes (Ok t) a).placed;

@@ -1,4 +1,8 @@
 pub use Rattle.wasm_validator_modules.proofs.WasmLawsCore as WasmLawsCore
 pub mod Lists
+pub mod Ordered
 pub mod Headline
+pub mod Calls
+pub mod Held
 mod Going
+pub mod ModuleIds

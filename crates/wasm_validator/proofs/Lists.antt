@@ -62,7 +62,7 @@ module _ {A : Type 0} where
   pub record Stood (features : WasmFeatures) (modules : List (List ℕ)) (answers : List (Result (shown.Types A) (Error A))) (front : TypesSoFar) (k : ℕ) (bytes : List ℕ) (r : Result (shown.Types A) (Error A)) : Type 0 where
     pub placed : Placed features front bytes r
     pub behind : suc k < length answers → EndsModule bytes placed.old placed.new
-    pub last : suc k ≡ length answers → length answers < length modules → StopsModule r bytes placed.old
+    pub last : suc k ≡ length answers → length answers < length modules → StopsModule r bytes placed.old placed.new
     pub room : Rooms features modules answers (length front) → Room features bytes placed.held
 
   -- the room for a module, and for those behind it
@@ -90,12 +90,12 @@ module _ {A : Type 0} where
   no_answers rs e = ap length e
 
   goes : (r : Result (shown.Types A) (Error A)) (rs : List (Result (shown.Types A) (Error A))) (m : List ℕ) (ms : List (List ℕ)) (old left new : Standing)
-      → (EndsModule m old left × DecidesEach rs ms left new) ⊎ (StopsModule r m old × (rs ≡ []) × (new ≡ left)) → 0 < length rs → EndsModule m old left
+      → (EndsModule m old left × DecidesEach rs ms left new) ⊎ (StopsModule r m old left × (rs ≡ []) × (new ≡ left)) → 0 < length rs → EndsModule m old left
   goes r rs m ms old left new (inl e) l = e.0
   goes r rs m ms old left new (inr s) l = let none = no_answers rs s.1 in absurd (omega (arith, l, none))
 
   stops_at : (r : Result (shown.Types A) (Error A)) (rs : List (Result (shown.Types A) (Error A))) (m : List ℕ) (ms : List (List ℕ)) (old left new : Standing)
-      → (EndsModule m old left × DecidesEach rs ms left new) ⊎ (StopsModule r m old × (rs ≡ []) × (new ≡ left)) → length rs ≡ 0 → 0 < length ms → StopsModule r m old
+      → (EndsModule m old left × DecidesEach rs ms left new) ⊎ (StopsModule r m old left × (rs ≡ []) × (new ≡ left)) → length rs ≡ 0 → 0 < length ms → StopsModule r m old left
   stops_at r [] m [] old left new (inl e) none l = absurd (omega (arith, l))
   stops_at r [] m (x ∷ ms) old left new (inl e) none l = absurd e.1
   stops_at r (s ∷ rs) m ms old left new (inl e) none l = absurd (omega (arith, none))
@@ -106,7 +106,7 @@ module _ {A : Type 0} where
 
   -- what becomes of the modules behind the first
   abbrev Rest : Result (shown.Types A) (Error A) → Answers A → List ℕ → List (List ℕ) → Standing → Standing → Standing → Type 0
-  Rest a rs m ms old left new = (EndsModule m (after_reset old) left × DecidesEach rs ms left new) ⊎ (StopsModule a m (after_reset old) × (rs ≡ []) × (new ≡ left))
+  Rest a rs m ms old left new = (EndsModule m (after_reset old) left × DecidesEach rs ms left new) ⊎ (StopsModule a m (after_reset old) left × (rs ≡ []) × (new ≡ left))
 
   -- where a module came to its end, and the validator holds these types
   abbrev StandsBehind : Answers A → List (List ℕ) → Standing → Standing → Type 0

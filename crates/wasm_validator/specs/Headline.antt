@@ -1,14 +1,15 @@
 -- What the answers on a list of modules say of all of them. Core Specification 3.0, Validation, Modules, and Validation, Types and Matching.
 use Rattle.std.specs.Prelude.{ℕ, suc, ◌≡◌, ◌≤◌, ◌<◌, ◌+◌, ◌++◌, ◌↔◌, true, false, List, [], length, take, slice_get, sum, Some}
-use Rattle.std.specs.List.{AllZip}
+use Rattle.std.specs.List.{All, AllZip}
 use Rattle.std.specs.declared.result.Result.{Result}
 use Rattle.std.specs.declared.result.Result.TheVariants.{Ok, Err}
-use Rattle.wasm_spec.specs.Syntax.{Sub}
+use Rattle.wasm_spec.specs.Syntax.{Val, map_val, Sub}
+use Rattle.wasm_spec.specs.References.{refs_val}
 use Rattle.wasm_spec.specs.Features.{Features, canonical}
 use Rattle.wasm_spec.specs.Trees.{DefType, declared}
 use Rattle.wasm_spec.specs.TypeLaws.{HasNoRepetition}
 use Rattle.wasm_spec.specs.Declared.{IsAncestor}
-use Rattle.wasm_spec.specs.Matching.{MatchesSub}
+use Rattle.wasm_spec.specs.Matching.{MatchesVal, MatchesSub}
 use Rattle.wasm_spec_rules.specs.IndexSpaces.{index_spaces}
 use Rattle.wasm_spec_rules.specs.Modules.{IsWellFormed}
 use Rattle.wasm_validator_modules.specs.WasmSpecValidity.Expressions.{expression_at}
@@ -39,6 +40,21 @@ pub record Begins (front list : TypesSoFar) : Type 0 where
   pub more : TypesSoFar
   pub is : list ≡ front ++ more
 
+-- a type of a module, and the id under which it is shown
+pub record TypeWithId : Type 0 where
+  pub id : ℕ
+  pub ty : DefType
+
+abbrev pub its_id : TypeWithId → ℕ
+its_id p = p.id
+
+abbrev pub its_type : TypeWithId → DefType
+its_type p = p.ty
+
+-- each of these types has the id of each of those
+abbrev pub AreUnderOneId : List TypeWithId → List TypeWithId → Type 0
+AreUnderOneId ps qs = All (λ (p : TypeWithId). All (λ (q : TypeWithId). p.id ≡ q.id) qs) ps
+
 -- In well formed bytes at most so many types are written.
 abbrev pub WritesAtMost : Features → List ℕ → ℕ → Type 0
 WritesAtMost F bytes n = (m : IsWellFormed expression_at F bytes) → length m.types.types ≤ n
@@ -48,10 +64,6 @@ module _ {A : Type 0} (F : Features) (modules : List (List ℕ)) (answers : List
   pub record IsAnswered (k : ℕ) (bytes : List ℕ) (answer : Result (shown.Types A) (Error A)) : Type 0 where
     pub given : slice_get modules k ≡ Some bytes
     pub answered : slice_get answers k ≡ Some answer
-
-  -- No answer is that memory was refused.
-  abbrev pub NoneLacksMemory : Type 0
-  NoneLacksMemory = (k : ℕ) → slice_get answers k ≡ Some (Err OutOfMemory) → ⊥
 
   -- There is room for so many types and those of all modules that were looked at.
   pub record HasRoom (held : ℕ) : Type 0 where
@@ -74,6 +86,14 @@ module _ {A : Type 0} (F : Features) (modules : List (List ℕ)) (answers : List
     pub its_id : slice_get (shown_of t).spaces.types index ≡ Some id
     pub its_type : slice_get shown.module_valid.well_formed.types.types index ≡ Some d
 
+  -- An accepted module has this type under this id, and the list has under the id what that module's list of types has.
+  pub record IsIn (l : Listing A) (p : TypeWithId) : Type 0 where
+    pub module_index : ℕ
+    pub types : shown.Types A
+    pub type_index : ℕ
+    pub is_type : IsTypeOf module_index types type_index p.id p.ty
+    pub kept : slice_get (types_of_list l) p.id ≡ slice_get (types_of_list (shown_of types).list) p.id
+
   -- the list of types of an accepted module begins this list
   abbrev pub BeginsWith : Listing A → shown.Types A → Type 0
   BeginsWith l t = Begins (types_of_list (shown_of t).list) (types_of_list l)
@@ -82,13 +102,13 @@ module _ {A : Type 0} (F : Features) (modules : List (List ℕ)) (answers : List
   pub record Headline (before : TypesSoFar) : Type 0 where
     -- What is accepted is a valid module, and its types show exactly its index spaces.
     pub accepted : (k : ℕ) (bytes : List ℕ) (t : shown.Types A) → IsAnswered k bytes (Ok t) → IsShown bytes t
-    -- What is refused is no valid module, where there is memory and room.
-    pub refused : NoneLacksMemory → HasRoom (length before) → (k : ℕ) (bytes : List ℕ) (e : Error A) → IsAnswered k bytes (Err e) → IsValidModule F bytes → ⊥
+    -- What is refused is no valid module, where there is room, unless the answer is that memory was refused.
+    pub refused : HasRoom (length before) → (k : ℕ) (bytes : List ℕ) (e : Error A) → IsAnswered k bytes (Err e) → IsValidModule F bytes → e ≡ OutOfMemory
     -- It goes on behind a module exactly where that is valid up to its bodies.
     pub goes_on : (k : ℕ) (bytes : List ℕ) (r : Result (shown.Types A) (Error A)) → IsAnswered k bytes r → suc k < length answers → IsValidUpToBodies F bytes
     pub stops :
-        NoneLacksMemory → HasRoom (length before)
-        → (k : ℕ) (bytes : List ℕ) (r : Result (shown.Types A) (Error A)) → IsAnswered k bytes r → suc k ≡ length answers → length answers < length modules → IsValidUpToBodies F bytes → ⊥
+        HasRoom (length before)
+        → (k : ℕ) (bytes : List ℕ) (r : Result (shown.Types A) (Error A)) → IsAnswered k bytes r → suc k ≡ length answers → length answers < length modules → IsValidUpToBodies F bytes → r ≡ Err OutOfMemory
     pub at_most : length answers ≤ length modules
     pub first : 0 < length modules → 0 < length answers
     -- Where equal types are one, two types of any accepted modules have one id exactly where they are equal: the same place of equal recursive types.
@@ -99,11 +119,17 @@ module _ {A : Type 0} (F : Features) (modules : List (List ℕ)) (answers : List
     pub own_id :
         canonical F ≡ false → (j k : ℕ) (t u : shown.Types A) (h i x y : ℕ) (d e : DefType)
         → IsTypeOf j t h x d → IsTypeOf k u i y e → (x ≡ y) ↔ ((j ≡ k) × (h ≡ i))
-    -- In any list that begins with those of their modules, ids are ordered as the types are declared.
+    -- In every list that has two such types under their ids, the order of the ids is the declared order of the types. Where equal types aren't one,
+    -- types with different ids count as different.
     pub ordered :
-        canonical F ≡ true → (l : Listing A) → AreListable l.groups → HasNoRepetition (types_of_list l)
-        → (j k : ℕ) (t u : shown.Types A) (h i x y : ℕ) (d e : DefType) → BeginsWith l t → BeginsWith l u
-        → IsTypeOf j t h x d → IsTypeOf k u i y e → IsAncestor (declares l.groups) x y ↔ IsAncestor declared d e
+        (l : Listing A) → AreListable l.groups → HasNoRepetition (types_of_list l) → (p q : TypeWithId) → IsIn l p → IsIn l q
+        → IsAncestor (declares l.groups) p.id q.id ↔ (IsAncestor declared p.ty q.ty × (canonical F ≡ false → p.id ≡ q.id))
+    -- Value types, and so reference types, match over such ids exactly where they do over the types, by the standard's rules. Where equal types aren't
+    -- one, types with different ids count as different.
+    pub matched :
+        (l : Listing A) → AreListable l.groups → HasNoRepetition (types_of_list l) → (v w : Val TypeWithId) → All (IsIn l) (refs_val v) → All (IsIn l) (refs_val w)
+        → MatchesVal (declares l.groups) (map_val its_id v) (map_val its_id w)
+        ↔ (MatchesVal declared (map_val its_type v) (map_val its_type w) × (canonical F ≡ false → AreUnderOneId (refs_val v) (refs_val w)))
     -- Each type matches each of its declared ancestors.
     pub ancestors_match :
         (k : ℕ) (t : shown.Types A) (i x : ℕ) (d e : DefType) (s u : Sub DefType)

@@ -5,3 +5,4 @@ pub use Rattle.wasm_validator_modules.specs.Standing
 pub use Rattle.wasm_validator_modules.specs.Verdict
 pub mod Lists
 pub mod Headline
+pub mod Calls

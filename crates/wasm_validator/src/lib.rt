@@ -2,8 +2,13 @@
 //! of modules.
 #![tactic(auto)]
 
+mod conditions;
+pub mod laws;
 pub mod list;
 
+pub use conditions::holds_types_of;
+pub use laws::calls_follow_state_table;
+pub use laws::unaccepted_modules_keep_types;
 pub use list::validate_list;
 pub use wasm_validator_modules::CodeState;
 pub use wasm_validator_modules::Constants;

@@ -1,6 +1,8 @@
 //! Lists of modules, checked by one validator.
 
 ghost use Rattle.std.specs.Prelude.{◌≡◌, true, IfOk, IfErr, OnErr};
+ghost use Rattle.std.specs.List.{All};
+ghost use Rattle.wasm_validator_modules.specs.Payloads.{HoldsTypes};
 ghost use Rattle.wasm_validator.specs.Standing.{may_reset};
 ghost use Rattle.wasm_validator.specs.Lists.{DecidesEach, lent};
 ghost use Rattle.wasm_validator.specs.Headline.{Headline, types_held};
@@ -10,9 +12,10 @@ use std::alloc::Allocator;
 use wasm_validator_modules::payload::answer_all;
 use wasm_validator_modules::{Error, Types, Validator};
 
-/// Checks modules one after another, each behind a `reset`, and gives the answer on each that was
-/// looked at, in their order: the first that does not come to its end is the last. One whose
-/// functions' bodies alone are not valid comes to its end.
+/// Checks modules one after another, each after a `reset`, and gives the answer on each that was
+/// looked at, in their order. The last one is the first whose payloads are not all accepted; that
+/// of a module that is refused only for a function's body is not. The types of an accepted module
+/// name only ids of their list.
 ///
 /// # Errors
 ///
@@ -27,6 +30,7 @@ pub fn validate_list<A: Allocator + Copy>(
         validator.old validator.new) }
     ensures headline { IfOk result (λ answers. Headline (features_of validator.old.features)
         (lent modules.now) answers.items (types_held validator.old.stage)) }
+    ensures types { IfOk result (λ answers. All (λ r. IfOk r HoldsTypes) answers.items) }
     ensures unchanged { OnErr result (validator.new ≡ validator.old) }
     ensures memory { IfErr result (λ e. e ≡ Error.OutOfMemory) }
 {

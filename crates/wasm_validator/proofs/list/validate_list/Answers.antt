@@ -1,6 +1,7 @@
 use Rattle.std.proofs.Common.{refl, sym, subst, ◌+◌, arith}
 use Rattle.wasm_validator.proofs.Going.{SoFar, begin, next, stop, finish}
 use Rattle.wasm_validator.proofs.Headline.{headline}
+use Rattle.wasm_validator.proofs.Held.{all_held}
 use Rattle.wasm_validator.specs.Lists.{DecidesEach, lent}
 use Rattle.wasm_validator.proofs.list.validate_list.Goals as goal
 
@@ -43,6 +44,10 @@ pub returns-then-not-answered-clause-headline : goal.returns-then-not-answered-c
 returns-then-not-answered-clause-headline g c =
     headline c.push_reserved.new.self.items (lent c.args.modules.now) c.args.validator.now c.answer_all-answered.new.validator (returns-then-not-answered-clause-decided g c) c.requires
 
+pub returns-then-not-answered-clause-types : goal.returns-then-not-answered-clause-types
+returns-then-not-answered-clause-types g c =
+    all_held c.push_reserved.new.self.items (lent c.args.modules.now) c.args.validator.now c.answer_all-answered.new.validator (returns-then-not-answered-clause-decided g c)
+
 pub returns-clause-decided : goal.returns-clause-decided
 returns-clause-decided g c =
     let many = c.modules-test.false in
@@ -50,3 +55,6 @@ returns-clause-decided g c =
 
 pub returns-clause-headline : goal.returns-clause-headline
 returns-clause-headline g c = headline c.modules.answers.items (lent c.args.modules.now) c.args.validator.now c.modules.validator (returns-clause-decided g c) c.requires
+
+pub returns-clause-types : goal.returns-clause-types
+returns-clause-types g c = all_held c.modules.answers.items (lent c.args.modules.now) c.args.validator.now c.modules.validator (returns-clause-decided g c)
