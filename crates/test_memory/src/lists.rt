@@ -1,0 +1,130 @@
+//! Lists that are kept and values that are shared, where a request for memory is refused.
+
+use crate::heap::{Plan, count_refused, grant_all};
+use crate::outcome::{After, Wrong};
+use std::alloc::Allocator;
+use std::cell::Cell;
+use wasm_validator::{FuncType, MaybeOwned, SnapshotList, TypeList};
+
+/// How many snapshots are taken: so many that the parts of the list are gathered, and what is
+/// gathered is joined.
+const SNAPSHOTS: u32 = 34;
+
+/// Whether the list has the numbers from 0 up to this one.
+fn counts_up<A: Allocator + Copy>(list: &SnapshotList<u32, A>, last: u32) -> bool {
+    for index in 0..=last {
+        if list.get(index as usize) != Some(&index) {
+            return false;
+        }
+    }
+    list.len() as u64 == u64::from(last) + 1
+}
+
+/// Puts a number after those below it. Where a request was refused, it comes back, and the list is
+/// unchanged.
+fn push<A: Allocator + Copy>(
+    plan: &Cell<Plan>,
+    list: &mut SnapshotList<u32, A>,
+    number: u32,
+) -> Result<(), Wrong> {
+    let (length, refused) = (list.len(), count_refused(plan));
+    let Err(failed) = list.push(number) else {
+        if count_refused(plan) == refused {
+            return Ok(());
+        }
+        return Err(Wrong::AnotherAnswer);
+    };
+    grant_all(plan);
+    if failed.value != number || list.len() != length {
+        return Err(Wrong::Changed);
+    }
+    match list.push(number) {
+        Ok(()) => Ok(()),
+        Err(_) => Err(Wrong::RefusedAgain),
+    }
+}
+
+/// A snapshot of the numbers up to this one. Where memory for it was refused, there is none, the list
+/// is unchanged, and the next one is equal. Where memory to join parts of the list was refused, they
+/// stay apart, and the snapshot is taken.
+fn snapshot<A: Allocator + Copy>(
+    plan: &Cell<Plan>,
+    list: &mut SnapshotList<u32, A>,
+    last: u32,
+) -> Result<SnapshotList<u32, A>, Wrong> {
+    if let Ok(copy) = list.commit() {
+        return Ok(copy);
+    }
+    grant_all(plan);
+    if !counts_up(list, last) {
+        return Err(Wrong::Changed);
+    }
+    match list.commit() {
+        Ok(copy) => Ok(copy),
+        Err(_) => Err(Wrong::RefusedAgain),
+    }
+}
+
+/// Takes a snapshot after each number of a list.
+pub fn check_snapshots<A: Allocator + Copy>(alloc: A, plan: &Cell<Plan>) -> Result<After, Wrong> {
+    let mut list = SnapshotList::new(alloc);
+    for number in 0..SNAPSHOTS {
+        push(plan, &mut list, number)?;
+        let copy = snapshot(plan, &mut list, number)?;
+        if !counts_up(&list, number) || !counts_up(&copy, number) {
+            return Err(Wrong::Changed);
+        }
+    }
+    Ok(After::Unchanged)
+}
+
+/// Takes a snapshot of a list of one type. Where a request was refused, there is none, the list
+/// is unchanged, and the next one is equal.
+pub fn check_types<A: Allocator + Copy>(alloc: A, plan: &Cell<Plan>) -> Result<After, Wrong> {
+    let wanted = plan.get();
+    grant_all(plan);
+    let mut list = TypeList::new(alloc, true);
+    let signature = FuncType::new(Vec::new(alloc), Vec::new(alloc));
+    let Ok(id) = list.intern_func_type(signature, 0) else {
+        return Err(Wrong::RefusedAgain);
+    };
+    plan.set(wanted);
+    let refused = count_refused(plan);
+    let first = list.commit().is_ok();
+    if first == (count_refused(plan) != refused) {
+        return Err(Wrong::AnotherAnswer);
+    }
+    grant_all(plan);
+    if list.len() != 1 || !list.is_open() || list.get(id).is_none() {
+        return Err(Wrong::Changed);
+    }
+    let Ok(copy) = list.commit() else {
+        return Err(Wrong::RefusedAgain);
+    };
+    if copy.len() != 1 || copy.is_open() || copy.get(id).is_none() {
+        return Err(Wrong::Changed);
+    }
+    Ok(After::Unchanged)
+}
+
+/// Shares a value. Where a request was refused, it is lost and can't be written, or it is still
+/// owned and is shared by the next call.
+pub fn check_share<A: Allocator + Copy>(alloc: A, plan: &Cell<Plan>) -> Result<After, Wrong> {
+    let mut value: MaybeOwned<u32, A> = MaybeOwned::new(3);
+    let refused = count_refused(plan);
+    let first = value.arc(alloc).is_ok();
+    if first == (count_refused(plan) != refused) {
+        return Err(Wrong::AnotherAnswer);
+    }
+    grant_all(plan);
+    if !first && value.is_lost() == value.as_mut().is_some() {
+        return Err(Wrong::AnotherState);
+    }
+    if value.is_lost() {
+        return Ok(After::Failed);
+    }
+    if value.arc(alloc).is_err() || *value != 3 || value.as_mut().is_some() {
+        return Err(Wrong::RefusedAgain);
+    }
+    Ok(After::Unchanged)
+}
