@@ -2,6 +2,7 @@
 //! row of `rows_modules` can't show.
 #![tactic(auto)]
 
+pub mod agreement;
 #[cfg(test)]
 mod items;
 #[cfg(test)]

@@ -8,6 +8,7 @@ ghost use Rattle.wasm_validator_type_list.specs.Listable.{IsListable};
 
 use std::alloc::{AllocError, Global};
 use std::test::Fail;
+use wasm_readers_errors::{Error, Fault, Refusal, Rule};
 use wasm_readers_types::{
     CompositeInnerType, CompositeType, CoreTypeId, FuncType, Items, RecGroup, StructType, SubType,
     ValType,
@@ -131,6 +132,58 @@ fn value_types_match_in_their_groups(rt: HostRuntime) -> Result<(), Fail> {
         assert!(rt; Matches::matches(&list, number, number));
         assert!(rt; !Matches::matches(&list, number, reference));
         assert!(rt; Matches::matches(&list, reference, reference));
+    }
+    Ok(())
+}
+
+/// A group of this many structure types without fields.
+fn rec_of(alloc: Global, count: usize) -> Result<RecGroup, AllocError> {
+    let mut types = Vec::new(alloc);
+    'types: for _ in 0..count {
+        types.push(structure(alloc))?;
+    }
+    Ok(RecGroup::explicit(types))
+}
+
+/// Adds the group where it may be added, and answers whether it is new.
+fn add(list: &mut TypeList, group: RecGroup) -> Result<bool, Error> {
+    if !list.is_open() || group.types().is_empty() || !list.is_listable(&group) {
+        return Ok(false);
+    }
+    let is_canonical = list.is_canonical();
+    let (is_new, _) = list.intern_canonical_rec_group(is_canonical, group, 7)?;
+    Ok(is_new)
+}
+
+/// Whether this is the refusal of types for which there are no ids.
+fn is_full<T>(answer: &Result<T, Error>) -> bool {
+    match answer {
+        Err(Error::Refused(refusal)) => {
+            *refusal == Refusal::new(Fault::Rule(Rule::TooManyTypes), 7)
+        }
+        _ => false,
+    }
+}
+
+#[test]
+fn a_list_has_an_id_for_each_of_its_types(rt: HostRuntime) -> Result<(), Fail> {
+    let alloc = rt.alloc();
+    'modes: for is_canonical in [false, true] {
+        let mut list = TypeList::new(alloc, is_canonical);
+        'groups: for power in 0u32..20 {
+            assert!(rt; add(&mut list, rec_of(alloc, 1usize << power)?)?);
+        }
+        assert!(rt; list.len() == 1_048_575 && list.is_open());
+        assert!(rt; is_full(&add(&mut list, rec_of(alloc, 3)?)));
+        assert!(rt; list.len() == 1_048_575 && list.is_open());
+        let last = list.intern_func_type(signature(alloc), 7)?;
+        assert!(rt; last.index() == 1_048_575 && list.is_open());
+        assert!(rt; is_full(&list.intern_func_type(signature(alloc), 7)));
+        assert!(rt; list.is_open());
+        assert!(rt; is_full(&list.intern_sub_type(structure(alloc), 7)));
+        assert!(rt; (list.len(), list.rec_group_count()) == (1_048_576, 21));
+        assert!(rt; list.get(last).is_some());
+        assert!(rt; list.get(CoreTypeId::from_index(1_048_576)).is_none());
     }
     Ok(())
 }
