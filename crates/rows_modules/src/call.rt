@@ -6,13 +6,15 @@ use std::alloc::{Allocator, Global};
 use std::ops::Range;
 use wasm_validator::{
     BinaryReader, CustomSectionReader, Encoding, Error, FuncToValidate, FuncValidatorAllocations,
-    FunctionBody, Payload, SectionLimited, ValidPayload, Validator, ValidatorResources,
+    FunctionBody, Payload, SectionLimited, Types, ValidPayload, Validator, ValidatorResources,
 };
 
-/// Makes the call that this text is, and gives its answer.
+/// Makes the call that this text is, and gives its answer. `kept` are the types of the module that
+/// was accepted last.
 pub fn answer_call(
     alloc: Global,
     validator: &mut Validator,
+    kept: &mut Option<Types>,
     text: &str,
 ) -> Result<Answer, Trouble> {
     let (name, arguments) = split_word(text);
@@ -22,6 +24,17 @@ pub fn answer_call(
             Ok(reset(validator))
         }
         "types" => look(validator, arguments),
+        "kept" => {
+            check_no_more(arguments)?;
+            Ok(match kept.take() {
+                Some(types) => Answer::Ended(types),
+                None => Answer::Nothing("nothing kept"),
+            })
+        }
+        "module" => {
+            let bytes = parse_bytes(alloc, arguments)?;
+            Ok(Answer::of_end(validator.validate_all(bytes.as_slice())))
+        }
         _ => {
             let (offset, more) = split_word(arguments);
             match offset.parse::<u32>() {

@@ -61,11 +61,12 @@ fn push_fact(
         "has_failed" => push_flag(text, name, validator.has_failed())?,
         "level_0" => push_flag(text, name, validator.types(0).is_some())?,
         "level_1" => push_flag(text, name, validator.types(1).is_some())?,
+        "state" => push_state(text, validator)?,
         _ => match answer {
             Answer::Ended(types) => push_shown(text, &types.as_ref(), name)?,
-            Answer::Refused(error) => push_refused(text, error, name)?,
+            Answer::Refused(error) if name == "missing" => push_missing(text, error)?,
             Answer::HandedOut(function) => push_handed_out(text, function, name, wanted)?,
-            Answer::Accepted | Answer::Nothing(_) => push_being_read(text, validator, name)?,
+            _ => push_being_read(text, validator, name)?,
         },
     }
     Ok(())
@@ -75,11 +76,22 @@ fn push_flag(text: &mut String, name: &str, flag: bool) -> Result<(), AllocError
     write!(text, "{name} {flag}")
 }
 
-/// Adds the fact of this name on a refusal.
-fn push_refused(text: &mut String, error: &Error, name: &str) -> Result<(), Trouble> {
-    if name != "missing" {
-        return Err(Trouble::Malformed("an unknown fact of a refusal"));
-    }
+/// Adds what can be seen of the validator's state: `ready` before a header and after the end,
+/// `reading` in a module, `failed` after a section that was refused.
+fn push_state(text: &mut String, validator: &Validator) -> Result<(), AllocError> {
+    let has_types = (validator.types(0).is_some(), validator.types(1).is_some());
+    text.push_str(
+        match (validator.can_reset(), validator.has_failed(), has_types) {
+            (true, false, (false, false)) => "state ready",
+            (false, false, (true, false)) => "state reading",
+            (false, true, (false, false)) => "state failed",
+            _ => "state unknown",
+        },
+    )
+}
+
+/// Adds the feature that a refusal names.
+fn push_missing(text: &mut String, error: &Error) -> Result<(), Trouble> {
     text.push_str("missing ")?;
     match error.missing_features() {
         Some(feature) => push_lowercase(text, name_of(feature))?,

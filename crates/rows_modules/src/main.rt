@@ -7,6 +7,7 @@ mod bytes;
 mod call;
 mod facts;
 mod features;
+mod form;
 mod row;
 mod run;
 mod shown;

@@ -3,8 +3,10 @@ use crate::bytes::parse_bytes;
 use crate::call::answer_call;
 use crate::facts::push_answer;
 use crate::features::parse_features;
+use crate::form::{Form, Forms, forms_of};
 use std::alloc::{AllocError, Global};
-use wasm_validator::{Validator, ValidatorId};
+use std::fmt::Write;
+use wasm_validator::{Types, Validator, ValidatorId};
 
 /// Why nothing can be said of a row.
 #[derive(Clone, Copy)]
@@ -29,40 +31,10 @@ impl Trouble {
     }
 }
 
-/// What the parts of a row are, each of which stands before what is wanted of it.
-#[derive(Clone, Copy)]
-enum Form {
-    /// Modules, with `reset` between two where it may be called.
-    Modules,
-    /// Calls, with nothing between.
-    Calls,
-}
-
-impl Form {
-    /// Why a row is none that has no parts.
-    fn without_parts(self) -> &'static str {
-        match self {
-            Form::Modules => "a row without bytes",
-            Form::Calls => "a row without calls",
-        }
-    }
-
-    /// Why a row is none whose last part stands before nothing.
-    fn without_answer(self) -> &'static str {
-        match self {
-            Form::Modules => "bytes without a wanted answer",
-            Form::Calls => "a call without a wanted answer",
-        }
-    }
-}
-
-/// What stands before a row of calls.
-const CALLS: &str = "calls | ";
-
 /// A row: features, and modules or calls with what is wanted of each.
 #[derive(Clone, Copy)]
 pub struct Row<'a> {
-    form: Form,
+    forms: Forms,
     features: &'a str,
     parts: &'a str,
 }
@@ -70,18 +42,21 @@ pub struct Row<'a> {
 impl<'a> Row<'a> {
     /// The row that this line is.
     pub fn of(line: &'a str) -> Result<Row<'a>, Trouble> {
-        let (form, line) = match line.strip_prefix(CALLS) {
-            Some(rest) => (Form::Calls, rest),
-            None => (Form::Modules, line),
+        let Some((head, rest)) = line.split_once(" | ") else {
+            return Err(Trouble::Malformed("a row without features"));
+        };
+        let (forms, line) = match forms_of(head) {
+            Some(forms) => (forms, rest),
+            None => ((Form::Modules, 0, 0), line),
         };
         let Some((_name, rest)) = line.split_once(" | ") else {
             return Err(Trouble::Malformed("a row without features"));
         };
         let Some((features, parts)) = rest.split_once(" | ") else {
-            return Err(Trouble::Malformed(form.without_parts()));
+            return Err(Trouble::Malformed(forms.0.without_parts()));
         };
         Ok(Row {
-            form,
+            forms,
             features,
             parts,
         })
@@ -106,7 +81,7 @@ const NOT: &str = "not ";
 pub fn judge<'a>(alloc: Global, line: &'a str) -> Result<Option<Difference<'a>>, Trouble> {
     match line.strip_prefix(NO_ROW) {
         Some(rest) => judge_no_row(alloc, rest),
-        None => first_difference(alloc, Row::of(line)?),
+        None => row_difference(alloc, Row::of(line)?),
     }
 }
 
@@ -126,7 +101,7 @@ fn judge_no_row<'a>(alloc: Global, text: &'a str) -> Result<Option<Difference<'a
 /// Why this line is no row, or that it is one.
 fn reason(alloc: Global, line: &str) -> Result<&'static str, AllocError> {
     let answer = match Row::of(line) {
-        Ok(row) => first_difference(alloc, row),
+        Ok(row) => row_difference(alloc, row),
         Err(trouble) => Err(trouble),
     };
     match answer {
@@ -136,17 +111,48 @@ fn reason(alloc: Global, line: &str) -> Result<&'static str, AllocError> {
     }
 }
 
+/// Gives the parts of a row to a validator of its own for each of its numbers, up to the first
+/// answer that isn't right; what is given then ends with the number, where there are several.
+fn row_difference<'a>(alloc: Global, row: Row<'a>) -> Result<Option<Difference<'a>>, Trouble> {
+    let (form, first, last) = row.forms;
+    for number in first..last.saturating_add(1) {
+        let difference = first_difference(alloc, row, form.with_number(number))?;
+        if let Some(Difference { wanted, mut given }) = difference {
+            if first < last {
+                write!(given, ", at {number}")?;
+            }
+            return Ok(Some(Difference { wanted, given }));
+        }
+    }
+    Ok(None)
+}
+
+/// What the parts of a row are given to.
+#[derive(Drop)]
+struct Bench {
+    validator: Validator,
+    /// The types of the module that was accepted last.
+    kept: Option<Types>,
+}
+
 /// Gives the parts of a row to one validator, up to the first whose answer isn't right.
-fn first_difference<'a>(alloc: Global, row: Row<'a>) -> Result<Option<Difference<'a>>, Trouble> {
+fn first_difference<'a>(
+    alloc: Global,
+    row: Row<'a>,
+    form: Form,
+) -> Result<Option<Difference<'a>>, Trouble> {
     let features = parse_features(row.features.trim())?;
-    let mut validator = Validator::new_with_features(alloc, features, ValidatorId::from_number(0));
+    let mut bench = Bench {
+        validator: Validator::new_with_features(alloc, features, ValidatorId::from_number(0)),
+        kept: None,
+    };
     let mut before: Option<&'a str> = None;
     'parts: for text in row.parts.split(" | ") {
         match before {
             None => before = Some(text.trim()),
             Some(part) => {
                 let wanted = text.trim();
-                let difference = difference_among(alloc, &mut validator, row.form, part, wanted)?;
+                let difference = difference_among(alloc, &mut bench, form, part, wanted)?;
                 if difference.is_some() {
                     return Ok(difference);
                 }
@@ -156,7 +162,7 @@ fn first_difference<'a>(alloc: Global, row: Row<'a>) -> Result<Option<Difference
     }
     match before {
         None => Ok(None),
-        Some(_) => Err(Trouble::Malformed(row.form.without_answer())),
+        Some(_) => Err(Trouble::Malformed(form.without_answer())),
     }
 }
 
@@ -164,14 +170,14 @@ fn first_difference<'a>(alloc: Global, row: Row<'a>) -> Result<Option<Difference
 /// isn't right.
 fn difference_among<'a>(
     alloc: Global,
-    validator: &mut Validator,
+    bench: &mut Bench,
     form: Form,
     part: &'a str,
     wanted: &'a str,
 ) -> Result<Option<Difference<'a>>, Trouble> {
     let (times, once) = times_of(part)?;
     'times: for _ in 0..times {
-        let given = answer(alloc, validator, form, once, named(wanted))?;
+        let given = answer(alloc, bench, form, once, named(wanted))?;
         if !is_right(wanted, given.as_str()) {
             return Ok(Some(Difference { wanted, given }));
         }
@@ -209,23 +215,38 @@ fn is_right(wanted: &str, given: &str) -> bool {
 /// What the validator says of this part: its verdict, and the facts that are wanted, as text.
 fn answer(
     alloc: Global,
-    validator: &mut Validator,
+    bench: &mut Bench,
     form: Form,
     part: &str,
     wanted: &str,
 ) -> Result<String, Trouble> {
     let answer = match form {
-        Form::Modules => answer_module(alloc, validator, part)?,
-        Form::Calls => answer_call(alloc, validator, part)?,
+        Form::Calls => answer_call(alloc, &mut bench.validator, &mut bench.kept, part)?,
+        _ => answer_module(alloc, &mut bench.validator, form, part)?,
     };
     let mut text = String::new(alloc);
-    push_answer(&mut text, &answer, validator, wanted)?;
+    push_answer(&mut text, &answer, &bench.validator, wanted)?;
+    keep(&mut bench.kept, answer);
     Ok(text)
 }
 
-/// What the validator says of the module that these bytes are.
-fn answer_module(alloc: Global, validator: &mut Validator, bytes: &str) -> Result<Answer, Trouble> {
-    let bytes = parse_bytes(alloc, bytes)?;
+/// Keeps the types of a module that was accepted.
+fn keep(kept: &mut Option<Types>, answer: Answer) {
+    if let Answer::Ended(types) = answer {
+        *kept = Some(types);
+    }
+}
+
+/// What the validator says of the module that these bytes are, cut or changed where the form says
+/// so.
+fn answer_module(
+    alloc: Global,
+    validator: &mut Validator,
+    form: Form,
+    bytes: &str,
+) -> Result<Answer, Trouble> {
+    let mut bytes = parse_bytes(alloc, bytes)?;
+    form.change(&mut bytes)?;
     if validator.can_reset() {
         validator.reset();
     }

@@ -2,7 +2,7 @@ use crate::row::Trouble;
 use crate::text::{push_entity, push_global, push_memory, push_reference, push_table};
 use std::alloc::AllocError;
 use std::fmt::Write;
-use wasm_validator::TypesRef;
+use wasm_validator::{CoreTypeId, TypesRef};
 
 /// Adds the fact of this name on a module that is accepted, or that is being read.
 pub fn push_shown(text: &mut String, shown: &TypesRef<'_>, name: &str) -> Result<(), Trouble> {
@@ -19,6 +19,7 @@ pub fn push_shown(text: &mut String, shown: &TypesRef<'_>, name: &str) -> Result
         "elements" => push_elements(text, shown)?,
         "all_types" => push_number(text, shown.type_list().len())?,
         "all_groups" => push_number(text, shown.type_list().rec_group_count())?,
+        "next_id" => push_next(text, shown)?,
         _ => return Err(Trouble::Malformed("an unknown fact")),
     }
     Ok(())
@@ -31,6 +32,13 @@ fn push_number(text: &mut String, number: usize) -> Result<(), AllocError> {
 /// Adds what stands before an item of a list: a comma before all but the first.
 fn push_separator(text: &mut String, is_first: bool) -> Result<(), AllocError> {
     text.push_str(if is_first { " " } else { ", " })
+}
+
+/// Adds whether there is a type with the id that comes next after those of the list.
+fn push_next(text: &mut String, shown: &TypesRef<'_>) -> Result<(), AllocError> {
+    let id = CoreTypeId::from_index(shown.type_list().len() as u32);
+    let found = shown.get(id).is_some();
+    text.push_str(if found { " some" } else { " none" })
 }
 
 fn push_types(text: &mut String, shown: &TypesRef<'_>) -> Result<(), AllocError> {

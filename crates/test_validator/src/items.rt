@@ -112,6 +112,16 @@ fn takes_two(list: &TypeList, module: &Module, index: u32) -> bool
     }
 }
 
+/// Whether a table of so many entries may be imported.
+fn allows_table(list: &TypeList, module: &Module, initial: u64) -> bool
+    requires { AreHeld list.now module.now.types }
+{
+    let ty = TypeRef::Table(TableType { initial, ..TABLE });
+    module
+        .check_type_ref(WasmFeatures::all(), list, ty, 7)
+        .is_ok()
+}
+
 /// How many functions, tables, memories, globals, imported globals and tags there are, and their
 /// size.
 fn counts(module: &Module) -> [u32; 7] {
@@ -134,6 +144,8 @@ fn items_are_imported_and_defined(rt: HostRuntime) -> Result<(), Fail> {
     defines_each_kind(&list, &mut module)?;
     // The size: one, three times two with two parameters and a result, and three of one.
     assert!(rt; counts(&module) == [3, 2, 2, 1, 1, 2, 19]);
+    assert!(rt; allows_table(&list, &module, 0xffff_ffff));
+    assert!(rt; !allows_table(&list, &module, 0x1_0000_0000));
     Ok(())
 }
 
