@@ -217,13 +217,13 @@ def write_api():
         return names[0] if names and path[-1] not in names else None
 
     out = ["# The public items of `wasm_validator`", ""]
-    out += ["Made by `tools/write_docs.py` from the sources, where each function's `ensures` clauses stand too. Offsets count bytes from the start of the input. A"]
-    out += ["`requires` clause is a condition that the caller keeps; what takes memory answers where it is refused. Where code names an item that has another name"]
-    out += ["in `wasm_validator`, the line with its file says so.", ""]
+    out += ["Made by `tools/write_docs.py` from the sources, which also have each function's `ensures` clauses. Offsets are in bytes from the start of the input. A"]
+    out += ["`requires` clause is a condition that the caller must satisfy. A call that takes memory returns an error if memory is refused. Where code names an"]
+    out += ["item that has another name in `wasm_validator`, the line with its file says so.", ""]
     for name in sorted(items, key=str.lower):
         out += write_item(name, items[name], name_here)
     if of_kit:
-        out += ["## Of the kit", "", "Passed on as the kit's crates have them: " + ", ".join(f"`{it}` of `{of_kit[it]}`" for it in sorted(of_kit)) + ".", ""]
+        out += ["## From the kit", "", "Re-exported as they are in the kit's crates: " + ", ".join(f"`{it}` of `{of_kit[it]}`" for it in sorted(of_kit)) + ".", ""]
     return "\n".join(out).rstrip("\n") + "\n"
 
 
