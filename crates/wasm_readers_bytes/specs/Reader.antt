@@ -107,3 +107,13 @@ sized_place old new (Some n) = place_of_next new
 abbrev pub name_place : {N : Type 0} → ℕ → BinaryReader → Option N → ℕ
 name_place of_bytes new None = of_bytes
 name_place of_bytes new (Some n) = place_of_next new - 1
+
+-- Where a size and its bytes are refused: the reader is as it was where the size is refused, and else it is behind the size.
+abbrev pub IsAfterSize : BinaryReader → Option (ℕ × List ℕ) → BinaryReader → Type 0
+IsAfterSize old None new = new ≡ old
+IsAfterSize old (Some p) new = rest new ≡ p.1
+
+-- Where a name is refused: the same, and where its bytes are there and are no text, the reader is behind them.
+abbrev pub IsAfterName : BinaryReader → Option (ℕ × List ℕ) → Option (List ℕ × List ℕ) → BinaryReader → Type 0
+IsAfterName old size None new = IsAfterSize old size new
+IsAfterName old size (Some p) new = rest new ≡ p.1

@@ -5,8 +5,8 @@ use crate::leb128::{long_signed_at, signed_at, wrong_number};
 use std::ops::Range;
 use wasm_readers_errors::{Fault, Integer, Malformed, Refusal};
 
-/// Bytes that are read from their front. A reader that has refused bytes stands somewhere behind
-/// where it stood before, or there, in the same bytes.
+/// Bytes that are read from their front. Where a reader refuses bytes, it stays where it was or has
+/// gone on in the same bytes.
 #[derive(Clone, Copy, Debug)]
 pub struct BinaryReader<'a> {
     buffer: &'a [u8],
@@ -17,10 +17,10 @@ pub struct BinaryReader<'a> {
 }
 
 impl<'a> BinaryReader<'a> {
-    ghost use Rattle.wasm_readers_bytes.specs.Reader.{input, SameInput, position_in, original, rest, RefusedFrom, place_of_next, number_fault, before_wrong, integer_fault, integer_refusal, index_refusal, sized_fault, name_fault, sized_place, name_place};
+    ghost use Rattle.wasm_readers_bytes.specs.Reader.{input, SameInput, position_in, original, rest, RefusedFrom, place_of_next, number_fault, before_wrong, integer_fault, integer_refusal, index_refusal, sized_fault, name_fault, sized_place, name_place, IsAfterSize, IsAfterName};
     ghost use Rattle.wasm_readers_errors.specs.Refusals.{plain};
 
-    /// A reader of these bytes, the first of which stands at this offset of the whole input.
+    /// A reader of these bytes, the first of which is at this offset of the whole input.
     pub fn new(buffer: &'a [u8], original_offset: u64) -> Self
         requires { original_offset + length buffer.now < 2 ^ 64 }
         ensures input { input result ≡ buffer.now }
@@ -41,7 +41,7 @@ impl<'a> BinaryReader<'a> {
         self.original_offset + self.position as u64
     }
 
-    /// The offsets in the whole input of its first byte, read or not, and of the byte behind its
+    /// The offsets in the whole input of its first byte, read or not, and of the byte after its
     /// last.
     pub fn range(&self) -> Range<u64>
         ensures start { result.start ≡ original self.now }
@@ -78,7 +78,7 @@ impl<'a> BinaryReader<'a> {
         &self.buffer[self.position..]
     }
 
-    /// Goes on where this reader of the same bytes stands.
+    /// Goes on from where this other reader of the same bytes is.
     #[inline(always)]
     pub fn go_on_from(&mut self, ahead: &BinaryReader)
         requires { SameInput self.old ahead.now }
@@ -169,7 +169,7 @@ impl<'a> BinaryReader<'a> {
     /// # Errors
     ///
     /// Refused as cut off where there is none, at the offset of the end. The reader stays where it
-    /// stood.
+    /// was.
     #[inline]
     pub fn read_u8(&mut self) -> Result<u8, Refusal>
         ensures same { SameInput self.old self.new }
@@ -194,7 +194,7 @@ impl<'a> BinaryReader<'a> {
     ///
     /// Refused where the bytes encode none: the end comes first, the last byte that is allowed has
     /// bits beyond the width, or a byte follows it. The offset is that of the end or of that last
-    /// byte. The reader stays where it stood.
+    /// byte. The reader stays where it was.
     pub fn read_var_u32(&mut self) -> Result<u32, Refusal>
         ensures same { SameInput self.old self.new }
         ensures onward { position_in self.old ≤ position_in self.new }
@@ -202,6 +202,7 @@ impl<'a> BinaryReader<'a> {
         ensures ok { IfOk result (λ n. u32_at (rest self.old) ≡ Some (n, rest self.new)) }
         ensures further { OnOk result (position_in self.old < position_in self.new) }
         ensures err { OnErr result (u32_at (rest self.old) ≡ None) }
+        ensures unread { OnErr result (self.new ≡ self.old) }
         ensures told { IfErr result (λ r. r ≡ integer_refusal Integer.U32 32 self.old) }
     {
         match self.next_var_u32() {
@@ -232,7 +233,7 @@ impl<'a> BinaryReader<'a> {
         }
     }
 
-    /// The same, of more than one byte or none. Where it isn't there the reader stands behind what was
+    /// The same, of more than one byte or none. Where it isn't there, the reader is after what was
     /// read.
     #[inline(never)]
     fn next_long_u32(&mut self) -> Option<u32>
@@ -276,7 +277,7 @@ impl<'a> BinaryReader<'a> {
     ///
     /// Refused where the bytes encode none: the end comes first, the last byte that is allowed has
     /// bits beyond the width, or a byte follows it. The offset is that of the end or of that last
-    /// byte. The reader stays where it stood.
+    /// byte. The reader stays where it was.
     pub fn read_var_u64(&mut self) -> Result<u64, Refusal>
         ensures same { SameInput self.old self.new }
         ensures onward { position_in self.old ≤ position_in self.new }
@@ -284,6 +285,7 @@ impl<'a> BinaryReader<'a> {
         ensures ok { IfOk result (λ n. u64_at (rest self.old) ≡ Some (n, rest self.new)) }
         ensures further { OnOk result (position_in self.old < position_in self.new) }
         ensures err { OnErr result (u64_at (rest self.old) ≡ None) }
+        ensures unread { OnErr result (self.new ≡ self.old) }
         ensures told { IfErr result (λ r. r ≡ integer_refusal Integer.U64 64 self.old) }
     {
         match self.next_var_u64() {
@@ -314,7 +316,7 @@ impl<'a> BinaryReader<'a> {
         }
     }
 
-    /// The same, of more than one byte or none. Where it isn't there the reader stands behind what was
+    /// The same, of more than one byte or none. Where it isn't there, the reader is after what was
     /// read.
     #[inline(never)]
     fn next_long_u64(&mut self) -> Option<u64>
@@ -347,7 +349,7 @@ impl<'a> BinaryReader<'a> {
         Some(low + (self.next_upper_bits()? << 28))
     }
 
-    /// The bits of such a number behind its first 28, if they are there.
+    /// The bits of such a number after its first 28, if they are there.
     fn next_upper_bits(&mut self) -> Option<u64>
         ensures same { SameInput self.old self.new }
         ensures onward { position_in self.old ≤ position_in self.new }
@@ -397,7 +399,7 @@ impl<'a> BinaryReader<'a> {
     ///
     /// Refused where the number is negative, as no heap type, at the offset of its first byte; and
     /// where the bytes encode none: as cut off at the offset of the end, and else as too long at the
-    /// offset of the last byte that is allowed. The reader stays where it stood.
+    /// offset of the last byte that is allowed. The reader stays where it was.
     pub fn read_var_s33_index(&mut self) -> Result<u32, Refusal>
         ensures same { SameInput self.old self.new }
         ensures onward { position_in self.old ≤ position_in self.new }
@@ -449,7 +451,7 @@ impl<'a> BinaryReader<'a> {
     ///
     /// Refused where the bytes encode none: the end comes first, the last byte that is allowed has
     /// bits beyond the width, or a byte follows it. The offset is that of the end or of that last
-    /// byte. The reader stays where it stood.
+    /// byte. The reader stays where it was.
     pub fn read_var_i32(&mut self) -> Result<i32, Refusal>
         ensures same { SameInput self.old self.new }
         ensures onward { position_in self.old ≤ position_in self.new }
@@ -457,6 +459,7 @@ impl<'a> BinaryReader<'a> {
         ensures ok { IfOk result (λ n. integer_at 32 (rest self.old) ≡ Some (n, rest self.new)) }
         ensures further { OnOk result (position_in self.old < position_in self.new) }
         ensures err { OnErr result (integer_at 32 (rest self.old) ≡ None) }
+        ensures unread { OnErr result (self.new ≡ self.old) }
         ensures told { IfErr result (λ r. r ≡ integer_refusal Integer.I32 32 self.old) }
     {
         match self.next_var_i32() {
@@ -493,7 +496,7 @@ impl<'a> BinaryReader<'a> {
     ///
     /// Refused where the bytes encode none: the end comes first, the last byte that is allowed has
     /// bits beyond the width, or a byte follows it. The offset is that of the end or of that last
-    /// byte. The reader stays where it stood.
+    /// byte. The reader stays where it was.
     pub fn read_var_i64(&mut self) -> Result<i64, Refusal>
         ensures same { SameInput self.old self.new }
         ensures onward { position_in self.old ≤ position_in self.new }
@@ -501,6 +504,7 @@ impl<'a> BinaryReader<'a> {
         ensures ok { IfOk result (λ n. integer_at 64 (rest self.old) ≡ Some (n, rest self.new)) }
         ensures further { OnOk result (position_in self.old < position_in self.new) }
         ensures err { OnErr result (integer_at 64 (rest self.old) ≡ None) }
+        ensures unread { OnErr result (self.new ≡ self.old) }
         ensures told { IfErr result (λ r. r ≡ integer_refusal Integer.I64 64 self.old) }
     {
         match self.next_var_i64() {
@@ -535,7 +539,7 @@ impl<'a> BinaryReader<'a> {
     /// # Errors
     ///
     /// Refused as cut off, at the offset of the next byte, where fewer bytes are left. The reader
-    /// stays where it stood.
+    /// stays where it was.
     pub fn read_reader(&mut self, size: usize) -> Result<BinaryReader<'a>, Refusal>
         ensures same { SameInput self.old self.new }
         ensures onward { position_in self.old ≤ position_in self.new }
@@ -569,8 +573,9 @@ impl<'a> BinaryReader<'a> {
     ///
     /// # Errors
     ///
-    /// Refused where the size is, as by [`BinaryReader::read_var_u32`], and behind the size where
-    /// fewer bytes are left, as by [`BinaryReader::read_reader`].
+    /// Refused where the size is, as by [`BinaryReader::read_var_u32`], and after the size where
+    /// fewer bytes are left, as by [`BinaryReader::read_reader`]. The reader then is before the size
+    /// or after it.
     pub fn read_sized(&mut self) -> Result<BinaryReader<'a>, Refusal>
         ensures same { SameInput self.old self.new }
         ensures onward { position_in self.old ≤ position_in self.new }
@@ -589,6 +594,7 @@ impl<'a> BinaryReader<'a> {
             (u32_at (rest self.old)))) }
         ensures place { IfErr result (λ r. r.offset
             ≡ sized_place self.old self.new (u32_at (rest self.old))) }
+        ensures left { OnErr result (IsAfterSize self.old (u32_at (rest self.old)) self.new) }
     {
         let size = self.read_var_u32()?;
         self.read_reader(size as usize)
@@ -600,7 +606,7 @@ impl<'a> BinaryReader<'a> {
     /// # Errors
     ///
     /// Refused as by [`BinaryReader::read_sized`]; and where the bytes are no text, at the offset
-    /// of the last of them, wherever the fault is.
+    /// of the last of them, wherever the fault is. The reader is then after those bytes.
     #[tactic(auto, using(crate::proofs::Texts::name_from_text, crate::proofs::Texts::no_name_from_no_text))]
     pub fn read_string(&mut self) -> Result<&'a str, Refusal>
         ensures same { SameInput self.old self.new }
@@ -617,6 +623,8 @@ impl<'a> BinaryReader<'a> {
         ensures place { IfErr result (λ r. r.offset
             ≡ name_place (sized_place self.old self.new (u32_at (rest self.old))) self.new
             (sized_at (rest self.old))) }
+        ensures left { OnErr result (IsAfterName self.old (u32_at (rest self.old))
+            (sized_at (rest self.old)) self.new) }
     {
         let part = self.read_sized()?;
         match std::str::from_utf8(part.remaining()) {

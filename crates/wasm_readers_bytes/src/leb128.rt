@@ -65,7 +65,7 @@ pub(crate) fn long_signed_at(bytes: &[u8], bits: u8) -> Option<(i64, usize)>
     }
 }
 
-/// A number of its low seven bits and what stands above them.
+/// A number of its low seven bits and the bits above them.
 #[inline(always)]
 #[tactic(auto, using(crate::proofs::Powers::whole))]
 fn joined(high: i64, low: u8) -> i64
@@ -77,9 +77,9 @@ fn joined(high: i64, low: u8) -> i64
     high * 128 + i64::from(low - 128)
 }
 
-/// What is told of bytes that encode no number of at most `bits` bits, and how many bytes stand
-/// before the one that is wrong: of a last byte with bits beyond the width `large`, of one byte too
-/// many `long`.
+/// What is wrong with bytes that encode no number of at most `bits` bits, and how many bytes come
+/// before the wrong one: `large` for a last byte with bits beyond the width, `long` for one byte too
+/// many.
 pub(crate) fn wrong_number(
     bytes: &[u8],
     bits: u8,
