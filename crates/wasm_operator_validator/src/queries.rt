@@ -26,7 +26,7 @@ pub struct Frame {
     pub init_height: usize,
 }
 
-/// A number as far as 32 bits count.
+/// A number, or the greatest of 32 bits where it is greater.
 fn as_far_as_counted(height: usize) -> u32
     ensures few { height < 2 ^ 32 → result ≡ height }
     ensures many { 2 ^ 32 ≤ height → result ≡ 2 ^ 32 - 1 }
@@ -64,7 +64,7 @@ impl<A: Allocator> OperatorValidator<A> {
         }
     }
 
-    /// How many operands there are, as far as 32 bits count.
+    /// How many operands there are, and 2³² - 1 where there are more.
     pub fn operand_stack_height(&self) -> u32
         ensures few { length (typed_state self.now).operands < 2 ^ 32
             → result ≡ length (typed_state self.now).operands }
@@ -88,7 +88,7 @@ impl<A: Allocator> OperatorValidator<A> {
         }
     }
 
-    /// How many frames are open, as far as 32 bits count.
+    /// How many frames are open, and 2³² - 1 where there are more.
     pub fn control_stack_height(&self) -> u32
         ensures few { length (typed_state self.now).frames < 2 ^ 32
             → result ≡ length (typed_state self.now).frames }

@@ -60,7 +60,7 @@ fn read_mark(reader: &mut BinaryReader<'_>, mark: u8) -> bool
     }
 }
 
-/// A type index behind this mark, where the mark stands.
+/// A type index after this mark, where the mark is there.
 #[tactic(auto, unfolding(crate::proofs::Cited::marked_index_at))]
 fn read_marked_index(
     reader: &mut BinaryReader<'_>,
@@ -96,7 +96,7 @@ impl<'a, A: Allocator> FromReader<'a, A> for PackedIndex {
     }
 }
 
-/// A function type, behind its byte.
+/// A function type, after its byte.
 #[tactic(auto, unfolding(crate::proofs::Cited::func_at))]
 fn read_func_type<'a, A: Allocator + Copy>(
     alloc: A,
@@ -112,7 +112,7 @@ fn read_func_type<'a, A: Allocator + Copy>(
     Ok(FuncType::new(params, results))
 }
 
-/// A structure type, behind its byte.
+/// A structure type, after its byte.
 fn read_struct_type<'a, A: Allocator + Copy>(
     alloc: A,
     reader: &mut BinaryReader<'a>,
@@ -129,7 +129,7 @@ fn read_struct_type<'a, A: Allocator + Copy>(
     })
 }
 
-/// A composite type without what stands before it.
+/// A composite type without the clauses before it.
 #[tactic(auto, unfolding(crate::proofs::Cited::comp_at))]
 fn read_composite_inner_type<'a, A: Allocator + Copy>(
     alloc: A,
@@ -150,7 +150,7 @@ fn read_composite_inner_type<'a, A: Allocator + Copy>(
     }
 }
 
-/// A composite type behind its marks, as a sub type of these supertypes.
+/// A composite type after its marks, as a sub type of these supertypes.
 #[tactic(auto, unfolding(crate::proofs::Cited::final_or_not))]
 fn read_final_or_not<'a, A: Allocator + Copy>(
     alloc: A,

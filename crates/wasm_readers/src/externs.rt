@@ -124,7 +124,7 @@ pub fn read_table_type(reader: &mut BinaryReader<'_>) -> Result<TableType, Refus
     })
 }
 
-/// What stands of a table of the table section before its initializer: its type, and whether an
+/// The part of a table of the table section before its initializer: its type, and whether an
 /// initializer follows (Core Specification 3.0, Binary Format, Modules, Table Section).
 ///
 /// # Errors

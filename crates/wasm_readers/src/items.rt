@@ -48,7 +48,7 @@ pub enum TableInit<'a> {
     Expr(ConstExpr<'a>),
 }
 
-/// What stands of a table before its initializer.
+/// The part of a table before its initializer.
 #[derive(Clone, Copy, Debug)]
 pub struct TableHead {
     /// The table's type.
@@ -76,7 +76,7 @@ pub enum ElementKind<'a> {
     Declared,
 }
 
-/// The items of an element segment, as their bytes behind the count.
+/// The items of an element segment, as their bytes after the count.
 #[derive(Clone, Copy, Debug)]
 pub enum ElementItems<'a> {
     Functions(BinaryReader<'a>),

@@ -30,7 +30,7 @@ pub use wasm_readers_bytes::readers_types::{
     TypeRef, UnpackedIndex, ValType,
 };
 
-/// However expressions are read, a table of the table section is its first part and what is behind
+/// However expressions are read, a table of the table section is its first part and what is after
 /// it: an expression, where it has an initializer (Core Specification 3.0, Binary Format, Modules,
 /// Table Section).
 pub fn table_heads_begin_tables()

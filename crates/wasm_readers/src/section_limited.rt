@@ -17,13 +17,13 @@ pub trait FromReader<'a, A: Allocator>: Sized + Drop {
     /// What contracts see of an item.
     ghost Value: { Type 0 };
 
-    /// What the format encodes at the front of these bytes, and the bytes behind it.
+    /// What the format encodes at the front of these bytes, and the bytes after it.
     ghost encoded: { List ℕ → Option (Value × List ℕ) };
 
-    /// What an item stands for, without where it lies.
+    /// What an item means, without its place in the input.
     ghost value: { Self → Value };
 
-    /// What may be told of content that is refused, from where the reader stands.
+    /// What a refusal of content may say, by where the reader is.
     ghost refuses: { Telling };
 
     fn from_reader(alloc: A, reader: &mut BinaryReader<'a>) -> Result<Self, Error>
@@ -120,7 +120,7 @@ impl<'a, T, A: Allocator + Copy> SectionLimited<'a, T, A> {
         self.reader.original_position()
     }
 
-    /// The offsets in the whole input of the section's first byte and of the byte behind it.
+    /// The offsets in the whole input of the section's first byte and of the byte after it.
     pub fn range(&self) -> Range<u64>
         ensures start { result.start ≡ section_start self.now }
         ensures end { result.end ≡ section_end self.now }
@@ -128,7 +128,7 @@ impl<'a, T, A: Allocator + Copy> SectionLimited<'a, T, A> {
         self.reader.range()
     }
 
-    /// What is behind the count, to be read by who reads the items himself.
+    /// The bytes after the count, for a caller that reads the items itself.
     pub fn reader(&self) -> BinaryReader<'a>
         ensures rest { rest result ≡ bytes_of self.now }
         ensures start { original result ≡ section_start self.now }
@@ -187,7 +187,7 @@ impl<'a, T: FromReader<'a, A>, A: Allocator + Copy> SectionItems<'a, T, A> {
     ///
     /// # Errors
     ///
-    /// Refused where the bytes encode no item; behind the last item, where bytes are left, at the
+    /// Refused where the bytes encode no item; after the last item, where bytes are left, at the
     /// first of them; and where memory is. A further call goes on where this one stopped; the
     /// iterator ends there.
     pub fn read_next(&mut self) -> Result<Option<(u64, T)>, Error>

@@ -134,7 +134,7 @@ pub fn read_ref_type(reader: &mut BinaryReader<'_>) -> Result<RefType, Refusal>
     read_ref_type_or(reader, Malformed::ReferenceType)
 }
 
-/// The same, with what is told of a byte that begins none.
+/// The same, with the fault of a byte that begins none.
 #[tactic(auto, unfolding(crate::proofs::Cited::ref_at))]
 fn read_ref_type_or(reader: &mut BinaryReader<'_>, malformed: Malformed) -> Result<RefType, Refusal>
     ensures same { SameInput reader.old reader.new }

@@ -15,12 +15,13 @@ use bitflags::{Flag, Flags, bitflag_items};
 /// - `FLOATS`: floating-point types.
 /// - `MULTI_MEMORY`: more than one memory.
 /// - `EXCEPTIONS`: tags, and references to exceptions.
-/// - `MEMORY64`: memories and tables of 64 bits.
-/// - `EXTENDED_CONST`: sums and products in constant expressions.
+/// - `MEMORY64`: memories and tables whose addresses have 64 bits.
+/// - `EXTENDED_CONST`: `add`, `sub` and `mul` of integers in constant expressions.
 /// - `FUNCTION_REFERENCES`: references to types by index, and ones that may not be null.
 /// - `GC`: recursion groups, sub types, structures and arrays.
-/// - `GC_TYPES`: types of what is collected, besides functions and exceptions.
-/// - `CUSTOM_PAGE_SIZES`: memories whose pages have one byte.
+/// - `GC_TYPES`: structure, array and continuation types, and references to anything but functions
+///   and exceptions.
+/// - `CUSTOM_PAGE_SIZES`: memories with a written page size, a power of two up to 65,536 bytes.
 /// - `CUSTOM_DESCRIPTORS`: descriptor clauses, and exact references.
 /// - `STACK_SWITCHING`: continuations.
 /// - `COMPONENT_MODEL`: components, which are not validated.
@@ -140,14 +141,14 @@ impl WasmFeatures {
         self.contains(WasmFeatures::EXCEPTIONS)
     }
 
-    /// Whether `MEMORY64` is on: memories and tables of 64 bits.
+    /// Whether `MEMORY64` is on: memories and tables whose addresses have 64 bits.
     pub fn memory64(&self) -> bool
         ensures { result ≡ memory64_on self.now }
     {
         self.contains(WasmFeatures::MEMORY64)
     }
 
-    /// Whether `EXTENDED_CONST` is on: sums and products in constant expressions.
+    /// Whether `EXTENDED_CONST` is on: `add`, `sub` and `mul` of integers in constant expressions.
     pub fn extended_const(&self) -> bool
         ensures { result ≡ extended_const_on self.now }
     {
@@ -168,14 +169,15 @@ impl WasmFeatures {
         self.contains(WasmFeatures::GC)
     }
 
-    /// Whether `GC_TYPES` is on: types of what is collected, besides functions and exceptions.
+    /// Whether `GC_TYPES` is on: structure, array and continuation types, and references to anything
+    /// but functions and exceptions.
     pub fn gc_types(&self) -> bool
         ensures { result ≡ gc_types_on self.now }
     {
         self.contains(WasmFeatures::GC_TYPES)
     }
 
-    /// Whether `CUSTOM_PAGE_SIZES` is on: memories whose pages have one byte.
+    /// Whether `CUSTOM_PAGE_SIZES` is on: memories whose page size is written.
     pub fn custom_page_sizes(&self) -> bool
         ensures { result ≡ custom_page_sizes_on self.now }
     {
