@@ -1,5 +1,6 @@
 ghost use Rattle.std.proofs.Common.{rules};
 
+use std::fmt;
 use wasm_readers_values::{CoreTypeId, Exact, Faithful, RefType, ValType};
 
 /// A table type (Core Specification 3.0, Structure, Types, Table Types).
@@ -61,7 +62,7 @@ pub struct TagType {
 
 /// What an import asks for (Core Specification 3.0, Structure, Types, External Types). Functions
 /// and tags name their type by its type index.
-#[derive(Clone, Copy, PartialEq, Eq, Hash, Debug)]
+#[derive(Clone, Copy, PartialEq, Eq, Hash)]
 pub enum TypeRef {
     /// A function of this type or of a subtype.
     Func(u32),
@@ -79,7 +80,7 @@ pub enum TypeRef {
 
 /// The type of what a module imports or exports (Core Specification 3.0, Validation, Types,
 /// External Types). A reference in the type of a table or a global is the id of a type.
-#[derive(Clone, Copy, PartialEq, Eq, Debug)]
+#[derive(Clone, Copy, PartialEq, Eq)]
 pub enum EntityType {
     /// A function of the type with this id, or of a subtype.
     Func(CoreTypeId),
@@ -109,6 +110,43 @@ pub enum ExternalKind {
     Global,
     /// A tag.
     Tag,
+}
+
+/// A variant and its field, as a derived `Debug` writes them.
+fn write_variant<T: fmt::Debug, W: fmt::Write>(
+    f: &mut fmt::Formatter<W>,
+    name: &str,
+    field: &T,
+) -> fmt::Result {
+    f.debug_tuple(name).field(field).finish()
+}
+
+// By hand: so each variant takes one call for it, and not three.
+impl fmt::Debug for TypeRef {
+    fn fmt<W: fmt::Write>(&self, f: &mut fmt::Formatter<W>) -> fmt::Result {
+        match self {
+            TypeRef::Func(index) => write_variant(f, "Func", index),
+            TypeRef::FuncExact(index) => write_variant(f, "FuncExact", index),
+            TypeRef::Table(ty) => write_variant(f, "Table", ty),
+            TypeRef::Memory(ty) => write_variant(f, "Memory", ty),
+            TypeRef::Global(ty) => write_variant(f, "Global", ty),
+            TypeRef::Tag(ty) => write_variant(f, "Tag", ty),
+        }
+    }
+}
+
+// By hand, as that of `TypeRef`.
+impl fmt::Debug for EntityType {
+    fn fmt<W: fmt::Write>(&self, f: &mut fmt::Formatter<W>) -> fmt::Result {
+        match self {
+            EntityType::Func(id) => write_variant(f, "Func", id),
+            EntityType::FuncExact(id) => write_variant(f, "FuncExact", id),
+            EntityType::Table(ty) => write_variant(f, "Table", ty),
+            EntityType::Memory(ty) => write_variant(f, "Memory", ty),
+            EntityType::Global(ty) => write_variant(f, "Global", ty),
+            EntityType::Tag(id) => write_variant(f, "Tag", id),
+        }
+    }
 }
 
 impl Exact for TableType {

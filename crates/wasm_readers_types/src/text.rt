@@ -6,17 +6,17 @@ use crate::types::{
     ArrayType, CompositeInnerType, CompositeType, ContType, FuncType, StructType, SubType,
 };
 use std::alloc::Allocator;
-use std::fmt;
-use wasm_readers_values::ValType;
+use std::fmt::{self, Display};
+use wasm_readers_values::{PackedIndex, ValType};
 
 /// `i64 shared 1 10 funcref`: whether addresses have 64 bits, whether it is shared, the sizes in
 /// elements, and what each place holds.
 impl fmt::Display for TableType {
     fn fmt<W: fmt::Write>(&self, f: &mut fmt::Formatter<W>) -> fmt::Result {
-        let element = self.element_type;
         write_head(f, self.table64, self.shared)?;
         write_limits(f, self.initial, self.maximum)?;
-        write!(f, " {element}")
+        f.write_str(" ")?;
+        self.element_type.fmt(f)
     }
 }
 
@@ -35,14 +35,24 @@ impl fmt::Display for MemoryType {
     }
 }
 
+/// A word and what follows it, with a brace behind.
+fn write_braced<T: fmt::Display, W: fmt::Write>(
+    f: &mut fmt::Formatter<W>,
+    word: &str,
+    value: &T,
+) -> fmt::Result {
+    f.write_str(word)?;
+    value.fmt(f)?;
+    f.write_str(")")
+}
+
 fn write_head<W: fmt::Write>(f: &mut fmt::Formatter<W>, is_64: bool, shared: bool) -> fmt::Result {
-    if is_64 {
-        f.write_str("i64 ")?;
+    match (is_64, shared) {
+        (false, false) => Ok(()),
+        (true, false) => f.write_str("i64 "),
+        (false, true) => f.write_str("shared "),
+        (true, true) => f.write_str("i64 shared "),
     }
-    if shared {
-        f.write_str("shared ")?;
-    }
-    Ok(())
 }
 
 fn write_limits<W: fmt::Write>(
@@ -50,21 +60,22 @@ fn write_limits<W: fmt::Write>(
     initial: u64,
     maximum: Option<u64>,
 ) -> fmt::Result {
+    write!(f, "{initial}")?;
     match maximum {
-        Some(maximum) => write!(f, "{initial} {maximum}"),
-        None => write!(f, "{initial}"),
+        Some(maximum) => write!(f, " {maximum}"),
+        None => Ok(()),
     }
 }
 
 /// `i32`, `(mut i32)`, `(shared i32)` or `(shared mut i32)`.
 impl fmt::Display for GlobalType {
     fn fmt<W: fmt::Write>(&self, f: &mut fmt::Formatter<W>) -> fmt::Result {
-        let content = self.content_type;
+        let content = &self.content_type;
         match (self.shared, self.mutable) {
-            (false, false) => write!(f, "{content}"),
-            (false, true) => write!(f, "(mut {content})"),
-            (true, false) => write!(f, "(shared {content})"),
-            (true, true) => write!(f, "(shared mut {content})"),
+            (false, false) => content.fmt(f),
+            (false, true) => write_braced(f, "(mut ", content),
+            (true, false) => write_braced(f, "(shared ", content),
+            (true, true) => write_braced(f, "(shared mut ", content),
         }
     }
 }
@@ -73,13 +84,16 @@ impl fmt::Display for GlobalType {
 /// `(global (mut i32))` or `(tag (id 3))`.
 impl fmt::Display for EntityType {
     fn fmt<W: fmt::Write>(&self, f: &mut fmt::Formatter<W>) -> fmt::Result {
-        match *self {
-            EntityType::Func(id) => write!(f, "(func {id})"),
-            EntityType::FuncExact(id) => write!(f, "(func (exact {id}))"),
-            EntityType::Table(ty) => write!(f, "(table {ty})"),
-            EntityType::Memory(ty) => write!(f, "(memory {ty})"),
-            EntityType::Global(ty) => write!(f, "(global {ty})"),
-            EntityType::Tag(id) => write!(f, "(tag {id})"),
+        match self {
+            EntityType::Func(id) => write_braced(f, "(func ", id),
+            EntityType::FuncExact(id) => {
+                write_braced(f, "(func (exact ", id)?;
+                f.write_str(")")
+            }
+            EntityType::Table(ty) => write_braced(f, "(table ", ty),
+            EntityType::Memory(ty) => write_braced(f, "(memory ", ty),
+            EntityType::Global(ty) => write_braced(f, "(global ", ty),
+            EntityType::Tag(id) => write_braced(f, "(tag ", id),
         }
     }
 }
@@ -105,8 +119,8 @@ fn write_values<W: fmt::Write>(
     }
     f.write_str(word)?;
     for ty in types {
-        let ty = *ty;
-        write!(f, " {ty}")?;
+        f.write_str(" ")?;
+        ty.fmt(f)?;
     }
     f.write_str(")")
 }
@@ -114,8 +128,7 @@ fn write_values<W: fmt::Write>(
 /// `(array (mut i8))`.
 impl fmt::Display for ArrayType {
     fn fmt<W: fmt::Write>(&self, f: &mut fmt::Formatter<W>) -> fmt::Result {
-        let field = self.0;
-        write!(f, "(array {field})")
+        write_braced(f, "(array ", &self.0)
     }
 }
 
@@ -124,8 +137,7 @@ impl<A: Allocator> fmt::Display for StructType<A> {
     fn fmt<W: fmt::Write>(&self, f: &mut fmt::Formatter<W>) -> fmt::Result {
         f.write_str("(struct")?;
         for field in self.fields.as_slice() {
-            let field = *field;
-            write!(f, " (field {field})")?;
+            write_braced(f, " (field ", field)?;
         }
         f.write_str(")")
     }
@@ -134,8 +146,7 @@ impl<A: Allocator> fmt::Display for StructType<A> {
 /// `(cont (module 3))`.
 impl fmt::Display for ContType {
     fn fmt<W: fmt::Write>(&self, f: &mut fmt::Formatter<W>) -> fmt::Result {
-        let index = self.0;
-        write!(f, "(cont {index})")
+        write_braced(f, "(cont ", &self.0)
     }
 }
 
@@ -154,12 +165,8 @@ impl<A: Allocator> fmt::Display for CompositeInnerType<A> {
 /// `(descriptor (module 4))` where it has these clauses.
 impl<A: Allocator> fmt::Display for CompositeType<A> {
     fn fmt<W: fmt::Write>(&self, f: &mut fmt::Formatter<W>) -> fmt::Result {
-        if let Some(index) = self.describes_idx {
-            write!(f, "(describes {index}) ")?;
-        }
-        if let Some(index) = self.descriptor_idx {
-            write!(f, "(descriptor {index}) ")?;
-        }
+        write_clause(f, "(describes ", self.describes_idx)?;
+        write_clause(f, "(descriptor ", self.descriptor_idx)?;
         if !self.shared {
             return self.inner.fmt(f);
         }
@@ -169,22 +176,62 @@ impl<A: Allocator> fmt::Display for CompositeType<A> {
     }
 }
 
+/// A clause of this index, with a space behind, if there is one.
+fn write_clause<W: fmt::Write>(
+    f: &mut fmt::Formatter<W>,
+    word: &str,
+    index: Option<PackedIndex>,
+) -> fmt::Result {
+    match index {
+        Some(index) => write_spaced(f, word, &index),
+        None => Ok(()),
+    }
+}
+
+/// The same, where there is one.
+fn write_spaced<W: fmt::Write>(
+    f: &mut fmt::Formatter<W>,
+    word: &str,
+    index: &PackedIndex,
+) -> fmt::Result {
+    write_braced(f, word, index)?;
+    f.write_str(" ")
+}
+
 /// `(sub final (module 3) (func))`, and the composite type alone where it is final and extends
 /// nothing.
 impl<A: Allocator> fmt::Display for SubType<A> {
     fn fmt<W: fmt::Write>(&self, f: &mut fmt::Formatter<W>) -> fmt::Result {
         if self.is_final && self.supertype_idxs.is_empty() {
-            return self.composite_type.fmt(f);
+            self.composite_type.fmt(f)
+        } else if self.is_final {
+            write_sub(f, "(sub final ", self)
+        } else {
+            write_sub(f, "(sub ", self)
         }
-        f.write_str("(sub ")?;
-        if self.is_final {
-            f.write_str("final ")?;
-        }
-        for index in self.supertype_idxs.as_slice() {
-            let index = *index;
-            write!(f, "{index} ")?;
-        }
-        self.composite_type.fmt(f)?;
-        f.write_str(")")
     }
+}
+
+/// This word, and the sub type's supertypes and composite type.
+fn write_sub<W: fmt::Write, A: Allocator>(
+    f: &mut fmt::Formatter<W>,
+    word: &str,
+    ty: &SubType<A>,
+) -> fmt::Result {
+    f.write_str(word)?;
+    write_supertypes(f, ty.supertype_idxs.as_slice())?;
+    ty.composite_type.fmt(f)?;
+    f.write_str(")")
+}
+
+/// The indices, each with a space behind.
+fn write_supertypes<W: fmt::Write>(
+    f: &mut fmt::Formatter<W>,
+    indices: &[PackedIndex],
+) -> fmt::Result {
+    for index in indices {
+        index.fmt(f)?;
+        f.write_str(" ")?;
+    }
+    Ok(())
 }

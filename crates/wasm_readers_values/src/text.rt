@@ -47,11 +47,30 @@ impl AbstractHeapType {
     }
 }
 
+/// A word and what follows it, with a brace behind.
+fn write_braced<T: fmt::Display, W: fmt::Write>(
+    f: &mut fmt::Formatter<W>,
+    word: &str,
+    value: &T,
+) -> fmt::Result {
+    f.write_str(word)?;
+    value.fmt(f)?;
+    f.write_str(")")
+}
+
+/// The same of a number, which is written without the options of the formatter.
+fn write_numbered<W: fmt::Write>(
+    f: &mut fmt::Formatter<W>,
+    word: &str,
+    number: usize,
+) -> fmt::Result {
+    write!(f, "{word}{number})")
+}
+
 /// `(id 3)`: the number is the type's place in the list of types.
 impl fmt::Display for CoreTypeId {
     fn fmt<W: fmt::Write>(&self, f: &mut fmt::Formatter<W>) -> fmt::Result {
-        let number = self.index();
-        write!(f, "(id {number})")
+        write_numbered(f, "(id ", self.index())
     }
 }
 
@@ -60,9 +79,9 @@ impl fmt::Display for CoreTypeId {
 impl fmt::Display for UnpackedIndex {
     fn fmt<W: fmt::Write>(&self, f: &mut fmt::Formatter<W>) -> fmt::Result {
         match *self {
-            UnpackedIndex::Module(number) => write!(f, "(module {number})"),
-            UnpackedIndex::RecGroup(number) => write!(f, "(recgroup {number})"),
-            UnpackedIndex::Id(id) => write!(f, "{id}"),
+            UnpackedIndex::Module(number) => write_numbered(f, "(module ", number as usize),
+            UnpackedIndex::RecGroup(number) => write_numbered(f, "(recgroup ", number as usize),
+            UnpackedIndex::Id(id) => id.fmt(f),
         }
     }
 }
@@ -70,8 +89,7 @@ impl fmt::Display for UnpackedIndex {
 /// As the index that it packs.
 impl fmt::Display for PackedIndex {
     fn fmt<W: fmt::Write>(&self, f: &mut fmt::Formatter<W>) -> fmt::Result {
-        let index = self.unpack();
-        write!(f, "{index}")
+        self.unpack().fmt(f)
     }
 }
 
@@ -81,19 +99,15 @@ impl fmt::Display for HeapType {
             HeapType::Abstract { shared, ty } => {
                 let name = ty.name();
                 if *shared {
-                    write!(f, "(shared {name})")
+                    f.write_str("(shared ")?;
+                    f.write_str(name)?;
+                    f.write_str(")")
                 } else {
                     f.write_str(name)
                 }
             }
-            HeapType::Concrete(index) => {
-                let index = *index;
-                write!(f, "{index}")
-            }
-            HeapType::Exact(index) => {
-                let index = *index;
-                write!(f, "(exact {index})")
-            }
+            HeapType::Concrete(index) => index.fmt(f),
+            HeapType::Exact(index) => write_braced(f, "(exact ", index),
         }
     }
 }
@@ -102,11 +116,11 @@ impl fmt::Display for RefType {
     fn fmt<W: fmt::Write>(&self, f: &mut fmt::Formatter<W>) -> fmt::Result {
         let heap = self.heap_type();
         if !self.is_nullable() {
-            return write!(f, "(ref {heap})");
+            return write_braced(f, "(ref ", &heap);
         }
         match heap {
             HeapType::Abstract { shared: false, ty } => f.write_str(ty.reference_name()),
-            _ => write!(f, "(ref null {heap})"),
+            _ => write_braced(f, "(ref null ", &heap),
         }
     }
 }
@@ -119,20 +133,17 @@ impl fmt::Display for ValType {
             ValType::F32 => f.write_str("f32"),
             ValType::F64 => f.write_str("f64"),
             ValType::V128 => f.write_str("v128"),
-            ValType::Ref(ty) => {
-                let ty = *ty;
-                write!(f, "{ty}")
-            }
+            ValType::Ref(ty) => ty.fmt(f),
         }
     }
 }
 
 impl fmt::Display for StorageType {
     fn fmt<W: fmt::Write>(&self, f: &mut fmt::Formatter<W>) -> fmt::Result {
-        match *self {
+        match self {
             StorageType::I8 => f.write_str("i8"),
             StorageType::I16 => f.write_str("i16"),
-            StorageType::Val(ty) => write!(f, "{ty}"),
+            StorageType::Val(ty) => ty.fmt(f),
         }
     }
 }
@@ -140,11 +151,10 @@ impl fmt::Display for StorageType {
 /// `i32`, or `(mut i32)` where the field can be written.
 impl fmt::Display for FieldType {
     fn fmt<W: fmt::Write>(&self, f: &mut fmt::Formatter<W>) -> fmt::Result {
-        let ty = self.element_type;
         if self.mutable {
-            write!(f, "(mut {ty})")
+            write_braced(f, "(mut ", &self.element_type)
         } else {
-            write!(f, "{ty}")
+            self.element_type.fmt(f)
         }
     }
 }
