@@ -1,9 +1,11 @@
--- Which proposal would lift the refusal of an operator.
+-- Which proposal would lift the refusal of an operator, and which one an operator of constant expressions needs.
 use Rattle.std.specs.Prelude.{Option, Some, None}
 use Rattle.wasm_readers_features.specs.declared.features.WasmFeatures.{WasmFeatures}
-use Rattle.wasm_readers_features.specs.declared.features.TheConstants.WasmFeatures.{FLOATS, SIMD, MULTI_VALUE, REFERENCE_TYPES, BULK_MEMORY, EXCEPTIONS, FUNCTION_REFERENCES, GC, SHARED_EVERYTHING_THREADS, CUSTOM_DESCRIPTORS}
+use Rattle.wasm_readers_features.specs.declared.features.TheConstants.WasmFeatures.{FLOATS, SIMD, MULTI_VALUE, REFERENCE_TYPES, BULK_MEMORY, EXCEPTIONS, FUNCTION_REFERENCES, GC, SHARED_EVERYTHING_THREADS, CUSTOM_DESCRIPTORS, EXTENDED_CONST}
 use Rattle.wasm_readers_errors.specs.declared.operator_rules.OperatorRule.{OperatorRule}
 use Rattle.wasm_readers_errors.specs.declared.operator_rules.OperatorRule.TheVariants as rule
+use Rattle.wasm_readers_errors.specs.declared.operator_rules.GatedConstant.{GatedConstant}
+use Rattle.wasm_readers_errors.specs.declared.operator_rules.GatedConstant.TheVariants as constant
 
 -- the proposal that would lift a refusal by this rule
 abbrev pub lifting : OperatorRule → Option WasmFeatures
@@ -19,3 +21,24 @@ lifting rule.SharedEverything = Some SHARED_EVERYTHING_THREADS
 lifting rule.CustomDescriptors = Some CUSTOM_DESCRIPTORS
 lifting rule.LocalGlobal = Some GC
 lifting _ = None
+
+-- The proposal that this operator of constant expressions needs.
+-- Core Specification 3.0, Appendix, Change History, Release 3.0: extended constant expressions, and garbage collection.
+abbrev pub needed_by : GatedConstant → WasmFeatures
+needed_by constant.I32Add = EXTENDED_CONST
+needed_by constant.I32Sub = EXTENDED_CONST
+needed_by constant.I32Mul = EXTENDED_CONST
+needed_by constant.I64Add = EXTENDED_CONST
+needed_by constant.I64Sub = EXTENDED_CONST
+needed_by constant.I64Mul = EXTENDED_CONST
+needed_by constant.StructNew = GC
+needed_by constant.StructNewDefault = GC
+needed_by constant.StructNewDesc = GC
+needed_by constant.StructNewDefaultDesc = GC
+needed_by constant.ArrayNew = GC
+needed_by constant.ArrayNewDefault = GC
+needed_by constant.ArrayNewFixed = GC
+needed_by constant.RefI31 = GC
+needed_by constant.ExternConvertAny = GC
+needed_by constant.AnyConvertExtern = GC
+needed_by constant.RefI31Shared = SHARED_EVERYTHING_THREADS

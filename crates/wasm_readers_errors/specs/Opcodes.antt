@@ -1,10 +1,10 @@
--- What is told of an opcode that no operator has which is served.
+-- What is wrong with an opcode that no operator has which is read.
 -- Core Specification 3.0, Binary Format, Instructions.
 use Rattle.std.specs.Prelude.{ℕ, ◌==◌, not, nat_lt, if◌then◌else◌, Bool, true, false}
 use Rattle.wasm_readers_errors.specs.declared.error.Malformed as declared
 use Rattle.wasm_readers_errors.specs.declared.error.Malformed.TheVariants.{PrefixedOpcode, VectorOperator, AtomicOperator}
 
--- the numbers below 276 behind the prefix 0xfd that no vector operator has
+-- the numbers below 276 after the prefix 0xfd that no vector operator has
 abbrev pub is_vector_gap : ℕ → Bool
 is_vector_gap code =
     if code == 154 then true
@@ -29,11 +29,11 @@ is_vector_gap code =
     else (if code == 238 then true
     else false)))))))))))))))))))
 
--- a vector operator has this number behind the prefix 0xfd
+-- a vector operator has this number after the prefix 0xfd
 abbrev pub is_vector_code : ℕ → Bool
 is_vector_code code = if nat_lt code 276 then not (is_vector_gap code) else false
 
--- what is told of this number behind this prefix, where no operator that is served has it
+-- what is wrong with this prefix and this number after it, where no operator that is read has them
 abbrev pub told_of_prefixed : ℕ → ℕ → declared.Malformed
 told_of_prefixed prefix code =
     if prefix == 254 then AtomicOperator

@@ -91,11 +91,11 @@ pub enum Malformed {
     DataCounts,
     /// No operator has this opcode, which is one byte.
     Opcode(u8),
-    /// No operator has this opcode: a prefix, and the number behind it.
+    /// No operator has this opcode: a prefix, and the number after it.
     PrefixedOpcode(u8, u32),
-    /// An operator on vectors other than `v128.const`, which are not served.
+    /// An operator on vectors other than `v128.const`: none of these is read.
     VectorOperator,
-    /// An atomic operator, which are not served.
+    /// An atomic operator, whose opcode begins with `0xfe`: none of these is read.
     AtomicOperator,
     /// The alignment of a memory operator is too large.
     Alignment,
@@ -108,8 +108,8 @@ pub enum Malformed {
 impl Malformed {
     ghost use Rattle.wasm_readers_errors.specs.Opcodes.{told_of_prefixed};
 
-    /// What is told of this number behind this prefix, where no operator that is served has it (Core
-    /// Specification 3.0, Binary Format, Instructions).
+    /// What is wrong with an opcode of this prefix and this number after it, where no operator that
+    /// is read has it (Core Specification 3.0, Binary Format, Instructions).
     pub fn of_prefixed_opcode(prefix: u8, code: u32) -> Malformed
         ensures { result ≡ told_of_prefixed prefix code }
     {
@@ -181,7 +181,7 @@ impl Malformed {
     }
 }
 
-/// Whether a vector operator has this number behind the prefix `0xfd` (Core Specification 3.0,
+/// Whether a vector operator has this number after the prefix `0xfd` (Core Specification 3.0,
 /// Binary Format, Instructions, Vector Instructions).
 fn is_vector_code(code: u32) -> bool
     ensures { result ≡ is_vector_code code }
@@ -367,7 +367,7 @@ impl ItemKind {
 }
 
 /// Why content is refused.
-#[derive(Clone, Copy, PartialEq, Eq, Debug)]
+#[derive(Clone, Copy, PartialEq, Eq)]
 pub enum Fault {
     /// Bytes that do not follow the binary format.
     Malformed(Malformed),
@@ -415,6 +415,56 @@ pub enum Fault {
     UnknownBinaryVersion(u16),
     /// A component header of this number, without the component model.
     ComponentHeader(u16),
+}
+
+/// A variant and its field, as a derived `Debug` writes them.
+fn write_variant<T: fmt::Debug, W: fmt::Write>(
+    f: &mut fmt::Formatter<W>,
+    name: &str,
+    field: &T,
+) -> fmt::Result {
+    f.debug_tuple(name).field(field).finish()
+}
+
+/// A variant and its two fields, as a derived `Debug` writes them.
+fn write_pair<T: fmt::Debug, U: fmt::Debug, W: fmt::Write>(
+    f: &mut fmt::Formatter<W>,
+    name: &str,
+    first: &T,
+    second: &U,
+) -> fmt::Result {
+    f.debug_tuple(name).field(first).field(second).finish()
+}
+
+// By hand: so each variant takes one call for it, and not three.
+impl fmt::Debug for Fault {
+    fn fmt<W: fmt::Write>(&self, f: &mut fmt::Formatter<W>) -> fmt::Result {
+        match self {
+            Fault::Malformed(malformed) => write_variant(f, "Malformed", malformed),
+            Fault::OutOfOrder(order) => write_variant(f, "OutOfOrder", order),
+            Fault::Rule(rule) => write_variant(f, "Rule", rule),
+            Fault::Group(rule) => write_variant(f, "Group", rule),
+            Fault::Descriptor(rule) => write_variant(f, "Descriptor", rule),
+            Fault::ValueType(rule) => write_variant(f, "ValueType", rule),
+            Fault::Item(rule) => write_variant(f, "Item", rule),
+            Fault::UnknownType(index) => write_variant(f, "UnknownType", index),
+            Fault::UnknownTypeWithoutGc(index) => write_variant(f, "UnknownTypeWithoutGc", index),
+            Fault::OutOfGroup(index) => write_variant(f, "OutOfGroup", index),
+            Fault::SubtypesTooDeep(depth) => write_variant(f, "SubtypesTooDeep", depth),
+            Fault::NotAFunctionType(index) => write_variant(f, "NotAFunctionType", index),
+            Fault::NotAFunctionId(id) => write_variant(f, "NotAFunctionId", id),
+            Fault::MemorySize(pages, page) => write_pair(f, "MemorySize", pages, page),
+            Fault::UnknownFunction(index) => write_variant(f, "UnknownFunction", index),
+            Fault::UnknownExport(kind, index) => write_pair(f, "UnknownExport", kind, index),
+            Fault::Limit(what, limit) => write_pair(f, "Limit", what, limit),
+            Fault::Operator(rule, number) => write_pair(f, "Operator", rule, number),
+            Fault::OperandType(expected, found) => write_pair(f, "OperandType", expected, found),
+            Fault::GatedConstant(operator) => write_variant(f, "GatedConstant", operator),
+            Fault::UnknownSection(id) => write_variant(f, "UnknownSection", id),
+            Fault::UnknownBinaryVersion(number) => write_variant(f, "UnknownBinaryVersion", number),
+            Fault::ComponentHeader(number) => write_variant(f, "ComponentHeader", number),
+        }
+    }
 }
 
 impl fmt::Display for Fault {

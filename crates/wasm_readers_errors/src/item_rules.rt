@@ -26,7 +26,7 @@ pub enum ItemRule {
     SharedMemoryMaximum,
     /// A page size that is written needs `CUSTOM_PAGE_SIZES`.
     CustomPageSizes,
-    /// A page has 1 byte or 65,536.
+    /// The number of bytes of a page is a power of two, and at most 65,536.
     PageSize,
     /// The results of a tag need `STACK_SWITCHING`.
     TagResults,

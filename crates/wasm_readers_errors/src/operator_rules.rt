@@ -2,7 +2,7 @@
 //! is broken.
 
 ghost use Rattle.std.specs.Prelude.{◌≡◌};
-ghost use Rattle.wasm_readers_errors.specs.Lifting.{lifting};
+ghost use Rattle.wasm_readers_errors.specs.Lifting.{lifting, needed_by};
 
 use std::fmt;
 use wasm_readers_features::WasmFeatures;
@@ -368,7 +368,9 @@ impl GatedConstant {
     }
 
     /// The proposal that it needs.
-    pub fn feature(self) -> WasmFeatures {
+    pub fn feature(self) -> WasmFeatures
+        ensures { result ≡ needed_by self }
+    {
         match self {
             GatedConstant::I32Add
             | GatedConstant::I32Sub
