@@ -96,15 +96,17 @@ pub fn module_examples()
     ensures no_global { NoGlobalOfAnotherType }
 {}
 
-/// No verdict on a function's body depends on the identities of types, nor on what its context
-/// declares but through a world, nor on the list of referenced functions but through which ones are
-/// in it.
+/// Bytes are a function's body in one context exactly where they are in another, whose world is that
+/// of the first with each identity of a type renamed, and which has all that the first context has,
+/// renamed, apart from what the identities declare and the list of referenced functions. The two
+/// lists have the same functions.
 #[tactic(auto, using(crate::proofs::RenamedBodies::bodies_are_renamed))]
 pub fn bodies_are_renamed<R, S>()
     ensures bodies { BodiesAreRenamed R S }
 {}
 
-/// Whether a module has typed bodies doesn't depend on them either.
+/// A module has typed bodies in one context exactly where it has them in another, under the same
+/// conditions.
 pub fn typed_bodies_are_renamed<R, S>()
     ensures bodies { TypedBodiesAreRenamed R S }
 {}
