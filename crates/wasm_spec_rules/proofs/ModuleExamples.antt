@@ -18,7 +18,7 @@ use Rattle.wasm_spec_rules.specs.LinkRules.{IsValidImport, IsValidExport, IsVali
 use Rattle.wasm_spec_rules.specs.SegmentRules.{IsValidElement, IsValidData}
 use Rattle.wasm_spec_rules.specs.Modules.{IsAllowedPiece}
 use Rattle.wasm_readers_errors.specs.WasmSpec.Trees.{TypeUse, DefType, close, denote, declared}
-use Rattle.wasm_spec_rules.specs.ModuleExamples.{TableOfOneOrTwo, NoTableOfTwoToOne, NoTableWithoutEntries, MemoryOfAllAddresses, NoMemoryPastAllAddresses, NoSharedGlobal, NoTagWithoutExceptions, NoMutableImport, MemoryIsExported, NoSecondMemory, NoNameTwice, SizeIsThree, NoPassiveElements, NoWrittenElements, OffsetsReference, NoPassiveData, NoTwoMemories, HeaderIsModule, NoVersionTwo, NoStartWithParameter, first_version, taking_type}
+use Rattle.wasm_spec_rules.specs.ModuleExamples.{TableOfOneOrTwo, NoTableOfTwoToOne, NoTableWithoutEntries, MemoryOfAllAddresses, NoMemoryPastAllAddresses, MemoryOfSmallPages, NoMemoryPastSmallPages, NoMemoryOfLargerPages, NoSharedGlobal, NoTagWithoutExceptions, NoMutableImport, MemoryIsExported, NoSecondMemory, NoNameTwice, SizeIsThree, NoPassiveElements, NoWrittenElements, OffsetsReference, NoPassiveData, NoTwoMemories, HeaderIsModule, NoVersionTwo, NoStartWithParameter, first_version, taking_type}
 
 pub table_of_one_or_two : TableOfOneOrTwo
 table_of_one_or_two = record {
@@ -44,13 +44,31 @@ memory_of_all_addresses = record {
   shared_needs_threads = λ h. absurd cc;
   shared_has_maximum = λ h. absurd cc;
   page_size_needs_custom_page_sizes = λ h. absurd cc;
-  page_is_of_1_or_65536_bytes = tt;
+  page_is_of_at_most_65536_bytes = tt;
   minimum_is_small = omega arith;
   maximum_is_small = tt;
 }
 
 pub no_memory_past_all_addresses : NoMemoryPastAllAddresses
 no_memory_past_all_addresses F v = let h : 65537 ≤ 65536 = v.minimum_is_small in omega (arith, h)
+
+pub memory_of_small_pages : MemoryOfSmallPages
+memory_of_small_pages = record {
+  minimum_at_most_maximum = tt;
+  of_64_bits_needs_memory64 = λ h. absurd cc;
+  shared_needs_threads = λ h. absurd cc;
+  shared_has_maximum = λ h. absurd cc;
+  page_size_needs_custom_page_sizes = λ h. refl;
+  page_is_of_at_most_65536_bytes = omega arith;
+  minimum_is_small = omega arith;
+  maximum_is_small = tt;
+}
+
+pub no_memory_past_small_pages : NoMemoryPastSmallPages
+no_memory_past_small_pages F v = let h : 1048577 ≤ 1048576 = v.minimum_is_small in omega (arith, h)
+
+pub no_memory_of_larger_pages : NoMemoryOfLargerPages
+no_memory_of_larger_pages F v = let h : 17 ≤ 16 = v.page_is_of_at_most_65536_bytes in omega (arith, h)
 
 pub no_shared_global : NoSharedGlobal
 no_shared_global v = let h : false ≡ true = v.shared_needs_shared_everything_threads refl in cc
@@ -192,4 +210,4 @@ no_start_with_parameter types e v =
     let has : signature_at types v.ty ≡ Some (i32 ∷ [], []) = (λ i. signature_at (sym same i) (ty i)) ∙ taking_signature in
     takes_some i32 [] (parameters (i32 ∷ [], []) ([], []) (sym has ∙ v.takes_and_gives_nothing))
 
-pub ruleset examples = (table_of_one_or_two, no_table_of_two_to_one, no_table_without_entries, memory_of_all_addresses, no_memory_past_all_addresses, no_shared_global, no_tag_without_exceptions, no_mutable_import, memory_is_exported, no_second_memory, no_name_twice, size_is_three, no_start_with_parameter, no_written_elements, offsets_reference, no_passive_elements, no_passive_data, no_two_memories, header_is_module, no_version_two)
+pub ruleset examples = (table_of_one_or_two, no_table_of_two_to_one, no_table_without_entries, memory_of_all_addresses, no_memory_past_all_addresses, memory_of_small_pages, no_memory_past_small_pages, no_memory_of_larger_pages, no_shared_global, no_tag_without_exceptions, no_mutable_import, memory_is_exported, no_second_memory, no_name_twice, size_is_three, no_start_with_parameter, no_written_elements, offsets_reference, no_passive_elements, no_passive_data, no_two_memories, header_is_module, no_version_two)

@@ -1,7 +1,7 @@
 -- The rules of tables, memories, tags and globals, imported or defined here, all but the typing of their first
 -- values. Core Specification 3.0, Validation, Types (Limits, Table Types, Memory Types, Global Types, Tag Types),
 -- with the features that each form needs and the rules of shared ones.
-use Rattle.std.specs.Prelude.{ℕ, ◌≡◌, ◌≢◌, ◌≤◌, ◌^◌, ◌-◌, ◌==◌, ◌||◌, if◌then◌else◌, List, length, Some, None, nat_lt, is_some, IsTrue, IfSome}
+use Rattle.std.specs.Prelude.{ℕ, ◌≡◌, ◌≢◌, ◌≤◌, ◌^◌, ◌-◌, ◌==◌, if◌then◌else◌, List, length, None, nat_lt, is_some, IsTrue, IfSome}
 use Rattle.wasm_readers_errors.specs.WasmSpec.Syntax.{Ref, Val, Table, Memory, Global}
 use Rattle.wasm_readers_errors.specs.WasmSpec.BinarySections.{TableEntry, funcref}
 use Rattle.wasm_readers_errors.specs.WasmSpec.Features.{Features}
@@ -49,13 +49,14 @@ pub record IsValidTableEntry (F : Features) (types : List DefType) (t : TableEnt
 abbrev pub most_pages : Memory → ℕ
 most_pages m = if m.is_64 then (if page_log m == 0 then 2 ^ 64 - 1 else 2 ^ (64 - page_log m)) else 2 ^ (32 - page_log m)
 
+-- a page size is written by its base-2 logarithm: every power of two up to 65,536 is one
 pub record IsValidMemory (F : Features) (m : Memory) : Type 0 where
   pub minimum_at_most_maximum : IfSome m.maximum (λ n. m.minimum ≤ n)
   pub of_64_bits_needs_memory64 : IsTrue m.is_64 → IsTrue F.memory64
   pub shared_needs_threads : IsTrue m.shared → IsTrue F.threads
   pub shared_has_maximum : IsTrue m.shared → IsTrue (is_some m.maximum)
   pub page_size_needs_custom_page_sizes : IsTrue (is_some m.page_size_log2) → IsTrue F.custom_page_sizes
-  pub page_is_of_1_or_65536_bytes : IfSome m.page_size_log2 (λ n. IsTrue (n == 0 || n == 16))
+  pub page_is_of_at_most_65536_bytes : IfSome m.page_size_log2 (λ n. n ≤ 16)
   pub minimum_is_small : m.minimum ≤ most_pages m
   pub maximum_is_small : IfSome m.maximum (λ n. n ≤ most_pages m)
 

@@ -66,6 +66,26 @@ MemoryOfAllAddresses = IsValidMemory first_version (memory_of 65536)
 abbrev pub NoMemoryPastAllAddresses : Type 0
 NoMemoryPastAllAddresses = (F : Features) → IsValidMemory F (memory_of 65537) → ⊥
 
+-- the first version with page sizes that are written
+abbrev pub with_page_sizes : Features
+with_page_sizes = record first_version { custom_page_sizes = true }
+
+-- a memory of so many pages of 2 to the power of so many bytes
+abbrev pub paged : ℕ → ℕ → Memory
+paged pages log = record { is_64 = false; shared = false; minimum = pages; maximum = None; page_size_log2 = Some log }
+
+-- 2 to the power of 20 pages of 4,096 bytes
+abbrev pub MemoryOfSmallPages : Type 0
+MemoryOfSmallPages = IsValidMemory with_page_sizes (paged 1048576 12)
+
+-- breaks `minimum_is_small`
+abbrev pub NoMemoryPastSmallPages : Type 0
+NoMemoryPastSmallPages = (F : Features) → IsValidMemory F (paged 1048577 12) → ⊥
+
+-- breaks `page_is_of_at_most_65536_bytes`
+abbrev pub NoMemoryOfLargerPages : Type 0
+NoMemoryOfLargerPages = (F : Features) → IsValidMemory F (paged 0 17) → ⊥
+
 -- breaks `shared_needs_shared_everything_threads`
 abbrev pub NoSharedGlobal : Type 0
 NoSharedGlobal = IsValidGlobal first_version [] (record { content = i32; mutable = false; shared = true }) → ⊥

@@ -1,6 +1,6 @@
 -- Signatures, and written types with the identities that their type indices name.
 -- Core Specification 3.0, Validation, Conventions (Contexts), and Appendix, Validation Algorithm.
-use Rattle.std.specs.Prelude.{ℕ, Bool, List, [], ◌∷◌, Option, Some, None, slice_get}
+use Rattle.std.specs.Prelude.{ℕ, List, [], ◌∷◌, Option, Some, None, slice_get}
 use Rattle.std.specs.Option.{option_map}
 use Rattle.wasm_readers_errors.specs.WasmSpec.Syntax.{Heap, abstract_heap, concrete, exact, Ref, Val, i32, i64, f32, f64, v128, reference, Comp, func}
 use Rattle.wasm_spec_rules.specs.Attempts.{◌>>=◌}

@@ -4,7 +4,7 @@
 
 ghost use Rattle.wasm_spec_rules.specs.Contexts.{ContextsAreRenamed, RepeatedTypeIsOne};
 ghost use Rattle.wasm_spec_rules.specs.Totals.{TotalsGoOn};
-ghost use Rattle.wasm_spec_rules.specs.ModuleExamples.{TableOfOneOrTwo, NoTableOfTwoToOne, NoTableWithoutEntries, MemoryOfAllAddresses, NoMemoryPastAllAddresses, NoSharedGlobal, NoTagWithoutExceptions, NoMutableImport, MemoryIsExported, NoSecondMemory, NoNameTwice, SizeIsThree, NoStartWithParameter, NoPassiveElements, NoWrittenElements, OffsetsReference, NoPassiveData, NoTwoMemories, HeaderIsModule, NoVersionTwo};
+ghost use Rattle.wasm_spec_rules.specs.ModuleExamples.{TableOfOneOrTwo, NoTableOfTwoToOne, NoTableWithoutEntries, MemoryOfAllAddresses, NoMemoryPastAllAddresses, MemoryOfSmallPages, NoMemoryPastSmallPages, NoMemoryOfLargerPages, NoSharedGlobal, NoTagWithoutExceptions, NoMutableImport, MemoryIsExported, NoSecondMemory, NoNameTwice, SizeIsThree, NoStartWithParameter, NoPassiveElements, NoWrittenElements, OffsetsReference, NoPassiveData, NoTwoMemories, HeaderIsModule, NoVersionTwo};
 ghost use Rattle.wasm_spec_rules.specs.Bodies.{BodiesAreAsManyAsFunctions};
 
 /// Worked examples of the rules of modules.
@@ -15,6 +15,9 @@ pub fn module_examples()
     ensures no_entries { NoTableWithoutEntries }
     ensures memory { MemoryOfAllAddresses }
     ensures no_memory { NoMemoryPastAllAddresses }
+    ensures small_pages { MemoryOfSmallPages }
+    ensures no_more_small_pages { NoMemoryPastSmallPages }
+    ensures no_larger_pages { NoMemoryOfLargerPages }
     ensures no_global { NoSharedGlobal }
     ensures no_tag { NoTagWithoutExceptions }
     ensures no_import { NoMutableImport }

@@ -1,5 +1,5 @@
 -- Each test of an item decides its rule.
-use Rattle.std.proofs.Common.{◌≡◌, ◌≢◌, refl, ap, ◌∙◌, ℕ, zero, suc, ◌<◌, ◌≤◌, Bool, true, false, not, ◌&&◌, ◌||◌, ◌==◌, nat_lt, nat_le, List, [], ◌∷◌, length, Option, Some, None, is_some, IsTrue, IfSome, All}
+use Rattle.std.proofs.Common.{◌≡◌, ◌≢◌, refl, ap, ◌∙◌, ℕ, zero, suc, ◌<◌, ◌≤◌, Bool, true, false, not, ◌&&◌, ◌||◌, nat_lt, nat_le, List, [], ◌∷◌, length, Option, Some, None, is_some, IsTrue, IfSome, All}
 use Rattle.std.specs.Bool.{Decides}
 use Rattle.std.specs.Option.{option_map}
 use Rattle.std.proofs.lemmas.Bool.{leb-true, le-leb}
@@ -207,13 +207,13 @@ module _ (F : Features) (c : Bool) (us : List DefType) (ids : List ℕ) (types :
       (shared_where g.shared (is_shared_val_over listed (map_val written g.content)) (is_shared_val declared (val_over types g.content)) (val_shared g.content)))
 
 -- memories
-page_decided : (F : Features) (p : Option ℕ) → Decides (is_allowed_page F p) ((IsTrue (is_some p) → IsTrue F.custom_page_sizes) × IfSome p (λ n. IsTrue (n == 0 || n == 16)))
+page_decided : (F : Features) (p : Option ℕ) → Decides (is_allowed_page F p) ((IsTrue (is_some p) → IsTrue F.custom_page_sizes) × IfSome p (λ n. n ≤ 16))
 page_decided F None = (λ _. (λ e. absurd (let z : false ≡ true = e in cc), tt), λ _. refl)
 page_decided F (Some n) =
-    Decides-like (F.custom_page_sizes && (n == 0 || n == 16))
-    (λ (p : IsTrue F.custom_page_sizes × IsTrue (n == 0 || n == 16)). (λ _. p.0, p.1))
+    Decides-like (F.custom_page_sizes && nat_le n 16)
+    (λ (p : IsTrue F.custom_page_sizes × (n ≤ 16)). (λ _. p.0, p.1))
     (λ q. (q.0 refl, q.1))
-    (Decides-and F.custom_page_sizes (n == 0 || n == 16) (itself F.custom_page_sizes) (itself (n == 0 || n == 16)))
+    (Decides-and F.custom_page_sizes (nat_le n 16) (itself F.custom_page_sizes) (at_most n 16))
 
 same_log : (p : Option ℕ) → log_of p ≡ elim p [ None ↦ 16 | Some n ↦ n ]
 same_log None = refl
@@ -226,7 +226,7 @@ small_pages m =
 
 record MemoryParts (F : Features) (m : Memory) : Type 0 where
   parts : ((((IfSome m.maximum (λ n. m.minimum ≤ n) × (IsTrue m.is_64 → IsTrue F.memory64)) × (IsTrue m.shared → IsTrue F.threads))
-      × ((IsTrue (is_some m.page_size_log2) → IsTrue F.custom_page_sizes) × IfSome m.page_size_log2 (λ n. IsTrue (n == 0 || n == 16))))
+      × ((IsTrue (is_some m.page_size_log2) → IsTrue F.custom_page_sizes) × IfSome m.page_size_log2 (λ n. n ≤ 16)))
       × ((m.minimum ≤ most_pages m) × IfSome m.maximum (λ n. n ≤ most_pages m)))
       × (IsTrue m.shared → IsTrue (is_some m.maximum))
 
@@ -237,7 +237,7 @@ from_memory F m q = let p = q.parts in record {
   shared_needs_threads = p.0.0.0.1;
   shared_has_maximum = p.1;
   page_size_needs_custom_page_sizes = p.0.0.1.0;
-  page_is_of_1_or_65536_bytes = p.0.0.1.1;
+  page_is_of_at_most_65536_bytes = p.0.0.1.1;
   minimum_is_small = p.0.1.0;
   maximum_is_small = p.0.1.1;
 }
@@ -254,7 +254,7 @@ memories_are_decided F m =
     Decides-like (ordering && wide && sharing && page && sizes && bounded)
     (λ p. from_memory F m (record { parts = p }))
     (λ (v : IsValidMemory F m).
-    (((((v.minimum_at_most_maximum, v.of_64_bits_needs_memory64), v.shared_needs_threads), (v.page_size_needs_custom_page_sizes, v.page_is_of_1_or_65536_bytes)), (v.minimum_is_small, v.maximum_is_small)), v.shared_has_maximum))
+    (((((v.minimum_at_most_maximum, v.of_64_bits_needs_memory64), v.shared_needs_threads), (v.page_size_needs_custom_page_sizes, v.page_is_of_at_most_65536_bytes)), (v.minimum_is_small, v.maximum_is_small)), v.shared_has_maximum))
     (Decides-and (ordering && wide && sharing && page && sizes) bounded
     (Decides-and (ordering && wide && sharing && page) sizes
     (Decides-and (ordering && wide && sharing) page

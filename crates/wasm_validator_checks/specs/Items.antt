@@ -78,10 +78,10 @@ is_valid_table F types t =
 abbrev pub is_valid_defined_table : Features → List DefType → Table UnpackedIndex → Bool → Bool
 is_valid_defined_table F types t has_init = is_valid_table F types t && (has_init || t.element.nullable) && implies has_init F.function_references
 
--- a written page size, by its logarithm
+-- a written page size, by its logarithm: every power of two up to 65,536
 abbrev pub is_allowed_page : Features → Option ℕ → Bool
 is_allowed_page F None = true
-is_allowed_page F (Some n) = F.custom_page_sizes && (n == 0 || n == 16)
+is_allowed_page F (Some n) = F.custom_page_sizes && nat_le n 16
 
 -- the logarithm of a page's size, where it is written and where it isn't
 abbrev pub log_of : Option ℕ → ℕ

@@ -1,7 +1,7 @@
 -- What a refusal of an item says: the first of its rules that is broken, in the order in which they are asked, with its
 -- fault, where the item stands, and the proposal that would lift it. Core Specification 3.0, Validation, Types (Limits,
 -- Table Types, Memory Types, Global Types, Tag Types, External Types).
-use Rattle.std.specs.Prelude.{ℕ, ◌==◌, nat_lt, Bool, true, ◌||◌, if◌then◌else◌, List, length, Option, Some, None, is_some}
+use Rattle.std.specs.Prelude.{ℕ, ◌^◌, nat_lt, nat_le, Bool, true, ◌||◌, if◌then◌else◌, List, length, Option, Some, None, is_some}
 use Rattle.std.specs.Option.{option_or}
 use Rattle.wasm_spec.specs.Syntax.{Heap, abstract_heap, concrete, exact, Ref, Val, i32, i64, f32, f64, v128, reference, Table, Memory, Global, Extern, func_extern, func_exact_extern, table_extern, memory_extern, global_extern, tag_extern, map_table}
 use Rattle.wasm_spec.specs.ValueTypes.{implies}
@@ -60,7 +60,7 @@ module _ (offset : ℕ) where
 
 -- how many bytes a page has, by their logarithm
 abbrev pub page_bytes : ℕ → ℕ
-page_bytes log = if log == 0 then 1 else 65536
+page_bytes log = 2 ^ log
 
 -- the pages of a memory, whose addresses have 64 bits or not and whose pages have so many bytes by their logarithm
 abbrev pub told_of_pages : ℕ → Bool → ℕ → ℕ → Option ℕ → Option Refusal
@@ -97,7 +97,7 @@ module _ (features : WasmFeatures) (offset : ℕ) where
   -- a page size that is written, by its logarithm
   abbrev pub told_of_page : Option ℕ → Option Refusal
   told_of_page None = None
-  told_of_page (Some log) = option_or (lack_for_item true CUSTOM_PAGE_SIZES CustomPageSizes) (told_of_item offset PageSize (log == 0 || log == 16))
+  told_of_page (Some log) = option_or (lack_for_item true CUSTOM_PAGE_SIZES CustomPageSizes) (told_of_item offset PageSize (nat_le log 16))
 
   abbrev pub told_of_memory : Memory → Option Refusal
   told_of_memory m =

@@ -1,6 +1,6 @@
 //! Tables, memories, tags, globals and imports.
 
-ghost use Rattle.std.specs.Prelude.{◌≡◌, ◌||◌, ◌==◌, length, is_ok, IfOk, IfErr, IsTrue};
+ghost use Rattle.std.specs.Prelude.{◌≡◌, ◌≤◌, length, is_ok, IfOk, IfErr};
 ghost use Rattle.std.specs.declared.option.Option.TheVariants.{Some};
 ghost use Rattle.wasm_validator_resources.specs.WasmSpecRules.FeatureFlags.{features_of};
 ghost use Rattle.wasm_readers_types.specs.WasmReadersValues.SeenValues.{ref_of, val_of};
@@ -166,7 +166,7 @@ fn check_page_size(
 ) -> Result<u32, Refusal>
     ensures allowed { is_ok result ≡ is_allowed_page (features_of features) page_size_log2 }
     ensures size { IfOk result (λ log. log ≡ log_of page_size_log2) }
-    ensures served { IfOk result (λ log. IsTrue (log == 0 || log == 16)) }
+    ensures served { IfOk result (λ log. log ≤ 16) }
     ensures refusal { IfErr result (IsRefusalAt features offset) }
     ensures told { refused result ≡ told_of_page features offset page_size_log2 }
 {
@@ -176,36 +176,34 @@ fn check_page_size(
     let fault = Fault::Item(ItemRule::CustomPageSizes);
     require(features, WasmFeatures::CUSTOM_PAGE_SIZES, fault, offset)?;
     let fault = Fault::Item(ItemRule::PageSize);
-    hold(log == 0 || log == 16, fault, offset)?;
+    hold(log <= 16, fault, offset)?;
     Ok(log)
 }
 
 /// The most pages of a memory whose pages have so many bytes, by their logarithm.
+#[tactic(auto, using(std::proofs::lemmas::Nat::one_shl))]
 fn max_pages(memory64: bool, log: u32) -> u64
-    requires { IsTrue (log == 0 || log == 16) }
+    requires { log ≤ 16 }
     ensures { result ≡ most_of memory64 log }
 {
-    if log == 0 {
-        if memory64 { u64::MAX } else { 0x1_0000_0000 }
+    if !memory64 {
+        1 << (32 - log)
+    } else if log == 0 {
+        u64::MAX
     } else {
-        if memory64 {
-            0x1_0000_0000_0000
-        } else {
-            0x1_0000
-        }
+        1 << (64 - log)
     }
 }
 
 /// Accepts the number of pages of a memory whose pages have so many bytes, by their logarithm.
 fn check_pages(ty: MemoryType, log: u32, offset: u64) -> Result<(), Refusal>
-    requires { IsTrue (log == 0 || log == 16) }
+    requires { log ≤ 16 }
     ensures allowed { is_ok result ≡ are_at_most (most_of ty.memory64 log) ty.initial ty.maximum }
     ensures refusal { IfErr result (IsPlainRefusalAt offset) }
     ensures told { refused result ≡ told_of_pages offset ty.memory64 log ty.initial ty.maximum }
 {
     let pages = max_pages(ty.memory64, log);
-    let page = if log == 0 { 1 } else { 0x1_0000 };
-    let fault = Fault::MemorySize(pages, page);
+    let fault = Fault::MemorySize(pages, 1 << log);
     check_sizes(pages, ty.initial, ty.maximum, fault, offset)
 }
 
@@ -215,7 +213,7 @@ fn check_pages(ty: MemoryType, log: u32, offset: u64) -> Result<(), Refusal>
 /// # Errors
 ///
 /// Refuses, at `offset`, a minimum above the maximum, 64-bit and shared memories and written page
-/// sizes without their proposals, a page of other than 1 or 65,536 bytes, more pages than 32 or 64
+/// sizes without their proposals, a page of more than 65,536 bytes, more pages than 32 or 64
 /// bits address, and a shared memory without a maximum.
 pub fn check_memory_type(features: WasmFeatures, ty: MemoryType, offset: u64) -> Result<(), Refusal>
     ensures allowed { is_ok result ≡ is_valid_memory (features_of features) (memory_of ty) }

@@ -1,4 +1,4 @@
-use Rattle.std.proofs.Common.{◌≡◌, ◌∙◌, ℕ, ◌+◌, ◌≤◌, true, false, leb, length, arith}
+use Rattle.std.proofs.Common.{◌≡◌, sym, ◌∙◌, ℕ, ◌+◌, ◌≤◌, true, false, leb, length, arith}
 use Rattle.wasm_readers_bytes.specs.Reader.{input, position_in}
 use Rattle.wasm_spec.specs.Syntax.{Memory}
 use Rattle.wasm_spec.specs.BinaryTypes.{memory_at}
@@ -14,7 +14,9 @@ use Rattle.wasm_validator_items.specs.WasmValidatorCore.declared.error.Error.{Er
 use Rattle.wasm_validator_items.specs.WasmValidatorCore.declared.error.Error.TheVariants.{Refused}
 use Rattle.wasm_validator_items.specs.WasmValidatorCore.Errors.{lifted}
 use Rattle.wasm_validator_sections.specs.SectionsTold.{TellsEach, TellsCount, IsNone, OfContent, tells_memory}
-use Rattle.wasm_validator_sections.proofs.ItemSteps.{read_each-step}
+use Rattle.wasm_validator_sections.specs.Machine.{memory_items}
+use Rattle.wasm_validator_sections.specs.Sections.{read_each}
+use Rattle.wasm_validator_sections.proofs.ItemSteps.{read_each-step, read_each-refused, adds_refused, adds_as, if_none}
 use Rattle.wasm_validator_sections.proofs.SectionsTold.{told_onward, unread_told, refused_told, over_told, err_as, items_here, same_end, item_told}
 use Rattle.wasm_validator_sections.proofs.module_sections.add_memories.Goals as goal
 
@@ -83,3 +85,16 @@ returns-in_err-add_memory-clause-told g c =
     err_as c.from_residual-in_err-add_memory.result c.in_err-add_memory.field-0.0 (OfContent (λ (w : Error g.row.A.Denot). TellsCount counted.Memories (length c.args.opened.now.memories) (most_memories (features_of c.args.features)) (section_start c.args.section.now) (count_of c.args.section.now) w ((λ (w : Error g.row.A.Denot). TellsEach memory_at (add_memory (features_of c.args.features)) IsNone (tells_memory c.args.features) (section_end c.args.section.now) w (count_of c.args.section.now) (bytes_of c.args.section.now) c.args.opened.now) w))) c.from_residual-in_err-add_memory.ensures.1
     (refused_told encoded add IsNone tells stop counted.Memories (length c.args.opened.now.memories) (most_memories (features_of c.args.features)) (section_start c.args.section.now) (count_of c.args.section.now) (bytes_of c.args.section.now) c.args.opened.now few left n rest after value c.memories.opened c.in-Some.offset c.in_err-add_memory.field-0.0
     c.memories.invariant.4 reads (omega (arith, at, here, end)) (item_told c.in_err-add_memory.field-0.0 (add c.memories.opened value) c.add_memory.new.self c.in-Some.offset (told_of_added_memory c.args.features c.in-Some.offset c.memories.opened value) c.in_err-add_memory.ensures.added c.in_err-add_memory.ensures.told c.in_err-add_memory.ensures.place))
+
+pub returns-in_err-add_memory-clause-added : goal.returns-in_err-add_memory-clause-added
+returns-in_err-add_memory-clause-added g c =
+    let encoded = memory_at in
+    let add = add_memory (features_of c.args.features) in
+    let value = memory_of c.in-Some.ty in
+    let reads = rw c.in-Some.is at c.in_ok-offset.ensures.reads in
+    let count = count_of c.args.section.now in
+    let bytes = bytes_of c.args.section.now in
+    adds_as c.from_residual-in_err-add_memory.result c.in_err-add_memory.field-0.0 (memory_items (features_of c.args.features) count bytes c.args.opened.now) c.add_memory.new.self c.from_residual-in_err-add_memory.ensures.1
+    (adds_refused c.in_err-add_memory.field-0.0 (add c.memories.opened value) (memory_items (features_of c.args.features) count bytes c.args.opened.now) c.add_memory.new.self c.add_memory.new.self c.in_err-add_memory.ensures.added
+    (λ none. if_none (leb (length c.args.opened.now.memories + count) (most_memories (features_of c.args.features))) (read_each encoded add count bytes c.args.opened.now)
+    (sym c.memories.invariant.0 ∙ read_each-refused encoded add (items_left c.memories.memories) (items_left c.read_next.new.self) (items_rest c.memories.memories) (items_rest c.read_next.new.self) value c.memories.opened reads none)))
