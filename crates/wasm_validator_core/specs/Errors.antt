@@ -34,7 +34,7 @@ IsAt place (DuplicateExport name offset) = offset ≡ place
 IsAt place (InFunction index r) = r.offset ≡ place
 IsAt place OutOfMemory = ⊤
 
--- a refusal of the content is no export's and of no body, and says this, and one for want of memory nothing
+-- if the content is refused, then not for the name of an export and not in a body, and the refusal has this property; of refused memory nothing is said
 abbrev pub IfContent : {A : Type 0} → (Refusal → Type 0) → Error A → Type 0
 IfContent P (Refused r) = P r
 IfContent P (DuplicateExport name offset) = ⊥
@@ -52,7 +52,7 @@ abbrev pub lifted : {A : Type 0} → below.Error → Error A
 lifted (read.Refused r) = Refused r
 lifted read.OutOfMemory = OutOfMemory
 
--- the function whose body is refused, if it is a body
+-- the index of the function whose body is refused, if it is a body: imported functions count, and come first
 abbrev pub function_of : {A : Type 0} → Error A → Option ℕ
 function_of (Refused r) = None
 function_of (DuplicateExport name offset) = None

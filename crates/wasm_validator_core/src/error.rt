@@ -9,11 +9,15 @@ use wasm_readers::{Fault, Refusal, WasmFeatures};
 #[derive(Drop)]
 #[derive_where(Debug)]
 pub enum Error<A: Allocator = Global> {
+    /// The content is refused: by which rule, at which offset, and for want of which proposal, if
+    /// one would lift the refusal.
     Refused(Refusal),
     /// The module exports two items under this name. The offset is that of the second one.
     DuplicateExport { name: String<A>, offset: u64 },
-    /// The body of the function with this index is refused.
+    /// The body of the function with this index is refused. The index counts imported functions,
+    /// which come first.
     InFunction { index: u32, refusal: Refusal },
+    /// Memory was refused. Nothing is said of the content.
     OutOfMemory,
 }
 
