@@ -80,7 +80,7 @@ fn next_block_type(reader: &mut BinaryReader) -> Option<BlockType>
 
 /// The control or parametric operator or the call of this opcode, if it is a frequent one.
 #[inline(always)]
-#[tactic(auto, unfolding(crate::specs::Instructions::plain_from, crate::specs::Control::control_from, crate::specs::Control::parametric_from, wasm_operators_plain::specs::Calls::call_from))]
+#[tactic(auto, unfolding(crate::proofs::plain_from, crate::proofs::control_from, crate::proofs::parametric_from, crate::proofs::call_from))]
 fn next_structural<'a>(reader: &mut BinaryReader<'a>, opcode: u8) -> Option<Operator<'a>>
     ensures same { SameInput reader.old reader.new }
     ensures onward { position_in reader.old ≤ position_in reader.new }
@@ -118,7 +118,7 @@ fn next_structural<'a>(reader: &mut BinaryReader<'a>, opcode: u8) -> Option<Oper
 
 /// The next operator, if it is a frequent one. Else the reader may stand anywhere in its input.
 #[inline(always)]
-#[tactic(auto, unfolding(crate::specs::Instructions::instruction_at, crate::specs::Instructions::plain_from, wasm_operators_plain::specs::Variables::variable_from, wasm_operators_plain::specs::Constants::constant_from))]
+#[tactic(auto, unfolding(crate::proofs::instruction_at, crate::proofs::plain_from, crate::proofs::variable_from, crate::proofs::constant_from))]
 pub(crate) fn next_frequent<'a>(reader: &mut BinaryReader<'a>) -> Option<Operator<'a>>
     ensures same { SameInput reader.old reader.new }
     ensures some { IfSome result (λ op. instruction_at written (rest reader.old)

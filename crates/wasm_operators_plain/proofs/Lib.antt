@@ -3,3 +3,4 @@ pub mod NumericOpcodes
 pub mod OpcodeSignatures
 pub mod AccessOpcodes
 pub mod Fronts
+pub mod ByIndices

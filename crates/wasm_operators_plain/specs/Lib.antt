@@ -14,3 +14,4 @@ pub mod Constants
 pub mod Conversions
 pub mod Structs
 pub mod Arrays
+pub mod Indices
