@@ -1,4 +1,4 @@
-//! Which groups may stand behind so many types of a list.
+//! Which recursion groups may be added to a list of types.
 
 ghost use Rattle.std.specs.Prelude.{◌≡◌, ◌<◌, ◌≤◌, ◌∷◌, [], length};
 ghost use Rattle.std.specs.Bool.{Decides};
@@ -15,9 +15,9 @@ use wasm_validator_type_groups::readers_types::{
     ValType,
 };
 
-/// Whether the group may be added to a list of so many types: each reference in it is the id of a
-/// type of the list or a place in the group, and a type has at most one supertype, which comes
-/// before it (Core Specification 3.0, Validation, Types, Recursive Types).
+/// Whether the recursion group may be added to a list of this many types: each reference in it is
+/// the id of a type of the list or a position in the group, and each type has at most one supertype,
+/// which comes before it (Core Specification 3.0, Validation, Types, Recursive Types).
 pub fn group_is_listable<A: Allocator>(types: usize, group: &[SubType<A>]) -> bool
     ensures { Decides result (IsListable types group.now) }
 {
@@ -29,15 +29,16 @@ pub fn group_is_listable<A: Allocator>(types: usize, group: &[SubType<A>]) -> bo
     true
 }
 
-/// Whether the type may be added to a list of so many types as a group of its own (Core
-/// Specification 3.0, Validation, Types, Recursive Types).
+/// Whether the type may be added to a list of this many types as the only type of a recursion group
+/// (Core Specification 3.0, Validation, Types, Recursive Types).
 pub fn type_is_listable<A: Allocator>(types: usize, ty: &SubType<A>) -> bool
     ensures { Decides result (IsListable types (ty.now ∷ [])) }
 {
     is_listable_at(types, 1, 0, ty)
 }
 
-/// Whether a type may stand at this place among so many positions of a group.
+/// Whether the type may be at position `place` of a group of `positions` types that is added to a
+/// list of this many types.
 fn is_listable_at<A: Allocator>(
     types: usize,
     positions: usize,
@@ -60,7 +61,8 @@ fn is_listable_at<A: Allocator>(
     inner_is_known(types, positions, &composite.inner)
 }
 
-/// Whether there is one supertype at most, and it comes before this place.
+/// Whether there is at most one supertype, and it is a type of the list or at a position before
+/// `place`.
 fn supers_are_earlier(types: usize, place: usize, supers: &[PackedIndex]) -> bool
     ensures { Decides result ((length supers.now ≤ 1)
         × All (λ p. IsKnown types place (index_of p)) supers.now) }
@@ -74,7 +76,7 @@ fn supers_are_earlier(types: usize, place: usize, supers: &[PackedIndex]) -> boo
     }
 }
 
-/// Whether each reference in what the type describes is known.
+/// Whether each reference in the composite type is known (`is_known`).
 fn inner_is_known<A: Allocator>(
     types: usize,
     positions: usize,
@@ -110,7 +112,7 @@ fn values_are_known(types: usize, positions: usize, values: &[ValType]) -> bool
     true
 }
 
-/// Whether each reference in the fields is known.
+/// Whether each reference in the field types is known.
 fn fields_are_known(types: usize, positions: usize, fields: &[FieldType]) -> bool
     ensures { Decides result (All (λ f. All (IsKnown types positions) (refs_field (field_of f)))
         fields.now) }
@@ -123,7 +125,7 @@ fn fields_are_known(types: usize, positions: usize, fields: &[FieldType]) -> boo
     true
 }
 
-/// Whether each reference in what the field holds is known.
+/// Whether each reference in the field type is known.
 fn field_is_known(types: usize, positions: usize, field: FieldType) -> bool
     ensures { Decides result (All (IsKnown types positions) (refs_field (field_of field))) }
 {
@@ -143,7 +145,7 @@ fn value_is_known(types: usize, positions: usize, ty: ValType) -> bool
     }
 }
 
-/// Whether the reference in the heap type, if there is one, is known.
+/// Whether the heap type's reference, if it has one, is known.
 fn heap_is_known(types: usize, positions: usize, heap: HeapType) -> bool
     ensures { Decides result (All (IsKnown types positions) (refs_heap (heap_of heap))) }
 {
@@ -153,7 +155,7 @@ fn heap_is_known(types: usize, positions: usize, heap: HeapType) -> bool
     }
 }
 
-/// Whether the reference, if there is one, is known.
+/// Whether the reference is known, or there is none.
 fn option_is_known(types: usize, positions: usize, index: Option<PackedIndex>) -> bool
     ensures { Decides result (All (IsKnown types positions)
         (refs_option (option_map index_of index))) }
@@ -164,7 +166,8 @@ fn option_is_known(types: usize, positions: usize, index: Option<PackedIndex>) -
     }
 }
 
-/// Whether the reference is the id of one of so many types, or one of so many positions.
+/// Whether the reference is the id of one of the list's types or one of the group's positions, of
+/// which there are this many.
 fn is_known(types: usize, positions: usize, index: UnpackedIndex) -> bool
     ensures { Decides result (IsKnown types positions index) }
 {

@@ -46,3 +46,12 @@ AreRuns (r ∷ rs) = IsRunOf r × AreRuns rs
 pub record RunsStand {T A : Type 0} (rs : List (Run T A)) (end : ℕ) : Type 0 where
   pub order : StandFrom 0 (map run_seen rs) end
   pub each : AreRuns (map run_parts rs)
+
+module _ {T A : Type 0} where
+  -- so few parts that they are no run
+  abbrev pub AreFew : List (Part T A) → Type 0
+  AreFew ps = length ps < 8
+
+  -- the last two runs, if there are two, do not have as many parts as each other
+  abbrev pub LastTwoDiffer : List (Run T A) → Type 0
+  LastTwoDiffer rs = (front : List (Run T A)) (a b : Run T A) → rs ≡ front ++ a ∷ b ∷ [] → length a.parts.value.items ≡ length b.parts.value.items → ⊥

@@ -196,14 +196,46 @@ fn push_flat<T: Drop, A: Allocator + Copy>(
     ensures same_owners { OnErr result (owners.new ≡ owners.old) }
 {
     let start = items.len() as u32;
+    let end = start + group.len() as u32;
+    let ids = CoreTypeId::from_index(start)..CoreTypeId::from_index(end);
+    let number = spans.len() as u32;
+    append_group(
+        alloc,
+        &mut items.tail,
+        &mut spans.tail,
+        &mut owners.tail,
+        group,
+        ids,
+        number,
+    )
+}
+
+/// Puts a group, its ids, and its number for each of its items behind what is there: all of it, or
+/// where memory is refused nothing.
+fn append_group<T: Drop, A: Allocator + Copy>(
+    alloc: A,
+    items: &mut Vec<T, A>,
+    spans: &mut Vec<Range<CoreTypeId>, A>,
+    owners: &mut Vec<u32, A>,
+    group: Vec<T, A>,
+    ids: Range<CoreTypeId>,
+    number: u32,
+) -> Result<(), AllocError>
+    ensures items { OnOk result (items.new.items ≡ items.old.items ++ group.items) }
+    ensures spans { OnOk result (spans.new.items ≡ spans.old.items ++ ids ∷ []) }
+    ensures owners { OnOk result (owners.new.items
+        ≡ owners.old.items ++ replicate (length group.items) number) }
+    ensures same_items { OnErr result (items.new.items ≡ items.old.items) }
+    ensures same_spans { OnErr result (spans.new.items ≡ spans.old.items) }
+    ensures same_owners { OnErr result (owners.new.items ≡ owners.old.items) }
+{
     let count = group.len();
-    let ids = CoreTypeId::from_index(start)..CoreTypeId::from_index(start + count as u32);
     let mut group = group;
-    let mut numbers = vec![in alloc; spans.len() as u32; count]?;
-    items.tail.reserve(count)?;
-    owners.tail.reserve(count)?;
+    let mut numbers = vec![in alloc; number; count]?;
+    items.reserve(count)?;
+    owners.reserve(count)?;
     spans.push(ids)?;
-    items.tail.append(&mut group).unwrap();
-    owners.tail.append(&mut numbers).unwrap();
+    items.append(&mut group).unwrap();
+    owners.append(&mut numbers).unwrap();
     Ok(())
 }

@@ -1,5 +1,5 @@
 ghost use Rattle.std.specs.Prelude.{◌≡◌, ◌<◌, ◌≤◌, ◌+◌, ◌-◌, ◌^◌, ◌++◌, ◌∷◌, [], ℕ, List, length, map, slice_index_or, take, IfOk, OnOk, OnErr};
-ghost use Rattle.wasm_validator_type_groups.specs.Parts.{seen, run_parts, run_seen, all_items, StandFrom, PartsStand, IsRun, RunsStand};
+ghost use Rattle.wasm_validator_type_groups.specs.Parts.{seen, run_parts, run_seen, all_items, StandFrom, PartsStand, IsRun, RunsStand, AreFew, LastTwoDiffer};
 
 use std::alloc::{AllocError, Allocator};
 use std::mem;
@@ -192,28 +192,32 @@ pub(crate) fn gather<T: Drop, A: Allocator + Copy>(
     parts: &mut Vec<Part<T, A>, A>,
     middle: usize,
     before: usize,
-) -> usize
+) -> Result<usize, AllocError>
     requires runs { RunsStand runs.old.items middle }
     requires parts { PartsStand middle parts.old.items before }
-    ensures runs { RunsStand runs.new.items result }
-    ensures parts { PartsStand result parts.new.items before }
-    ensures items { all_items (map run_seen runs.new.items)
+    ensures runs { IfOk result (λ end. RunsStand runs.new.items end) }
+    ensures parts { IfOk result (λ end. PartsStand end parts.new.items before) }
+    ensures few { OnOk result (AreFew parts.new.items) }
+    ensures items { OnOk result (all_items (map run_seen runs.new.items)
         ++ all_items (map seen parts.new.items) ≡ all_items (map run_seen runs.old.items)
-        ++ all_items (map seen parts.old.items) }
+        ++ all_items (map seen parts.old.items)) }
+    ensures same_runs { OnErr result (runs.new.items ≡ runs.old.items) }
+    ensures same_parts { OnErr result (parts.new.items ≡ parts.old.items) }
 {
-    if parts.len() < MANY || runs.reserve(1).is_err() {
-        return middle;
+    if parts.len() < MANY {
+        return Ok(middle);
     }
+    runs.reserve(1)?;
     let gathered = mem::replace(parts, Vec::new(alloc));
     match Rc::new(alloc, gathered) {
         Ok(parts) => {
             let first = middle;
             runs.push(Run { first, parts }).unwrap();
-            before
+            Ok(before)
         }
         Err(refused) => {
             *parts = refused.value;
-            middle
+            Err(AllocError)
         }
     }
 }
@@ -235,11 +239,12 @@ fn share_behind<T: Drop, A: Allocator + Copy>(
     Ok(())
 }
 
-/// The same parts, each with one more owner.
+/// The same parts, which are few, each with one more owner.
 pub(crate) fn share<T: Drop, A: Allocator + Copy>(
     alloc: A,
     parts: &Vec<Part<T, A>, A>,
 ) -> Result<Vec<Part<T, A>, A>, AllocError>
+    requires { AreFew parts.now.items }
     ensures { IfOk result (λ shared. map seen shared.items ≡ map seen parts.now.items) }
 {
     let mut shared = Vec::with_capacity(alloc, parts.len())?;
@@ -247,11 +252,13 @@ pub(crate) fn share<T: Drop, A: Allocator + Copy>(
     Ok(shared)
 }
 
-/// The same runs, each with one more owner.
+/// The same runs, of which the last two don't have as many parts as each other, each with one more
+/// owner.
 pub(crate) fn share_runs<T: Drop, A: Allocator + Copy>(
     alloc: A,
     runs: &Vec<Run<T, A>, A>,
 ) -> Result<Vec<Run<T, A>, A>, AllocError>
+    requires { LastTwoDiffer runs.now.items }
     ensures { IfOk result (λ shared. map run_parts shared.items ≡ map run_parts runs.now.items) }
 {
     let mut shared = Vec::with_capacity(alloc, runs.len())?;
@@ -288,29 +295,27 @@ fn joined<T: Drop, A: Allocator + Copy>(
 }
 
 /// Joins the last two runs while they have as many parts as each other, so that runs are few. Where
-/// memory is refused, they stay as they are.
+/// memory is refused, no item is lost, and those that are joined by then stay so.
 pub(crate) fn join_last<T: Drop, A: Allocator + Copy>(
     alloc: A,
     runs: &mut Vec<Run<T, A>, A>,
     end: usize,
-)
+) -> Result<(), AllocError>
     requires { RunsStand runs.old.items end }
     ensures runs { RunsStand runs.new.items end }
     ensures items { all_items (map run_seen runs.new.items)
         ≡ all_items (map run_seen runs.old.items) }
+    ensures joined { OnOk result (LastTwoDiffer runs.new.items) }
 {
     let _end = end;
     'runs: while runs.len() > 1 {
         let last = runs.len() - 1;
         if runs[last].parts.len() != runs[last - 1].parts.len() {
-            return;
+            return Ok(());
         }
-        match joined(alloc, &runs[last - 1], &runs[last]) {
-            Ok(run) => {
-                runs[last - 1] = run;
-                runs.truncate(last);
-            }
-            Err(_) => return,
-        }
+        let run = joined(alloc, &runs[last - 1], &runs[last])?;
+        runs[last - 1] = run;
+        runs.truncate(last);
     }
+    Ok(())
 }

@@ -107,7 +107,8 @@ impl<T, A: Allocator + Copy> SnapshotList<T, A> {
     ///
     /// # Errors
     ///
-    /// Fails where memory is refused.
+    /// Fails where memory is refused, also where it is refused for joining parts. The list has the
+    /// same items then, and the next commit that finds memory gives all of them.
     pub fn commit(&mut self) -> Result<SnapshotList<T, A>, AllocError>
     where
         T: Drop,
@@ -127,8 +128,8 @@ impl<T, A: Allocator + Copy> SnapshotList<T, A> {
             &mut self.parts,
             self.middle,
             self.before,
-        );
-        join_last(self.alloc, &mut self.runs, self.middle);
+        )?;
+        join_last(self.alloc, &mut self.runs, self.middle)?;
         let runs = share_runs(self.alloc, &self.runs)?;
         let parts = share(self.alloc, &self.parts)?;
         Ok(SnapshotList {

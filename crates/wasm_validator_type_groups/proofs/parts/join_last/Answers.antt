@@ -32,12 +32,12 @@ runs-preserved g c =
     let k = c.len-last.result - 1 - 1 in
     let a = c.index-in-runs-2.result.now in
     let b = c.index-in-runs-3.result.now in
-    let run = c.in-Ok.run' in
+    let run = c.in_ok-run.run' in
     let n : c.len-last.result ≡ length rs = c.len-last.ensures ∙ c.runs.runs.ok.0 in
     let two : 1 < length rs = omega (arith, n, c.len.ensures, c.runs.runs.ok.0, c.runs-test.true) in
     let next : c.len-last.result - 1 ≡ suc k = omega (arith, n, two) in
     let split = last_two rs k a b (omega (arith, n, two)) c.index-in-runs-2.ensures (subst (λ (j : ℕ). b ≡ get_or rs j b) next c.index-in-runs-3.ensures) in
     let now : c.truncate.new.self.items ≡ take k rs ++ run ∷ [] = c.truncate.ensures.items ∙ ap (λ (j : ℕ). take j (slice_set rs k run)) next ∙ set_last rs k run (omega (arith, n, two)) in (
-      joined_runs rs (take k rs) a b c.args.end split c.runs.invariant.0 run c.truncate.new.self.items now c.in-Ok.ensures.place c.in-Ok.ensures.items c.in-Ok.ensures.stands,
-      joined_items rs (take k rs) a b c.args.end split c.runs.invariant.0 run c.truncate.new.self.items now c.in-Ok.ensures.place c.in-Ok.ensures.items c.in-Ok.ensures.stands ∙ c.runs.invariant.1,
+      joined_runs rs (take k rs) a b c.args.end split c.runs.invariant.0 run c.truncate.new.self.items now c.in_ok-run.ensures.place c.in_ok-run.ensures.items c.in_ok-run.ensures.stands,
+      joined_items rs (take k rs) a b c.args.end split c.runs.invariant.0 run c.truncate.new.self.items now c.in_ok-run.ensures.place c.in_ok-run.ensures.items c.in_ok-run.ensures.stands ∙ c.runs.invariant.1,
     )
