@@ -1,4 +1,4 @@
-ghost use Rattle.std.specs.Prelude.{◌≡◌, ◌+◌, ◌<◌, ◌∷◌, [], true, false, length, IfOk, OnErr, IsTrue};
+ghost use Rattle.std.specs.Prelude.{◌≡◌, ◌+◌, ◌<◌, ◌∷◌, [], true, false, length, IsOk, IfOk, OnErr, IsTrue};
 ghost use Rattle.std.specs.List.{All};
 ghost use Rattle.std.specs.declared.option.Option.TheVariants.{None};
 ghost use Rattle.wasm_validator_type_ancestors.specs.WasmValidatorTypeGroups.Known.{group_hash};
@@ -8,7 +8,7 @@ ghost use Rattle.wasm_readers_errors.specs.WasmReadersTypes.SeenTypes.{func_of, 
 ghost use Rattle.wasm_validator_type_list.specs.Listing.{types_in};
 ghost use Rattle.wasm_validator_type_list.specs.Listable.{IsKnown, IsListable};
 ghost use Rattle.wasm_validator_type_list.specs.Interned.{Interns, InternsTypes, InternsOne, InternsSeen};
-ghost use Rattle.wasm_validator_type_list.specs.Refused.{RefusesTooMany};
+ghost use Rattle.wasm_validator_type_list.specs.Refused.{HasGroup, RefusesTooMany, RefusesSeen};
 
 use crate::type_list::TypeList;
 use std::alloc::Allocator;
@@ -19,13 +19,13 @@ use wasm_validator_type_ancestors::validator_type_groups::{GroupTable, RecGroupI
 
 impl<A: Allocator + Copy> TypeList<A> {
     /// Adds the group, or finds it: says whether it is new, and its id. `is_canonical` is the
-    /// list's own mode; only where it is set are groups found. `offset` is where the group stands
-    /// in the input.
+    /// list's own mode; only where it is set are groups found. A group that is found takes no
+    /// memory, and is never refused. `offset` is where the group stands in the input.
     ///
     /// # Errors
     ///
-    /// Refused where the types of the list and those of the group are more than [`MAX_IDS`], even
-    /// if the group would be found; and where memory is. The list then stays as it was.
+    /// Refused where the group is new and the types of the list and those of the group are more
+    /// than [`MAX_IDS`]; and where memory is. The list then stays as it was.
     pub fn intern_canonical_rec_group(
         &mut self,
         is_canonical: bool,
@@ -42,16 +42,16 @@ impl<A: Allocator + Copy> TypeList<A> {
         ensures same_mode { self.new.is_canonical ≡ self.old.is_canonical }
         ensures same_open { self.new.is_open ≡ self.old.is_open }
         ensures err { OnErr result (self.new ≡ self.old) }
-        ensures limit { RefusesTooMany result (length (types_in self.old) +
-            length group.types) offset }
+        ensures limit { RefusesTooMany result self.old group.types offset }
+        ensures known { HasGroup self.old group.types → IsOk result }
     {
-        if group.types().len() > MAX_IDS as usize - self.groups.item_count() {
-            let refusal = Refusal::new(Fault::Rule(Rule::TooManyTypes), offset);
-            return Err(Error::Refused(refusal));
-        }
         let hash = GroupTable::<SubType<A>, A>::hash_of(group.types());
         if let Some(found) = found_in(is_canonical, &self.groups, group.types(), hash) {
             return Ok((false, RecGroupId::from_index(found)));
+        }
+        if group.types().len() > MAX_IDS as usize - self.groups.item_count() {
+            let refusal = Refusal::new(Fault::Rule(Rule::TooManyTypes), offset);
+            return Err(Error::Refused(refusal));
         }
         let number = self.groups.group_count() as u32;
         self.ancestors
@@ -59,13 +59,13 @@ impl<A: Allocator + Copy> TypeList<A> {
         Ok((true, RecGroupId::from_index(number)))
     }
 
-    /// Adds the sub type as a group of its own, or finds it, and says its id. `offset` is where it
-    /// stands in the input.
+    /// Adds the sub type as a group of its own, or finds it, and says its id. Memory is taken for a
+    /// group of one type, also where the list has it. `offset` is where it stands in the input.
     ///
     /// # Errors
     ///
-    /// Refused where the list already has [`MAX_IDS`] types, and where memory is. The list then
-    /// stays as it was.
+    /// Refused where the group is new and the list already has [`MAX_IDS`] types, and where memory
+    /// is. The list then stays as it was.
     pub fn intern_sub_type(&mut self, ty: SubType<A>, offset: u64) -> Result<CoreTypeId, Error>
         requires open { IsTrue self.old.is_open }
         requires listable { IsListable (length (types_in self.old)) (ty ∷ []) }
@@ -73,7 +73,7 @@ impl<A: Allocator + Copy> TypeList<A> {
         ensures same_mode { self.new.is_canonical ≡ self.old.is_canonical }
         ensures same_open { self.new.is_open ≡ self.old.is_open }
         ensures err { OnErr result (self.new ≡ self.old) }
-        ensures limit { RefusesTooMany result (length (types_in self.old) + 1) offset }
+        ensures limit { RefusesTooMany result self.old (ty ∷ []) offset }
     {
         let group = RecGroup::implicit(self.alloc, ty)?;
         let is_canonical = self.is_canonical();
@@ -82,12 +82,13 @@ impl<A: Allocator + Copy> TypeList<A> {
     }
 
     /// Adds the final sub type of the function type, which is not shared and extends nothing, as a
-    /// group of its own, or finds it, and says its id. `offset` is where it stands in the input.
+    /// group of its own, or finds it, and says its id. Memory is taken for a group of one type, also
+    /// where the list has it. `offset` is where it stands in the input.
     ///
     /// # Errors
     ///
-    /// Refused where the list already has [`MAX_IDS`] types, and where memory is. The list then
-    /// stays as it was.
+    /// Refused where the group is new and the list already has [`MAX_IDS`] types, and where memory
+    /// is. The list then stays as it was.
     pub fn intern_func_type(
         &mut self,
         signature: FuncType<A>,
@@ -101,7 +102,8 @@ impl<A: Allocator + Copy> TypeList<A> {
         ensures same_mode { self.new.is_canonical ≡ self.old.is_canonical }
         ensures same_open { self.new.is_open ≡ self.old.is_open }
         ensures err { OnErr result (self.new ≡ self.old) }
-        ensures limit { RefusesTooMany result (length (types_in self.old) + 1) offset }
+        ensures limit { RefusesSeen result self.old (final_func (func_of signature) false)
+            offset }
     {
         self.intern_sub_type(SubType::func(self.alloc, signature, false), offset)
     }

@@ -11,14 +11,14 @@ pub returns-in-Some-clause-interned : goal.returns-in-Some-clause-interned
 returns-in-Some-clause-interned g c =
     let once = only_once c.args.is_canonical c.in-Some.found c.found_in.result c.found_in.ensures.own c.in-Some.is in
     let mode = mode_of c.self.inside c.args.self.now c.args.is_canonical c.self.view_is c.requires.mode ∙ once in
-    let there = place_found c.self.inside.groups c.args.group.types c.types-3.result.now c.in-Some.found c.found_in.result c.types-3.ensures c.in-Some.is (c.found_in.ensures.once once) in
+    let there = place_found c.self.inside.groups c.args.group.types c.types-2.result.now c.in-Some.found c.found_in.result c.types-2.ensures c.in-Some.is (c.found_in.ensures.once once) in
     rw c.from_index.ensures (interned_found c.self.inside c.args.self.now c.args.group.types c.in-Some.found c.self.view_is c.self.invariant mode there).0
 
 pub returns-in-Some-clause-types : goal.returns-in-Some-clause-types
 returns-in-Some-clause-types g c =
     let once = only_once c.args.is_canonical c.in-Some.found c.found_in.result c.found_in.ensures.own c.in-Some.is in
     let mode = mode_of c.self.inside c.args.self.now c.args.is_canonical c.self.view_is c.requires.mode ∙ once in
-    let there = place_found c.self.inside.groups c.args.group.types c.types-3.result.now c.in-Some.found c.found_in.result c.types-3.ensures c.in-Some.is (c.found_in.ensures.once once) in
+    let there = place_found c.self.inside.groups c.args.group.types c.types-2.result.now c.in-Some.found c.found_in.result c.types-2.ensures c.in-Some.is (c.found_in.ensures.once once) in
     rw c.from_index.ensures (interned_found c.self.inside c.args.self.now c.args.group.types c.in-Some.found c.self.view_is c.self.invariant mode there).1
 
 pub overflow_cast-number : goal.overflow_cast-number
@@ -49,10 +49,10 @@ pub invariant_of-self-2 : goal.invariant_of-self-2
 invariant_of-self-2 g c =
     let a = c.self.inside in
     let mode = mode_of a c.args.self.now c.args.is_canonical c.self.view_is c.requires.mode in
-    let count : length c.args.group.types ≤ MAX_IDS - c.item_count.result = omega (arith, c.if-types-item_count.false, ap length c.types.ensures) in
+    let count : length c.args.group.types ≤ MAX_IDS - c.item_count.result = omega (arith, c.if-types-item_count.false, ap length c.types-3.ensures) in
     sound_push a _ c.args.group.types c.self.invariant (next_of a c.args.self.now c.args.group.types c.self.view_is c.requires.listable)
     (room_of a c.item_count.result (length c.args.group.types) c.self.invariant c.item_count.ensures count)
-    (λ on. place_missed a.groups c.args.group.types c.types-3.result.now c.found_in.result c.types-3.ensures c.in_default.is (c.found_in.ensures.once (sym mode ∙ on)))
+    (λ on. place_missed a.groups c.args.group.types c.types-2.result.now c.found_in.result c.types-2.ensures c.in_default.is (c.found_in.ensures.once (sym mode ∙ on)))
     (λ off. c.requires.members (sym mode ∙ off))
     (c.in_ok-push_group.ensures.groups ∙ ap (λ l. a.groups ++ l ∷ []) c.into_types.ensures) refl
     (c.in_ok-push_group.ensures.lists ∙ ap (λ l. a.ancestors ++ extended_in (length (all_in a.groups)) l) c.into_types.ensures) refl
@@ -64,7 +64,7 @@ returns-clause-interned g c =
     rw (c.from_index-2.ensures, c.group_count-number.ensures)
     (interned_new a (record { groups = c.push_group.new.groups; ancestors = c.push_group.new.self; depths = a.depths; is_canonical = a.is_canonical; is_open = a.is_open; alloc = a.alloc })
     c.args.self.now c.args.group.types c.self.view_is c.self.invariant c.requires.listable (c.in_ok-push_group.ensures.groups ∙ ap (λ l. a.groups ++ l ∷ []) c.into_types.ensures) refl refl
-    (λ on. place_missed a.groups c.args.group.types c.types-3.result.now c.found_in.result c.types-3.ensures c.in_default.is (c.found_in.ensures.once (sym mode ∙ on))) refl).0
+    (λ on. place_missed a.groups c.args.group.types c.types-2.result.now c.found_in.result c.types-2.ensures c.in_default.is (c.found_in.ensures.once (sym mode ∙ on))) refl).0
 
 pub returns-clause-types : goal.returns-clause-types
 returns-clause-types g c =
@@ -73,4 +73,4 @@ returns-clause-types g c =
     rw (c.from_index-2.ensures, c.group_count-number.ensures)
     (interned_new a (record { groups = c.push_group.new.groups; ancestors = c.push_group.new.self; depths = a.depths; is_canonical = a.is_canonical; is_open = a.is_open; alloc = a.alloc })
     c.args.self.now c.args.group.types c.self.view_is c.self.invariant c.requires.listable (c.in_ok-push_group.ensures.groups ∙ ap (λ l. a.groups ++ l ∷ []) c.into_types.ensures) refl refl
-    (λ on. place_missed a.groups c.args.group.types c.types-3.result.now c.found_in.result c.types-3.ensures c.in_default.is (c.found_in.ensures.once (sym mode ∙ on))) refl).1
+    (λ on. place_missed a.groups c.args.group.types c.types-2.result.now c.found_in.result c.types-2.ensures c.in_default.is (c.found_in.ensures.once (sym mode ∙ on))) refl).1
