@@ -1,7 +1,5 @@
 -- Types of a list are told apart, as groups come behind.
-use Rattle.std.proofs.Common.{◌≡◌, refl, sym, ap, subst, ◌∙◌, ℕ, ◌+◌, ◌<◌, Bool, true, false, ◌&&◌, leb, List, [], ◌∷◌, ◌++◌, map, length, slice_get, Option, Some, None, arith}
-use Rattle.std.specs.Option.{option_map}
-use Rattle.std.specs.List.{list_all}
+use Rattle.std.proofs.Common.{◌≡◌, refl, sym, ap, subst, ◌∙◌, ℕ, ◌+◌, ◌<◌, Bool, true, false, List, [], ◌∷◌, ◌++◌, map, length, slice_get, Option, Some, None, arith}
 use Rattle.std.proofs.lemmas.List.{length-map}
 use Rattle.std.proofs.lemmas.Option.{none-some, same_Some, slice_get_within}
 use Rattle.wasm_spec.specs.Syntax.{Sub, Rec, map_sub, map_rec}
@@ -11,18 +9,18 @@ use Rattle.wasm_spec.specs.Closing.{is_closable, resolve, closed, start_unless, 
 use Rattle.wasm_spec.specs.TypeLists.{ListedUse, resolve_listed, listed_tree, with_listed, with_all_listed}
 use Rattle.wasm_spec.specs.TypeLaws.{HasNoRepetition}
 use Rattle.wasm_spec.proofs.Numbering.{members-close, start_of-close}
-use Rattle.wasm_spec_rules.proofs.Tests.{map_some, guarded, then_some}
+use Rattle.wasm_spec_rules.proofs.Tests.{guarded, then_some}
 use Rattle.wasm_readers_types.specs.WasmReadersValues.declared.indices.UnpackedIndex.{UnpackedIndex}
-use Rattle.wasm_readers_types.specs.WasmReadersValues.declared.indices.TheConstants.{MAX_IDS}
 use Rattle.wasm_validator_type_list.proofs.WasmValidatorTypeGroups.Places.{get-left, get-right, get-append}
 use Rattle.wasm_validator_type_list.specs.DefTypes.{listed_group}
 use Rattle.wasm_validator_type_list.proofs.DefTypes.{place_in, get-positions, from-positions}
 use Rattle.wasm_validator_canonical.specs.Found.{place_of}
 use Rattle.wasm_validator_canonical.specs.Groups.{types_at, placed, held_at, held, with_written}
-use Rattle.wasm_validator_canonical.specs.Indices.{is_written_sub, number_in}
+use Rattle.wasm_validator_canonical.specs.Indices.{number_in}
 use Rattle.wasm_validator_canonical.specs.Sections.{written, with_all_written}
 use Rattle.wasm_validator_canonical.proofs.Found.{StandAt, found}
 use Rattle.wasm_validator_canonical.proofs.Held.{length-positions}
+use Rattle.wasm_validator_canonical.proofs.Steps.{is_held}
 use Rattle.wasm_validator_canonical.specs.Apart.{ArePlaced, AreWhole, AreApart, ApartTypesAreDistinct, ListedTypesAreApart, AddedTypesStayApart}
 
 -- types in their places come once
@@ -84,13 +82,13 @@ module _ {X : Type 0} (us : List DefType) (t : RecTree) (xs : List X) where
         omega (arith, from, at, same)));
   }
 
-  stand_at : (first : ℕ) → ((i : ℕ) → i < length xs → slice_get us (first + i) ≡ Some (place_in t i)) → StandAt us first here
+  pub stand_at : (first : ℕ) → ((i : ℕ) → i < length xs → slice_get us (first + i) ≡ Some (place_in t i)) → StandAt us first here
   stand_at first h i d e =
       let l : i < length xs = omega (arith, slice_get_within here i d e, length-positions t 0 xs) in
       h i l ∙ ap Some (sym (from-positions t xs i d e))
 
 -- a whole recursive type that stands in the list is found there
-is_found : {X : Type 0} (us : List DefType) (t : RecTree) (xs : List X) (first j : ℕ) (d : DefType) → HasNoRepetition us → slice_get (positions t 0 xs) j ≡ Some d → StandAt us first (positions t 0 xs) → place_of us (positions t 0 xs) ≡ Some first
+pub is_found : {X : Type 0} (us : List DefType) (t : RecTree) (xs : List X) (first j : ℕ) (d : DefType) → HasNoRepetition us → slice_get (positions t 0 xs) j ≡ Some d → StandAt us first (positions t 0 xs) → place_of us (positions t 0 xs) ≡ Some first
 is_found us t [] first j d once e stand = absurd (none-some d e)
 is_found us t (x ∷ xs) first j d once e stand =
     let z : first ≡ first + 0 = omega arith in
@@ -98,7 +96,7 @@ is_found us t (x ∷ xs) first j d once e stand =
     found us first (place_in t 0) (positions t 1 xs) (λ n g. once.one_id n first (place_in t 0) g at) stand
 
 -- one that isn't found has no type in the list
-not_in : {X : Type 0} (us : List DefType) (t : RecTree) (xs : List X) → HasNoRepetition us → AreWhole us → length (members t) ≡ length xs → place_of us (positions t 0 xs) ≡ None
+pub not_in : {X : Type 0} (us : List DefType) (t : RecTree) (xs : List X) → HasNoRepetition us → AreWhole us → length (members t) ≡ length xs → place_of us (positions t 0 xs) ≡ None
     → (j i : ℕ) (d : DefType) → slice_get us j ≡ Some d → slice_get (positions t 0 xs) i ≡ Some d → ⊥
 not_in us t xs once whole many absent j i d there here =
     let is : d.tree ≡ t = ap (λ (x : DefType). x.tree) (from-positions t xs i d here) in
@@ -118,12 +116,12 @@ held_at_apart : {X : Type 0} (us : List DefType) (ids : List ℕ) (t : RecTree) 
 held_at_apart us ids t xs h many (Some k) e = h
 held_at_apart us ids t xs h many None e = (once_more us t xs (not_in us t xs h.0 h.1 many e) h.0, whole_more us t xs many h.1)
 
-held_apart : {X : Type 0} (c : Bool) (us : List DefType) (ids : List ℕ) (t : RecTree) (xs : List X) → AreApart c us → length (members t) ≡ length xs → AreApart c (held c us ids (positions (placed c (length us) t) 0 xs)).0
+pub held_apart : {X : Type 0} (c : Bool) (us : List DefType) (ids : List ℕ) (t : RecTree) (xs : List X) → AreApart c us → length (members t) ≡ length xs → AreApart c (held c us ids (positions (placed c (length us) t) 0 xs)).0
 held_apart true us ids t xs h many = held_at_apart us ids t xs h many (place_of us (positions t 0 xs)) refl
 held_apart false us ids t xs h many = placed_more us (close (Some (length us)) (members t)) xs (start_of-close (Some (length us)) (members t)) h
 
 module _ (F : Features) where
-  closed_members : (ts : List DefType) (g : Rec ℕ) (t : RecTree) → closed F ts g ≡ Some t → length (members t) ≡ length g.types
+  pub closed_members : (ts : List DefType) (g : Rec ℕ) (t : RecTree) → closed F ts g ≡ Some t → length (members t) ≡ length g.types
   closed_members ts g t e =
       let subs = map (map_sub (resolve ts)) g.types in
       let begin = start_unless (canonical F) (length ts) in
@@ -132,12 +130,9 @@ module _ (F : Features) where
 
   written_apart : (us : List DefType) (ids : List ℕ) (g : Rec UnpackedIndex) (r : List DefType × List ℕ) → AreApart (canonical F) us → with_written F us ids g ≡ Some r → AreApart (canonical F) r.0
   written_apart us ids g r h e =
-      let b = list_all is_written_sub g.types && leb (length us + length g.types) MAX_IDS in
-      let holds : RecTree → List DefType × List ℕ = λ t. held (canonical F) us ids (positions (placed (canonical F) (length us) t) 0 g.types) in
-      let c = guarded b (option_map holds (closed F (types_at us ids) (map_rec number_in g))) r e in
-      let d = map_some holds (closed F (types_at us ids) (map_rec number_in g)) r c.1 in
-      let many : length (members d.0) ≡ length g.types = closed_members (types_at us ids) (map_rec number_in g) d.0 d.1 ∙ length-map g.types (map_sub number_in) in
-      subst (λ (p : List DefType × List ℕ). AreApart (canonical F) p.0) d.2 (held_apart (canonical F) us ids d.0 g.types h many)
+      let d = is_held F us ids g r e in
+      let many : length (members d.tree) ≡ length g.types = closed_members (types_at us ids) (map_rec number_in g) d.tree d.closes ∙ length-map g.types (map_sub number_in) in
+      subst (λ (p : List DefType × List ℕ). AreApart (canonical F) p.0) d.is (held_apart (canonical F) us ids d.tree g.types h many)
 
   all_written_apart : (gs : List (Rec ℕ)) (us : List DefType) (ids : List ℕ) (r : List DefType × List ℕ) → AreApart (canonical F) us → with_all_written F us ids gs ≡ Some r → AreApart (canonical F) r.0
   all_written_apart [] us ids r h e = subst (λ (p : List DefType × List ℕ). AreApart (canonical F) p.0) (same_Some (us, ids) r e) h

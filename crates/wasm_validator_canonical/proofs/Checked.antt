@@ -1,5 +1,5 @@
 -- The types of a list in which a group was interned, where the group's types were checked.
-use Rattle.std.proofs.Common.{◌≡◌, refl, sym, ap, subst, ◌∙◌, ℕ, ◌+◌, Bool, true, false, List, [], ◌∷◌, ◌++◌, length, slice_get, arith, length-append}
+use Rattle.std.proofs.Common.{◌≡◌, refl, inl, sym, ap, subst, ◌∙◌, ℕ, ◌+◌, Bool, true, false, List, [], ◌∷◌, ◌++◌, length, slice_get, arith, length-append}
 use Rattle.std.specs.Bool.{Decides}
 use Rattle.std.specs.declared.result.Result.{Result}
 use Rattle.std.specs.declared.result.Result.TheVariants as results
@@ -16,13 +16,14 @@ use Rattle.wasm_readers_errors.specs.declared.error.Error.TheVariants.{Refused, 
 use Rattle.wasm_readers_types.specs.declared.types.SubType.{SubType}
 use Rattle.wasm_validator_type_list.specs.WasmValidatorTypeGroups.declared.group_id.RecGroupId.{RecGroupId}
 use Rattle.wasm_validator_type_list.specs.Interned.{AreOnce, Interns}
-use Rattle.wasm_validator_type_list.specs.Listable.{AreListable}
+use Rattle.wasm_validator_type_list.specs.Listable.{AreListable, IsListable}
 use Rattle.wasm_validator_type_list.specs.Listing.{Listing, types_in}
 use Rattle.wasm_validator_type_list.specs.Refused.{RefusesTooMany}
 use Rattle.wasm_validator_type_list.specs.DefTypes.{def_types, tree_behind, listed_group, listed_sub}
 use Rattle.wasm_validator_type_list.proofs.WasmValidatorTypeGroups.Flat.{first_of-stays, first_of-all}
 use Rattle.wasm_validator_type_list.proofs.WasmValidatorTypeGroups.Places.{get-end, get-right}
 use Rattle.wasm_validator_type_list.proofs.Placed.{once_in}
+use Rattle.wasm_validator_type_list.proofs.Once.{once-push}
 use Rattle.wasm_validator_type_list.proofs.DefTypes.{def_types-push, length-def_types, first_of-within}
 use Rattle.wasm_validator_type_checks.specs.Rules.{IsValidGroupAt}
 use Rattle.wasm_validator_type_checks.proofs.IdsAndTypes.{ids_keep_rules_as_types}
@@ -92,6 +93,7 @@ module _ {A : Type 0} (F : Features) where
   refused new n false answer listable once d k e v = absurd (let h : true ≡ false = sym (k refl) ∙ e in cc)
 
   -- a list that has no room for the group, or no memory
-  pub nothing_interned : (old new : Listing A) (g : List (SubType A)) (offset : ℕ) (e : Error) → RefusesTooMany (too_many e) (length (types_in old) + length g) offset → InternsValid F (results.Err e) old new g
-  nothing_interned old new g offset (Refused r) l = let over = l.0 in λ room. absurd (omega (arith, over, room))
-  nothing_interned old new g offset OutOfMemory l = tt
+  pub nothing_interned : (old new : Listing A) (g : List (SubType A)) (offset : ℕ) (e : Error) → AreListable old.groups → (old.is_canonical ≡ true → AreOnce old.groups) → IsListable (length (types_in old)) g
+      → RefusesTooMany (too_many e) old g offset → InternsValid F (results.Err e) old new g
+  nothing_interned old new g offset (Refused r) all once next l = inl (record { full = l.0; once = λ h. once-push old.groups g all next (once h) (l.0.absent h) })
+  nothing_interned old new g offset OutOfMemory all once next l = tt

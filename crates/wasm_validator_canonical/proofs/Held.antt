@@ -59,7 +59,7 @@ module _ {A : Type 0} where
       let same : j ≡ length us = one.one_id j (length us) (place_in t 0) at_j at_last in
       omega (arith, l, same)
 
-  new_held : (c : Bool) (gs : List (List (SubType A))) (g : List (SubType A)) (ids : List ℕ) → (c ≡ true → HasNoRepetition (def_types true (gs ++ g ∷ [])))
+  pub new_held : (c : Bool) (gs : List (List (SubType A))) (g : List (SubType A)) (ids : List ℕ) → (c ≡ true → HasNoRepetition (def_types true (gs ++ g ∷ [])))
       → held c (def_types c gs) ids (positions (tree_behind c gs g) 0 g) ≡ (def_types c (gs ++ g ∷ []), ids_with (gs ++ g ∷ []) (length gs) ids g)
   new_held false gs g ids one = at_end false gs g ids
   new_held true gs [] ids one = ap (λ o. held_at o (def_types true gs) ids (positions {X = SubType A} (tree_behind true gs []) 0 [])) (no_types_found (def_types true gs)) ∙ no_types_more gs ids (tree_behind true gs [])

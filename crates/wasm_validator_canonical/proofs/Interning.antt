@@ -1,10 +1,11 @@
 -- The ids of an interned group.
-use Rattle.std.proofs.Common.{◌≡◌, refl, ap, ◌∙◌, ℕ, zero, suc, ◌+◌, ◌-◌, Bool, true, false, List, [], ◌∷◌, ◌++◌, length, slice_get, take, Some, arith, length-append}
+use Rattle.std.proofs.Common.{◌≡◌, refl, ap, ◌∙◌, ℕ, zero, suc, ◌+◌, ◌-◌, ◌≤◌, Bool, true, false, List, [], ◌∷◌, ◌++◌, length, slice_get, take, Some, arith, length-append}
 use Rattle.std.proofs.lemmas.Option.{none-some, same_Some}
+use Rattle.wasm_readers_types.specs.WasmReadersValues.declared.indices.TheConstants.{MAX_IDS}
 use Rattle.wasm_readers_types.specs.declared.types.SubType.{SubType}
 use Rattle.wasm_validator_type_list.specs.WasmValidatorTypeGroups.Elements.{numbers_from, ids_of_group}
 use Rattle.wasm_validator_type_list.specs.WasmValidatorTypeGroups.Groups.{all_in, first_of}
-use Rattle.wasm_validator_type_list.specs.Listing.{Listing}
+use Rattle.wasm_validator_type_list.specs.Listing.{Listing, types_in}
 use Rattle.wasm_validator_type_list.specs.Interned.{AreOnce, Interns, InternsTypes}
 use Rattle.wasm_validator_type_list.proofs.WasmValidatorTypeGroups.Places.{get-end, first_of-suc}
 use Rattle.wasm_validator_canonical.specs.Interned.{InternsUnder}
@@ -32,5 +33,5 @@ module _ {A : Type 0} (old new : Listing A) (g : List (SubType A)) where
   there true n i = ap (λ l. slice_get l.groups n) (i.added refl) ∙ ap (slice_get (old.groups ++ g ∷ [])) (i.last refl) ∙ get-end old.groups g
   there false n i = ap (λ l. slice_get l.groups n) (i.known refl) ∙ i.there refl
 
-  pub interned_under : (is_new : Bool) (n : ℕ) (ids : List ℕ) → Interns old new g is_new n → InternsTypes old new g is_new n → (old.is_canonical ≡ true → AreOnce new.groups) → ids ≡ ids_of_group new.groups n → InternsUnder old new g ids
-  interned_under is_new n ids i t once e = record { is_new = is_new; group = n; interned = i; types = t; once = once; are_ids = e ∙ ids_are new.groups n g (there is_new n i) }
+  pub interned_under : (is_new : Bool) (n : ℕ) (ids : List ℕ) → Interns old new g is_new n → InternsTypes old new g is_new n → (old.is_canonical ≡ true → AreOnce new.groups) → length (types_in new) ≤ MAX_IDS → ids ≡ ids_of_group new.groups n → InternsUnder old new g ids
+  interned_under is_new n ids i t once room e = record { room = room; is_new = is_new; group = n; interned = i; types = t; once = once; are_ids = e ∙ ids_are new.groups n g (there is_new n i) }

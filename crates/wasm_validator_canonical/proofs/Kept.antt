@@ -27,7 +27,7 @@ below_more m n [] l a = All-nil (λ id. id < n)
 below_more m n (x ∷ xs) l a = let h : x < m = All-head (λ id. id < m) x xs a in All-cons (λ id. id < n) x xs (omega (arith, h, l)) (below_more m n xs l (All-tail (λ id. id < m) x xs a))
 
 -- a list that stands in another ends there
-last_one : (us ds : List DefType) (k : ℕ) (d : DefType) → StandAt us k (d ∷ ds) → k + length (d ∷ ds) ≤ length us
+pub last_one : (us ds : List DefType) (k : ℕ) (d : DefType) → StandAt us k (d ∷ ds) → k + length (d ∷ ds) ≤ length us
 last_one us [] k d h = let z : k + 0 ≡ k = omega arith in let l : k < length us = slice_get_within us k d (ap (slice_get us) (sym z) ∙ h 0 d refl) in omega (arith, l)
 last_one us (e ∷ ds) k d h =
     let l : (k + 1) + length (e ∷ ds) ≤ length us = last_one us ds (k + 1) e (λ i x g. let z : (k + 1) + i ≡ k + suc i = omega arith in ap (slice_get us) z ∙ h (suc i) x g) in

@@ -21,3 +21,4 @@ pub mod DepthsOfIds
 pub mod KeptDepths
 pub mod Told
 pub mod Apart
+pub mod Counted

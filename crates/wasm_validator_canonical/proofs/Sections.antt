@@ -1,5 +1,5 @@
 -- The groups of a type section, one after another: they are added exactly where they are valid and there are ids for them.
-use Rattle.std.proofs.Common.{◌≡◌, refl, sym, ap, subst, ◌∙◌, ℕ, ◌+◌, ◌≤◌, List, [], ◌∷◌, ◌++◌, length, slice_get, Some, arith, append_assoc, append-nil, length-append}
+use Rattle.std.proofs.Common.{◌≡◌, refl, sym, ap, subst, ◌∙◌, ◌⊎◌, inl, inr, ℕ, ◌+◌, ◌≤◌, List, [], ◌∷◌, ◌++◌, length, slice_get, Some, arith, append_assoc, append-nil, length-append}
 use Rattle.std.specs.Option.{option_map, option_and_then}
 use Rattle.std.specs.List.{All}
 use Rattle.std.proofs.lemmas.List.Elements.{All-nil, All-append}
@@ -17,6 +17,10 @@ use Rattle.wasm_validator_type_list.proofs.WasmValidatorTypeGroups.Counting.{len
 use Rattle.wasm_validator_type_list.proofs.Grouped.{all-left, all-right}
 use Rattle.wasm_validator_canonical.specs.Groups.{placed, AreValid, with_written}
 use Rattle.wasm_validator_canonical.specs.Sections.{written, with_all_written, StandsFor, AddedSectionsAreValid, ValidSectionsAreAdded, OneIdForOneType}
+use Rattle.wasm_validator_canonical.specs.Apart.{AreApart}
+use Rattle.wasm_validator_canonical.specs.Counted.{with_types, AreWith, AddedTypesAreCounted, CountedSectionsAreAdded}
+use Rattle.wasm_validator_canonical.proofs.Apart.{held_apart, closed_members}
+use Rattle.wasm_validator_canonical.proofs.Counted.{held_counted, with_append, with_none, with_split, with_grows}
 use Rattle.wasm_validator_canonical.proofs.Held.{length-positions}
 use Rattle.wasm_validator_canonical.proofs.Kept.{held_front, held_at_most, all_held}
 use Rattle.wasm_validator_canonical.proofs.StoodFor.{Stand, held_with, held_stand, valid_placed, zip_length}
@@ -44,6 +48,7 @@ module _ (F : Features) where
     stand : Stand F q.0 q.1 (ts ++ space)
     more : List DefType
     front : q.0 ≡ us ++ more
+    counted : AreApart (canonical F) us → AreWith (canonical F) q.0 us space
 
   nothing_held : (us : List DefType) (ids : List ℕ) (ts : List DefType) → Stand F us ids ts → GroupsHeld us ts [] (us, ids)
   nothing_held us ids ts a = record {
@@ -53,6 +58,7 @@ module _ (F : Features) where
     stand = subst (Stand F us ids) (sym (append-nil ts)) a;
     more = [];
     front = sym (append-nil us);
+    counted = λ _. with_none (canonical F) us;
   }
 
   one_held : (us : List DefType) (ids : List ℕ) (ts : List DefType) (a : Stand F us ids ts) (g : Rec ℕ) (gs : List (Rec ℕ)) (t : RecTree) (q : List DefType × List ℕ)
@@ -67,6 +73,9 @@ module _ (F : Features) where
         stand = subst (Stand F q.0 q.1) (append_assoc ts here r.space) r.stand;
         more = h.0 ++ r.more;
         front = r.front ∙ ap (λ xs. xs ++ r.more) h.1 ∙ append_assoc us h.0 r.more;
+        counted = λ apart.
+            let many = closed_members F ts g t f.closes in
+            with_append (canonical F) (held_with F us ids g t).0 q.0 us here r.space (held_counted (canonical F) us ids t g.types apart many) (r.counted (held_apart (canonical F) us ids t g.types apart many));
       }
 
   groups_held : (gs : List (Rec ℕ)) (us : List DefType) (ids : List ℕ) (ts : List DefType) → Stand F us ids ts
@@ -87,12 +96,35 @@ module _ (F : Features) where
     run : with_all_written F us ids gs ≡ Some end
     valid : AreValid F end.0
 
+  -- there are ids for these types with those of the list, which may have some of them, or for all of both
+  abbrev Room : List DefType → List DefType → Type 0
+  Room us space = (AreApart (canonical F) us × (length (with_types (canonical F) us space) ≤ MAX_IDS)) ⊎ (length us + length space ≤ MAX_IDS)
+
+  room_behind : (us : List DefType) (ids : List ℕ) (ts : List DefType) (g : Rec ℕ) (t : RecTree) (rest : List DefType) → closed F ts g ≡ Some t → Room us (positions t 0 g.types ++ rest)
+      → (length (held_with F us ids g t).0 ≤ MAX_IDS) × Room (held_with F us ids g t).0 rest
+  room_behind us ids ts g t rest closes (inl a) =
+      let c = canonical F in
+      let next = (held_with F us ids g t).0 in
+      let many = closed_members F ts g t closes in
+      let split = with_split c next us (positions t 0 g.types) rest (held_counted c us ids t g.types a.0 many) in
+      let more = with_grows c next rest in
+      let room = a.1 in
+      let room_after : length (with_types c next rest) ≤ MAX_IDS = omega (arith, split, room) in
+      (omega (arith, more, room_after), inl (held_apart c us ids t g.types a.0 many, room_after))
+  room_behind us ids ts g t rest closes (inr room) =
+      let listed = positions (placed (canonical F) (length us) t) 0 g.types in
+      let h = held_at_most us ids listed (canonical F) in
+      let p = length-positions (placed (canonical F) (length us) t) 0 g.types in
+      let here = length-positions t 0 g.types in
+      let both = length-append (positions t 0 g.types) rest in
+      (omega (arith, h, p, here, both, room), inr (omega (arith, h, p, here, both, room)))
+
   then_added : (us : List DefType) (ids : List ℕ) (g : Rec ℕ) (gs : List (Rec ℕ)) (next q : List DefType × List ℕ)
       → with_written F us ids (map_rec written g) ≡ Some next → with_all_written F next.0 next.1 gs ≡ Some q → with_all_written F us ids (g ∷ gs) ≡ Some q
   then_added us ids g gs next q e f = ap (option_and_then (λ (p : List DefType × List ℕ). with_all_written F p.0 p.1 gs)) e ∙ f
 
   groups_added : (gs : List (Rec ℕ)) (us : List DefType) (ids : List ℕ) (ts space : List DefType) → Stand F us ids ts → AreValid F us
-      → with_groups F ts gs ≡ Some (ts ++ space) → AreValid F space → length us + length space ≤ MAX_IDS → GroupsAdded us ids gs
+      → with_groups F ts gs ≡ Some (ts ++ space) → AreValid F space → Room us space → GroupsAdded us ids gs
   groups_added [] us ids ts space a before e v room = record { end = (us, ids); run = refl; valid = before }
   groups_added (g ∷ gs) us ids ts space a before e v room =
       let V = IsValidType F declared in
@@ -104,15 +136,13 @@ module _ (F : Features) where
       let z = groups_go_on F gs (ts ++ here) (ts ++ space) rest in
       let split : space ≡ here ++ z.0 = same_behind ts space (here ++ z.0) (z.1 ∙ append_assoc ts here z.0) in
       let valid = subst (All V) split v in
-      let many : length space ≡ length g.types + length z.0 = ap length split ∙ length-append here z.0 ∙ ap (λ n. n + length z.0) (length-positions t 0 g.types) in
+      let after_room = room_behind us ids ts g t z.0 y.1 (subst (Room us) split room) in
       let now = all-left V here z.0 valid in
-      let fits : Fits F us ids ts a g t = record { room = omega (arith, room, many); closes = y.1; valid = now } in
+      let fits : Fits F us ids ts a g t = record { room = after_room.0; closes = y.1; valid = now } in
       let next = held_with F us ids g t in
       let listed = positions (placed (canonical F) (length us) t) 0 g.types in
-      let h = held_at_most us ids listed (canonical F) in
-      let p = length-positions (placed (canonical F) (length us) t) 0 g.types in
       let after = all_held us ids listed V (canonical F) before (valid_placed F (length us) t g.types now) in
-      let later = groups_added gs next.0 next.1 (ts ++ here) z.0 (held_stand F us ids ts g t a) after (rest ∙ ap Some z.1) (all-right V here z.0 valid) (omega (arith, room, many, h, p)) in
+      let later = groups_added gs next.0 next.1 (ts ++ here) z.0 (held_stand F us ids ts g t a) after (rest ∙ ap Some z.1) (all-right V here z.0 valid) after_room.1 in
       record { end = later.end; run = then_added us ids g gs next later.end (fits_added F us ids ts a g t fits) later.run; valid = later.valid }
 
 pub added_sections_are_valid : AddedSectionsAreValid
@@ -133,7 +163,16 @@ added_sections_are_valid F us gs held e v =
     }
 
 pub valid_sections_are_added : ValidSectionsAreAdded
-valid_sections_are_added F us gs before v room = let r = groups_added F gs us [] [] v.types tt before v.gives v.valid room in record { held = r.end; added = r.run; valid = r.valid }
+valid_sections_are_added F us gs before v room = let r = groups_added F gs us [] [] v.types tt before v.gives v.valid (inr room) in record { held = r.end; added = r.run; valid = r.valid }
+
+-- where the list may have some of them
+pub counted_sections_are_added : CountedSectionsAreAdded
+counted_sections_are_added F us gs apart before v room = let r = groups_added F gs us [] [] v.types tt before v.gives v.valid (inl (apart, room)) in record { held = r.end; added = r.run; valid = r.valid }
+
+pub added_types_are_counted : AddedTypesAreCounted
+added_types_are_counted F us gs held apart e valid v =
+    let r = groups_held F gs us [] [] tt held e valid in
+    subst (AreWith (canonical F) held.0 us) (same_Some r.space v.types (sym r.gives ∙ v.gives)) (r.counted apart)
 
 -- ids and the types that they stand for
 pub one_id_for_one_type : OneIdForOneType

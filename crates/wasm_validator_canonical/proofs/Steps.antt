@@ -1,9 +1,8 @@
 -- What one group of a type section adds, and when it does.
-use Rattle.std.proofs.Common.{◌≡◌, refl, sym, ap, subst, ◌∙◌, ℕ, zero, suc, ◌+◌, ◌≤◌, Bool, true, false, true≢false, ◌&&◌, cond, leb, List, [], ◌∷◌, ◌++◌, map, length, Some, None, append_assoc, append-nil, arith, length-append}
-use Rattle.std.specs.Option.{option_map}
+use Rattle.std.proofs.Common.{◌≡◌, refl, sym, ap, subst, ◌∙◌, ℕ, zero, suc, ◌+◌, ◌≤◌, Bool, true, false, true≢false, cond, leb, List, [], ◌∷◌, ◌++◌, map, length, Some, None, append_assoc, append-nil, arith, length-append}
+use Rattle.std.specs.Option.{option_map, option_and_then}
 use Rattle.std.specs.List.{list_all}
 use Rattle.std.proofs.lemmas.Bool.{and_from, leb-true, le-leb}
-use Rattle.std.proofs.lemmas.List.{length-map}
 use Rattle.std.proofs.lemmas.Option.{same_Some}
 use Rattle.wasm_spec.specs.Syntax.{Sub, Rec, map_sub, map_rec}
 use Rattle.wasm_spec.specs.References.{refs_sub}
@@ -15,11 +14,11 @@ use Rattle.wasm_spec_rules.proofs.Tests.{map_some, guarded, then_some}
 use Rattle.wasm_readers_types.specs.WasmReadersValues.declared.indices.UnpackedIndex.{UnpackedIndex}
 use Rattle.wasm_readers_types.specs.WasmReadersValues.declared.indices.TheConstants.{MAX_IDS}
 use Rattle.wasm_validator_type_list.specs.WasmValidatorTypeGroups.Elements.{numbers_from}
-use Rattle.wasm_validator_canonical.specs.Groups.{types_at, placed, held, AreValid, with_written}
+use Rattle.wasm_validator_canonical.specs.Groups.{types_at, placed, held, AreValid, with_an_id_each, with_written}
 use Rattle.wasm_validator_canonical.specs.Indices.{is_written, is_written_sub, number_in}
 use Rattle.wasm_validator_canonical.specs.Sections.{written, with_all_written}
 use Rattle.wasm_validator_canonical.proofs.Held.{positions-map, length-positions}
-use Rattle.wasm_validator_canonical.proofs.Kept.{AreBelow, length_held, held_at_most, held_front, new_ids, held_known}
+use Rattle.wasm_validator_canonical.proofs.Kept.{AreBelow, length_held, held_front, new_ids, held_known}
 use Rattle.wasm_validator_canonical.proofs.StoodFor.{Stand, held_with, same_closed, closed_alone, placed_valid, placed_members, standing_valid}
 use Rattle.wasm_validator_canonical.proofs.ValidAlone.{refs_sub-map}
 
@@ -38,22 +37,22 @@ numbered g = map_rec-map number_in written g ∙ map_rec-same g
 module _ (F : Features) (us : List DefType) (ids : List ℕ) (ts : List DefType) (stand : Stand F us ids ts) (g : Rec ℕ) where
   -- what adding valid types of the group takes
   pub record Fits (t : RecTree) : Type 0 where
-    pub room : length us + length g.types ≤ MAX_IDS
+    pub room : length (held_with F us ids g t).0 ≤ MAX_IDS
     pub closes : closed F ts g ≡ Some t
     pub valid : AreValid F (positions t 0 g.types)
 
-  same_step : with_written F us ids (map_rec written g) ≡ cond (leb (length us + length g.types) MAX_IDS) (option_map (held_with F us ids g) (closed F (types_at us ids) g)) None
+  same_step : with_written F us ids (map_rec written g) ≡ option_and_then with_an_id_each (option_map (held_with F us ids g) (closed F (types_at us ids) g))
   same_step = λ i.
-      cond (all_written g.types i && leb (length us + length-map g.types (map_sub written) i) MAX_IDS)
-      (option_map (λ t. held (canonical F) us ids (positions-map (map_sub written) (placed (canonical F) (length us) t) 0 g.types i)) (closed F (types_at us ids) (numbered g i)))
+      cond (all_written g.types i)
+      (option_and_then with_an_id_each (option_map (λ t. held (canonical F) us ids (positions-map (map_sub written) (placed (canonical F) (length us) t) 0 g.types i)) (closed F (types_at us ids) (numbered g i))))
       None
 
   pub fits_added : (t : RecTree) → Fits t → with_written F us ids (map_rec written g) ≡ Some (held_with F us ids g t)
   fits_added t f =
       let room = f.room in
       same_step
-      ∙ ap (λ b. cond b (option_map (held_with F us ids g) (closed F (types_at us ids) g)) None) (le-leb (length us + length g.types) MAX_IDS room)
-      ∙ ap (λ o. option_map (held_with F us ids g) o) (same_closed F us ids ts stand g (closed_alone F ts g t f.closes t refl f.valid) ∙ f.closes)
+      ∙ ap (λ o. option_and_then with_an_id_each (option_map (held_with F us ids g) o)) (same_closed F us ids ts stand g (closed_alone F ts g t f.closes t refl f.valid) ∙ f.closes)
+      ∙ ap (λ b. cond b (Some (held_with F us ids g t)) None) (le-leb (length (held_with F us ids g t).0) MAX_IDS room)
 
   pub record AddedAs (q : List DefType × List ℕ) : Type 0 where
     pub tree : RecTree
@@ -62,36 +61,41 @@ module _ (F : Features) (us : List DefType) (ids : List ℕ) (ts : List DefType)
 
   pub added_fits : (q : List DefType × List ℕ) → with_written F us ids (map_rec written g) ≡ Some q → AreValid F q.0 → AddedAs q
   added_fits q e v =
-      let c = guarded (leb (length us + length g.types) MAX_IDS) (option_map (held_with F us ids g) (closed F (types_at us ids) g)) q (sym same_step ∙ e) in
-      let d = map_some (held_with F us ids g) (closed F (types_at us ids) g) q c.1 in
+      let a = then_some with_an_id_each (option_map (held_with F us ids g) (closed F (types_at us ids) g)) q (sym same_step ∙ e) in
+      let c = guarded (leb (length a.0.0) MAX_IDS) (Some a.0) q a.2 in
+      let d = map_some (held_with F us ids g) (closed F (types_at us ids) g) a.0 a.1 in
+      let is : held_with F us ids g d.0 ≡ q = d.2 ∙ same_Some a.0 q c.1 in
       let t = d.0 in
       let u = placed (canonical F) (length us) t in
       let n = new_ids us ids (positions u 0 g.types) (canonical F) in
-      let valid : AreValid F (positions u 0 g.types) = standing_valid F (held_with F us ids g t).0 n.start (positions u 0 g.types) n.stand (subst (λ (p : List DefType × List ℕ). AreValid F p.0) (sym d.2) v) in
+      let valid : AreValid F (positions u 0 g.types) = standing_valid F (held_with F us ids g t).0 n.start (positions u 0 g.types) n.stand (subst (λ (p : List DefType × List ℕ). AreValid F p.0) (sym is) v) in
       let alone = closed_alone F (types_at us ids) g t d.1 u (placed_members (canonical F) (length us) t) valid in
       record {
         tree = t;
         fits = record {
-          room = leb-true (length us + length g.types) MAX_IDS c.0;
+          room = subst (λ (p : List DefType × List ℕ). length p.0 ≤ MAX_IDS) (sym d.2) (leb-true (length a.0.0) MAX_IDS c.0);
           closes = sym (same_closed F us ids ts stand g alone) ∙ d.1;
           valid = placed_valid F (length us) t g.types valid;
         };
-        is = d.2;
+        is = is;
       }
 
 -- what adding a group leaves of ids, whatever the group is
 module _ (F : Features) (us : List DefType) (ids : List ℕ) (g : Rec UnpackedIndex) where
-  record IsHeld (r : List DefType × List ℕ) : Type 0 where
-    tree : RecTree
-    is : held (canonical F) us ids (positions (placed (canonical F) (length us) tree) 0 g.types) ≡ r
+  pub record IsHeld (r : List DefType × List ℕ) : Type 0 where
+    pub tree : RecTree
+    pub closes : closed F (types_at us ids) (map_rec number_in g) ≡ Some tree
+    pub is : held (canonical F) us ids (positions (placed (canonical F) (length us) tree) 0 g.types) ≡ r
 
-  is_held : (r : List DefType × List ℕ) → with_written F us ids g ≡ Some r → IsHeld r
+  pub is_held : (r : List DefType × List ℕ) → with_written F us ids g ≡ Some r → IsHeld r
   is_held r e =
-      let b = list_all is_written_sub g.types && leb (length us + length g.types) MAX_IDS in
       let holds : RecTree → List DefType × List ℕ = λ t. held (canonical F) us ids (positions (placed (canonical F) (length us) t) 0 g.types) in
-      let c = guarded b (option_map holds (closed F (types_at us ids) (map_rec number_in g))) r e in
-      let d = map_some holds (closed F (types_at us ids) (map_rec number_in g)) r c.1 in
-      record { tree = d.0; is = d.2 }
+      let made = option_map holds (closed F (types_at us ids) (map_rec number_in g)) in
+      let a = guarded (list_all is_written_sub g.types) (option_and_then with_an_id_each made) r e in
+      let b = then_some with_an_id_each made r a.1 in
+      let c = guarded (leb (length b.0.0) MAX_IDS) (Some b.0) r b.2 in
+      let d = map_some holds (closed F (types_at us ids) (map_rec number_in g)) b.0 b.1 in
+      record { tree = d.0; closes = d.1; is = d.2 ∙ same_Some b.0 r c.1 }
 
   -- the ids of a module's types become more by the group's
   pub written_length : (r : List DefType × List ℕ) → with_written F us ids g ≡ Some r → length r.1 ≡ length ids + length g.types
@@ -127,23 +131,6 @@ module _ (F : Features) (us : List DefType) (ids : List ℕ) (g : Rec UnpackedIn
       let h = is_held r e in
       let f = held_front us ids (positions (placed (canonical F) (length us) h.tree) 0 g.types) (canonical F) in
       (f.0, ap (λ (p : List DefType × List ℕ). p.0) (sym h.is) ∙ f.1)
-
-  -- by no more than the ids do
-  pub written_at_most : (r : List DefType × List ℕ) → with_written F us ids g ≡ Some r → length r.0 + length ids ≤ length us + length r.1
-  written_at_most r e =
-      let h = is_held r e in
-      let ds = positions (placed (canonical F) (length us) h.tree) 0 g.types in
-      let listed = held_at_most us ids ds (canonical F) in
-      let numbered = length_held us ids ds (canonical F) in
-      subst (λ (p : List DefType × List ℕ). length p.0 + length ids ≤ length us + length p.1) h.is (omega (arith, listed, numbered))
-
-pub all_written_at_most : (F : Features) (gs : List (Rec ℕ)) (us : List DefType) (ids : List ℕ) (r : List DefType × List ℕ) → with_all_written F us ids gs ≡ Some r → length r.0 + length ids ≤ length us + length r.1
-all_written_at_most F [] us ids r e = subst (λ (p : List DefType × List ℕ). length p.0 + length ids ≤ length us + length p.1) (same_Some (us, ids) r e) (omega arith)
-all_written_at_most F (g ∷ gs) us ids r e =
-    let x = then_some (λ (p : List DefType × List ℕ). with_all_written F p.0 p.1 gs) (with_written F us ids (map_rec written g)) r e in
-    let here = written_at_most F us ids (map_rec written g) x.0 x.1 in
-    let later = all_written_at_most F gs x.0.0 x.0.1 r x.2 in
-    omega (arith, here, later)
 
 -- with all groups of a section too
 pub all_written_front : (F : Features) (gs : List (Rec ℕ)) (us : List DefType) (ids : List ℕ) (r : List DefType × List ℕ) → with_all_written F us ids gs ≡ Some r → (more : List DefType) × (r.0 ≡ us ++ more)

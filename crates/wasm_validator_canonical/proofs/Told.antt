@@ -1,5 +1,5 @@
 -- What is told of a group, step by step.
-use Rattle.std.proofs.Common.{◌≡◌, refl, sym, ap, subst, ◌∙◌, ℕ, ◌+◌, ◌≤◌, Bool, true, false, true≢false, List, [], ◌∷◌, ◌++◌, map, length, IfErr, Ok, Err, arith}
+use Rattle.std.proofs.Common.{◌≡◌, refl, sym, ap, subst, ◌∙◌, ℕ, ◌+◌, ◌≤◌, Bool, true, false, true≢false, List, [], ◌∷◌, ◌++◌, map, length, IfErr, Ok, Err, arith, length-append}
 use Rattle.std.specs.declared.result.Result.{Result}
 use Rattle.std.proofs.lemmas.List.{length-map}
 use Rattle.wasm_spec.specs.Syntax.{Rec, map_sub}
@@ -12,15 +12,16 @@ use Rattle.wasm_readers_types.specs.WasmReadersValues.declared.indices.TheConsta
 use Rattle.wasm_readers_types.specs.WasmReadersValues.declared.indices.UnpackedIndex.{UnpackedIndex}
 use Rattle.wasm_readers_types.specs.declared.types.SubType.{SubType}
 use Rattle.wasm_readers_types.specs.SeenTypes.{sub_of}
+use Rattle.wasm_validator_type_list.proofs.WasmValidatorTypeGroups.Flat.{all_in-push}
 use Rattle.wasm_validator_type_list.specs.Interned.{Interns}
-use Rattle.wasm_validator_type_list.specs.Listing.{Listing}
+use Rattle.wasm_validator_type_list.specs.Listing.{Listing, types_in}
 use Rattle.wasm_validator_type_list.specs.Refused.{RefusesTooMany}
 use Rattle.wasm_validator_type_checks.specs.Told.{ToldOfGroup}
 use Rattle.wasm_validator_canonical.specs.Answers.{IsRefusal, IsAt}
 use Rattle.wasm_validator_canonical.specs.Groups.{allows_written, closes}
 use Rattle.wasm_validator_canonical.specs.Indices.{canonical_index, canonical_group, extend_at_most_one}
 use Rattle.wasm_validator_canonical.specs.Interned.{HasIdsFor}
-use Rattle.wasm_validator_canonical.specs.Told.{IfContent, ToldOfIndex, ToldOfWritten, index, ToldOfAdded, invalid}
+use Rattle.wasm_validator_canonical.specs.Told.{IfContent, ToldOfIndex, ToldOfWritten, index, ToldOfInterned, no_ids, breaks, ToldOfAdded, full, invalid}
 use Rattle.wasm_validator_canonical.proofs.Checked.{too_many}
 
 -- what implies this is said of a refusal of the content
@@ -51,28 +52,42 @@ index_tells features offset start g r gc s e o on from end at allowed one t =
     (subst (λ n. ToldOfIndex gc n last offset r) from
     (subst (λ n. ToldOfIndex gc s n offset r) end (subst (λ n. ToldOfIndex gc s e n r) at t))))
 
+added_told : {A : Type 0} (features : WasmFeatures) (offset : ℕ) (old : Listing A) (ids : List ℕ) (g : Rec UnpackedIndex) (here : List (SubType A)) (r : Refusal) → closes (features_of features) (length ids) g ≡ true
+    → map sub_of here ≡ canonical_group ids g.types → length g.types ≡ length here → ToldOfInterned features offset old here r → ToldOfAdded features offset old ids g r
+added_told features offset old ids g here r closing says many (no_ids f e) = full closing (record { types = here; are_types = says; full = f; told = e })
+added_told features offset old ids g here r closing says many (breaks room t) = invalid (subst (HasIdsFor old) (sym many) room) closing (record { types = here; are_types = says; told = t })
+
 -- what is told of a group that stands behind the others, as the list has its types
-pub invalid_tells : {A : Type 0} (features : WasmFeatures) (offset : ℕ) (old : Listing A) (ids : List ℕ) (g : Rec UnpackedIndex) (here types : List (SubType A)) (e : Error) → HasIdsFor old (length g.types) → closes (features_of features) (length ids) g ≡ true
-    → here ≡ types → map sub_of types ≡ canonical_group ids g.types → (HasIdsFor old (length here) → IfContent (ToldOfGroup features offset (old.groups ++ here ∷ []) (length old.groups)) e) → IfContent (ToldOfAdded features offset old ids g) e
-invalid_tells features offset old ids g here types e room closing same value told =
+pub invalid_tells : {A : Type 0} (features : WasmFeatures) (offset : ℕ) (old : Listing A) (ids : List ℕ) (g : Rec UnpackedIndex) (here types : List (SubType A)) (e : Error) → closes (features_of features) (length ids) g ≡ true
+    → here ≡ types → map sub_of types ≡ canonical_group ids g.types → IfContent (ToldOfInterned features offset old here) e → IfContent (ToldOfAdded features offset old ids g) e
+invalid_tells features offset old ids g here types e closing same value told =
     let says : map sub_of here ≡ canonical_group ids g.types = ap (map sub_of) same ∙ value in
     let many : length g.types ≡ length here = sym (length-map g.types (map_sub (canonical_index ids))) ∙ sym (ap length says) ∙ length-map here sub_of in
-    content_says e (λ r t. invalid room closing (record { types = here; are_types = says; told = t })) (told (subst (HasIdsFor old) many room))
+    content_says e (λ r t. added_told features offset old ids g here r closing says many t) told
 
 -- a group that was refused is new, and stands behind the others
-pub new_tells : {A : Type 0} (features : WasmFeatures) (offset : ℕ) (old new : Listing A) (g : List (SubType A)) (is_new : Bool) (n : ℕ) (answer : Bool) (r : Refusal) → Interns old new g is_new n → (is_new ≡ false → answer ≡ true) → answer ≡ false
+new_tells : {A : Type 0} (features : WasmFeatures) (offset : ℕ) (old new : Listing A) (g : List (SubType A)) (is_new : Bool) (n : ℕ) (answer : Bool) (r : Refusal) → Interns old new g is_new n → (is_new ≡ false → answer ≡ true) → answer ≡ false
     → ToldOfGroup features offset new.groups n r → ToldOfGroup features offset (old.groups ++ g ∷ []) (length old.groups) r
 new_tells features offset old new g true n answer r i known e told =
     let added : new.groups ≡ old.groups ++ g ∷ [] = ap (λ (l : Listing _). l.groups) (i.added refl) in
     subst (λ k. ToldOfGroup features offset (old.groups ++ g ∷ []) k r) (i.last refl) (subst (λ gs. ToldOfGroup features offset gs n r) added told)
 new_tells features offset old new g false n answer r i known e told = absurd (true≢false (sym (known refl) ∙ e))
 
--- where there are ids for the group, the list isn't refused for want of them
-pub room_tells : (P : Refusal → Type 0) (e : Error) (count offset : ℕ) → RefusesTooMany (too_many e) count offset → count ≤ MAX_IDS → IfContent P e
-room_tells P (Refused r) count offset h room = let over = h.0 in absurd (omega (arith, over, room))
-room_tells P OutOfMemory count offset h room = tt
+new_fits : {A : Type 0} (old new : Listing A) (g : List (SubType A)) (is_new : Bool) (n : ℕ) (answer : Bool) → Interns old new g is_new n → (is_new ≡ false → answer ≡ true) → answer ≡ false → length (types_in new) ≤ MAX_IDS → HasIdsFor old (length g)
+new_fits old new g true n answer i known e room =
+    let longer = ap (λ (l : Listing _). length (types_in l)) (i.added refl) ∙ ap length (all_in-push old.groups g) ∙ length-append (types_in old) g in
+    omega (arith, longer, room)
+new_fits old new g false n answer i known e room = absurd (true≢false (sym (known refl) ∙ e))
 
--- and where it is, this is told at the offset
-pub full_place : (e : Error) (count offset : ℕ) → RefusesTooMany (too_many e) count offset → IsAt offset e
-full_place (Refused r) count offset h = ap (λ (q : Refusal). q.offset) h.1
-full_place OutOfMemory count offset h = tt
+pub new_told : {A : Type 0} (features : WasmFeatures) (offset : ℕ) (old new : Listing A) (g : List (SubType A)) (is_new : Bool) (n : ℕ) (answer : Bool) (r : Refusal) → Interns old new g is_new n → (is_new ≡ false → answer ≡ true) → answer ≡ false → length (types_in new) ≤ MAX_IDS
+    → ToldOfGroup features offset new.groups n r → ToldOfInterned features offset old g r
+new_told features offset old new g is_new n answer r i known e room told = breaks (new_fits old new g is_new n answer i known e room) (new_tells features offset old new g is_new n answer r i known e told)
+
+-- where it was refused for want of ids, this is told, at the offset
+pub full_tells : {A : Type 0} (features : WasmFeatures) (old : Listing A) (g : List (SubType A)) (e : Error) (offset : ℕ) → RefusesTooMany (too_many e) old g offset → IfContent (ToldOfInterned features offset old g) e
+full_tells features old g (Refused r) offset h = no_ids h.0 h.1
+full_tells features old g OutOfMemory offset h = tt
+
+pub full_place : {A : Type 0} (old : Listing A) (g : List (SubType A)) (e : Error) (offset : ℕ) → RefusesTooMany (too_many e) old g offset → IsAt offset e
+full_place old g (Refused r) offset h = ap (λ (q : Refusal). q.offset) h.1
+full_place old g OutOfMemory offset h = tt

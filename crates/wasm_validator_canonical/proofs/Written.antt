@@ -1,8 +1,8 @@
 -- A module's group, written as the list of types has it, is the recursive type that it closes to.
-use Rattle.std.proofs.Common.{◌≡◌, refl, sym, ap, subst, ◌∙◌, ℕ, zero, suc, ◌+◌, ◌-◌, ◌<◌, ◌≤◌, Bool, true, false, ◌&&◌, cond, leb, List, [], ◌∷◌, ◌++◌, map, length, slice_get, get_or, Option, Some, None, All}
-use Rattle.std.specs.Option.{option_map}
+use Rattle.std.proofs.Common.{◌≡◌, refl, sym, ap, subst, ◌∙◌, ℕ, zero, suc, ◌+◌, ◌-◌, ◌<◌, ◌≤◌, Bool, true, false, cond, leb, List, [], ◌∷◌, ◌++◌, map, length, slice_get, get_or, Option, Some, None, All, arith, length-append}
+use Rattle.std.specs.Option.{option_map, option_and_then}
 use Rattle.std.specs.List.{list_all, AllByRecursion}
-use Rattle.std.proofs.lemmas.Bool.{le-leb}
+use Rattle.std.proofs.lemmas.Bool.{le-leb, leb-true}
 use Rattle.std.proofs.lemmas.List.{length-map}
 use Rattle.std.proofs.lemmas.List.Elements.{All-head, All-tail}
 use Rattle.std.proofs.lemmas.Option.{none-some, same_Some, slice_get-get_or}
@@ -25,14 +25,24 @@ use Rattle.wasm_readers_types.specs.WasmReadersValues.declared.indices.TheConsta
 use Rattle.wasm_readers_types.specs.SeenTypes.{sub_of}
 use Rattle.wasm_validator_type_list.specs.WasmValidatorTypeGroups.Elements.{numbers_from}
 use Rattle.wasm_validator_type_list.specs.WasmValidatorTypeGroups.Groups.{first_of}
-use Rattle.wasm_validator_type_list.specs.Listing.{Listing}
+use Rattle.wasm_validator_type_list.specs.Listing.{Listing, types_in}
 use Rattle.wasm_validator_type_list.specs.DefTypes.{listed_ref, listed_sub, listed_group, def_types, tree_behind}
 use Rattle.wasm_validator_type_list.specs.Interned.{AreOnce, Interns, InternsTypes}
 use Rattle.wasm_validator_type_list.proofs.WasmValidatorTypeGroups.Places.{get-map}
-use Rattle.wasm_validator_canonical.specs.Groups.{nowhere, types_at, placed, held, with_written}
+use Rattle.wasm_validator_type_list.proofs.WasmValidatorTypeGroups.Flat.{all_in-push}
+use Rattle.wasm_validator_type_list.proofs.DefTypes.{length-def_types}
+use Rattle.wasm_validator_canonical.specs.Groups.{nowhere, types_at, placed, held, with_an_id_each, with_written}
 use Rattle.wasm_validator_canonical.specs.Indices.{use_of_index, canonical_index, canonical_group, is_written, is_written_sub, number_in}
 use Rattle.wasm_validator_canonical.proofs.Canonical.{and_left, and_right}
-use Rattle.wasm_validator_canonical.proofs.Held.{positions-map, interned_held}
+use Rattle.wasm_validator_canonical.proofs.Held.{positions-map, interned_held, new_held}
+
+either : {P : Type 0} (b : Bool) → (b ≡ true → P) → (b ≡ false → P) → P
+either true f g = f refl
+either false f g = g refl
+
+-- a test that fails, by numbers
+pub not_within : (a b : ℕ) → b < a → leb a b ≡ false
+not_within a b l = either (leb a b) (λ e. let h : a ≤ b = leb-true a b e in absurd (omega (arith, l, h))) (λ e. e)
 
 -- an index as the list has it
 listed_either : (o : Option ℕ) (i : ℕ) → listed_ref (use_of_index o i) ≡ listed_use o i
@@ -103,21 +113,44 @@ module _ {A : Type 0} (F : Features) (old new : Listing A) (ids : List ℕ) (wri
   same_positions : (t : RecTree) → map sub_of g ≡ canonical_group ids written.types → positions t 0 g ≡ positions t 0 written.types
   same_positions t e = sym (positions-map sub_of t 0 g) ∙ ap (positions t 0) e ∙ positions-map (map_sub (canonical_index ids)) t 0 written.types
 
-  when_all : (a b : Bool) (o : Option (List DefType × List ℕ)) → a ≡ true → b ≡ true → cond (a && b) o None ≡ o
-  when_all true true o p q = refl
-  when_all true false o p q = absurd cc
-  when_all false b o p q = absurd cc
+  -- where the list with the group's types is this
+  written_as : (q : List DefType × List ℕ) → canonical F ≡ old.is_canonical → All (λ id. id < length us) ids
+      → list_all is_written_sub written.types ≡ true → is_closable F (length (types_at us ids)) numbered ≡ true
+      → map sub_of g ≡ canonical_group ids written.types
+      → held old.is_canonical (def_types old.is_canonical old.groups) ids (positions (tree_behind old.is_canonical old.groups g) 0 g) ≡ q
+      → with_written F us ids written ≡ with_an_id_each q
+  written_as q mode known w closable e h =
+      let c = canonical F in
+      let t = same_tree known w e in
+      ap (λ b. cond b (option_and_then with_an_id_each (option_map (λ u. held c us ids (positions (placed c (length us) u) 0 written.types)) (cond (is_closable F (length (types_at us ids)) numbered) (Some tree) None))) None) w
+      ∙ ap (λ b. option_and_then with_an_id_each (option_map (λ u. held c us ids (positions (placed c (length us) u) 0 written.types)) (cond b (Some tree) None))) closable
+      ∙ ap (λ u. with_an_id_each (held c us ids (positions u 0 written.types))) (sym t)
+      ∙ ap (λ ds. with_an_id_each (held c us ids ds)) (sym (same_positions (tree_behind c old.groups g) e))
+      ∙ ap with_an_id_each (subst (λ b. held b (def_types b old.groups) ids (positions (tree_behind b old.groups g) 0 g) ≡ q) (sym mode) h)
 
   pub written_added : canonical F ≡ old.is_canonical → All (λ id. id < length us) ids
       → list_all is_written_sub written.types ≡ true
-      → length us + length written.types ≤ MAX_IDS → is_closable F (length (types_at us ids)) numbered ≡ true
+      → length (types_in new) ≤ MAX_IDS → is_closable F (length (types_at us ids)) numbered ≡ true
       → map sub_of g ≡ canonical_group ids written.types → Interns old new g is_new n → InternsTypes old new g is_new n → (old.is_canonical ≡ true → AreOnce new.groups)
       → with_written F us ids written ≡ Some (def_types (canonical F) new.groups, ids ++ numbers_from (first_of new.groups n) (length g))
   written_added mode known w room closable e i j one =
-      let c = canonical F in
-      let t = same_tree known w e in
-      when_all (list_all is_written_sub written.types) (leb (length us + length written.types) MAX_IDS) _ w (le-leb (length us + length written.types) MAX_IDS room)
-      ∙ ap (λ b. option_map (λ u. held c us ids (positions (placed c (length us) u) 0 written.types)) (cond b (Some tree) None)) closable
-      ∙ ap (λ u. Some (held c us ids (positions u 0 written.types))) (sym t)
-      ∙ ap (λ ds. Some (held c us ids ds)) (sym (same_positions (tree_behind c old.groups g) e))
-      ∙ ap Some (subst (λ b. held b (def_types b old.groups) ids (positions (tree_behind b old.groups g) 0 g) ≡ (def_types b new.groups, ids ++ numbers_from (first_of new.groups n) (length g))) (sym mode) (interned_held old new g is_new n ids i j one))
+      let after = def_types old.is_canonical new.groups in
+      let more = ids ++ numbers_from (first_of new.groups n) (length g) in
+      let many = length-def_types old.is_canonical new.groups in
+      written_as (after, more) mode known w closable e (interned_held old new g is_new n ids i j one)
+      ∙ ap (λ b. cond b (Some (after, more)) None) (le-leb (length after) MAX_IDS (omega (arith, room, many)))
+      ∙ ap (λ b. Some (def_types b new.groups, more)) (sym mode)
+
+  -- a new group for which there are no ids
+  pub written_none : canonical F ≡ old.is_canonical → All (λ id. id < length us) ids
+      → list_all is_written_sub written.types ≡ true → is_closable F (length (types_at us ids)) numbered ≡ true
+      → map sub_of g ≡ canonical_group ids written.types → (old.is_canonical ≡ true → AreOnce (old.groups ++ g ∷ [])) → MAX_IDS < length (types_in old) + length g
+      → with_written F us ids written ≡ None
+  written_none mode known w closable e one over =
+      let all = old.groups ++ g ∷ [] in
+      let after = def_types old.is_canonical all in
+      let more = ids ++ numbers_from (first_of all (length old.groups)) (length g) in
+      let many = length-def_types old.is_canonical all in
+      let longer = ap length (all_in-push old.groups g) ∙ length-append (types_in old) g in
+      written_as (after, more) mode known w closable e (new_held old.is_canonical old.groups g ids (λ h. (one h).types))
+      ∙ ap (λ b. cond b (Some (after, more)) None) (not_within (length after) MAX_IDS (omega (arith, many, longer, over)))

@@ -1,7 +1,7 @@
 -- What one recursion group adds to the types of a validator and of a module. Core Specification 3.0, Validation, Types
 -- (Recursive Types), with the types of a list in place of a module's.
-use Rattle.std.specs.Prelude.{ℕ, ◌+◌, ◌==◌, nat_le, if◌then◌else◌, Bool, true, false, not, ◌&&◌, ◌||◌, List, [], ◌++◌, map, length, get_or, Option, Some, None}
-use Rattle.std.specs.Option.{option_map}
+use Rattle.std.specs.Prelude.{ℕ, ◌==◌, nat_le, if◌then◌else◌, Bool, true, false, not, ◌&&◌, ◌||◌, List, [], ◌++◌, map, length, get_or, Option, Some, None}
+use Rattle.std.specs.Option.{option_map, option_and_then}
 use Rattle.std.specs.List.{list_all, All}
 use Rattle.wasm_spec.specs.Syntax.{Rec, map_rec}
 use Rattle.wasm_spec.specs.Features.{Features, canonical}
@@ -51,10 +51,15 @@ held is_canonical us ids ds = held_at (if is_canonical then place_of us ds else 
 abbrev pub AreValid : Features → List DefType → Type 0
 AreValid F us = All (IsValidType F declared) us
 
+-- a list of types that has an id for each
+abbrev pub with_an_id_each : List DefType × List ℕ → Option (List DefType × List ℕ)
+with_an_id_each r = if nat_le (length r.0) MAX_IDS then Some r else None
+
 -- The list of types with those of a group that a module writes behind its types, and the ids of the module's types
--- with theirs: where the group closes and there are ids for its types. Whether these are valid is said of the list.
+-- with theirs: where the group closes and there are ids for all types of the list, which stays as it is where equal types
+-- are one and it has them. Whether they are valid is said of the list.
 abbrev pub with_written : Features → List DefType → List ℕ → Rec UnpackedIndex → Option (List DefType × List ℕ)
 with_written F us ids g =
-    if list_all is_written_sub g.types && nat_le (length us + length g.types) MAX_IDS
-    then option_map (λ t. held (canonical F) us ids (positions (placed (canonical F) (length us) t) 0 g.types)) (closed F (types_at us ids) (map_rec number_in g))
+    if list_all is_written_sub g.types
+    then option_and_then with_an_id_each (option_map (λ t. held (canonical F) us ids (positions (placed (canonical F) (length us) t) 0 g.types)) (closed F (types_at us ids) (map_rec number_in g)))
     else None

@@ -1,5 +1,5 @@
 -- What interning a group does to a list, with the ids of the group's types, and what it says of these.
-use Rattle.std.specs.Prelude.{ℕ, ◌≡◌, ◌+◌, ◌≤◌, Bool, true, List, length, ⊤}
+use Rattle.std.specs.Prelude.{ℕ, ◌≡◌, ◌+◌, ◌≤◌, ◌⊎◌, Bool, true, List, [], ◌∷◌, ◌++◌, length, ⊤}
 use Rattle.std.specs.declared.result.Result.{Result}
 use Rattle.std.specs.declared.result.Result.TheVariants.{Ok, Err}
 use Rattle.wasm_spec.specs.Features.{Features}
@@ -15,6 +15,7 @@ use Rattle.wasm_validator_type_list.specs.WasmValidatorTypeGroups.Groups.{first_
 use Rattle.wasm_validator_type_list.specs.Listing.{Listing, types_in}
 use Rattle.wasm_validator_type_list.specs.DefTypes.{types_of_list}
 use Rattle.wasm_validator_type_list.specs.Interned.{AreOnce, Interns, InternsTypes}
+use Rattle.wasm_validator_type_list.specs.Refused.{IsFull}
 use Rattle.wasm_validator_canonical.specs.Answers.{AddsIds, AddsGroup}
 use Rattle.wasm_validator_canonical.specs.Groups.{AreValid, with_written}
 
@@ -25,6 +26,7 @@ pub record InternsUnder {A : Type 0} (old new : Listing A) (g : List (SubType A)
   pub interned : Interns old new g is_new group
   pub types : InternsTypes old new g is_new group
   pub once : old.is_canonical ≡ true → AreOnce new.groups
+  pub room : length (types_in new) ≤ MAX_IDS
   pub are_ids : ids ≡ numbers_from (first_of new.groups group) (length g)
 
 module _ {A : Type 0} where
@@ -50,9 +52,14 @@ module _ {A : Type 0} where
     pub interned : InternsUnder old new g ids
     pub invalid : AreValid F (types_of_list new) → ⊥
 
-  -- The group is in a list of valid types, and these are its ids; or there is no room for it, or a type of it isn't
+  -- the group would be new, and there are no ids for its types
+  pub record InternsNone (old : Listing A) (g : List (SubType A)) : Type 0 where
+    pub full : IsFull old g
+    pub once : old.is_canonical ≡ true → AreOnce (old.groups ++ g ∷ [])
+
+  -- The group is in a list of valid types, and these are its ids; or there are no ids for it, or a type of it isn't
   -- valid; or memory was refused.
   abbrev pub InternsValid : Features → Result RecGroupElements Error → Listing A → Listing A → List (SubType A) → Type 0
   InternsValid F (Ok elements) old new g = InternsUnder old new g (ids_left elements) × AreValid F (types_of_list new)
-  InternsValid F (Err (Refused r)) old new g = HasIdsFor old (length g) → InternsInvalid F old new g
+  InternsValid F (Err (Refused r)) old new g = InternsNone old g ⊎ InternsInvalid F old new g
   InternsValid F (Err OutOfMemory) old new g = ⊤

@@ -10,3 +10,4 @@ pub mod Told
 pub mod Sections
 pub mod Arities
 pub mod Apart
+pub mod Counted

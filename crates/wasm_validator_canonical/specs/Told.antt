@@ -1,7 +1,8 @@
 -- What a refusal of a group says that a module writes behind its types: the first of the limits and rules that is
 -- broken, with its fault, and where the group stands. Core Specification 3.0, Validation, Types (Recursive Types).
-use Rattle.std.specs.Prelude.{ℕ, ◌≡◌, ◌+◌, ◌<◌, ◌≤◌, Bool, true, false, List, [], ◌∷◌, ◌++◌, map, length, ⊤}
+use Rattle.std.specs.Prelude.{ℕ, ◌≡◌, ◌+◌, ◌<◌, ◌≤◌, if◌then◌else◌, Bool, true, false, List, [], ◌∷◌, ◌++◌, map, length, ⊤}
 use Rattle.wasm_spec.specs.Syntax.{Rec}
+use Rattle.wasm_spec.specs.Features.{canonical}
 use Rattle.wasm_spec_rules.specs.FeatureFlags.{features_of}
 use Rattle.wasm_readers_errors.specs.declared.error.Error.{Error}
 use Rattle.wasm_readers_errors.specs.declared.error.Error.TheVariants.{Refused, OutOfMemory}
@@ -12,7 +13,7 @@ use Rattle.wasm_readers_types.specs.WasmReadersValues.declared.indices.UnpackedI
 use Rattle.wasm_readers_types.specs.declared.types.SubType.{SubType}
 use Rattle.wasm_readers_types.specs.SeenTypes.{sub_of}
 use Rattle.wasm_validator_type_list.specs.Listing.{Listing, types_in}
-use Rattle.wasm_validator_type_list.specs.Refused.{too_many_types}
+use Rattle.wasm_validator_type_list.specs.Refused.{too_many_types, IsFull}
 use Rattle.wasm_validator_type_checks.specs.Told.{ToldOfGroup}
 use Rattle.wasm_validator_canonical.specs.declared.type_canonicalizer.TypeCanonicalizer.{TypeCanonicalizer}
 use Rattle.wasm_validator_canonical.specs.Groups.{allows_written, closes}
@@ -43,15 +44,36 @@ pub data ToldOfWritten (features : WasmFeatures) (offset start : ℕ) (g : Rec U
   extends_two : allows_written (features_of features) g ≡ true → extend_at_most_one g ≡ false → r ≡ extends_many offset → ToldOfWritten features offset start g r
   index : allows_written (features_of features) g ≡ true → extend_at_most_one g ≡ true → ToldOfIndex (features_of features).gc start (start + length g.types) offset r → ToldOfWritten features offset start g r
 
+-- a group that is interned: it would be new and there are no ids for its types, or it comes to the end and a type of it breaks a rule
+pub data ToldOfInterned {A : Type 0} (features : WasmFeatures) (offset : ℕ) (old : Listing A) (g : List (SubType A)) (r : Refusal) : Type 0 where
+  no_ids : IsFull old g → r ≡ too_many_types offset → ToldOfInterned features offset old g r
+  breaks : HasIdsFor old (length g) → ToldOfGroup features offset (old.groups ++ g ∷ []) (length old.groups) r → ToldOfInterned features offset old g r
+
+-- the group's types as the list has them, where they would be new and there are no ids for them
+pub record ToldOfFull {A : Type 0} (offset : ℕ) (old : Listing A) (ids : List ℕ) (g : Rec UnpackedIndex) (r : Refusal) : Type 0 where
+  pub types : List (SubType A)
+  pub are_types : map sub_of types ≡ canonical_group ids g.types
+  pub full : IsFull old types
+  pub told : r ≡ too_many_types offset
+
 -- the group's types as the list has them, where they come to its end and one of them breaks a rule
 pub record ToldOfNew {A : Type 0} (features : WasmFeatures) (offset : ℕ) (old : Listing A) (ids : List ℕ) (g : Rec UnpackedIndex) (r : Refusal) : Type 0 where
   pub types : List (SubType A)
   pub are_types : map sub_of types ≡ canonical_group ids g.types
   pub told : ToldOfGroup features offset (old.groups ++ types ∷ []) (length old.groups) r
 
+-- how many types are counted with those of a group before it is looked up: those of the list, unless equal types are one
+abbrev pub counted_first : Bool → ℕ → ℕ
+counted_first is_canonical held = if is_canonical then 0 else held
+
+-- there are ids for these and so many more
+abbrev pub FitsFirst : {A : Type 0} → Bool → Listing A → ℕ → Type 0
+FitsFirst is_canonical l count = counted_first is_canonical (length (types_in l)) + count ≤ MAX_IDS
+
 -- A group that a module, whose types have these ids, adds to the list: there are too few ids for its types, it can't be
--- written so, or a type of it isn't valid.
+-- written so, or a type of it isn't valid. Where equal types are one, the ids are asked for only where the group is new.
 pub data ToldOfAdded {A : Type 0} (features : WasmFeatures) (offset : ℕ) (old : Listing A) (ids : List ℕ) (g : Rec UnpackedIndex) (r : Refusal) : Type 0 where
-  too_many : MAX_IDS < length (types_in old) + length g.types → r ≡ too_many_types offset → ToldOfAdded features offset old ids g r
-  written : HasIdsFor old (length g.types) → ToldOfWritten features offset (length ids) g r → ToldOfAdded features offset old ids g r
+  too_many : MAX_IDS < counted_first (canonical (features_of features)) (length (types_in old)) + length g.types → r ≡ too_many_types offset → ToldOfAdded features offset old ids g r
+  written : FitsFirst (canonical (features_of features)) old (length g.types) → ToldOfWritten features offset (length ids) g r → ToldOfAdded features offset old ids g r
+  full : closes (features_of features) (length ids) g ≡ true → ToldOfFull offset old ids g r → ToldOfAdded features offset old ids g r
   invalid : HasIdsFor old (length g.types) → closes (features_of features) (length ids) g ≡ true → ToldOfNew features offset old ids g r → ToldOfAdded features offset old ids g r

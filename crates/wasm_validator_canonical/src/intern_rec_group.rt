@@ -1,4 +1,4 @@
-ghost use Rattle.std.specs.Prelude.{◌≡◌, ◌+◌, ◌<◌, ◌≤◌, ◌^◌, [], ◌∷◌, ◌++◌, true, false, not, ◌||◌, map, length, is_ok, IfOk, IfErr, OnOk, IsTrue};
+ghost use Rattle.std.specs.Prelude.{◌≡◌, ◌+◌, ◌<◌, ◌≤◌, ◌^◌, true, false, not, ◌||◌, map, length, is_ok, IfOk, IfErr, OnOk, IsTrue};
 ghost use Rattle.std.specs.Bool.{Decides};
 ghost use Rattle.std.specs.List.{All, list_all};
 ghost use Rattle.wasm_spec.specs.Features.{canonical};
@@ -18,8 +18,8 @@ ghost use Rattle.wasm_validator_canonical.specs.Groups.{has_form, allows_written
 ghost use Rattle.wasm_validator_canonical.specs.Answers.{Says, IsRefusal, IsAt};
 ghost use Rattle.wasm_validator_canonical.specs.Refusals.{rec_without_gc, extends_many};
 ghost use Rattle.wasm_validator_canonical.specs.Depths.{KeepsDepth, StillKept};
-ghost use Rattle.wasm_validator_canonical.specs.Interned.{next_ids, HasIdsFor, AddsWritten, InternsValid};
-ghost use Rattle.wasm_validator_canonical.specs.Told.{IfContent, ToldOfWritten, ToldOfAdded};
+ghost use Rattle.wasm_validator_canonical.specs.Interned.{next_ids, AddsWritten, InternsValid};
+ghost use Rattle.wasm_validator_canonical.specs.Told.{counted_first, FitsFirst, IfContent, ToldOfWritten, ToldOfInterned, ToldOfAdded};
 
 use crate::depths::keep_depths;
 use crate::type_canonicalizer::{TypeCanonicalizer, extend_at_most_one};
@@ -84,6 +84,13 @@ fn canonical_types<A: Allocator + Copy>(
     canonicalizer.sub_types(alloc, group.into_types())
 }
 
+/// How many types of a list with so many are counted before a group is looked up in it.
+fn counted_first(is_canonical: bool, held: usize) -> usize
+    ensures { result ≡ counted_first is_canonical held }
+{
+    if is_canonical { 0 } else { held }
+}
+
 /// Adds the types of a recursion group that a module writes behind its types, which have these ids,
 /// to the list: each type index is resolved among the module's types and those of the group, and
 /// where equal types are one a group that the list has keeps its ids; where they aren't, the
@@ -98,9 +105,10 @@ fn canonical_types<A: Allocator + Copy>(
 ///
 /// # Errors
 ///
-/// Refused, at the offset, where the list would have more types than there are ids, which is asked
-/// first, where an index is out of bounds, and where a rule doesn't hold; and where memory is. The
-/// list is then only to be dropped.
+/// Refused, at the offset, where the list would have more types than there are ids, where an index is
+/// out of bounds, and where a rule doesn't hold; and where memory is. Where equal types are one the
+/// ids are asked for once the group is known to be new, and else first. The list is then only to be
+/// dropped.
 pub fn canonicalize_and_intern_rec_group<A: Allocator + Copy>(
     features: WasmFeatures,
     alloc: A,
@@ -127,9 +135,10 @@ pub fn canonicalize_and_intern_rec_group<A: Allocator + Copy>(
     ensures depths { IfOk result (λ elements. All (KeepsDepth types.new) (ids_left elements)) }
     ensures earlier_depths { OnOk result (StillKept types.old types.new) }
     ensures place { IfErr result (IsAt offset) }
-    ensures limit { MAX_IDS < length (types_in types.old) + length group.types
+    ensures limit { MAX_IDS < counted_first (canonical (features_of features))
+        (length (types_in types.old)) + length group.types
         → IsRefusal result (too_many_types offset) }
-    ensures written { HasIdsFor types.old (length group.types)
+    ensures written { FitsFirst (canonical (features_of features)) types.old (length group.types)
         → allows_written (features_of features) (rec_of group) ≡ false
         → IsRefusal result (rec_without_gc offset) }
     ensures told { IfErr result (IfContent (ToldOfAdded features offset types.old
@@ -137,7 +146,10 @@ pub fn canonicalize_and_intern_rec_group<A: Allocator + Copy>(
     ensures same_open { types.new.is_open ≡ types.old.is_open }
     ensures same_mode { types.new.is_canonical ≡ types.old.is_canonical }
 {
-    if group.types().len() > MAX_IDS as usize - types.len() {
+    let held = types.len();
+    let is_canonical = types.is_canonical();
+    let counted = counted_first(is_canonical, held);
+    if group.types().len() > MAX_IDS as usize - counted {
         let fault = Fault::Rule(Rule::TooManyTypes);
         return Err(Error::Refused(Refusal::new(fault, offset)));
     }
@@ -189,13 +201,14 @@ fn intern<A: Allocator + Copy>(
     ensures interned { InternsValid (features_of features) result types.old types.new group.types }
     ensures listable { OnOk result (AreListable types.new.groups) }
     ensures place { IfErr result (IsAt offset) }
-    ensures told { HasIdsFor types.old (length group.types) → IfErr result (IfContent
-        (ToldOfGroup features offset (types.old.groups ++ group.types ∷ [])
-        (length types.old.groups))) }
+    ensures told { IfErr result (IfContent (ToldOfInterned features offset types.old
+        group.types)) }
     ensures same_open { types.new.is_open ≡ types.old.is_open }
     ensures same_mode { types.new.is_canonical ≡ types.old.is_canonical }
 {
+    // Asked for what they promise: equal groups are once, and types refer to those before them.
     let is_canonical = types.is_canonical();
+    let _held = types.len();
     match types.intern_canonical_rec_group(is_canonical, group, offset) {
         Ok((is_new, id)) => {
             // Asked for what they promise: where equal types are one, they still are, and each type

@@ -6,6 +6,7 @@
 #![tactic(auto)]
 
 ghost use Rattle.wasm_validator_canonical.specs.Sections.{AddedSectionsAreValid, ValidSectionsAreAdded, OneIdForOneType};
+ghost use Rattle.wasm_validator_canonical.specs.Counted.{CountedSectionsAreAdded, AddedTypesAreCounted};
 ghost use Rattle.wasm_validator_canonical.specs.Arities.{IdsKeepArities};
 ghost use Rattle.wasm_validator_type_list.specs.DefTypes.{types_of_list};
 ghost use Rattle.wasm_validator_canonical.specs.Apart.{AreApart, ApartTypesAreDistinct, ListedTypesAreApart, AddedTypesStayApart};
@@ -25,10 +26,13 @@ pub use type_canonicalizer::TypeCanonicalizer;
 /// The groups of a module's type section, added one after another, are accepted exactly where the
 /// section is valid (Core Specification 3.0, Validation, Modules, Types) and there are ids for its
 /// types; and then each type stands in the list under the id at its index. Where equal types aren't
-/// one, these are the next ids, and the list has so many types more.
+/// one, these are the next ids, and the list has so many types more. Where they are, types that the
+/// list has take no ids.
 pub fn type_sections_are_added_where_valid()
     ensures accepted { AddedSectionsAreValid }
     ensures valid { ValidSectionsAreAdded }
+    ensures known { CountedSectionsAreAdded }
+    ensures counted { AddedTypesAreCounted }
 {}
 
 /// Where equal types are one, types of any two modules whose types went to one list have the same

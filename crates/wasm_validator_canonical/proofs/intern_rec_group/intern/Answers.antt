@@ -1,13 +1,12 @@
-use Rattle.std.proofs.Common.{◌≡◌, refl, ◌∙◌, ◌+◌, true, false, length}
+use Rattle.std.proofs.Common.{◌≡◌, refl, ◌∙◌, true, false, length, inr, arith}
 use Rattle.std.proofs.lemmas.Option.{slice_get_within}
 use Rattle.wasm_spec_rules.specs.FeatureFlags.{features_of}
 use Rattle.wasm_validator_type_list.specs.WasmValidatorTypeGroups.Elements.{numbers_from, ids_left}
 use Rattle.wasm_validator_type_list.specs.WasmValidatorTypeGroups.Groups.{first_of}
 use Rattle.wasm_validator_type_list.specs.Interned.{AreOnce}
-use Rattle.wasm_validator_type_list.specs.Listing.{types_in}
 use Rattle.wasm_validator_canonical.proofs.Checked.{checked, refused, nothing_interned}
 use Rattle.wasm_validator_canonical.proofs.Interning.{there, interned_under}
-use Rattle.wasm_validator_canonical.proofs.Told.{new_tells, room_tells, full_place}
+use Rattle.wasm_validator_canonical.proofs.Told.{new_told, full_tells, full_place}
 use Rattle.wasm_validator_canonical.proofs.intern_rec_group.intern.Goals as goal
 
 pub check_if_new-requires : goal.check_if_new-requires
@@ -26,7 +25,7 @@ returns-in-Ok-check_if_new-clause-interned g c =
     let new = c.intern_canonical_rec_group.new.self in
     let mode = c.intern_canonical_rec_group.ensures.same_mode in
     let once : old.is_canonical ≡ true → AreOnce new.groups = λ h. c.is_canonical-is_canonical-in-Ok.ensures.once (c.is_canonical-is_canonical-in-Ok.ensures.mode ∙ mode ∙ h) in (
-      interned_under old new c.args.group.types c.in-Ok.is_new c.in-Ok.id.index (ids_left c.rec_group_elements.result) c.in-Ok.ensures.interned c.in-Ok.ensures.types once c.rec_group_elements.ensures,
+      interned_under old new c.args.group.types c.in-Ok.is_new c.in-Ok.id.index (ids_left c.rec_group_elements.result) c.in-Ok.ensures.interned c.in-Ok.ensures.types once (omega (arith, c.len-count.ensures.count, c.len-count.ensures.room)) c.rec_group_elements.ensures,
       checked (features_of c.args.features) old new c.args.group.types c.in-Ok.is_new c.in-Ok.id.index mode c.in-Ok.ensures.interned c.len-count.ensures.listable once c.requires.valid (λ e. (c.in-Ok-check_if_new.ensures.new e).0 refl),
     )
 
@@ -35,7 +34,7 @@ returns-in-Err-check_if_new-clause-interned g c =
     let old = c.args.types.now in
     let new = c.intern_canonical_rec_group.new.self in
     let mode = c.intern_canonical_rec_group.ensures.same_mode in
-    λ room. record {
+    inr (record {
       ids = numbers_from (first_of new.groups c.in-Ok.id.index) (length c.args.group.types);
       interned = record {
         is_new = c.in-Ok.is_new;
@@ -43,27 +42,27 @@ returns-in-Err-check_if_new-clause-interned g c =
         interned = c.in-Ok.ensures.interned;
         types = c.in-Ok.ensures.types;
         once = λ h. c.is_canonical-is_canonical-in-Ok.ensures.once (c.is_canonical-is_canonical-in-Ok.ensures.mode ∙ mode ∙ h);
+        room = omega (arith, c.len-count.ensures.count, c.len-count.ensures.room);
         are_ids = refl;
       };
       invalid =
           refused (features_of c.args.features) new c.in-Ok.id.index c.in-Ok.is_new _ c.len-count.ensures.listable (λ h. c.is_canonical-is_canonical-in-Ok.ensures.once (c.is_canonical-is_canonical-in-Ok.ensures.mode ∙ h))
           c.in-Err-check_if_new.ensures.new c.in-Err-check_if_new.ensures.known refl;
-    }
+    })
 
 pub returns-in-Err-clause-interned : goal.returns-in-Err-clause-interned
 returns-in-Err-clause-interned g c =
-    nothing_interned (features_of c.args.features) c.args.types.now c.intern_canonical_rec_group.new.self c.args.group.types c.args.offset c.in-Err.error c.in-Err.ensures.limit
+    nothing_interned (features_of c.args.features) c.args.types.now c.intern_canonical_rec_group.new.self c.args.group.types c.args.offset c.in-Err.error c.len-held.ensures.listable (λ h. c.is_canonical-is_canonical.ensures.once (c.is_canonical-is_canonical.ensures.mode ∙ h)) c.requires.listable c.in-Err.ensures.limit
 
 pub returns-in-Err-check_if_new-clause-told : goal.returns-in-Err-check_if_new-clause-told
 returns-in-Err-check_if_new-clause-told g c =
-    λ room.
-    new_tells c.args.features c.args.offset c.args.types.now c.intern_canonical_rec_group.new.self c.args.group.types c.in-Ok.is_new c.in-Ok.id.index false c.in-Err-check_if_new.refusal c.in-Ok.ensures.interned
-    c.in-Err-check_if_new.ensures.known refl c.in-Err-check_if_new.ensures.told
+    new_told c.args.features c.args.offset c.args.types.now c.intern_canonical_rec_group.new.self c.args.group.types c.in-Ok.is_new c.in-Ok.id.index false c.in-Err-check_if_new.refusal c.in-Ok.ensures.interned
+    c.in-Err-check_if_new.ensures.known refl (omega (arith, c.len-count.ensures.count, c.len-count.ensures.room)) c.in-Err-check_if_new.ensures.told
 
 pub returns-in-Err-clause-told : goal.returns-in-Err-clause-told
 returns-in-Err-clause-told g c =
-    λ room. room_tells _ c.in-Err.error (length (types_in c.args.types.now) + length c.args.group.types) c.args.offset c.in-Err.ensures.limit room
+    full_tells c.args.features c.args.types.now c.args.group.types c.in-Err.error c.args.offset c.in-Err.ensures.limit
 
 pub returns-in-Err-clause-place : goal.returns-in-Err-clause-place
 returns-in-Err-clause-place g c =
-    full_place c.in-Err.error (length (types_in c.args.types.now) + length c.args.group.types) c.args.offset c.in-Err.ensures.limit
+    full_place c.args.types.now c.args.group.types c.in-Err.error c.args.offset c.in-Err.ensures.limit
