@@ -1,29 +1,29 @@
 -- The types of a module as far as they have been read, and what groups behind them change.
-use Rattle.std.proofs.Common.{◌≡◌, refl, sym, ap, subst, ◌∙◌, ℕ, zero, suc, ◌+◌, ◌-◌, ◌<◌, ◌≤◌, false, true, ◌&&◌, leb, List, [], ◌∷◌, ◌++◌, length, slice_get, Option, Some, arith, append_assoc, append-nil, length-append}
-use Rattle.std.specs.Option.{option_map, option_and_then}
-use Rattle.std.specs.List.{All, list_all}
+use Rattle.std.proofs.Common.{◌≡◌, refl, sym, ap, subst, ◌∙◌, ℕ, zero, suc, ◌+◌, ◌-◌, ◌<◌, ◌≤◌, false, true, List, [], ◌∷◌, ◌++◌, length, slice_get, Option, Some, arith, append_assoc, append-nil, length-append}
+use Rattle.std.specs.Option.{option_and_then}
+use Rattle.std.specs.List.{All}
 use Rattle.std.proofs.lemmas.List.Elements.{All-nil}
 use Rattle.std.proofs.lemmas.Option.{same_Some}
 use Rattle.wasm_spec.specs.Syntax.{Table, Global, Rec, map_rec}
 use Rattle.wasm_spec.specs.References.{refs_heap, refs_val}
 use Rattle.wasm_spec.specs.Features.{Features, canonical}
-use Rattle.wasm_spec.specs.Trees.{RecTree, DefType, declared}
-use Rattle.wasm_spec.specs.Closing.{closed, positions}
+use Rattle.wasm_spec.specs.Trees.{DefType, declared}
+use Rattle.wasm_spec.specs.Closing.{positions}
 use Rattle.wasm_spec.specs.GroupRules.{IsValidType}
 use Rattle.wasm_spec.specs.TypeLaws.{HasNoRepetition}
 use Rattle.wasm_spec.proofs.Closing.{front_of_type_space, slice_get-append_left}
 use Rattle.wasm_spec_rules.specs.IndexSpaces.{IndexSpaces, IsFunctionType, IsRefInRange, IsValInRange}
 use Rattle.wasm_spec_rules.specs.Parts.{Parts}
-use Rattle.wasm_spec_rules.proofs.Tests.{then_some, map_some, guarded}
-use Rattle.wasm_readers_types.specs.WasmReadersValues.declared.indices.TheConstants.{MAX_IDS}
+use Rattle.wasm_spec_rules.proofs.Tests.{then_some}
 use Rattle.wasm_readers_types.specs.WasmReadersValues.declared.indices.UnpackedIndex.{UnpackedIndex}
 use Rattle.wasm_validator_type_groups.specs.Elements.{numbers_from}
 use Rattle.wasm_validator_type_list.proofs.Lookups.{group_found}
-use Rattle.wasm_validator_modules.specs.WasmValidatorCanonical.Groups.{types_at, placed, held, AreValid, with_written}
-use Rattle.wasm_validator_modules.specs.WasmValidatorCanonical.Indices.{is_written_sub, number_in, use_of_index}
+use Rattle.wasm_validator_modules.specs.WasmValidatorCanonical.Groups.{placed, AreValid, with_written}
+use Rattle.wasm_validator_modules.specs.WasmValidatorCanonical.Indices.{use_of_index}
 use Rattle.wasm_validator_modules.specs.WasmValidatorCanonical.Sections.{written, with_all_written, StandsFor, HoldsSection}
 use Rattle.wasm_validator_modules.proofs.WasmValidatorCanonical.Apart.{added_types_stay_apart, apart_types_are_distinct}
 use Rattle.wasm_validator_modules.proofs.WasmValidatorCanonical.Kept.{new_ids}
+use Rattle.wasm_validator_modules.proofs.WasmValidatorCanonical.Steps.{is_held}
 use Rattle.wasm_validator_modules.proofs.WasmValidatorCanonical.Sections.{added_sections_are_valid}
 use Rattle.wasm_validator_types.specs.Spaces.{Spaces}
 use Rattle.wasm_validator_modules.specs.WasmValidatorSections.WasmValidatorChecks.Laws.{Stand}
@@ -89,13 +89,10 @@ behind_groups F (g ∷ gs) hs us ids q r e f =
 -- ids come behind those that are there
 ids_behind : (F : Features) (us : TypesSoFar) (ids : List ℕ) (g : Rec UnpackedIndex) (r : TypesSoFar × List ℕ) → with_written F us ids g ≡ Some r → (more : List ℕ) × (r.1 ≡ ids ++ more)
 ids_behind F us ids g r e =
-    let b = list_all is_written_sub g.types && leb (length us + length g.types) MAX_IDS in
-    let holds : RecTree → TypesSoFar × List ℕ = λ t. held (canonical F) us ids (positions (placed (canonical F) (length us) t) 0 g.types) in
-    let c = guarded b (option_map holds (closed F (types_at us ids) (map_rec number_in g))) r e in
-    let d = map_some holds (closed F (types_at us ids) (map_rec number_in g)) r c.1 in
-    let ds = positions (placed (canonical F) (length us) d.0) 0 g.types in
+    let h = is_held F us ids g r e in
+    let ds = positions (placed (canonical F) (length us) h.tree) 0 g.types in
     let n = new_ids us ids ds (canonical F) in
-    (numbers_from n.start (length ds), ap (λ (p : TypesSoFar × List ℕ). p.1) (sym d.2) ∙ n.ids_are)
+    (numbers_from n.start (length ds), ap (λ (p : TypesSoFar × List ℕ). p.1) (sym h.is) ∙ n.ids_are)
 
 all_ids_behind : (F : Features) (gs : List (Rec ℕ)) (us : TypesSoFar) (ids : List ℕ) (r : TypesSoFar × List ℕ) → with_all_written F us ids gs ≡ Some r → (more : List ℕ) × (r.1 ≡ ids ++ more)
 all_ids_behind F [] us ids r e = ([], ap (λ (p : TypesSoFar × List ℕ). p.1) (sym (same_Some (us, ids) r e)) ∙ sym (append-nil ids))

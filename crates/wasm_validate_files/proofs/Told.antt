@@ -1,30 +1,36 @@
 -- From the answers of one validator on files to what the exit status says of these.
 use Rattle.std.proofs.Common.{ℕ, zero, suc, ◌≡◌, ◌-◌, ◌<◌, ◌≤◌, List, [], ◌∷◌, length, map, take, get_or, slice_get, Option, Some, None, Bool, true, false, not, cond, inl, inr, refl, sym, ap, subst, ◌∙◌, arith}
-use Rattle.std.specs.Prelude.{sum, find, Any}
+use Rattle.std.specs.Prelude.{find, Any}
 use Rattle.std.specs.Option.{is_some}
-use Rattle.std.specs.List.{All, AllZip}
+use Rattle.std.specs.List.{All}
 use Rattle.std.specs.declared.result.Result.{Result}
 use Rattle.std.specs.declared.result.Result.TheVariants.{Ok, Err}
 use Rattle.std.proofs.lemmas.Option.{none-some, slice_get_cases, get_or_from_slice_get, slice_get_within}
 use Rattle.std.proofs.lemmas.Bool.{false≢true}
 use Rattle.std.proofs.lemmas.List.{length-map}
 use Rattle.std.proofs.lemmas.List.Elements.{All-nil, All-cons}
-use Rattle.std.proofs.lemmas.List.Sums.{sum_by-take-le}
 use Rattle.wasm_readers_errors.specs.WasmReadersFeatures.declared.features.TheConstants.WasmFeatures.{STANDARD}
-use Rattle.wasm_readers_errors.specs.WasmReadersTypes.WasmReadersValues.declared.indices.TheConstants.{MAX_IDS}
 use Rattle.wasm_spec_rules.specs.FeatureFlags.{features_of}
 use Rattle.wasm_validator.specs.WasmSpecValidity.Modules.{up_to_bodies}
 use Rattle.wasm_validator.specs.WasmValidatorTypes.declared.shown.Types as shown
 use Rattle.wasm_validator.specs.WasmValidatorCore.declared.error.Error.{Error}
 use Rattle.wasm_validator.specs.WasmValidatorCore.declared.error.Error.TheVariants.{OutOfMemory}
-use Rattle.wasm_validator.specs.Headline.{WritesAtMost, HasRoom}
+use Rattle.wasm_validator.specs.Headline.{HaveIds, HasRoom}
+use Rattle.wasm_validator.specs.WasmValidatorCore.Answers.{TypesSoFar}
+use Rattle.wasm_validator.specs.WasmValidatorCanonical.Counted.{with_types}
 use Rattle.wasm_validate_files.specs.declared.files.Input.{Input}
-use Rattle.wasm_validate_files.specs.Files.{IsRead, IsUnread, is_unread, bytes_held, AreAllAccepted, HoldsAtMost, HasRoomForAll}
+use Rattle.wasm_validate_files.specs.Files.{IsRead, IsUnread, is_unread, bytes_held, AreAllAccepted, HasRoomForAll}
 use Rattle.wasm_validate_files.specs.Answers.{IsOkAt, Tells}
 
 -- what the validator answers on a file
 abbrev Told : Type 0 → Type 0
 Told A = Result (shown.Types A) (Error A)
+
+-- the ids for the types of all files are ids for those of the first
+room_for_first : (n : ℕ) (modules : List (List ℕ)) (held : TypesSoFar) → HaveIds true (features_of STANDARD) held modules → HaveIds true (features_of STANDARD) held (take n modules)
+room_for_first zero modules held h = tt
+room_for_first (suc n) [] held h = tt
+room_for_first (suc n) (bytes ∷ more) held h = λ m. let x = h m in (x.0, room_for_first n more (with_types true held m.types.types) x.1)
 
 module _ {A : Type 0} where
   -- where no first file could not be read, each was
@@ -45,21 +51,8 @@ module _ {A : Type 0} where
   held_at (f ∷ fs) zero d l = λ i. Some (bytes_held f)
   held_at (f ∷ fs) (suc k) d l = held_at fs k d (omega arith)
 
-  -- the room for the types of all files is room for those of the first
-  room_for_first : (n : ℕ) (files : List (Input A)) (counts : List ℕ)
-      → AllZip HoldsAtMost files counts → AllZip (WritesAtMost (features_of STANDARD)) (take n (map bytes_held files)) (take n counts)
-  room_for_first zero files counts z = tt
-  room_for_first (suc n) [] [] z = tt
-  room_for_first (suc n) [] (c ∷ cs) z = absurd z
-  room_for_first (suc n) (f ∷ fs) [] z = absurd z
-  room_for_first (suc n) (f ∷ fs) (c ∷ cs) z = (z.0, room_for_first n fs cs z.1)
-
-  room : (files : List (Input A)) (answers : List (Told A)) → HasRoomForAll files → HasRoom (features_of STANDARD) (map bytes_held files) answers 0
-  room files answers r =
-      let n = length answers in
-      let less : sum (take n r.counts) ≤ sum r.counts = sum_by-take-le (λ (x : ℕ). x) r.counts n in
-      let fit : sum r.counts ≤ MAX_IDS = r.fit in
-      record { counts = take n r.counts; each = room_for_first n files r.counts r.each; fit = omega (arith, less, fit) }
+  room : (files : List (Input A)) (answers : List (Told A)) → HasRoomForAll files → HasRoom (features_of STANDARD) (map bytes_held files) answers []
+  room files answers r = room_for_first (length answers) (map bytes_held files) [] r
 
   -- no answer is that memory was refused
   none_lacks : (files : List (Input A)) (answers : List (Told A)) → Tells files answers → (k : ℕ) → slice_get answers k ≡ Some (Err OutOfMemory) → ⊥

@@ -1,12 +1,11 @@
 -- What the program's answer says of its files.
-use Rattle.std.specs.Prelude.{ℕ, ◌≡◌, ◌≤◌, Bool, not, List, [], None, IsSome, sum}
+use Rattle.std.specs.Prelude.{ℕ, ◌≡◌, Bool, true, not, List, [], map, None, IsSome}
 use Rattle.std.specs.Option.{is_some, unwrap_or, option_map}
-use Rattle.std.specs.List.{All, AllZip}
+use Rattle.std.specs.List.{All}
 use Rattle.wasm_readers_errors.specs.WasmReadersFeatures.declared.features.TheConstants.WasmFeatures.{STANDARD}
-use Rattle.wasm_readers_errors.specs.WasmReadersTypes.WasmReadersValues.declared.indices.TheConstants.{MAX_IDS}
 use Rattle.wasm_spec_rules.specs.FeatureFlags.{features_of}
 use Rattle.wasm_validator.specs.Verdict.{AreModule}
-use Rattle.wasm_validator.specs.Headline.{WritesAtMost}
+use Rattle.wasm_validator.specs.Headline.{HaveIds}
 use Rattle.wasm_validate_files.specs.declared.files.Input.{Input}
 
 module _ {A : Type 0} where
@@ -33,12 +32,6 @@ module _ {A : Type 0} where
   abbrev pub AreAllAccepted : List (Input A) → Type 0
   AreAllAccepted files = All IsAccepted files
 
-  -- In the bytes of this file at most so many types are written.
-  abbrev pub HoldsAtMost : Input A → ℕ → Type 0
-  HoldsAtMost f n = WritesAtMost (features_of STANDARD) (bytes_held f) n
-
-  -- A list of types has room for those of all files.
-  pub record HasRoomForAll (files : List (Input A)) : Type 0 where
-    pub counts : List ℕ
-    pub each : AllZip HoldsAtMost files counts
-    pub fit : sum counts ≤ MAX_IDS
+  -- There are ids for the types of all files, one after another: for each that isn't that of a file before it.
+  abbrev pub HasRoomForAll : List (Input A) → Type 0
+  HasRoomForAll files = HaveIds true (features_of STANDARD) [] (map bytes_held files)

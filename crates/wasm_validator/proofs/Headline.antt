@@ -18,7 +18,6 @@ use Rattle.wasm_spec.proofs.Matching.{accepted_types_match_ancestors}
 use Rattle.wasm_spec.proofs.Accepted.{valid_type_section_is_accepted}
 use Rattle.wasm_spec_rules.specs.FeatureFlags.{features_of}
 use Rattle.wasm_validator_modules.specs.WasmSpecValidity.Modules.{IsValidUpToBodies, IsValidModule, up_to_bodies}
-use Rattle.wasm_readers_types.specs.WasmReadersValues.declared.indices.TheConstants.{MAX_IDS}
 use Rattle.wasm_readers_errors.specs.WasmReadersFeatures.declared.features.WasmFeatures.{WasmFeatures}
 use Rattle.wasm_validator_type_list.specs.WasmValidatorTypeGroups.Elements.{numbers_from}
 use Rattle.wasm_validator_modules.specs.WasmValidatorCanonical.Sections.{StandsFor}
@@ -36,7 +35,7 @@ use Rattle.wasm_validator_modules.specs.WasmValidatorCore.declared.error.Error.{
 use Rattle.wasm_validator_modules.specs.WasmValidatorCore.declared.error.Error.TheVariants.{Refused, DuplicateExport, InFunction, OutOfMemory}
 use Rattle.wasm_validator_modules.specs.WasmValidatorCore.Answers.{TypesSoFar}
 use Rattle.wasm_validator_modules.specs.Standing.{Stage, unparsed, in_module, in_code, ended, failed, Standing, may_reset, after_reset}
-use Rattle.wasm_validator_modules.specs.Verdict.{RefusesModule, RefusesUpToBodies, StopsModule}
+use Rattle.wasm_validator_modules.specs.Verdict.{HasIdsWith, RefusesModule, RefusesUpToBodies, StopsModule}
 use Rattle.wasm_validator.specs.Lists.{DecidesEach}
 use Rattle.wasm_validator.specs.Headline.{types_held, Begins, TypeWithId, its_id, its_type, AreUnderOneId, IsAnswered, IsShown, IsTypeOf, IsIn, Headline}
 use Rattle.wasm_validator.proofs.Lists.{begins_all, Room, Placed, Stood, stood, later, few_answers, first_answer}
@@ -71,14 +70,14 @@ held_at failed s e m = absurd (let h = ap (λ g. may_reset (record s { stage = g
 
 -- no module is valid that a validator with these features refuses
 refuses_in : (features : WasmFeatures) (bytes : List ℕ) (old : Standing) (held : TypesSoFar) → old.features ≡ features → RefusesModule bytes old → old.stage ≡ unparsed held
-    → (m : IsValidModule (features_of features) bytes) → length held + length m.well_formed.types.types ≤ MAX_IDS → ⊥
+    → (m : IsValidModule (features_of features) bytes) → HasIdsWith (features_of features) held m.well_formed.types.types → ⊥
 refuses_in features bytes old held same h w =
-    subst (λ (f : WasmFeatures). (m : IsValidModule (features_of f) bytes) → length held + length m.well_formed.types.types ≤ MAX_IDS → ⊥) same (h held w)
+    subst (λ (f : WasmFeatures). (m : IsValidModule (features_of f) bytes) → HasIdsWith (features_of f) held m.well_formed.types.types → ⊥) same (h held w)
 
 refuses_up_in : (features : WasmFeatures) (bytes : List ℕ) (old : Standing) (held : TypesSoFar) → old.features ≡ features → RefusesUpToBodies bytes old → old.stage ≡ unparsed held
-    → (m : IsValidUpToBodies (features_of features) bytes) → length held + length m.well_formed.types.types ≤ MAX_IDS → ⊥
+    → (m : IsValidUpToBodies (features_of features) bytes) → HasIdsWith (features_of features) held m.well_formed.types.types → ⊥
 refuses_up_in features bytes old held same h w =
-    subst (λ (f : WasmFeatures). (m : IsValidUpToBodies (features_of f) bytes) → length held + length m.well_formed.types.types ≤ MAX_IDS → ⊥) same (h held w)
+    subst (λ (f : WasmFeatures). (m : IsValidUpToBodies (features_of f) bytes) → HasIdsWith (features_of f) held m.well_formed.types.types → ⊥) same (h held w)
 
 module _ {A : Type 0} (answers : List (Result (shown.Types A) (Error A))) (modules : List (List ℕ)) (old new : Standing) (d : DecidesEach answers modules old new) (T : TypesSoFar) (w : (after_reset old).stage ≡ unparsed T) where
   abbrev F : Features
@@ -99,22 +98,16 @@ module _ {A : Type 0} (answers : List (Result (shown.Types A) (Error A))) (modul
       let h = p.decided in
       subst (λ (f : WasmFeatures). IsShown (features_of f) modules answers bytes t) p.same (record { module_valid = h.module_valid; shows = h.shows })
 
-  fits : (bytes : List ℕ) (held : TypesSoFar) → Room old.features bytes held → (m : IsValidUpToBodies F bytes) → length held + length m.well_formed.types.types ≤ MAX_IDS
-  fits bytes held r m = let written = r.writes m.well_formed in let fits = r.fits in omega (arith, written, fits)
-
-  fits_whole : (bytes : List ℕ) (held : TypesSoFar) → Room old.features bytes held → (m : IsValidModule F bytes) → length held + length m.well_formed.types.types ≤ MAX_IDS
-  fits_whole bytes held r m = let written = r.writes m.well_formed in let fits = r.fits in omega (arith, written, fits)
-
   refused_case : (e : Error A) (k : ℕ) (bytes : List ℕ) → (s : Stood old.features modules answers T k bytes (Err e)) → Room old.features bytes s.placed.held → IsValidModule F bytes → e ≡ OutOfMemory
-  refused_case (Refused r) k bytes s room m = let p = s.placed in absurd (refuses_up_in old.features bytes p.old p.held p.same p.decided.0 p.began (up_to_bodies m) (fits bytes p.held room (up_to_bodies m)))
-  refused_case (DuplicateExport name offset) k bytes s room m = let p = s.placed in absurd (refuses_up_in old.features bytes p.old p.held p.same p.decided.0 p.began (up_to_bodies m) (fits bytes p.held room (up_to_bodies m)))
-  refused_case (InFunction index r) k bytes s room m = let p = s.placed in absurd (refuses_in old.features bytes p.old p.held p.same p.decided.0 p.began m (fits_whole bytes p.held room m))
+  refused_case (Refused r) k bytes s room m = let p = s.placed in absurd (refuses_up_in old.features bytes p.old p.held p.same p.decided.0 p.began (up_to_bodies m) (room m.well_formed))
+  refused_case (DuplicateExport name offset) k bytes s room m = let p = s.placed in absurd (refuses_up_in old.features bytes p.old p.held p.same p.decided.0 p.began (up_to_bodies m) (room m.well_formed))
+  refused_case (InFunction index r) k bytes s room m = let p = s.placed in absurd (refuses_in old.features bytes p.old p.held p.same p.decided.0 p.began m (room m.well_formed))
   refused_case OutOfMemory k bytes s room m = refl
 
   stops_case : (r : Result (shown.Types A) (Error A)) (k : ℕ) (bytes : List ℕ) → (s : Stood old.features modules answers T k bytes r) → Room old.features bytes s.placed.held → StopsModule r bytes s.placed.old s.placed.new → IsValidUpToBodies F bytes → r ≡ Err OutOfMemory
   stops_case (Ok t) k bytes s room h m = absurd h
-  stops_case (Err (Refused r)) k bytes s room h m = let p = s.placed in absurd (refuses_up_in old.features bytes p.old p.held p.same h.0 p.began m (fits bytes p.held room m))
-  stops_case (Err (DuplicateExport name offset)) k bytes s room h m = let p = s.placed in absurd (refuses_up_in old.features bytes p.old p.held p.same h.0 p.began m (fits bytes p.held room m))
+  stops_case (Err (Refused r)) k bytes s room h m = let p = s.placed in absurd (refuses_up_in old.features bytes p.old p.held p.same h.0 p.began m (room m.well_formed))
+  stops_case (Err (DuplicateExport name offset)) k bytes s room h m = let p = s.placed in absurd (refuses_up_in old.features bytes p.old p.held p.same h.0 p.began m (room m.well_formed))
   stops_case (Err (InFunction index r)) k bytes s room h m = absurd h
   stops_case (Err OutOfMemory) k bytes s room h m = refl
 

@@ -1,12 +1,12 @@
 -- From the answers one after another to what they say of all modules.
-use Rattle.std.proofs.Common.{◌≡◌, refl, sym, ap, subst, ◌∙◌, ◌⊎◌, inl, inr, ℕ, zero, suc, ◌+◌, ◌<◌, ◌≤◌, List, [], ◌∷◌, ◌++◌, length, take, slice_get, Some, append_assoc, append-nil, arith, length-append}
-use Rattle.std.specs.Prelude.{fold, sum}
-use Rattle.std.specs.List.{AllZip}
+use Rattle.std.proofs.Common.{◌≡◌, refl, sym, ap, subst, ◌∙◌, ◌⊎◌, inl, inr, ℕ, zero, suc, ◌<◌, ◌≤◌, Bool, true, false, List, [], ◌∷◌, ◌++◌, length, take, slice_get, Some, append_assoc, append-nil, arith, length-append}
 use Rattle.std.specs.declared.result.Result.{Result}
 use Rattle.std.specs.declared.result.Result.TheVariants.{Ok}
 use Rattle.std.proofs.lemmas.Option.{same_Some, none-some}
+use Rattle.wasm_spec.specs.Features.{Features, canonical}
+use Rattle.wasm_spec.specs.Trees.{DefType}
 use Rattle.wasm_spec_rules.specs.FeatureFlags.{features_of}
-use Rattle.wasm_readers_types.specs.WasmReadersValues.declared.indices.TheConstants.{MAX_IDS}
+use Rattle.wasm_spec_rules.specs.Modules.{IsWellFormed}
 use Rattle.wasm_readers_errors.specs.WasmReadersFeatures.declared.features.WasmFeatures.{WasmFeatures}
 use Rattle.wasm_validator_type_list.specs.DefTypes.{types_of_list}
 use Rattle.wasm_validator_types.specs.Shown.{shown_of}
@@ -14,9 +14,11 @@ use Rattle.wasm_validator_types.specs.declared.shown.Types as shown
 use Rattle.wasm_validator_modules.specs.WasmValidatorCore.declared.error.Error.{Error}
 use Rattle.wasm_validator_modules.specs.WasmValidatorCore.Answers.{TypesSoFar}
 use Rattle.wasm_validator_modules.specs.Standing.{unparsed, ended, Standing, after_reset}
-use Rattle.wasm_validator_modules.specs.Verdict.{DecidesModule, EndsModule, StopsModule}
+use Rattle.wasm_validator_modules.specs.Verdict.{HasIdsWith, DecidesModule, EndsModule, StopsModule}
+use Rattle.wasm_validator_modules.specs.WasmSpecValidity.Expressions.{expression_at}
+use Rattle.wasm_validator_modules.specs.WasmValidatorCanonical.Counted.{with_types, AreWith}
 use Rattle.wasm_validator.specs.Lists.{DecidesEach}
-use Rattle.wasm_validator.specs.Headline.{Begins, WritesAtMost, HasRoom}
+use Rattle.wasm_validator.specs.Headline.{Begins, HaveIds, HasRoom}
 
 stages_apart : (T U : TypesSoFar) → unparsed T ≡ unparsed U → T ≡ U
 stages_apart T U e = cc
@@ -24,19 +26,23 @@ stages_apart T U e = cc
 pub begins_all : (T U V : TypesSoFar) → Begins T U → Begins U V → Begins T V
 begins_all T U V a b = record { more = a.more ++ b.more; is = b.is ∙ ap (λ us. us ++ b.more) a.is ∙ append_assoc T a.more b.more }
 
--- sums
-sum_from : (a : ℕ) (xs : List ℕ) → fold (λ (s x : ℕ). s + x) a xs ≡ a + fold (λ (s x : ℕ). s + x) 0 xs
-sum_from a [] = omega arith
-sum_from a (x ∷ xs) =
-    let here = sum_from (a + x) xs in
-    let there = sum_from (0 + x) xs in
-    omega (arith, here, there)
+-- there are ids for these types with those of this module
+abbrev pub Room : WasmFeatures → List ℕ → TypesSoFar → Type 0
+Room features bytes held = let F = features_of features in (m : IsWellFormed expression_at F bytes) → HasIdsWith F held m.types.types
 
--- there is room for the types of this module behind so many
-pub record Room (features : WasmFeatures) (bytes : List ℕ) (held : TypesSoFar) : Type 0 where
-  pub count : ℕ
-  pub writes : WritesAtMost (features_of features) bytes count
-  pub fits : length held + count ≤ MAX_IDS
+-- as many types, where equal ones aren't one, and the same ones, where they are, have ids with those of more modules
+as_many_have : (F : Features) (ms : List (List ℕ)) (us vs : TypesSoFar) → length us ≡ length vs → HaveIds false F us ms → HaveIds false F vs ms
+as_many_have F [] us vs e h = tt
+as_many_have F (bytes ∷ ms) us vs e h = λ m.
+    let x = h m in
+    let fits = x.0 in
+    let a = length-append us m.types.types in
+    let b = length-append vs m.types.types in
+    (omega (arith, e, a, b, fits), as_many_have F ms (us ++ m.types.types) (vs ++ m.types.types) (omega (arith, e, a, b)) x.1)
+
+counted_have : (c : Bool) (F : Features) (ms : List (List ℕ)) (all us : TypesSoFar) (ds : List DefType) → AreWith c all us ds → HaveIds c F (with_types c us ds) ms → HaveIds c F all ms
+counted_have true F ms all us ds a h = subst (λ xs. HaveIds true F xs ms) (sym a) h
+counted_have false F ms all us ds a h = as_many_have F ms (us ++ ds) all (length-append us ds ∙ sym a) h
 
 abbrev at_end : Standing → TypesSoFar → Standing
 at_end old types = record old { stage = ended types }
@@ -55,32 +61,15 @@ module _ {A : Type 0} where
     pub begins : Begins front held
     pub decided : DecidesModule r bytes old new
 
-  abbrev pub Rooms : WasmFeatures → List (List ℕ) → List (Result (shown.Types A) (Error A)) → ℕ → Type 0
-  Rooms features modules answers n = HasRoom (features_of features) modules answers n
+  abbrev pub Rooms : WasmFeatures → List (List ℕ) → List (Result (shown.Types A) (Error A)) → TypesSoFar → Type 0
+  Rooms features modules answers held = HasRoom (features_of features) modules answers held
 
   -- the same at a place of the list
   pub record Stood (features : WasmFeatures) (modules : List (List ℕ)) (answers : List (Result (shown.Types A) (Error A))) (front : TypesSoFar) (k : ℕ) (bytes : List ℕ) (r : Result (shown.Types A) (Error A)) : Type 0 where
     pub placed : Placed features front bytes r
     pub behind : suc k < length answers → EndsModule bytes placed.old placed.new
     pub last : suc k ≡ length answers → length answers < length modules → StopsModule r bytes placed.old placed.new
-    pub room : Rooms features modules answers (length front) → Room features bytes placed.held
-
-  -- the room for a module, and for those behind it
-  record Shifted (features : WasmFeatures) (m : List ℕ) (ms : List (List ℕ)) (answers : List (Result (shown.Types A) (Error A))) (n : ℕ) : Type 0 where
-    count : ℕ
-    writes : WritesAtMost (features_of features) m count
-    fits : n + count ≤ MAX_IDS
-    rest : Rooms features ms answers (n + count)
-
-  shifted : (features : WasmFeatures) (m : List ℕ) (ms : List (List ℕ)) (rs : List (Result (shown.Types A) (Error A))) (n : ℕ) (counts : List ℕ)
-      → AllZip (WritesAtMost (features_of features)) (m ∷ take (length rs) ms) counts → n + sum counts ≤ MAX_IDS → Shifted features m ms rs n
-  shifted features m ms rs n [] z f = absurd z
-  shifted features m ms rs n (c ∷ cs) z f =
-      let all = sum_from (0 + c) cs in
-      record { count = c; writes = z.0; fits = omega (arith, f, all); rest = record { counts = cs; each = z.1; fit = omega (arith, f, all) } }
-
-  fewer : (features : WasmFeatures) (ms : List (List ℕ)) (rs : List (Result (shown.Types A) (Error A))) (m n : ℕ) → m ≤ n → Rooms features ms rs n → Rooms features ms rs m
-  fewer features ms rs m n l h = let f = h.fit in record { counts = h.counts; each = h.each; fit = omega (arith, f, l) }
+    pub room : Rooms features modules answers front → Room features bytes placed.held
 
   -- the rest of a list, behind a module that came to its end
   rest_from : (rs : List (Result (shown.Types A) (Error A))) (ms : List (List ℕ)) (old left new : Standing) (types : TypesSoFar) → left ≡ at_end old types → DecidesEach rs ms left new → DecidesEach rs ms (at_end old types) new
@@ -101,9 +90,6 @@ module _ {A : Type 0} where
   stops_at r (s ∷ rs) m ms old left new (inl e) none l = absurd (omega (arith, none))
   stops_at r rs m ms old left new (inr s) none l = s.0
 
-  room_at : (features : WasmFeatures) (m : List ℕ) (ms : List (List ℕ)) (rs : List (Result (shown.Types A) (Error A))) (T : TypesSoFar) → Shifted features m ms rs (length T) → Room features m T
-  room_at features m ms rs T s = record { count = s.count; writes = s.writes; fits = s.fits }
-
   -- what becomes of the modules behind the first
   abbrev Rest : Result (shown.Types A) (Error A) → Answers A → List ℕ → List (List ℕ) → Standing → Standing → Standing → Type 0
   Rest a rs m ms old left new = (EndsModule m (after_reset old) left × DecidesEach rs ms left new) ⊎ (StopsModule a m (after_reset old) left × (rs ≡ []) × (new ≡ left))
@@ -122,9 +108,9 @@ module _ {A : Type 0} where
       let ends = e.0 in
       let types = ends.before ++ ends.more in
       let from = stages_apart ends.before T (sym ends.began ∙ w) in
-      let many = ap length from in
-      let longer = length-append ends.before ends.more in
-      let at_most = ends.at_most in
+      let F = features_of old.features in
+      let written = ends.module_valid.well_formed in
+      let counted : AreWith (canonical F) types T written.types.types = subst (λ us. AreWith (canonical F) types us written.types.types) from ends.counted in
       let behind = more types (rest_from rs ms (after_reset old) left new types ends.after e.1) k bytes r x y in
       let p = behind.placed in
       record {
@@ -140,9 +126,7 @@ module _ {A : Type 0} where
         behind = λ l. behind.behind (omega (arith, l));
         last = λ g l. behind.last (omega (arith, g)) (omega (arith, l));
         room = λ h.
-            let s = shifted old.features m ms rs (length T) h.counts h.each h.fit in
-            let written = s.writes ends.module_valid.well_formed in
-            behind.room (fewer old.features ms rs (length types) (length T + s.count) (omega (arith, many, longer, at_most, written)) s.rest);
+            behind.room (counted_have (canonical F) F (take (length rs) ms) types T written.types.types counted (h written).1);
       }
 
   pub stood : (answers : Answers A) (modules : List (List ℕ)) (old new : Standing) (T : TypesSoFar) → DecidesEach answers modules old new → (after_reset old).stage ≡ unparsed T
@@ -154,7 +138,7 @@ module _ {A : Type 0} where
         placed = record { old = after_reset old; new = d.0; same = refl; held = T; began = w; begins = record { more = []; is = sym (append-nil T) }; decided = d.1 };
         behind = λ l. goes a rs m ms (after_reset old) d.0 new d.2 (omega (arith, l));
         last = λ e l. stops_at a rs m ms (after_reset old) d.0 new d.2 (omega (arith, e)) (omega (arith, e, l));
-        room = λ h. room_at old.features m ms rs T (shifted old.features m ms rs (length T) h.counts h.each h.fit);
+        room = λ h w. (h w).0;
       } in
       subst (λ (b : List ℕ). Stood old.features (m ∷ ms) (a ∷ rs) T zero b r) (same_Some m bytes x) (subst (λ (q : Result (shown.Types A) (Error A)). Stood old.features (m ∷ ms) (a ∷ rs) T zero m q) (same_Some a r y) here)
   stood (a ∷ rs) (m ∷ ms) old new T d w (suc k) bytes r x y =

@@ -1,6 +1,6 @@
 -- What the answers on a list of modules say of all of them. Core Specification 3.0, Validation, Modules, and Validation, Types and Matching.
-use Rattle.std.specs.Prelude.{ℕ, suc, ◌≡◌, ◌≤◌, ◌<◌, ◌+◌, ◌++◌, ◌↔◌, true, false, List, [], length, take, slice_get, sum, Some}
-use Rattle.std.specs.List.{All, AllZip}
+use Rattle.std.specs.Prelude.{ℕ, suc, ◌≡◌, ◌≤◌, ◌<◌, ◌+◌, ◌++◌, ◌↔◌, Bool, true, false, List, [], ◌∷◌, length, take, slice_get, Some, ⊤}
+use Rattle.std.specs.List.{All}
 use Rattle.std.specs.declared.result.Result.{Result}
 use Rattle.std.specs.declared.result.Result.TheVariants.{Ok, Err}
 use Rattle.wasm_spec.specs.Syntax.{Val, map_val, Sub}
@@ -19,6 +19,7 @@ use Rattle.wasm_validator_type_list.specs.Listing.{Listing}
 use Rattle.wasm_validator_type_list.specs.Listable.{AreListable}
 use Rattle.wasm_validator_type_list.specs.Declares.{declares}
 use Rattle.wasm_validator_type_list.specs.DefTypes.{types_of_list}
+use Rattle.wasm_validator_modules.specs.WasmValidatorCanonical.Counted.{with_types}
 use Rattle.wasm_validator_types.specs.Shown.{shown_of}
 use Rattle.wasm_validator_types.specs.declared.shown.Types as shown
 use Rattle.wasm_validator_modules.specs.WasmValidatorCore.declared.error.Error.{Error}
@@ -55,9 +56,13 @@ its_type p = p.ty
 abbrev pub AreUnderOneId : List TypeWithId → List TypeWithId → Type 0
 AreUnderOneId ps qs = All (λ (p : TypeWithId). All (λ (q : TypeWithId). p.id ≡ q.id) qs) ps
 
--- In well formed bytes at most so many types are written.
-abbrev pub WritesAtMost : Features → List ℕ → ℕ → Type 0
-WritesAtMost F bytes n = (m : IsWellFormed expression_at F bytes) → length m.types.types ≤ n
+-- There are ids for these types with those of all modules, one after another: where equal types are one, as the first argument says, for each that
+-- isn't there yet, and else for all that are written. Nothing is asked of bytes that aren't well formed, and of what is behind them.
+abbrev pub HaveIds : Bool → Features → TypesSoFar → List (List ℕ) → Type 0
+HaveIds is_canonical F us [] = ⊤
+HaveIds is_canonical F us (bytes ∷ more) =
+    (m : IsWellFormed expression_at F bytes)
+    → (length (with_types is_canonical us m.types.types) ≤ MAX_IDS) × HaveIds is_canonical F (with_types is_canonical us m.types.types) more
 
 module _ {A : Type 0} (F : Features) (modules : List (List ℕ)) (answers : List (Result (shown.Types A) (Error A))) where
   -- The module at this place was looked at, with this answer.
@@ -65,11 +70,9 @@ module _ {A : Type 0} (F : Features) (modules : List (List ℕ)) (answers : List
     pub given : slice_get modules k ≡ Some bytes
     pub answered : slice_get answers k ≡ Some answer
 
-  -- There is room for so many types and those of all modules that were looked at.
-  pub record HasRoom (held : ℕ) : Type 0 where
-    pub counts : List ℕ
-    pub each : AllZip (WritesAtMost F) (take (length answers) modules) counts
-    pub fit : held + sum counts ≤ MAX_IDS
+  -- There are ids for these types with those of all modules that were looked at.
+  abbrev pub HasRoom : TypesSoFar → Type 0
+  HasRoom held = HaveIds (canonical F) F held (take (length answers) modules)
 
   -- The bytes are a valid module, and the types show exactly its index spaces.
   pub record IsShown (bytes : List ℕ) (t : shown.Types A) : Type 0 where
@@ -103,11 +106,11 @@ module _ {A : Type 0} (F : Features) (modules : List (List ℕ)) (answers : List
     -- What is accepted is a valid module, and its types show exactly its index spaces.
     pub accepted : (k : ℕ) (bytes : List ℕ) (t : shown.Types A) → IsAnswered k bytes (Ok t) → IsShown bytes t
     -- What is refused is no valid module, where there is room, unless the answer is that memory was refused.
-    pub refused : HasRoom (length before) → (k : ℕ) (bytes : List ℕ) (e : Error A) → IsAnswered k bytes (Err e) → IsValidModule F bytes → e ≡ OutOfMemory
+    pub refused : HasRoom before → (k : ℕ) (bytes : List ℕ) (e : Error A) → IsAnswered k bytes (Err e) → IsValidModule F bytes → e ≡ OutOfMemory
     -- It goes on behind a module exactly where that is valid up to its bodies.
     pub goes_on : (k : ℕ) (bytes : List ℕ) (r : Result (shown.Types A) (Error A)) → IsAnswered k bytes r → suc k < length answers → IsValidUpToBodies F bytes
     pub stops :
-        HasRoom (length before)
+        HasRoom before
         → (k : ℕ) (bytes : List ℕ) (r : Result (shown.Types A) (Error A)) → IsAnswered k bytes r → suc k ≡ length answers → length answers < length modules → IsValidUpToBodies F bytes → r ≡ Err OutOfMemory
     pub at_most : length answers ≤ length modules
     pub first : 0 < length modules → 0 < length answers

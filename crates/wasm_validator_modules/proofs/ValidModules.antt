@@ -13,16 +13,17 @@ use Rattle.wasm_spec_rules.specs.FeatureFlags.{features_of}
 use Rattle.wasm_spec_rules.specs.Parts.{Parts, HasParts}
 use Rattle.wasm_spec_rules.specs.IndexSpaces.{IndexSpaces, index_spaces}
 use Rattle.wasm_spec_rules.specs.Modules.{IsAllowedPiece, AreValidParts, IsWellFormed}
-use Rattle.wasm_readers_types.specs.WasmReadersValues.declared.indices.TheConstants.{MAX_IDS}
 use Rattle.wasm_readers_errors.specs.WasmReadersFeatures.declared.features.WasmFeatures.{WasmFeatures}
 use Rattle.wasm_spec_validity.specs.Expressions.{expression_at}
 use Rattle.wasm_spec_validity.specs.Typing.{HasTypedConstants, HasTypedBodies}
 use Rattle.wasm_spec_validity.specs.Modules.{Numbering, IsValidUpToBodies, IsValidModule, context_of, imported_globals, number_at}
 use Rattle.wasm_validator_canonical.specs.Sections.{StandsFor}
-use Rattle.wasm_validator_canonical.proofs.Sections.{added_sections_are_valid, valid_sections_are_added}
+use Rattle.wasm_validator_canonical.proofs.Sections.{added_sections_are_valid, counted_sections_are_added}
 use Rattle.wasm_validator_canonical.specs.Groups.{AreValid}
+use Rattle.wasm_validator_canonical.specs.Apart.{AreApart}
 use Rattle.wasm_validator_sections.specs.WasmValidatorCore.declared.limits.TheConstants.{MAX_TYPES}
 use Rattle.wasm_validator_sections.specs.WasmValidatorCore.Answers.{TypesSoFar}
+use Rattle.wasm_validator_modules.specs.Verdict.{HasIdsWith}
 use Rattle.wasm_validator_modules.proofs.AddedTypes.{TypesAdded, section, type_space, as_many_zipped}
 use Rattle.wasm_validator_modules.proofs.FramedParts.{allowed_to_end, allowed_before_end, whole_has, inside_has}
 use Rattle.wasm_validator_modules.proofs.KnownSections.{framed_parts}
@@ -81,16 +82,16 @@ module _ (features : WasmFeatures) (T : TypesSoFar) (bytes : List ℕ) where
     added : TypesAdded features T gs
     same : (section features T gs added).section.types ≡ types
 
-  section_added : AreValid F T → (gs : List (Rec ℕ)) → (v : IsValidTypeSection F gs) → length T + length v.types ≤ MAX_IDS → length v.types ≤ MAX_TYPES → SectionAdded gs v.types
-  section_added before gs v room few =
-      let a = valid_sections_are_added F T gs before v room in
+  section_added : AreApart (canonical F) T → AreValid F T → (gs : List (Rec ℕ)) → (v : IsValidTypeSection F gs) → HasIdsWith F T v.types → length v.types ≤ MAX_TYPES → SectionAdded gs v.types
+  section_added apart before gs v room few =
+      let a = counted_sections_are_added F T gs apart before v room in
       let h = added_sections_are_valid F T gs a.held a.added a.valid in
       let same : h.section.types ≡ v.types = same_Some h.section.types v.types (sym h.section.gives ∙ v.gives) in
       let many = as_many_zipped (StandsFor (canonical F) a.held.0) a.held.1 h.section.types h.stand ∙ ap length same in
       record { added = record { end = a.held; ran = a.added; few = subst (λ n. n ≤ MAX_TYPES) (sym many) few; valid = a.valid }; same = same }
 
-  pub valid_accepted : AreValid F T → (m : IsValidUpToBodies F bytes) → length T + length m.well_formed.types.types ≤ MAX_IDS → WouldBeAccepted m.well_formed.pieces m.well_formed.framed (AreTypedBodies m)
-  valid_accepted before m room =
+  pub valid_accepted : AreApart (canonical F) T → AreValid F T → (m : IsValidUpToBodies F bytes) → HasIdsWith F T m.well_formed.types.types → WouldBeAccepted m.well_formed.pieces m.well_formed.framed (AreTypedBodies m)
+  valid_accepted apart before m room =
       let w = m.well_formed in
       let f = w.framed in
       let p = w.parts in
@@ -98,7 +99,7 @@ module _ (features : WasmFeatures) (T : TypesSoFar) (bytes : List ℕ) where
       let header : Version f.number f.kind ≡ Version 1 0 = cc in
       let allowed = allowed_before_end F f.others (All-tail (IsAllowedPiece F) (Version f.number f.kind) (f.others ++ End ∷ []) (subst (All (IsAllowedPiece F)) f.all w.allowed)) in
       let has : HasParts expression_at f.others p = inside_has f.number f.kind f.others p (subst (λ (ps : List Piece). HasParts expression_at ps p) f.all w.has_parts) in
-      let types = section_added before p.groups w.types room w.rules.limits.types in
+      let types = section_added apart before p.groups w.types room w.rules.limits.types in
       let space = (section features T p.groups types.added).section.types in
       let rules : AreValidParts F (index_spaces space p) p = subst (λ (x : List DefType). AreValidParts F (index_spaces x p) p) (sym types.same) w.rules in
       let as_written : IsTypedUpTo (AreTypedBodies m) (index_spaces w.types.types p) p = record { numbering = m.numbering; constants = m.constants; bodies = λ b. b } in

@@ -23,7 +23,9 @@ use Rattle.wasm_validator_types.specs.declared.shown.Types as shown
 use Rattle.wasm_validator_sections.specs.WasmValidatorCore.declared.error.Error.{Error}
 use Rattle.wasm_validator_sections.specs.WasmValidatorCore.declared.error.Error.TheVariants.{Refused, DuplicateExport, InFunction, OutOfMemory}
 use Rattle.wasm_validator_canonical.specs.Groups.{AreValid}
-use Rattle.wasm_validator_canonical.proofs.Steps.{all_written_at_most}
+use Rattle.wasm_validator_canonical.specs.Counted.{AreWith}
+use Rattle.wasm_validator_canonical.proofs.Counted.{with_at_most}
+use Rattle.wasm_validator_canonical.proofs.Sections.{added_types_are_counted}
 use Rattle.wasm_validator_sections.specs.WasmValidatorCore.Answers.{TypesSoFar, HasValidTypes}
 use Rattle.wasm_validator_canonical.specs.Apart.{AreApart}
 use Rattle.wasm_validator_sections.specs.Noted.{nothing_noted}
@@ -34,8 +36,8 @@ use Rattle.wasm_validator_modules.specs.Payloads.{Show, after_all, handed_behind
 use Rattle.wasm_validator_modules.specs.Shows.{ShowModule}
 use Rattle.wasm_validator_modules.specs.Driven.{PayloadsDecide}
 use Rattle.wasm_validator_modules.proofs.Bodies.{one_of}
-use Rattle.wasm_validator_modules.specs.Verdict.{StandsApart, AcceptsModule, RefusesModule, RefusesUpToBodies, EndsModule, StopsModule, DecidesModule, DecidesAlone}
-use Rattle.wasm_validator_modules.proofs.AddedTypes.{section, type_space, list_after, as_many_types}
+use Rattle.wasm_validator_modules.specs.Verdict.{StandsApart, AcceptsModule, RefusesModule, RefusesUpToBodies, EndsModule, StopsModule, DecidesModule, DecidesAlone, HasIdsWith}
+use Rattle.wasm_validator_modules.proofs.AddedTypes.{section, type_space, list_after}
 use Rattle.wasm_validator_modules.proofs.ModuleRun.{step, is_part, are_parts, run_allowed}
 use Rattle.wasm_validator_modules.proofs.CodeOrder.{ranks_in_order}
 use Rattle.wasm_validator_modules.proofs.PieceRuns.{Place, before, at, shown_in, ends_in, ends_handed, noted_all, bodies_from, went, goes}
@@ -49,7 +51,6 @@ use Rattle.wasm_validator_modules.proofs.Runs.{refusal}
 use Rattle.wasm_parser.specs.Machine.{State, start, Run}
 use Rattle.wasm_parser.proofs.Law.{framed_run}
 use Rattle.wasm_spec_rules.specs.Parts.{bodies_of}
-use Rattle.wasm_readers_types.specs.WasmReadersValues.declared.indices.TheConstants.{MAX_IDS}
 use Rattle.wasm_spec_validity.specs.Modules.{IsValidUpToBodies, IsValidModule, up_to_bodies}
 use Rattle.wasm_spec_validity.specs.Expressions.{expression_at}
 use Rattle.std.proofs.lemmas.List.{length-append}
@@ -310,15 +311,13 @@ ends_up_to_bodies laws bytes old new t apart a =
     let acc = run.accepted in
     let held = section old.features r.before acc.parts.groups acc.types in
     let listed : r.q.0 ≡ r.before ++ held.more = sym (ap (λ (x : TypesSoFar × Spaces). x.0) run.ends) ∙ held.front in
-    let grown = all_written_at_most F acc.parts.groups r.before [] acc.types.end acc.types.ran in
-    let longer = ap length held.front ∙ length-append r.before held.more in
-    let many = as_many_types old.features r.before acc.parts.groups acc.types in
+    let counted = added_types_are_counted F r.before acc.parts.groups acc.types.end begun_apart acc.types.ran acc.types.valid held.section in
     record {
       module_valid = accepted_up_to_bodies old.features r.before bytes a.pieces f r.header parts allowed acc;
       before = r.before;
       began = r.was;
       more = held.more;
-      at_most = omega (arith, grown, longer, many);
+      counted = subst (λ (us : TypesSoFar). AreWith (canonical F) us r.before held.section.types) held.front counted;
       after = r.after ∙ ap (λ (xs : TypesSoFar). record old { stage = ended xs }) listed;
     }
 
@@ -355,19 +354,19 @@ record RunsThrough (old : Standing) (pieces : List Piece) (Typed : Type 0) : Typ
   valid : HoldsValid new
   bodies : Typed → All IsBodyOfIts (all_handed old pieces)
 
-valid_runs : UsedLaws → (bytes : List ℕ) (old : Standing) → HoldsValid old → StandsApart old → (T : TypesSoFar) → old.stage ≡ unparsed T → (m : IsValidUpToBodies (features_of old.features) bytes) → length T + length m.well_formed.types.types ≤ MAX_IDS
+valid_runs : UsedLaws → (bytes : List ℕ) (old : Standing) → HoldsValid old → StandsApart old → (T : TypesSoFar) → old.stage ≡ unparsed T → (m : IsValidUpToBodies (features_of old.features) bytes) → HasIdsWith (features_of old.features) T m.well_formed.types.types
     → RunsThrough old m.well_formed.pieces (AreTypedBodies old.features T bytes m)
 valid_runs laws bytes old valid apart T w m room =
     let F = features_of old.features in
     let v = m.well_formed in
     let f = v.framed in
     let ps = f.others in
-    let a = valid_accepted old.features T bytes (subst (AreValidAt old.features) w valid) m room in
+    let begun_apart = subst (HoldsAt (AreApart (canonical F))) w apart in
+    let a = valid_accepted old.features T bytes begun_apart (subst (AreValidAt old.features) w valid) m room in
     let acc = a.accepted in
     let start : TypesSoFar × Spaces = (T, no_spaces) in
     let q = end_of old.features T ps acc in
     let follows = others_follow bytes v.pieces f in
-    let begun_apart = subst (HoldsAt (AreApart (canonical F))) w apart in
     let inside = runs laws old.features T ps a.parts follows a.allowed begun_apart acc in
     let inner = others_inner bytes v.pieces f in
     let many : length (flat_map bodies_of ps) ≤ expected_bodies q.1 = few_enough laws old.features T bytes v.pieces f acc in
@@ -417,11 +416,14 @@ decide_payloads laws bytes old valid apart = (
 )
 
 -- no module has more types than a list may hold
+few_alone : (features : WasmFeatures) (ds : List DefType) → length ds ≤ 1000000 → HasIdsWith (features_of features) [] ds
+few_alone features ds few = let all = with_at_most (canonical (features_of features)) [] ds in omega (arith, all, few)
+
 room_alone : (features : WasmFeatures) (id : ℕ) (bytes : List ℕ) → RefusesModule bytes (fresh id features) → IsValidModule (features_of features) bytes → ⊥
-room_alone features id bytes h m = let few = m.well_formed.rules.limits.types in h [] refl m (omega (arith, few))
+room_alone features id bytes h m = let few = m.well_formed.rules.limits.types in h [] refl m (few_alone features m.well_formed.types.types few)
 
 room_up_alone : (features : WasmFeatures) (id : ℕ) (bytes : List ℕ) → RefusesUpToBodies bytes (fresh id features) → IsValidUpToBodies (features_of features) bytes → ⊥
-room_up_alone features id bytes h m = let few = m.well_formed.rules.limits.types in h [] refl m (omega (arith, few))
+room_up_alone features id bytes h m = let few = m.well_formed.rules.limits.types in h [] refl m (few_alone features m.well_formed.types.types few)
 
 -- the answers
 module _ {A : Type 0} where

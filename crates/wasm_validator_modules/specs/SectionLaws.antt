@@ -148,18 +148,20 @@ pub record TypesHeld : Type 0 where
   pub ids : List ℕ
   pub types : List DefType
 
--- A recursion group is valid behind the types of the module, which with it keep to the limit, and there are ids for it.
+-- all types with those of a group, and the ids of the module's types with theirs
+abbrev pub held_with : Features → TypesHeld → Rec ℕ → RecTree → TypesSoFar × List ℕ
+held_with F h g t = held (canonical F) h.all h.ids (positions (placed (canonical F) (length h.all) t) 0 g.types)
+
+-- A recursion group is valid behind the types of the module, which with it keep to the limit, and there are ids for all types
+-- with those of the group, which adds none where equal types are one and they have it.
 pub record FitsGroup (F : Features) (h : TypesHeld) (g : Rec ℕ) : Type 0 where
   pub tree : RecTree
   pub closes : closed F h.types g ≡ Some tree
   pub valid : All (IsValidType F declared) (positions tree 0 g.types)
   pub few : length h.types + length g.types ≤ 1000000
-  pub room : length h.all + length g.types ≤ MAX_IDS
+  pub room : length (held_with F h g tree).0 ≤ MAX_IDS
 
--- the types with those of the group behind, and all types and the ids with them
-abbrev pub held_with : Features → TypesHeld → Rec ℕ → RecTree → TypesSoFar × List ℕ
-held_with F h g t = held (canonical F) h.all h.ids (positions (placed (canonical F) (length h.all) t) 0 g.types)
-
+-- the types with those of the group behind
 abbrev pub with_group : Features → TypesHeld → Rec ℕ → RecTree → TypesHeld
 with_group F h g t = record { all = (held_with F h g t).0; ids = (held_with F h g t).1; types = h.types ++ positions t 0 g.types }
 

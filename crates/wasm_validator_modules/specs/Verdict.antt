@@ -4,13 +4,15 @@ use Rattle.std.specs.declared.result.Result.{Result}
 use Rattle.std.specs.declared.result.Result.TheVariants as results
 use Rattle.wasm_readers_types.specs.WasmReadersValues.declared.indices.TheConstants.{MAX_IDS}
 use Rattle.wasm_readers_errors.specs.WasmReadersFeatures.declared.features.WasmFeatures.{WasmFeatures}
-use Rattle.wasm_spec.specs.Features.{canonical}
+use Rattle.wasm_spec.specs.Features.{Features, canonical}
+use Rattle.wasm_spec.specs.Trees.{DefType}
 use Rattle.wasm_spec_rules.specs.FeatureFlags.{features_of}
 use Rattle.wasm_spec_rules.specs.IndexSpaces.{index_spaces}
 use Rattle.wasm_spec_validity.specs.Modules.{IsValidModule, IsValidUpToBodies}
 use Rattle.wasm_validator_type_groups.specs.Elements.{numbers_from}
 use Rattle.wasm_validator_type_list.specs.DefTypes.{types_of_list}
 use Rattle.wasm_validator_canonical.specs.Apart.{AreApart}
+use Rattle.wasm_validator_canonical.specs.Counted.{with_types, AreWith}
 use Rattle.wasm_validator_types.specs.Shown.{shown_of}
 use Rattle.wasm_validator_types.specs.declared.shown.Types as shown
 use Rattle.wasm_validator_sections.specs.WasmValidatorCore.declared.error.Error.{Error}
@@ -23,6 +25,10 @@ use Rattle.wasm_validator_modules.specs.Payloads.{IsLeft, IsOutOfMemory, Refuses
 -- the types that a validator holds are told apart, as its features ask
 abbrev pub StandsApart : Standing → Type 0
 StandsApart s = HoldsAt (AreApart (canonical (features_of s.features))) s.stage
+
+-- There are ids for these types with those of a module: where equal types are one, for each that isn't there yet.
+abbrev pub HasIdsWith : Features → TypesSoFar → List DefType → Type 0
+HasIdsWith F us ds = length (with_types (canonical F) us ds) ≤ MAX_IDS
 
 -- The bytes are a valid module. The types show its index spaces, in a list that begins with the types that the
 -- validator had, and this list is what it has from now on.
@@ -42,17 +48,17 @@ pub record AcceptsModule {A : Type 0} (bytes : List ℕ) (old new : Standing) (t
   pub own_types : canonical (features_of old.features) ≡ false → length (types_of_list (shown_of t).list) ≡ length before + length module_valid.well_formed.types.types
   pub after : new ≡ record old { stage = ended (types_of_list (shown_of t).list) }
 
--- Where no header had been read, the bytes are no valid module, unless the list would pass its limit with the module's types.
+-- Where no header had been read, the bytes are no valid module, unless there are too few ids for the types that are held with the module's.
 abbrev pub RefusesModule : List ℕ → Standing → Type 0
 RefusesModule bytes old =
     (before : TypesSoFar) → old.stage ≡ unparsed before
-    → (m : IsValidModule (features_of old.features) bytes) → length before + length m.well_formed.types.types ≤ MAX_IDS → ⊥
+    → (m : IsValidModule (features_of old.features) bytes) → HasIdsWith (features_of old.features) before m.well_formed.types.types → ⊥
 
 -- The same of a module up to its bodies.
 abbrev pub RefusesUpToBodies : List ℕ → Standing → Type 0
 RefusesUpToBodies bytes old =
     (before : TypesSoFar) → old.stage ≡ unparsed before
-    → (m : IsValidUpToBodies (features_of old.features) bytes) → length before + length m.well_formed.types.types ≤ MAX_IDS → ⊥
+    → (m : IsValidUpToBodies (features_of old.features) bytes) → HasIdsWith (features_of old.features) before m.well_formed.types.types → ⊥
 
 -- What the answer on whole bytes says: of acceptance with no premise, of a refusal unless memory was refused. One that names no function refuses
 -- the module up to its bodies, and one that does says of which function the first body is that isn't valid.
@@ -63,14 +69,14 @@ DecidesModule (results.Err (DuplicateExport name offset)) bytes old new = Refuse
 DecidesModule (results.Err (InFunction index r)) bytes old new = RefusesModule bytes old × (IsLeft (Some r) bytes old new × RefusesBody index bytes old)
 DecidesModule (results.Err OutOfMemory) bytes old new = IsOutOfMemory bytes old new
 
--- All payloads were accepted: the bytes are a valid module up to its bodies, and the validator stands at its end, with no more types
--- than the module's behind those that it had.
+-- All payloads were accepted: the bytes are a valid module up to its bodies, and the validator stands at its end, with the types that it had
+-- and those of the module: where equal types are one, each that wasn't there yet.
 pub record EndsModule (bytes : List ℕ) (old new : Standing) : Type 0 where
   pub module_valid : IsValidUpToBodies (features_of old.features) bytes
   pub before : TypesSoFar
   pub began : old.stage ≡ unparsed before
   pub more : TypesSoFar
-  pub at_most : length more ≤ length module_valid.well_formed.types.types
+  pub counted : AreWith (canonical (features_of old.features)) (before ++ more) before module_valid.well_formed.types.types
   pub after : new ≡ record old { stage = ended (before ++ more) }
 
 -- A payload, or what follows some, was refused, or memory for them was: the validator isn't at the module's end. Where memory wasn't refused the

@@ -134,7 +134,7 @@ impl<A: Allocator + Copy> Validator<A> {
 
     /// Checks the module that these bytes are, and gives its types, which show its index spaces. It
     /// is accepted exactly where it is valid (Core Specification 3.0, Validation, Modules), as far
-    /// as the list of types has room for its own. Where the validator is neither fresh nor reset the
+    /// as the list of types has room for new ones. Where the validator is neither fresh nor reset the
     /// header is refused. The types that it gives name only ids of their list.
     ///
     /// # Errors
