@@ -1,7 +1,7 @@
 use Rattle.std.proofs.Common.{◌≡◌, refl, ap, ◌∙◌, Some}
 use Rattle.wasm_validator_type_list.specs.Depths.{depth_of}
 use Rattle.wasm_validator_type_list.proofs.Depths.{found-put, depth-none}
-use Rattle.test_types.proofs.lists.keep.Goals as goal
+use Rattle.test_parts.proofs.lists.keep.Goals as goal
 
 pub set_subtyping_depth-requires-clause-right : goal.set_subtyping_depth-requires-clause-right
 set_subtyping_depth-requires-clause-right c = depth-none c.args.list.now.groups c.args.id.index c.supertype_of.result c.supertype_of.ensures c.in-None-None.is-0

@@ -1,15 +1,16 @@
 //! Equality, order and hash: said once of any type whose equality tells whether two values are the
 //! same, and so of the ids of types, of groups and of validators, and of what is known of a type.
+#![tactic(auto)]
 
 ghost use Rattle.std.specs.Prelude.{◌≡◌};
 ghost use Rattle.std.specs.Bool.{Decides};
-ghost use Rattle.test_types.specs.Equality.{Agree, same_by};
+ghost use Rattle.wasm_laws_ids.specs.Equality.{Agree, same_by};
 
 use std::hash::Hash;
 use wasm_readers_types::CoreTypeId;
-use wasm_validator_checks::validator_types::ValidatorId;
 use wasm_validator_matches::TypeInfo;
 use wasm_validator_type_list::RecGroupId;
+use wasm_validator_types::ValidatorId;
 
 /// A type whose `==` tells whether two values are the same to a contract.
 pub trait Same: Ord + Hash {

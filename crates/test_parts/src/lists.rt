@@ -52,18 +52,29 @@ fn rec_of_one(alloc: Global) -> Result<RecGroup, AllocError>
     Ok(RecGroup::explicit(types))
 }
 
-#[test]
-fn an_equal_type_gets_its_id_again(rt: HostRuntime) -> Result<(), Fail> {
-    let alloc = rt.alloc();
-    let mut list = TypeList::new(alloc, true);
+/// Whether a type that is equal to one of the list gets its id again, and so does a group.
+fn equal_types_are_one(list: &mut TypeList, alloc: Global) -> Result<bool, Error>
+    requires open { IsTrue list.old.is_open }
+    requires mode { IsTrue list.old.is_canonical }
+{
     let first = list.intern_func_type(signature(alloc), 0)?;
     let again = list.intern_func_type(signature(alloc), 0)?;
-    assert!(rt; (first.index(), again.index(), list.len()) == (0, 0, 1));
+    let count = list.len();
     let (is_new, group) = list.intern_canonical_rec_group(true, rec_of_one(alloc)?, 0)?;
     let (is_new_again, same) = list.intern_canonical_rec_group(true, rec_of_one(alloc)?, 0)?;
     let plain = list.intern_sub_type(structure(alloc), 0)?;
-    assert!(rt; is_new && !is_new_again && group == same);
-    assert!(rt; (group.index(), plain.index(), list.len()) == (1, 1, 2));
+    Ok(
+        (first.index(), again.index(), count) == (0, 0, 1)
+            && (is_new, is_new_again) == (true, false)
+            && (group.index(), same.index(), plain.index(), list.len()) == (1, 1, 1, 2),
+    )
+}
+
+#[test]
+fn an_equal_type_gets_its_id_again(rt: HostRuntime) -> Result<(), Fail> {
+    let mut list = TypeList::new(rt.alloc(), true);
+    let is_right = equal_types_are_one(&mut list, rt.alloc())?;
+    assert!(rt; is_right);
     Ok(())
 }
 
@@ -80,14 +91,21 @@ fn a_group_is_found_by_its_type(rt: HostRuntime) -> Result<(), Fail> {
     Ok(())
 }
 
+/// Whether this is a copy of a list with one type, which has this id, to which none may be added.
+fn is_closed(list: &TypeList, id: CoreTypeId) -> bool {
+    !list.is_open()
+        && list.is_canonical()
+        && (list.types().len(), list.rec_groups().len()) == (1, 1)
+        && list.get(id).is_some()
+}
+
 #[test]
 fn a_kept_list_is_closed(rt: HostRuntime) -> Result<(), Fail> {
     let mut list = TypeAlloc::new(rt.alloc(), true);
     let id = list.intern_func_type(signature(rt.alloc()), 0)?;
     let kept = list.commit()?;
-    assert!(rt; list.is_open() && !kept.is_open() && kept.is_canonical());
-    assert!(rt; (kept.types().len(), kept.rec_groups().len()) == (1, 1));
-    assert!(rt; kept.get(id).is_some());
+    assert!(rt; list.is_open());
+    assert!(rt; is_closed(&kept, id));
     Ok(())
 }
 
@@ -108,31 +126,48 @@ fn keep(list: &mut TypeList, id: CoreTypeId) -> Result<bool, AllocError>
     }
 }
 
+/// Whether the depth of a type is known once it is kept, and not by a copy of the list.
+fn depth_is_kept(list: &mut TypeList, alloc: Global) -> Result<bool, Error>
+    requires { IsTrue list.old.is_open }
+{
+    let id = list.intern_func_type(signature(alloc), 0)?;
+    let before = list.subtyping_depth(id);
+    let is_kept = keep(list, id)?;
+    let copy = list.commit()?;
+    Ok(
+        is_kept
+            && before.is_none()
+            && list.subtyping_depth(id) == Some(0)
+            && copy.subtyping_depth(id).is_none(),
+    )
+}
+
 #[test]
 fn a_depth_is_kept(rt: HostRuntime) -> Result<(), Fail> {
     let mut list = TypeList::new(rt.alloc(), true);
-    let id = list.intern_func_type(signature(rt.alloc()), 0)?;
-    assert!(rt; list.subtyping_depth(id).is_none());
-    assert!(rt; keep(&mut list, id)?);
-    assert!(rt; list.subtyping_depth(id) == Some(0));
-    let copy = list.commit()?;
-    assert!(rt; copy.subtyping_depth(id).is_none());
+    let is_right = depth_is_kept(&mut list, rt.alloc())?;
+    assert!(rt; is_right);
     Ok(())
+}
+
+/// Whether value types match as they do, in the group of this type.
+fn values_match(list: &TypeList, id: CoreTypeId) -> bool {
+    if list.get(id).is_none() {
+        return false;
+    }
+    let group = list.rec_group_id_of(id);
+    let number = WithRecGroup::new(ValType::I32, group);
+    let reference = WithRecGroup::new(ValType::FUNCREF, group);
+    Matches::matches(list, number, number)
+        && !Matches::matches(list, number, reference)
+        && Matches::matches(list, reference, reference)
 }
 
 #[test]
 fn value_types_match_in_their_groups(rt: HostRuntime) -> Result<(), Fail> {
-    let alloc = rt.alloc();
-    let mut list = TypeList::new(alloc, true);
-    let id = list.intern_func_type(signature(alloc), 0)?;
-    if list.get(id).is_some() {
-        let group = list.rec_group_id_of(id);
-        let number = WithRecGroup::new(ValType::I32, group);
-        let reference = WithRecGroup::new(ValType::FUNCREF, group);
-        assert!(rt; Matches::matches(&list, number, number));
-        assert!(rt; !Matches::matches(&list, number, reference));
-        assert!(rt; Matches::matches(&list, reference, reference));
-    }
+    let mut list = TypeList::new(rt.alloc(), true);
+    let id = list.intern_func_type(signature(rt.alloc()), 0)?;
+    assert!(rt; values_match(&list, id));
     Ok(())
 }
 
@@ -165,25 +200,67 @@ fn is_full<T>(answer: &Result<T, Error>) -> bool {
     }
 }
 
+/// Whether a list that is full answers for a group that it has where equal groups are kept once, and
+/// else refuses it.
+fn answers_known<T>(is_canonical: bool, answer: &Result<T, Error>) -> bool {
+    if is_canonical {
+        answer.is_ok()
+    } else {
+        is_full(answer)
+    }
+}
+
+/// Adds groups of 1, 2, 4 and so on, until there is room for one type.
+fn fill(list: &mut TypeList, alloc: Global) -> Result<bool, Error> {
+    'groups: for power in 0u32..20 {
+        if !add(list, rec_of(alloc, 1usize << power)?)? {
+            return Ok(false);
+        }
+    }
+    Ok(list.len() == 1_048_575)
+}
+
+/// Whether a list with room for one type takes one more, and then says that it is full of all that it
+/// doesn't have.
+fn ends(list: &mut TypeList, is_canonical: bool, alloc: Global) -> Result<bool, Error> {
+    if !is_full(&add(list, rec_of(alloc, 3)?)) || list.len() != 1_048_575 || !list.is_open() {
+        return Ok(false);
+    }
+    let last = list.intern_func_type(signature(alloc), 7)?;
+    let is_function_known = answers_known(
+        is_canonical,
+        &list.intern_func_type(signature(alloc), 7),
+    );
+    let is_structure_known = answers_known(
+        is_canonical,
+        &list.intern_sub_type(structure(alloc), 7),
+    );
+    let is_group_known = answers_known(is_canonical, &add(list, rec_of(alloc, 8)?));
+    let is_new_refused = is_full(&add(list, rec_of(alloc, 3)?));
+    let unknown = CoreTypeId::from_index(1_048_576);
+    Ok(
+        last.index() == 1_048_575
+            && is_function_known
+            && is_structure_known
+            && is_group_known
+            && is_new_refused
+            && (list.len(), list.rec_group_count()) == (1_048_576, 21)
+            && list.get(last).is_some()
+            && list.get(unknown).is_none(),
+    )
+}
+
+/// Whether a list has an id for each of its types, and for no more.
+fn has_all_ids(alloc: Global, is_canonical: bool) -> Result<bool, Error> {
+    let mut list = TypeList::new(alloc, is_canonical);
+    Ok(fill(&mut list, alloc)? && ends(&mut list, is_canonical, alloc)?)
+}
+
 #[test]
 fn a_list_has_an_id_for_each_of_its_types(rt: HostRuntime) -> Result<(), Fail> {
-    let alloc = rt.alloc();
-    'modes: for is_canonical in [false, true] {
-        let mut list = TypeList::new(alloc, is_canonical);
-        'groups: for power in 0u32..20 {
-            assert!(rt; add(&mut list, rec_of(alloc, 1usize << power)?)?);
-        }
-        assert!(rt; list.len() == 1_048_575 && list.is_open());
-        assert!(rt; is_full(&add(&mut list, rec_of(alloc, 3)?)));
-        assert!(rt; list.len() == 1_048_575 && list.is_open());
-        let last = list.intern_func_type(signature(alloc), 7)?;
-        assert!(rt; last.index() == 1_048_575 && list.is_open());
-        assert!(rt; is_full(&list.intern_func_type(signature(alloc), 7)));
-        assert!(rt; list.is_open());
-        assert!(rt; is_full(&list.intern_sub_type(structure(alloc), 7)));
-        assert!(rt; (list.len(), list.rec_group_count()) == (1_048_576, 21));
-        assert!(rt; list.get(last).is_some());
-        assert!(rt; list.get(CoreTypeId::from_index(1_048_576)).is_none());
+    for is_canonical in [false, true] {
+        let is_right = has_all_ids(rt.alloc(), is_canonical)?;
+        assert!(rt; is_right, "{is_canonical}");
     }
     Ok(())
 }

@@ -5,7 +5,7 @@ use Rattle.std.specs.Cmp.{Equal-is}
 use Rattle.std.specs.Hash.{HashWrites}
 use Rattle.std.specs.Ordering.{is_eq}
 use Rattle.std.specs.declared.cmp.Ordering.{Ordering}
-use Rattle.test_types.specs.Equality.{Agree}
+use Rattle.wasm_laws_ids.specs.Equality.{Agree}
 
 pub agree :
     {X : Type 0} {eq : X → X → Bool} {partial_cmp : X → X → Option Ordering} {cmp : X → X → Ordering} {hash_input : X → HashWrites}
