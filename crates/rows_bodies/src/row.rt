@@ -1,7 +1,6 @@
 use crate::features::{name_of, parse_features};
 use crate::sample::Sample;
 use std::alloc::{AllocError, AllocFailed, Global};
-use std::fmt::Write;
 use test_resources::SampleResources;
 use wasm_parser::FunctionBody;
 use wasm_readers::{BinaryReader, Error};
@@ -167,10 +166,11 @@ fn push_answer(text: &mut String, answer: &Result<(), Error>, named: &str) -> Re
     if named == "refused" {
         return Ok(());
     }
-    let offset = error.offset();
-    write!(text, " {offset}")?;
+    text.push_str(" ")?;
+    text.write(error.offset())?;
     if named != text.as_str() {
-        write!(text, " {error}")?;
+        text.push_str(" ")?;
+        text.write(error)?;
     }
     if named.contains(MISSING) {
         push_missing(text, error)?;

@@ -2,6 +2,10 @@
 //! segments of the first memory.
 
 use std::alloc::Global;
+use std::env::{self, Env};
+use std::fs;
+use std::io::{self, Write};
+use std::rt::Files;
 use wasm_operators::read_expression;
 use wasm_parser::{Parser, Payload};
 use wasm_readers::BinaryReader;
@@ -67,7 +71,7 @@ fn read_payload(payload: &Payload<'_>) -> Result<u32, Refusal> {
 
 /// How many such items the module has that these bytes are, each of which is read by the grammar,
 /// in sections that can be read to their ends.
-pub fn count_items(alloc: Global, bytes: &[u8]) -> u64 {
+fn count_items(alloc: Global, bytes: &[u8]) -> u64 {
     let mut count = 0u64;
     for payload in Parser::new(alloc, 0).parse_all(bytes) {
         if let Ok(payload) = payload {
@@ -77,4 +81,23 @@ pub fn count_items(alloc: Global, bytes: &[u8]) -> u64 {
         }
     }
     count
+}
+
+/// Prints how many items each of the modules in the files has.
+pub fn print_items<R: Env + Files + AllocGlobal, W: Write>(rt: &R, out: &mut W) -> io::Result<()> {
+    for name in env::args(rt)?.skip(2) {
+        print_count(rt, name.as_str(), out)?;
+    }
+    Ok(())
+}
+
+/// Prints how many items the module in the file at this path has.
+fn print_count<R: Files + AllocGlobal, W: Write>(
+    rt: &R,
+    path: &str,
+    out: &mut W,
+) -> io::Result<()> {
+    let module = fs::read(rt, path)?;
+    let count = count_items(rt.alloc(), module.as_slice());
+    writeln!(out, "{count} items")
 }

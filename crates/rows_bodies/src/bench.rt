@@ -1,0 +1,156 @@
+//! A body that is measured.
+
+use examples_own_module::OwnModule;
+use std::alloc::{AllocError, Global};
+use std::env::{self, Env};
+use std::fs;
+use std::io::{self, Write};
+use std::rt::Files;
+use std::time::{Clock, Instant};
+use wasm_operators::read_operator;
+use wasm_parser::FunctionBody;
+use wasm_readers::BinaryReader;
+use wasm_readers_errors::{Error, WasmFeatures};
+use wasm_readers_types::{FuncType, GlobalType, MemoryType, RefType, SubType, TableType, ValType};
+use wasm_validator_func::{FuncToValidate, FuncValidatorAllocations};
+
+/// The argument behind which the files of operators stand.
+pub const BODY: &str = "--body";
+
+/// The declarations of locals that the operators count on: 150 of type i32 and 150 of type i64.
+const FRONT: [u8; 7] = [2, 0x96, 1, 0x7f, 0x96, 1, 0x7e];
+/// What ends the body with a result: `i32.const 0` and `end`.
+const END: [u8; 3] = [0x41, 0, 0x0b];
+
+/// What each function takes and gives: from an i64 and an i32 to an i32.
+fn signature(alloc: Global) -> Result<FuncType, AllocError> {
+    let mut params = Vec::new(alloc);
+    params.push(ValType::I64)?;
+    params.push(ValType::I32)?;
+    let mut results = Vec::new(alloc);
+    results.push(ValType::I32)?;
+    Ok(FuncType::new(params, results))
+}
+
+/// A global of this type, which can be written.
+fn global(content_type: ValType) -> GlobalType {
+    GlobalType {
+        content_type,
+        mutable: true,
+        shared: false,
+    }
+}
+
+/// Validates the body of function 0 in this module.
+fn validate_body(alloc: Global, module: &OwnModule<'_, Global>, bytes: &[u8]) -> Result<(), Error> {
+    let function = FuncToValidate {
+        resources: module,
+        index: 0,
+        ty: 0,
+        features: WasmFeatures::STANDARD,
+    };
+    let body = FunctionBody::new(BinaryReader::new(bytes, 0));
+    let _memory = function.validate(&body, FuncValidatorAllocations::new(alloc))?;
+    Ok(())
+}
+
+/// Validates the body in a module of four functions, a table, a memory and three globals.
+fn validate_in_module(alloc: Global, bytes: &[u8]) -> Result<(), Error> {
+    let ty = SubType::func(alloc, signature(alloc)?, false);
+    let table = TableType {
+        element_type: RefType::FUNCREF,
+        table64: false,
+        initial: 4,
+        maximum: None,
+        shared: false,
+    };
+    let memory = MemoryType {
+        memory64: false,
+        shared: false,
+        initial: 1,
+        maximum: None,
+        page_size_log2: None,
+    };
+    let module = OwnModule {
+        ty: &ty,
+        functions: &[0, 0, 0, 0],
+        tables: &[table],
+        memories: &[memory],
+        globals: &[
+            global(ValType::I32),
+            global(ValType::I64),
+            global(ValType::I32),
+        ],
+    };
+    validate_body(alloc, &module, bytes)
+}
+
+/// How many operators can be read behind the declarations of locals.
+fn count_operators(bytes: &[u8]) -> usize {
+    let operators = match bytes.get(FRONT.len()..) {
+        Some(operators) => operators,
+        None => return 0,
+    };
+    let mut reader = BinaryReader::new(operators, 0);
+    for count in 0..operators.len() {
+        if read_operator(&mut reader).is_err() {
+            return count;
+        }
+    }
+    operators.len()
+}
+
+/// The body of the operators in the files behind `--body`, if that is among the arguments: its
+/// locals, what the files hold, and its end.
+fn read_body<R: Env + Files + AllocGlobal>(rt: &R) -> io::Result<Option<Vec<u8>>> {
+    let mut is_named = false;
+    let mut body = Vec::new(rt.alloc());
+    body.extend_from_slice(&FRONT)?;
+    for name in env::args(rt)?.skip(1) {
+        if is_named {
+            add_part(rt, &mut body, name.as_str())?;
+        } else {
+            is_named = name.as_str() == BODY;
+        }
+    }
+    body.extend_from_slice(&END)?;
+    Ok(if is_named { Some(body) } else { None })
+}
+
+/// Adds what the file at this path holds.
+fn add_part<R: Files + AllocGlobal>(rt: &R, body: &mut Vec<u8>, path: &str) -> io::Result<()> {
+    let part = fs::read(rt, path)?;
+    body.extend_from_slice(part.as_slice())?;
+    Ok(())
+}
+
+/// Validates the body of the operators in the files, if there are such, and prints what was found.
+pub fn bench<R: Env + Files + Clock + AllocGlobal, W: Write, E: Write>(
+    rt: &R,
+    out: &mut W,
+    err: &mut E,
+) -> io::Result<()> {
+    match read_body(rt)? {
+        Some(body) => time_body(rt, body.as_slice(), out, err),
+        None => Ok(()),
+    }
+}
+
+/// Validates this body, and prints how many operators it has, whether it is valid, and how long that
+/// took.
+fn time_body<R: Clock + AllocGlobal, W: Write, E: Write>(
+    rt: &R,
+    body: &[u8],
+    out: &mut W,
+    err: &mut E,
+) -> io::Result<()> {
+    let start = Instant::now(rt)?;
+    let verdict = match validate_in_module(rt.alloc(), body) {
+        Ok(()) => "ok",
+        Err(_) => "not valid",
+    };
+    let time = start.elapsed(rt)?;
+    let count = count_operators(body);
+    writeln!(out, "{count} operators, {verdict}")?;
+    writeln!(err, "{} ns", time.as_nanos())
+}
