@@ -1,11 +1,14 @@
 //! A debugger validates the first body of a module operator by operator, and prints how many operands
 //! and frames there are after each.
 
+use crate::interpreter::check_payload;
+use crate::refusals::print_refusal;
 use std::alloc::Allocator;
 use std::io;
 use wasm_validator::{
-    BodyError, Error, FuncToValidate, FuncValidatorAllocations, FunctionBody, Parser, ValidPayload,
-    Validator, ValidatorId, ValidatorResources, read_operator, validate,
+    BinaryReader, BodyError, Error, FuncToValidate, FuncValidator, FuncValidatorAllocations,
+    FunctionBody, Parser, ValidPayload, Validator, ValidatorId, ValidatorResources, read_operator,
+    validate,
 };
 
 /// A module with one function, from a number to its double: `block (result i32)`, `local.get 0`
@@ -25,6 +28,21 @@ struct Height {
     frames: u32,
 }
 
+/// Validates the next operator, and gives the heights after it.
+fn height_after<A: Allocator + Copy>(
+    validator: &mut FuncValidator<ValidatorResources<A>, A>,
+    reader: &mut BinaryReader<'_>,
+) -> Result<Height, BodyError> {
+    let offset = reader.original_position();
+    let operator = read_operator(reader)?;
+    validator.op(offset, &operator)?;
+    Ok(Height {
+        offset,
+        operands: validator.operand_stack_height(),
+        frames: validator.control_stack_height(),
+    })
+}
+
 /// The heights after each operator of the body.
 fn heights<A: Allocator + Copy>(
     alloc: A,
@@ -39,14 +57,7 @@ fn heights<A: Allocator + Copy>(
         if reader.eof() {
             break;
         }
-        let offset = reader.original_position();
-        let operator = read_operator(&mut reader)?;
-        validator.op(offset, &operator)?;
-        heights.push(Height {
-            offset,
-            operands: validator.operand_stack_height(),
-            frames: validator.control_stack_height(),
-        })?;
+        heights.push(height_after(&mut validator, &mut reader)?)?;
     }
     if validator.control_stack_height() > 0 {
         // The bytes end before the body does, which is refused here.
@@ -55,57 +66,61 @@ fn heights<A: Allocator + Copy>(
     Ok(heights)
 }
 
-/// The heights in the first body of a module that is valid up to it, if it has one.
-fn first_heights<A: Allocator + Copy>(
+/// A function of a module, and its body.
+type Defined<'a, A> = (FuncToValidate<ValidatorResources<A>>, FunctionBody<'a>);
+
+/// The first function with a body in a module that is valid up to it, if it has one.
+fn first_function<'a, A: Allocator + Copy>(
     alloc: A,
-    bytes: &[u8],
-) -> Result<Option<Vec<Height, A>>, Error<A>> {
+    bytes: &'a [u8],
+) -> Result<Option<Defined<'a, A>>, Error<A>> {
     let mut validator = Validator::new(alloc, ValidatorId::from_number(0));
     let mut payloads = Parser::new(alloc, 0).parse_all(bytes);
     for _ in 0..u64::MAX {
         let Some(payload) = payloads.next_payload()? else {
             break;
         };
-        match validator.payload(&payload)? {
-            ValidPayload::Func(function, body) => {
-                let index = function.index;
-                return match heights(alloc, function, &body) {
-                    Ok(heights) => Ok(Some(heights)),
-                    Err(error) => Err(Error::in_function(index, error)),
-                };
-            }
-            ValidPayload::Ok | ValidPayload::End(_) => {}
+        if let ValidPayload::Func(function, body) = check_payload(&mut validator, payload)? {
+            return Ok(Some((function, body)));
         }
     }
     Ok(None)
 }
 
+/// The heights in the first body of a module that is valid up to it, if it has one.
+fn first_heights<A: Allocator + Copy>(
+    alloc: A,
+    bytes: &[u8],
+) -> Result<Option<Vec<Height, A>>, Error<A>> {
+    let Some((function, body)) = first_function(alloc, bytes)? else {
+        return Ok(None);
+    };
+    let index = function.index;
+    match heights(alloc, function, &body) {
+        Ok(heights) => Ok(Some(heights)),
+        Err(error) => Err(Error::in_function(index, error)),
+    }
+}
+
 /// Prints the heights in the one body of a module.
 pub fn run<R: Print + AllocGlobal>(rt: &R) -> io::Result<()> {
     match first_heights(rt.alloc(), BYTES) {
-        Ok(Some(heights)) => {
-            for height in heights {
-                let Height {
-                    offset,
-                    operands,
-                    frames,
-                } = height;
-                println!(rt; "byte {offset}: {operands} operands, {frames} frames")?;
-            }
-            Ok(())
-        }
+        Ok(Some(heights)) => print_heights(rt, &heights),
         Ok(None) => println!(rt; "the module has no body"),
         Err(error) => print_refusal(rt, &error),
     }
 }
 
-/// Prints what is wrong, where, and of a body in which function.
-fn print_refusal<R: Print, A: Allocator>(rt: &R, error: &Error<A>) -> io::Result<()> {
-    let message = error.message();
-    match error.function() {
-        Some(index) => println!(rt; "function {index}, byte {}: {message}", error.offset()),
-        None => println!(rt; "byte {}: {message}", error.offset()),
+fn print_heights<R: Print>(rt: &R, heights: &[Height]) -> io::Result<()> {
+    for height in heights {
+        let Height {
+            offset,
+            operands,
+            frames,
+        } = *height;
+        println!(rt; "byte {offset}: {operands} operands, {frames} frames")?;
     }
+    Ok(())
 }
 
 /// Prints in which function of a module a body isn't valid.

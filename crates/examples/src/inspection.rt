@@ -1,7 +1,9 @@
 //! An inspection tool shows the index spaces of a module.
 
+use crate::refusals::print_refusal;
+use std::alloc::Allocator;
 use std::io;
-use wasm_validator::{ValidatorId, validate};
+use wasm_validator::{TypesRef, ValidatorId, validate};
 
 /// A module that imports a function, a memory and a table, and exports the function as `c`.
 const BYTES: &[u8] =
@@ -11,7 +13,7 @@ const BYTES: &[u8] =
 pub fn run<R: Print + AllocGlobal>(rt: &R) -> io::Result<()> {
     let types = match validate(rt.alloc(), BYTES, ValidatorId::from_number(0)) {
         Ok(types) => types,
-        Err(error) => return println!(rt; "refused at {}: {error}", error.offset()),
+        Err(error) => return print_refusal(rt, &error),
     };
     let shown = types.as_ref();
     for index in 0..shown.function_count() {
@@ -20,10 +22,22 @@ pub fn run<R: Print + AllocGlobal>(rt: &R) -> io::Result<()> {
         let id = shown.core_function_at(index).index();
         println!(rt; "function {index}: type {id}, final {}", ty.is_final)?;
     }
+    print_memories(rt, &shown)?;
+    print_tables(rt, &shown)
+}
+
+fn print_memories<R: Print, A: Allocator + Copy>(
+    rt: &R,
+    shown: &TypesRef<'_, A>,
+) -> io::Result<()> {
     for index in 0..shown.memory_count() {
         let pages = shown.memory_at(index).initial;
         println!(rt; "memory {index}: {pages} pages at the start")?;
     }
+    Ok(())
+}
+
+fn print_tables<R: Print, A: Allocator + Copy>(rt: &R, shown: &TypesRef<'_, A>) -> io::Result<()> {
     for index in 0..shown.table_count() {
         let entries = shown.table_at(index).initial;
         println!(rt; "table {index}: {entries} entries at the start")?;
@@ -39,7 +53,7 @@ const TYPES: &[u8] =
 pub fn print_types<R: Print + AllocGlobal>(rt: &R) -> io::Result<()> {
     let types = match validate(rt.alloc(), TYPES, ValidatorId::from_number(0)) {
         Ok(types) => types,
-        Err(error) => return println!(rt; "refused at {}: {error}", error.offset()),
+        Err(error) => return print_refusal(rt, &error),
     };
     let shown = types.as_ref();
     for index in 0..shown.core_type_count_in_module() {

@@ -1,5 +1,6 @@
 //! A component validator keeps its own types beside those of its modules: equal types have one id.
 
+use crate::refusals::print_refusal;
 use std::alloc::Allocator;
 use std::io;
 use wasm_validator::{CoreTypeId, Error, FuncType, TypeList, ValType};
@@ -22,6 +23,6 @@ pub fn run<R: Print + AllocGlobal>(rt: &R) -> io::Result<()> {
             let [first, second, third] = ids;
             println!(rt; "{} {} {}", first.index(), second.index(), third.index())
         }
-        Err(error) => println!(rt; "refused at {}: {error}", error.offset()),
+        Err(error) => print_refusal(rt, &error),
     }
 }

@@ -1,9 +1,10 @@
 //! An interpreter reads sections and bodies as they come, and has each checked before it uses it.
 
+use crate::refusals::print_refusal;
 use std::alloc::{Allocator, Global};
 use std::io;
 use wasm_validator::{
-    Error, FuncValidatorAllocations, Parser, Types, ValidPayload, Validator, ValidatorId,
+    Error, FuncValidatorAllocations, Parser, Payload, Types, ValidPayload, Validator, ValidatorId,
 };
 
 /// A module that exports the function `c`, which takes a number and gives it.
@@ -17,8 +18,15 @@ struct Loaded<A: Allocator = Global> {
     body_count: u32,
 }
 
-/// Checks the module payload by payload, and each body as it comes, in the same memory. What is
-/// done with a payload is done behind its check.
+/// Checks a payload. What is done with it is done here, behind its check.
+pub fn check_payload<'a, A: Allocator + Copy>(
+    validator: &mut Validator<A>,
+    payload: Payload<'a, A>,
+) -> Result<ValidPayload<'a, A>, Error<A>> {
+    validator.payload(&payload)
+}
+
+/// Checks the module payload by payload, and each body as it comes, in the same memory.
 fn load<A: Allocator + Copy>(alloc: A, bytes: &[u8]) -> Result<Option<Loaded<A>>, Error<A>> {
     let mut validator = Validator::new(alloc, ValidatorId::from_number(0));
     let mut payloads = Parser::new(alloc, 0).parse_all(bytes);
@@ -28,7 +36,7 @@ fn load<A: Allocator + Copy>(alloc: A, bytes: &[u8]) -> Result<Option<Loaded<A>>
         let Some(payload) = payloads.next_payload()? else {
             break;
         };
-        match validator.payload(&payload)? {
+        match check_payload(&mut validator, payload)? {
             ValidPayload::Ok => {}
             ValidPayload::Func(function, body) => {
                 allocations = function.validate(&body, allocations)?;
@@ -49,6 +57,6 @@ pub fn run<R: Print + AllocGlobal>(rt: &R) -> io::Result<()> {
             println!(rt; "{functions} function, {bodies} body")
         }
         Ok(None) => println!(rt; "the module has no end"),
-        Err(error) => println!(rt; "refused at {}: {error}", error.offset()),
+        Err(error) => print_refusal(rt, &error),
     }
 }

@@ -2,6 +2,7 @@
 //! own name, whatever its module's name is, and linked where the type of what is found matches the
 //! type that is asked for (Core Specification 3.0, Validation, Matching, External Types).
 
+use crate::refusals::print_refusal;
 use std::alloc::Allocator;
 use std::io;
 use wasm_validator::{EntityType, Error, TypeList, Types, Validator, ValidatorId};
@@ -54,15 +55,30 @@ fn print_links<A: Allocator + Copy, R: Print>(
         None => return Ok(()),
     };
     'imports: for (_, name, asked) in imports {
-        match exported(exporter, name) {
-            Some(given) if may_be_linked(shown.type_list(), given, asked) => {
-                println!(rt; "{name} {asked}: linked to {given}")?
-            }
-            Some(given) => println!(rt; "{name} {asked}: not linked to {given}")?,
-            None => println!(rt; "{name} {asked}: not exported")?,
-        }
+        let given = exported(exporter, name);
+        print_link(rt, shown.type_list(), name, asked, given)?;
     }
     Ok(())
+}
+
+/// Prints what an import of this name and type is linked to, where it may be linked to what is
+/// exported.
+fn print_link<A: Allocator + Copy, R: Print>(
+    rt: &R,
+    list: &TypeList<A>,
+    name: &str,
+    asked: EntityType,
+    given: Option<EntityType>,
+) -> io::Result<()> {
+    let Some(given) = given else {
+        return println!(rt; "{name} {asked}: not exported");
+    };
+    let linked = if may_be_linked(list, given, asked) {
+        "linked"
+    } else {
+        "not linked"
+    };
+    println!(rt; "{name} {asked}: {linked} to {given}")
 }
 
 /// Checks both modules by one validator, so that one list has the types of both.
@@ -80,6 +96,6 @@ fn check<A: Allocator + Copy>(alloc: A) -> Result<(Types<A>, Types<A>), Error<A>
 pub fn run<R: Print + AllocGlobal>(rt: &R) -> io::Result<()> {
     match check(rt.alloc()) {
         Ok((exporter, importer)) => print_links(rt, &exporter, &importer),
-        Err(error) => println!(rt; "refused at {}: {error}", error.offset()),
+        Err(error) => print_refusal(rt, &error),
     }
 }

@@ -9,6 +9,7 @@ mod interpreter;
 mod linker;
 mod own_look_ups;
 mod proved_linker;
+mod refusals;
 
 use std::io;
 

@@ -24,18 +24,14 @@ fn signature<A: Allocator + Copy>(alloc: A) -> Result<FuncType<A>, AllocError> {
     Ok(FuncType::new(params, results))
 }
 
-/// Validates the body of function 0 in a module of two functions.
-fn validate_body<A: Allocator + Copy>(alloc: A, bytes: &[u8]) -> Result<(), BodyError> {
-    let ty = SubType::func(alloc, signature(alloc)?, false);
-    let module = OwnModule {
-        ty: &ty,
-        functions: &[0, 0],
-        tables: &[],
-        memories: &[],
-        globals: &[],
-    };
+/// Validates the body of function 0 in this module.
+fn validate_body<A: Allocator + Copy>(
+    alloc: A,
+    module: &OwnModule<'_, A>,
+    bytes: &[u8],
+) -> Result<(), BodyError> {
     let function = FuncToValidate {
-        resources: &module,
+        resources: module,
         index: 0,
         ty: 0,
         features: WasmFeatures::STANDARD,
@@ -45,10 +41,23 @@ fn validate_body<A: Allocator + Copy>(alloc: A, bytes: &[u8]) -> Result<(), Body
     Ok(())
 }
 
+/// Validates the body of function 0 in a module of two functions of one type.
+fn validate_in_module<A: Allocator + Copy>(alloc: A, bytes: &[u8]) -> Result<(), BodyError> {
+    let ty = SubType::func(alloc, signature(alloc)?, false);
+    let module = OwnModule {
+        ty: &ty,
+        functions: &[0, 0],
+        tables: &[],
+        memories: &[],
+        globals: &[],
+    };
+    validate_body(alloc, &module, bytes)
+}
+
 /// Prints whether each body is valid.
 pub fn run<R: Print + AllocGlobal>(rt: &R) -> io::Result<()> {
     for bytes in [DOUBLE, UNBALANCED] {
-        match validate_body(rt.alloc(), bytes) {
+        match validate_in_module(rt.alloc(), bytes) {
             Ok(()) => println!(rt; "the body is valid")?,
             Err(error) => println!(rt; "the body is refused at byte {}: {error}", error.offset())?,
         }
