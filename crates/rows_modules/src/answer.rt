@@ -1,7 +1,6 @@
 use wasm_validator::{Error, Types};
 
 /// What a validator answers to a module or to a call.
-#[derive(Drop)]
 pub enum Answer {
     /// It is accepted, and gives nothing.
     Accepted,
@@ -24,6 +23,18 @@ pub struct HandedOut {
     pub refusal: Option<Error>,
 }
 
+// By hand: so each way out takes one call for it, and not a step for each part.
+impl Drop for Answer {
+    fn drop(self) {
+        match self {
+            Answer::Accepted | Answer::Nothing(_) => {}
+            Answer::Ended(_types) => {}
+            Answer::HandedOut(_function) => {}
+            Answer::Refused(_error) => {}
+        }
+    }
+}
+
 impl Answer {
     /// The answer of a section.
     pub fn of_section(given: Result<(), Error>) -> Answer {
@@ -38,6 +49,14 @@ impl Answer {
         match given {
             Ok(types) => Answer::Ended(types),
             Err(error) => Answer::Refused(error),
+        }
+    }
+
+    /// The types of the module that has ended, if one has.
+    pub fn into_types(self) -> Option<Types> {
+        match self {
+            Answer::Ended(types) => Some(types),
+            _ => None,
         }
     }
 }

@@ -1,7 +1,7 @@
 use crate::answer::{Answer, HandedOut};
 use crate::bytes::parse_bytes;
 use crate::row::Trouble;
-use crate::words::split_word;
+use crate::text::split_word;
 use std::alloc::{Allocator, Global};
 use std::ops::Range;
 use wasm_validator::{
@@ -19,18 +19,9 @@ pub fn answer_call(
 ) -> Result<Answer, Trouble> {
     let (name, arguments) = split_word(text);
     match name {
-        "reset" => {
-            check_no_more(arguments)?;
-            Ok(reset(validator))
-        }
+        "reset" => reset(validator, arguments),
         "types" => look(validator, arguments),
-        "kept" => {
-            check_no_more(arguments)?;
-            Ok(match kept.take() {
-                Some(types) => Answer::Ended(types),
-                None => Answer::Nothing("nothing kept"),
-            })
-        }
+        "kept" => take(kept, arguments),
         "module" => {
             let bytes = parse_bytes(alloc, arguments)?;
             Ok(Answer::of_end(validator.validate_all(bytes.as_slice())))
@@ -55,12 +46,22 @@ fn check_no_more(arguments: &str) -> Result<(), Trouble> {
 }
 
 /// Makes the validator ready for another module, where it may be.
-fn reset(validator: &mut Validator) -> Answer {
+fn reset(validator: &mut Validator, arguments: &str) -> Result<Answer, Trouble> {
+    check_no_more(arguments)?;
     if validator.can_reset() {
         validator.reset();
-        Answer::Accepted
+        Ok(Answer::Accepted)
     } else {
-        Answer::Nothing("no reset")
+        Ok(Answer::Nothing("no reset"))
+    }
+}
+
+/// Takes the types of the module that was accepted last.
+fn take(kept: &mut Option<Types>, arguments: &str) -> Result<Answer, Trouble> {
+    check_no_more(arguments)?;
+    match kept.take() {
+        Some(types) => Ok(Answer::Ended(types)),
+        None => Ok(Answer::Nothing("nothing kept")),
     }
 }
 

@@ -2,9 +2,8 @@ use crate::answer::{Answer, HandedOut};
 use crate::features::name_of;
 use crate::row::Trouble;
 use crate::shown::push_shown;
-use crate::words::split_word;
+use crate::text::{push_behind, split_word};
 use std::alloc::AllocError;
-use std::fmt::Write;
 use wasm_validator::{Error, Validator};
 
 /// Adds the verdict, and behind it each of the wanted facts as it is.
@@ -42,8 +41,8 @@ fn push_refusal(text: &mut String, error: &Error, wanted: &str) -> Result<(), Tr
     }
     text.push_str("refused")?;
     if wanted != "refused" {
-        let offset = error.offset();
-        write!(text, " {offset} {error}")?;
+        push_behind(text, " ", error.offset())?;
+        push_behind(text, " ", error)?;
     }
     Ok(())
 }
@@ -56,38 +55,42 @@ fn push_fact(
     fact: &str,
 ) -> Result<(), Trouble> {
     let (name, wanted) = split_word(fact);
-    match name {
-        "can_reset" => push_flag(text, name, validator.can_reset())?,
-        "has_failed" => push_flag(text, name, validator.has_failed())?,
-        "level_0" => push_flag(text, name, validator.types(0).is_some())?,
-        "level_1" => push_flag(text, name, validator.types(1).is_some())?,
-        "state" => push_state(text, validator)?,
-        _ => match answer {
-            Answer::Ended(types) => push_shown(text, &types.as_ref(), name)?,
-            Answer::Refused(error) if name == "missing" => push_missing(text, error)?,
-            Answer::HandedOut(function) => push_handed_out(text, function, name, wanted)?,
-            _ => push_being_read(text, validator, name)?,
-        },
+    if let Some(flag) = flag_of(validator, name) {
+        text.push_str(name)?;
+        return Ok(push_behind(text, " ", flag)?);
     }
-    Ok(())
+    if name == "state" {
+        return Ok(text.push_str(state_of(validator))?);
+    }
+    match answer {
+        Answer::Ended(types) => push_shown(text, &types.as_ref(), name),
+        Answer::Refused(error) if name == "missing" => push_missing(text, error),
+        Answer::HandedOut(function) => push_handed_out(text, function, name, wanted),
+        _ => push_being_read(text, validator, name),
+    }
 }
 
-fn push_flag(text: &mut String, name: &str, flag: bool) -> Result<(), AllocError> {
-    write!(text, "{name} {flag}")
+/// The fact of this name on the validator, if it is one that is true or false.
+fn flag_of(validator: &Validator, name: &str) -> Option<bool> {
+    match name {
+        "can_reset" => Some(validator.can_reset()),
+        "has_failed" => Some(validator.has_failed()),
+        "level_0" => Some(validator.types(0).is_some()),
+        "level_1" => Some(validator.types(1).is_some()),
+        _ => None,
+    }
 }
 
-/// Adds what can be seen of the validator's state: `ready` before a header and after the end,
-/// `reading` in a module, `failed` after a section that was refused.
-fn push_state(text: &mut String, validator: &Validator) -> Result<(), AllocError> {
+/// What can be seen of the validator's state: `ready` before a header and after the end, `reading`
+/// in a module, `failed` after a section that was refused.
+fn state_of(validator: &Validator) -> &'static str {
     let has_types = (validator.types(0).is_some(), validator.types(1).is_some());
-    text.push_str(
-        match (validator.can_reset(), validator.has_failed(), has_types) {
-            (true, false, (false, false)) => "state ready",
-            (false, false, (true, false)) => "state reading",
-            (false, true, (false, false)) => "state failed",
-            _ => "state unknown",
-        },
-    )
+    match (validator.can_reset(), validator.has_failed(), has_types) {
+        (true, false, (false, false)) => "state ready",
+        (false, false, (true, false)) => "state reading",
+        (false, true, (false, false)) => "state failed",
+        _ => "state unknown",
+    }
 }
 
 /// Adds the feature that a refusal names.
@@ -117,19 +120,14 @@ fn push_handed_out(
     text.push_str(name)?;
     text.push_str(" ")?;
     match name {
-        "index" => push_index(text, function.index)?,
-        "type_index" => push_index(text, function.type_index)?,
+        "index" => Ok(text.write(function.index)?),
+        "type_index" => Ok(text.write(function.type_index)?),
         "body" => match &function.refusal {
-            None => text.push_str("ok")?,
-            Some(error) => push_refusal(text, error, wanted)?,
+            None => Ok(text.push_str("ok")?),
+            Some(error) => push_refusal(text, error, wanted),
         },
-        _ => return Err(Trouble::Malformed("an unknown fact of a function")),
+        _ => Err(Trouble::Malformed("an unknown fact of a function")),
     }
-    Ok(())
-}
-
-fn push_index(text: &mut String, index: u32) -> Result<(), AllocError> {
-    write!(text, "{index}")
 }
 
 /// Adds the fact of this name on the module that is being read.

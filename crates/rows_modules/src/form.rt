@@ -1,5 +1,5 @@
 use crate::row::Trouble;
-use crate::words::split_word;
+use crate::text::split_word;
 
 /// What the parts of a row are, each of which comes before what is wanted of it.
 #[derive(Clone, Copy)]
@@ -8,10 +8,12 @@ pub enum Form {
     Modules,
     /// Calls, with nothing between.
     Calls,
-    /// The first bytes of a module, as many as this number.
-    Front(usize),
-    /// A module whose byte at this offset is replaced by this one.
-    Changed(usize, u8),
+    /// The first bytes of a module, as many as the row's number.
+    Fronts,
+    /// A module whose byte at the offset that is the row's number is 0xff instead.
+    WithFf,
+    /// The same with 0.
+    WithZero,
 }
 
 impl Form {
@@ -31,30 +33,20 @@ impl Form {
         }
     }
 
-    /// The same with this number, if it has one.
-    pub fn with_number(self, number: usize) -> Form {
-        match self {
-            Form::Front(_) => Form::Front(number),
-            Form::Changed(_, byte) => Form::Changed(number, byte),
-            form => form,
-        }
-    }
-
     /// Cuts the bytes of a module, or replaces one of them, where the form says so.
-    pub fn change(self, bytes: &mut Vec<u8>) -> Result<(), Trouble> {
+    pub fn change(self, number: usize, bytes: &mut Vec<u8>) -> Result<(), Trouble> {
         match self {
-            Form::Front(number) if number < bytes.len() => bytes.truncate(number),
-            Form::Changed(offset, byte) if offset < bytes.len() => bytes[offset] = byte,
-            Form::Front(_) | Form::Changed(..) => {
-                return Err(Trouble::Malformed("fewer bytes than that"));
-            }
             Form::Modules | Form::Calls => {}
+            Form::Fronts if number < bytes.len() => bytes.truncate(number),
+            Form::WithFf if number < bytes.len() => bytes[number] = 0xff,
+            Form::WithZero if number < bytes.len() => bytes[number] = 0,
+            _ => return Err(Trouble::Malformed("fewer bytes than that")),
         }
         Ok(())
     }
 }
 
-/// A form, with the first and the last number that it is to have.
+/// A form, with the first and the last of the row's numbers.
 pub type Forms = (Form, usize, usize);
 
 /// What the text before a row's name says of its form, if it says anything: `calls`, or `fronts`,
@@ -63,9 +55,9 @@ pub fn forms_of(head: &str) -> Option<Forms> {
     let (word, numbers) = split_word(head);
     let form = match word {
         "calls" if numbers.is_empty() => return Some((Form::Calls, 0, 0)),
-        "fronts" => Form::Front(0),
-        "ff" => Form::Changed(0, 0xff),
-        "00" => Form::Changed(0, 0),
+        "fronts" => Form::Fronts,
+        "ff" => Form::WithFf,
+        "00" => Form::WithZero,
         _ => return None,
     };
     let (first, last) = numbers.split_once(" to ")?;

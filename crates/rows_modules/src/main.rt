@@ -12,7 +12,6 @@ mod row;
 mod run;
 mod shown;
 mod text;
-mod words;
 
 use run::{Input, print_error, run};
 use std::alloc::Global;

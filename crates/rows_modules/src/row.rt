@@ -4,8 +4,8 @@ use crate::call::answer_call;
 use crate::facts::push_answer;
 use crate::features::parse_features;
 use crate::form::{Form, Forms, forms_of};
+use crate::text::push_behind;
 use std::alloc::{AllocError, Global};
-use std::fmt::Write;
 use wasm_validator::{Types, Validator, ValidatorId};
 
 /// Why nothing can be said of a row.
@@ -114,12 +114,12 @@ fn reason(alloc: Global, line: &str) -> Result<&'static str, AllocError> {
 /// Gives the parts of a row to a validator of its own for each of its numbers, up to the first
 /// answer that isn't right; what is given then ends with the number, where there are several.
 fn row_difference<'a>(alloc: Global, row: Row<'a>) -> Result<Option<Difference<'a>>, Trouble> {
-    let (form, first, last) = row.forms;
+    let (_, first, last) = row.forms;
     for number in first..last.saturating_add(1) {
-        let difference = first_difference(alloc, row, form.with_number(number))?;
+        let difference = first_difference(alloc, row, number)?;
         if let Some(Difference { wanted, mut given }) = difference {
             if first < last {
-                write!(given, ", at {number}")?;
+                push_behind(&mut given, ", at ", number)?;
             }
             return Ok(Some(Difference { wanted, given }));
         }
@@ -128,31 +128,56 @@ fn row_difference<'a>(alloc: Global, row: Row<'a>) -> Result<Option<Difference<'
 }
 
 /// What the parts of a row are given to.
-#[derive(Drop)]
 struct Bench {
+    form: Form,
+    number: usize,
     validator: Validator,
     /// The types of the module that was accepted last.
     kept: Option<Types>,
 }
 
-/// Gives the parts of a row to one validator, up to the first whose answer isn't right.
+// By hand: so each way out takes one call for it, and not a step for each field.
+impl Drop for Bench {
+    fn drop(self) {
+        let Bench {
+            form: _,
+            number: _,
+            validator: _,
+            kept: _,
+        } = self;
+    }
+}
+
+/// Gives the parts of a row to a validator of its own for this number, up to the first whose answer
+/// isn't right.
 fn first_difference<'a>(
     alloc: Global,
     row: Row<'a>,
-    form: Form,
+    number: usize,
 ) -> Result<Option<Difference<'a>>, Trouble> {
     let features = parse_features(row.features.trim())?;
     let mut bench = Bench {
+        form: row.forms.0,
+        number,
         validator: Validator::new_with_features(alloc, features, ValidatorId::from_number(0)),
         kept: None,
     };
+    difference_among_parts(alloc, &mut bench, row.parts)
+}
+
+/// Gives parts, each before what is wanted of it, to one validator, up to the first whose answer
+/// isn't right.
+fn difference_among_parts<'a>(
+    alloc: Global,
+    bench: &mut Bench,
+    parts: &'a str,
+) -> Result<Option<Difference<'a>>, Trouble> {
     let mut before: Option<&'a str> = None;
-    'parts: for text in row.parts.split(" | ") {
+    'parts: for text in parts.split(" | ") {
         match before {
             None => before = Some(text.trim()),
             Some(part) => {
-                let wanted = text.trim();
-                let difference = difference_among(alloc, &mut bench, form, part, wanted)?;
+                let difference = difference_among_times(alloc, bench, part, text.trim())?;
                 if difference.is_some() {
                     return Ok(difference);
                 }
@@ -162,23 +187,23 @@ fn first_difference<'a>(
     }
     match before {
         None => Ok(None),
-        Some(_) => Err(Trouble::Malformed(form.without_answer())),
+        Some(_) => Err(Trouble::Malformed(bench.form.without_answer())),
     }
 }
 
 /// Gives a part to the validator as often as it is to be, up to the first time that its answer
-/// isn't right.
-fn difference_among<'a>(
+/// isn't right: the named answer where that must not be given, or another one where it is wanted.
+fn difference_among_times<'a>(
     alloc: Global,
     bench: &mut Bench,
-    form: Form,
     part: &'a str,
     wanted: &'a str,
 ) -> Result<Option<Difference<'a>>, Trouble> {
     let (times, once) = times_of(part)?;
+    let (named, is_wanted) = named_by(wanted);
     'times: for _ in 0..times {
-        let given = answer(alloc, bench, form, once, named(wanted))?;
-        if !is_right(wanted, given.as_str()) {
+        let given = answer(alloc, bench, once, named)?;
+        if (given.as_str() == named) != is_wanted {
             return Ok(Some(Difference { wanted, given }));
         }
     }
@@ -196,59 +221,40 @@ fn times_of(part: &str) -> Result<(u32, &str), Trouble> {
     }
 }
 
-/// The answer that the wanted part of a row names, wanted or not.
-fn named(wanted: &str) -> &str {
+/// The answer that the wanted part of a row names, and whether it is wanted, or must not be given.
+fn named_by(wanted: &str) -> (&str, bool) {
     match wanted.strip_prefix(NOT) {
-        Some(unwanted) => unwanted,
-        None => wanted,
+        Some(unwanted) => (unwanted, false),
+        None => (wanted, true),
     }
 }
 
-/// Whether an answer is right: it is the named one exactly where that is wanted.
-fn is_right(wanted: &str, given: &str) -> bool {
-    match wanted.strip_prefix(NOT) {
-        Some(unwanted) => given != unwanted,
-        None => given == wanted,
-    }
-}
-
-/// What the validator says of this part: its verdict, and the facts that are wanted, as text.
-fn answer(
-    alloc: Global,
-    bench: &mut Bench,
-    form: Form,
-    part: &str,
-    wanted: &str,
-) -> Result<String, Trouble> {
-    let answer = match form {
+/// What the validator says of this part: its verdict, and the facts that are named, as text.
+fn answer(alloc: Global, bench: &mut Bench, part: &str, named: &str) -> Result<String, Trouble> {
+    let answer = match bench.form {
         Form::Calls => answer_call(alloc, &mut bench.validator, &mut bench.kept, part)?,
-        _ => answer_module(alloc, &mut bench.validator, form, part)?,
+        _ => answer_module(alloc, bench, part)?,
     };
     let mut text = String::new(alloc);
-    push_answer(&mut text, &answer, &bench.validator, wanted)?;
+    push_answer(&mut text, &answer, &bench.validator, named)?;
     keep(&mut bench.kept, answer);
     Ok(text)
 }
 
 /// Keeps the types of a module that was accepted.
 fn keep(kept: &mut Option<Types>, answer: Answer) {
-    if let Answer::Ended(types) = answer {
+    if let Some(types) = answer.into_types() {
         *kept = Some(types);
     }
 }
 
 /// What the validator says of the module that these bytes are, cut or changed where the form says
 /// so.
-fn answer_module(
-    alloc: Global,
-    validator: &mut Validator,
-    form: Form,
-    bytes: &str,
-) -> Result<Answer, Trouble> {
+fn answer_module(alloc: Global, bench: &mut Bench, bytes: &str) -> Result<Answer, Trouble> {
     let mut bytes = parse_bytes(alloc, bytes)?;
-    form.change(&mut bytes)?;
-    if validator.can_reset() {
-        validator.reset();
+    bench.form.change(bench.number, &mut bytes)?;
+    if bench.validator.can_reset() {
+        bench.validator.reset();
     }
-    Ok(Answer::of_end(validator.validate_all(bytes.as_slice())))
+    Ok(Answer::of_end(bench.validator.validate_all(bytes.as_slice())))
 }
