@@ -6,6 +6,8 @@ mod files;
 #[cfg(test)]
 mod items;
 #[cfg(test)]
+mod lists;
+#[cfg(test)]
 mod owned;
 #[cfg(test)]
 mod types;
