@@ -1,11 +1,12 @@
 //! Validators of bodies, where a request for memory is refused.
 
 use crate::heap::{Plan, count_refused, grant_all, refuse_all};
-use crate::outcome::{After, Wrong};
-use std::alloc::{AllocError, Allocator, Global};
+use crate::modules::give;
+use crate::outcome::{After, Checked, Outcome, Wrong, accept, check_no_request, settle};
+use crate::shown::{Written, push};
+use std::alloc::{Allocator, Global};
 use std::cell::Cell;
-use std::fmt::Write;
-use wasm_validator::{
+use wasm_validate_files::validator::{
     BinaryReader, BodyError, ConstantOperator, Fault, FuncValidator, FuncValidatorAllocations,
     FunctionBody, ModuleArity, Operator, OperatorRule, Parser, ValType, ValidPayload, Validator,
     ValidatorId, ValidatorResources, WasmModuleResources, operator_arity, read_operator,
@@ -37,29 +38,20 @@ pub enum Calls {
 }
 
 /// The validator of the body of the function, at its start, and the body.
-fn begin<A: Allocator + Copy>(
-    alloc: A,
-) -> Result<
-    (
-        FuncValidator<ValidatorResources<A>, A>,
-        FunctionBody<'static>,
-    ),
-    Wrong,
-> {
+type Begun<A> = (
+    FuncValidator<ValidatorResources<A>, A>,
+    FunctionBody<'static>,
+);
+
+/// Begins with the body of the function.
+fn begin<A: Allocator + Copy>(alloc: A) -> Result<Begun<A>, Wrong> {
     let mut validator = Validator::new(alloc, ValidatorId::from_number(0));
     for given in Parser::new(alloc, 0).parse_all(BODY) {
-        let Ok(payload) = given else {
-            return Err(Wrong::AnotherVerdict);
-        };
-        match validator.payload(&payload) {
-            Ok(ValidPayload::Func(function, body)) => {
-                return match function.into_validator(FuncValidatorAllocations::new(alloc)) {
-                    Ok(begun) => Ok((begun, body)),
-                    Err(_) => Err(Wrong::AnotherVerdict),
-                };
-            }
-            Ok(_) => {}
-            Err(_) => return Err(Wrong::AnotherVerdict),
+        if let Ok(ValidPayload::Func(function, body)) = give(&mut validator, given) {
+            return match function.into_validator(FuncValidatorAllocations::new(alloc)) {
+                Ok(begun) => Ok((begun, body)),
+                Err(_) => Err(Wrong::AnotherVerdict),
+            };
         }
     }
     Err(Wrong::AnotherVerdict)
@@ -79,19 +71,15 @@ fn is_failed(answer: Result<(), BodyError>) -> bool {
 fn check_failed<T: WasmModuleResources, A: Allocator>(
     validator: &mut FuncValidator<T, A>,
     body: &FunctionBody<'_>,
-) -> Result<After, Wrong> {
+) -> Outcome {
     let mut reader = body.get_binary_reader();
     let are_refused = validator.has_failed()
-        && is_failed(validator.op(0, &ONE))
-        && is_failed(validator.try_op(0, &ONE))
-        && is_failed(validator.define_locals(0, 1, ValType::I32))
-        && is_failed(validator.read_locals(&mut reader))
-        && is_failed(validator.validate(body));
-    if are_refused {
-        Ok(After::Failed)
-    } else {
-        Err(Wrong::AnotherState)
-    }
+        & is_failed(validator.op(0, &ONE))
+        & is_failed(validator.try_op(0, &ONE))
+        & is_failed(validator.define_locals(0, 1, ValType::I32))
+        & is_failed(validator.read_locals(&mut reader))
+        & is_failed(validator.validate(body));
+    settle(are_refused, After::Failed, Wrong::AnotherState)
 }
 
 /// Declares locals of a body and takes each of its operators.
@@ -123,172 +111,187 @@ fn define_locals<T: WasmModuleResources, A: Allocator>(
     Ok(())
 }
 
+/// Makes the calls of a validator of bodies.
+fn make_calls<T: WasmModuleResources, A: Allocator>(
+    validator: &mut FuncValidator<T, A>,
+    body: &FunctionBody<'_>,
+    calls: Calls,
+) -> Result<(), BodyError> {
+    match calls {
+        Calls::Op => give_operators(validator, body),
+        Calls::DefineLocals => define_locals(validator),
+        Calls::Validate => validator.validate(body),
+    }
+}
+
 /// Makes calls of a validator of bodies. Where a request was refused, the call is, and the
 /// validator has failed.
-pub fn check_calls<A: Allocator + Copy>(
-    alloc: A,
-    plan: &Cell<Plan>,
-    calls: Calls,
-) -> Result<After, Wrong> {
+pub fn check_calls<A: Allocator + Copy>(alloc: A, plan: &Cell<Plan>, calls: Calls) -> Outcome {
     let wanted = plan.get();
     grant_all(plan);
     let (mut validator, body) = begin(alloc)?;
     plan.set(wanted);
-    let answer = match calls {
-        Calls::Op => give_operators(&mut validator, &body),
-        Calls::DefineLocals => define_locals(&mut validator),
-        Calls::Validate => validator.validate(&body),
-    };
+    let answer = make_calls(&mut validator, &body, calls);
     let is_refused = count_refused(plan) > 0;
     grant_all(plan);
     match answer {
-        Ok(()) => if is_refused {
-            Err(Wrong::AnotherAnswer)
-        } else {
-            Ok(After::Ended)
-        },
         Err(BodyError::OutOfMemory) => check_failed(&mut validator, &body),
+        Ok(()) => settle(!is_refused, After::Ended, Wrong::AnotherAnswer),
         Err(_) => Err(Wrong::AnotherVerdict),
     }
 }
 
-/// Adds what a validator of bodies answers on its module, for the arities of operators.
-fn push_arities<T: WasmModuleResources, A: Allocator>(
-    state: &mut String,
+/// Adds what a validator of bodies answers on its module.
+fn push_module<T: WasmModuleResources, A: Allocator>(
+    found: &mut String,
     validator: &FuncValidator<T, A>,
-) -> Result<(), AllocError> {
-    let has_type = ModuleArity::sub_type_at(validator, 0).is_some();
-    let tag = ModuleArity::tag_type_arity(validator, 0);
-    let ty = ModuleArity::type_index_of_function(validator, 0);
-    let label = ModuleArity::label_block(validator, 0);
-    let arity = operator_arity(&ONE, validator);
-    write!(state, ", {has_type} {tag:?} {ty:?} {label:?} {arity:?}")
+) -> Written {
+    push(
+        found,
+        &(
+            validator.index(),
+            validator.has_failed(),
+            validator.features(),
+        ),
+    )?;
+    push(
+        found,
+        &(
+            ModuleArity::sub_type_at(validator, 0).is_some(),
+            ModuleArity::tag_type_arity(validator, 0),
+            ModuleArity::type_index_of_function(validator, 0),
+            ModuleArity::label_block(validator, 0),
+            operator_arity(&ONE, validator),
+        ),
+    )
 }
 
-/// The locals, operands and frames of a validator of bodies, and all else that it
-/// answers.
-fn state<T: WasmModuleResources, A: Allocator>(
-    text: Global,
+/// Adds the locals, operands and frames of a validator of bodies.
+fn push_stacks<T: WasmModuleResources, A: Allocator>(
+    found: &mut String,
     validator: &FuncValidator<T, A>,
-) -> Result<String, AllocError> {
-    let (index, failed) = (validator.index(), validator.has_failed());
-    let mut state = format!(in text;
-        "function {index}, failed {failed}, {:?}",
-        validator.features()
-    )?;
-    push_arities(&mut state, validator)?;
-    state.push_str(", locals")?;
+) -> Written {
     for index in 0..validator.len_locals() {
-        write!(state, " {:?}", validator.get_local_type(index))?;
+        push(found, &validator.get_local_type(index))?;
     }
-    state.push_str(", operands")?;
+    found.push_str(", operands")?;
     for depth in 0..validator.operand_stack_height() {
-        write!(state, " {:?}", validator.get_operand_type(depth as usize))?;
+        push(found, &validator.get_operand_type(depth as usize))?;
     }
-    state.push_str(", frames")?;
+    found.push_str(", frames")?;
     for depth in 0..validator.control_stack_height() {
         if let Some(frame) = validator.get_control_frame(depth as usize) {
-            let (kind, ty) = (frame.kind, frame.block_type);
-            let (height, init_height) = (frame.height, frame.init_height);
-            write!(
-                state,
-                " {kind:?} {ty:?} {height} {init_height} {}",
-                frame.unreachable
-            )?;
-        }
-    }
-    Ok(state)
-}
-
-/// Accepts that memory was refused to `try_op`, and that the validator is as before.
-fn check_kept<T: WasmModuleResources, A: Allocator>(
-    text: Global,
-    validator: &FuncValidator<T, A>,
-    tried: Result<(), BodyError>,
-    before: &str,
-) -> Result<(), Wrong> {
-    match tried {
-        Err(BodyError::OutOfMemory) => {
-            if state(text, validator)?.as_str() == before {
-                Ok(())
-            } else {
-                Err(Wrong::Changed)
-            }
-        }
-        _ => Err(Wrong::AnotherAnswer),
-    }
-}
-
-/// Tries each operator of a body. Where a request was refused, the operator is, all is as before,
-/// and the same operator is accepted then.
-fn try_operators<T: WasmModuleResources, A: Allocator>(
-    plan: &Cell<Plan>,
-    text: Global,
-    validator: &mut FuncValidator<T, A>,
-    reader: &mut BinaryReader<'_>,
-) -> Result<(), Wrong> {
-    for _ in 0..reader.bytes_remaining() {
-        if reader.eof() {
-            break;
-        }
-        let offset = reader.original_position();
-        let Ok(operator) = read_operator(reader) else {
-            return Err(Wrong::AnotherVerdict);
-        };
-        let before = state(text, validator)?;
-        let refused = count_refused(plan);
-        let tried = validator.try_op(offset, &operator);
-        if count_refused(plan) != refused {
-            grant_all(plan);
-            check_kept(text, validator, tried, before.as_str())?;
-            if validator.try_op(offset, &operator).is_err() {
-                return Err(Wrong::RefusedAgain);
-            }
-        } else if tried.is_err() {
-            return Err(Wrong::AnotherVerdict);
+            push(found, &(frame.kind, frame.block_type, frame.height))?;
+            push(found, &(frame.init_height, frame.unreachable))?;
         }
     }
     Ok(())
 }
 
-/// Tries each operator of a body, whose locals are declared with ample memory.
-pub fn check_tries<A: Allocator + Copy>(
-    alloc: A,
+/// Writes the state of a validator of bodies, and all else that it answers, in place of a text.
+fn write_state<T: WasmModuleResources, A: Allocator>(
+    found: &mut String,
+    validator: &FuncValidator<T, A>,
+) -> Written {
+    found.clear();
+    push_module(found, validator)?;
+    push_stacks(found, validator)
+}
+
+/// The state of a validator of bodies before and after a call.
+#[derive(Drop)]
+struct States {
+    before: String,
+    after: String,
+}
+
+/// Accepts that memory was refused to `try_op`, and that the validator is as before.
+fn check_kept<T: WasmModuleResources, A: Allocator>(
+    states: &mut States,
+    validator: &FuncValidator<T, A>,
+    tried: Result<(), BodyError>,
+) -> Checked {
+    if !matches!(tried, Err(BodyError::OutOfMemory)) {
+        return Err(Wrong::AnotherAnswer);
+    }
+    write_state(&mut states.after, validator)?;
+    accept(
+        states.before.as_str() == states.after.as_str(),
+        Wrong::Changed,
+    )
+}
+
+/// Tries the next operator of a body. Where a request was refused, the operator is, all is as
+/// before, and the same operator is accepted then.
+fn try_operator<T: WasmModuleResources, A: Allocator>(
     plan: &Cell<Plan>,
-    text: Global,
-) -> Result<After, Wrong> {
+    states: &mut States,
+    validator: &mut FuncValidator<T, A>,
+    reader: &mut BinaryReader<'_>,
+) -> Checked {
+    let offset = reader.original_position();
+    let Ok(operator) = read_operator(reader) else {
+        return Err(Wrong::AnotherVerdict);
+    };
+    write_state(&mut states.before, validator)?;
+    let refused = count_refused(plan);
+    let tried = validator.try_op(offset, &operator);
+    if count_refused(plan) == refused {
+        return accept(tried.is_ok(), Wrong::AnotherVerdict);
+    }
+    grant_all(plan);
+    check_kept(states, validator, tried)?;
+    let again = validator.try_op(offset, &operator);
+    accept(again.is_ok(), Wrong::RefusedAgain)
+}
+
+/// Tries each operator of a body.
+fn try_operators<T: WasmModuleResources, A: Allocator>(
+    plan: &Cell<Plan>,
+    states: &mut States,
+    validator: &mut FuncValidator<T, A>,
+    reader: &mut BinaryReader<'_>,
+) -> Checked {
+    for _ in 0..reader.bytes_remaining() {
+        if reader.eof() {
+            break;
+        }
+        try_operator(plan, states, validator, reader)?;
+    }
+    Ok(())
+}
+
+/// Tries each operator of a body, whose locals are declared with ample memory.
+pub fn check_tries<A: Allocator + Copy>(alloc: A, plan: &Cell<Plan>, text: Global) -> Outcome {
     let wanted = plan.get();
     grant_all(plan);
     let (mut validator, body) = begin(alloc)?;
     let mut reader = body.get_binary_reader();
-    if validator.read_locals(&mut reader).is_err() {
-        return Err(Wrong::AnotherVerdict);
-    }
+    let are_read = validator.read_locals(&mut reader).is_ok();
     plan.set(wanted);
-    try_operators(plan, text, &mut validator, &mut reader)?;
-    Ok(After::Unchanged)
+    let mut states = States {
+        before: String::new(text),
+        after: String::new(text),
+    };
+    try_operators(plan, &mut states, &mut validator, &mut reader)?;
+    settle(are_read, After::Unchanged, Wrong::AnotherVerdict)
 }
 
 /// Makes the queries of a validator of bodies, with ample memory and with none: the answers are
 /// the same, and no memory is asked for.
-pub fn check_queries<A: Allocator + Copy>(
-    alloc: A,
-    plan: &Cell<Plan>,
-    text: Global,
-) -> Result<(), Wrong> {
+pub fn check_queries<A: Allocator + Copy>(alloc: A, plan: &Cell<Plan>, text: Global) -> Checked {
     grant_all(plan);
     let (mut validator, _) = begin(alloc)?;
-    if define_locals(&mut validator).is_err() || validator.op(0, &ONE).is_err() {
-        return Err(Wrong::AnotherVerdict);
-    }
-    let ample = state(text, &validator)?;
+    let mut states = States {
+        before: String::new(text),
+        after: String::new(text),
+    };
+    let is_begun = define_locals(&mut validator).is_ok() & validator.op(0, &ONE).is_ok();
+    write_state(&mut states.before, &validator)?;
     refuse_all(plan);
-    let without = state(text, &validator)?;
-    let is_same = ample.as_str() == without.as_str() && count_refused(plan) == 0;
-    grant_all(plan);
-    if is_same {
-        Ok(())
-    } else {
-        Err(Wrong::TakesMemory)
-    }
+    write_state(&mut states.after, &validator)?;
+    check_no_request(
+        plan,
+        is_begun & (states.before.as_str() == states.after.as_str()),
+    )
 }

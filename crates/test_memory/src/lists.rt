@@ -1,13 +1,12 @@
 //! Lists that are kept and values that are shared, where a request for memory is refused.
 
 use crate::heap::{Plan, count_refused, grant_all};
-use crate::outcome::{After, Wrong};
+use crate::outcome::{After, Wrong, accept, settle};
 use std::alloc::Allocator;
 use std::cell::Cell;
-use wasm_validator::{FuncType, MaybeOwned, SnapshotList, TypeList};
+use wasm_validate_files::validator::{FuncType, MaybeOwned, SnapshotList, TypeList};
 
-/// How many snapshots are taken: so many that the parts of the list are gathered, and what is
-/// gathered is joined.
+/// How many snapshots are taken: enough that parts of the list are gathered, and joined.
 const SNAPSHOTS: u32 = 34;
 
 /// Whether the list has the numbers from 0 up to this one.
@@ -29,30 +28,26 @@ fn push<A: Allocator + Copy>(
 ) -> Result<(), Wrong> {
     let (length, refused) = (list.len(), count_refused(plan));
     let Err(failed) = list.push(number) else {
-        if count_refused(plan) == refused {
-            return Ok(());
-        }
-        return Err(Wrong::AnotherAnswer);
+        return accept(count_refused(plan) == refused, Wrong::AnotherAnswer);
     };
     grant_all(plan);
     if failed.value != number || list.len() != length {
         return Err(Wrong::Changed);
     }
-    match list.push(number) {
-        Ok(()) => Ok(()),
-        Err(_) => Err(Wrong::RefusedAgain),
-    }
+    accept(list.push(number).is_ok(), Wrong::RefusedAgain)
 }
 
-/// A snapshot of the numbers up to this one. Where memory for it was refused, there is none, the list
-/// is unchanged, and the next one is equal. Where memory to join parts of the list was refused, they
-/// stay apart, and the snapshot is taken.
+/// A snapshot of the numbers up to this one. Where a request was refused, also one to join parts of
+/// the list, there is none, the list is unchanged, and the next one is equal.
 fn snapshot<A: Allocator + Copy>(
     plan: &Cell<Plan>,
     list: &mut SnapshotList<u32, A>,
     last: u32,
 ) -> Result<SnapshotList<u32, A>, Wrong> {
-    if let Ok(copy) = list.commit() {
+    let (refused, first) = (count_refused(plan), list.commit());
+    let is_right = first.is_ok() == (count_refused(plan) == refused);
+    accept(is_right, Wrong::AnotherAnswer)?;
+    if let Ok(copy) = first {
         return Ok(copy);
     }
     grant_all(plan);
@@ -101,10 +96,8 @@ pub fn check_types<A: Allocator + Copy>(alloc: A, plan: &Cell<Plan>) -> Result<A
     let Ok(copy) = list.commit() else {
         return Err(Wrong::RefusedAgain);
     };
-    if copy.len() != 1 || copy.is_open() || copy.get(id).is_none() {
-        return Err(Wrong::Changed);
-    }
-    Ok(After::Unchanged)
+    let is_same = copy.len() == 1 && !copy.is_open() && copy.get(id).is_some();
+    settle(is_same, After::Unchanged, Wrong::Changed)
 }
 
 /// Shares a value. Where a request was refused, it is lost and can't be written, or it is still
@@ -123,8 +116,6 @@ pub fn check_share<A: Allocator + Copy>(alloc: A, plan: &Cell<Plan>) -> Result<A
     if value.is_lost() {
         return Ok(After::Failed);
     }
-    if value.arc(alloc).is_err() || *value != 3 || value.as_mut().is_some() {
-        return Err(Wrong::RefusedAgain);
-    }
-    Ok(After::Unchanged)
+    let is_shared = value.arc(alloc).is_ok() && *value == 3 && value.as_mut().is_none();
+    settle(is_shared, After::Unchanged, Wrong::RefusedAgain)
 }

@@ -1,9 +1,11 @@
 //! What is found where requests for memory are refused.
 
+use crate::heap::{Plan, count_refused, grant_all};
 use std::alloc::AllocError;
+use std::cell::Cell;
 
 /// Where a refused request leaves what was called.
-#[derive(Clone, Copy, PartialEq, Eq, Debug)]
+#[derive(Clone, Copy)]
 pub enum After {
     /// As it was.
     Unchanged,
@@ -16,7 +18,7 @@ pub enum After {
 }
 
 /// What is wrong.
-#[derive(Clone, Copy, PartialEq, Eq, Debug)]
+#[derive(Clone, Copy, Debug)]
 pub enum Wrong {
     /// A request was refused, and the answer isn't that memory is.
     AnotherAnswer,
@@ -40,8 +42,31 @@ impl From<AllocError> for Wrong {
     }
 }
 
+/// Accepts that all is right and no memory was asked for.
+pub fn check_no_request(plan: &Cell<Plan>, is_right: bool) -> Checked {
+    let asks = count_refused(plan) > 0;
+    grant_all(plan);
+    accept(is_right && !asks, Wrong::TakesMemory)
+}
+
+/// Accepts what is right.
+pub fn accept(is_right: bool, wrong: Wrong) -> Checked {
+    if is_right { Ok(()) } else { Err(wrong) }
+}
+
+/// Where what is right leaves what was called.
+pub fn settle(is_right: bool, after: After, wrong: Wrong) -> Outcome {
+    if is_right { Ok(after) } else { Err(wrong) }
+}
+
+/// Where a refused request left what was called, or what is wrong.
+pub type Outcome = Result<After, Wrong>;
+
+/// What a check answers.
+pub type Checked = Result<(), Wrong>;
+
 /// How many refused requests left what was called where, and how many runs were wrong.
-#[derive(Clone, Copy, PartialEq, Eq, Default)]
+#[derive(Clone, Copy, PartialEq, Debug, Default)]
 pub struct Tally {
     pub unchanged: u64,
     pub failed: u64,
@@ -52,7 +77,7 @@ pub struct Tally {
 
 impl Tally {
     /// With a run that met a refusal.
-    pub fn with(self, outcome: Result<After, Wrong>) -> Tally {
+    pub fn with(self, outcome: Outcome) -> Tally {
         let mut tally = self;
         match outcome {
             Ok(After::Unchanged) => tally.unchanged = tally.unchanged.saturating_add(1),

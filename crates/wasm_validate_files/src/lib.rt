@@ -16,6 +16,7 @@ use std::env::Env;
 use std::fs;
 use std::io::{self, Write};
 use std::rt::Files;
+pub use wasm_validator as validator;
 use words::{Word, read_words};
 
 /// Reads the files that the arguments name, and validates them, as [`run`] says. The answer is the
@@ -71,12 +72,4 @@ fn read_file<R: Files + AllocGlobal>(rt: &R, word: Word) -> Result<Input, AllocE
             }
         },
     }
-}
-
-/// Passed on from `wasm_validator`.
-pub mod validator {
-    pub use wasm_validator::{
-        EntityType, Error, MaybeOwned, Module, TypeList, Types, ValidatorId, WasmFeatures,
-        canonicalize_and_intern_rec_group, validate,
-    };
 }
