@@ -10,10 +10,7 @@ import sys
 
 ROOT = os.path.dirname(os.path.dirname(os.path.abspath(__file__)))
 MOST_WALKS, MOST_CRATES, MOST_LINES, MOST_FUNCTIONS = 3_000, 60, 1_500, 110
-# What crates.txt names for a crate though no file of it does. Without that word the crate and all above it would be proved anew for nothing, so
-# the word goes when the crate changes.
-NEEDLESS = {("wasm_validator_core", "core")}
-LAYERS = ("wasm_spec", "wasm_readers", "wasm_operator", "wasm_parser", "wasm_validat", "wasm_laws_", "rows_", "test_", "bench_", "examples")
+LAYERS = ("wasm_spec", "wasm_readers", "wasm_operator", "wasm_parser", "wasm_validat", "wasm_laws_", "rows_", "test_", "examples")
 
 
 def read(path):
@@ -91,10 +88,8 @@ def main():
             wrong.append(f"{name}: {lines} lines and {functions} functions, more than {MOST_LINES} or {MOST_FUNCTIONS}")
         for it in words_of[name]:
             is_named = re.search(rf"\b(?:{it}::|Rattle\.{it}\.)", whole[name])
-            if not is_named and (name, it) not in NEEDLESS:
+            if not is_named:
                 wrong.append(f"{name}: it names {it}, and no file of it does")
-            if is_named and (name, it) in NEEDLESS:
-                wrong.append(f"{name}: a file of it names {it}, so that NEEDLESS of this script need not")
         passed = passed_on(name, texts)
         count_passed += len(passed)
         if name.startswith("wasm_laws_") and any(it.startswith("code/") for it, _ in passed):

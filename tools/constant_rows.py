@@ -164,10 +164,10 @@ def ends():
     case('an initializer that is cut off in an operator', raw(6, bytes.fromhex('017f0041')), wanted='refused')
     case('an initializer of an unknown operator', raw(6, bytes.fromhex('017f00ff0b')), wanted='refused')
     case('two globals of which one is there', raw(6, bytes.fromhex('027f0041010b')))
-    case('no globals', raw(6, bytes.fromhex('00')), facts='globals i32, mut i32, (ref null func), i64')
+    case('no globals', raw(6, bytes.fromhex('00')), facts='globals i32, (mut i32), funcref, i64')
     case('a global of no value type', raw(6, bytes.fromhex('01010041010b')), wanted='refused')
     case('a global of a wrong mutability', raw(6, bytes.fromhex('017f0441010b')), wanted='refused')
-    case('globals behind imported ones', module(globals=[('mut:f32', 'f32.const 1'), ('?2', 'ref.null 2')]), facts='globals i32, mut i32, (ref null func), i64, mut f32, (ref null 2)')
+    case('globals behind imported ones', module(globals=[('mut:f32', 'f32.const 1'), ('?2', 'ref.null 2')]), facts='globals i32, (mut i32), funcref, i64, (mut f32), (ref null (id 2))')
 
 
 # ------------------------------------------------------------------------------------------------- tables
@@ -179,7 +179,7 @@ def tables():
                            ('a type of its own', '!0', 'ref.func 0'), ('another type than its own', '!1', 'ref.func 0'),
                            ('a number', 'funcref', 'i32.const 1'), ('nothing', 'funcref', '')]:
         case('a table whose entries begin with %s' % title, module(tables=[(ty + ' 1 2', ops)]))
-    case('a table of 64-bit addresses whose entries begin with null', module(tables=[('funcref i64 1', 'ref.null func')]), facts='tables i64 (ref null func) 1..')
+    case('a table of 64-bit addresses whose entries begin with null', module(tables=[('funcref i64 1', 'ref.null func')]), facts='tables i64 1 funcref')
     # what tables see of globals: the imported ones
     begins = at(module(tables=[('funcref 1', 'global.get 2')]), 4, 3 + len(W.tabletype('funcref 1')))
     case('a table whose entries begin with an imported global', module(tables=[('funcref 1', 'global.get 2')]), wanted='ok')
@@ -189,7 +189,7 @@ def tables():
     case('a table whose entries begin with a global that is not there', module(tables=[('funcref 1', 'global.get 9')]), wanted='refused %d unknown global 9: global index out of bounds' % begins)
     case('a table whose entries begin with a global that is defined', module(tables=[('funcref 1', 'global.get 4')], globals=[('funcref', 'ref.null func')]),
          wanted='refused %d unknown global 4: global index out of bounds' % begins)
-    case('tables with and without initializers', module(tables=['funcref 1', ('!func 2', 'ref.func 1'), 'externref 3']), facts='tables (ref null func) 1.., (ref func) 2.., (ref null extern) 3..')
+    case('tables with and without initializers', module(tables=['funcref 1', ('!func 2', 'ref.func 1'), 'externref 3']), facts='tables 1 funcref, 2 (ref func), 3 externref')
     case('a table with an initializer without function_references', W.build(tables=[('funcref 1', 'ref.null func')]), 'all-function_references',
          'refused %d tables with expression initializers require the function-references proposal; missing function_references' % at(W.build(tables=[('funcref 1', 'ref.null func')]), 4, 1))
     case('a table that may not be null, without an initializer', module(tables=['!func 1']))
@@ -208,18 +208,18 @@ def elements():
         element('%s of functions' % named, dict(mode=mode, funcs=[0, 1], **words), facts='elements (ref func)')
         element('%s of no functions' % named, dict(mode=mode, funcs=[], **words), facts='elements (ref func)')
         element('%s of a function that is not there' % named, dict(mode=mode, funcs=[0, 2], **words))
-        element('%s of expressions' % named, dict(mode=mode, type=None if mode == 'active' and not words else 'funcref', exprs=['ref.func 0', 'ref.null func'], **words), facts='elements (ref null func)')
+        element('%s of expressions' % named, dict(mode=mode, type=None if mode == 'active' and not words else 'funcref', exprs=['ref.func 0', 'ref.null func'], **words), facts='elements funcref')
         element('%s of an expression of another type' % named, dict(mode=mode, type=None if mode == 'active' and not words else 'funcref', exprs=['ref.func 0', 'ref.null extern'], **words))
         if mode != 'active' or words:
             element('%s of expressions that are never null' % named, dict(mode=mode, type='!func', exprs=['ref.func 0'], **words), facts='elements (ref func)')
             element('%s of an expression that may be null and must not' % named, dict(mode=mode, type='!func', exprs=['ref.null func'], **words))
-            element('%s of expressions of a type by its index' % named, dict(mode=mode, type='!0', exprs=['ref.func 0'], **words), facts='elements (ref 0)')
+            element('%s of expressions of a type by its index' % named, dict(mode=mode, type='!0', exprs=['ref.func 0'], **words), facts='elements (ref (id 0))')
             element('%s of expressions of a type that is not there' % named, dict(mode=mode, type='!9', exprs=[], **words), wanted='refused; missing nothing')
     element('an active list for a table that is not there', dict(funcs=[0]), tables=())
     element('an active list for a second table', dict(table=1, funcs=[0]), tables=('externref 1', 'funcref 1'), facts='elements (ref func)')
     element('an active list for a second table that is not there', dict(table=1, funcs=[0]))
     element('an active list of functions for a table of external references', dict(funcs=[0]), tables=('externref 1',))
-    element('an active list for a table of a supertype', dict(table=0, type='!0', exprs=['ref.func 0']), facts='elements (ref 0)')
+    element('an active list for a table of a supertype', dict(table=0, type='!0', exprs=['ref.func 0']), facts='elements (ref (id 0))')
     element('an active list for a table of a subtype', dict(table=0, type='funcref', exprs=['ref.func 0']), tables=('?0 1',))
     element('an active list that may be null for a table that may not', dict(table=0, type='funcref', exprs=['ref.func 0']), tables=(('!func 1', 'ref.func 0'),))
     element('an active list of functions for a table that may not be null', dict(funcs=[0]), tables=(('!func 1', 'ref.func 0'),), facts='elements (ref func)')
@@ -230,7 +230,7 @@ def elements():
     element('an offset by an imported global of another type', dict(off='global.get 3', funcs=[0]))
     element('an offset by a mutable global', dict(off='global.get 1', funcs=[0]))
     element('an offset by a global that is defined', dict(off='global.get 4', funcs=[0]), globals=[('i32', 'i32.const 1')])
-    element('an item by a global that is defined', dict(mode='passive', type='funcref', exprs=['global.get 4']), globals=[('funcref', 'ref.func 0')], facts='elements (ref null func)')
+    element('an item by a global that is defined', dict(mode='passive', type='funcref', exprs=['global.get 4']), globals=[('funcref', 'ref.func 0')], facts='elements funcref')
     element('an offset by nothing', dict(off='', funcs=[0]))
     element('an offset by two numbers', dict(off='i32.const 0; i32.const 0', funcs=[0]))
     element('an offset by an operator that is never constant', dict(off='i32.const 0; i32.eqz', funcs=[0]))
@@ -239,7 +239,7 @@ def elements():
     element('items of another kind than functions', b'\x01\x01\x00', wanted='refused')
     element('an item list that is cut off', b'\x01\x00\x02\x00', wanted='refused')
     case('three segments', module(tables=['funcref 1'], elems=[dict(mode='passive', funcs=[0]), dict(mode='declared', type='externref', exprs=[]), dict(funcs=[1])]),
-         facts='elements (ref func), (ref null extern), (ref func)')
+         facts='elements (ref func), externref, (ref func)')
     plain = dict(imports=[('m', 'f', 'func', '->')], tables=['funcref 1'])
     for mode in ['passive', 'declared']:
         b = W.build(elems=[dict(mode=mode, funcs=[0])], **plain)

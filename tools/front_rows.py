@@ -119,7 +119,7 @@ FRONTS = [
     Module('two groups of two', TWO, places=True),
     Module('four types, the last a sub type', FOUR, places=True),
     Module('imports, an export and a start', IMPORT + ' 08 01 00', places=True, facts={
-        14: 'types 0', 23: 'types 0; functions 0; imports a b func 0', 30: 'types 0; functions 0; imports a b func 0; exports c func 0'}),
+        14: 'types 0', 23: 'types 0; functions 0; imports a b (func (id 0))', 30: 'types 0; functions 0; imports a b (func (id 0)); exports c (func (id 0))'}),
     Module('a chain of 64 types', SHORT_CHAIN),
     Module('a chain of 65 types', LONG_CHAIN, refused_in_section=True),
     Module('three imports, two of one name', THREE_IMPORTS),

@@ -229,7 +229,7 @@ def by_bytes():
     given('a function that a body alone names is not referenced', ('01 04 01 60 00 00 03 02 01 00 0a 07 01 05 00 d2 00 1a 0b',
           'refused 23 undeclared function reference; missing nothing; can_reset true; has_failed false'))
     given('a function that an export names is referenced', ('01 04 01 60 00 00 03 02 01 00 07 05 01 01 61 00 00 0a 07 01 05 00 d2 00 1a 0b',
-                                                            'ok; exports a func 0'))
+                                                            'ok; exports a (func (id 0))'))
     given('a sum of two parameters', ('01 07 01 60 02 7f 7f 01 7f 03 02 01 00 0a 09 01 07 00 20 00 20 01 6a 0b', 'ok; types 0; functions 0'))
     given('a call, an if that gives a reference and a branch',
           ('01 14 03 5f 02 7f 00 7f 00 60 02 7f 7f 01 7f 60 02 7f 7f 01 63 00 03 03 02 01 02 0a 21 02 07 00 20 00'
@@ -256,7 +256,7 @@ def by_bytes():
     given('one of each item',
           ('01 0c 02 60 02 7f 7e 01 7f 60 02 7e 7f 00 03 02 01 00 04 04 01 70 00 0a 05 04 01 01 01 05 0d 03 01 00 01 06 06 01 7f 01 41 00 0b 09 07 01 05 70 01'
           'd2 00 0b 0a 06 01 04 00 41 00 0b',
-          'ok; types 0 1; functions 0; imports; exports; tables (ref null func) 10..; memories 1..5; globals mut i32; tags 1; elements (ref null func)'))
+          'ok; types 0 1; functions 0; imports; exports; tables 10 funcref; memories 1 5; globals (mut i32); tags 1; elements funcref'))
     given('throw without exceptions', ('01 04 01 60 00 00 03 02 01 00 0a 06 01 04 00 08 00 0b',
           'refused 23 exceptions support is not enabled; missing exceptions; can_reset true'), features='default-exceptions')
     given('a refused body between two modules', (NO_TYPES, 'ok; types 0'),
@@ -542,7 +542,7 @@ def accesses():
     for op, before in [('memory.size 0', ''), ('memory.grow 0', 'i32.const 1'), ('memory.fill 0', 'unreachable'), ('memory.copy 0 0', 'unreachable')]:
         asked('%s without a memory' % op.split()[0], '; '.join(x for x in (before, op) if x))
     valid('an imported memory is the first', 'i32.const 0; i32.load 0:0; drop; i64.const 0; i32.load 0:0:1; drop', imports=[('m', 'm', 'memory', '1')],
-          mems=['i64 1'], facts='memories 1.., i64 1..')
+          mems=['i64 1'], facts='memories 1, i64 1')
     passive = dict(mems=['1'], datas=[dict(mode='passive')])
     valid('memory.init with its count of data', 'i32.const 0; i32.const 0; i32.const 1; memory.init 0 0; data.drop 0', datacount=1, **passive)
     asked('memory.init without a count of data', 'i32.const 0; i32.const 0; i32.const 1; memory.init 0 0', **passive)
