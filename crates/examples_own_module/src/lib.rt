@@ -2,7 +2,6 @@
 //! functions are validated.
 #![tactic(auto)]
 
-mod heap_types;
 mod own_module;
 
 pub use own_module::OwnModule;

@@ -14,14 +14,13 @@ ghost use Rattle.wasm_readers_types.specs.WasmReadersValues.SeenValues.{abstract
 ghost use Rattle.wasm_validator_resources.specs.Answers.{world, same_index, written_index, IsWritten};
 ghost use Rattle.examples_own_module.specs.Contexts.{only_id};
 
-use crate::heap_types::{abstract_matches, abstract_top, same_flag};
 use std::alloc::Allocator;
 use wasm_readers_errors::{Fault, Refusal};
 use wasm_readers_types::{
     AbstractHeapType, CoreTypeId, FuncType, GlobalType, HeapType, MemoryType, RefType, SubType,
-    TableType, UnpackedIndex, ValType,
+    TableType, UnpackedIndex, ValType, same_flag,
 };
-use wasm_validator_resources::WasmModuleResources;
+use wasm_validator_resources::{WasmModuleResources, same_index};
 
 /// A module whose one type is a function's, with these functions, tables, memories and globals.
 #[derive(Drop)]
@@ -40,18 +39,6 @@ pub struct OwnModule<'a, A: Allocator> {
     ghost unshared: { (sub_of ty.now).shared ≡ false },
     ghost function: { kind_of (sub_of ty.now).comp ≡ func_heap },
     ghost bottom: { bottom_of (sub_of ty.now).comp ≡ nofunc_heap },
-}
-
-/// Whether two identities are of one form, with the same number.
-fn same_index(a: UnpackedIndex, b: UnpackedIndex) -> bool
-    ensures { result ≡ same_index a b }
-{
-    match (a, b) {
-        (UnpackedIndex::Module(a), UnpackedIndex::Module(b)) => a == b,
-        (UnpackedIndex::RecGroup(a), UnpackedIndex::RecGroup(b)) => a == b,
-        (UnpackedIndex::Id(a), UnpackedIndex::Id(b)) => a.index() == b.index(),
-        _ => false,
-    }
 }
 
 /// Whether this is the identity of the one type.
@@ -82,7 +69,7 @@ impl<'a, A: Allocator> OwnModule<'a, A> {
     ghost use Rattle.examples_own_module.specs.Seen.{seen};
 
     /// What the identity declares, if it does.
-    fn declared(&self, index: UnpackedIndex) -> Option<&SubType<A>>
+    fn type_for(&self, index: UnpackedIndex) -> Option<&SubType<A>>
         ensures { option_map (λ t. sub_of t.now) result ≡ (world (seen self.now)).declared index }
     {
         if is_only(index) { Some(self.ty) } else { None }
@@ -121,7 +108,7 @@ impl<'a, A: Allocator> OwnModule<'a, A> {
             HeapType::Abstract {
                 shared: other_shared,
                 ty: other,
-            } => same_flag(shared, other_shared) && abstract_matches(ty, other),
+            } => same_flag(shared, other_shared) && ty.is_subtype_of(other),
             HeapType::Concrete(index) | HeapType::Exact(index) => self.is_bottom(shared, ty, index),
         }
     }
@@ -167,7 +154,7 @@ impl<'a, A: Allocator> OwnModule<'a, A> {
     }
 
     /// The identity of the type that is written so.
-    fn resolved(&self, written: UnpackedIndex, offset: u64) -> Result<CoreTypeId, Refusal>
+    fn resolve(&self, written: UnpackedIndex, offset: u64) -> Result<CoreTypeId, Refusal>
         requires { IsWritten written }
         ensures ok { IfOk result (λ id. slice_get (seen self.now).types (written_index written)
             ≡ Some (Id id)) }
@@ -260,7 +247,7 @@ impl<'a, A: Allocator> WasmModuleResources for OwnModule<'a, A> {
     fn is_shared(&self, ty: RefType) -> bool {
         match ty.heap_type() {
             HeapType::Abstract { shared, .. } => shared,
-            HeapType::Concrete(index) | HeapType::Exact(index) => match self.declared(index) {
+            HeapType::Concrete(index) | HeapType::Exact(index) => match self.type_for(index) {
                 Some(sub) => sub.composite_type.shared,
                 None => false,
             },
@@ -271,11 +258,11 @@ impl<'a, A: Allocator> WasmModuleResources for OwnModule<'a, A> {
         match *heap_type {
             HeapType::Abstract { .. } => {}
             HeapType::Concrete(written) => {
-                let id = self.resolved(written, offset)?;
+                let id = self.resolve(written, offset)?;
                 *heap_type = HeapType::Concrete(UnpackedIndex::Id(id));
             }
             HeapType::Exact(written) => {
-                let id = self.resolved(written, offset)?;
+                let id = self.resolve(written, offset)?;
                 *heap_type = HeapType::Exact(UnpackedIndex::Id(id));
             }
         }
@@ -286,7 +273,7 @@ impl<'a, A: Allocator> WasmModuleResources for OwnModule<'a, A> {
         match *heap_type {
             HeapType::Abstract { shared, ty } => HeapType::Abstract {
                 shared,
-                ty: abstract_top(ty),
+                ty: ty.top(),
             },
             HeapType::Concrete(_) | HeapType::Exact(_) => HeapType::Abstract {
                 shared: false,

@@ -12,8 +12,8 @@ use Rattle.wasm_readers_types.specs.WasmReadersValues.declared.indices.CoreTypeI
 use Rattle.wasm_readers_types.specs.declared.types.SubType.{SubType}
 use Rattle.wasm_readers_types.specs.WasmReadersValues.declared.indices.UnpackedIndex.{UnpackedIndex}
 use Rattle.wasm_readers_types.specs.WasmReadersValues.declared.indices.UnpackedIndex.TheVariants.{Module, RecGroup, Id}
-use Rattle.wasm_validator_resources.specs.Answers.{same_index}
-use Rattle.test_resources.specs.SampleContexts.{id_of, under_ids, ids_of}
+use Rattle.wasm_validator_resources.specs.Answers.{id_of, same_index}
+use Rattle.test_resources.specs.SampleContexts.{under_ids, ids_of}
 
 not_true : (b : Bool) → (b ≡ true → ⊥) → b ≡ false
 not_true true h = absurd (h refl)

@@ -8,14 +8,9 @@ use Rattle.wasm_readers_types.specs.SeenExterns.{table_of, memory_of, global_of}
 use Rattle.wasm_readers_types.specs.SeenTypes.{sub_of}
 use Rattle.wasm_readers_types.specs.WasmReadersValues.SeenValues.{ref_of}
 use Rattle.wasm_readers_types.specs.WasmReadersValues.declared.indices.UnpackedIndex.{UnpackedIndex}
-use Rattle.wasm_readers_types.specs.WasmReadersValues.declared.indices.UnpackedIndex.TheVariants.{Id}
-use Rattle.wasm_validator_resources.specs.Answers.{world}
+use Rattle.wasm_validator_resources.specs.Answers.{id_of, world}
 use Rattle.test_resources.specs.declared.parts.SampleFunction.{SampleFunction}
 use Rattle.test_resources.specs.declared.parts.SampleParts.{SampleParts}
-
--- the id with this number
-abbrev pub id_of : ℕ → UnpackedIndex
-id_of n = Id (record { index = n })
 
 -- these sub types under the ids from this number on
 abbrev pub under_ids : ℕ → List (Sub UnpackedIndex) → List (UnpackedIndex × Sub UnpackedIndex)

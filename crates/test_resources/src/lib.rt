@@ -2,7 +2,6 @@
 //! without a module (Core Specification 3.0, Validation, Conventions, Contexts).
 #![tactic(auto)]
 
-mod heaps;
 mod parts;
 mod resources;
 

@@ -13,15 +13,16 @@ ghost use Rattle.wasm_readers_types.specs.WasmReadersValues.declared.indices.Unp
 ghost use Rattle.wasm_validator_resources.specs.Answers.{world, same_index, written_index, IsWritten};
 ghost use Rattle.test_resources.specs.SampleContexts.{sample_context, supertype_in};
 
-use crate::heaps::{is_below_kind, is_of_kind, kind, matches_abstract, same_flag, same_index, top};
 use crate::parts::SampleParts;
 use std::alloc::Allocator;
 use wasm_readers_errors::{Fault, Refusal};
 use wasm_readers_types::{
     AbstractHeapType, CompositeInnerType, CoreTypeId, FuncType, GlobalType, HeapType, MAX_IDS,
-    MemoryType, RefType, SubType, TableType, UnpackedIndex, ValType,
+    MemoryType, RefType, SubType, TableType, UnpackedIndex, ValType, same_flag,
 };
-use wasm_validator_resources::WasmModuleResources;
+use wasm_validator_resources::{
+    WasmModuleResources, is_above_bottom, is_shared, matches_kind, same_index,
+};
 
 /// The look-ups of a sample. Its types are identities by their indices.
 #[derive(Drop)]
@@ -59,7 +60,7 @@ impl<'a, A: Allocator> SampleResources<'a, A> {
     }
 
     /// What the type is that this stands for, if it stands for one.
-    fn declared(&self, index: UnpackedIndex) -> Option<&SubType<A>>
+    fn type_for(&self, index: UnpackedIndex) -> Option<&SubType<A>>
         ensures { option_map (λ t. sub_of t.now) result
             ≡ (world (sample_context self.now.parts)).declared index }
     {
@@ -73,7 +74,7 @@ impl<'a, A: Allocator> SampleResources<'a, A> {
     fn supertype(&self, index: UnpackedIndex) -> Option<UnpackedIndex>
         ensures { result ≡ supertype_in (sample_context self.now.parts) index }
     {
-        let sub = self.declared(index)?;
+        let sub = self.type_for(index)?;
         let first = sub.supertype_idxs.as_slice().first()?;
         Some(first.unpack())
     }
@@ -111,9 +112,9 @@ impl<'a, A: Allocator> SampleResources<'a, A> {
             HeapType::Abstract {
                 shared: other_shared,
                 ty: other,
-            } => same_flag(shared, other_shared) && matches_abstract(ty, other),
+            } => same_flag(shared, other_shared) && ty.is_subtype_of(other),
             HeapType::Concrete(index) | HeapType::Exact(index) => {
-                is_below_kind(self.declared(index), shared, ty)
+                is_above_bottom(self.type_for(index), shared, ty)
             }
         }
     }
@@ -124,7 +125,7 @@ impl<'a, A: Allocator> SampleResources<'a, A> {
             (heap_of b) }
     {
         match b {
-            HeapType::Abstract { shared, ty } => is_of_kind(self.declared(a), shared, ty),
+            HeapType::Abstract { shared, ty } => matches_kind(self.type_for(a), shared, ty),
             HeapType::Concrete(index) => self.is_below(a, index),
             HeapType::Exact(_) => false,
         }
@@ -136,7 +137,7 @@ impl<'a, A: Allocator> SampleResources<'a, A> {
             (heap_of b) }
     {
         match b {
-            HeapType::Abstract { shared, ty } => is_of_kind(self.declared(a), shared, ty),
+            HeapType::Abstract { shared, ty } => matches_kind(self.type_for(a), shared, ty),
             HeapType::Concrete(index) => self.is_below(a, index),
             HeapType::Exact(index) => same_index(a, index),
         }
@@ -163,7 +164,7 @@ impl<'a, A: Allocator> SampleResources<'a, A> {
     }
 
     /// The id of the type that is written so in the module.
-    fn resolved(&self, written: UnpackedIndex, offset: u64) -> Result<CoreTypeId, Refusal>
+    fn resolve(&self, written: UnpackedIndex, offset: u64) -> Result<CoreTypeId, Refusal>
         requires { IsWritten written }
         ensures ok { IfOk result (λ id. slice_get (sample_context self.now.parts).types
             (written_index written) ≡ Some (Id id)) }
@@ -218,13 +219,13 @@ impl<'a, A: Allocator> WasmModuleResources for SampleResources<'a, A> {
 
     fn sub_type_at(&self, type_index: u32) -> Option<&SubType<A>> {
         match self.type_id_at(type_index) {
-            Some(id) => self.declared(UnpackedIndex::Id(id)),
+            Some(id) => self.type_for(UnpackedIndex::Id(id)),
             None => None,
         }
     }
 
     fn sub_type_at_id(&self, id: CoreTypeId) -> &SubType<A> {
-        match self.declared(UnpackedIndex::Id(id)) {
+        match self.type_for(UnpackedIndex::Id(id)) {
             Some(ty) => ty,
             None => unreachable!(),
         }
@@ -266,10 +267,7 @@ impl<'a, A: Allocator> WasmModuleResources for SampleResources<'a, A> {
     fn is_shared(&self, ty: RefType) -> bool {
         match ty.heap_type() {
             HeapType::Abstract { shared, .. } => shared,
-            HeapType::Concrete(index) | HeapType::Exact(index) => match self.declared(index) {
-                Some(sub) => sub.composite_type.shared,
-                None => false,
-            },
+            HeapType::Concrete(index) | HeapType::Exact(index) => is_shared(self.type_for(index)),
         }
     }
 
@@ -277,11 +275,11 @@ impl<'a, A: Allocator> WasmModuleResources for SampleResources<'a, A> {
         match *heap_type {
             HeapType::Abstract { .. } => {}
             HeapType::Concrete(written) => {
-                let id = self.resolved(written, offset)?;
+                let id = self.resolve(written, offset)?;
                 *heap_type = HeapType::Concrete(UnpackedIndex::Id(id));
             }
             HeapType::Exact(written) => {
-                let id = self.resolved(written, offset)?;
+                let id = self.resolve(written, offset)?;
                 *heap_type = HeapType::Exact(UnpackedIndex::Id(id));
             }
         }
@@ -292,12 +290,12 @@ impl<'a, A: Allocator> WasmModuleResources for SampleResources<'a, A> {
         match *heap_type {
             HeapType::Abstract { shared, ty } => HeapType::Abstract {
                 shared,
-                ty: top(ty),
+                ty: ty.top(),
             },
-            HeapType::Concrete(index) | HeapType::Exact(index) => match self.declared(index) {
+            HeapType::Concrete(index) | HeapType::Exact(index) => match self.type_for(index) {
                 Some(sub) => HeapType::Abstract {
                     shared: sub.composite_type.shared,
-                    ty: top(kind(&sub.composite_type.inner)),
+                    ty: sub.composite_type.inner.kind().top(),
                 },
                 None => unreachable!(),
             },

@@ -17,7 +17,7 @@ use Rattle.wasm_validator_type_list.specs.Declares.{sub_by_ids, declares}
 use Rattle.wasm_validator_type_list.proofs.Declares.{declared_by}
 use Rattle.wasm_validator_type_list.proofs.Lookups.{first_of-next}
 use Rattle.wasm_validator_type_list.proofs.DefTypes.{first_of-within, length-def_types}
-use Rattle.wasm_validator_canonical.proofs.ValidAlone.{refs_sub-map}
+use Rattle.wasm_spec.proofs.Shifting.{refs_sub-map}
 
 led_below : (start count end : ℕ) (r : UnpackedIndex) → start + count ≤ end → IsKnown start count r → leads_to start r < end
 led_below start count end (Module i) h k = absurd k

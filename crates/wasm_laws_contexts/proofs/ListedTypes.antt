@@ -10,12 +10,13 @@ use Rattle.std.proofs.lemmas.Option.{same_Some, slice_get_within, get_or_from_sl
 use base.Stored.{Gv, gnil, gnum, gcons}
 use Rattle.wasm_spec.specs.Syntax.{Sub, map_sub}
 use Rattle.wasm_spec.specs.References.{refs_sub}
-use Rattle.wasm_spec.specs.Trees.{DefType, declared, rec_tree, no_uses}
+use Rattle.wasm_spec.specs.Trees.{DefType, declared}
 use Rattle.wasm_spec.specs.TreeCode.{coded_type}
 use Rattle.wasm_spec.specs.TypeLaws.{HasNoRepetition}
 use Rattle.wasm_spec.proofs.Agreement.{agree_sub}
 use Rattle.wasm_spec.proofs.SyntaxMaps.{map_sub-map}
 use Rattle.wasm_spec_rules.specs.Contexts.{declares_at}
+use Rattle.wasm_spec_rules.specs.IndexSpaces.{nowhere}
 use Rattle.wasm_readers_types.specs.SeenTypes.{sub_of}
 use Rattle.wasm_readers_types.specs.WasmReadersValues.declared.indices.UnpackedIndex.{UnpackedIndex}
 use Rattle.wasm_readers_types.specs.WasmReadersValues.declared.indices.UnpackedIndex.TheVariants.{Module, RecGroup, Id}
@@ -80,9 +81,6 @@ number_by ts t d (suc k) false e g rest = rest k g
 number-there : (ts : List DefType) (d : DefType) (k : ℕ) → slice_get ts k ≡ Some d → slice_get ts (number_in ts d) ≡ Some d
 number-there [] d k g = none d g
 number-there (t ∷ ts) d k g = number_by ts t d k (same_type t d) refl g (number-there ts d)
-
-abbrev nowhere : DefType
-nowhere = record { tree = rec_tree None [] no_uses; position = 0 }
 
 module _ (us : List DefType) (once : HasNoRepetition us) where
   -- where no type has two ids, it is the id

@@ -26,7 +26,7 @@ use Rattle.wasm_validator_type_list.proofs.Lookups.{group_found}
 use Rattle.wasm_validator_type_list.proofs.Declares.{descends}
 use Rattle.wasm_validator_type_list.proofs.DefTypes.{length-def_types}
 use Rattle.wasm_validator_type_list.proofs.Joined.{length-subs, types_declare_what_ids_declare}
-use Rattle.wasm_validator_canonical.proofs.ValidAlone.{refs_sub-map}
+use Rattle.wasm_spec.proofs.Shifting.{refs_sub-map}
 use Rattle.wasm_validator_core_resources.specs.ListContexts.{under_ids, list_declares}
 use Rattle.wasm_validator_core_resources.specs.IndexContexts.{id_of, same_index}
 use Rattle.wasm_validator_core_resources.proofs.Listed.{lists_are_listed}

@@ -2,6 +2,7 @@
 use Rattle.std.proofs.Common.{◌≡◌, ℕ, Bool, true, false, ◌&&◌, List, [], ◌∷◌, refl, ◌∙◌}
 use Rattle.std.specs.Option.{option_map}
 use Rattle.std.specs.Prelude.{Option, Some, None, slice_get, Err}
+use Rattle.std.proofs.Math.Bool.{and-true}
 use Rattle.wasm_spec.specs.MatchingTests.{World, same_flag, matches_val}
 use Rattle.wasm_spec.specs.Syntax.{Ref, Val, i32, concrete, reference, Field}
 use Rattle.wasm_operator_checks.specs.WasmSpecRules.Contexts.{Context}
@@ -22,15 +23,11 @@ use Rattle.wasm_operator_checks.specs.DeclaredTypes.{element_in, Barred, is_off,
 use Rattle.wasm_operator_checks.proofs.Naming.{nullable_resolved, i32_resolved, more_typed}
 use Rattle.wasm_operator_arrays.specs.Segments.{segment_matches}
 
-and_true : (b : Bool) → (b && true) ≡ b
-and_true true = refl
-and_true false = refl
-
 -- the references of a segment, as lists of one type
 one_matches : (W : World UnpackedIndex) (o : Option (Ref UnpackedIndex)) (v : Val UnpackedIndex)
     → passes (λ vs. matches_vals W vs (v ∷ [])) (one (option_map reference o)) ≡ passes (λ r. matches_val W (reference r) v) o
 one_matches W None v = refl
-one_matches W (Some r) v = and_true (matches_val W (reference r) v)
+one_matches W (Some r) v = and-true (matches_val W (reference r) v)
 
 none_passes : {X : Type 0} (o : Option X) → passes (λ x. false) o ≡ false
 none_passes None = refl

@@ -1,6 +1,7 @@
 -- Catch clauses.
 use Rattle.std.proofs.Common.{◌≡◌, ℕ, Bool, true, false, ◌&&◌, List, [], ◌∷◌, ◌++◌, refl, sym, ◌∙◌, ap}
 use Rattle.std.specs.Prelude.{Some, None}
+use Rattle.std.proofs.Math.Bool.{and-true}
 use Rattle.wasm_spec.specs.Syntax.{Val}
 use Rattle.wasm_spec_rules.specs.Contexts.{Context}
 use Rattle.wasm_readers_types.specs.WasmReadersValues.declared.indices.UnpackedIndex.{UnpackedIndex}
@@ -21,14 +22,10 @@ use Rattle.wasm_operator_blocks.specs.Sent.{thrown_in, exception_val, sends}
 use Rattle.wasm_operator_blocks.proofs.Throwing.{thrown_held, thrown_typed, not_thrown}
 use Rattle.wasm_operator_blocks.proofs.Given.{front_given, none_left, fewer}
 
-and_true : (b : Bool) → (b && true) ≡ b
-and_true true = refl
-and_true false = refl
-
 module _ {A : Type 0} (v : Stacks A) (C : Context UnpackedIndex) where
   matches_sent : (t : OperandTypes) (vs : List (Val UnpackedIndex)) (n : ℕ) → typed v C t ≡ Some vs → (held v C (each_matches t (label n)) && true) ≡ sends v C vs n
   unfolding held typed sends
-  matches_sent t vs n e = and_true _ ∙ ap (passes (λ us. passes (matches_vals (world C) us) (types_at (world C) (around v C) (state_of v) (label n)))) e
+  matches_sent t vs n e = and-true _ ∙ ap (passes (λ us. passes (matches_vals (world C) us) (types_at (world C) (around v C) (state_of v) (label n)))) e
 
   with_exception : (t : OperandTypes) (vs : List (Val UnpackedIndex)) → typed v C t ≡ Some vs → typed v C (joined t exception) ≡ Some (vs ++ exception_val ∷ [])
   unfolding typed
@@ -73,8 +70,8 @@ module _ {A : Type 0} (v : Stacks A) (C : Context UnpackedIndex) where
   apart (catch.One x n) cs = two_apart (holds (world C) (around v C) (state_of v) (is_exception x)) (holds (world C) (around v C) (state_of v) (each_matches (params (of_tag x)) (label n))) (hold_all (world C) (around v C) (state_of v) (catch_checks cs))
   apart (catch.OneRef x n) cs =
       two_apart (holds (world C) (around v C) (state_of v) (is_exception x)) (holds (world C) (around v C) (state_of v) (each_matches (joined (params (of_tag x)) exception) (label n))) (hold_all (world C) (around v C) (state_of v) (catch_checks cs))
-  apart (catch.All n) cs = ap (λ b. b && hold_all (world C) (around v C) (state_of v) (catch_checks cs)) (sym (and_true _))
-  apart (catch.AllRef n) cs = ap (λ b. b && hold_all (world C) (around v C) (state_of v) (catch_checks cs)) (sym (and_true _))
+  apart (catch.All n) cs = ap (λ b. b && hold_all (world C) (around v C) (state_of v) (catch_checks cs)) (sym (and-true _))
+  apart (catch.AllRef n) cs = ap (λ b. b && hold_all (world C) (around v C) (state_of v) (catch_checks cs)) (sym (and-true _))
 
   pub passed_on : (all xs after : List Catch) (x : Catch) → all_held v C (catch_checks all) ≡ all_held v C (catch_checks xs) → GivesFront xs (Some x) after → true ≡ all_held v C (catch_checks (x ∷ [])) → all_held v C (catch_checks all) ≡ all_held v C (catch_checks after)
   passed_on all xs after x e h t = e ∙ ap (λ cs. all_held v C (catch_checks cs)) (front_given xs after x h) ∙ apart x after ∙ ap (λ b. b && all_held v C (catch_checks after)) (sym t)

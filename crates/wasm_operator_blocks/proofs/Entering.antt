@@ -2,11 +2,12 @@
 use Rattle.std.proofs.Common.{◌≡◌, ℕ, Bool, true, false, ◌&&◌, List, [], ◌∷◌, ◌++◌, refl, sym, ◌∙◌, ap}
 use Rattle.std.specs.Option.{option_map}
 use Rattle.std.specs.Prelude.{Option, Some, None, Result, if◌then◌else◌}
+use Rattle.std.proofs.lemmas.Option.{same_Some}
 use Rattle.wasm_spec.specs.MatchingTests.{World}
 use Rattle.wasm_spec.specs.Syntax.{Val, i32}
 use Rattle.wasm_spec_rules.specs.Contexts.{Context}
 use Rattle.wasm_readers_types.specs.WasmReadersValues.declared.indices.UnpackedIndex.{UnpackedIndex}
-use Rattle.wasm_operators.specs.Control.{Block, empty_block, value_block, func_block}
+use Rattle.wasm_operators.specs.Control.{Block}
 use Rattle.wasm_operator_control.specs.WasmOperatorChecks.WasmOperatorSteps.Actions.{OperandTypes, Check, has, exceptions, Action, take, enter}
 use Rattle.wasm_spec_rules.specs.Attempts.{◌>>=◌, guard}
 use Rattle.wasm_operator_control.specs.WasmOperatorChecks.WasmOperatorSteps.Bodies.{Surroundings}
@@ -24,9 +25,7 @@ use Rattle.wasm_operator_control.proofs.WasmOperatorChecks.Acting.{took_along}
 use Rattle.wasm_operator_control.specs.Blocks.{signature_in}
 use Rattle.wasm_operator_control.specs.Entered.{entered}
 use Rattle.wasm_operator_blocks.specs.Known.{hold_all, all_held, taken_by, block_known}
-
-some_same : {X : Type 0} (x y : X) → Some x ≡ Some y → x ≡ y
-some_same x y e = cc
+use Rattle.wasm_operator_control.proofs.Labelled.{same_signature}
 
 -- checks, one after another
 module _ (W : World UnpackedIndex) (B : Surroundings UnpackedIndex) where
@@ -59,11 +58,6 @@ module _ (W : World UnpackedIndex) (B : Surroundings UnpackedIndex) where
   hold_both (c ∷ cs) ds s = ap (λ b. holds W B s c && b) (hold_both cs ds s) ∙ and_assoc (holds W B s c) (hold_all W B s cs) (hold_all W B s ds)
 
 module _ {A : Type 0} (v : Stacks A) (C : Context UnpackedIndex) where
-  same_signature : (b : Block UnpackedIndex) → block_signature (world C) (around v C) b ≡ signature_in C b
-  same_signature empty_block = refl
-  same_signature (value_block w) = refl
-  same_signature (func_block n) = refl
-
   -- what a known block type says
   record Named (o : Option (Block UnpackedIndex)) (c : Block UnpackedIndex) (vs : List (Val UnpackedIndex)) : Type 0 where
     resolved : o ≡ Some c
@@ -81,7 +75,7 @@ module _ {A : Type 0} (v : Stacks A) (C : Context UnpackedIndex) where
   named_by : (c d : Block UnpackedIndex) (vs : List (Val UnpackedIndex)) (o : Option (Signature UnpackedIndex)) → signature_in C d ≡ o → option_map (with_takes d) o ≡ Some (c, vs) → Named (Some d) c vs
   named_by c d vs None f e = cc
   named_by c d vs (Some g) f e =
-      let q : (d, g.takes) ≡ (c, vs) = some_same (d, g.takes) (c, vs) e in
+      let q : (d, g.takes) ≡ (c, vs) = same_Some (d, g.takes) (c, vs) e in
       let p : d ≡ c = ap (λ (x : Block UnpackedIndex × List (Val UnpackedIndex)). x.0) q in
       record { resolved = ap Some p; signature = g; signed = ap (signature_in C) (sym p) ∙ f; taken = ap (λ (x : Block UnpackedIndex × List (Val UnpackedIndex)). x.1) q }
 
@@ -100,7 +94,7 @@ module _ {A : Type 0} (v : Stacks A) (C : Context UnpackedIndex) where
 
   entered_as : (k : Kind) (b : Block ℕ) (c : Block UnpackedIndex) (vs : List (Val UnpackedIndex)) (s : State UnpackedIndex) → Named (resolve_block C.types b) c vs → run (world C) (around v C) (enter k b ∷ []) s ≡ entered (world C) k c vs s
   unfolding entered
-  entered_as k b c vs s q = rw (q.resolved, same_signature c, q.signed, q.taken) (last_some (pop_vals (world C) vs s >>= λ t. Some (push_frame k c vs t)))
+  entered_as k b c vs s q = rw (q.resolved, same_signature v C c, q.signed, q.taken) (last_some (pop_vals (world C) vs s >>= λ t. Some (push_frame k c vs t)))
 
   -- behind its checks, and others
   entering_as : (k : Kind) (b : Block ℕ) (c : Block UnpackedIndex) (vs : List (Val UnpackedIndex)) → block_known v C b ≡ Some (c, vs) → acted v C (checked (block_checks b) (take nothing ∷ enter k b ∷ [])) ≡ entered (world C) k c vs (state_of v)
@@ -143,7 +137,7 @@ module _ {A : Type 0} (v : Stacks A) (C : Context UnpackedIndex) where
 
   unsigned : (o : Option (Block UnpackedIndex)) (k : Kind) (s : State UnpackedIndex) → (o >>= taken_by C) ≡ None → entering k o s ≡ None
   unsigned None k s e = refl
-  unsigned (Some c) k s e = rw (same_signature c, unsigned_by c (signature_in C c) e) refl
+  unsigned (Some c) k s e = rw (same_signature v C c, unsigned_by c (signature_in C c) e) refl
 
   not_entered : (k : Kind) (b : Block ℕ) (o : Option (State UnpackedIndex)) → (resolve_block C.types b >>= taken_by C) ≡ None → (o >>= run (world C) (around v C) (enter k b ∷ [])) ≡ None
   not_entered k b None e = refl

@@ -2,6 +2,7 @@
 use Rattle.std.proofs.Common.{◌≡◌, ◌≢◌, ℕ, ◌-◌, Bool, true, false, ◌&&◌, ◌==◌, List, [], ◌∷◌, ◌++◌, length, take, map, get_or, refl, sym, ◌∙◌, ap, arith}
 use Rattle.std.specs.Prelude.{Some, None, zero, suc}
 use Rattle.std.proofs.lemmas.Bool.Decides.{nat_tests}
+use Rattle.std.proofs.Math.Bool.{and-true}
 use Rattle.wasm_spec.specs.MatchingTests.{World, matches_val}
 use Rattle.wasm_spec.specs.Syntax.{Val}
 use Rattle.wasm_spec_rules.specs.Contexts.{Context}
@@ -18,10 +19,6 @@ use Rattle.wasm_operator_blocks.specs.Sent.{exception_val, sends}
 and_false : (b : Bool) → (b && false) ≡ false
 and_false true = refl
 and_false false = refl
-
-and_true : (b : Bool) → (b && true) ≡ b
-and_true true = refl
-and_true false = refl
 
 more_than_none : (n : ℕ) → (suc n == 0) ≡ false
 more_than_none n = grind (arith, nat_tests)
@@ -41,7 +38,7 @@ module _ (W : World UnpackedIndex) where
   more_sent (x ∷ xs) u v h = sym (ap (λ b. matches_val W (val_of x) v && b) (longer (map val_of xs) u) ∙ and_false (matches_val W (val_of x) v))
 
   pub only_sent : (xs : List ValType) (u v w : Val UnpackedIndex) (b : Bool) → (length xs == 0) ≡ true → w ≡ v → b ≡ matches_val W u w → b ≡ matches_vals W (map val_of xs ++ u ∷ []) (v ∷ [])
-  only_sent [] u v w b h e f = f ∙ ap (matches_val W u) e ∙ sym (and_true (matches_val W u v))
+  only_sent [] u v w b h e f = f ∙ ap (matches_val W u) e ∙ sym (and-true (matches_val W u v))
   only_sent (x ∷ xs) u v w b h e f = let q : true ≡ false = sym h ∙ more_than_none (length xs) in cc
 
   pub empty_taken : (xs ys : List ValType) (u : Val UnpackedIndex) → length ys ≡ 0 → false ≡ matches_vals W (map val_of xs ++ u ∷ []) (map val_of ys)
@@ -54,7 +51,7 @@ module _ (W : World UnpackedIndex) where
 
   last_apart : (xs ys : List ValType) (u : Val UnpackedIndex) (d : ValType) (n : ℕ) → length ys ≡ suc n → (matches_vals W (map val_of xs) (map val_of (take n ys)) && matches_val W u (val_of (get_or ys n d))) ≡ matches_vals W (map val_of xs ++ u ∷ []) (map val_of ys)
   last_apart xs [] u d n h = absurd (omega arith)
-  last_apart [] (y ∷ []) u d zero h = sym (and_true (matches_val W u (val_of y)))
+  last_apart [] (y ∷ []) u d zero h = sym (and-true (matches_val W u (val_of y)))
   last_apart (x ∷ xs) (y ∷ []) u d zero h = sym (ap (λ b. matches_val W (val_of x) (val_of y) && b) (longer (map val_of xs) u) ∙ and_false (matches_val W (val_of x) (val_of y)))
   last_apart xs (y ∷ z ∷ ys) u d zero h = absurd (omega arith)
   last_apart xs (y ∷ []) u d (suc n) h = absurd (omega arith)

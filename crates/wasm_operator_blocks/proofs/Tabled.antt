@@ -1,7 +1,6 @@
 -- Branches by a table.
-use Rattle.std.proofs.Common.{◌≡◌, ◌≢◌, ℕ, Bool, true, false, ◌&&◌, ◌==◌, List, [], ◌∷◌, length, refl, sym, ◌∙◌, ap, arith}
+use Rattle.std.proofs.Common.{◌≡◌, ◌≢◌, ℕ, Bool, true, false, ◌&&◌, ◌==◌, List, [], ◌∷◌, length, refl, sym, ◌∙◌, ap}
 use Rattle.std.specs.Prelude.{Option, Some, None}
-use Rattle.std.proofs.lemmas.Bool.Decides.{nat_tests}
 use Rattle.std.proofs.lemmas.List.{length-map}
 use Rattle.wasm_spec.specs.Syntax.{Val, i32}
 use Rattle.wasm_spec_rules.specs.Contexts.{Context}
@@ -18,14 +17,9 @@ use Rattle.wasm_operator_control.specs.WasmOperatorChecks.WasmOperatorStacks.dec
 use Rattle.wasm_operator_control.specs.WasmOperatorChecks.Steps.{acted, typed}
 use Rattle.wasm_operator_blocks.specs.Fitting.{fits, all_fit, LastPasses}
 use Rattle.wasm_operator_blocks.proofs.Given.{front_given, none_left, fewer}
+use Rattle.wasm_operator_control.proofs.WasmOperatorChecks.Looking.{same, differ}
 
 pub ruleset counts = (length-map)
-
-same : (a b : ℕ) → a ≡ b → (a == b) ≡ true
-same a b e = grind (arith, nat_tests)
-
-differ : (a b : ℕ) → a ≢ b → (a == b) ≡ false
-differ a b e = grind (arith, nat_tests)
 
 module _ {A : Type 0} (v : Stacks A) (C : Context UnpackedIndex) (first wanted : ℕ) where
   -- one target

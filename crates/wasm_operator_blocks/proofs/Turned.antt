@@ -1,14 +1,12 @@
 -- A frame that turns to `else`.
-use Rattle.std.proofs.Common.{◌≡◌, ◌≢◌, ℕ, ◌-◌, Bool, true, false, ◌==◌, List, [], ◌∷◌, length, drop, map, refl, sym, ◌∙◌, ap, arith}
+use Rattle.std.proofs.Common.{◌≡◌, ◌≢◌, ℕ, ◌-◌, Bool, true, false, ◌==◌, List, [], ◌∷◌, length, drop, map, refl, sym, ◌∙◌, ap}
 use Rattle.std.specs.Option.{option_map}
 use Rattle.std.specs.Prelude.{Option, Some, None}
-use Rattle.std.proofs.lemmas.Bool.Decides.{nat_tests}
 use Rattle.std.proofs.lemmas.List.{length-drop, length-map}
 use Rattle.wasm_spec.specs.MatchingTests.{World}
 use Rattle.wasm_spec.specs.Syntax.{Val}
 use Rattle.wasm_spec_rules.specs.Contexts.{Context}
 use Rattle.wasm_readers_types.specs.WasmReadersValues.declared.indices.UnpackedIndex.{UnpackedIndex}
-use Rattle.wasm_operators.specs.Control.{Block, empty_block, value_block, func_block}
 use Rattle.wasm_spec_rules.specs.Attempts.{◌>>=◌}
 use Rattle.wasm_operator_control.specs.WasmOperatorChecks.WasmOperatorSteps.Actions.{turn_to_else}
 use Rattle.wasm_operator_control.specs.WasmOperatorChecks.WasmOperatorSteps.Bodies.{Surroundings}
@@ -26,6 +24,8 @@ use Rattle.wasm_operator_control.specs.WasmOperatorChecks.WasmOperatorStacks.dec
 use Rattle.wasm_operator_control.specs.WasmOperatorChecks.Steps.{acted}
 use Rattle.wasm_operator_control.specs.Blocks.{signature_in}
 use Rattle.wasm_operator_blocks.specs.Again.{again}
+use Rattle.wasm_operator_control.proofs.WasmOperatorChecks.Looking.{same, differ}
+use Rattle.wasm_operator_control.proofs.Labelled.{same_signature}
 
 -- the frame that begins again
 pub begun : (b : Bool) (ops : List (machine.Operand UnpackedIndex)) (x y : Frame) (xs : List Frame) (inits inits' : List ℕ) → b ≡ true → inits' ≡ drop (length inits - x.init_height) inits
@@ -72,21 +72,10 @@ unsigned : (f : Signature UnpackedIndex → List (Val UnpackedIndex)) (o : Optio
 unsigned f None e = refl
 unsigned f (Some g) e = cc
 
-same : (a b : ℕ) → a ≡ b → (a == b) ≡ true
-same a b e = grind (arith, nat_tests)
-
-differ : (a b : ℕ) → a ≢ b → (a == b) ≡ false
-differ a b e = grind (arith, nat_tests)
-
 height_of : (ops : List Word) (k : ℕ) → length (drop k (map operand_of ops)) ≡ length ops - k
 height_of ops k = length-drop k (map operand_of ops) ∙ ap (λ n. n - k) (length-map ops operand_of)
 
 module _ {A : Type 0} (v : Stacks A) (C : Context UnpackedIndex) where
-  same_signature : (b : Block UnpackedIndex) → block_signature (world C) (around v C) b ≡ signature_in C b
-  same_signature empty_block = refl
-  same_signature (value_block w) = refl
-  same_signature (func_block n) = refl
-
   opened : v.is_open ≡ true → (state_of v).frames ≡ frame_of v.frame ∷ map frame_of v.outer
   opened e = rw e refl
 
@@ -99,22 +88,22 @@ module _ {A : Type 0} (v : Stacks A) (C : Context UnpackedIndex) where
   turn_nowhere e = rw e refl
 
   pub turn_without_gives : v.is_open ≡ true → None ≡ option_map (λ g. g.gives) (signature_in C (block_in v.frame.block)) → acted v C (turn_to_else ∷ []) ≡ None
-  turn_without_gives e f = in_frame e ∙ unsigned_turned (world C) (around v C) (frame_of v.frame) (map frame_of v.outer) (state_of v) (same_signature (block_in v.frame.block) ∙ unsigned (λ g. g.gives) (signature_in C (block_in v.frame.block)) f)
+  turn_without_gives e f = in_frame e ∙ unsigned_turned (world C) (around v C) (frame_of v.frame) (map frame_of v.outer) (state_of v) (same_signature v C (block_in v.frame.block) ∙ unsigned (λ g. g.gives) (signature_in C (block_in v.frame.block)) f)
 
   pub turn_without_takes : v.is_open ≡ true → None ≡ option_map (λ g. g.takes) (signature_in C (block_in v.frame.block)) → acted v C (turn_to_else ∷ []) ≡ None
-  turn_without_takes e f = in_frame e ∙ unsigned_turned (world C) (around v C) (frame_of v.frame) (map frame_of v.outer) (state_of v) (same_signature (block_in v.frame.block) ∙ unsigned (λ g. g.takes) (signature_in C (block_in v.frame.block)) f)
+  turn_without_takes e f = in_frame e ∙ unsigned_turned (world C) (around v C) (frame_of v.frame) (map frame_of v.outer) (state_of v) (same_signature v C (block_in v.frame.block) ∙ unsigned (λ g. g.takes) (signature_in C (block_in v.frame.block)) f)
 
   pub turn_not_popped : (vs : List (Val UnpackedIndex)) → v.is_open ≡ true → Some vs ≡ option_map (λ g. g.gives) (signature_in C (block_in v.frame.block)) → pop_vals (world C) vs (state_of v) ≡ None → acted v C (turn_to_else ∷ []) ≡ None
   turn_not_popped vs e f h =
       let g = signed_once vs (signature_in C (block_in v.frame.block)) f in
-      in_frame e ∙ not_popped (world C) (around v C) (frame_of v.frame) (map frame_of v.outer) (state_of v) g.0 (same_signature (block_in v.frame.block) ∙ g.1) (rw g.2 h)
+      in_frame e ∙ not_popped (world C) (around v C) (frame_of v.frame) (map frame_of v.outer) (state_of v) g.0 (same_signature v C (block_in v.frame.block) ∙ g.1) (rw g.2 h)
 
   pub turn_high : (vs : List (Val UnpackedIndex)) (k : ℕ) → v.is_open ≡ true → Some vs ≡ option_map (λ g. g.gives) (signature_in C (block_in v.frame.block)) → pop_vals (world C) vs (state_of v) ≡ Some (below k (state_of v)) → length v.operands - k ≢ v.frame.height
       → acted v C (turn_to_else ∷ []) ≡ None
   turn_high vs k e f h d =
       let g = signed_once vs (signature_in C (block_in v.frame.block)) f in
       in_frame e
-      ∙ too_high (world C) (around v C) (frame_of v.frame) (map frame_of v.outer) (state_of v) g.0 (below k (state_of v)) (same_signature (block_in v.frame.block) ∙ g.1) (rw g.2 h)
+      ∙ too_high (world C) (around v C) (frame_of v.frame) (map frame_of v.outer) (state_of v) g.0 (below k (state_of v)) (same_signature v C (block_in v.frame.block) ∙ g.1) (rw g.2 h)
       (differ _ _ (λ p. d (sym (height_of v.operands k) ∙ p)))
 
   pub turn_no_if : (vs : List (Val UnpackedIndex)) (k : ℕ) → v.is_open ≡ true → Some vs ≡ option_map (λ g. g.gives) (signature_in C (block_in v.frame.block)) → pop_vals (world C) vs (state_of v) ≡ Some (below k (state_of v)) → length v.operands - k ≡ v.frame.height
@@ -122,7 +111,7 @@ module _ {A : Type 0} (v : Stacks A) (C : Context UnpackedIndex) where
   turn_no_if vs k e f h d i =
       let g = signed_once vs (signature_in C (block_in v.frame.block)) f in
       in_frame e
-      ∙ other_kind (world C) (around v C) (frame_of v.frame) (map frame_of v.outer) (state_of v) g.0 (below k (state_of v)) (same_signature (block_in v.frame.block) ∙ g.1) (rw g.2 h) (same _ _ (height_of v.operands k ∙ d)) i
+      ∙ other_kind (world C) (around v C) (frame_of v.frame) (map frame_of v.outer) (state_of v) g.0 (below k (state_of v)) (same_signature v C (block_in v.frame.block) ∙ g.1) (rw g.2 h) (same _ _ (height_of v.operands k ∙ d)) i
 
   -- the state that it turns to
   again_as : (takes : List (Val UnpackedIndex)) (k : ℕ) → v.is_open ≡ true → length (below k (state_of v)).operands ≡ v.frame.height
@@ -135,7 +124,7 @@ module _ {A : Type 0} (v : Stacks A) (C : Context UnpackedIndex) where
   turn_is gives takes k mid new e f l p d i q n =
       let g = signed gives takes (signature_in C (block_in v.frame.block)) f l in
       in_frame e
-      ∙ is_turned (world C) (around v C) (frame_of v.frame) (map frame_of v.outer) (state_of v) g.0 (below k (state_of v)) (same_signature (block_in v.frame.block) ∙ g.1) (rw g.2 p) (same _ _ (height_of v.operands k ∙ d)) i
+      ∙ is_turned (world C) (around v C) (frame_of v.frame) (map frame_of v.outer) (state_of v) g.0 (below k (state_of v)) (same_signature v C (block_in v.frame.block) ∙ g.1) (rw g.2 p) (same _ _ (height_of v.operands k ∙ d)) i
       ∙ ap Some (ap (λ ts. push_frame else_kind (block_in v.frame.block) ts (without (world C) (around v C) (frame_of v.frame) (map frame_of v.outer) (state_of v) (below k (state_of v)))) g.3 ∙ again_as takes k e (height_of v.operands k ∙ d) ∙ ap again (sym q) ∙ sym n)
 
 pub ruleset turns = (turn_nowhere, turn_without_gives, turn_without_takes, turn_not_popped, turn_high, turn_no_if, turn_is)

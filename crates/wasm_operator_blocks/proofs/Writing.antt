@@ -19,9 +19,6 @@ use Rattle.wasm_operator_control.specs.WasmOperatorChecks.Steps.{Took, acted}
 use Rattle.wasm_operator_control.specs.WasmOperatorChecks.declared.faults.OperatorError.{OperatorError}
 use Rattle.wasm_operator_blocks.proofs.Given.{front_given, none_left}
 
-some_same : {X : Type 0} (x y : X) → Some x ≡ Some y → x ≡ y
-some_same x y e = cc
-
 heap_written : (h : Heap ℕ) → IsWrittenHeap (map_heap written h)
 heap_written (abstract_heap s k) = tt
 heap_written (concrete n) = tt

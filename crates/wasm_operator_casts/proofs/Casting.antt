@@ -2,6 +2,7 @@
 use Rattle.std.proofs.Common.{◌≡◌, ℕ, Bool, true, false, refl, sym, ◌∙◌, ap, subst}
 use Rattle.std.specs.Option.{option_map}
 use Rattle.std.specs.Prelude.{Some, None, Option}
+use Rattle.std.proofs.lemmas.Option.{same_Some}
 use Rattle.wasm_spec.specs.Features.{Features}
 use Rattle.wasm_spec.specs.Matching.{top_of_heap}
 use Rattle.wasm_spec.specs.MatchingTests.{matches_heap, matches_val}
@@ -34,14 +35,11 @@ pub ruleset allowances = (is_allowed_as)
 none_is : {X : Type 0} (x : X) → Some x ≡ None → ⊥
 none_is x e = cc
 
-some_same : {X : Type 0} (x y : X) → Some x ≡ Some y → x ≡ y
-some_same x y e = cc
-
 -- the heap type of a reference type that is known
 heap_known : (n : Bool) (o : Option (Heap UnpackedIndex)) (a : Ref UnpackedIndex) → Some a ≡ option_map (λ h. record { nullable = n; heap = h }) o → (o ≡ Some a.heap) × (a.nullable ≡ n)
 heap_known n None a e = absurd (none_is a e)
 heap_known n (Some h) a e =
-    let q = some_same a (record { nullable = n; heap = h }) e in
+    let q = same_Some a (record { nullable = n; heap = h }) e in
     (ap (λ (r : Ref UnpackedIndex). Some r.heap) (sym q), ap (λ (r : Ref UnpackedIndex). r.nullable) q)
 
 pub heap_resolved : (C : Context UnpackedIndex) (r : Ref ℕ) (a : Ref UnpackedIndex) → Some a ≡ resolve_ref C.types r → (resolve_heap C.types r.heap ≡ Some a.heap) × (a.nullable ≡ r.nullable)

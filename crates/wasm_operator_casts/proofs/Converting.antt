@@ -57,5 +57,3 @@ module _ {A : Type 0} (v : Stacks A) (C : Context UnpackedIndex) where
 pub ruleset converts = (not_converted, is_converted)
 
 pub ruleset measures = (not_measured, is_measured)
-
-pub ruleset boxes = (boxed_typed)

@@ -1,6 +1,7 @@
 -- What branches on casts send.
 use Rattle.std.proofs.Common.{◌≡◌, ℕ, Bool, true, false, ◌&&◌, List, [], ◌∷◌, ◌++◌, refl, ◌∙◌}
 use Rattle.std.specs.Prelude.{Some, None, Option, Result, if◌then◌else◌}
+use Rattle.std.proofs.Math.Bool.{and-true}
 use Rattle.wasm_spec.specs.MatchingTests.{World, matches_val}
 use Rattle.wasm_spec.specs.Syntax.{Ref, Val, reference}
 use Rattle.wasm_spec_rules.specs.Contexts.{Context}
@@ -44,10 +45,6 @@ module _ (W : World UnpackedIndex) (o : Option (List (Val UnpackedIndex))) (a b 
 
 pub ruleset sends = (unsent_label, unsent_last, unsent_type, is_sent)
 
-and_true : (b : Bool) → (b && true) ≡ b
-and_true true = refl
-and_true false = refl
-
 module _ {A : Type 0} (v : Stacks A) (C : Context UnpackedIndex) (l : ℕ) (x : Val ℕ) (a : Val UnpackedIndex) (e : typed v C (these (x ∷ [])) ≡ Some (a ∷ [])) where
   -- whether a type matches the last one of a label
   unmatched_label : typed v C (label l) ≡ None → held v C (each_matches (these (x ∷ [])) (last (label l))) ≡ false
@@ -60,7 +57,7 @@ module _ {A : Type 0} (v : Stacks A) (C : Context UnpackedIndex) (l : ℕ) (x : 
 
   matched_last : (vs : List (Val UnpackedIndex)) (w : Val UnpackedIndex) (d : Bool) → typed v C (label l) ≡ Some vs → last_of vs ≡ Some w → matches_val (world C) a w ≡ d → held v C (each_matches (these (x ∷ [])) (last (label l))) ≡ d
   unfolding typed held
-  matched_last vs w d f g h = rw (e, f, g) (and_true (matches_val (world C) a w) ∙ h)
+  matched_last vs w d f g h = rw (e, f, g) (and-true (matches_val (world C) a w) ∙ h)
 
 front_typed : {A : Type 0} (v : Stacks A) (C : Context UnpackedIndex) (l : ℕ) (vs : List (Val UnpackedIndex)) → typed v C (label l) ≡ Some vs → typed v C (front (label l)) ≡ Some (front_of vs)
 unfolding typed

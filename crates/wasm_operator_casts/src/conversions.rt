@@ -29,7 +29,7 @@ use wasm_readers_types::{AbstractHeapType, HeapType};
 
 /// A reference of another hierarchy, null and shared as this one.
 #[tactic(auto, using(crate::proofs::Converting::words))]
-fn converted<T: WasmModuleResources>(
+fn word_of_hierarchy<T: WasmModuleResources>(
     resources: &T,
     heap: AbstractHeapType,
     reference: Referenced,
@@ -76,7 +76,7 @@ fn convert<A: Allocator, T: WasmModuleResources>(
     }
     match look_below(stacks, resources, 0, from) {
         Ok((reference, taken)) => {
-            match stacks.exchange(taken, converted(resources, to, reference)) {
+            match stacks.exchange(taken, word_of_hierarchy(resources, to, reference)) {
                 Ok(()) => Ok(()),
                 Err(_) => Err(OperatorError::OutOfMemory),
             }

@@ -2,47 +2,14 @@
 
 ghost use Rattle.std.specs.Prelude.{◌≡◌, true, not};
 ghost use Rattle.std.specs.Option.{option_map};
-ghost use Rattle.wasm_spec.specs.Matching.{kind_of, top_of};
 ghost use Rattle.wasm_spec.specs.MatchingTests.{same_abstract};
 ghost use Rattle.wasm_spec.specs.Syntax.{abstract_heap, concrete, cont_heap, exact, map_heap};
-ghost use Rattle.wasm_readers_types.specs.SeenTypes.{comp_of};
 ghost use Rattle.wasm_readers_types.specs.WasmReadersValues.SeenValues.{abstract_heap_of, heap_of, ref_of};
 ghost use Rattle.wasm_operator_references.specs.WasmOperatorChecks.WasmValidatorResources.Answers.{IsWrittenHeap, written_index};
 ghost use Rattle.wasm_operator_casts.specs.Tops.{top_in, top_seen};
 
-use std::alloc::Allocator;
 use wasm_operator_references::validator_resources::WasmModuleResources;
-use wasm_readers_types::{AbstractHeapType, CompositeInnerType, HeapType, RefType, UnpackedIndex};
-
-/// The greatest type of the hierarchy of an abstract heap type.
-fn top_of_abstract(ty: AbstractHeapType) -> AbstractHeapType
-    ensures { abstract_heap_of result ≡ top_of (abstract_heap_of ty) }
-{
-    match ty {
-        AbstractHeapType::Any
-        | AbstractHeapType::Eq
-        | AbstractHeapType::I31
-        | AbstractHeapType::Struct
-        | AbstractHeapType::Array
-        | AbstractHeapType::None => AbstractHeapType::Any,
-        AbstractHeapType::Func | AbstractHeapType::NoFunc => AbstractHeapType::Func,
-        AbstractHeapType::Extern | AbstractHeapType::NoExtern => AbstractHeapType::Extern,
-        AbstractHeapType::Exn | AbstractHeapType::NoExn => AbstractHeapType::Exn,
-        AbstractHeapType::Cont | AbstractHeapType::NoCont => AbstractHeapType::Cont,
-    }
-}
-
-/// The greatest type of the hierarchy of a composite type.
-fn top_of_inner<A: Allocator>(inner: &CompositeInnerType<A>) -> AbstractHeapType
-    ensures { abstract_heap_of result ≡ top_of (kind_of (comp_of inner.now)) }
-{
-    match inner {
-        CompositeInnerType::Func(_) => AbstractHeapType::Func,
-        CompositeInnerType::Array(_) => AbstractHeapType::Any,
-        CompositeInnerType::Struct(_) => AbstractHeapType::Any,
-        CompositeInnerType::Cont(_) => AbstractHeapType::Cont,
-    }
-}
+use wasm_readers_types::{AbstractHeapType, HeapType, RefType, UnpackedIndex};
 
 /// The greatest type of the hierarchy of a type index, exactly or not, and whether it is shared, if
 /// the module has that type.
@@ -58,7 +25,7 @@ fn top_of_index<T: WasmModuleResources>(
 {
     match resources.sub_type_at(type_index) {
         Some(sub) => {
-            let top = top_of_inner(&sub.composite_type.inner);
+            let top = sub.composite_type.inner.kind().top();
             Some((sub.composite_type.shared, top))
         }
         None => None,
@@ -77,7 +44,7 @@ pub(crate) fn top_of<T: WasmModuleResources>(
         (map_heap written_index (heap_of heap)) }
 {
     match heap {
-        HeapType::Abstract { shared, ty } => Some((shared, top_of_abstract(ty))),
+        HeapType::Abstract { shared, ty } => Some((shared, ty.top())),
         HeapType::Concrete(index) => match index {
             UnpackedIndex::Module(type_index) => top_of_index(resources, type_index),
             UnpackedIndex::RecGroup(_) => None,

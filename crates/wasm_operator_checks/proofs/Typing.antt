@@ -1,7 +1,7 @@
 -- The types that a name stands for, and the checks that look something up of the module.
 use Rattle.std.proofs.Common.{◌≡◌, ℕ, Bool, false, ◌&&◌, ◌||◌, ◌^◌, List, [], ◌∷◌, ◌++◌, refl}
 use Rattle.std.specs.Option.{option_map}
-use Rattle.std.specs.Prelude.{Option, Some, None, slice_get, nat_le, nat_lt}
+use Rattle.std.specs.Prelude.{Some, None, slice_get, nat_le, nat_lt}
 use Rattle.wasm_validator_resources.specs.WasmSpec.Syntax.{Val, i32}
 use Rattle.wasm_validator_resources.specs.WasmSpecRules.Contexts.{Context}
 use Rattle.wasm_operator_stacks.specs.WasmOperatorsPlain.declared.signatures.NumberType.{NumberType}
@@ -13,10 +13,10 @@ use Rattle.wasm_operator_stacks.specs.WasmOperatorsPlain.Memories.{max_align_of}
 use Rattle.wasm_operator_stacks.specs.WasmOperatorsPlain.declared.memories.MemoryOperator.{MemoryOperator}
 use Rattle.wasm_operator_stacks.specs.WasmOperatorsPlain.declared.memories.MemArg.{MemArg}
 use Rattle.wasm_operator_stacks.specs.SeenTypeWords.{number_val}
-use Rattle.wasm_operator_stacks.specs.WasmOperatorSteps.Actions.{OperandTypes, Check, these, memory_address, lesser_memory_address, joined, is_aligned, data_is_there}
+use Rattle.wasm_operator_stacks.specs.WasmOperatorSteps.Actions.{OperandTypes, these, memory_address, lesser_memory_address, joined, is_aligned, data_is_there}
 use Rattle.wasm_validator_resources.specs.WasmSpecRules.Attempts.{◌>>=◌, passes}
 use Rattle.wasm_validator_resources.specs.WasmSpecRules.Signatures.{resolve_val}
-use Rattle.wasm_operator_stacks.specs.WasmOperatorSteps.Meanings.{types_at, holds, address}
+use Rattle.wasm_operator_stacks.specs.WasmOperatorSteps.Meanings.{types_at, address}
 use Rattle.wasm_operator_stacks.specs.WasmOperatorSteps.Shapes.{number_type}
 use Rattle.wasm_validator_resources.specs.Answers.{world}
 use Rattle.wasm_operator_stacks.specs.Seen.{state_of, around}
@@ -32,15 +32,6 @@ module _ {A : Type 0} (v : Stacks A) (C : Context UnpackedIndex) where
   pub written_typed : (w : Val ℕ) (x : Val UnpackedIndex) → resolve_val C.types w ≡ Some x → typed v C (these (w ∷ [])) ≡ Some (x ∷ [])
   unfolding typed
   written_typed w x e = rw e refl
-
-  -- by what they compute to
-  pub types_typed : (t : OperandTypes) (o : Option (List (Val UnpackedIndex))) → types_at (world C) (around v C) (state_of v) t ≡ o → typed v C t ≡ o
-  unfolding typed
-  types_typed t o e = e
-
-  pub check_held : (c : Check) (b : Bool) → holds (world C) (around v C) (state_of v) c ≡ b → held v C c ≡ b
-  unfolding held
-  check_held c b e = e
 
   pub number_typed : (n : NumberType) (x : Val UnpackedIndex) → x ≡ number_val n → typed v C (these (number_type n ∷ [])) ≡ Some (x ∷ [])
   unfolding typed

@@ -1,9 +1,9 @@
 -- The end of a frame.
-use Rattle.std.proofs.Common.{◌≡◌, ◌≢◌, ℕ, ◌-◌, Bool, true, false, ◌==◌, List, [], ◌∷◌, length, drop, map, refl, sym, ◌∙◌, ap, arith}
+use Rattle.std.proofs.Common.{◌≡◌, ◌≢◌, ℕ, ◌-◌, Bool, true, false, ◌==◌, List, [], ◌∷◌, length, drop, map, refl, sym, ◌∙◌, ap}
 use Rattle.std.specs.Option.{option_map}
 use Rattle.std.specs.Prelude.{Option, Some, None}
-use Rattle.std.proofs.lemmas.Bool.Decides.{nat_tests}
 use Rattle.std.proofs.lemmas.List.{length-drop, length-map}
+use Rattle.std.proofs.lemmas.Option.{same_Some}
 use Rattle.wasm_readers_types.specs.WasmSpec.MatchingTests.{World}
 use Rattle.wasm_readers_types.specs.WasmSpec.Syntax.{Val}
 use Rattle.wasm_operator_numbers.specs.WasmOperatorChecks.WasmValidatorResources.WasmSpecRules.Contexts.{Context}
@@ -25,14 +25,13 @@ use Rattle.wasm_operator_numbers.specs.WasmOperatorStacks.declared.word.Word.{Wo
 use Rattle.wasm_operator_numbers.specs.WasmOperatorStacks.declared.stacks.Stacks.{Stacks}
 use Rattle.wasm_operator_numbers.specs.WasmOperatorChecks.Steps.{acted}
 use Rattle.wasm_operator_control.specs.Blocks.{function_in, signature_in, ends_in}
-
-some_same : {X : Type 0} (x y : X) → Some x ≡ Some y → x ≡ y
-some_same x y e = cc
+use Rattle.wasm_operator_numbers.proofs.WasmOperatorChecks.Looking.{same, differ}
+use Rattle.wasm_operator_control.proofs.Labelled.{same_signature}
 
 -- an `if` that gives what it takes
 module _ (C : Context UnpackedIndex) (b : Block UnpackedIndex) (g : Signature UnpackedIndex) where
   known_signature : (h : Signature UnpackedIndex) → signature_in C b ≡ Some h → signature_in C b ≡ Some g → matches_vals (world C) h.takes h.gives ≡ matches_vals (world C) g.takes g.gives
-  known_signature h e f = let q : h ≡ g = some_same h g (sym e ∙ f) in ap (λ (x : Signature UnpackedIndex). matches_vals (world C) x.takes x.gives) q
+  known_signature h e f = let q : h ≡ g = same_Some h g (sym e ∙ f) in ap (λ (x : Signature UnpackedIndex). matches_vals (world C) x.takes x.gives) q
 
   pub empty_ends : empty_block ≡ b → signature_in C b ≡ Some g → true ≡ matches_vals (world C) g.takes g.gives
   empty_ends e f = known_signature (record { takes = []; gives = [] }) (rw (← e) refl) f
@@ -86,21 +85,10 @@ unsigned : (o : Option (Signature UnpackedIndex)) → None ≡ option_map (λ g.
 unsigned None e = refl
 unsigned (Some g) e = cc
 
-same : (a b : ℕ) → a ≡ b → (a == b) ≡ true
-same a b e = grind (arith, nat_tests)
-
-differ : (a b : ℕ) → a ≢ b → (a == b) ≡ false
-differ a b e = grind (arith, nat_tests)
-
 height_of : (ops : List Word) (k : ℕ) → length (drop k (map operand_of ops)) ≡ length ops - k
 height_of ops k = length-drop k (map operand_of ops) ∙ ap (λ n. n - k) (length-map ops operand_of)
 
 module _ {A : Type 0} (v : Stacks A) (C : Context UnpackedIndex) where
-  same_signature : (b : Block UnpackedIndex) → block_signature (world C) (around v C) b ≡ signature_in C b
-  same_signature empty_block = refl
-  same_signature (value_block w) = refl
-  same_signature (func_block n) = refl
-
   opened : v.is_open ≡ true → (state_of v).frames ≡ frame_of v.frame ∷ map frame_of v.outer
   opened e = rw e refl
 
@@ -113,18 +101,18 @@ module _ {A : Type 0} (v : Stacks A) (C : Context UnpackedIndex) where
   end_nowhere e = rw e refl
 
   pub end_unsigned : v.is_open ≡ true → None ≡ option_map (λ g. g.gives) (signature_in C (block_in v.frame.block)) → acted v C (leave ∷ []) ≡ None
-  end_unsigned e f = in_frame e ∙ unsigned_left (world C) (around v C) (frame_of v.frame) (map frame_of v.outer) (state_of v) (same_signature (block_in v.frame.block) ∙ unsigned (signature_in C (block_in v.frame.block)) f)
+  end_unsigned e f = in_frame e ∙ unsigned_left (world C) (around v C) (frame_of v.frame) (map frame_of v.outer) (state_of v) (same_signature v C (block_in v.frame.block) ∙ unsigned (signature_in C (block_in v.frame.block)) f)
 
   pub end_not_popped : (vs : List (Val UnpackedIndex)) → v.is_open ≡ true → Some vs ≡ option_map (λ g. g.gives) (signature_in C (block_in v.frame.block)) → pop_vals (world C) vs (state_of v) ≡ None → acted v C (leave ∷ []) ≡ None
   end_not_popped vs e f h =
       let g = signed vs (signature_in C (block_in v.frame.block)) f in
-      in_frame e ∙ not_popped (world C) (around v C) (frame_of v.frame) (map frame_of v.outer) (state_of v) g.0 (same_signature (block_in v.frame.block) ∙ g.1) (rw g.2 h)
+      in_frame e ∙ not_popped (world C) (around v C) (frame_of v.frame) (map frame_of v.outer) (state_of v) g.0 (same_signature v C (block_in v.frame.block) ∙ g.1) (rw g.2 h)
 
   pub end_high : (vs : List (Val UnpackedIndex)) (k : ℕ) → v.is_open ≡ true → Some vs ≡ option_map (λ g. g.gives) (signature_in C (block_in v.frame.block)) → pop_vals (world C) vs (state_of v) ≡ Some (below k (state_of v)) → length v.operands - k ≢ v.frame.height → acted v C (leave ∷ []) ≡ None
   end_high vs k e f h d =
       let g = signed vs (signature_in C (block_in v.frame.block)) f in
       in_frame e
-      ∙ too_high (world C) (around v C) (frame_of v.frame) (map frame_of v.outer) (state_of v) g.0 (below k (state_of v)) (same_signature (block_in v.frame.block) ∙ g.1) (rw g.2 h)
+      ∙ too_high (world C) (around v C) (frame_of v.frame) (map frame_of v.outer) (state_of v) g.0 (below k (state_of v)) (same_signature v C (block_in v.frame.block) ∙ g.1) (rw g.2 h)
       (differ _ _ (λ p. d (sym (height_of v.operands k) ∙ p)))
 
   pub end_unmatched : (vs : List (Val UnpackedIndex)) (k : ℕ) (r : Bool) → v.is_open ≡ true → Some vs ≡ option_map (λ g. g.gives) (signature_in C (block_in v.frame.block)) → pop_vals (world C) vs (state_of v) ≡ Some (below k (state_of v)) → length v.operands - k ≡ v.frame.height
@@ -132,7 +120,7 @@ module _ {A : Type 0} (v : Stacks A) (C : Context UnpackedIndex) where
   end_unmatched vs k r e f h d m i =
       let g = signed vs (signature_in C (block_in v.frame.block)) f in
       in_frame e
-      ∙ unmatched (world C) (around v C) (frame_of v.frame) (map frame_of v.outer) (state_of v) g.0 (below k (state_of v)) (same_signature (block_in v.frame.block) ∙ g.1) (rw g.2 h) (same _ _ (height_of v.operands k ∙ d))
+      ∙ unmatched (world C) (around v C) (frame_of v.frame) (map frame_of v.outer) (state_of v) g.0 (below k (state_of v)) (same_signature v C (block_in v.frame.block) ∙ g.1) (rw g.2 h) (same _ _ (height_of v.operands k ∙ d))
       (same_end (world C) (around v C) (kind_of v.frame.kind) g.0 ∙ sym (m g.0 g.1) ∙ i)
 
   pub end_is : (vs : List (Val UnpackedIndex)) (k h : ℕ) (r : Bool) (mid new : State UnpackedIndex) → v.is_open ≡ true → Some vs ≡ option_map (λ g. g.gives) (signature_in C (block_in v.frame.block)) → pop_vals (world C) vs (state_of v) ≡ Some (below k (state_of v)) → length v.operands - k ≡ v.frame.height
@@ -141,7 +129,7 @@ module _ {A : Type 0} (v : Stacks A) (C : Context UnpackedIndex) where
   end_is vs k h r mid new e f p d m i q j n =
       let g = signed vs (signature_in C (block_in v.frame.block)) f in
       in_frame e
-      ∙ is_left (world C) (around v C) (frame_of v.frame) (map frame_of v.outer) (state_of v) g.0 (below k (state_of v)) (same_signature (block_in v.frame.block) ∙ g.1) (rw g.2 p) (same _ _ (height_of v.operands k ∙ d))
+      ∙ is_left (world C) (around v C) (frame_of v.frame) (map frame_of v.outer) (state_of v) g.0 (below k (state_of v)) (same_signature v C (block_in v.frame.block) ∙ g.1) (rw g.2 p) (same _ _ (height_of v.operands k ∙ d))
       (same_end (world C) (around v C) (kind_of v.frame.kind) g.0 ∙ sym (m g.0 g.1) ∙ i)
       ∙ rw (n, q, j, g.2) (ap (λ fs. Some (record (push_vals vs (below k (state_of v))) { frames = fs; inits = drop (length v.locals.inits - v.frame.init_height) v.locals.inits })) (sym (ap (drop 1) (opened e))))
 

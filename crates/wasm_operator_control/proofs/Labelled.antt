@@ -71,7 +71,7 @@ outer_last false x xs n e h i = cc
 pub ruleset lasts = (no_last, only_last, outer_last)
 
 module _ {A : Type 0} (v : Stacks A) (C : Context UnpackedIndex) where
-  same_signature : (b : Block UnpackedIndex) → block_signature (world C) (around v C) b ≡ signature_in C b
+  pub same_signature : (b : Block UnpackedIndex) → block_signature (world C) (around v C) b ≡ signature_in C b
   same_signature empty_block = refl
   same_signature (value_block w) = refl
   same_signature (func_block n) = refl

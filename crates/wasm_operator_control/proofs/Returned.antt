@@ -1,7 +1,7 @@
 -- Lists of types in a few, and compared with what the body gives.
-use Rattle.std.proofs.Common.{◌≡◌, ◌≢◌, ℕ, Bool, true, false, ◌&&◌, List, [], ◌∷◌, length, map, get_or, refl, sym, ◌∙◌, ap, arith}
-use Rattle.std.specs.Option.{option_map}
+use Rattle.std.proofs.Common.{◌≡◌, ◌≢◌, Bool, true, false, ◌&&◌, List, [], ◌∷◌, length, map, get_or, refl, sym, ◌∙◌, ap, arith}
 use Rattle.std.specs.Prelude.{Option, Some, None}
+use Rattle.std.proofs.Math.Bool.{and-true}
 use Rattle.wasm_readers_types.specs.WasmSpec.Syntax.{Val}
 use Rattle.wasm_readers_types.specs.WasmSpec.MatchingTests.{World, matches_val}
 use Rattle.wasm_readers_types.specs.WasmReadersValues.SeenValues.{val_of}
@@ -22,10 +22,6 @@ one_listed (u ∷ w ∷ ts) t x e f = absurd (omega arith)
 
 pub ruleset lists = (none_listed, one_listed)
 
-and_true : (b : Bool) → (b && true) ≡ b
-and_true true = refl
-and_true false = refl
-
 and_false : (b : Bool) → (b && false) ≡ false
 and_false true = refl
 and_false false = refl
@@ -42,7 +38,7 @@ module _ (W : World UnpackedIndex) where
 
   pub one_matched : (ts : List ValType) (t : ValType) (x y : Val UnpackedIndex) (b : Bool) → length ts ≡ 1 → b ≡ matches_val W (val_of (get_or ts 0 t)) y → y ≡ x → b ≡ matches_vals W (map val_of ts) (x ∷ [])
   one_matched [] t x y b e f h = absurd (omega arith)
-  one_matched (u ∷ []) t x y b e f h = f ∙ ap (matches_val W (val_of u)) h ∙ sym (and_true (matches_val W (val_of u) x))
+  one_matched (u ∷ []) t x y b e f h = f ∙ ap (matches_val W (val_of u)) h ∙ sym (and-true (matches_val W (val_of u) x))
   one_matched (u ∷ w ∷ ts) t x y b e f h = absurd (omega arith)
 
   pub one_unmatched : (ts : List ValType) (x : Val UnpackedIndex) → length ts ≢ 1 → false ≡ matches_vals W (map val_of ts) (x ∷ [])

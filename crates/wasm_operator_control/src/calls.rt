@@ -6,7 +6,7 @@ ghost use Rattle.wasm_operator_numbers.specs.WasmOperatorStacks.Seen.{Kept};
 ghost use Rattle.wasm_operator_numbers.specs.WasmOperatorChecks.Steps.{Performs};
 
 use crate::reach::{function_reached, null_or, type_reached};
-use crate::results::listed;
+use crate::results::val_types_of;
 use std::alloc::Allocator;
 use wasm_operator_numbers::operator_checks::{
     OperatorError, OperatorFault, OperatorRule, Takes, ValTypes, address, has, plain, plain_with,
@@ -34,7 +34,7 @@ pub fn call<A: Allocator, T: WasmModuleResources>(
             stacks,
             resources,
             Takes::Many(signature.params()),
-            listed(signature.results()),
+            val_types_of(signature.results()),
         ),
         Err(fault) => Err(OperatorError::Refused(fault)),
     }
@@ -69,7 +69,7 @@ pub fn call_indirect<A: Allocator, T: WasmModuleResources>(
             resources,
             ValTypes::Many(signature.params()),
             address(table.table64),
-            listed(signature.results()),
+            val_types_of(signature.results()),
         ),
         Err(fault) => Err(OperatorError::Refused(fault)),
     }
@@ -105,7 +105,7 @@ pub fn call_ref<A: Allocator, T: WasmModuleResources>(
             resources,
             ValTypes::Many(signature.params()),
             reference,
-            listed(signature.results()),
+            val_types_of(signature.results()),
         ),
         Err(fault) => Err(OperatorError::Refused(fault)),
     }

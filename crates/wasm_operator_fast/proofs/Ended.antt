@@ -1,6 +1,7 @@
 -- The end of a frame that gives nothing or one value.
 use Rattle.std.proofs.Common.{◌≡◌, ◌-◌, true, false, [], ◌∷◌, length, drop, refl, sym, ◌∙◌, ap, arith}
 use Rattle.std.specs.Prelude.{Some}
+use Rattle.std.proofs.lemmas.Option.{same_Some}
 use Rattle.wasm_spec.specs.MatchingTests.{World}
 use Rattle.wasm_spec.specs.Syntax.{Val}
 use Rattle.wasm_operator_control.specs.WasmOperatorChecks.WasmSpecRules.Contexts.{Context}
@@ -16,9 +17,6 @@ use Rattle.wasm_operator_control.specs.WasmOperatorChecks.WasmOperatorStacks.dec
 use Rattle.wasm_operator_control.specs.WasmOperatorChecks.Steps.{acted}
 use Rattle.wasm_operator_control.specs.Blocks.{signature_in, ends_in}
 use Rattle.wasm_operator_control.proofs.Ended.{end_is}
-
-some_same : {X : Type 0} (x y : X) → Some x ≡ Some y → x ≡ y
-some_same x y e = cc
 
 nothing_ends : (W : World UnpackedIndex) (k : Kind) → true ≡ ends_in W k (record { takes = []; gives = [] })
 nothing_ends W block_kind = refl
@@ -42,7 +40,7 @@ module _ {A : Type 0} (v : Stacks A) (C : Context UnpackedIndex) (new : State Un
   end_empty e b h n =
       let f : signature_in C (block_in v.frame.block) ≡ Some (record { takes = []; gives = [] }) = rw (← b) refl in
       end_is v C [] 0 v.frame.init_height true (state_of v) new e (rw f refl) refl (omega (arith, h))
-      (λ g i. nothing_ends (world C) (kind_of v.frame.kind) ∙ ap (ends_in (world C) (kind_of v.frame.kind)) (some_same _ _ (sym f ∙ i))) refl refl refl n
+      (λ g i. nothing_ends (world C) (kind_of v.frame.kind) ∙ ap (ends_in (world C) (kind_of v.frame.kind)) (same_Some _ _ (sym f ∙ i))) refl refl refl n
 
   pub end_value : (x : Val UnpackedIndex) → v.is_open ≡ true → value_block x ≡ block_in v.frame.block → is_if (kind_of v.frame.kind) ≡ false → pop_val (world C) x (state_of v) ≡ Some (below 1 (state_of v)) → push_operand (known x) (below 1 (state_of v)) ≡ state_of v
       → length v.operands - 1 ≡ v.frame.height → Closed → acted v C (leave ∷ []) ≡ Some new

@@ -12,7 +12,6 @@ mod not_taken;
 mod numbers;
 mod peeks;
 mod plain;
-mod signatures;
 mod steps;
 
 pub use not_taken::NotTaken;

@@ -17,12 +17,13 @@ use crate::immediates::{next_block, next_byte, next_index, next_memarg, pass_i32
 use crate::locals::{local_get, local_set, local_tee};
 use crate::not_taken::NotTaken;
 use crate::numbers::{compute, constant};
-use crate::signatures::signature;
 use std::alloc::Allocator;
 use wasm_operator_control::operator_stacks::Stacks;
 use wasm_operator_control::validator_resources::WasmModuleResources;
 use wasm_operators_plain::readers::BinaryReader;
-use wasm_operators_plain::{NumberType, access_from_opcode, numeric_from_opcode};
+use wasm_operators_plain::{
+    NumberType, access_from_opcode, numeric_from_opcode, signature_in_place,
+};
 
 /// A numeric operator, a load or a store.
 #[inline(always)]
@@ -42,7 +43,7 @@ fn step_by_table<A: Allocator, T: WasmModuleResources>(
     match numeric_from_opcode(opcode) {
         Some(op) => {
             if 0x45 <= opcode && opcode < 0xd0 {
-                compute(stacks, resources, signature(op))
+                compute(stacks, resources, signature_in_place(op))
             } else {
                 Err(NotTaken::Left)
             }

@@ -1,6 +1,7 @@
 -- Checks that compare types.
-use Rattle.std.proofs.Common.{◌≡◌, Bool, true, false, ◌&&◌, List, [], ◌∷◌, refl, ◌∙◌}
+use Rattle.std.proofs.Common.{◌≡◌, Bool, false, ◌&&◌, List, [], ◌∷◌, refl, ◌∙◌}
 use Rattle.std.specs.Prelude.{Option, Some, None}
+use Rattle.std.proofs.Math.Bool.{and-true}
 use Rattle.wasm_readers_errors.specs.WasmSpec.Syntax.{Val}
 use Rattle.wasm_readers_errors.specs.WasmSpec.MatchingTests.{matches_val}
 use Rattle.wasm_operator_checks.specs.WasmSpecRules.Contexts.{Context}
@@ -11,10 +12,6 @@ use Rattle.wasm_operator_checks.specs.WasmOperatorSteps.Matching.{matches_vals}
 use Rattle.wasm_operator_checks.specs.WasmValidatorResources.Answers.{world}
 use Rattle.wasm_operator_checks.specs.WasmOperatorStacks.declared.stacks.Stacks.{Stacks}
 use Rattle.wasm_operator_checks.specs.Steps.{typed, held}
-
-and_true : (b : Bool) → (b && true) ≡ b
-and_true true = refl
-and_true false = refl
 
 none_pass : {X : Type 0} (o : Option X) → passes (λ x. false) o ≡ false
 none_pass None = refl
@@ -29,7 +26,7 @@ module _ {A : Type 0} (v : Stacks A) (C : Context UnpackedIndex) where
   -- one type each
   pub one_held : (t u : OperandTypes) (x y : Val UnpackedIndex) (b : Bool) → typed v C t ≡ Some (x ∷ []) → typed v C u ≡ Some (y ∷ []) → matches_val (world C) x y ≡ b → held v C (each_matches t u) ≡ b
   unfolding typed held
-  one_held t u x y b e f h = rw (e, f) (and_true (matches_val (world C) x y) ∙ h)
+  one_held t u x y b e f h = rw (e, f) (and-true (matches_val (world C) x y) ∙ h)
 
   -- types that aren't there
   pub first_unmatched : (t u : OperandTypes) → typed v C t ≡ None → held v C (each_matches t u) ≡ false

@@ -34,16 +34,10 @@ pub fn table_copy<A: Allocator, T: WasmModuleResources>(
     ensures same { Kept stacks.old stacks.new }
 {
     if !has(stacks, WasmFeatures::BULK_MEMORY) {
-        return Err(OperatorError::Refused(OperatorFault::new(OperatorRule::BulkMemory)));
+        Err(OperatorFault::new(OperatorRule::BulkMemory))?;
     }
-    let from = match table_reached(stacks, resources, src_table) {
-        Ok(ty) => ty,
-        Err(fault) => return Err(OperatorError::Refused(fault)),
-    };
-    let to = match table_reached(stacks, resources, dst_table) {
-        Ok(ty) => ty,
-        Err(fault) => return Err(OperatorError::Refused(fault)),
-    };
+    let from = table_reached(stacks, resources, src_table)?;
+    let to = table_reached(stacks, resources, dst_table)?;
     if !resources.is_subtype(
         ValType::Ref(from.element_type),
         ValType::Ref(to.element_type),
@@ -76,12 +70,9 @@ pub fn table_init<A: Allocator, T: WasmModuleResources>(
     ensures same { Kept stacks.old stacks.new }
 {
     if !has(stacks, WasmFeatures::BULK_MEMORY) {
-        return Err(OperatorError::Refused(OperatorFault::new(OperatorRule::BulkMemory)));
+        Err(OperatorFault::new(OperatorRule::BulkMemory))?;
     }
-    let to = match table_reached(stacks, resources, table) {
-        Ok(ty) => ty,
-        Err(fault) => return Err(OperatorError::Refused(fault)),
-    };
+    let to = table_reached(stacks, resources, table)?;
     let from = match resources.element_type_at(elem_index) {
         Some(ty) => ty,
         None => return Err(OperatorError::Refused(OperatorFault::at(
@@ -114,7 +105,7 @@ pub fn elem_drop<A: Allocator, T: WasmModuleResources>(
     ensures same { Kept stacks.old stacks.new }
 {
     if !has(stacks, WasmFeatures::BULK_MEMORY) {
-        return Err(OperatorError::Refused(OperatorFault::new(OperatorRule::BulkMemory)));
+        Err(OperatorFault::new(OperatorRule::BulkMemory))?;
     }
     match resources.element_type_at(elem_index) {
         Some(_) => plain(stacks, resources, Takes::None, ValTypes::None),

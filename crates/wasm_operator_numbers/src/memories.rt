@@ -96,7 +96,7 @@ fn memory_fill<A: Allocator, T: WasmModuleResources>(
     ensures same { Kept stacks.old stacks.new }
 {
     if !has(stacks, WasmFeatures::BULK_MEMORY) {
-        return Err(OperatorError::Refused(OperatorFault::new(OperatorRule::BulkMemory)));
+        Err(OperatorFault::new(OperatorRule::BulkMemory))?;
     }
     match resources.memory_at(mem) {
         Some(memory) => {
@@ -125,7 +125,7 @@ fn memory_init<A: Allocator, T: WasmModuleResources>(
     ensures same { Kept stacks.old stacks.new }
 {
     if !has(stacks, WasmFeatures::BULK_MEMORY) {
-        return Err(OperatorError::Refused(OperatorFault::new(OperatorRule::BulkMemory)));
+        Err(OperatorFault::new(OperatorRule::BulkMemory))?;
     }
     if !has_data(resources, data_index) {
         return Err(OperatorError::Refused(missing_data(resources, data_index)));
@@ -156,7 +156,7 @@ fn data_drop<A: Allocator, T: WasmModuleResources>(
     ensures same { Kept stacks.old stacks.new }
 {
     if !has(stacks, WasmFeatures::BULK_MEMORY) {
-        return Err(OperatorError::Refused(OperatorFault::new(OperatorRule::BulkMemory)));
+        Err(OperatorFault::new(OperatorRule::BulkMemory))?;
     }
     if !has_data(resources, data_index) {
         return Err(OperatorError::Refused(missing_data(resources, data_index)));
@@ -177,7 +177,7 @@ fn memory_copy<A: Allocator, T: WasmModuleResources>(
     ensures same { Kept stacks.old stacks.new }
 {
     if !has(stacks, WasmFeatures::BULK_MEMORY) {
-        return Err(OperatorError::Refused(OperatorFault::new(OperatorRule::BulkMemory)));
+        Err(OperatorFault::new(OperatorRule::BulkMemory))?;
     }
     let to = match resources.memory_at(dst_mem) {
         Some(memory) => memory.memory64,

@@ -33,10 +33,10 @@ fn unary<A: Allocator, T: WasmModuleResources>(
     ensures same { Kept stacks.old stacks.new }
 {
     if !allows_number(stacks, from) {
-        return Err(OperatorError::Refused(OperatorFault::new(OperatorRule::Floats)));
+        Err(OperatorFault::new(OperatorRule::Floats))?;
     }
     if !allows_number(stacks, to) {
-        return Err(OperatorError::Refused(OperatorFault::new(OperatorRule::Floats)));
+        Err(OperatorFault::new(OperatorRule::Floats))?;
     }
     plain(
         stacks,
@@ -59,10 +59,10 @@ fn binary<A: Allocator, T: WasmModuleResources>(
     ensures same { Kept stacks.old stacks.new }
 {
     if !allows_number(stacks, from) {
-        return Err(OperatorError::Refused(OperatorFault::new(OperatorRule::Floats)));
+        Err(OperatorFault::new(OperatorRule::Floats))?;
     }
     if !allows_number(stacks, to) {
-        return Err(OperatorError::Refused(OperatorFault::new(OperatorRule::Floats)));
+        Err(OperatorFault::new(OperatorRule::Floats))?;
     }
     plain(
         stacks,
@@ -101,7 +101,7 @@ fn number<A: Allocator, T: WasmModuleResources>(
     ensures same { Kept stacks.old stacks.new }
 {
     if !allows_number(stacks, ty) {
-        return Err(OperatorError::Refused(OperatorFault::new(OperatorRule::Floats)));
+        Err(OperatorFault::new(OperatorRule::Floats))?;
     }
     plain(
         stacks,
@@ -122,7 +122,7 @@ fn vector<A: Allocator, T: WasmModuleResources>(
     ensures same { Kept stacks.old stacks.new }
 {
     if !has(stacks, WasmFeatures::SIMD) {
-        return Err(OperatorError::Refused(OperatorFault::new(OperatorRule::Simd)));
+        Err(OperatorFault::new(OperatorRule::Simd))?;
     }
     plain(
         stacks,

@@ -27,17 +27,15 @@ pub fn table_get<A: Allocator, T: WasmModuleResources>(
     ensures same { Kept stacks.old stacks.new }
 {
     if !has(stacks, WasmFeatures::REFERENCE_TYPES) {
-        return Err(OperatorError::Refused(OperatorFault::new(OperatorRule::ReferenceTypes)));
+        Err(OperatorFault::new(OperatorRule::ReferenceTypes))?;
     }
-    match table_reached(stacks, resources, table) {
-        Ok(ty) => plain(
-            stacks,
-            resources,
-            Takes::One(address(ty.table64)),
-            ValTypes::One(TypeWord::reference(ty.element_type)),
-        ),
-        Err(fault) => Err(OperatorError::Refused(fault)),
-    }
+    let ty = table_reached(stacks, resources, table)?;
+    plain(
+        stacks,
+        resources,
+        Takes::One(address(ty.table64)),
+        ValTypes::One(TypeWord::reference(ty.element_type)),
+    )
 }
 
 /// `table.set`: takes an address, and an element on top (Core Specification 3.0, Validation, Table
@@ -53,17 +51,15 @@ pub fn table_set<A: Allocator, T: WasmModuleResources>(
     ensures same { Kept stacks.old stacks.new }
 {
     if !has(stacks, WasmFeatures::REFERENCE_TYPES) {
-        return Err(OperatorError::Refused(OperatorFault::new(OperatorRule::ReferenceTypes)));
+        Err(OperatorFault::new(OperatorRule::ReferenceTypes))?;
     }
-    match table_reached(stacks, resources, table) {
-        Ok(ty) => plain(
-            stacks,
-            resources,
-            Takes::Two(address(ty.table64), TypeWord::reference(ty.element_type)),
-            ValTypes::None,
-        ),
-        Err(fault) => Err(OperatorError::Refused(fault)),
-    }
+    let ty = table_reached(stacks, resources, table)?;
+    plain(
+        stacks,
+        resources,
+        Takes::Two(address(ty.table64), TypeWord::reference(ty.element_type)),
+        ValTypes::None,
+    )
 }
 
 /// `table.size`: gives a size, of the type of an address (Core Specification 3.0, Validation, Table
@@ -79,17 +75,15 @@ pub fn table_size<A: Allocator, T: WasmModuleResources>(
     ensures same { Kept stacks.old stacks.new }
 {
     if !has(stacks, WasmFeatures::REFERENCE_TYPES) {
-        return Err(OperatorError::Refused(OperatorFault::new(OperatorRule::ReferenceTypes)));
+        Err(OperatorFault::new(OperatorRule::ReferenceTypes))?;
     }
-    match table_reached(stacks, resources, table) {
-        Ok(ty) => plain(
-            stacks,
-            resources,
-            Takes::None,
-            ValTypes::One(address(ty.table64)),
-        ),
-        Err(fault) => Err(OperatorError::Refused(fault)),
-    }
+    let ty = table_reached(stacks, resources, table)?;
+    plain(
+        stacks,
+        resources,
+        Takes::None,
+        ValTypes::One(address(ty.table64)),
+    )
 }
 
 /// `table.grow`: takes an element, and a number of elements on top, and gives the size from before
@@ -105,20 +99,16 @@ pub fn table_grow<A: Allocator, T: WasmModuleResources>(
     ensures same { Kept stacks.old stacks.new }
 {
     if !has(stacks, WasmFeatures::REFERENCE_TYPES) {
-        return Err(OperatorError::Refused(OperatorFault::new(OperatorRule::ReferenceTypes)));
+        Err(OperatorFault::new(OperatorRule::ReferenceTypes))?;
     }
-    match table_reached(stacks, resources, table) {
-        Ok(ty) => {
-            let address = address(ty.table64);
-            plain(
-                stacks,
-                resources,
-                Takes::Two(TypeWord::reference(ty.element_type), address),
-                ValTypes::One(address),
-            )
-        }
-        Err(fault) => Err(OperatorError::Refused(fault)),
-    }
+    let ty = table_reached(stacks, resources, table)?;
+    let address = address(ty.table64);
+    plain(
+        stacks,
+        resources,
+        Takes::Two(TypeWord::reference(ty.element_type), address),
+        ValTypes::One(address),
+    )
 }
 
 /// `table.fill`: takes an address, an element, and a number of elements on top (Core Specification
@@ -134,18 +124,14 @@ pub fn table_fill<A: Allocator, T: WasmModuleResources>(
     ensures same { Kept stacks.old stacks.new }
 {
     if !has(stacks, WasmFeatures::REFERENCE_TYPES) {
-        return Err(OperatorError::Refused(OperatorFault::new(OperatorRule::ReferenceTypes)));
+        Err(OperatorFault::new(OperatorRule::ReferenceTypes))?;
     }
-    match table_reached(stacks, resources, table) {
-        Ok(ty) => {
-            let address = address(ty.table64);
-            plain(
-                stacks,
-                resources,
-                Takes::Three(address, TypeWord::reference(ty.element_type), address),
-                ValTypes::None,
-            )
-        }
-        Err(fault) => Err(OperatorError::Refused(fault)),
-    }
+    let ty = table_reached(stacks, resources, table)?;
+    let address = address(ty.table64);
+    plain(
+        stacks,
+        resources,
+        Takes::Three(address, TypeWord::reference(ty.element_type), address),
+        ValTypes::None,
+    )
 }

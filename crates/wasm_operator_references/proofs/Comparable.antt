@@ -83,9 +83,6 @@ module _ (W : World UnpackedIndex) (B : Surroundings UnpackedIndex) (k : Abstrac
   missing_below g h e = unparted (is_below_either W B k) (pop_reference s) g h e
 
 module _ {A : Type 0} (v : Stacks A) (C : Context UnpackedIndex) where
-  abbrev is_equal : Operand UnpackedIndex → Bool
-  is_equal x = is_below_either (world C) (around v C) eq_heap x
-
   abbrev both_equal : Operand UnpackedIndex → Operand UnpackedIndex → Bool
   both_equal x y = is_below_either (world C) (around v C) eq_heap x && is_below_either (world C) (around v C) eq_heap y && agree (world C) (around v C) x y
 

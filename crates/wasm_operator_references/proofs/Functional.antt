@@ -2,6 +2,7 @@
 use Rattle.std.proofs.Common.{◌≡◌, ℕ, Bool, true, false, ◌&&◌, [], ◌∷◌, refl, sym, ◌∙◌, ap, List}
 use Rattle.std.specs.Option.{option_map}
 use Rattle.std.specs.Prelude.{Some, None, Option, IsSome, slice_get, if◌then◌else◌}
+use Rattle.std.proofs.lemmas.Option.{same_Some}
 use Rattle.wasm_spec.specs.Syntax.{Heap, concrete, exact, Ref, Val, reference}
 use Rattle.wasm_operator_control.specs.WasmOperatorChecks.WasmSpecRules.Contexts.{Context}
 use Rattle.wasm_operator_control.specs.WasmOperatorChecks.WasmSpecRules.FeatureFlags.{features_of}
@@ -21,16 +22,13 @@ told : (o : Option Bool) (e : Bool) → e ≡ passes (λ b. b) o → IsSome o �
 told None e h k = let q : false ≡ true = k in cc
 told (Some x) e h k = rw h refl
 
-some_same : {X : Type 0} (x y : X) → Some x ≡ Some y → x ≡ y
-some_same x y e = cc
-
 exactly_typed : (o : Option UnpackedIndex) (r : Ref UnpackedIndex) → Some r ≡ option_map (λ h. record { nullable = false; heap = h }) (option_map exact o) → one (option_map (ref_to false) (o >>= λ a. Some (exact a))) ≡ Some (reference r ∷ [])
 exactly_typed None r e = cc
-exactly_typed (Some a) r e = ap (λ q. Some (reference q ∷ [])) (sym (some_same r (record { nullable = false; heap = exact a }) e))
+exactly_typed (Some a) r e = ap (λ q. Some (reference q ∷ [])) (sym (same_Some r (record { nullable = false; heap = exact a }) e))
 
 loosely_typed : (o : Option UnpackedIndex) (r : Ref UnpackedIndex) → Some r ≡ option_map (λ h. record { nullable = false; heap = h }) (option_map concrete o) → one (option_map (ref_to false) (o >>= λ a. Some (concrete a))) ≡ Some (reference r ∷ [])
 loosely_typed None r e = cc
-loosely_typed (Some a) r e = ap (λ q. Some (reference q ∷ [])) (sym (some_same r (record { nullable = false; heap = concrete a }) e))
+loosely_typed (Some a) r e = ap (λ q. Some (reference q ∷ [])) (sym (same_Some r (record { nullable = false; heap = concrete a }) e))
 
 described_typed : (ts : List UnpackedIndex) (t : ℕ) (c : Bool) (r : Ref UnpackedIndex) → Some r ≡ resolve_ref ts (record { nullable = false; heap = described c t }) → one (option_map (ref_to false) (slice_get ts t >>= λ a. Some (if c then exact a else concrete a))) ≡ Some (reference r ∷ [])
 described_typed ts t true r e = exactly_typed (slice_get ts t) r e

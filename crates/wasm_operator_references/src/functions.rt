@@ -39,7 +39,7 @@ fn has_exact_type<A: Allocator, T: WasmModuleResources>(
 }
 
 /// What this type index describes, exactly or not.
-fn described(is_exact: bool, type_index: u32) -> HeapType
+fn heap_type_of(is_exact: bool, type_index: u32) -> HeapType
     ensures value { map_heap written_index (heap_of result)
         ≡ (if is_exact then exact type_index else concrete type_index) }
     ensures written { IsWrittenHeap (heap_of result) }
@@ -86,7 +86,7 @@ pub fn ref_func<A: Allocator, T: WasmModuleResources>(
         )));
     }
     let is_exact = has_exact_type(stacks, resources, function_index);
-    match resolve(resources, false, described(is_exact, type_index)) {
+    match resolve(resources, false, heap_type_of(is_exact, type_index)) {
         Some(ty) => plain(
             stacks,
             resources,

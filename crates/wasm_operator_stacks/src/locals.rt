@@ -18,7 +18,7 @@ pub const MAX_LOCALS: u32 = 50_000;
 const FRONT: usize = 64;
 
 /// How many places of the front so many locals more take up.
-fn filled(len: usize, behind: u32, count: u32) -> usize
+fn front_after(len: usize, behind: u32, count: u32) -> usize
     requires { len + count < 2 ^ 64 }
     ensures least { len ≤ result }
     ensures most { result ≤ len + count }
@@ -140,7 +140,7 @@ impl<A: Allocator> Locals<A> {
         ensures inits { self.new.inits ≡ self.old.inits }
     {
         let len = self.front.len();
-        let wanted = filled(len, self.behind.len(), count);
+        let wanted = front_after(len, self.behind.len(), count);
         self.front.resize(wanted, local)?;
         self.behind.extend(count - (wanted - len) as u32, local)
     }

@@ -1,6 +1,7 @@
 -- The references that instructions of constant expressions take and give.
 use Rattle.std.proofs.Common.{◌≡◌, refl, sym, ap, ◌∙◌, subst, ℕ, Bool, true, false, List, [], ◌∷◌, Option, Some, None, option_map, slice_get}
 use Rattle.std.specs.Prelude.{⊤}
+use Rattle.std.proofs.lemmas.Option.{same_Some, none-some}
 use Rattle.wasm_spec_rules.specs.WasmSpec.MatchingTests.{World}
 use Rattle.wasm_spec_rules.specs.WasmSpec.Syntax.{AbstractHeap, any_heap, i31_heap, extern_heap, Heap, abstract_heap, Ref, Val, i32, i64, f32, f64, v128, reference}
 use Rattle.wasm_operators.specs.WasmOperatorsPlain.Signatures.{signature_of}
@@ -21,30 +22,24 @@ use Rattle.wasm_operator_steps.specs.Bodies.{Surroundings}
 use Rattle.wasm_operator_steps.specs.Machine.{Operand, bottom, bottom_reference, open_reference, known, State, push_operand, push_vals, popped, pop_any, as_reference, pop_reference, same_number, matches_operand, pop_val, pop_vals}
 use Rattle.wasm_operator_steps.specs.Actions.{OperandTypes, these, global, function_reference, new_reference, Check, Action, take, give, convert}
 use Rattle.wasm_operator_steps.specs.Shapes.{Shape, plain, converting, nothing, one, number_type, computing, shape_of}
-use Rattle.wasm_spec_rules.specs.Signatures.{resolve_ref, resolve_val, resolve_vals}
+use Rattle.wasm_spec_rules.specs.Signatures.{resolve_ref, resolve_val}
 use Rattle.wasm_operator_steps.specs.Meanings.{ref_to, exact_if, function_heap, types_at, holds, is_below_either, converted, act, run}
 use Rattle.wasm_operator_steps.specs.Meanings as meanings
 use Rattle.wasm_operator_steps.specs.Steps.{checked, actions_of, is_open, step}
 use Rattle.wasm_operator_steps.specs.ConstantExpressions.{gives_reference, takes_no_reference, is_reference, is_number, IsLeft, none_taken, one_taken, GivesOne, GivesOneReference}
 use Rattle.wasm_operator_steps.specs.Laws.{ConstantsGiveReferences}
 
-the_same : {X : Type 0} (x y : X) → Some x ≡ Some y → x ≡ y
-the_same x y e = cc
-
-none : {X : Type 0} (x : X) → None ≡ Some x → ⊥
-none x e = cc
-
 not_both : false ≡ true → ⊥
 not_both e = cc
 
 -- an attempt that gives something, taken apart
 bind-gives : {A B : Type 0} (o : Option A) (g : A → Option B) (b : B) → (o >>= g) ≡ Some b → (a : A) × (o ≡ Some a) × (g a ≡ Some b)
-bind-gives None g b e = absurd (none b e)
+bind-gives None g b e = absurd (none-some b e)
 bind-gives (Some a) g b e = (a, refl, e)
 
 guard-gives : {A : Type 0} (c : Bool) (x y : A) → guard c x ≡ Some y → (c ≡ true) × (x ≡ y)
-guard-gives true x y e = (refl, the_same x y e)
-guard-gives false x y e = absurd (none y e)
+guard-gives true x y e = (refl, same_Some x y e)
+guard-gives false x y e = absurd (none-some y e)
 
 module _ {R : Type 0} (test : Operand R → Bool) where
   left-trans : {xs ys zs : List (Operand R)} → IsLeft test xs ys → IsLeft test ys zs → IsLeft test xs zs
@@ -52,11 +47,11 @@ module _ {R : Type 0} (test : Operand R → Bool) where
   left-trans (one_taken e p) q = one_taken e (left-trans p q)
 
   popped-left : (b u : Bool) (xs : List (Operand R)) (s : State R) (p : Operand R × State R) → s.operands ≡ xs → test p.0 ≡ true → popped b u xs s ≡ Some p → IsLeft test s.operands p.1.operands
-  popped-left true true xs s p e a q = subst (λ (w : Operand R × State R). IsLeft test s.operands w.1.operands) (the_same (bottom, s) p q) none_taken
-  popped-left true false xs s p e a q = absurd (none p q)
-  popped-left false u [] s p e a q = absurd (none p q)
+  popped-left true true xs s p e a q = subst (λ (w : Operand R × State R). IsLeft test s.operands w.1.operands) (same_Some (bottom, s) p q) none_taken
+  popped-left true false xs s p e a q = absurd (none-some p q)
+  popped-left false u [] s p e a q = absurd (none-some p q)
   popped-left false u (x ∷ xs) s p e a q =
-      let same : (x, record s { operands = xs }) ≡ p = the_same (x, record s { operands = xs }) p q in
+      let same : (x, record s { operands = xs }) ≡ p = same_Some (x, record s { operands = xs }) p q in
       subst (λ (w : Operand R × State R). IsLeft test s.operands w.1.operands) same
       (subst (λ (zs : List (Operand R)). IsLeft test zs xs) (sym e) (one_taken (subst (λ (w : Operand R × State R). test w.0 ≡ true) (sym same) a) none_taken))
 
@@ -76,7 +71,7 @@ module _ {R : Type 0} (W : World R) (test : Operand R → Bool) where
   Passes (v ∷ vs) = ((x : Operand R) → matches_operand W x v ≡ true → test x ≡ true) × Passes vs
 
   pop_vals-left : (vs : List (Val R)) (s t : State R) → Passes vs → pop_vals W vs s ≡ Some t → IsLeft test s.operands t.operands
-  pop_vals-left [] s t h e = subst (λ (w : State R). IsLeft test s.operands w.operands) (the_same s t e) none_taken
+  pop_vals-left [] s t h e = subst (λ (w : State R). IsLeft test s.operands w.operands) (same_Some s t e) none_taken
   pop_vals-left (v ∷ vs) s t h e = let f = bind-gives (pop_vals W vs s) _ t e in left-trans test (pop_vals-left vs s f.0 h.1 f.1) (pop_val-left v f.0 t h.0 f.2)
 
 all_pass : {R : Type 0} (W : World R) (vs : List (Val R)) → Passes W (λ x. true) vs
@@ -139,7 +134,7 @@ module _ {R : Type 0} (W : World R) (B : Surroundings R) where
       let c = bind-gives (act W B (give u) a.0) (run W B []) r a.2 in
       let d = bind-gives (types_at W B a.0 u) _ c.0 c.1 in
       let w = is_one a.0 d.0 d.1 in
-      let after : push_vals d.0 a.0 ≡ r = the_same (push_vals d.0 a.0) c.0 d.2 ∙ the_same c.0 r c.2 in (
+      let after : push_vals d.0 a.0 ≡ r = same_Some (push_vals d.0 a.0) c.0 d.2 ∙ same_Some c.0 r c.2 in (
         record {
           given = known w.0;
           left = a.0.operands;
@@ -156,19 +151,19 @@ module _ {R : Type 0} (W : World R) (B : Surroundings R) where
   any t m vs e = all_pass W vs
 
   takes_nothing : TakesOnly is_number nothing
-  takes_nothing m vs e = subst (λ (w : List (Val R)). Passes W is_number w) (the_same [] vs e) tt
+  takes_nothing m vs e = subst (λ (w : List (Val R)). Passes W is_number w) (same_Some [] vs e) tt
 
   takes_one : (a : NumberType) → TakesOnly is_number (one (number_type a))
-  takes_one number.I32 m vs e = subst (λ (w : List (Val R)). Passes W is_number w) (the_same (i32 ∷ []) vs e) (matches_number W i32 refl, tt)
-  takes_one number.I64 m vs e = subst (λ (w : List (Val R)). Passes W is_number w) (the_same (i64 ∷ []) vs e) (matches_number W i64 refl, tt)
-  takes_one number.F32 m vs e = subst (λ (w : List (Val R)). Passes W is_number w) (the_same (f32 ∷ []) vs e) (matches_number W f32 refl, tt)
-  takes_one number.F64 m vs e = subst (λ (w : List (Val R)). Passes W is_number w) (the_same (f64 ∷ []) vs e) (matches_number W f64 refl, tt)
+  takes_one number.I32 m vs e = subst (λ (w : List (Val R)). Passes W is_number w) (same_Some (i32 ∷ []) vs e) (matches_number W i32 refl, tt)
+  takes_one number.I64 m vs e = subst (λ (w : List (Val R)). Passes W is_number w) (same_Some (i64 ∷ []) vs e) (matches_number W i64 refl, tt)
+  takes_one number.F32 m vs e = subst (λ (w : List (Val R)). Passes W is_number w) (same_Some (f32 ∷ []) vs e) (matches_number W f32 refl, tt)
+  takes_one number.F64 m vs e = subst (λ (w : List (Val R)). Passes W is_number w) (same_Some (f64 ∷ []) vs e) (matches_number W f64 refl, tt)
 
   takes_two : (a : NumberType) → TakesOnly is_number (these (number_type a ∷ number_type a ∷ []))
-  takes_two number.I32 m vs e = subst (λ (w : List (Val R)). Passes W is_number w) (the_same (i32 ∷ i32 ∷ []) vs e) (matches_number W i32 refl, (matches_number W i32 refl, tt))
-  takes_two number.I64 m vs e = subst (λ (w : List (Val R)). Passes W is_number w) (the_same (i64 ∷ i64 ∷ []) vs e) (matches_number W i64 refl, (matches_number W i64 refl, tt))
-  takes_two number.F32 m vs e = subst (λ (w : List (Val R)). Passes W is_number w) (the_same (f32 ∷ f32 ∷ []) vs e) (matches_number W f32 refl, (matches_number W f32 refl, tt))
-  takes_two number.F64 m vs e = subst (λ (w : List (Val R)). Passes W is_number w) (the_same (f64 ∷ f64 ∷ []) vs e) (matches_number W f64 refl, (matches_number W f64 refl, tt))
+  takes_two number.I32 m vs e = subst (λ (w : List (Val R)). Passes W is_number w) (same_Some (i32 ∷ i32 ∷ []) vs e) (matches_number W i32 refl, (matches_number W i32 refl, tt))
+  takes_two number.I64 m vs e = subst (λ (w : List (Val R)). Passes W is_number w) (same_Some (i64 ∷ i64 ∷ []) vs e) (matches_number W i64 refl, (matches_number W i64 refl, tt))
+  takes_two number.F32 m vs e = subst (λ (w : List (Val R)). Passes W is_number w) (same_Some (f32 ∷ f32 ∷ []) vs e) (matches_number W f32 refl, (matches_number W f32 refl, tt))
+  takes_two number.F64 m vs e = subst (λ (w : List (Val R)). Passes W is_number w) (same_Some (f64 ∷ f64 ∷ []) vs e) (matches_number W f64 refl, (matches_number W f64 refl, tt))
 
   -- what is given
   abbrev IsAny : Val R → Type 0
@@ -178,29 +173,29 @@ module _ {R : Type 0} (W : World R) (B : Surroundings R) where
   IsRef v = (r : Ref R) × (v ≡ reference r)
 
   by_val : (o : Option (Val R)) (ws : List (Val R)) → (o >>= λ w. Some [] >>= λ rest. Some (w ∷ rest)) ≡ Some ws → (w : Val R) × IsAny w × (ws ≡ w ∷ [])
-  by_val None ws e = absurd (none ws e)
-  by_val (Some w) ws e = (w, tt, sym (the_same (w ∷ []) ws e))
+  by_val None ws e = absurd (none-some ws e)
+  by_val (Some w) ws e = (w, tt, sym (same_Some (w ∷ []) ws e))
 
   written : (v : Val ℕ) → IsOne IsAny (one v)
   written v m ws e = by_val (resolve_val B.context.types v) ws e
 
   by_global : (o : Option (Val R)) (ws : List (Val R)) → meanings.one o ≡ Some ws → (w : Val R) × IsAny w × (ws ≡ w ∷ [])
-  by_global None ws e = absurd (none ws e)
-  by_global (Some w) ws e = (w, tt, sym (the_same (w ∷ []) ws e))
+  by_global None ws e = absurd (none-some ws e)
+  by_global (Some w) ws e = (w, tt, sym (same_Some (w ∷ []) ws e))
 
   of_global : (n : ℕ) → IsOne IsAny (global n)
   of_global n m ws e = by_global (option_map (λ g. g.content) (slice_get B.context.globals n)) ws e
 
   by_ref : (o : Option (Ref R)) (ws : List (Val R)) → (option_map reference o >>= λ w. Some [] >>= λ rest. Some (w ∷ rest)) ≡ Some ws → (w : Val R) × IsRef w × (ws ≡ w ∷ [])
-  by_ref None ws e = absurd (none ws e)
-  by_ref (Some r) ws e = (reference r, (r, refl), sym (the_same (reference r ∷ []) ws e))
+  by_ref None ws e = absurd (none-some ws e)
+  by_ref (Some r) ws e = (reference r, (r, refl), sym (same_Some (reference r ∷ []) ws e))
 
   written_ref : (r : Ref ℕ) → IsOne IsRef (one (reference r))
   written_ref r m ws e = by_ref (resolve_ref B.context.types r) ws e
 
   by_heap : {A : Type 0} (g : A → Heap R) (o : Option A) (ws : List (Val R)) → meanings.one (option_map (λ a. ref_to false (g a)) o) ≡ Some ws → (w : Val R) × IsRef w × (ws ≡ w ∷ [])
-  by_heap g None ws e = absurd (none ws e)
-  by_heap g (Some a) ws e = (ref_to false (g a), (record { nullable = false; heap = g a }, refl), sym (the_same (ref_to false (g a) ∷ []) ws e))
+  by_heap g None ws e = absurd (none-some ws e)
+  by_heap g (Some a) ws e = (ref_to false (g a), (record { nullable = false; heap = g a }, refl), sym (same_Some (ref_to false (g a) ∷ []) ws e))
 
   made : (n : ℕ) → IsOne IsRef (new_reference n)
   made n m ws e = by_heap (exact_if W B true) (slice_get B.context.types n) ws e
@@ -239,7 +234,7 @@ module _ {R : Type 0} (W : World R) (B : Surroundings R) where
   pop_reference-left s p e =
       let f = bind-gives (pop_any s) _ p e in
       let g = bind-gives (as_reference f.0.0) _ p f.2 in
-      subst (λ (w : State R). IsLeft (λ x. true) s.operands w.operands) (ap (λ (q : Operand R × State R). q.1) (the_same (g.0, f.0.1) p g.2)) (pop_any-left (λ x. true) s f.0 refl f.1)
+      subst (λ (w : State R). IsLeft (λ x. true) s.operands w.operands) (ap (λ (q : Operand R × State R). q.1) (same_Some (g.0, f.0.1) p g.2)) (pop_any-left (λ x. true) s f.0 refl f.1)
 
   converts : (cs : List Check) (j k : AbstractHeap) → Gives W B (converting cs j k)
   converts cs j k = record {
@@ -251,7 +246,7 @@ module _ {R : Type 0} (W : World R) (B : Surroundings R) where
           one = record {
             given = converted W B k b.0.0;
             left = b.0.1.operands;
-            gives = sym (ap (λ (q : State R). q.operands) (c.1 ∙ the_same a.0 r a.2));
+            gives = sym (ap (λ (q : State R). q.operands) (c.1 ∙ same_Some a.0 r a.2));
             takes = pop_reference-left s b.0 b.1;
           };
           is_one = converted_is_reference k b.0.0;

@@ -1,6 +1,7 @@
 -- Operands taken and given one by one, and list by list.
 use Rattle.std.proofs.Common.{◌≡◌, refl, sym, ap, ◌∙◌, ℕ, Bool, true, false, ◌==◌, List, [], ◌∷◌, ◌++◌, length, Option, Some, None, option_map, is_some, slice_get}
 use Rattle.std.proofs.lemmas.Bool.Decides.{Decides-eqb}
+use Rattle.std.proofs.lemmas.Option.{same_Some, none-some}
 use Rattle.wasm_spec_rules.specs.WasmSpec.Syntax.{Val}
 use Rattle.wasm_spec_rules.specs.WasmSpec.MatchingTests.{World}
 use Rattle.wasm_operators.specs.Instructions.{Instruction}
@@ -12,12 +13,6 @@ use Rattle.wasm_operator_steps.specs.Shapes.{shape_of}
 use Rattle.wasm_operator_steps.specs.Meanings.{one, copies, label_by, frame_signature, types_at, act, run}
 use Rattle.wasm_operator_steps.specs.Steps.{actions_of, is_open, step_in, steps_in}
 use Rattle.wasm_operator_steps.specs.StackLaws.{ListsAreTakenInTurn, TakingKeepsFrames, TypesAreTakenInTurn, IsUnreached, UnreachedCodeTakesAnything, ActionsAreRunInTurn}
-
-the_same : {X : Type 0} (x y : X) → Some x ≡ Some y → x ≡ y
-the_same x y e = cc
-
-none : {X : Type 0} (x : X) → None ≡ Some x → ⊥
-none x e = cc
 
 -- attempts
 module _ {A B C : Type 0} where
@@ -38,7 +33,7 @@ module _ {A B : Type 0} where
   bind-like (Some x) g h e = e x refl
 
   bind-gives : (o : Option A) (g : A → Option B) (b : B) → (o >>= g) ≡ Some b → (a : A) × (o ≡ Some a) × (g a ≡ Some b)
-  bind-gives None g b e = absurd (none b e)
+  bind-gives None g b e = absurd (none-some b e)
   bind-gives (Some a) g b e = (a, refl, e)
 
   bind-refused : (o : Option A) (g : A → Option B) → o ≡ None → (o >>= g) ≡ None
@@ -49,13 +44,13 @@ bind-some None = refl
 bind-some (Some x) = refl
 
 guard-gives : {A : Type 0} (c : Bool) (x y : A) → guard c x ≡ Some y → x ≡ y
-guard-gives true x y e = the_same x y e
-guard-gives false x y e = absurd (none y e)
+guard-gives true x y e = same_Some x y e
+guard-gives false x y e = absurd (none-some y e)
 
 -- a list with a last item
 with_last : {A : Type 0} (xs : List A) (x : A) → last_of xs ≡ Some x → xs ≡ front_of xs ++ x ∷ []
-with_last [] x e = absurd (none x e)
-with_last (y ∷ []) x e = ap (λ z. z ∷ []) (the_same y x e)
+with_last [] x e = absurd (none-some x e)
+with_last (y ∷ []) x e = ap (λ z. z ∷ []) (same_Some y x e)
 with_last (y ∷ z ∷ zs) x e = ap (λ ws. y ∷ ws) (with_last (z ∷ zs) x e)
 
 module _ {R : Type 0} where
@@ -71,11 +66,11 @@ module _ {R : Type 0} where
 
   -- pops change operands alone
   popped-frames : (b u : Bool) (xs : List (Operand R)) (s : State R) (p : Operand R × State R) → popped b u xs s ≡ Some p → (p.1.frames ≡ s.frames) × (p.1.inits ≡ s.inits)
-  popped-frames true true xs s p e = let h = the_same (bottom, s) p e in (ap (λ (q : Operand R × State R). q.1.frames) (sym h), ap (λ (q : Operand R × State R). q.1.inits) (sym h))
-  popped-frames true false xs s p e = absurd (none p e)
-  popped-frames false u [] s p e = absurd (none p e)
+  popped-frames true true xs s p e = let h = same_Some (bottom, s) p e in (ap (λ (q : Operand R × State R). q.1.frames) (sym h), ap (λ (q : Operand R × State R). q.1.inits) (sym h))
+  popped-frames true false xs s p e = absurd (none-some p e)
+  popped-frames false u [] s p e = absurd (none-some p e)
   popped-frames false u (x ∷ xs) s p e =
-      let h = the_same (x, record s { operands = xs }) p e in
+      let h = same_Some (x, record s { operands = xs }) p e in
       (ap (λ (q : Operand R × State R). q.1.frames) (sym h), ap (λ (q : Operand R × State R). q.1.inits) (sym h))
 
   pub pop_any-frames : (s : State R) (p : Operand R × State R) → pop_any s ≡ Some p → (p.1.frames ≡ s.frames) × (p.1.inits ≡ s.inits)
@@ -108,7 +103,7 @@ module _ {R : Type 0} (W : World R) where
       (ap (λ (q : State R). q.frames) (sym g) ∙ h.0, ap (λ (q : State R). q.inits) (sym g) ∙ h.1)
 
   pub pop_vals-frames : (vs : List (Val R)) (s t : State R) → pop_vals W vs s ≡ Some t → (t.frames ≡ s.frames) × (t.inits ≡ s.inits)
-  pop_vals-frames [] s t e = let h = the_same s t e in (ap (λ (q : State R). q.frames) (sym h), ap (λ (q : State R). q.inits) (sym h))
+  pop_vals-frames [] s t e = let h = same_Some s t e in (ap (λ (q : State R). q.frames) (sym h), ap (λ (q : State R). q.inits) (sym h))
   pop_vals-frames (v ∷ vs) s t e =
       let f = bind-gives (pop_vals W vs s) _ t e in
       let g = pop_vals-frames vs s f.0 f.1 in
@@ -179,7 +174,7 @@ module _ {R : Type 0} (W : World R) (B : Surroundings R) where
   given-frames : (t u : OperandTypes) (s r : State R) → act W B (give u) s ≡ Some r → types_at W B r t ≡ types_at W B s t
   given-frames t u s r e =
       let f = bind-gives (types_at W B s u) _ r e in
-      types_at-frames s r (ap (λ (q : State R). q.frames) (sym (the_same (push_vals f.0 s) r f.2))) t
+      types_at-frames s r (ap (λ (q : State R). q.frames) (sym (same_Some (push_vals f.0 s) r f.2))) t
 
   give-joined : (t u : OperandTypes) (s : State R) → act W B (give (joined t u)) s ≡ (act W B (give t) s >>= act W B (give u))
   give-joined t u s =
@@ -191,7 +186,7 @@ module _ {R : Type 0} (W : World R) (B : Surroundings R) where
   taken-last : (s : State R) (o : Option (List (Val R))) (l : Option (Val R)) → (o >>= last_of) ≡ l → is_some (one l) ≡ true →
       (o >>= λ vs. pop_vals W vs s) ≡ ((one l >>= λ vs. pop_vals W vs s) >>= λ r. option_map front_of o >>= λ vs. pop_vals W vs r)
   taken-last s o None e h = absurd (let f : false ≡ true = h in cc)
-  taken-last s None (Some v) e h = absurd (none v e)
+  taken-last s None (Some v) e h = absurd (none-some v e)
   taken-last s (Some vs) (Some v) e h = pop_vals-last W vs v s e
 
   take-last : (t : OperandTypes) (s : State R) → is_some (types_at W B s (last t)) ≡ true → act W B (take t) s ≡ (act W B (take (last t)) s >>= act W B (take (front t)))
@@ -203,7 +198,7 @@ module _ {R : Type 0} (W : World R) (B : Surroundings R) where
   given-last : (s : State R) (o : Option (List (Val R))) (l : Option (Val R)) → (o >>= last_of) ≡ l → is_some (one l) ≡ true →
       (o >>= λ vs. Some (push_vals vs s)) ≡ ((option_map front_of o >>= λ vs. Some (push_vals vs s)) >>= λ r. one l >>= λ vs. Some (push_vals vs r))
   given-last s o None e h = absurd (let f : false ≡ true = h in cc)
-  given-last s None (Some v) e h = absurd (none v e)
+  given-last s None (Some v) e h = absurd (none-some v e)
   given-last s (Some vs) (Some v) e h = ap Some (push_vals-last vs v s e)
 
   give-last : (t : OperandTypes) (s : State R) → is_some (types_at W B s (last t)) ≡ true → act W B (give t) s ≡ (act W B (give (front t)) s >>= act W B (give (last t)))

@@ -3,6 +3,7 @@
 use Rattle.std.proofs.Common.{◌≡◌, refl, sym, ap, ◌∙◌, zero, suc, arith, ℕ, Bool, true, false, List, [], ◌∷◌, ◌++◌, Option, Some, None, option_map, is_some}
 use Rattle.std.specs.List.{Contains}
 use Rattle.std.proofs.lemmas.List.Elements.{Contains-append_left, Contains-append_right}
+use Rattle.std.proofs.lemmas.Option.{same_Some, none-some}
 use Rattle.wasm_operators.specs.Control.{Block}
 use Rattle.wasm_operators.specs.Maps.{map_block}
 use Rattle.wasm_operators.specs.Instructions.{Instruction}
@@ -14,12 +15,6 @@ use Rattle.wasm_operator_steps.specs.Laws.{VerdictsRename}
 use Rattle.wasm_operator_steps.proofs.Attempts.{is_some-map}
 use Rattle.wasm_operator_steps.proofs.StepsRenamed.{step-map, steps-map, is_typed-map}
 use Rattle.wasm_operator_steps.proofs.SyntaxAgrees.{Contains-behind, AgreeOn, agree_surroundings, agree_block, agree_state, after, surroundings-map, block-map, state-map}
-
-the_same : {X : Type 0} (x y : X) → Some x ≡ Some y → x ≡ y
-the_same x y e = cc
-
-none : {X : Type 0} (x : X) → None ≡ Some x → ⊥
-none x e = cc
 
 -- the test for the same identity where all others are one
 abbrev same_kept : {R : Type 0} → (R → R → Bool) → Option R → Option R → Bool
@@ -48,11 +43,11 @@ module _ {R : Type 0} (decides : Discrete R) where
   kept (b ∷ bs) a c = kept_by b a (decides b a) bs c (kept bs a)
 
   inside_by : (b a c : R) (d : Dec (b ≡ a)) (bs : List R) → (keep bs a ≡ Some c → Contains bs c) → kept_if d (keep bs a) ≡ Some c → Contains (b ∷ bs) c
-  inside_by b a c (yes e) bs rest p = (zero, omega arith, e ∙ the_same a c p)
+  inside_by b a c (yes e) bs rest p = (zero, omega arith, e ∙ same_Some a c p)
   inside_by b a c (no h) bs rest p = Contains-behind b c bs (rest p)
 
   inside : (ids : List R) (a c : R) → keep ids a ≡ Some c → Contains ids c
-  inside [] a c p = absurd (none c p)
+  inside [] a c p = absurd (none-some c p)
   inside (b ∷ bs) a c p = inside_by b a c (decides b a) bs (inside bs a c) p
 
 module _ {R S : Type 0} (decides : Discrete R) (same : R → R → Bool) (renamed : S → S → Bool) (f : R → S) (ids : List R) (one_to_one : IsOneToOneOn same renamed f ids) where

@@ -1,8 +1,8 @@
 -- What the operators on structures name and check of a structure type.
 use Rattle.std.proofs.Common.{◌≡◌, ℕ, Bool, true, false, not, ◌++◌, ◌<◌, ◌≤◌, List, [], ◌∷◌, length, get_or, map, refl, sym, ◌∙◌, ap}
 use Rattle.std.specs.Option.{option_map}
-use Rattle.std.specs.Prelude.{Option, Some, None, is_some, slice_get}
-use Rattle.std.proofs.lemmas.Option.{slice_get-map, slice_get_read, slice_get_past}
+use Rattle.std.specs.Prelude.{Option, Some, None, is_some}
+use Rattle.std.proofs.lemmas.Option.{slice_get-map, slice_get_read, slice_get_past, same_Some}
 use Rattle.wasm_spec.specs.MatchingTests.{same_flag}
 use Rattle.wasm_spec.specs.Syntax.{Val, exact, Field, Sub}
 use Rattle.wasm_operator_checks.specs.WasmSpecRules.Contexts.{Context}
@@ -19,17 +19,14 @@ use Rattle.wasm_operator_checks.specs.Steps.{typed, held}
 use Rattle.wasm_operator_checks.specs.DeclaredTypes.{fields_in, descriptor_in, Barred, is_off, is_unreached, is_missing}
 use Rattle.wasm_operator_structs.specs.Fields.{field_in}
 
-the_same : {X : Type 0} (x y : X) → Some x ≡ Some y → x ≡ y
-the_same x y e = cc
-
 -- what is declared of a descriptor
 described : (o : Option (Sub UnpackedIndex)) (d : Option UnpackedIndex) → option_map (λ s. s.descriptor) o ≡ Some d → (o >>= λ s. s.descriptor) ≡ d
 described None d e = cc
-described (Some s) d e = the_same s.descriptor d e
+described (Some s) d e = same_Some s.descriptor d e
 
 no_descriptor : (o : Option (Sub UnpackedIndex)) (d : Option UnpackedIndex) → option_map (λ s. s.descriptor) o ≡ Some d → passes (λ s. not (is_some s.descriptor)) o ≡ not (is_some d)
 no_descriptor None d e = cc
-no_descriptor (Some s) d e = ap (λ x. not (is_some x)) (the_same s.descriptor d e)
+no_descriptor (Some s) d e = ap (λ x. not (is_some x)) (same_Some s.descriptor d e)
 
 still_some : (o : Option PackedIndex) → is_some (option_map index_of o) ≡ is_some o
 still_some None = refl

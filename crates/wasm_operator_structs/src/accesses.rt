@@ -37,10 +37,7 @@ fn get<A: Allocator, T: WasmModuleResources>(
         (getting packed struct_type_index field_index) stacks.old stacks.new }
     ensures same { Kept stacks.old stacks.new }
 {
-    let field = match reach_member(stacks, resources, struct_type_index, field_index) {
-        Ok(field) => field,
-        Err(fault) => return Err(OperatorError::Refused(fault)),
-    };
+    let field = reach_member(stacks, resources, struct_type_index, field_index)?;
     if !same_flag(packed, is_packed(field.ty.element_type)) {
         return Err(OperatorError::Refused(OperatorFault::at(packed_rule(packed), field_index)));
     }
@@ -106,10 +103,7 @@ pub fn struct_set<A: Allocator, T: WasmModuleResources>(
         (struct_shape (StructSet struct_type_index field_index)) stacks.old stacks.new }
     ensures same { Kept stacks.old stacks.new }
 {
-    let field = match reach_member(stacks, resources, struct_type_index, field_index) {
-        Ok(field) => field,
-        Err(fault) => return Err(OperatorError::Refused(fault)),
-    };
+    let field = reach_member(stacks, resources, struct_type_index, field_index)?;
     if field.ty.mutable {
         plain(
             stacks,

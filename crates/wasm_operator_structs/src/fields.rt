@@ -72,10 +72,7 @@ pub fn exchange_fields<A: Allocator, T: WasmModuleResources>(
         (state_of stacks.old) (state_of stacks.new) }
     ensures same { Kept stacks.old stacks.new }
 {
-    let taken = match check_fields(stacks, resources, taken, fields) {
-        Ok(taken) => taken,
-        Err(fault) => return Err(OperatorError::Refused(fault)),
-    };
+    let taken = check_fields(stacks, resources, taken, fields)?;
     match stacks.exchange(taken, Word::known(given)) {
         Ok(()) => Ok(()),
         Err(_) => Err(OperatorError::OutOfMemory),

@@ -27,10 +27,7 @@ pub fn struct_new<A: Allocator, T: WasmModuleResources>(
         (struct_shape (StructNew struct_type_index)) stacks.old stacks.new }
     ensures same { Kept stacks.old stacks.new }
 {
-    let ty = match reach_structure(stacks, resources, Proposal::Gc, struct_type_index) {
-        Ok(ty) => ty,
-        Err(fault) => return Err(OperatorError::Refused(fault)),
-    };
+    let ty = reach_structure(stacks, resources, Proposal::Gc, struct_type_index)?;
     if ty.descriptor.is_some() {
         return Err(OperatorError::Refused(OperatorFault::at(
             OperatorRule::CustomDescriptors,
@@ -52,10 +49,7 @@ pub fn struct_new_default<A: Allocator, T: WasmModuleResources>(
         (struct_shape (StructNewDefault struct_type_index)) stacks.old stacks.new }
     ensures same { Kept stacks.old stacks.new }
 {
-    let ty = match reach_structure(stacks, resources, Proposal::Gc, struct_type_index) {
-        Ok(ty) => ty,
-        Err(fault) => return Err(OperatorError::Refused(fault)),
-    };
+    let ty = reach_structure(stacks, resources, Proposal::Gc, struct_type_index)?;
     if ty.descriptor.is_some() {
         return Err(OperatorError::Refused(OperatorFault::at(
             OperatorRule::CustomDescriptors,
@@ -117,15 +111,12 @@ pub fn struct_new_default_desc<A: Allocator, T: WasmModuleResources>(
         (struct_shape (StructNewDefaultDesc struct_type_index)) stacks.old stacks.new }
     ensures same { Kept stacks.old stacks.new }
 {
-    let described = match reach_structure(
+    let described = reach_structure(
         stacks,
         resources,
         Proposal::CustomDescriptors,
         struct_type_index,
-    ) {
-        Ok(described) => described,
-        Err(fault) => return Err(OperatorError::Refused(fault)),
-    };
+    )?;
     let descriptor = match described.descriptor {
         Some(descriptor) => descriptor,
         None => return Err(OperatorError::Refused(OperatorFault::at(

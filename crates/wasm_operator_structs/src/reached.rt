@@ -119,10 +119,7 @@ pub fn reach_member<A: Allocator, T: WasmModuleResources>(
     ensures barred { OnErr result (Barred stacks.now (T.context resources.now) gc type_index
         (field_in (T.context resources.now) type_index field_index ≡ None)) }
 {
-    let structure = match reach_structure(stacks, resources, Proposal::Gc, type_index) {
-        Ok(structure) => structure,
-        Err(fault) => return Err(fault),
-    };
+    let structure = reach_structure(stacks, resources, Proposal::Gc, type_index)?;
     let place = field_index as usize;
     if place < structure.fields.len() {
         Ok(Member {

@@ -3,7 +3,7 @@ use Rattle.std.specs.Prelude.{true, false, ◌==◌}
 use Rattle.std.proofs.Common.{◌≡◌, refl, sym, ap, ◌∙◌, ℕ, zero, suc, ◌+◌, ◌-◌, ◌*◌, List, [], ◌∷◌, ◌++◌, length, map, Option, Some, None, option_map, slice_get, length-append, arith, rules}
 use Rattle.std.specs.Option.{option_and_then}
 use Rattle.std.proofs.lemmas.List.{length-map}
-use Rattle.std.proofs.lemmas.Option.{slice_get-map}
+use Rattle.std.proofs.lemmas.Option.{slice_get-map, same_Some, none-some}
 use Rattle.wasm_spec.specs.Syntax.{exact, Val, reference, Comp, func, array, struct, cont, Sub}
 use Rattle.wasm_spec.specs.MatchingTests.{World}
 use Rattle.wasm_readers_types.specs.WasmReadersValues.declared.indices.UnpackedIndex.{UnpackedIndex}
@@ -17,25 +17,19 @@ use Rattle.wasm_operator_blocks.specs.WasmOperatorChecks.WasmOperatorSteps.Meani
 use Rattle.wasm_operator_validator.specs.Arities.{takes_of, gives_of, func_counts, field_count, one_of, label_count, type_counts, signature_counts, block_counts, how_many}
 use Rattle.wasm_operator_validator.specs.Lengths.{lengths_of, asked_of, CountsAreLengths}
 
-the_same : {X : Type 0} (x y : X) → Some x ≡ Some y → x ≡ y
-the_same x y e = cc
-
-none : {X : Type 0} (x : X) → None ≡ Some x → ⊥
-none x e = cc
-
 -- an attempt that gives something, taken apart
 bind-gives : {A B : Type 0} (o : Option A) (g : A → Option B) (b : B) → (o >>= g) ≡ Some b → (a : A) × (o ≡ Some a) × (g a ≡ Some b)
-bind-gives None g b e = absurd (none b e)
+bind-gives None g b e = absurd (none-some b e)
 bind-gives (Some a) g b e = (a, refl, e)
 
 map-gives : {A B : Type 0} (f : A → B) (o : Option A) (b : B) → option_map f o ≡ Some b → (a : A) × (o ≡ Some a) × (f a ≡ b)
-map-gives f None b e = absurd (none b e)
-map-gives f (Some a) b e = (a, refl, the_same (f a) b e)
+map-gives f None b e = absurd (none-some b e)
+map-gives f (Some a) b e = (a, refl, same_Some (f a) b e)
 
 -- lists
 one-length : {R : Type 0} (o : Option (Val R)) (vs : List (Val R)) → one o ≡ Some vs → Some 1 ≡ Some (length vs)
-one-length None vs e = absurd (none vs e)
-one-length {R = R} (Some v) vs e = ap (λ (ws : List (Val R)). Some (length ws)) (the_same (v ∷ []) vs e)
+one-length None vs e = absurd (none-some vs e)
+one-length {R = R} (Some v) vs e = ap (λ (ws : List (Val R)). Some (length ws)) (same_Some (v ∷ []) vs e)
 
 front-length : {A : Type 0} (xs : List A) → length (front_of xs) ≡ length xs - 1
 front-length [] = refl
@@ -52,15 +46,15 @@ last_of-map f (x ∷ []) = refl
 last_of-map f (x ∷ y ∷ ys) = last_of-map f (y ∷ ys)
 
 last-counted : {R : Type 0} (us : List (Val R)) (v : Val R) → last_of us ≡ Some v → one_of (length us) ≡ Some 1
-last-counted [] v e = absurd (none v e)
+last-counted [] v e = absurd (none-some v e)
 last-counted (u ∷ us) v e = let h : (length (u ∷ us) == 0) ≡ false = search rules in rw h refl
 
 resolved-length : {R : Type 0} (ts : List R) (us : List (Val ℕ)) (vs : List (Val R)) → resolve_vals ts us ≡ Some vs → length us ≡ length vs
-resolved-length ts [] vs e = ap length (the_same [] vs e)
+resolved-length ts [] vs e = ap length (same_Some [] vs e)
 resolved-length ts (u ∷ us) vs e =
     let a = bind-gives (resolve_val ts u) (λ w. (resolve_vals ts us >>= λ ws. Some (w ∷ ws))) vs e in
     let b = bind-gives (resolve_vals ts us) (λ ws. Some (a.0 ∷ ws)) vs a.2 in
-    ap suc (resolved-length ts us b.0 b.1) ∙ ap length (the_same (a.0 ∷ b.0) vs b.2)
+    ap suc (resolved-length ts us b.0 b.1) ∙ ap length (same_Some (a.0 ∷ b.0) vs b.2)
 
 -- types
 func-counted : {R : Type 0} (c : Comp R) → func_counts c ≡ option_map lengths_of (signature_of c)
@@ -157,7 +151,7 @@ module _ (W : World UnpackedIndex) (B : Surroundings UnpackedIndex) (s : State U
       let b = bind-gives (types_at W B s u) (λ ys. Some (a.0 ++ ys)) vs a.2 in
       ap (option_and_then (λ (i : ℕ). option_map (λ (j : ℕ). i + j) (how_many (asked_of W B s) u))) (counted t a.0 a.1)
       ∙ ap (option_map (λ (j : ℕ). length a.0 + j)) (counted u b.0 b.1)
-      ∙ ap Some (sym (length-append a.0 b.0) ∙ ap length (the_same (a.0 ++ b.0) vs b.2))
+      ∙ ap Some (sym (length-append a.0 b.0) ∙ ap length (same_Some (a.0 ++ b.0) vs b.2))
   counted (local n) vs e = one-length (option_map (λ x. x.content) (slice_get B.locals n)) vs e
   counted (global n) vs e = one-length (option_map (λ g. g.content) (slice_get B.context.globals n)) vs e
   counted (function_reference n) vs e = one-length (option_map (ref_to false) (function_heap W B n)) vs e

@@ -41,7 +41,7 @@ pub struct OperatorValidatorAllocations<A: Allocator = Global> {
 
 /// The refusal by a rule.
 #[inline(never)]
-fn refused(rule: OperatorRule) -> OperatorError
+fn refuse(rule: OperatorRule) -> OperatorError
     ensures { IsRefused result }
 {
     OperatorError::Refused(OperatorFault::new(rule))
@@ -118,15 +118,15 @@ impl<A: Allocator> OperatorValidator<A> {
         let mut stacks = allocations.stacks;
         let sub = match resources.sub_type_at(type_index) {
             Some(sub) => sub,
-            None => return Err(refused(OperatorRule::UnknownType)),
+            None => return Err(refuse(OperatorRule::UnknownType)),
         };
         let params = match &sub.composite_type.inner {
             CompositeInnerType::Func(signature) => signature.params(),
-            _ => return Err(refused(OperatorRule::NotAFunction)),
+            _ => return Err(refuse(OperatorRule::NotAFunction)),
         };
         stacks.clear(features, sub.composite_type.shared);
         if params.len() > MAX_LOCALS as usize {
-            return Err(refused(OperatorRule::TooManyLocals));
+            return Err(refuse(OperatorRule::TooManyLocals));
         }
         define_parameters(&mut stacks.locals, params)?;
         stacks.open(FrameKind::Block, BlockWord::func(type_index))?;
@@ -183,7 +183,7 @@ impl<A: Allocator> OperatorValidator<A> {
         ensures failed { self.new.failed ≡ (self.old.failed || not (is_ok result)) }
     {
         if self.failed {
-            return Err(refused(OperatorRule::Failed));
+            return Err(refuse(OperatorRule::Failed));
         }
         self.failed = true;
         let mut resolved = ty;
@@ -191,10 +191,10 @@ impl<A: Allocator> OperatorValidator<A> {
             .check_value_type(&mut resolved, &self.stacks.features, 0)
             .is_err()
         {
-            return Err(refused(OperatorRule::ValueType));
+            return Err(refuse(OperatorRule::ValueType));
         }
         if !self.stacks.locals.has_room(count) {
-            return Err(refused(OperatorRule::TooManyLocals));
+            return Err(refuse(OperatorRule::TooManyLocals));
         }
         let local = LocalWord::new(TypeWord::new(resolved), has_default_value(resolved));
         self.stacks.locals.define(count, local)?;
@@ -223,7 +223,7 @@ impl<A: Allocator> OperatorValidator<A> {
         ensures failed { self.new.failed ≡ self.old.failed }
     {
         if self.failed {
-            return Err(refused(OperatorRule::Failed));
+            return Err(refuse(OperatorRule::Failed));
         }
         step(&mut self.stacks, resources, op)
     }
@@ -249,7 +249,7 @@ impl<A: Allocator> OperatorValidator<A> {
         ensures failed { self.new.failed ≡ (self.old.failed || not (is_ok result)) }
     {
         if self.failed {
-            return Err(refused(OperatorRule::Failed));
+            return Err(refuse(OperatorRule::Failed));
         }
         match step(&mut self.stacks, resources, op) {
             Ok(()) => Ok(()),

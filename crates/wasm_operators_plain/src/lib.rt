@@ -30,7 +30,9 @@ pub use memories::{
 };
 pub use numeric::{NumericOperator, SaturatingOperator, numeric_from_opcode, saturating_from_code};
 pub use opcodes::{unknown_opcode, unknown_prefixed_opcode};
-pub use signatures::{NumberType, Signature, numeric_signature, saturating_signature};
+pub use signatures::{
+    NumberType, Signature, numeric_signature, saturating_signature, signature_in_place,
+};
 pub use structs::{StructOperator, read_struct};
 pub use tables::{TableOperator, read_table, read_table_access};
 pub use variables::{VariableOperator, read_variable};

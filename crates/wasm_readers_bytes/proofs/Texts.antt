@@ -1,9 +1,9 @@
-use Rattle.std.proofs.Common.{◌≡◌, ◌≤◌, ℕ, Bool, true, false, List, [], length, take, drop, ◌+◌, ◌-◌, ltb, Some, None, cond, eqb, leb, refl, sym, ap, arith}
-use Rattle.std.proofs.lemmas.Bool.{eqb-true, leb-true, le-leb, le-ltb}
+use Rattle.std.proofs.Common.{◌≡◌, ◌≤◌, ℕ, Bool, true, false, List, [], length, drop, ◌+◌, ◌-◌, Some, None, cond, eqb, leb, refl, sym, ap, arith}
+use Rattle.std.proofs.lemmas.Bool.{eqb-true, leb-true, le-leb}
 use Rattle.std.specs.Str.{IsUtf8, is_utf8}
 use Rattle.std.proofs.lemmas.Str.{is_utf8-from_IsUtf8, IsUtf8-from_is_utf8}
-use Rattle.std.proofs.lemmas.List.{length-drop, nil_from_length, drop-take, drop-drop}
-use Rattle.wasm_readers_errors.specs.WasmSpec.Values.{bytes_at, sized_at, name_at}
+use Rattle.std.proofs.lemmas.List.{length-drop, nil_from_length}
+use Rattle.wasm_readers_errors.specs.WasmSpec.Values.{sized_at, name_at}
 
 pub name_from_text : (bytes : List ℕ) (part : List ℕ × List ℕ) → sized_at bytes ≡ Some part → IsUtf8 part.0 → name_at bytes ≡ Some part
 name_from_text bytes part e u = rw e (rw (is_utf8-from_IsUtf8 part.0 u) refl)
@@ -32,11 +32,3 @@ past_is_empty k xs =
     same_tests (leb (length xs) k) (eqb (length (drop k xs)) 0)
     (λ t. let le : length xs ≤ k = leb-true _ _ t in let e : length (drop k xs) ≡ 0 = omega (arith, length-drop k xs) in rw e refl)
     (λ t. le-leb _ _ (omega (arith, length-drop k xs, eqb-true _ _ t)))
-
-pub drop_take : (i n : ℕ) (xs : List ℕ) → drop i (take (i + n) xs) ≡ take n (drop i xs)
-drop_take i n xs = drop-take i n xs
-
-pub part_split : (k n : ℕ) (xs : List ℕ) → n ≤ length xs - k → bytes_at n (drop k xs) ≡ Some (drop k (take (k + n) xs), drop (k + n) xs)
-part_split k n xs le =
-    let long : ltb (length (drop k xs)) n ≡ false = le-ltb _ _ (omega (arith, length-drop k xs)) in
-    rw (long, drop-take k n xs, drop-drop n k xs) refl

@@ -1,3 +1,15 @@
+//! Bytes read from their front (Core Specification 3.0, Binary Format, Values).
+//!
+//! A [`BinaryReader`] has a part of the input, the offset of that part's first byte in the whole
+//! input, and how many bytes of the part are read. So offsets in refusals count from the start of
+//! the input, while a reader of a part sees nothing behind it. A contract sees three things of a
+//! reader: its bytes and their offset (`SameInput` says that both stay), its position in them, and
+//! the rest.
+//!
+//! A method either reads one value, and then the rest is what follows it, or refuses, at the byte
+//! that its contract names. Numbers are in LEB128: unsigned ones are read by unrolled code, and
+//! refusals are made out of line.
+
 ghost use Rattle.std.specs.Prelude.{◌≡◌, ◌==◌, ◌≤◌, ◌<◌, ◌^◌, ◌-◌, ◌+◌, ◌≤ℤ◌, ◌<ℤ◌, ◌-ℤ◌, pos, IfOk, OnOk, OnErr, IfSome, OnSome, IfNone, length, take, drop, slice_range, [], ◌∷◌, ◌++◌, Some, None, IfErr};
 ghost use Rattle.wasm_readers_errors.specs.WasmSpec.Values.{byte_at, u32_at, u64_at, s33_index_at, bytes_at, sized_at, name_at, signed_at as integer_at, unsigned_at};
 

@@ -1,3 +1,6 @@
+//! Signed numbers (Core Specification 3.0, Binary Format, Values, Integers), and where a number
+//! that is none goes wrong.
+
 ghost use Rattle.std.specs.Prelude.{◌≡◌, ◌≤◌, ◌<◌, ◌^◌, ◌-◌, ◌≤ℤ◌, ◌<ℤ◌, ◌-ℤ◌, ◌+ℤ◌, ◌*ℤ◌, pos, IfSome, IfNone, length, drop};
 ghost use Rattle.wasm_readers_errors.specs.WasmSpec.Values.{signed_at as encoded_at};
 ghost use Rattle.wasm_readers_bytes.specs.Reader.{number_fault, before_wrong};
@@ -34,7 +37,7 @@ pub(crate) fn signed_at(bytes: &[u8], bits: u8) -> Option<(i64, usize)>
                 }
             } else if bits > 7 {
                 let (high, used) = signed_at(more, bits - 7)?;
-                Some((joined(high, *low), used + 1))
+                Some((join_bits(high, *low), used + 1))
             } else {
                 None
             }
@@ -59,7 +62,7 @@ pub(crate) fn long_signed_at(bytes: &[u8], bits: u8) -> Option<(i64, usize)>
     match bytes {
         [low, more @ ..] if *low >= 128 && bits > 7 => {
             let (high, used) = signed_at(more, bits - 7)?;
-            Some((joined(high, *low), used + 1))
+            Some((join_bits(high, *low), used + 1))
         }
         _ => signed_at(bytes, bits),
     }
@@ -68,7 +71,7 @@ pub(crate) fn long_signed_at(bytes: &[u8], bits: u8) -> Option<(i64, usize)>
 /// A number of its low seven bits and the bits above them.
 #[inline(always)]
 #[tactic(auto, using(crate::proofs::Powers::whole))]
-fn joined(high: i64, low: u8) -> i64
+fn join_bits(high: i64, low: u8) -> i64
     requires at_least { (pos 0 -ℤ pos (2 ^ 56)) ≤ℤ high }
     requires below { high <ℤ pos (2 ^ 56) }
     requires more { 2 ^ 7 ≤ low }

@@ -36,9 +36,3 @@ abbrev pub Gives : {X Y : Type 0} → (X → Y) → Result X Error → Option Y 
 Gives view (Ok x) o = o ≡ Some (view x)
 Gives view (Err (Refused r)) o = o ≡ None
 Gives view (Err OutOfMemory) o = ⊤
-
--- the call accepts exactly where P holds, unless memory is refused
-abbrev pub Judges : {X : Type 0} → Result X Error → Type 0 → Type 0
-Judges (Ok x) P = P
-Judges (Err (Refused r)) P = ¬ P
-Judges (Err OutOfMemory) P = ⊤

@@ -1,3 +1,12 @@
+//! What a refusal is: a [`Fault`], the byte where it is, counted from the start of the input, and
+//! the proposal that would lift it, if one would.
+//!
+//! A fault says which rule is broken, with what the rule's text names: numbers, types, a limit.
+//! Faults of the binary format are [`Malformed`]; the rest are rules of validation, in families by
+//! the part of the standard that they belong to (`item_rules.rt`, `type_rules.rt`,
+//! `operator_rules.rt`). A fault is a small value: its text is written only where it is printed. An
+//! [`Error`] is a refusal, or memory that was refused.
+
 ghost use Rattle.std.specs.Prelude.{◌≡◌};
 ghost use Rattle.wasm_readers_errors.specs.Opcodes.{is_vector_code, is_vector_gap};
 

@@ -1,3 +1,5 @@
+//! Rules of what a module imports and defines, types and operators aside.
+
 /// Rules of imports, tables, memories, tags, globals, start functions, data counts and segments whose
 /// texts name no number (Core Specification 3.0, Validation, Types and Modules).
 #[derive(Clone, Copy, PartialEq, Eq, Debug)]

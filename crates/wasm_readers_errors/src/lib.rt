@@ -20,6 +20,6 @@ pub mod readers_types {
         AbstractHeapType, ArrayType, CompositeInnerType, CompositeType, ContType, CoreTypeId,
         EntityType, ExternalKind, FieldType, FuncType, GlobalType, HeapType, Items, MAX_IDS,
         MemoryType, PackedIndex, RecGroup, RefType, StorageType, StructType, SubType, TableType,
-        TagKind, TagType, TypeRef, UnpackedIndex, ValType, limits_match,
+        TagKind, TagType, TypeRef, UnpackedIndex, ValType, limits_match, same_flag,
     };
 }

@@ -1,3 +1,6 @@
+//! Rules of types: recursion groups, sub types, composite types, descriptor clauses and value
+//! types.
+
 /// Rules of recursion groups, sub types and composite types whose texts name no number (Core
 /// Specification 3.0, Validation, Types).
 #[derive(Clone, Copy, PartialEq, Eq, Debug)]

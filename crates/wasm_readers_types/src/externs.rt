@@ -1,3 +1,7 @@
+//! External types, and the types of what a module defines: tables, memories, globals and tags (Core
+//! Specification 3.0, Structure, Types). Limits count elements or pages; a page has 65,536 bytes,
+//! unless the memory's type says another power of two.
+
 ghost use Rattle.std.proofs.Common.{rules};
 
 use std::fmt;

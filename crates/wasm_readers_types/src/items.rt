@@ -1,3 +1,6 @@
+//! Lists inside types. An [`Items`] is a `Vec` that a contract sees as the list of its items, and
+//! that is compared and hashed item by item.
+
 ghost use Rattle.std.specs.Prelude.{◌≡◌, ◌++◌, ◌∷◌, [], length, OnOk, OnErr, IfErr, IsTrue, ◌↔◌};
 ghost use Rattle.std.specs.List.{AllZip};
 ghost use Rattle.std.specs.Cmp.Lexicographic.{pointwise, lists_equiv, lists_per};

@@ -3,6 +3,7 @@
 
 mod externs;
 mod items;
+mod kinds;
 mod links;
 mod text;
 mod types;
@@ -18,5 +19,5 @@ pub use types::{
 };
 pub use wasm_readers_values::{
     AbstractHeapType, CoreTypeId, Exact, Faithful, FieldType, HeapType, MAX_IDS, PackedIndex,
-    RefType, StorageType, UnpackedIndex, ValType, copied, same, same_val,
+    RefType, StorageType, UnpackedIndex, ValType, copied, same, same_flag, same_val,
 };

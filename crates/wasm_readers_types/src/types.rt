@@ -1,3 +1,16 @@
+//! Defined types (Core Specification 3.0, Structure, Types), as plain data.
+//!
+//! A [`RecGroup`] holds the [`SubType`]s of one recursion group; each is a [`CompositeType`] with
+//! what it extends and whether it may be extended, and a composite type is a function's, an
+//! array's, a structure's or a continuation's, with its shared flag and its descriptor clauses.
+//! References to other types are [`PackedIndex`]es in whatever form the type is in: as a module
+//! writes it, or as a list of types has it.
+//!
+//! Groups are compared and hashed by their sub types alone, and not by whether `rec` is written:
+//! the standard has one recursive type for both. Lists are in memory of the caller's choice (`A`),
+//! so a clone may be refused. What each type says in the abstract syntax is in
+//! `specs/SeenTypes.antt`.
+
 ghost use Rattle.std.specs.Prelude.{◌≡◌, ◌∷◌, [], true, false, length, IfOk, IfErr};
 ghost use Rattle.std.specs.Bool.{Decides};
 ghost use Rattle.wasm_readers_values.specs.WasmSpec.Syntax as syntax;

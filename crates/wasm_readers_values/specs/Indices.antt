@@ -1,5 +1,5 @@
 -- What an index says, in its three forms.
-use Rattle.std.specs.Prelude.{ℕ, ◌<◌, ◌+◌, ◌*◌, Option}
+use Rattle.std.specs.Prelude.{ℕ, ◌<◌, ◌+◌, ◌*◌, List, map, Option}
 use Rattle.std.specs.declared.option.Option.TheVariants.{None, Some}
 use Rattle.wasm_readers_values.specs.declared.indices.TheConstants.{MAX_IDS}
 use Rattle.wasm_readers_values.specs.declared.indices.CoreTypeId.{CoreTypeId}
@@ -41,6 +41,10 @@ abbrev pub id_of : UnpackedIndex → Option CoreTypeId
 id_of (Module i) = None
 id_of (RecGroup i) = None
 id_of (Id id) = Some id
+
+-- the numbers of ids
+abbrev pub numbers : List CoreTypeId → List ℕ
+numbers ids = map (λ id. id.index) ids
 
 -- the index with this number, in one of its forms
 abbrev pub indexed : IndexForm → ℕ → UnpackedIndex

@@ -151,11 +151,5 @@ field_back x = record { element_type = storage_back x.storage; mutable = x.mutab
 pub field-undone : (x : FieldType) → field_back (field_of x) ≡ x
 field-undone x = λ i. record { element_type = storage-undone x.element_type i; mutable = x.mutable }
 
-pub ref_of-apart : (x y : RefType) → ref_of x ≡ ref_of y → x ≡ y
-ref_of-apart = apart ref_of ref_back ref-undone
-
 pub val_of-apart : (x y : ValType) → val_of x ≡ val_of y → x ≡ y
 val_of-apart = apart val_of val_back val-undone
-
-pub field_of-apart : (x y : FieldType) → field_of x ≡ field_of y → x ≡ y
-field_of-apart = apart field_of field_back field-undone

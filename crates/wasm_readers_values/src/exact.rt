@@ -1,3 +1,6 @@
+//! `==` and `clone` that contracts can rely on: a type is `Exact` where `==` says whether two
+//! values are the same to a contract, and `Faithful` where a clone is its source to one.
+
 ghost use Rattle.std.specs.Prelude.{◌≡◌, IfOk};
 ghost use Rattle.std.specs.Bool.{Decides};
 ghost use Rattle.std.proofs.Common.{rules};

@@ -1,3 +1,18 @@
+//! What types refer to other types by.
+//!
+//! A reference to a defined type is a type index (Core Specification 3.0, Structure, Types, Type
+//! Use). As a type moves from a module into a list of types, the reference takes three forms:
+//!
+//! - `Module`: a type index of the module, as it is written there.
+//! - `RecGroup`: a place in the recursion group that the reference stands in, counted from 0.
+//!   So equal groups are written the same way, wherever they stand.
+//! - `Id`: the id of a type in a list of types, which is its place there. It means the same
+//!   type wherever it is written.
+//!
+//! [`UnpackedIndex`] has all of them. Types hold a [`PackedIndex`], which is five bytes: a form,
+//! and a number of 32 bits in four bytes, the highest first. A place in a group or an id in it is
+//! below [`MAX_IDS`]; a module's type index may be any `u32`.
+
 ghost use Rattle.std.specs.Prelude.{◌≡◌, ◌<◌, ℕ, Option, IfSome, IsSome, IsTrue, ◌↔◌};
 ghost use Rattle.std.proofs.Common.{rules};
 ghost use Rattle.wasm_readers_values.specs.declared.indices.TheConstants.{MAX_IDS};

@@ -1,3 +1,14 @@
+//! Value types (Core Specification 3.0, Structure, Types), as plain data.
+//!
+//! A [`ValType`] is a type of numbers, that of vectors, or a [`RefType`]: whether null is allowed,
+//! and a [`HeapType`], which is abstract, a defined type with its subtypes, or exactly one defined
+//! type. A `RefType` keeps its index packed, so that a value type takes eight bytes. A
+//! [`StorageType`] is what a field holds, and a [`FieldType`] says too whether the field can be
+//! written.
+//!
+//! All are `Copy`, compare by `==` as contracts compare them (`Exact`), and have their meaning in
+//! the abstract syntax in `specs/SeenValues.antt`.
+
 ghost use Rattle.std.specs.Prelude.{◌≡◌, ◌≢◌, true, false, None, IfSome, IsSome, IsTrue, ◌↔◌};
 ghost use Rattle.std.specs.Option.{option_map};
 ghost use Rattle.std.specs.Bool.{Decides};

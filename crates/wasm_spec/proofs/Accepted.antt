@@ -2,18 +2,17 @@
 use Rattle.std.proofs.Common.{◌≡◌, refl, sym, ap, ◌∙◌, subst, ℕ, zero, suc, ◌+◌, ◌-◌, ◌<◌, ◌≤◌, nat_lt, Bool, true, false, not, ◌||◌, List, [], ◌∷◌, ◌++◌, map, length, slice_get, get_or, Some, arith, length-append}
 use Rattle.std.specs.List.{Contains}
 use Rattle.std.proofs.lemmas.Bool.{ltb-true, ltb-false}
-use Rattle.std.proofs.lemmas.List.{map-append}
 use Rattle.std.proofs.lemmas.List.Elements.{All-from_recursion}
 use Rattle.std.proofs.lemmas.Option.{none-some, slice_get-get_or, slice_get_within, get_or_from_slice_get, option_and_then_some}
 use Rattle.wasm_spec.specs.Syntax.{Sub, Rec, map_sub}
-use Rattle.wasm_spec.specs.References.{refs_option, refs_comp, refs_sub}
+use Rattle.wasm_spec.specs.References.{refs_sub}
 use Rattle.wasm_spec.specs.Features.{Features, canonical}
 use Rattle.wasm_spec.specs.Trees.{RecTree, DefType, close, declared}
 use Rattle.wasm_spec.specs.Closing.{is_closable, are_closable, resolve, start_unless, closed, positions, with_group, with_groups}
 use Rattle.wasm_spec.specs.TypeLaws.{ValidTypeSectionIsAccepted}
 use Rattle.wasm_spec.proofs.Closing.{slice_get-append_left}
 use Rattle.wasm_spec.proofs.Matching.{some-injective}
-use Rattle.wasm_spec.proofs.Shifting.{refs_option-map, refs_comp-map}
+use Rattle.wasm_spec.proofs.Shifting.{refs_sub-map}
 use Rattle.wasm_spec.proofs.Written.{Each, if_some, map_some, each_map, and_right, below_end, closable_at, types_declare_what_is_written}
 
 -- elements by their place
@@ -31,7 +30,7 @@ get_behind [] ys k x h e = let z : k - 0 ≡ k = omega arith in ap (slice_get ys
 get_behind (y ∷ xs) ys zero x h e = absurd (omega (arith, h))
 get_behind (y ∷ xs) ys (suc k) x h e = let z : suc k - suc (length xs) ≡ k - length xs = omega arith in ap (slice_get ys) z ∙ get_behind xs ys k x (omega (arith, h)) e
 
-length-positions : {X : Type 0} (t : RecTree) (i : ℕ) (xs : List X) → length (positions t i xs) ≡ length xs
+pub length-positions : {X : Type 0} (t : RecTree) (i : ℕ) (xs : List X) → length (positions t i xs) ≡ length xs
 length-positions t i [] = refl
 length-positions t i (x ∷ xs) = ap suc (length-positions t (i + 1) xs)
 
@@ -39,14 +38,6 @@ position_of : {X : Type 0} (t : RecTree) (i : ℕ) (xs : List X) (k : ℕ) (d : 
 position_of t i [] k d e = absurd (none-some d e)
 position_of t i (x ∷ xs) zero d e = (x, refl)
 position_of t i (x ∷ xs) (suc k) d e = position_of t (i + 1) xs k d e
-
-refs_sub-map : {R S : Type 0} (f : R → S) (s : Sub R) → refs_sub (map_sub f s) ≡ map f (refs_sub s)
-refs_sub-map f s =
-    let b = refs_option s.describes in
-    let c = refs_option s.descriptor in
-    let d = refs_comp s.comp in
-    (λ i. map f s.supers ++ (refs_option-map f s.describes i ++ (refs_option-map f s.descriptor i ++ refs_comp-map f s.comp i)))
-    ∙ sym (map-append f s.supers (b ++ (c ++ d)) ∙ ap (λ l. map f s.supers ++ l) (map-append f b (c ++ d) ∙ ap (λ l. map f b ++ l) (map-append f c d)))
 
 each_mapped : {X Y : Type 0} (P : Y → Type 0) (f : X → Y) (xs : List X) → Each (λ x. P (f x)) xs → Each P (map f xs)
 each_mapped P f [] h = tt

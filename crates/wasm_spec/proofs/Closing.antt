@@ -1,6 +1,6 @@
 -- Closed groups, and the list of types that groups give.
-use Rattle.std.proofs.Common.{◌≡◌, refl, sym, ap, ◌∙◌, subst, ℕ, zero, suc, ◌+◌, ◌<◌, Bool, true, false, ◌&&◌, if◌then◌else◌, List, [], ◌∷◌, ◌++◌, map, length, slice_get, Option, Some, None, option_map, unwrap_or, append_assoc, append-nil, arith}
-use Rattle.std.proofs.lemmas.Option.{option_and_then_some, none-some}
+use Rattle.std.proofs.Common.{◌≡◌, refl, sym, ap, ◌∙◌, subst, ℕ, zero, suc, ◌+◌, ◌<◌, Bool, true, false, ◌&&◌, if◌then◌else◌, List, [], ◌∷◌, ◌++◌, map, length, slice_get, Option, Some, None, option_map, append_assoc, append-nil, arith}
+use Rattle.std.proofs.lemmas.Option.{option_and_then_some, none-some, same_Some}
 use Rattle.std.specs.Option.{option_and_then}
 use Rattle.wasm_spec.specs.Syntax.{Rec, map_sub}
 use Rattle.wasm_spec.specs.Features.{Features, canonical}
@@ -8,9 +8,6 @@ use Rattle.wasm_spec.specs.Trees.{DefType, close, members, start_of}
 use Rattle.wasm_spec.specs.Closing.{are_closable, is_closable, resolve, start_unless, closed, positions, with_group, with_groups, type_space}
 use Rattle.wasm_spec.specs.TypeLaws.{MembersOfClosed, StartOfClosed, EqualTreesEqualGroups, AppendedGroup, FrontOfTypeSpace, EarlierTypesStay, SingleRecIsPlain, DifferentGroupsDifferentTypes, EachWrittenGroupIsItsOwn}
 use Rattle.wasm_spec.proofs.Numbering.{members-close, start_of-close}
-
-some-injective : {X : Type 0} (x y : X) → Some x ≡ Some y → x ≡ y
-some-injective x y e = ap (λ o. unwrap_or o x) e
 
 pub members_of_closed : MembersOfClosed
 members_of_closed = members-close
@@ -27,7 +24,7 @@ different_groups_different_types start begin g h i j d e = d (equal_trees_equal_
 
 -- a test that passed, and what came of it
 if_some : {X : Type 0} (c : Bool) (x y : X) → (if c then Some x else None) ≡ Some y → x ≡ y
-if_some true x y e = some-injective x y e
+if_some true x y e = same_Some x y e
 if_some false x y e = absurd (none-some y e)
 
 pub each_written_group_is_its_own : EachWrittenGroupIsItsOwn
@@ -35,7 +32,7 @@ each_written_group_is_its_own F ts us g h t u off e f differ same =
     let left : close (start_unless (canonical F) (length ts)) (map (map_sub (resolve ts)) g.types) ≡ t = if_some (is_closable F (length ts) g) _ t e in
     let right : close (start_unless (canonical F) (length us)) (map (map_sub (resolve us)) h.types) ≡ u = if_some (is_closable F (length us) h) _ u f in
     let starts = (equal_trees_equal_groups _ _ _ _ (left ∙ same ∙ sym right)).0 in
-    differ (some-injective (length ts) (length us) (subst (λ c. (if c then None else Some (length ts)) ≡ (if c then None else Some (length us))) off starts))
+    differ (same_Some (length ts) (length us) (subst (λ c. (if c then None else Some (length ts)) ≡ (if c then None else Some (length us))) off starts))
 
 pub single_rec_is_plain : SingleRecIsPlain
 single_rec_is_plain F ts s on = ap (λ c. if c then Some (close (start_unless (canonical F) (length ts)) (map (map_sub (resolve ts)) (s ∷ []))) else None) (ap (λ c. c && are_closable F (length ts) (length ts + 1) (length ts) (s ∷ [])) on)
@@ -64,7 +61,7 @@ module _ (F : Features) where
 
   map_some : {X Y : Type 0} (f : X → Y) (o : Option X) (y : Y) → option_map f o ≡ Some y → (x : X) × (f x ≡ y)
   map_some f None y e = absurd (none-some y e)
-  map_some f (Some x) y e = (x, some-injective (f x) y e)
+  map_some f (Some x) y e = (x, same_Some (f x) y e)
 
   group_goes_on : (g : Rec ℕ) (ts us : List DefType) → with_group F ts g ≡ Some us → GoesOn us ts
   group_goes_on g ts us e =
@@ -72,7 +69,7 @@ module _ (F : Features) where
       (positions h.0 0 g.types, sym h.1)
 
   groups_go_on : (gs : List (Rec ℕ)) (ts us : List DefType) → with_groups F ts gs ≡ Some us → GoesOn us ts
-  groups_go_on [] ts us e = ([], sym (some-injective ts us e) ∙ sym (append-nil ts))
+  groups_go_on [] ts us e = ([], sym (same_Some ts us e) ∙ sym (append-nil ts))
   groups_go_on (g ∷ gs) ts us e = option_and_then_some (λ vs. with_groups F vs gs) (with_group F ts g) us e
       (λ vs a b.
       let h = group_goes_on g ts vs a in
@@ -95,5 +92,5 @@ slice_get-append_left (x ∷ xs) ys (suc k) h = slice_get-append_left xs ys k (o
 pub earlier_types_stay : EarlierTypesStay
 earlier_types_stay F gs hs ts us k e f l =
     let h = front_of_type_space F gs hs us f in
-    let same : h.front ≡ ts = some-injective h.front ts (sym h.gives ∙ e) in
+    let same : h.front ≡ ts = same_Some h.front ts (sym h.gives ∙ e) in
     ap (λ vs. slice_get vs k) (h.is ∙ ap (λ vs. vs ++ h.rest) same) ∙ slice_get-append_left ts h.rest k l

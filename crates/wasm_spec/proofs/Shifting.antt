@@ -6,7 +6,7 @@ use Rattle.std.proofs.lemmas.List.{map-append, length-map}
 use Rattle.std.proofs.lemmas.List.Folds.{list_all-map}
 use Rattle.std.proofs.lemmas.Option.{slice_get_past}
 use Rattle.wasm_spec.specs.Syntax.{Heap, abstract_heap, concrete, exact, Val, i32, i64, f32, f64, v128, reference, Storage, i8, i16, unpacked, Comp, func, array, struct, cont, Sub, Rec, map_heap, map_val, map_storage, map_field, map_comp, map_sub, map_rec}
-use Rattle.wasm_spec.specs.References.{refs_option, refs_heap, refs_val, refs_storage, refs_field, refs_comp}
+use Rattle.wasm_spec.specs.References.{refs_option, refs_heap, refs_val, refs_storage, refs_field, refs_comp, refs_sub}
 use Rattle.wasm_spec.specs.Features.{Features, canonical}
 use Rattle.wasm_spec.specs.Trees.{DefType, close}
 use Rattle.wasm_spec.specs.Closing.{is_in_bounds, are_closable, is_closable, use_of, resolve, start_unless}
@@ -48,6 +48,14 @@ module _ {R S : Type 0} (f : R → S) where
   refs_comp-map (array x) = refs_storage-map x.storage
   refs_comp-map (struct xs) = list_refs (map_field f) refs_field refs_field (λ x. refs_storage-map x.storage) xs
   refs_comp-map (cont r) = refl
+
+  pub refs_sub-map : (s : Sub R) → refs_sub (map_sub f s) ≡ map f (refs_sub s)
+  refs_sub-map s =
+      let b = refs_option s.describes in
+      let c = refs_option s.descriptor in
+      let d = refs_comp s.comp in
+      (λ i. map f s.supers ++ (refs_option-map s.describes i ++ (refs_option-map s.descriptor i ++ refs_comp-map s.comp i)))
+      ∙ sym (map-append f s.supers (b ++ (c ++ d)) ∙ ap (λ l. map f s.supers ++ l) (map-append f b (c ++ d) ∙ ap (λ l. map f b ++ l) (map-append f c d)))
 
 lt-shifted : (m k n : ℕ) → nat_lt (m + k) (m + n) ≡ nat_lt k n
 lt-shifted m k n = ltb_from_iff ((λ e. let h : m + k < m + n = ltb-true (m + k) (m + n) e in omega (arith, h)), (λ h. lt-ltb (m + k) (m + n) (omega (arith, h))))

@@ -50,10 +50,6 @@ each_append : {X : Type 0} (P : X → Type 0) (xs ys : List X) → Each P xs →
 each_append P [] ys h k = k
 each_append P (x ∷ xs) ys h k = (h.0, each_append P xs ys h.1 k)
 
-each_split : {X : Type 0} (P : X → Type 0) (xs ys : List X) → Each P (xs ++ ys) → Each P xs × Each P ys
-each_split P [] ys h = (tt, h)
-each_split P (x ∷ xs) ys h = let r = each_split P xs ys h.1 in ((h.0, r.0), r.1)
-
 each_passed : {X : Type 0} (p : X → Bool) (Q : X → Type 0) → ((x : X) → p x ≡ true → Q x) → (xs : List X) → list_all p xs ≡ true → Each Q xs
 each_passed p Q f xs e = each_map (λ x. p x ≡ true) Q f xs (recursion_from_All (λ x. p x ≡ true) xs (AllPass-from_list_all p xs e))
 

@@ -3,6 +3,7 @@ use Rattle.std.proofs.Common.{◌≡◌, ◌≢◌, refl, sym, ap, ◌∙◌, �
 use Rattle.std.specs.List.{flat_map, Contains}
 use Rattle.std.proofs.lemmas.List.Elements.{All-nil, All-cons, All-head, All-tail, All-contains_itself}
 use Rattle.std.proofs.lemmas.List.{map-append}
+use Rattle.std.proofs.lemmas.Option.{same_Some, none-some}
 use Rattle.wasm_readers_errors.specs.WasmSpec.Syntax.{Sub, map_ref, map_table, map_global}
 use Rattle.wasm_readers_errors.specs.WasmSpec.BinarySections.{Element}
 use Rattle.wasm_readers_errors.specs.WasmSpec.Trees.{DefType, declared}
@@ -40,12 +41,6 @@ contexts_are_renamed f n distinct named C parts =
       references = (context_over n distinct named C parts).references;
     }
 
-the_same : {X : Type 0} (x y : X) → Some x ≡ Some y → x ≡ y
-the_same x y e = cc
-
-none : {X : Type 0} (x : X) → None ≡ Some x → ⊥
-none x e = cc
-
 module _ (a b : DefType) (apart : a ≢ b) where
   abbrev both : List DefType
   both = a ∷ b ∷ []
@@ -61,22 +56,22 @@ module _ (a b : DefType) (apart : a ≢ b) where
 
   one_place : (j k : ℕ) (d : DefType) → slice_get both j ≡ Some d → slice_get both k ≡ Some d → j ≡ k
   one_place zero zero d e f = refl
-  one_place zero (suc zero) d e f = absurd (apart (the_same a d e ∙ sym (the_same b d f)))
-  one_place (suc zero) zero d e f = absurd (apart (the_same a d f ∙ sym (the_same b d e)))
+  one_place zero (suc zero) d e f = absurd (apart (same_Some a d e ∙ sym (same_Some b d f)))
+  one_place (suc zero) zero d e f = absurd (apart (same_Some a d f ∙ sym (same_Some b d e)))
   one_place (suc zero) (suc zero) d e f = refl
-  one_place (suc (suc j)) k d e f = absurd (none d e)
-  one_place zero (suc (suc k)) d e f = absurd (none d f)
-  one_place (suc zero) (suc (suc k)) d e f = absurd (none d f)
+  one_place (suc (suc j)) k d e f = absurd (none-some d e)
+  one_place zero (suc (suc k)) d e f = absurd (none-some d f)
+  one_place (suc zero) (suc (suc k)) d e f = absurd (none-some d f)
 
   a_is_first : (i j k : ℕ) (c d : DefType) → i < j → slice_get both i ≡ Some c → slice_get both j ≡ Some d → slice_get three k ≡ Some d → (h : ℕ) × (h < k) × (slice_get three h ≡ Some c)
-  a_is_first zero (suc zero) zero c d l e f g = absurd (apart (the_same a d g ∙ sym (the_same b d f)))
+  a_is_first zero (suc zero) zero c d l e f g = absurd (apart (same_Some a d g ∙ sym (same_Some b d f)))
   a_is_first zero (suc zero) (suc k) c d l e f g = (0, omega arith, e)
   a_is_first zero zero k c d l e f g = absurd (omega (arith, l))
-  a_is_first zero (suc (suc j)) k c d l e f g = absurd (none d f)
+  a_is_first zero (suc (suc j)) k c d l e f g = absurd (none-some d f)
   a_is_first (suc zero) zero k c d l e f g = absurd (omega (arith, l))
   a_is_first (suc zero) (suc zero) k c d l e f g = absurd (omega (arith, l))
-  a_is_first (suc zero) (suc (suc j)) k c d l e f g = absurd (none d f)
-  a_is_first (suc (suc i)) j k c d l e f g = absurd (none c e)
+  a_is_first (suc zero) (suc (suc j)) k c d l e f g = absurd (none-some d f)
+  a_is_first (suc (suc i)) j k c d l e f g = absurd (none-some c e)
 
   repeated : AreFirst three both
   repeated = record {

@@ -229,10 +229,6 @@ below_none : (ss : List (ℕ × List ℕ)) → Below 0 ss
 below_none [] = tt
 below_none (s ∷ ss) = ((λ some. some), below_none ss)
 
-pub framed_follow : (bytes : List ℕ) (pieces : List Piece) → IsFramed bytes pieces → Follows ranks pieces
-framed_follow bytes pieces f =
-    subst (λ (xs : List Piece). Follows ranks xs) (sym f.all) (free refl (sections_follow (End ∷ []) (λ m. free refl done) f.sections 0 f.others (below_none f.sections) f.in_order f.made))
-
 -- a piece between the header and the end
 abbrev pub IsInner : Piece → Type 0
 IsInner (Version number kind) = ⊥

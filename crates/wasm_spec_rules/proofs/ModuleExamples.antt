@@ -5,6 +5,7 @@ use Rattle.std.proofs.lemmas.Map.Keys.{IsDistinct-head}
 use Rattle.std.specs.Option.{option_map, option_and_then}
 use Rattle.std.specs.Cmp.Lexicographic.{nat_list_eq_equiv}
 use Rattle.std.proofs.lemmas.Map.Made.{IsDistinct-from_count}
+use Rattle.std.proofs.lemmas.Option.{same_Some}
 use Rattle.wasm_readers_errors.specs.WasmSpec.Syntax.{Val, i32, Sub, map_sub}
 use Rattle.wasm_readers_errors.specs.WasmSpec.BinarySections.{GlobalEntry}
 use Rattle.wasm_readers_errors.specs.WasmSpec.Closing.{resolve}
@@ -173,14 +174,11 @@ header_is_module expression_at = record {
 number_of : (number kind : ℕ) → Some (Version number kind) ≡ Some (Version 1 0) → number ≡ 1
 number_of number kind e = cc
 
-the_same : {X : Type 0} (x y : X) → Some x ≡ Some y → x ≡ y
-the_same x y e = cc
-
 read_number : (number : ℕ) (kinded : List ℕ) → u16_at (2 ∷ 0 ∷ 0 ∷ 0 ∷ []) ≡ Some (number, kinded) → number ≡ 2
 read_number number kinded e =
     let read : ℕ × List ℕ = (2, 0 ∷ 0 ∷ []) in
     let given : ℕ × List ℕ = (number, kinded) in
-    let pair : read ≡ given = the_same read given e in
+    let pair : read ≡ given = same_Some read given e in
     λ i. (sym pair i).0
 
 pub no_version_two : NoVersionTwo
@@ -198,7 +196,7 @@ taking_signature =
     ap (λ (g : List (Sub TypeUse)). option_and_then (λ (s : Sub DefType). signature s.comp) (option_map (map_sub (denote t)) (slice_get g 0))) (members-close (Some 0) (map (map_sub (resolve [])) taking_type.types))
 
 parameters : (s t : List (Val DefType) × List (Val DefType)) → Some s ≡ Some t → s.0 ≡ t.0
-parameters s t e = λ i. (the_same s t e i).0
+parameters s t e = λ i. (same_Some s t e i).0
 
 takes_some : (v : Val DefType) (vs : List (Val DefType)) → v ∷ vs ≡ [] → ⊥
 takes_some v vs e = cc

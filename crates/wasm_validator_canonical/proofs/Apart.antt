@@ -19,7 +19,7 @@ use Rattle.wasm_validator_canonical.specs.Groups.{types_at, placed, held_at, hel
 use Rattle.wasm_validator_canonical.specs.Indices.{number_in}
 use Rattle.wasm_validator_canonical.specs.Sections.{written, with_all_written}
 use Rattle.wasm_validator_canonical.proofs.Found.{StandAt, found}
-use Rattle.wasm_validator_canonical.proofs.Held.{length-positions}
+use Rattle.wasm_spec.proofs.Accepted.{length-positions}
 use Rattle.wasm_validator_canonical.proofs.Steps.{is_held}
 use Rattle.wasm_validator_canonical.specs.Apart.{ArePlaced, AreWhole, AreApart, ApartTypesAreDistinct, ListedTypesAreApart, AddedTypesStayApart}
 

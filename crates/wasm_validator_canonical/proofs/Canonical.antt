@@ -1,8 +1,8 @@
 -- Types whose indices are written as the list has them.
-use Rattle.std.proofs.Common.{◌≡◌, refl, ap, ◌∙◌, Bool, true, false, ◌&&◌, eqb, List, [], ◌∷◌, map, length, None}
+use Rattle.std.proofs.Common.{◌≡◌, refl, ap, ◌∙◌, Bool, true, false, ◌&&◌, eqb, List, [], ◌∷◌, map, length}
 use Rattle.std.specs.List.{list_all, flat_map}
 use Rattle.std.proofs.lemmas.List.Folds.{list_all-append}
-use Rattle.wasm_spec.specs.Syntax.{Heap, abstract_heap, concrete, exact, map_heap, Val, i32, i64, f32, f64, v128, reference, map_val, Field, Comp, func, struct, Sub}
+use Rattle.wasm_spec.specs.Syntax.{Heap, abstract_heap, concrete, exact, map_heap, Val, i32, i64, f32, f64, v128, reference, map_val, Field, func, struct}
 use Rattle.wasm_spec.specs.References.{refs_heap, refs_val, refs_field, refs_comp}
 use Rattle.wasm_readers_types.specs.WasmReadersValues.declared.indices.UnpackedIndex.{UnpackedIndex}
 use Rattle.wasm_validator_canonical.specs.declared.type_canonicalizer.TypeCanonicalizer.{TypeCanonicalizer}
@@ -70,10 +70,6 @@ module _ (c : TypeCanonicalizer) where
 
   pub structure_known : (xs : List (Field UnpackedIndex)) → list_all (is_known_by c) (refs_comp (struct xs)) ≡ list_all (knows_field c) xs
   structure_known xs = each_known refs_field xs
-
--- the final sub type of a composite type that extends nothing
-abbrev pub plain_sub : {R : Type 0} → Comp R → Sub R
-plain_sub x = record { is_final = true; supers = []; shared = false; comp = x; descriptor = None; describes = None }
 
 -- a refusal of a part is one of the whole
 pub says_as : (e : Error) (b d : Bool) → (b ≡ false → d ≡ false) → Denies e b → Denies e d

@@ -31,7 +31,7 @@ use Rattle.wasm_validator_canonical.specs.Groups.{AreValid}
 use Rattle.wasm_validator_canonical.specs.Interned.{InternsValid}
 use Rattle.wasm_validator_canonical.proofs.Interning.{first_of_next}
 use Rattle.wasm_validator_canonical.proofs.Lists.{all_from, all_at, some_at}
-use Rattle.wasm_validator_canonical.proofs.Held.{length-positions}
+use Rattle.wasm_spec.proofs.Accepted.{length-positions}
 
 -- a refusal, as the answer of interning
 abbrev pub too_many : Error → Result (Bool × RecGroupId) Error

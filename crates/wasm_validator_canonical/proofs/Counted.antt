@@ -12,7 +12,7 @@ use Rattle.wasm_validator_canonical.specs.Groups.{placed, held_at, held}
 use Rattle.wasm_validator_canonical.specs.Apart.{AreApart}
 use Rattle.wasm_validator_canonical.specs.Counted.{has_type, with_type, with_types, AreWith}
 use Rattle.wasm_validator_canonical.proofs.Found.{is_same-exact, found_stand}
-use Rattle.wasm_validator_canonical.proofs.Held.{length-positions}
+use Rattle.wasm_spec.proofs.Accepted.{length-positions}
 use Rattle.wasm_validator_canonical.proofs.Apart.{not_in}
 
 or_left : (a b : Bool) → a ≡ true → (a || b) ≡ true
@@ -135,20 +135,3 @@ folded_at_most us (d ∷ ds) = let h = one_at_most (has_type us d) us d in let m
 pub with_at_most : (c : Bool) (us ds : List DefType) → length (with_types c us ds) ≤ length us + length ds
 with_at_most true us ds = folded_at_most us ds
 with_at_most false us ds = let e = length-append us ds in omega (arith, e)
-
--- the same list, and as many types, with those of more modules
-same_folds : (each : List (List DefType)) (us vs : List DefType) → length us ≡ length vs → length (fold (with_types false) us each) ≡ length (fold (with_types false) vs each)
-same_folds [] us vs e = e
-same_folds (ds ∷ each) us vs e = let a = length-append us ds in let b = length-append vs ds in same_folds each (us ++ ds) (vs ++ ds) (omega (arith, a, b, e))
-
-pub with_same : (c : Bool) (all us ds : List DefType) → AreWith c all us ds → length all ≡ length (with_types c us ds)
-with_same true all us ds a = ap length a
-with_same false all us ds a = let e = length-append us ds in omega (arith, a, e)
-
-pub folded_same : (c : Bool) (all us ds : List DefType) (each : List (List DefType)) → AreWith c all us ds → length (fold (with_types c) all each) ≡ length (fold (with_types c) (with_types c us ds) each)
-folded_same true all us ds each a = ap (λ xs. length (fold (with_types true) xs each)) a
-folded_same false all us ds each a = same_folds each all (us ++ ds) (a ∙ sym (length-append us ds))
-
-pub folded_more : (c : Bool) (each : List (List DefType)) (us : List DefType) → length us ≤ length (fold (with_types c) us each)
-folded_more c [] us = omega arith
-folded_more c (ds ∷ each) us = let here = with_grows c us ds in let more = folded_more c each (with_types c us ds) in omega (arith, here, more)

@@ -1,9 +1,10 @@
 -- What a list of types holds once a group is interned.
-use Rattle.std.proofs.Common.{◌≡◌, refl, sym, ap, subst, ◌∙◌, ℕ, suc, ◌+◌, ◌<◌, Bool, true, false, List, [], ◌∷◌, ◌++◌, map, length, slice_get, Some, None, arith, append-nil}
+use Rattle.std.proofs.Common.{◌≡◌, refl, sym, ap, subst, ◌∙◌, ℕ, ◌+◌, ◌<◌, Bool, true, false, List, [], ◌∷◌, ◌++◌, map, length, slice_get, Some, None, arith, append-nil}
 use Rattle.std.proofs.lemmas.Option.{slice_get_within}
 use Rattle.wasm_spec.specs.Trees.{RecTree, DefType}
 use Rattle.wasm_spec.specs.Closing.{positions}
 use Rattle.wasm_spec.specs.TypeLaws.{HasNoRepetition}
+use Rattle.wasm_spec.proofs.Accepted.{length-positions}
 use Rattle.wasm_readers_types.specs.declared.types.SubType.{SubType}
 use Rattle.wasm_validator_type_list.specs.WasmValidatorTypeGroups.Elements.{numbers_from}
 use Rattle.wasm_validator_type_list.specs.WasmValidatorTypeGroups.Groups.{first_of}
@@ -17,10 +18,6 @@ use Rattle.wasm_validator_canonical.specs.Groups.{held_at, held}
 use Rattle.wasm_validator_canonical.proofs.Found.{StandAt, no_types_found, found, not_found}
 
 -- positions depend on how many there are alone
-pub length-positions : {X : Type 0} (t : RecTree) (i : ℕ) (xs : List X) → length (positions t i xs) ≡ length xs
-length-positions t i [] = refl
-length-positions t i (x ∷ xs) = ap suc (length-positions t (i + 1) xs)
-
 pub positions-map : {X Y : Type 0} (f : X → Y) (t : RecTree) (i : ℕ) (xs : List X) → positions t i (map f xs) ≡ positions t i xs
 positions-map f t i [] = refl
 positions-map f t i (x ∷ xs) = ap (λ ds. record { tree = t; position = i } ∷ ds) (positions-map f t (i + 1) xs)

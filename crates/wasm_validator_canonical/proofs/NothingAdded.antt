@@ -15,7 +15,7 @@ use Rattle.wasm_validator_canonical.specs.Found.{place_of}
 use Rattle.wasm_validator_canonical.specs.Indices.{is_written_sub, number_in}
 use Rattle.wasm_validator_canonical.specs.Told.{counted_first}
 use Rattle.wasm_validator_canonical.proofs.Found.{StandAt, found_stand}
-use Rattle.wasm_validator_canonical.proofs.Held.{length-positions}
+use Rattle.wasm_spec.proofs.Accepted.{length-positions}
 use Rattle.wasm_validator_canonical.proofs.Kept.{last_one}
 use Rattle.wasm_validator_canonical.proofs.Written.{not_within}
 

@@ -21,7 +21,7 @@ use Rattle.wasm_validator_canonical.specs.Apart.{AreApart}
 use Rattle.wasm_validator_canonical.specs.Counted.{with_types, AreWith, AddedTypesAreCounted, CountedSectionsAreAdded}
 use Rattle.wasm_validator_canonical.proofs.Apart.{held_apart, closed_members}
 use Rattle.wasm_validator_canonical.proofs.Counted.{held_counted, with_append, with_none, with_split, with_grows}
-use Rattle.wasm_validator_canonical.proofs.Held.{length-positions}
+use Rattle.wasm_spec.proofs.Accepted.{length-positions}
 use Rattle.wasm_validator_canonical.proofs.Kept.{held_front, held_at_most, all_held}
 use Rattle.wasm_validator_canonical.proofs.StoodFor.{Stand, held_with, held_stand, valid_placed, zip_length}
 use Rattle.wasm_validator_canonical.proofs.Steps.{Fits, fits_added, added_fits, all_written_front, all_written_own}

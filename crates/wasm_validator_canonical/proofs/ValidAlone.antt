@@ -3,7 +3,6 @@ use Rattle.std.proofs.Common.{◌≡◌, refl, sym, ap, subst, ◌∙◌, ℕ, �
 use Rattle.std.specs.Prelude.{is_some, IfSome}
 use Rattle.std.specs.Option.{option_map, option_and_then}
 use Rattle.std.specs.List.{list_all, AllByRecursion}
-use Rattle.std.proofs.lemmas.List.{map-append}
 use Rattle.std.proofs.lemmas.List.Elements.{All-nil, All-cons, All-head, All-tail}
 use Rattle.std.proofs.lemmas.List.Folds.{list_all-map, list_all-append}
 use Rattle.std.proofs.lemmas.Option.{same_Some}
@@ -16,7 +15,7 @@ use Rattle.wasm_spec.specs.Declared.{supertype, described_by, descriptor_of, anc
 use Rattle.wasm_spec.specs.ValueTypes.{allows_heap, allows_val, allows_storage}
 use Rattle.wasm_spec.specs.GroupRules.{storages, field_storage, is_cont, TypeRules, DescriptorRules, IsValidType}
 use Rattle.wasm_spec.proofs.Agreement.{agree_sub}
-use Rattle.wasm_spec.proofs.Shifting.{refs_option-map, refs_comp-map}
+use Rattle.wasm_spec.proofs.Shifting.{refs_sub-map}
 use Rattle.wasm_validator_canonical.proofs.Canonical.{and_left, and_right}
 
 -- the features by which equal types are one
@@ -157,15 +156,6 @@ module _ {R : Type 0} (F : Features) (off : canonical F ≡ false) where
     rules = same_rules D a v.sub v.rules v.descriptor_rules b same;
     descriptor_rules = same_clauses D a v.sub v.rules v.descriptor_rules b same;
   }
-
--- the references of what is renamed
-pub refs_sub-map : {R S : Type 0} (f : R → S) (s : Sub R) → refs_sub (map_sub f s) ≡ map f (refs_sub s)
-refs_sub-map f s =
-    let b = refs_option s.describes in
-    let c = refs_option s.descriptor in
-    let d = refs_comp s.comp in
-    (λ i. map f s.supers ++ (refs_option-map f s.describes i ++ (refs_option-map f s.descriptor i ++ refs_comp-map f s.comp i)))
-    ∙ sym (map-append f s.supers (b ++ (c ++ d)) ∙ ap (λ l. map f s.supers ++ l) (map-append f b (c ++ d) ∙ ap (λ l. map f b ++ l) (map-append f c d)))
 
 none_before : {R S : Type 0} (f : R → S) (rs : List R) → map f rs ≡ [] → rs ≡ []
 none_before f [] e = refl

@@ -5,9 +5,10 @@ use Rattle.std.specs.Option.{option_map, option_and_then}
 use Rattle.std.specs.List.{list_all, All}
 use Rattle.wasm_spec.specs.Syntax.{Rec, map_rec}
 use Rattle.wasm_spec.specs.Features.{Features, canonical}
-use Rattle.wasm_spec.specs.Trees.{RecTree, rec_tree, no_uses, DefType, close, members, declared}
+use Rattle.wasm_spec.specs.Trees.{RecTree, DefType, close, members, declared}
 use Rattle.wasm_spec.specs.Closing.{is_closable, positions, closed}
 use Rattle.wasm_spec.specs.GroupRules.{IsValidType}
+pub use Rattle.wasm_spec_rules.specs.IndexSpaces.{nowhere}
 use Rattle.wasm_readers_types.specs.WasmReadersValues.declared.indices.UnpackedIndex.{UnpackedIndex}
 use Rattle.wasm_readers_types.specs.WasmReadersValues.declared.indices.TheConstants.{MAX_IDS}
 use Rattle.wasm_validator_type_list.specs.WasmValidatorTypeGroups.Elements.{numbers_from}
@@ -27,9 +28,6 @@ abbrev pub closes : Features → ℕ → Rec UnpackedIndex → Bool
 closes F start g = list_all is_written_sub g.types && is_closable F start (map_rec number_in g)
 
 -- the types of a module whose types have these ids, where ids stand for these types
-abbrev pub nowhere : DefType
-nowhere = record { tree = rec_tree None [] no_uses; position = 0 }
-
 abbrev pub types_at : List DefType → List ℕ → List DefType
 types_at us ids = map (λ id. get_or us id nowhere) ids
 

@@ -6,6 +6,7 @@ use Rattle.std.specs.declared.option.Option.TheVariants.{Some, None}
 use Rattle.std.specs.List.{All, list_all}
 use Rattle.wasm_spec.specs.Syntax.{Val, Field, Sub, Rec, map_sub}
 use Rattle.wasm_spec.specs.References.{refs_option, refs_val, refs_field, refs_comp, refs_sub}
+pub use Rattle.wasm_readers_types.specs.WasmReadersValues.Indices.{numbers}
 use Rattle.wasm_readers_types.specs.WasmReadersValues.declared.indices.CoreTypeId.{CoreTypeId}
 use Rattle.wasm_readers_types.specs.WasmReadersValues.declared.indices.PackedIndex.{PackedIndex}
 use Rattle.wasm_readers_types.specs.WasmReadersValues.declared.indices.TheConstants.{MAX_IDS}
@@ -15,10 +16,6 @@ use Rattle.wasm_readers_types.specs.declared.types.CompositeType.{CompositeType}
 use Rattle.wasm_readers_types.specs.SeenTypes.{comp_of}
 use Rattle.wasm_readers_types.specs.WasmReadersValues.SeenValues.{index_of}
 use Rattle.wasm_validator_canonical.specs.declared.type_canonicalizer.TypeCanonicalizer.{TypeCanonicalizer}
-
--- the numbers of ids
-abbrev pub numbers : List CoreTypeId → List ℕ
-numbers ids = map (λ id. id.index) ids
 
 -- the id of a type of the module, or from the end of these a position in the group
 abbrev pub use_of_index : Option ℕ → ℕ → UnpackedIndex

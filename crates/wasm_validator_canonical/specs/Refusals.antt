@@ -1,6 +1,7 @@
 -- The refusals of groups that aren't written as a list of types can have them.
 use Rattle.std.specs.Prelude.{ℕ, nat_lt, if◌then◌else◌}
 use Rattle.std.specs.declared.option.Option.TheVariants.{Some, None}
+pub use Rattle.wasm_readers_errors.specs.Refusals.{plain}
 use Rattle.wasm_readers_errors.specs.declared.error.Fault.{Fault}
 use Rattle.wasm_readers_errors.specs.declared.error.Fault.TheVariants.{Group, Descriptor, UnknownType, UnknownTypeWithoutGc}
 use Rattle.wasm_readers_errors.specs.declared.error.Refusal.{Refusal}
@@ -10,10 +11,6 @@ use Rattle.wasm_readers_errors.specs.WasmReadersFeatures.declared.features.TheCo
 use Rattle.wasm_readers_types.specs.WasmReadersValues.declared.indices.UnpackedIndex.{UnpackedIndex}
 use Rattle.wasm_readers_types.specs.WasmReadersValues.declared.indices.UnpackedIndex.TheVariants.{Module, RecGroup, Id}
 use Rattle.wasm_validator_canonical.specs.declared.type_canonicalizer.TypeCanonicalizer.{TypeCanonicalizer}
-
--- a refusal that no proposal lifts
-abbrev pub plain : Fault → ℕ → Refusal
-plain fault offset = record { fault = fault; offset = offset; missing = None }
 
 -- `rec` is written without the proposal for it
 abbrev pub rec_without_gc : ℕ → Refusal

@@ -1,3 +1,12 @@
+//! What a module's recursion group adds to the list of types: it is written as the list has groups,
+//! looked up or put at the end, and checked where it is new.
+//!
+//! Refusals come in this order: the number of types, of which only the group's count where equal
+//! types are one; how the group is written, index by index; where equal types are one and the group
+//! is new, the number of types in the list; and the rules of each type, over the ids that the types
+//! have in the list by then. A refused group may already be in the list, which is then only to be
+//! dropped.
+
 ghost use Rattle.std.specs.Prelude.{◌≡◌, ◌+◌, ◌<◌, ◌≤◌, ◌^◌, true, false, not, ◌||◌, map, length, is_ok, IfOk, IfErr, OnOk, IsTrue};
 ghost use Rattle.std.specs.Bool.{Decides};
 ghost use Rattle.std.specs.List.{All, list_all};
@@ -206,15 +215,13 @@ fn intern<A: Allocator + Copy>(
     ensures same_open { types.new.is_open ≡ types.old.is_open }
     ensures same_mode { types.new.is_canonical ≡ types.old.is_canonical }
 {
-    // Asked for what they promise: equal groups are once, and types refer to those before them.
+    types.recall_promises();
     let is_canonical = types.is_canonical();
-    let _held = types.len();
     match types.intern_canonical_rec_group(is_canonical, group, offset) {
         Ok((is_new, id)) => {
-            // Asked for what they promise: where equal types are one, they still are, and each type
-            // refers to types before it, or to those of its group.
+            // Asked for what it promises: where equal types are one, they still are.
             let _is_canonical = types.is_canonical();
-            let _count = types.len();
+            types.recall_promises();
             match check_if_new(features, types, is_new, id, offset) {
                 Ok(()) => Ok(types.rec_group_elements(id)),
                 Err(refusal) => Err(Error::Refused(refusal)),

@@ -1,3 +1,25 @@
+//! Types of a module written as a list of types has them.
+//!
+//! The unit is a recursion group (Core Specification 3.0, Validation, Types, Recursive Types). All
+//! types before the group already have ids in the list, so each type index in it becomes one of two
+//! things:
+//!
+//! - the id of a type of the module, where the index is of a type before the group;
+//! - a position in the group, where the index is of one of its own types.
+//!
+//! So two groups that say the same are the same, wherever they stand in whichever module:
+//!
+//!     as written    (rec (struct (field (ref 4))) (struct (field (ref 3))))
+//!                   (rec (struct (field (ref 6))) (struct (field (ref 5))))
+//!     in the list   (rec (struct (field (rec 1))) (struct (field (rec 0)))) for both
+//!
+//! A list that keeps equal groups once finds them by one look-up of their hash
+//! (`wasm_validator_type_list`, `interning.rt`).
+//!
+//! Each index is checked on the way: it must be of a type before the group, or with garbage
+//! collection of one of the group; and what a type extends or describes must come before it
+//! (`type_canonicalizer/sub_types.rt`). These are the only refusals for content here.
+
 ghost use Rattle.std.specs.Prelude.{◌≡◌, ◌+◌, ◌<◌, ◌^◌, [], map, length, is_ok, IfOk, IfErr, IsTrue, true, false};
 ghost use Rattle.std.specs.List.{list_all, flat_map};
 ghost use Rattle.wasm_spec.specs.Syntax.{map_ref, map_val, map_field, map_comp};
@@ -61,7 +83,7 @@ impl<'a> TypeCanonicalizer<'a> {
     }
 
     /// The type index as the list has it: the id of the module's type, or a position in the group.
-    fn resolved(&self, number: u32) -> UnpackedIndex
+    fn resolve(&self, number: u32) -> UnpackedIndex
         requires small { IsSmall self.now }
         requires room { number < length self.now.ids.now + MAX_IDS }
         ensures value { result ≡ canonical_by self.now (UnpackedIndex.Module number) }
@@ -94,7 +116,7 @@ impl<'a> TypeCanonicalizer<'a> {
             return Err(Refusal::new(Fault::UnknownType(0), self.offset));
         };
         if (number as usize) < self.ids.len() {
-            return Ok(self.resolved(number));
+            return Ok(self.resolve(number));
         }
         if number >= self.end {
             return Err(Refusal::new(Fault::UnknownType(number), self.offset));
@@ -102,11 +124,11 @@ impl<'a> TypeCanonicalizer<'a> {
         if !self.has_gc {
             return Err(Refusal::new(Fault::UnknownTypeWithoutGc(number), self.offset));
         }
-        Ok(self.resolved(number))
+        Ok(self.resolve(number))
     }
 
     /// A packed index as the list has it.
-    fn packed(&self, index: PackedIndex) -> Result<PackedIndex, Refusal>
+    fn canonical_index(&self, index: PackedIndex) -> Result<PackedIndex, Refusal>
         requires { IsSmall self.now }
         ensures value { IfOk result (λ p. index_of p ≡ canonical_by self.now (index_of index)) }
         ensures known { is_ok result ≡ is_known_by self.now (index_of index) }
@@ -273,7 +295,7 @@ impl<'a> TypeCanonicalizer<'a> {
                     Err(error) => Err(error),
                 }
             }
-            CompositeInnerType::Cont(continuation) => match self.packed(continuation.0) {
+            CompositeInnerType::Cont(continuation) => match self.canonical_index(continuation.0) {
                 Ok(index) => Ok(CompositeInnerType::Cont(ContType(index))),
                 Err(refusal) => Err(Error::Refused(refusal)),
             },

@@ -44,8 +44,8 @@ pub fn known_ids<'a, A: Allocator + Copy>(
     ensures small { AreSmall result.now }
     ensures count { length result.now ≡ length spaces.now.types }
 {
-    // Asked for what it promises: ids are small.
-    let _count = list.len();
+    // Ids are small.
+    list.recall_promises();
     spaces.type_ids()
 }
 

@@ -1,3 +1,5 @@
+//! That the tests of items decide the rules of items.
+
 ghost use Rattle.wasm_validator_checks.specs.Laws.{FunctionsAreDecided, AritiesAreKept, TablesAreDecided, DefinedTablesAreDecided, MemoriesAreDecided, TagsAreDecided, GlobalsAreDecided, ExternsAreDecided};
 
 /// A type of a module is a function type of so many parameters and results exactly where the type

@@ -78,8 +78,7 @@ fn sub_type_at<'a, A: Allocator + Copy>(
     ensures arity { func_arity result.now.composite_type.inner
         ≡ arity_at (module_types types.now ids.now) index }
 {
-    // Asked for what it promises: what the types of the list refer to is known.
-    let _count = types.len();
+    types.recall_promises();
     &types[ids[index as usize]]
 }
 

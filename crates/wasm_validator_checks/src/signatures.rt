@@ -18,8 +18,7 @@ pub fn function_arity<A: Allocator + Copy>(
 ) -> Option<(usize, usize)>
     ensures { result ≡ arity_at (types_of_list list.now) id.index }
 {
-    // Asked for what it promises: each type refers to types before it, or to those of its group.
-    let _count = list.len();
+    list.recall_promises();
     written_arity(list, id)
 }
 

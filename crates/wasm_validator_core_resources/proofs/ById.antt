@@ -20,7 +20,7 @@ use Rattle.wasm_readers_types.specs.WasmReadersValues.declared.values.FieldType.
 use Rattle.wasm_readers_types.specs.declared.types.FuncType.{FuncType}
 use Rattle.wasm_readers_types.specs.declared.types.StructType.{StructType}
 use Rattle.wasm_readers_types.specs.declared.types.CompositeInnerType.{CompositeInnerType}
-use Rattle.wasm_readers_types.specs.declared.types.CompositeInnerType.TheVariants.{Func, Struct}
+use Rattle.wasm_readers_types.specs.declared.types.CompositeInnerType.TheVariants.{Struct}
 use Rattle.wasm_readers_types.specs.declared.types.SubType.{SubType}
 use Rattle.wasm_validator_type_list.specs.WasmValidatorTypeGroups.Groups.{all_in, first_of, IsInGroup}
 use Rattle.wasm_validator_type_list.specs.Listable.{IsKnown, AreListable}
@@ -47,9 +47,6 @@ module _ {A : Type 0} (start : ℕ) where
 
   pub results_reach : (f : FuncType A) (vs : List ValType) → vs ≡ f.results → All (Reaches start) (refs_comp (func_of f)) → All (λ v. All (Reaches start) (refs_val (val_of v))) vs
   results_reach f vs e h = rw e (all-flat (Reaches start) refs_val val_of f.results (all-right (Reaches start) (flat_map refs_val (map val_of f.params)) (flat_map refs_val (map val_of f.results)) h))
-
-  pub function_reaches : (c : CompositeInnerType A) (f : FuncType A) → c ≡ Func f → All (Reaches start) (refs_comp (comp_of c)) → All (Reaches start) (refs_comp (func_of f))
-  function_reaches c f e h = subst (λ x. All (Reaches start) (refs_comp (comp_of x))) e h
 
   pub fields_reach : (c : CompositeInnerType A) (s : StructType A) (xs : List FieldType) → c ≡ Struct s → xs ≡ s.fields → All (Reaches start) (refs_comp (comp_of c)) → All (λ x. All (Reaches start) (refs_field (field_of x))) xs
   fields_reach c s xs e f h = rw f (all-flat (Reaches start) refs_field field_of s.fields (subst (λ x. All (Reaches start) (refs_comp (comp_of x))) e h))

@@ -3,7 +3,7 @@ use Rattle.std.proofs.Common.{◌≡◌, refl, sym, ap, subst, ◌∙◌, ℕ, z
 use Rattle.std.specs.Bool.{Decides}
 use Rattle.std.specs.Option.{option_and_then}
 use Rattle.std.proofs.lemmas.Bool.Decides.{Decides-eqb}
-use Rattle.std.proofs.lemmas.Option.{slice_get-map}
+use Rattle.std.proofs.lemmas.Option.{slice_get-map, none-some, same_Some}
 use Rattle.wasm_spec.specs.Syntax.{Sub, map_sub}
 use Rattle.wasm_spec.specs.Declared.{supertype, supertype_of, ancestor_at, IsAncestor}
 use Rattle.wasm_validator_resources.specs.WasmSpecRules.Contexts.{Context}
@@ -22,12 +22,6 @@ use Rattle.wasm_operator_steps.specs.Laws.{IsNear}
 use Rattle.wasm_operator_steps.proofs.MatchingRenamed.{matches_val-map}
 use Rattle.wasm_operator_steps.proofs.WorldsDecided.{worlds_are_right}
 use Rattle.wasm_validator_core_resources.specs.ListContexts.{under_ids, list_declares, IsNoId, IsSeen, ListsAreSeen, ListContextsAreWorlds}
-
-none : {X : Type 0} (x : X) → None ≡ Some x → ⊥
-none x e = cc
-
-the_same : {X : Type 0} (x y : X) → Some x ≡ Some y → x ≡ y
-the_same x y e = cc
 
 not_true : (b : Bool) → (b ≡ true → ⊥) → b ≡ false
 not_true true h = absurd (h refl)
@@ -94,7 +88,7 @@ module _ {R : Type 0} (same : R → R → Bool) (f : ℕ → R) (apart : (m n : 
 
   -- what declares something is one of the ids
   under-found : (n : ℕ) (ds : List (Sub ℕ)) (a : R) (s : Sub R) → declared_in same (under_ids f n ds) a ≡ Some s → (m : ℕ) × (m < n + length ds) × (same (f m) a ≡ true)
-  under-found n [] a s e = absurd (none s e)
+  under-found n [] a s e = absurd (none-some s e)
   under-found n (d ∷ ds) a s e = elim (same (f n) a) as (λ c. same (f n) a ≡ c → (m : ℕ) × (m < n + length (d ∷ ds)) × (same (f m) a ≡ true)) [
     | true ↦ λ g. (n, omega arith, g)
     | false ↦ λ g.
@@ -137,14 +131,14 @@ module _ {A R : Type 0} (same : R → R → Bool) (f : ℕ → R) (apart : (m n 
   below-within (suc n) a b = λ i. apart a b i || (ap (passes (λ c. is_below same ds n c (f b))) (list-above a) ∙ link n b (supertype_of D a) (λ c. below-within n c b)) i
 
   known_above : (a y : ℕ) → supertype_of D a ≡ Some y → a < length (all_in gs)
-  known_above a y e = elim (D a) as (λ o. D a ≡ o → option_and_then supertype o ≡ Some y → a < length (all_in gs)) [ None ↦ λ g h. absurd (none y h) | Some s ↦ λ g h. declared_within gs a s g ] refl e
+  known_above a y e = elim (D a) as (λ o. D a ≡ o → option_and_then supertype o ≡ Some y → a < length (all_in gs)) [ None ↦ λ g h. absurd (none-some y h) | Some s ↦ λ g h. declared_within gs a s g ] refl e
 
   steps_enough : (a b : ℕ) (o : Option ℕ) → supertype_of D a ≡ o → is_within D (length ds) (Some a) b ≡ is_within D a (Some a) b
   steps_enough a b None e = within-top D (length ds) a b e ∙ sym (within-top D a a b e)
   steps_enough a b (Some y) e =
       let l : a < length (all_in gs) = known_above a y e in
       enough D (descends gs listable) (length ds) a (Some a) b
-      (λ x g. let h : a ≡ x = the_same a x g in omega (arith, l, length-list, h)) (λ x g. let h : a ≡ x = the_same a x g in omega (arith, h))
+      (λ x g. let h : a ≡ x = same_Some a x g in omega (arith, l, length-list, h)) (λ x g. let h : a ≡ x = same_Some a x g in omega (arith, h))
 
   list-below : (a b : ℕ) → is_below same ds (length ds) (f a) (f b) ≡ is_within D a (Some a) b
   list-below a b = below-within (length ds) a b ∙ steps_enough a b (supertype_of D a) refl
@@ -165,13 +159,13 @@ module _ {A R : Type 0} (same : R → R → Bool) (f : ℕ → R) (apart : (m n 
   mapped-links zero a b e = omega arith
   mapped-links (suc k) a b e =
       elim (supertype_of D a) as (λ o. supertype_of D a ≡ o → option_and_then (ancestor_at (declared_in same ds) k) (option_map f o) ≡ Some b → suc k ≤ a) [
-        | None ↦ λ g h. absurd (none b h)
+        | None ↦ λ g h. absurd (none-some b h)
         | Some y ↦ λ g h. let l : y < a = descends gs listable a y g in let m : k ≤ y = mapped-links k y b h in omega (arith, l, m)
       ] refl (sym (ap (option_and_then (ancestor_at (declared_in same ds) k)) (super-same (declared_in same ds (f a)) ∙ list-above a)) ∙ e)
 
   near_by : ((a b : R) → Decides (same a b) (a ≡ b)) → (k : ℕ) (a b : R) (o : Option (Sub R)) → declared_in same ds a ≡ o → ancestor_at (declared_in same ds) k a ≡ Some b → k ≤ length ds
   near_by right zero a b o g e = omega arith
-  near_by right (suc k) a b None g e = absurd (none b (sym (ap (λ (p : Option (Sub R)). option_and_then (ancestor_at (declared_in same ds) k) (option_and_then supertype p)) g) ∙ e))
+  near_by right (suc k) a b None g e = absurd (none-some b (sym (ap (λ (p : Option (Sub R)). option_and_then (ancestor_at (declared_in same ds) k) (option_and_then supertype p)) g) ∙ e))
   near_by right (suc k) a b (Some s) g e =
       let r = under-found same f apart 0 (subs_by_ids 0 gs) a s g in
       let is_id : f r.0 ≡ a = (right (f r.0) a).0 r.2 in

@@ -1,30 +1,19 @@
 -- The same where identities are the references of types as they are read: an id of a list is itself one.
-use Rattle.std.specs.Prelude.{ℕ, ◌≡◌, Bool, false, ◌==◌, List}
+use Rattle.std.specs.Prelude.{◌≡◌, List}
 use Rattle.std.specs.List.{All}
 use Rattle.wasm_spec.specs.Syntax.{Val, map_val}
 use Rattle.wasm_spec.specs.References.{refs_val}
 use Rattle.wasm_spec.specs.MatchingTests.{IsWorld, matches_val}
+pub use Rattle.wasm_validator_resources.specs.Answers.{id_of, same_index}
 use Rattle.wasm_validator_resources.specs.WasmSpecRules.Contexts.{Context}
 use Rattle.wasm_readers_types.specs.WasmReadersValues.Indices.{IsId}
 use Rattle.wasm_readers_types.specs.WasmReadersValues.declared.indices.UnpackedIndex.{UnpackedIndex}
-use Rattle.wasm_readers_types.specs.WasmReadersValues.declared.indices.UnpackedIndex.TheVariants.{Module, RecGroup, Id}
 use Rattle.wasm_readers_types.specs.declared.types.SubType.{SubType}
 use Rattle.wasm_validator_type_list.specs.Lookups.{leads_to}
 use Rattle.wasm_validator_type_list.specs.Listable.{AreListable}
 use Rattle.wasm_validator_type_list.specs.Worlds.{ids_world}
 use Rattle.wasm_validator_resources.specs.WasmSpecRules.Worlds.{world_of}
 use Rattle.wasm_validator_core_resources.specs.ListContexts.{list_declares, IsSeen}
-
--- the id with this number
-abbrev pub id_of : ℕ → UnpackedIndex
-id_of n = Id (record { index = n })
-
--- the same form, with the same number
-abbrev pub same_index : UnpackedIndex → UnpackedIndex → Bool
-same_index (Module m) (Module n) = m == n
-same_index (RecGroup m) (RecGroup n) = m == n
-same_index (Id a) (Id b) = a.index == b.index
-same_index _ _ = false
 
 -- A context that declares what a list does has the list's tests, and they are right. Value types in which each reference is an id, known
 -- or not, match in it exactly where the numbers of these ids do in the list.

@@ -29,7 +29,7 @@ fn id(start: u32, index: UnpackedIndex) -> UnpackedIndex
 }
 
 /// The same of a packed reference.
-fn packed(start: u32, index: PackedIndex) -> PackedIndex
+fn index_by_id(start: u32, index: PackedIndex) -> PackedIndex
     requires { Reaches start (index_of index) }
     ensures { index_of result ≡ as_id start (index_of index) }
 {
@@ -46,7 +46,7 @@ fn optional(start: u32, index: Option<PackedIndex>) -> Option<PackedIndex>
         ≡ option_map (as_id start) (option_map index_of index) }
 {
     match index {
-        Some(index) => Some(packed(start, index)),
+        Some(index) => Some(index_by_id(start, index)),
         None => None,
     }
 }
@@ -138,7 +138,7 @@ fn supertypes<A: Allocator + Copy>(
 {
     let mut copies = Vec::new(alloc);
     for index in indices {
-        copies.push(packed(start, *index))?;
+        copies.push(index_by_id(start, *index))?;
     }
     Ok(Items::from_vec(copies))
 }
@@ -180,7 +180,7 @@ fn composite<A: Allocator + Copy>(
             }))
         }
         CompositeInnerType::Cont(continuation) => {
-            Ok(CompositeInnerType::Cont(ContType(packed(start, continuation.0))))
+            Ok(CompositeInnerType::Cont(ContType(index_by_id(start, continuation.0))))
         }
     }
 }

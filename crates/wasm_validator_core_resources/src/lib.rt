@@ -10,7 +10,6 @@ ghost use Rattle.wasm_validator_core_resources.specs.ListContexts.{ListsAreSeen,
 ghost use Rattle.wasm_validator_core_resources.specs.IndexContexts.{ListsAreListed};
 
 mod by_ids;
-mod heaps;
 mod resources;
 mod types_by_ids;
 mod validator_resources;

@@ -14,19 +14,17 @@ ghost use Rattle.wasm_validator_type_list.specs.DefTypes.{types_of_list};
 ghost use Rattle.wasm_validator_resources.specs.Answers.{world, written_index, IsWritten};
 ghost use Rattle.wasm_validator_core_resources.specs.ModuleContexts.{flagged_from, module_context, with_references, AreByIds, FlagsSayReferences};
 
-use crate::heaps::{
-    abstract_matches, abstract_top, is_below_kind, is_shared, kind, kind_matches, same_flag,
-    same_index,
-};
 use crate::types_by_ids::TypesByIds;
 use std::alloc::Allocator;
 use std::marker::Model;
 use wasm_readers_types::{
     AbstractHeapType, CompositeInnerType, CoreTypeId, FuncType, GlobalType, HeapType, MemoryType,
-    RefType, SubType, TableType, UnpackedIndex, ValType,
+    RefType, SubType, TableType, UnpackedIndex, ValType, same_flag,
 };
-use wasm_validator_resources::WasmModuleResources;
 use wasm_validator_resources::readers_errors::{Fault, Refusal};
+use wasm_validator_resources::{
+    WasmModuleResources, is_above_bottom, is_shared, matches_kind, same_index,
+};
 use wasm_validator_type_list::{SnapshotList, TypeList};
 use wasm_validator_types::IndexSpaces;
 
@@ -75,8 +73,7 @@ impl<'a, A: Allocator + Copy> ModuleResources<'a, A> {
         ensures { result ≡ module_context spaces.now list.now (map ref_of elements.now)
             data_count }
     {
-        // Asked for what it promises: the list's references are known, and ids are small.
-        let _count = list.len();
+        list.recall_promises();
         ModuleResources {
             spaces,
             list,
@@ -128,7 +125,7 @@ impl<'a, A: Allocator + Copy> ModuleResources<'a, A> {
     }
 
     /// What the type is that this stands for, if it stands for one.
-    fn declared(&self, index: UnpackedIndex) -> Option<&SubType<A>>
+    fn type_for(&self, index: UnpackedIndex) -> Option<&SubType<A>>
         ensures { option_map (λ t. sub_of t.now) result ≡ (world self.now).declared index }
     {
         // What is always true of the look-ups is known from here on.
@@ -163,9 +160,9 @@ impl<'a, A: Allocator + Copy> ModuleResources<'a, A> {
             HeapType::Abstract {
                 shared: other_shared,
                 ty: other,
-            } => same_flag(shared, other_shared) && abstract_matches(ty, other),
+            } => same_flag(shared, other_shared) && ty.is_subtype_of(other),
             HeapType::Concrete(index) | HeapType::Exact(index) => {
-                is_below_kind(self.declared(index), shared, ty)
+                is_above_bottom(self.type_for(index), shared, ty)
             }
         }
     }
@@ -175,7 +172,7 @@ impl<'a, A: Allocator + Copy> ModuleResources<'a, A> {
         ensures { result ≡ matches_heap (world self.now) (concrete a) (heap_of b) }
     {
         match b {
-            HeapType::Abstract { shared, ty } => kind_matches(self.declared(a), shared, ty),
+            HeapType::Abstract { shared, ty } => matches_kind(self.type_for(a), shared, ty),
             HeapType::Concrete(index) => self.is_below(a, index),
             HeapType::Exact(_) => false,
         }
@@ -186,7 +183,7 @@ impl<'a, A: Allocator + Copy> ModuleResources<'a, A> {
         ensures { result ≡ matches_heap (world self.now) (exact a) (heap_of b) }
     {
         match b {
-            HeapType::Abstract { shared, ty } => kind_matches(self.declared(a), shared, ty),
+            HeapType::Abstract { shared, ty } => matches_kind(self.type_for(a), shared, ty),
             HeapType::Concrete(index) => self.is_below(a, index),
             HeapType::Exact(index) => same_index(a, index),
         }
@@ -211,7 +208,7 @@ impl<'a, A: Allocator + Copy> ModuleResources<'a, A> {
     }
 
     /// The id of the type that is written so in the module.
-    fn resolved(&self, written: UnpackedIndex, offset: u64) -> Result<CoreTypeId, Refusal>
+    fn resolve(&self, written: UnpackedIndex, offset: u64) -> Result<CoreTypeId, Refusal>
         requires { IsWritten written }
         ensures ok { IfOk result (λ id. slice_get self.now.types (written_index written)
             ≡ Some (Id id)) }
@@ -325,7 +322,7 @@ impl<'a, A: Allocator + Copy> WasmModuleResources for ModuleResources<'a, A> {
     fn is_shared(&self, ty: RefType) -> bool {
         match ty.heap_type() {
             HeapType::Abstract { shared, .. } => shared,
-            HeapType::Concrete(index) | HeapType::Exact(index) => is_shared(self.declared(index)),
+            HeapType::Concrete(index) | HeapType::Exact(index) => is_shared(self.type_for(index)),
         }
     }
 
@@ -333,11 +330,11 @@ impl<'a, A: Allocator + Copy> WasmModuleResources for ModuleResources<'a, A> {
         match *heap_type {
             HeapType::Abstract { .. } => {}
             HeapType::Concrete(written) => {
-                let id = self.resolved(written, offset)?;
+                let id = self.resolve(written, offset)?;
                 *heap_type = HeapType::Concrete(UnpackedIndex::Id(id));
             }
             HeapType::Exact(written) => {
-                let id = self.resolved(written, offset)?;
+                let id = self.resolve(written, offset)?;
                 *heap_type = HeapType::Exact(UnpackedIndex::Id(id));
             }
         }
@@ -348,12 +345,12 @@ impl<'a, A: Allocator + Copy> WasmModuleResources for ModuleResources<'a, A> {
         match *heap_type {
             HeapType::Abstract { shared, ty } => HeapType::Abstract {
                 shared,
-                ty: abstract_top(ty),
+                ty: ty.top(),
             },
-            HeapType::Concrete(index) | HeapType::Exact(index) => match self.declared(index) {
+            HeapType::Concrete(index) | HeapType::Exact(index) => match self.type_for(index) {
                 Some(sub) => HeapType::Abstract {
                     shared: sub.composite_type.shared,
-                    ty: abstract_top(kind(&sub.composite_type.inner)),
+                    ty: sub.composite_type.inner.kind().top(),
                 },
                 None => unreachable!(),
             },

@@ -117,8 +117,7 @@ fn type_by_ids<A: Allocator + Copy>(
     ensures { IfOk result (λ s. option_map (map_sub id_of) (declares list.now.groups place)
         ≡ Some (sub_of s)) }
 {
-    // Asked for what it promises: references of the list are known, and ids are small.
-    let _count = list.len();
+    list.recall_promises();
     let id = CoreTypeId::from_index(place as u32);
     let group = list.rec_group_id_of(id);
     let start = list[group].start.index() as u32;

@@ -172,9 +172,8 @@ impl<A: Allocator + Copy> ValidatorResources<A> {
         ensures { IfOk result (λ r. r ≡ with_references (flagged_from 0 referenced.items)
             (module_context spaces.value list spaces.value.elements data_count)) }
     {
-        // Asked for what they promise: the list's references are known, and the count of element
-        // segments fits.
-        let _types = list.len();
+        list.recall_promises();
+        // Asked for what it promises: the count of element segments fits.
         let _elements = spaces.as_ref().element_count();
         let module = CodeModule {
             spaces,

@@ -10,7 +10,6 @@ ghost use Rattle.wasm_validator_type_list.specs.Grouped.{AreIn, ValsMatch, Field
 ghost use Rattle.wasm_validator_matches.specs.Parts.{ListStands, SignaturesAgree};
 
 use crate::matches::Matches;
-use crate::references::id_at;
 use crate::with_rec_group::WithRecGroup;
 use std::alloc::Allocator;
 use wasm_readers_types::{CompositeInnerType, FieldType, ValType};
@@ -125,8 +124,8 @@ pub(crate) fn inners_match<A: Allocator + Copy>(
             sup.fields.as_slice(),
         ),
         (CompositeInnerType::Cont(sub), CompositeInnerType::Cont(sup)) => types.id_is_subtype(
-            id_at(types, a_group, sub.0.unpack()),
-            id_at(types, b_group, sup.0.unpack()),
+            types.id_at(a_group, sub.0.unpack()),
+            types.id_at(b_group, sup.0.unpack()),
         ),
         _ => false,
     }

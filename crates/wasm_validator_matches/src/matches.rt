@@ -8,7 +8,7 @@ ghost use Rattle.wasm_validator_type_list.specs.Listing.{types_in};
 ghost use Rattle.wasm_validator_matches.specs.Parts.{RefStands, ValStands, StorageStands, FieldStands, ArrayStands, ContStands, RefsAgree, ValsAgree, StoragesAgree, FieldsAgree, ArraysAgree, ContsAgree, CompStands, CompsAgree, CompositesAgree, SubsAgree};
 
 use crate::composites::{all_fields_match, func_signature_matches, inners_match};
-use crate::references::{id_at, reference_at};
+use crate::references::reference_at;
 use crate::with_rec_group::WithRecGroup;
 use std::alloc::Allocator;
 use wasm_readers_types::{
@@ -136,8 +136,8 @@ impl<'a, A: Allocator + Copy> Matches<A> for WithRecGroup<&'a ContType> {
         b: WithRecGroup<&'a ContType>,
     ) -> bool {
         types.id_is_subtype(
-            id_at(types, a.rec_group, a.inner.0.unpack()),
-            id_at(types, b.rec_group, b.inner.0.unpack()),
+            types.id_at(a.rec_group, a.inner.0.unpack()),
+            types.id_at(b.rec_group, b.inner.0.unpack()),
         )
     }
 }

@@ -5,29 +5,12 @@ ghost use Rattle.wasm_spec.specs.Syntax.{map_heap, map_ref};
 ghost use Rattle.wasm_spec.specs.References.{refs_heap};
 ghost use Rattle.wasm_readers_types.specs.WasmReadersValues.SeenValues.{heap_of, ref_of};
 ghost use Rattle.wasm_validator_type_list.specs.Listing.{types_in};
-ghost use Rattle.wasm_validator_type_list.specs.Grouped.{leads_in, IsKnownIn, AreIn};
+ghost use Rattle.wasm_validator_type_list.specs.Grouped.{leads_in, AreIn};
 ghost use Rattle.wasm_validator_type_list.specs.Subtyping.{IsHeapOver, IsRefOver, heap_by_ids, ref_by_ids};
 
 use std::alloc::Allocator;
-use wasm_readers_types::{CoreTypeId, HeapType, RefType, UnpackedIndex};
+use wasm_readers_types::{HeapType, RefType, UnpackedIndex};
 use wasm_validator_type_list::{RecGroupId, TypeList};
-
-/// The id that a reference in the group leads to.
-pub(crate) fn id_at<A: Allocator + Copy>(
-    types: &TypeList<A>,
-    group: RecGroupId,
-    index: UnpackedIndex,
-) -> CoreTypeId
-    requires group { group.index < length types.now.groups }
-    requires known { IsKnownIn types.now.groups group.index index }
-    ensures id { result.index ≡ leads_in types.now.groups group.index index }
-    ensures there { result.index < length (types_in types.now) }
-{
-    match types.at_canonicalized_unpacked_index(group, index, 0) {
-        Ok(id) => id,
-        Err(_) => unreachable!(),
-    }
-}
 
 /// The heap type with the id that its reference leads to.
 fn heap_at<A: Allocator + Copy>(types: &TypeList<A>, group: RecGroupId, heap: HeapType) -> HeapType
@@ -39,9 +22,9 @@ fn heap_at<A: Allocator + Copy>(types: &TypeList<A>, group: RecGroupId, heap: He
     match heap {
         HeapType::Abstract { shared, ty } => HeapType::Abstract { shared, ty },
         HeapType::Concrete(index) => {
-            HeapType::Concrete(UnpackedIndex::Id(id_at(types, group, index)))
+            HeapType::Concrete(UnpackedIndex::Id(types.id_at(group, index)))
         }
-        HeapType::Exact(index) => HeapType::Exact(UnpackedIndex::Id(id_at(types, group, index))),
+        HeapType::Exact(index) => HeapType::Exact(UnpackedIndex::Id(types.id_at(group, index))),
     }
 }
 
@@ -55,8 +38,7 @@ pub(crate) fn reference_at<A: Allocator + Copy>(
     ensures same { ref_by_ids result ≡ map_ref (leads_in types.now.groups group.index) (ref_of ty) }
     ensures there { IsRefOver (length (types_in types.now)) result }
 {
-    // Asked for what it promises of all ids of the list.
-    let _count = types.len();
+    types.recall_promises();
     match RefType::new(ty.is_nullable(), heap_at(types, group, ty.heap_type())) {
         Some(reference) => reference,
         None => unreachable!(),

@@ -16,7 +16,11 @@ use Rattle.wasm_spec_rules.specs.Attempts.{◌>>=◌}
 use Rattle.wasm_spec_rules.specs.Signatures.{Signature, signature_of, resolve_heap, resolve_ref, resolve_val}
 use Rattle.wasm_spec_rules.specs.Worlds.{world_of}
 
--- the same index
+-- the id with this number
+abbrev pub id_of : ℕ → UnpackedIndex
+id_of n = Id (record { index = n })
+
+-- the same form, with the same number
 abbrev pub same_index : UnpackedIndex → UnpackedIndex → Bool
 same_index (Module i) (Module j) = i == j
 same_index (RecGroup i) (RecGroup j) = i == j

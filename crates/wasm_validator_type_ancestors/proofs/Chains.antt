@@ -30,10 +30,7 @@ module _ (D : ℕ → Option (Sub ℕ)) where
       let s : m ≡ n + (m - n) = omega (arith, l) in
       ap (λ k. ancestor_at D k a) s ∙ ancestor_at-add D n (m - n) a ∙ ap (option_and_then (ancestor_at D (m - n))) e
 
-  -- a walk begins and goes on
-  pub walk-start : (a b : ℕ) → IsWalk D a b 0 a
-  walk-start a b = record { leads = refl; apart = λ m x l e f. absurd (omega (arith, l)) }
-
+  -- a walk goes on
   pub walk-step : (a b n here next : ℕ) → IsWalk D a b n here → (here ≡ b → ⊥) → supertype_of D here ≡ Some next → IsWalk D a b (n + 1) next
   walk-step a b n here next w other e = record {
     leads = next_ancestor n a here (Some next) w.leads e;

@@ -84,20 +84,7 @@ list_within es xs id e h r p l =
     let w = slice_get_within xs (e.start + x.entry.count) x.parent (x.more.last (omega (arith, x.more.count, l))) in
     omega (arith, w, x.more.count)
 
--- the next entry
-pub next-none : (es : List Entry) (xs : List ℕ) (e : Entry) → e.count ≡ 0 → IsNext es xs None e
-next-none es xs e z = record { extends = λ p. absurd (omega (arith, p, z)); says = super_none xs e z }
-
-pub next-more : (es : List Entry) (xs : List ℕ) (parent : ℕ) (entry e : Entry) → slice_get es parent ≡ Some entry → IsOneMore xs parent entry e → IsNext es xs (Some parent) e
-next-more es xs parent entry e r h = record {
-  extends = λ p. record { parent = parent; entry = entry; there = r; before = slice_get_within es parent entry r; more = h };
-  says = super_more xs parent entry e h;
-}
-
--- an entry that has no list, and one whose list was copied
-pub more-linked : (xs : List ℕ) (parent : ℕ) (entry e : Entry) → 63 ≤ entry.count → e.count ≡ entry.count + 1 → e.start ≡ parent → IsOneMore xs parent entry e
-more-linked xs parent entry e l c s = record { count = c; last = λ k. absurd (omega (arith, k, l)); front = λ k j i. absurd (omega (arith, k, l)); linked = λ k. s }
-
+-- an entry whose list was copied
 pub more-listed : (xs : List ℕ) (parent : ℕ) (entry e : Entry) → entry.count < 63 → e.count ≡ entry.count + 1 → slice_get xs (e.start + entry.count) ≡ Some parent → AreCopied xs entry.start e.start entry.count → IsOneMore xs parent entry e
 more-listed xs parent entry e l c s f = record { count = c; last = λ k. s; front = λ k j i. f.each j i; linked = λ k. absurd (omega (arith, k, l)) }
 

@@ -1,5 +1,5 @@
 -- What holds of the items of lists.
-use Rattle.std.proofs.Common.{◌≡◌, refl, sym, subst, ◌∙◌, ℕ, ◌+◌, ◌<◌, ◌≤◌, Bool, true, false, true≢false, List, [], ◌∷◌, ◌++◌, map, length, get_or, arith, All, ⊎_elim}
+use Rattle.std.proofs.Common.{◌≡◌, refl, subst, ◌∙◌, ℕ, ◌+◌, ◌<◌, ◌≤◌, Bool, true, List, [], ◌∷◌, ◌++◌, map, length, get_or, arith, All, ⊎_elim}
 use Rattle.std.specs.Bool.{Decides}
 use Rattle.std.specs.List.{flat_map, slice_index_or}
 use Rattle.std.proofs.lemmas.Bool.{cases_lt}
@@ -23,9 +23,6 @@ module _ {X : Type 0} (P : ℕ → X → Type 0) (xs : List X) where
 module _ {X : Type 0} (P : X → Type 0) (xs : List X) where
   pub all_first : (n : ℕ) → length xs ≤ n → FirstHold (λ k x. P x) xs n → Decides true (All P xs)
   all_first n l h = ((λ _. λ k d m. h k d (omega (arith, m, l))), (λ _. refl))
-
-  pub one_missed : (i : ℕ) (x : X) (r : Bool) → i < length xs → x ≡ slice_index_or xs i x → Decides r (P x) → r ≡ false → Decides false (All P xs)
-  one_missed i x r l f d e = ((λ t. absurd (true≢false (sym t))), (λ h. absurd (true≢false (sym (d.1 (subst P (sym f) (h i x l))) ∙ e))))
 
 -- all of two lists, one behind the other
 pub both : {X : Type 0} (P : X → Type 0) (xs ys : List X) → All P xs → All P ys → All P (xs ++ ys)

@@ -10,23 +10,14 @@ use Rattle.wasm_validator_type_ancestors.specs.Entries.{SameAt, IsKept, AreCopie
 pub still-there : {X : Type 0} (xs ys : List X) (k : ℕ) (x : X) → slice_get xs k ≡ Some x → slice_get (xs ++ ys) k ≡ Some x
 still-there xs ys k x e = get-left xs ys k (slice_get_within xs k x e) ∙ e
 
-pub kept-self : (xs : List ℕ) → IsKept xs xs
-kept-self xs = record { each = λ k id e. e }
-
 pub kept-then : (xs ys zs : List ℕ) → IsKept xs ys → IsKept ys zs → IsKept xs zs
 kept-then xs ys zs h g = record { each = λ k id e. g.each k id (h.each k id e) }
-
-pub kept-same : (new old : List ℕ) → new ≡ old → IsKept old new
-kept-same new old is = record { each = λ k id e. ap (λ xs. slice_get xs k) is ∙ e }
 
 pub kept-push : (new old : List ℕ) (id : ℕ) → new ≡ old ++ id ∷ [] → IsKept old new
 kept-push new old id is = record { each = λ k x e. ap (λ xs. slice_get xs k) is ∙ still-there old (id ∷ []) k x e }
 
 pub same-kept : (xs ys : List ℕ) (i j : ℕ) → IsKept xs ys → SameAt xs i j → SameAt ys i j
 same-kept xs ys i j h s = record { id = s.id; here = h.each i s.id s.here; there = h.each j s.id s.there }
-
-pub copied-none : (xs : List ℕ) (from to : ℕ) → AreCopied xs from to 0
-copied-none xs from to = record { each = λ j l. absurd (omega (arith, l)) }
 
 pub copied-kept : (xs ys : List ℕ) (from to n : ℕ) → IsKept xs ys → AreCopied xs from to n → AreCopied ys from to n
 copied-kept xs ys from to n h c = record { each = λ j l. same-kept xs ys (to + j) (from + j) h (c.each j l) }

@@ -1,3 +1,13 @@
+//! Which types are above a type, by one look-up.
+//!
+//! Of each type with at most 63 proper ancestors, as each accepted type has, the store has the list
+//! of them, from the topmost down, in the order in which the types came. An ancestor with k proper
+//! ancestors of its own stands at place k of that list. So whether b is above a is one comparison:
+//! that of b with the entry of a's list at the number of b's ancestors. A type with more has its
+//! supertype alone, and its ancestors are walked one by one.
+//!
+//! A contract sees only which id each type extends, since all else follows from it.
+
 ghost use Rattle.std.specs.Prelude.{◌≡◌, ◌+◌, ◌<◌, ◌≤◌, ◌^◌, ◌++◌, ◌∷◌, [], ℕ, Option, length, IfOk, OnOk, OnErr};
 ghost use Rattle.std.specs.Bool.{Decides};
 ghost use Rattle.wasm_validator_type_groups.specs.WasmSpec.Syntax.{Sub};

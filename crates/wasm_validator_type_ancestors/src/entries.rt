@@ -1,3 +1,7 @@
+//! The entries of the ancestors' store: for each type how many proper ancestors it has, and the
+//! place where their list begins, or its supertype where it has more than 63. The list of a new
+//! type is that of its supertype, copied, with the supertype behind it.
+
 ghost use Rattle.std.specs.Prelude.{◌≡◌, ◌+◌, ◌<◌, ◌≤◌, ◌^◌, ◌++◌, ℕ, Option, length, slice_get, IfOk, IfSome, OnOk};
 ghost use Rattle.std.specs.Bool.{Decides};
 ghost use Rattle.std.specs.declared.option.Option.TheVariants.{Some};

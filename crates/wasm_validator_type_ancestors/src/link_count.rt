@@ -1,3 +1,5 @@
+//! A count of the supertype links that look-ups read, by which their cost is stated.
+
 ghost use Rattle.std.specs.Prelude.{◌≡◌, ◌+◌, ◌<◌, ◌^◌};
 
 /// How many supertype links were read.

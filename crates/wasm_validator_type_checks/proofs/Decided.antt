@@ -1,12 +1,10 @@
 -- Tests that decide rules, part by part.
 use Rattle.std.proofs.Common.{◌≡◌, refl, sym, ap, subst, ◌∙◌, ℕ, Bool, true, false, true≢false, ◌&&◌, Option, Some, None, is_some, IfSome}
 use Rattle.std.specs.Bool.{Decides}
-use Rattle.std.specs.Cmp.{booleans_Decides}
 use Rattle.std.specs.Option.{option_map}
-use Rattle.std.proofs.Math.Bool.{beq}
 use Rattle.wasm_spec.specs.ValueTypes.{implies}
 use Rattle.wasm_readers_types.specs.WasmReadersValues.declared.indices.CoreTypeId.{CoreTypeId}
-use Rattle.wasm_validator_type_checks.specs.Listed.{number, numbered}
+use Rattle.wasm_validator_type_checks.specs.Listed.{numbered}
 
 -- a rule fails where a part of it does
 pub misses : {P Q : Type 0} (r s : Bool) → Decides r P → r ≡ false → s ≡ false → (Q → P) → Decides s Q
@@ -58,11 +56,3 @@ then_decides x y r d e f g h k = ((λ t. h (d.0 e) (g.0 (sym f ∙ t))), (λ t. 
 -- two ids that may be there
 pub same_ids : (a b : Option CoreTypeId) (x y : Option ℕ) (r : Bool) → numbered a ≡ x → numbered b ≡ y → Decides r (numbered a ≡ numbered b) → Decides r (x ≡ y)
 same_ids a b x y r e f d = ((λ t. sym e ∙ d.0 t ∙ f), (λ h. d.1 (e ∙ h ∙ sym f)))
-
--- tests of whether something is there
-pub alike_ids : (a b : Option CoreTypeId) (x y : Option ℕ) (p q : Bool) → numbered a ≡ x → numbered b ≡ y → p ≡ is_some a → q ≡ is_some b → Decides (beq q p) (is_some y ≡ is_some x)
-alike_ids a b x y p q e f h k =
-    let first : p ≡ is_some x = h ∙ sym (is_some_map number a) ∙ ap is_some e in
-    let second : q ≡ is_some y = k ∙ sym (is_some_map number b) ∙ ap is_some f in
-    let d = booleans_Decides q p in
-    ((λ t. sym second ∙ d.0 t ∙ first), (λ g. d.1 (second ∙ g ∙ sym first)))

@@ -1,16 +1,16 @@
 -- The rules over the ids of a list, and over the types that they stand for.
 use Rattle.std.proofs.Common.{◌≡◌, sym, ap, subst, ◌∙◌, ◌↔◌, ℕ, ◌+◌, ◌-◌, ◌<◌, ◌≤◌, Bool, List, [], ◌∷◌, ◌++◌, map, length, get_or, Some, All, arith}
-use Rattle.std.proofs.lemmas.List.{map-append, length-map}
+use Rattle.std.proofs.lemmas.List.{length-map}
 use Rattle.std.proofs.lemmas.List.Elements.{All-head, All-tail, All-cons, All-nil}
 use Rattle.std.proofs.lemmas.Option.{slice_get_within, slice_get-get_or, get_or_from_slice_get}
 use Rattle.wasm_spec.specs.Syntax.{Sub, map_sub}
-use Rattle.wasm_spec.specs.References.{refs_option, refs_comp, refs_sub}
+use Rattle.wasm_spec.specs.References.{refs_sub}
 use Rattle.wasm_spec.specs.Trees.{declared, members}
 use Rattle.wasm_spec.specs.Closing.{start_unless}
 use Rattle.wasm_spec.specs.TypeLists.{resolve_listed}
 use Rattle.wasm_spec.specs.GroupRules.{IsValidType}
 use Rattle.wasm_spec.proofs.Numbering.{members-close}
-use Rattle.wasm_spec.proofs.Shifting.{refs_option-map, refs_comp-map}
+use Rattle.wasm_spec.proofs.Shifting.{refs_sub-map}
 use Rattle.wasm_readers_types.specs.SeenTypes.{sub_of}
 use Rattle.wasm_readers_types.specs.WasmReadersValues.declared.indices.UnpackedIndex.{UnpackedIndex}
 use Rattle.wasm_readers_types.specs.WasmReadersValues.declared.indices.UnpackedIndex.TheVariants.{Module, RecGroup, Id}
@@ -29,14 +29,6 @@ use Rattle.wasm_validator_type_list.proofs.Order.{ids_are_ordered_as_types, ids_
 use Rattle.wasm_validator_type_checks.specs.Laws.{IdsKeepRulesAsTypes, GroupsKeepRulesAsTypes, SubTypesMatchAsTypes}
 use Rattle.wasm_validator_type_checks.proofs.Renamed.{sub_match}
 use Rattle.wasm_validator_type_checks.proofs.Transported.{valid_match}
-
-refs_sub-map : {R S : Type 0} (f : R → S) (s : Sub R) → refs_sub (map_sub f s) ≡ map f (refs_sub s)
-refs_sub-map f s =
-    let b = refs_option s.describes in
-    let c = refs_option s.descriptor in
-    let d = refs_comp s.comp in
-    (λ i. map f s.supers ++ (refs_option-map f s.describes i ++ (refs_option-map f s.descriptor i ++ refs_comp-map f s.comp i)))
-    ∙ sym (map-append f s.supers (b ++ (c ++ d)) ∙ ap (λ l. map f s.supers ++ l) (map-append f b (c ++ d) ∙ ap (λ l. map f b ++ l) (map-append f c d)))
 
 led_below : (start count end : ℕ) (r : UnpackedIndex) → start + count ≤ end → IsKnown start count r → leads_to start r < end
 led_below start count end (Module i) h k = absurd k

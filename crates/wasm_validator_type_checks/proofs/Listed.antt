@@ -1,15 +1,14 @@
 -- Types of a list by their ids, and where their references lead.
 use Rattle.std.proofs.Common.{◌≡◌, refl, sym, ap, subst, ◌∙◌, ℕ, ◌+◌, ◌-◌, ◌<◌, List, [], ◌++◌, length, slice_get, Option, Some, None, All, IfSome, arith}
 use Rattle.std.specs.List.{slice_index_or}
-use Rattle.std.specs.Option.{option_map, option_and_then}
+use Rattle.std.specs.Option.{option_map}
 use Rattle.std.proofs.lemmas.Option.{slice_get_within, slice_get-get_or, get_or_from_slice_get}
 use Rattle.std.proofs.lemmas.List.Elements.{All-head}
 use Rattle.wasm_spec.specs.Syntax.{Sub}
 use Rattle.wasm_spec.specs.References.{refs_option, refs_comp, refs_sub}
-use Rattle.wasm_spec.specs.Declared.{supertype_of, descriptor_of, described_by}
+use Rattle.wasm_spec.specs.Declared.{supertype_of}
 use Rattle.wasm_readers_types.specs.SeenTypes.{sub_of, comp_of}
 use Rattle.wasm_readers_types.specs.WasmReadersValues.SeenValues.{index_of}
-use Rattle.wasm_readers_types.specs.WasmReadersValues.Indices.{module_of}
 use Rattle.wasm_readers_types.specs.WasmReadersValues.declared.indices.CoreTypeId.{CoreTypeId}
 use Rattle.wasm_readers_types.specs.WasmReadersValues.declared.indices.PackedIndex.{PackedIndex}
 use Rattle.wasm_readers_types.specs.WasmReadersValues.declared.indices.UnpackedIndex.{UnpackedIndex}
@@ -18,7 +17,7 @@ use Rattle.wasm_readers_types.specs.declared.types.SubType.{SubType}
 use Rattle.wasm_validator_type_list.specs.WasmValidatorTypeGroups.Groups.{all_in, first_of, IsInGroup}
 use Rattle.wasm_validator_type_list.specs.Listing.{Listing, types_in}
 use Rattle.wasm_validator_type_list.specs.Listable.{IsKnown, AreListable}
-use Rattle.wasm_validator_type_list.specs.Lookups.{Leads, IsSupertypeAt}
+use Rattle.wasm_validator_type_list.specs.Lookups.{IsSupertypeAt}
 use Rattle.wasm_validator_type_list.specs.Declares.{sub_by_ids, declares}
 use Rattle.wasm_validator_type_list.specs.Grouped.{leads_in, IsKnownIn, AreIn}
 use Rattle.wasm_validator_type_list.proofs.Lookups.{group_found, member_at, first_of-next}
@@ -27,7 +26,7 @@ use Rattle.wasm_validator_type_list.proofs.Grouped.{all-left, all-right}
 use Rattle.wasm_validator_type_list.proofs.DefTypes.{first_of-within}
 use Rattle.wasm_validator_type_list.proofs.Matches.{at_place}
 use Rattle.wasm_validator_type_checks.proofs.Rules.{SupertypeDeclares}
-use Rattle.wasm_validator_type_checks.specs.Listed.{numbered, IsIn, leads_packed, IsListed}
+use Rattle.wasm_validator_type_checks.specs.Listed.{numbered, IsIn, IsListed}
 
 -- optional references
 known_option : (P : UnpackedIndex → Type 0) (o : Option PackedIndex) → All P (refs_option (option_map index_of o)) → IfSome o (λ p. P (index_of p))
@@ -41,16 +40,6 @@ led f (Some p) = refl
 
 -- where known references lead
 module _ {A : Type 0} where
-  pub not_of_module : (gs : List (List (SubType A))) (k : ℕ) (r : UnpackedIndex) → IsKnownIn gs k r → module_of r ≡ None
-  not_of_module gs k (Module i) h = absurd h
-  not_of_module gs k (RecGroup i) h = refl
-  not_of_module gs k (Id id) h = refl
-
-  pub known_leads : (gs : List (List (SubType A))) (k : ℕ) (r : UnpackedIndex) → IsKnownIn gs k r → Leads (first_of gs k) (first_of gs (k + 1)) r
-  known_leads gs k (Module i) h = absurd h
-  known_leads gs k (RecGroup i) h = omega (arith, h)
-  known_leads gs k (Id id) h = tt
-
   pub known_there : (gs : List (List (SubType A))) (k : ℕ) (r : UnpackedIndex) → IsKnownIn gs k r → leads_in gs k r < length (all_in gs)
   known_there gs k (Module i) h = absurd h
   known_there gs k (RecGroup i) h = omega (arith, h, first_of-within gs (k + 1))
@@ -87,12 +76,6 @@ module _ {A : Type 0} where
       let s = sub_of ty in
       let P = IsKnownIn gs k in
       known_option P ty.composite_type.describes_idx (all-left P (refs_option s.describes) (refs_option s.descriptor ++ refs_comp s.comp) (all-right P s.supers (refs_option s.describes ++ (refs_option s.descriptor ++ refs_comp s.comp)) h.known))
-
-  pub descriptor_read : (gs : List (List (SubType A))) (id k : ℕ) (ty : SubType A) (o : Option CoreTypeId) → IsListed gs id k ty → numbered o ≡ option_map (leads_packed gs k) ty.composite_type.descriptor_idx → numbered o ≡ descriptor_of (declares gs) id
-  descriptor_read gs id k ty o h e = e ∙ led (leads_in gs k) ty.composite_type.descriptor_idx ∙ sym (ap (option_and_then (λ (s : Sub ℕ). s.descriptor)) h.declared)
-
-  pub described_read : (gs : List (List (SubType A))) (id k : ℕ) (ty : SubType A) (o : Option CoreTypeId) → IsListed gs id k ty → numbered o ≡ option_map (leads_packed gs k) ty.composite_type.describes_idx → numbered o ≡ described_by (declares gs) id
-  described_read gs id k ty o h e = e ∙ led (leads_in gs k) ty.composite_type.describes_idx ∙ sym (ap (option_and_then (λ (s : Sub ℕ). s.describes)) h.declared)
 
   -- the supertype of a type of the list
   supertype_there : (l : Listing A) (id : ℕ) (o : Option CoreTypeId) → AreListable l.groups → id < length (types_in l) → numbered o ≡ supertype_of (declares l.groups) id → IfSome o (IsIn l)

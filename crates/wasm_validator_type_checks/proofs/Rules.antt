@@ -23,10 +23,6 @@ found P (Some x) h = h x refl
 at_some : {X : Type 0} (P : X → Type 0) (o : Option X) (x : X) → o ≡ Some x → IfSome o P → P x
 at_some P o x e h = subst (λ u. IfSome u P) e h
 
-pair_some : {X : Type 0} (P Q : X → Type 0) (o : Option X) → IfSome o P → IfSome o Q → IfSome o (λ x. P x × Q x)
-pair_some P Q None p q = tt
-pair_some P Q (Some x) p q = (p, q)
-
 -- what is there exactly where something else is
 alike : {X : Type 0} (x y : Option X) → (IsTrue (is_some x) → IsTrue (is_some y)) → (x ≡ None → y ≡ None) → is_some y ≡ is_some x
 alike None y p q = ap is_some (q refl)

@@ -17,7 +17,7 @@ ghost use Rattle.wasm_validator_type_list.specs.Grouped.{heap_in, val_in, storag
 ghost use Rattle.wasm_validator_type_checks.specs.Rules.{KeepsCompositeRules, are_members_shareable};
 ghost use Rattle.wasm_validator_type_checks.specs.Told.{told_of_shared, told_of_members, ToldOfContinuation, ToldOfComposite};
 
-use crate::ids::{group_of, id_at};
+use crate::ids::group_of;
 use std::alloc::Allocator;
 use wasm_readers_types::{
     CompositeInnerType, CompositeType, CoreTypeId, FieldType, HeapType, StorageType, ValType,
@@ -64,8 +64,8 @@ fn is_heap_shared<A: Allocator + Copy>(
 {
     match heap {
         HeapType::Abstract { shared, .. } => shared,
-        HeapType::Concrete(index) => is_type_shared(types, id_at(types, group, index)),
-        HeapType::Exact(index) => is_type_shared(types, id_at(types, group, index)),
+        HeapType::Concrete(index) => is_type_shared(types, types.id_at(group, index)),
+        HeapType::Exact(index) => is_type_shared(types, types.id_at(group, index)),
     }
 }
 
@@ -188,7 +188,7 @@ fn check_continuation<A: Allocator + Copy>(
 {
     match inner {
         CompositeInnerType::Cont(continuation) => {
-            let id = id_at(types, group, continuation.0.unpack());
+            let id = types.id_at(group, continuation.0.unpack());
             let fault = Fault::NotAFunctionId(id.index() as u32);
             hold(is_function(types, id), fault, offset)
         }

@@ -12,7 +12,7 @@ ghost use Rattle.wasm_validator_type_list.specs.Declares.{declares};
 ghost use Rattle.wasm_validator_type_checks.specs.Rules.{KeepsDescriptorRules, allows_clauses, ExtendsSupertypeClauses, HasSameFinality, HasDescriptorLike, DescribesLike, ExtendsDescriptor, ExtendsDescribed, ExtendsClauses, DescriptorDescribes, DescribedHasDescriptor, DescriptorHasSameFinality};
 ghost use Rattle.wasm_validator_type_checks.specs.Told.{told_of_clauses, unlike_descriptor, unlike_describes, ToldOfExtendedClauses, ToldOfSupertypeClauses, ToldOfDescriptors};
 
-use crate::ids::{are_same, described, descriptor, group_of, supertype};
+use crate::ids::{are_same, described_type, descriptor, group_of, supertype};
 use std::alloc::Allocator;
 use wasm_readers_types::{CompositeInnerType, CoreTypeId, SubType};
 use wasm_validator_resources::readers_errors::{
@@ -94,13 +94,13 @@ fn check_describes_alike<A: Allocator + Copy>(
     ensures told { IfErr result (λ r. r ≡ plain
         (Fault.Descriptor (unlike_describes offset (declares types.now.groups) id.index)) offset) }
 {
-    let describes = described(types, id).is_some();
+    let describes = described_type(types, id).is_some();
     let rule = if describes {
         DescriptorRule::DescriptorOfNonDescriptor
     } else {
         DescriptorRule::NonDescriptorSupertype
     };
-    let alike = described(types, extended).is_some() == describes;
+    let alike = described_type(types, extended).is_some() == describes;
     hold(alike, Fault::Descriptor(rule), offset)
 }
 
@@ -143,10 +143,10 @@ fn check_described_extends<A: Allocator + Copy>(
     ensures told { IfErr result (λ r. r ≡ plain
         (Fault.Descriptor DescriptorRule.DescriptorSupertype) offset) }
 {
-    match described(types, id) {
+    match described_type(types, id) {
         Some(by_type) => {
             let fault = Fault::Descriptor(DescriptorRule::DescriptorSupertype);
-            let extends = are_same(supertype(types, by_type), described(types, extended));
+            let extends = are_same(supertype(types, by_type), described_type(types, extended));
             hold(extends, fault, offset)
         }
         None => Ok(()),
@@ -206,7 +206,11 @@ fn check_descriptor<A: Allocator + Copy>(
     match descriptor(types, id) {
         Some(of_type) => {
             let fault = Fault::Descriptor(DescriptorRule::DescriptorWithoutDescribes);
-            hold(are_same(described(types, of_type), Some(id)), fault, offset)
+            hold(
+                are_same(described_type(types, of_type), Some(id)),
+                fault,
+                offset,
+            )
         }
         None => Ok(()),
     }
@@ -224,7 +228,7 @@ fn check_described<A: Allocator + Copy>(
     ensures told { IfErr result (λ r. r ≡ plain
         (Fault.Descriptor DescriptorRule.DescribesWithoutDescriptor) offset) }
 {
-    match described(types, id) {
+    match described_type(types, id) {
         Some(by_type) => {
             let fault = Fault::Descriptor(DescriptorRule::DescribesWithoutDescriptor);
             hold(

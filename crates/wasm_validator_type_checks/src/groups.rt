@@ -62,7 +62,7 @@ pub fn check_rec_group<A: Allocator + Copy>(
     ensures place { IfErr result (λ r. r.offset ≡ offset) }
 {
     let ids = &types[group];
-    let _count = types.len();
+    types.recall_promises();
     'members: for index in ids.start.index()..ids.end.index() {
         let id = CoreTypeId::from_index(index as u32);
         check_type(features, types, id, offset)?;

@@ -12,7 +12,7 @@ ghost use Rattle.wasm_validator_type_list.specs.Grouped.{leads_in, IsKnownIn};
 ghost use Rattle.wasm_validator_type_checks.specs.Listed.{IsListed, numbered, IsIn, leads_packed};
 
 use std::alloc::Allocator;
-use wasm_readers_types::{CoreTypeId, PackedIndex, UnpackedIndex};
+use wasm_readers_types::{CoreTypeId, PackedIndex};
 use wasm_validator_type_list::{RecGroupId, TypeList};
 
 /// The group that the references of the type stand in.
@@ -22,26 +22,8 @@ pub(crate) fn group_of<A: Allocator + Copy>(types: &TypeList<A>, id: CoreTypeId)
         → IsListed types.now.groups id.index result.index ty }
     ensures listable { AreListable types.now.groups }
 {
-    // Asked for what it promises of all references in the list.
-    let _count = types.len();
+    types.recall_promises();
     types.rec_group_id_of(id)
-}
-
-/// The id that a reference in the group leads to.
-pub(crate) fn id_at<A: Allocator + Copy>(
-    types: &TypeList<A>,
-    group: RecGroupId,
-    index: UnpackedIndex,
-) -> CoreTypeId
-    requires group { group.index < length types.now.groups }
-    requires known { IsKnownIn types.now.groups group.index index }
-    ensures id { result.index ≡ leads_in types.now.groups group.index index }
-    ensures there { result.index < length (types_in types.now) }
-{
-    match types.at_canonicalized_unpacked_index(group, index, 0) {
-        Ok(id) => id,
-        Err(_) => unreachable!(),
-    }
 }
 
 /// The id that a reference in the group leads to, if there is a reference.
@@ -56,7 +38,7 @@ fn optional_id_at<A: Allocator + Copy>(
     ensures there { IfSome result (IsIn types.now) }
 {
     match index {
-        Some(index) => Some(id_at(types, group, index.unpack())),
+        Some(index) => Some(types.id_at(group, index.unpack())),
         None => None,
     }
 }
@@ -70,8 +52,7 @@ pub(crate) fn supertype<A: Allocator + Copy>(
     ensures leads { numbered result ≡ supertype_of (declares types.now.groups) id.index }
     ensures there { IfSome result (IsIn types.now) }
 {
-    // Asked for what it promises of all references in the list.
-    let _count = types.len();
+    types.recall_promises();
     types.supertype_of(id)
 }
 
@@ -89,7 +70,7 @@ pub(crate) fn descriptor<A: Allocator + Copy>(
 }
 
 /// The id of the type that the type describes, if there is one.
-pub(crate) fn described<A: Allocator + Copy>(
+pub(crate) fn described_type<A: Allocator + Copy>(
     types: &TypeList<A>,
     id: CoreTypeId,
 ) -> Option<CoreTypeId>

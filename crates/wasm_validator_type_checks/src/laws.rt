@@ -1,3 +1,6 @@
+//! That the rules of types hold over ids exactly where they hold of the types that the ids stand
+//! for.
+
 ghost use Rattle.wasm_validator_type_checks.specs.Laws.{IdsKeepRulesAsTypes, GroupsKeepRulesAsTypes, SubTypesMatchAsTypes};
 
 /// In a list of types in which no type has two ids, as in a canonical one, what an id declares over

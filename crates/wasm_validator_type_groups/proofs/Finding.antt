@@ -4,7 +4,7 @@ use Rattle.std.specs.Option.{MatchOption}
 use Rattle.std.specs.Hash.{HashWrites}
 use Rattle.std.proofs.lemmas.Bool.{cases_lt}
 use Rattle.std.proofs.lemmas.Bool.Decides.{Decides-eqb}
-use Rattle.std.proofs.lemmas.Option.{none-some, slice_get_within}
+use Rattle.std.proofs.lemmas.Option.{slice_get_within}
 use Rattle.std.proofs.lemmas.List.{length_push}
 use Rattle.wasm_validator_type_groups.proofs.Places.{get-left, get-end, get-push}
 use Rattle.wasm_validator_type_groups.specs.Places.{IsNew}
@@ -97,11 +97,7 @@ module _ {X : Type 0} (F : X → HashWrites) where
   latest-push gs g h o false e l = latest-more gs g h o (λ same. true≢false (sym ((Decides-eqb (group_hash F g) h).1 same) ∙ e)) l
 
   module _ {A : Type 0} where
-    -- it is at most the last group with its hash
-    pub left-first : (k : KnownGroups A) (gs : List (List X)) (g : List X) (h : ℕ) → AreKnown F k gs → h ≡ group_hash F g → IsLeft gs g (latest_of k h)
-    left-first k gs g h known e = left-at gs g (length gs) (latest_of k h) (λ j f. slice_get_within gs j g f) (subst (λ m. IsLatest F gs (length gs) m (latest_of k h)) e (known.latest h))
-
-    -- and where it isn't this group, at most the one before
+    -- where it isn't this group, it is at most the one before
     pub left-next : (k : KnownGroups A) (gs : List (List X)) (g : List X) (n : ℕ) → AreKnown F k gs → IsUpTo gs g n → (slice_get gs n ≡ Some g → ⊥) → IsLeft gs g (earlier_of k n)
     left-next k gs g n known u other = left-at gs g n (earlier_of k n)
         (λ j e. ⊎_elim
@@ -118,14 +114,6 @@ module _ {X : Type 0} (F : X → HashWrites) where
     pub steps_fall : (k : KnownGroups A) (gs : List (List X)) (g : List X) (n : ℕ) (o : Option ℕ) → AreKnown F k gs → IsUpTo gs g n → o ≡ earlier_of k n → steps_left o < n + 1
     steps_fall k gs g n None known u e = omega arith
     steps_fall k gs g n (Some m) known u e = let l : m < n = next-before k gs g n m known u (sym e) in omega (arith, l)
-
-    -- no groups
-    pub known-none : (k : KnownGroups A) → k.latest.entries ≡ [] → k.earlier.entries ≡ [] → AreKnown F k []
-    known-none k e f = record {
-      latest = λ h. rw e (λ j g a b c d. none-some g c);
-      earlier = λ n g h. absurd (none-some g h);
-      fresh = λ n l. rw f refl;
-    }
 
     -- what finds the same
     pub known-same : (k j : KnownGroups A) (gs : List (List X)) → FindSame k j → AreKnown F k gs → AreKnown F j gs

@@ -1,3 +1,5 @@
+//! The ids of one group's types, which follow one another, as an iterator.
+
 ghost use Rattle.std.specs.Prelude.{◌≡◌, ◌-◌, ◌<◌, ◌^◌};
 ghost use Rattle.wasm_validator_type_groups.specs.Elements.{numbers_from, ids_left};
 

@@ -1,3 +1,5 @@
+//! Ids of recursion groups.
+
 ghost use Rattle.std.specs.Prelude.{◌≡◌};
 
 /// The id of a recursion group in a list of types.

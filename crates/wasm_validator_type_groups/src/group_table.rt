@@ -1,3 +1,6 @@
+//! Groups in a flat list, with the index that finds a group by its hash. Items are generic here: a
+//! group is a list of items that are compared by `==`.
+
 ghost use Rattle.std.specs.Prelude.{◌≡◌, ◌+◌, ◌<◌, ◌≤◌, ◌^◌, ◌++◌, ◌∷◌, [], length, slice_index_or, IfOk, IfSome, IsSome, OnOk, OnErr, ◌↔◌};
 ghost use Rattle.wasm_validator_type_groups.specs.Groups.{all_in, first_of, IsInGroup};
 ghost use Rattle.wasm_validator_type_groups.specs.Spans.{span, spans_of};

@@ -1,3 +1,7 @@
+//! Groups found by their hash: a map from each hash to the latest group that has it, and of each
+//! group the one before it with the same hash, if there is one. So a look-up compares the group
+//! with those of its hash alone, the latest first.
+
 ghost use Rattle.std.specs.Prelude.{◌≡◌, ◌+◌, ◌<◌, ◌≤◌, ℕ, [], length, slice_get, OnOk, OnErr, List};
 ghost use Rattle.std.specs.Bool.{Decides};
 ghost use Rattle.std.specs.declared.option.Option.TheVariants.{Some};

@@ -1,3 +1,8 @@
+//! The closed parts of a snapshot list. A part is a vector that grows no more; eight parts make a
+//! run, and two runs with as many parts as each other are joined into one. So a list of n parts has
+//! about log n runs. A look-up searches the runs, and then the parts of one. Parts and runs are
+//! shared by `Rc`, and joining copies pointers, never items.
+
 ghost use Rattle.std.specs.Prelude.{◌≡◌, ◌<◌, ◌≤◌, ◌+◌, ◌-◌, ◌^◌, ◌++◌, ◌∷◌, [], ℕ, List, length, map, slice_index_or, take, IfOk, OnOk, OnErr};
 ghost use Rattle.wasm_validator_type_groups.specs.Parts.{seen, run_parts, run_seen, all_items, StandFrom, PartsStand, IsRun, RunsStand, AreFew, LastTwoDiffer};
 
@@ -272,7 +277,7 @@ pub(crate) fn share_runs<T: Drop, A: Allocator + Copy>(
 }
 
 /// Two runs, the second behind the first, as one with the parts of both.
-fn joined<T: Drop, A: Allocator + Copy>(
+fn join_runs<T: Drop, A: Allocator + Copy>(
     alloc: A,
     first: &Run<T, A>,
     second: &Run<T, A>,
@@ -313,7 +318,7 @@ pub(crate) fn join_last<T: Drop, A: Allocator + Copy>(
         if runs[last].parts.len() != runs[last - 1].parts.len() {
             return Ok(());
         }
-        let run = joined(alloc, &runs[last - 1], &runs[last])?;
+        let run = join_runs(alloc, &runs[last - 1], &runs[last])?;
         runs[last - 1] = run;
         runs.truncate(last);
     }

@@ -1,3 +1,6 @@
+//! A list that grows at its end and gives snapshots of itself that share what they hold: runs,
+//! parts (`parts.rt`) and, for each list alone, an open end.
+
 ghost use Rattle.std.specs.Prelude.{◌≡◌, ◌<◌, ◌++◌, ◌∷◌, [], length, slice_index_or, IfOk, IfErr, IfSome, OnOk, OnErr, IsSome, IsTrue, ◌↔◌};
 
 use crate::group_id::RecGroupId;

@@ -11,6 +11,7 @@ use Rattle.wasm_readers_errors.specs.WasmSpec.Trees.{RecTree, DefType, close}
 use Rattle.wasm_readers_errors.specs.WasmSpec.Closing.{positions}
 use Rattle.wasm_readers_errors.specs.WasmSpec.TypeLists.{ListedUse, by_id, by_position, use_of_id, resolve_listed, listed_tree, with_listed, with_all_listed, types_of}
 use Rattle.wasm_readers_errors.specs.WasmSpec.TypeLaws.{IsKnownUse, MentionsKnown}
+use Rattle.wasm_readers_errors.proofs.WasmSpec.Accepted.{length-positions}
 use Rattle.wasm_readers_errors.proofs.WasmSpec.Agreement.{agree_sub}
 use Rattle.wasm_readers_errors.proofs.WasmSpec.Listed.{appended_listed_group}
 use Rattle.wasm_readers_errors.specs.WasmReadersTypes.declared.types.SubType.{SubType}
@@ -21,10 +22,6 @@ use Rattle.wasm_validator_type_ancestors.proofs.WasmValidatorTypeGroups.Places.{
 use Rattle.wasm_validator_type_list.proofs.Listed.{mentions_known}
 
 -- places in a recursive type
-length-positions : {X : Type 0} (t : RecTree) (i : ℕ) (xs : List X) → length (positions t i xs) ≡ length xs
-length-positions t i [] = refl
-length-positions t i (x ∷ xs) = ap suc (length-positions t (i + 1) xs)
-
 abbrev pub place_in : RecTree → ℕ → DefType
 place_in t i = record { tree = t; position = i }
 

@@ -39,10 +39,6 @@ found-in_order es id = sym (map.get-entries (map.from_entries {R = nat_cmp} es) 
 pub in_order-none : in_order [] ≡ []
 in_order-none = nothing (in_order []) (sym (map.len-entries (map.empty {R = nat_cmp})) ∙ map.len-empty nat_cmp ℕ)
 
-pub in_order-same : (es fs : List (ℕ × ℕ)) → ((id : ℕ) → lookup (nat_eq id) fs ≡ lookup (nat_eq id) es) → in_order fs ≡ in_order es
-in_order-same es fs h = ap map.entries (map.same_map nat_cmp_total map.nat_cmp-IsAntisymmetric (map.from_entries fs) (map.from_entries es)
-    (λ id. map.get-from_entries nat_cmp_total fs id ∙ found-entry fs id ∙ h id ∙ sym (map.get-from_entries nat_cmp_total es id ∙ found-entry es id)))
-
 pub in_order-put : (es fs : List (ℕ × ℕ)) (id n : ℕ) → ((q : ℕ) → lookup (nat_eq q) fs ≡ cond (nat_eq id q) (Some n) (lookup (nat_eq q) es)) → in_order fs ≡ with_depth (in_order es) id n
 in_order-put es fs id n h =
     let m = map.from_entries {R = nat_cmp} es in

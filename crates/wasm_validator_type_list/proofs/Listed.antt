@@ -1,15 +1,14 @@
 -- Sub types as the list's definitions write them.
 use Rattle.std.proofs.Common.{◌≡◌, refl, sym, ap, subst, ◌∙◌, ℕ, ◌≤◌, List, [], ◌∷◌, ◌++◌, map, length, All, arith}
-use Rattle.std.specs.List.{AllByRecursion}
-use Rattle.std.proofs.lemmas.List.{map-append}
 use Rattle.std.proofs.lemmas.List.Elements.{recursion_from_All, All-from_recursion}
-use Rattle.wasm_readers_errors.specs.WasmSpec.Syntax.{Sub, map_sub}
-use Rattle.wasm_readers_errors.specs.WasmSpec.References.{refs_option, refs_comp, refs_sub}
+use Rattle.wasm_readers_errors.specs.WasmSpec.Syntax.{map_sub}
+use Rattle.wasm_readers_errors.specs.WasmSpec.References.{refs_sub}
 use Rattle.wasm_readers_errors.specs.WasmSpec.Trees.{DefType}
 use Rattle.wasm_readers_errors.specs.WasmSpec.TypeLists.{ListedUse, by_id, by_position}
 use Rattle.wasm_readers_errors.specs.WasmSpec.TypeLaws.{IsKnownUse, MentionsKnown}
-use Rattle.wasm_readers_errors.proofs.WasmSpec.Shifting.{refs_option-map, refs_comp-map}
+use Rattle.wasm_readers_errors.proofs.WasmSpec.Shifting.{refs_sub-map}
 use Rattle.wasm_readers_errors.proofs.WasmSpec.Agreement.{map_sub-undone}
+use Rattle.wasm_readers_errors.proofs.WasmSpec.Written.{Each, each_map}
 use Rattle.wasm_readers_errors.specs.WasmReadersTypes.WasmReadersValues.declared.indices.UnpackedIndex.{UnpackedIndex}
 use Rattle.wasm_readers_errors.specs.WasmReadersTypes.WasmReadersValues.declared.indices.UnpackedIndex.TheVariants.{Module, RecGroup, Id}
 use Rattle.wasm_readers_errors.specs.WasmReadersTypes.declared.types.SubType.{SubType}
@@ -18,24 +17,9 @@ use Rattle.wasm_readers_errors.specs.WasmReadersTypes.SeenApart.{subs_of-apart}
 use Rattle.wasm_validator_type_list.specs.Listable.{IsKnown, IsListable}
 use Rattle.wasm_validator_type_list.specs.DefTypes.{listed_ref, listed_sub, listed_group}
 
-abbrev Each : {X : Type 0} → (X → Type 0) → List X → Type 0
-Each P xs = AllByRecursion P xs
-
-each_map : {X : Type 0} (P Q : X → Type 0) → ((x : X) → P x → Q x) → (xs : List X) → Each P xs → Each Q xs
-each_map P Q f [] h = tt
-each_map P Q f (x ∷ xs) h = (f x h.0, each_map P Q f xs h.1)
-
 each_mapped : {X Y : Type 0} (P : Y → Type 0) (f : X → Y) (xs : List X) → Each (λ x. P (f x)) xs → Each P (map f xs)
 each_mapped P f [] h = tt
 each_mapped P f (x ∷ xs) h = (h.0, each_mapped P f xs h.1)
-
-refs_sub-map : {R S : Type 0} (f : R → S) (s : Sub R) → refs_sub (map_sub f s) ≡ map f (refs_sub s)
-refs_sub-map f s =
-    let b = refs_option s.describes in
-    let c = refs_option s.descriptor in
-    let d = refs_comp s.comp in
-    (λ i. map f s.supers ++ (refs_option-map f s.describes i ++ (refs_option-map f s.descriptor i ++ refs_comp-map f s.comp i)))
-    ∙ sym (map-append f s.supers (b ++ (c ++ d)) ∙ ap (λ l. map f s.supers ++ l) (map-append f b (c ++ d) ∙ ap (λ l. map f b ++ l) (map-append f c d)))
 
 -- the reference that a use in a group of a list came from
 abbrev unlisted_ref : ListedUse → UnpackedIndex

@@ -1,8 +1,5 @@
 -- What is always true of a list of types, as groups are added.
 use Rattle.std.proofs.Common.{◌≡◌, refl, sym, ap, subst, ◌∙◌, ℕ, ◌+◌, ◌-◌, ◌<◌, ◌≤◌, ◌^◌, Bool, true, false, true≢false, nat_eq, List, [], ◌∷◌, ◌++◌, length, slice_get, Option, Some, None, arith, length-append}
-use Rattle.std.specs.Prelude.{OnErr}
-use Rattle.std.specs.declared.result.Result.{Result}
-use Rattle.std.specs.declared.result.Result.TheVariants.{Ok, Err}
 use Rattle.std.specs.Map.{lookup}
 use Rattle.std.specs.List.{slice_index_or}
 use Rattle.std.specs.Option.{option_map}
@@ -35,11 +32,6 @@ use Rattle.wasm_validator_type_ancestors.proofs.WasmValidatorTypeGroups.Flat.{al
 use Rattle.wasm_validator_type_list.proofs.Once.{once-push, listable-push, types-known, types-new}
 use Rattle.wasm_validator_type_list.proofs.Depths.{found-in_order, in_order-none, depths-push, depth-put}
 use Rattle.wasm_validator_type_list.proofs.Few.{few_groups, few-more, few-new}
-
--- what holds, of a refusal
-pub on_err : {X E P : Type 0} (r : Result X E) → P → OnErr r P
-on_err (Ok x) p = tt
-on_err (Err e) p = p
 
 -- one is found only where equal groups are kept once
 pub only_once : (b : Bool) (n : ℕ) (o : Option ℕ) → (b ≡ false → o ≡ None) → o ≡ Some n → b ≡ true

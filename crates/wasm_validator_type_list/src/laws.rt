@@ -1,3 +1,5 @@
+//! That what a list says of ids is what the standard says of the types that they stand for.
+
 ghost use Rattle.wasm_validator_type_list.specs.Laws.{TypesDeclareWhatIdsDeclare, TypesHaveTheirPlaces, IdsAreOrderedAsTypes, IdsMatchAsTypes};
 ghost use Rattle.wasm_validator_type_list.specs.Worlds.{IdsAreAWorld};
 

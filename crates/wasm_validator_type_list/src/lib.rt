@@ -5,7 +5,6 @@
 #![tactic(auto)]
 
 mod laws;
-mod subtyping;
 mod type_alloc;
 mod type_list;
 mod with_rec_group;

@@ -1,3 +1,6 @@
+//! The list of types of a validator, as the name that the Rust crate has for it: it is used like
+//! the list itself.
+
 ghost use Rattle.std.specs.Prelude.{◌≡◌};
 ghost use Rattle.std.specs.Borrow.{Lends, sem};
 ghost use Rattle.wasm_validator_type_list.specs.contracts.type_list.TypeList.{the_row as list_row};

@@ -1,3 +1,22 @@
+//! The list of types that all modules of one validator share.
+//!
+//! The list has recursion groups, one behind another; each type's id is its place over all groups,
+//! counted from 0, and each group's id its place among groups. A type in the list refers to others
+//! by id, where they are in groups before, and by its position in the group, where they are in its
+//! own (`wasm_validator_canonical`). So equal groups are written alike, and where the list is
+//! canonical each is kept once. In either mode no two ids stand for one type of the standard (Core
+//! Specification 3.0, Validation, Types, Recursive Types).
+//!
+//! - `interning.rt` adds a group, or finds it.
+//! - `relations.rt` is subtyping on ids, `total.rt` the same for any two ids, and `matching.rt`
+//!   matching of composite types.
+//! - `holding.rt` says which types and groups refer to ids of the list only, `links.rt` what
+//!   may be linked to an import, and `depths.rt` how deep a type is in its hierarchy.
+//!
+//! A contract sees a `Listing`: the mode, whether groups may be added, the groups as lists of sub
+//! types, and the kept depths. What the ids stand for is a function of it (`specs/DefTypes.antt`).
+//! A snapshot (`commit`) shares all contents with its list and grows no more.
+
 ghost use Rattle.std.specs.Prelude.{◌≡◌, ◌+◌, ◌<◌, ◌≤◌, true, length, slice_index_or, IfOk, IfErr, IfSome, IsOk, IsSome, IsTrue, ◌↔◌};
 ghost use Rattle.std.specs.declared.option.Option.TheVariants.{None};
 ghost use Rattle.wasm_readers_errors.specs.WasmReadersTypes.WasmReadersValues.SeenValues.{index_of};
@@ -121,6 +140,18 @@ impl<A: Allocator + Copy> TypeList<A> {
         ensures apart { HasNoRepetition (def_types self.now.is_canonical self.now.groups) }
     {
         self.groups.item_count()
+    }
+
+    /// Says what holds of each list, for a caller that needs it and nothing else: no more types
+    /// than ids, each type refers to types before it, or to those of its group, and no two ids
+    /// stand for one type. It does nothing.
+    #[inline(always)]
+    pub fn recall_promises(&self)
+        ensures room { length (types_in self.now) ≤ MAX_IDS }
+        ensures listable { AreListable self.now.groups }
+        ensures apart { HasNoRepetition (def_types self.now.is_canonical self.now.groups) }
+    {
+        let _count = self.len();
     }
 
     /// Whether there is no type.

@@ -1,3 +1,5 @@
+//! Parts of types together with their groups.
+
 ghost use Rattle.std.specs.Prelude.{◌≡◌};
 
 use wasm_validator_type_ancestors::validator_type_groups::RecGroupId;

@@ -2,7 +2,7 @@
 use Rattle.std.specs.Prelude.{ℕ, ◌+◌, Bool, true, ◌&&◌, if◌then◌else◌, List, [], ◌∷◌, ◌++◌, get_or}
 use Rattle.std.specs.List.{list_any}
 use Rattle.std.specs.Str.{bytes_eq}
-use Rattle.wasm_spec_rules.specs.WasmSpec.Syntax.{Ref, Table, Memory, Global, func_extern}
+use Rattle.wasm_spec_rules.specs.WasmSpec.Syntax.{Ref, Table, Memory, Global}
 use Rattle.wasm_spec_rules.specs.WasmReadersTypes.WasmReadersValues.declared.indices.UnpackedIndex.{UnpackedIndex}
 use Rattle.wasm_validator_types.specs.Entities.{Entity}
 
@@ -49,10 +49,6 @@ importing_global s g = record s { globals = s.globals ++ g ∷ []; imported_glob
 -- the function has exactly its type: it is imported so, or it isn't among the imported ones
 abbrev pub is_exact : Spaces → ℕ → Bool
 is_exact s x = get_or s.imported_functions x true
-
--- a function of the type whose id has this number
-abbrev pub function_with : ℕ → Entity
-function_with n = func_extern n
 
 -- the pair has these names
 abbrev pub is_pair : List ℕ → List ℕ → List ℕ × List ℕ → Bool

@@ -7,15 +7,11 @@ use Rattle.std.specs.String.{string_bytes}
 use Rattle.std.specs.declared.string.String.{String}
 use Rattle.wasm_spec_rules.specs.WasmReadersTypes.SeenExterns.{table_of, memory_of, global_of}
 use Rattle.wasm_spec_rules.specs.WasmReadersTypes.WasmReadersValues.SeenValues.{ref_of}
-use Rattle.wasm_spec_rules.specs.WasmReadersTypes.WasmReadersValues.declared.indices.CoreTypeId.{CoreTypeId}
+pub use Rattle.wasm_spec_rules.specs.WasmReadersTypes.WasmReadersValues.Indices.{numbers}
 use Rattle.wasm_spec_rules.specs.WasmReadersTypes.declared.externs.EntityType.{EntityType}
 use Rattle.wasm_validator_types.specs.declared.index_spaces.IndexSpaces.TheInside.{Inside}
 use Rattle.wasm_validator_types.specs.Entities.{Entity, entity_of, IsAmong}
 use Rattle.wasm_validator_types.specs.Spaces.{Spaces, with_import}
-
--- the numbers of ids
-abbrev pub numbers : List CoreTypeId → List ℕ
-numbers ids = map (λ id. id.index) ids
 
 -- each number of the list is below this one
 abbrev pub AreBelow : List ℕ → ℕ → Type 0

@@ -1,3 +1,5 @@
+//! Ids of validators.
+
 ghost use Rattle.std.specs.Prelude.{◌≡◌};
 
 use std::marker::Model;

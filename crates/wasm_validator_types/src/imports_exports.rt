@@ -1,3 +1,5 @@
+//! The imports and the exports of a module, as iterators.
+
 ghost use Rattle.std.specs.Prelude.{◌≡◌, map};
 ghost use Rattle.wasm_validator_types.specs.Rows.{all_imports};
 ghost use Rattle.wasm_validator_types.specs.Left.{imports_left, exports_left};

@@ -1,3 +1,11 @@
+//! What a user sees of a module's types: [`Types`] of a validated module, and [`TypesRef`], the
+//! same lent, also while a module is being validated.
+//!
+//! Both have the list of types, the index spaces of the module, which lead from its indices to ids
+//! of the list, the features that it was validated with, and the id of the validator. Indices count
+//! imported items first, as in the standard (Core Specification 3.0, Syntax, Modules, Indices).
+//! Types outlive their validator, with whose list they share their contents.
+
 ghost use Rattle.std.specs.Prelude.{◌≡◌, ◌+◌, ◌<◌, length, slice_get, slice_index, slice_index_or, IfSome, IsSome, ◌↔◌};
 ghost use Rattle.std.specs.Option.{option_map};
 ghost use Rattle.std.specs.declared.option.Option.TheVariants.{Some};

@@ -1,3 +1,6 @@
+//! The sub types of a group: what a type extends and what it describes must come before it, and all
+//! else is written as any reference is.
+
 ghost use Rattle.std.specs.Prelude.{◌≡◌, ◌+◌, ◌≤◌, ◌<◌, ◌&&◌, ◌++◌, map, length, is_ok, IfOk, IfErr, option_map};
 ghost use Rattle.std.specs.List.{list_all};
 ghost use Rattle.wasm_spec.specs.Syntax.{map_comp, map_sub};
@@ -30,7 +33,7 @@ impl<'a> TypeCanonicalizer<'a> {
         if number >= before {
             return Err(Refusal::new(fault, self.offset));
         }
-        match self.resolved(number).pack() {
+        match self.resolve(number).pack() {
             Some(packed) => Ok(packed),
             None => unreachable!(),
         }
@@ -64,7 +67,7 @@ impl<'a> TypeCanonicalizer<'a> {
     }
 
     /// What the type at the index `before` describes, as the list has it.
-    fn described(
+    fn described_index(
         &self,
         before: u32,
         index: Option<PackedIndex>,
@@ -98,7 +101,7 @@ impl<'a> TypeCanonicalizer<'a> {
         ensures told { IfErr result (ToldOfIndexBy self.now) }
     {
         match index {
-            Some(index) => Ok(Some(self.packed(index)?)),
+            Some(index) => Ok(Some(self.canonical_index(index)?)),
             None => Ok(None),
         }
     }
@@ -123,7 +126,7 @@ impl<'a> TypeCanonicalizer<'a> {
         ensures place { IfErr result (IsAt self.now.offset) }
         ensures told { IfErr result (IfContent (ToldOfIndexBy self.now)) }
     {
-        let describes_idx = match self.described(index, ty.describes_idx) {
+        let describes_idx = match self.described_index(index, ty.describes_idx) {
             Ok(described) => described,
             Err(refusal) => return Err(Error::Refused(refusal)),
         };

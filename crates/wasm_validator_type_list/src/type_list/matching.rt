@@ -1,3 +1,7 @@
+//! Matching of composite types by their parts, whether or not one type extends the other (Core
+//! Specification 3.0, Validation, Matching, Composite Types). Each part is taken with the group
+//! that its references stand in.
+
 ghost use Rattle.std.specs.Prelude.{◌≡◌, ◌<◌, length};
 ghost use Rattle.std.specs.Bool.{Decides};
 ghost use Rattle.std.specs.List.{All, AllZip};
@@ -19,8 +23,9 @@ use wasm_readers_errors::readers_types::{
 use wasm_validator_type_ancestors::validator_type_groups::RecGroupId;
 
 impl<A: Allocator + Copy> TypeList<A> {
-    /// The id that a reference in the group leads to.
-    fn id_at(&self, group: RecGroupId, index: UnpackedIndex) -> CoreTypeId
+    /// The id that a reference in the group leads to. The list must have the group, and the
+    /// reference must be one of its types'.
+    pub fn id_at(&self, group: RecGroupId, index: UnpackedIndex) -> CoreTypeId
         requires group { group.index < length self.now.groups }
         requires known { IsKnownIn self.now.groups group.index index }
         ensures id { result.index ≡ leads_in self.now.groups group.index index }

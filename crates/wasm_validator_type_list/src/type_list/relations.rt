@@ -1,20 +1,24 @@
+//! Subtyping on ids (Core Specification 3.0, Validation, Matching): defined types by their declared
+//! ancestors, heap types, reference types and value types over these.
+
 ghost use Rattle.std.specs.Prelude.{◌≡◌, ◌+◌, ◌<◌, ◌≤◌, ◌^◌, ℕ, length};
 ghost use Rattle.std.specs.Bool.{Decides};
 ghost use Rattle.std.specs.declared.option.Option.TheVariants.{Some};
 ghost use Rattle.wasm_readers_errors.specs.WasmSpec.Syntax.{abstract_heap, concrete, exact};
 ghost use Rattle.wasm_readers_errors.specs.WasmSpec.Declared.{IsAncestor, IsDepth};
 ghost use Rattle.wasm_readers_errors.specs.WasmSpec.Matching.{MatchesKind, IsAboveBottom, MatchesHeap, MatchesRef, MatchesVal, top_of_heap, is_shared_type, is_shared_heap, is_shared_val};
+ghost use Rattle.wasm_readers_errors.specs.WasmReadersTypes.WasmReadersValues.Indices.{IsId};
 ghost use Rattle.wasm_readers_errors.specs.WasmReadersTypes.WasmReadersValues.SeenValues.{abstract_heap_of};
+ghost use Rattle.wasm_readers_errors.specs.WasmReadersTypes.WasmReadersValues.declared.indices.UnpackedIndex.TheVariants.{Id};
 ghost use Rattle.wasm_validator_type_list.specs.Listing.{types_in};
 ghost use Rattle.wasm_validator_type_list.specs.Declares.{declares};
 ghost use Rattle.wasm_validator_type_list.specs.Reading.{Counts};
 ghost use Rattle.wasm_validator_type_list.specs.Subtyping.{IsHeapOver, IsRefOver, IsValOver, heap_by_ids, ref_by_ids, val_by_ids};
 
-use crate::subtyping::{abstract_is_subtype, abstract_top, id_in, is_bottom, kind};
 use crate::type_list::TypeList;
 use std::alloc::Allocator;
 use wasm_readers_errors::readers_types::{
-    AbstractHeapType, CoreTypeId, HeapType, RefType, ValType,
+    AbstractHeapType, CoreTypeId, HeapType, RefType, UnpackedIndex, ValType,
 };
 use wasm_validator_type_ancestors::LinkCount;
 
@@ -109,7 +113,7 @@ impl<A: Allocator + Copy> TypeList<A> {
         match *heap {
             HeapType::Abstract { shared, ty } => HeapType::Abstract {
                 shared,
-                ty: abstract_top(ty),
+                ty: ty.top(),
             },
             HeapType::Concrete(index) | HeapType::Exact(index) => self.top_of_type(id_in(index)),
         }
@@ -145,7 +149,7 @@ impl<A: Allocator + Copy> TypeList<A> {
         let composite = &self[id].composite_type;
         HeapType::Abstract {
             shared: composite.shared,
-            ty: abstract_top(kind(&composite.inner)),
+            ty: composite.inner.kind().top(),
         }
     }
 
@@ -173,7 +177,7 @@ impl<A: Allocator + Copy> TypeList<A> {
             HeapType::Abstract {
                 shared: other_shared,
                 ty: other,
-            } => shared == other_shared && abstract_is_subtype(ty, other),
+            } => shared == other_shared && ty.is_subtype_of(other),
             HeapType::Concrete(index) | HeapType::Exact(index) => {
                 self.is_above_bottom(id_in(index), shared, ty)
             }
@@ -215,7 +219,7 @@ impl<A: Allocator + Copy> TypeList<A> {
             (abstract_heap_of ty)) }
     {
         let composite = &self[id].composite_type;
-        composite.shared == shared && abstract_is_subtype(kind(&composite.inner), ty)
+        composite.shared == shared && composite.inner.kind().is_subtype_of(ty)
     }
 
     /// Whether the type has this shared flag, and the abstract heap type is that below its kind.
@@ -225,6 +229,17 @@ impl<A: Allocator + Copy> TypeList<A> {
             (abstract_heap_of ty)) }
     {
         let composite = &self[id].composite_type;
-        composite.shared == shared && is_bottom(&composite.inner, ty)
+        composite.shared == shared && composite.inner.has_bottom(ty)
+    }
+}
+
+/// The id that the reference is.
+fn id_in(index: UnpackedIndex) -> CoreTypeId
+    requires { IsId index }
+    ensures { index ≡ Id result }
+{
+    match index {
+        UnpackedIndex::Id(id) => id,
+        UnpackedIndex::Module(_) | UnpackedIndex::RecGroup(_) => unreachable!(),
     }
 }

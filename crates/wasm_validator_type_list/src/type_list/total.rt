@@ -1,3 +1,5 @@
+//! Subtyping of any two ids, also such as the list doesn't have.
+
 ghost use Rattle.std.specs.Prelude.{◌≡◌};
 ghost use Rattle.std.specs.Bool.{Decides};
 ghost use Rattle.wasm_readers_errors.specs.WasmSpec.Declared.{IsAncestor};

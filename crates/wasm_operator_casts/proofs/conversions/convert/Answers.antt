@@ -7,4 +7,4 @@ pub returns-in-Ok-exchange-clause-took : goal.returns-in-Ok-exchange-clause-took
 returns-in-Ok-exchange-clause-took g c =
     needed _ _ _ _ _ _ _ (has_held _ _ _ _ (search rules))
     (needed _ _ _ _ _ _ _ (allows_held _ _ _ _ (sym c.allows_heap.ensures ∙ c.if-not-allows_heap.false))
-    (took_ok _ _ _ _ (is_converted _ _ _ _ _ _ _ _ c.in-Ok.ensures.0 c.converted.ensures c.in-Ok-exchange.ensures.ok)))
+    (took_ok _ _ _ _ (is_converted _ _ _ _ _ _ _ _ c.in-Ok.ensures.0 c.word_of_hierarchy.ensures c.in-Ok-exchange.ensures.ok)))

@@ -7,4 +7,4 @@ use Rattle.wasm_operator_control.proofs.calls.call.Goals as goal
 pub returns-in-Ok-clause-took : goal.returns-in-Ok-clause-took
 returns-in-Ok-clause-took g c =
     needed _ _ _ _ _ _ _ (function_held _ _ _ _ c.in-Ok.ensures.ok)
-    (plainly _ _ _ _ _ _ _ _ _ c.plain.ensures.took (function_params _ _ _ _ _ c.in-Ok.ensures.ok (ap (map val_of) c.params.ensures)) (function_results _ _ _ _ _ c.in-Ok.ensures.ok (c.listed.ensures ∙ ap (map val_of) c.results.ensures)))
+    (plainly _ _ _ _ _ _ _ _ _ c.plain.ensures.took (function_params _ _ _ _ _ c.in-Ok.ensures.ok (ap (map val_of) c.params.ensures)) (function_results _ _ _ _ _ c.in-Ok.ensures.ok (c.val_types_of.ensures ∙ ap (map val_of) c.results.ensures)))

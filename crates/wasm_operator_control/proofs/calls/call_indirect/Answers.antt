@@ -20,4 +20,4 @@ returns-in-Ok-type_reached-clause-took g c =
     needed _ _ _ _ _ _ _ (table_held _ _ _ c.in-Ok.table c.in-Ok.ensures.ok)
     (needed _ _ _ _ _ _ _ (type_held _ _ _ _ c.in-Ok-type_reached.ensures.ok)
     (needed _ _ _ _ _ _ _ (functions_held _ _ _ _ _ (element_typed _ _ _ c.in-Ok.table _ c.in-Ok.ensures.ok refl) (sym c.is_subtype.ensures ∙ c.if-not-is_subtype.false))
-    (plainly _ _ _ _ _ _ _ _ _ c.plain_with.ensures.took (both_typed _ _ _ _ _ _ (type_params _ _ _ _ _ c.in-Ok-type_reached.ensures.ok (ap (map val_of) c.params.ensures)) (address_typed _ _ _ c.in-Ok.table _ c.in-Ok.ensures.ok c.address.ensures)) (type_results _ _ _ _ _ c.in-Ok-type_reached.ensures.ok (c.listed.ensures ∙ ap (map val_of) c.results.ensures)))))
+    (plainly _ _ _ _ _ _ _ _ _ c.plain_with.ensures.took (both_typed _ _ _ _ _ _ (type_params _ _ _ _ _ c.in-Ok-type_reached.ensures.ok (ap (map val_of) c.params.ensures)) (address_typed _ _ _ c.in-Ok.table _ c.in-Ok.ensures.ok c.address.ensures)) (type_results _ _ _ _ _ c.in-Ok-type_reached.ensures.ok (c.val_types_of.ensures ∙ ap (map val_of) c.results.ensures)))))

@@ -9,4 +9,4 @@ pub returns-in-Ok-clause-took : goal.returns-in-Ok-clause-took
 returns-in-Ok-clause-took g c =
     needed _ _ _ _ _ _ _ (has_held _ _ _ _ (search rules))
     (needed _ _ _ _ _ _ _ (type_held _ _ _ _ c.in-Ok.ensures.ok)
-    (plainly _ _ _ _ _ _ _ _ _ c.plain_with.ensures.took (both_typed _ _ _ _ _ _ (type_params _ _ _ _ _ c.in-Ok.ensures.ok (ap (map val_of) c.params.ensures)) (null_typed _ _ _ c.in-Some.reference c.in-Some.ensures)) (type_results _ _ _ _ _ c.in-Ok.ensures.ok (c.listed.ensures ∙ ap (map val_of) c.results.ensures))))
+    (plainly _ _ _ _ _ _ _ _ _ c.plain_with.ensures.took (both_typed _ _ _ _ _ _ (type_params _ _ _ _ _ c.in-Ok.ensures.ok (ap (map val_of) c.params.ensures)) (null_typed _ _ _ c.in-Some.reference c.in-Some.ensures)) (type_results _ _ _ _ _ c.in-Ok.ensures.ok (c.val_types_of.ensures ∙ ap (map val_of) c.results.ensures))))

@@ -13,11 +13,11 @@ returns-in-None-clause-took g c =
 pub returns-then-not-is_subtype-clause-took : goal.returns-then-not-is_subtype-clause-took
 returns-then-not-is_subtype-clause-took g c =
     refused_later _ _ _ _ _ _ _ (refused_later _ _ _ _ _ _ _
-    (refused_here _ _ _ _ _ _ (one_held _ _ _ _ _ _ _ (segment_typed _ _ _ c.in-Some.ty _ c.in-Some.ensures refl) (element_typed _ _ _ c.in-Ok.ty _ c.in-Ok.ensures.ok refl) (sym c.is_subtype.ensures ∙ c.if-not-is_subtype.true))))
+    (refused_here _ _ _ _ _ _ (one_held _ _ _ _ _ _ _ (segment_typed _ _ _ c.in-Some.ty _ c.in-Some.ensures refl) (element_typed _ _ _ c.in_ok-to.to _ c.in_ok-to.ensures.ok refl) (sym c.is_subtype.ensures ∙ c.if-not-is_subtype.true))))
 
 pub returns-clause-took : goal.returns-clause-took
 returns-clause-took g c =
     needed _ _ _ _ _ _ _ (has_held _ _ _ _ (search rules))
-    (needed _ _ _ _ _ _ _ (table_held _ _ _ c.in-Ok.ty c.in-Ok.ensures.ok)
-    (needed _ _ _ _ _ _ _ (one_held _ _ _ _ _ _ _ (segment_typed _ _ _ c.in-Some.ty _ c.in-Some.ensures refl) (element_typed _ _ _ c.in-Ok.ty _ c.in-Ok.ensures.ok refl) (sym c.is_subtype.ensures ∙ c.if-not-is_subtype.false))
-    (plainly _ _ _ _ _ _ _ _ _ c.plain.ensures.took (joined_typed _ _ _ _ _ _ (address_typed _ _ _ c.in-Ok.ty _ c.in-Ok.ensures.ok c.address.ensures) (two_i32s_typed _ _ _ _ c.number-number.ensures c.number-number.ensures)) (nothing_typed _ _))))
+    (needed _ _ _ _ _ _ _ (table_held _ _ _ c.in_ok-to.to c.in_ok-to.ensures.ok)
+    (needed _ _ _ _ _ _ _ (one_held _ _ _ _ _ _ _ (segment_typed _ _ _ c.in-Some.ty _ c.in-Some.ensures refl) (element_typed _ _ _ c.in_ok-to.to _ c.in_ok-to.ensures.ok refl) (sym c.is_subtype.ensures ∙ c.if-not-is_subtype.false))
+    (plainly _ _ _ _ _ _ _ _ _ c.plain.ensures.took (joined_typed _ _ _ _ _ _ (address_typed _ _ _ c.in_ok-to.to _ c.in_ok-to.ensures.ok c.address.ensures) (two_i32s_typed _ _ _ _ c.number-number.ensures c.number-number.ensures)) (nothing_typed _ _))))

@@ -3,8 +3,8 @@ use Rattle.wasm_operator_checks.proofs.Acting.{needed, plainly, has_held}
 use Rattle.wasm_operator_numbers.proofs.Tabled.{table_held, address_typed, element_typed}
 use Rattle.wasm_operator_numbers.proofs.tables.table_get.Goals as goal
 
-pub returns-in-Ok-clause-took : goal.returns-in-Ok-clause-took
-returns-in-Ok-clause-took g c =
+pub returns-clause-took : goal.returns-clause-took
+returns-clause-took g c =
     needed _ _ _ _ _ _ _ (has_held _ _ _ _ (search rules))
-    (needed _ _ _ _ _ _ _ (table_held _ _ _ c.in-Ok.ty c.in-Ok.ensures.ok)
-    (plainly _ _ _ _ _ _ _ _ _ c.plain.ensures.took (address_typed _ _ _ c.in-Ok.ty _ c.in-Ok.ensures.ok c.address.ensures) (element_typed _ _ _ c.in-Ok.ty _ c.in-Ok.ensures.ok c.reference.ensures)))
+    (needed _ _ _ _ _ _ _ (table_held _ _ _ c.in_ok-ty.ty c.in_ok-ty.ensures.ok)
+    (plainly _ _ _ _ _ _ _ _ _ c.plain.ensures.took (address_typed _ _ _ c.in_ok-ty.ty _ c.in_ok-ty.ensures.ok c.address.ensures) (element_typed _ _ _ c.in_ok-ty.ty _ c.in_ok-ty.ensures.ok c.reference.ensures)))

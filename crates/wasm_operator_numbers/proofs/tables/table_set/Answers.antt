@@ -4,8 +4,8 @@ use Rattle.wasm_operator_checks.proofs.Typing.{nothing_typed, joined_typed}
 use Rattle.wasm_operator_numbers.proofs.Tabled.{table_held, address_typed, element_typed}
 use Rattle.wasm_operator_numbers.proofs.tables.table_set.Goals as goal
 
-pub returns-in-Ok-clause-took : goal.returns-in-Ok-clause-took
-returns-in-Ok-clause-took g c =
+pub returns-clause-took : goal.returns-clause-took
+returns-clause-took g c =
     needed _ _ _ _ _ _ _ (has_held _ _ _ _ (search rules))
-    (needed _ _ _ _ _ _ _ (table_held _ _ _ c.in-Ok.ty c.in-Ok.ensures.ok)
-    (plainly _ _ _ _ _ _ _ _ _ c.plain.ensures.took (joined_typed _ _ _ _ _ _ (address_typed _ _ _ c.in-Ok.ty _ c.in-Ok.ensures.ok c.address.ensures) (element_typed _ _ _ c.in-Ok.ty _ c.in-Ok.ensures.ok c.reference.ensures)) (nothing_typed _ _)))
+    (needed _ _ _ _ _ _ _ (table_held _ _ _ c.in_ok-ty.ty c.in_ok-ty.ensures.ok)
+    (plainly _ _ _ _ _ _ _ _ _ c.plain.ensures.took (joined_typed _ _ _ _ _ _ (address_typed _ _ _ c.in_ok-ty.ty _ c.in_ok-ty.ensures.ok c.address.ensures) (element_typed _ _ _ c.in_ok-ty.ty _ c.in_ok-ty.ensures.ok c.reference.ensures)) (nothing_typed _ _)))

@@ -16,9 +16,9 @@ pub returns-in-Some-resolve-clause-took : goal.returns-in-Some-resolve-clause-to
 returns-in-Some-resolve-clause-took g c =
     needed _ _ _ _ _ _ _ (has_held _ _ _ _ (search rules))
     (needed _ _ _ _ _ _ _ (referenced_held _ _ _ _ (sym c.is_function_referenced.ensures ∙ c.if-not-is_function_referenced.false))
-    (plainly _ _ _ _ _ _ _ _ _ c.plain.ensures.took (nothing_typed _ _) (function_typed _ _ _ _ _ _ _ _ c.has_exact_type-is_exact.ensures.told c.in-Some.ensures c.has_exact_type-is_exact.ensures.value c.described.ensures.value c.in-Some-resolve.ensures c.reference.ensures)))
+    (plainly _ _ _ _ _ _ _ _ _ c.plain.ensures.took (nothing_typed _ _) (function_typed _ _ _ _ _ _ _ _ c.has_exact_type-is_exact.ensures.told c.in-Some.ensures c.has_exact_type-is_exact.ensures.value c.heap_type_of.ensures.value c.in-Some-resolve.ensures c.reference.ensures)))
 
 pub returns-in-None-resolve-clause-took : goal.returns-in-None-resolve-clause-took
 returns-in-None-resolve-clause-took g c =
     refused_later _ _ _ _ _ _ _
-    (refused_later _ _ _ _ _ _ _ (refused_gives _ _ _ _ _ _ (function_untyped _ _ _ _ _ _ c.has_exact_type-is_exact.ensures.told c.in-Some.ensures c.has_exact_type-is_exact.ensures.value c.described.ensures.value c.in-None-resolve.ensures)))
+    (refused_later _ _ _ _ _ _ _ (refused_gives _ _ _ _ _ _ (function_untyped _ _ _ _ _ _ c.has_exact_type-is_exact.ensures.told c.in-Some.ensures c.has_exact_type-is_exact.ensures.value c.heap_type_of.ensures.value c.in-None-resolve.ensures)))

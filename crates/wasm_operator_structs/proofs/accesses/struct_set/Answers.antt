@@ -7,11 +7,11 @@ use Rattle.wasm_operator_structs.proofs.accesses.struct_set.Goals as goal
 
 pub returns-then-field-clause-took : goal.returns-then-field-clause-took
 returns-then-field-clause-took g c =
-    needed _ _ _ _ _ _ _ c.in-Ok.ensures.on
-    (needed _ _ _ _ _ _ _ c.in-Ok.ensures.reached
-    (needed _ _ _ _ _ _ _ (mutable_held _ _ _ _ _ _ c.in-Ok.ensures.field c.if-field.true)
-    (plainly _ _ _ _ _ _ _ _ _ c.plain.ensures.took (joined_typed _ _ _ _ _ _ (nullable_typed _ _ _ _ _ c.in-Ok.ensures.identity c.nullable.ensures) (field_typed _ _ _ _ _ _ c.in-Ok.ensures.field (c.new.ensures ∙ c.unpack.ensures))) (nothing_typed _ _))))
+    needed _ _ _ _ _ _ _ c.in_ok-field.ensures.on
+    (needed _ _ _ _ _ _ _ c.in_ok-field.ensures.reached
+    (needed _ _ _ _ _ _ _ (mutable_held _ _ _ _ _ _ c.in_ok-field.ensures.field c.if-field.true)
+    (plainly _ _ _ _ _ _ _ _ _ c.plain.ensures.took (joined_typed _ _ _ _ _ _ (nullable_typed _ _ _ _ _ c.in_ok-field.ensures.identity c.nullable.ensures) (field_typed _ _ _ _ _ _ c.in_ok-field.ensures.field (c.new.ensures ∙ c.unpack.ensures))) (nothing_typed _ _))))
 
 pub returns-else-field-clause-took : goal.returns-else-field-clause-took
 returns-else-field-clause-took g c =
-    refused_later _ _ _ _ _ _ _ (refused_later _ _ _ _ _ _ _ (refused_here _ _ _ _ _ _ (mutable_held _ _ _ _ _ _ c.in-Ok.ensures.field c.if-field.false)))
+    refused_later _ _ _ _ _ _ _ (refused_later _ _ _ _ _ _ _ (refused_here _ _ _ _ _ _ (mutable_held _ _ _ _ _ _ c.in_ok-field.ensures.field c.if-field.false)))

@@ -8,8 +8,8 @@ use Rattle.wasm_operator_checks.proofs.Taking.{are_exchanged}
 use Rattle.wasm_operator_structs.specs.Fields.{unpacked_types}
 use Rattle.wasm_operator_structs.proofs.fields.exchange_fields.Goals as goal
 
-pub returns-in-Ok-exchange-clause-took : goal.returns-in-Ok-exchange-clause-took
+pub returns-in-Ok-clause-took : goal.returns-in-Ok-clause-took
 unfolding Took
-returns-in-Ok-exchange-clause-took g c =
-    are_exchanged (world (g.T.WasmModuleResources.context c.args.resources.now)) (unpacked_types c.args.fields.now) (val_in c.args.given ∷ []) (below c.args.taken (state_of c.args.stacks.now)) (below c.in-Ok.taken (state_of c.args.stacks.now)) (state_of c.exchange.new.self)
-    c.in-Ok.ensures.0 (c.in-Ok-exchange.ensures.ok ∙ ap (λ o. push_operand o (below c.in-Ok.taken (state_of c.args.stacks.now))) c.known.ensures)
+returns-in-Ok-clause-took g c =
+    are_exchanged (world (g.T.WasmModuleResources.context c.args.resources.now)) (unpacked_types c.args.fields.now) (val_in c.args.given ∷ []) (below c.args.taken (state_of c.args.stacks.now)) (below c.in_ok-taken.taken (state_of c.args.stacks.now)) (state_of c.exchange.new.self)
+    c.in_ok-taken.ensures.0 (c.in-Ok.ensures.ok ∙ ap (λ o. push_operand o (below c.in_ok-taken.taken (state_of c.args.stacks.now))) c.known.ensures)

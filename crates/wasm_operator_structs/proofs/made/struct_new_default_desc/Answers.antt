@@ -10,7 +10,7 @@ use Rattle.wasm_operator_structs.proofs.made.struct_new_default_desc.Goals as go
 
 pub returns-clause-took : goal.returns-clause-took
 returns-clause-took g c =
-    needed _ _ _ _ _ _ _ c.in-Ok.ensures.on
-    (needed _ _ _ _ _ _ _ c.in-Ok.ensures.reached
-    (needed _ _ _ _ _ _ _ (defaults_held _ _ _ _ _ c.in-Ok.ensures.fields (sym c.have_defaults.ensures ∙ c.if-not-have_defaults.false))
-    (plainly _ _ _ _ _ _ _ _ _ c.plain.ensures.took (descriptor_typed _ _ _ _ _ (c.in-Ok.ensures.descriptor ∙ ap (λ (o : Option PackedIndex). Some (option_map index_of o)) c.in-Some.is) c.exact_or_null.ensures) (new_typed _ _ _ _ _ c.in-Ok.ensures.identity c.new_reference-given.ensures))))
+    needed _ _ _ _ _ _ _ c.in_ok-described.ensures.on
+    (needed _ _ _ _ _ _ _ c.in_ok-described.ensures.reached
+    (needed _ _ _ _ _ _ _ (defaults_held _ _ _ _ _ c.in_ok-described.ensures.fields (sym c.have_defaults.ensures ∙ c.if-not-have_defaults.false))
+    (plainly _ _ _ _ _ _ _ _ _ c.plain.ensures.took (descriptor_typed _ _ _ _ _ (c.in_ok-described.ensures.descriptor ∙ ap (λ (o : Option PackedIndex). Some (option_map index_of o)) c.in-Some.is) c.exact_or_null.ensures) (new_typed _ _ _ _ _ c.in_ok-described.ensures.identity c.new_reference-given.ensures))))

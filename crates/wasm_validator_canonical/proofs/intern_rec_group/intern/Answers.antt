@@ -25,8 +25,8 @@ returns-in-Ok-check_if_new-clause-interned g c =
     let new = c.intern_canonical_rec_group.new.self in
     let mode = c.intern_canonical_rec_group.ensures.same_mode in
     let once : old.is_canonical ≡ true → AreOnce new.groups = λ h. c.is_canonical-is_canonical-in-Ok.ensures.once (c.is_canonical-is_canonical-in-Ok.ensures.mode ∙ mode ∙ h) in (
-      interned_under old new c.args.group.types c.in-Ok.is_new c.in-Ok.id.index (ids_left c.rec_group_elements.result) c.in-Ok.ensures.interned c.in-Ok.ensures.types once (omega (arith, c.len-count.ensures.count, c.len-count.ensures.room)) c.rec_group_elements.ensures,
-      checked (features_of c.args.features) old new c.args.group.types c.in-Ok.is_new c.in-Ok.id.index mode c.in-Ok.ensures.interned c.len-count.ensures.listable once c.requires.valid (λ e. (c.in-Ok-check_if_new.ensures.new e).0 refl),
+      interned_under old new c.args.group.types c.in-Ok.is_new c.in-Ok.id.index (ids_left c.rec_group_elements.result) c.in-Ok.ensures.interned c.in-Ok.ensures.types once (omega (arith, c.recall_promises-in-Ok.ensures.room)) c.rec_group_elements.ensures,
+      checked (features_of c.args.features) old new c.args.group.types c.in-Ok.is_new c.in-Ok.id.index mode c.in-Ok.ensures.interned c.recall_promises-in-Ok.ensures.listable once c.requires.valid (λ e. (c.in-Ok-check_if_new.ensures.new e).0 refl),
     )
 
 pub returns-in-Err-check_if_new-clause-interned : goal.returns-in-Err-check_if_new-clause-interned
@@ -42,22 +42,22 @@ returns-in-Err-check_if_new-clause-interned g c =
         interned = c.in-Ok.ensures.interned;
         types = c.in-Ok.ensures.types;
         once = λ h. c.is_canonical-is_canonical-in-Ok.ensures.once (c.is_canonical-is_canonical-in-Ok.ensures.mode ∙ mode ∙ h);
-        room = omega (arith, c.len-count.ensures.count, c.len-count.ensures.room);
+        room = omega (arith, c.recall_promises-in-Ok.ensures.room);
         are_ids = refl;
       };
       invalid =
-          refused (features_of c.args.features) new c.in-Ok.id.index c.in-Ok.is_new _ c.len-count.ensures.listable (λ h. c.is_canonical-is_canonical-in-Ok.ensures.once (c.is_canonical-is_canonical-in-Ok.ensures.mode ∙ h))
+          refused (features_of c.args.features) new c.in-Ok.id.index c.in-Ok.is_new _ c.recall_promises-in-Ok.ensures.listable (λ h. c.is_canonical-is_canonical-in-Ok.ensures.once (c.is_canonical-is_canonical-in-Ok.ensures.mode ∙ h))
           c.in-Err-check_if_new.ensures.new c.in-Err-check_if_new.ensures.known refl;
     })
 
 pub returns-in-Err-clause-interned : goal.returns-in-Err-clause-interned
 returns-in-Err-clause-interned g c =
-    nothing_interned (features_of c.args.features) c.args.types.now c.intern_canonical_rec_group.new.self c.args.group.types c.args.offset c.in-Err.error c.len-held.ensures.listable (λ h. c.is_canonical-is_canonical.ensures.once (c.is_canonical-is_canonical.ensures.mode ∙ h)) c.requires.listable c.in-Err.ensures.limit
+    nothing_interned (features_of c.args.features) c.args.types.now c.intern_canonical_rec_group.new.self c.args.group.types c.args.offset c.in-Err.error c.recall_promises.ensures.listable (λ h. c.is_canonical-is_canonical.ensures.once (c.is_canonical-is_canonical.ensures.mode ∙ h)) c.requires.listable c.in-Err.ensures.limit
 
 pub returns-in-Err-check_if_new-clause-told : goal.returns-in-Err-check_if_new-clause-told
 returns-in-Err-check_if_new-clause-told g c =
     new_told c.args.features c.args.offset c.args.types.now c.intern_canonical_rec_group.new.self c.args.group.types c.in-Ok.is_new c.in-Ok.id.index false c.in-Err-check_if_new.refusal c.in-Ok.ensures.interned
-    c.in-Err-check_if_new.ensures.known refl (omega (arith, c.len-count.ensures.count, c.len-count.ensures.room)) c.in-Err-check_if_new.ensures.told
+    c.in-Err-check_if_new.ensures.known refl (omega (arith, c.recall_promises-in-Ok.ensures.room)) c.in-Err-check_if_new.ensures.told
 
 pub returns-in-Err-clause-told : goal.returns-in-Err-clause-told
 returns-in-Err-clause-told g c =

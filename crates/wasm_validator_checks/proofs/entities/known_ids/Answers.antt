@@ -14,7 +14,6 @@ pub returns-clause-small : goal.returns-clause-small
 returns-clause-small g c =
     let list = c.args.list.now in
     let n = length (types_of_list list) in
-    let count = c.len-count.ensures.count in
-    let room = c.len-count.ensures.room in
+    let room = c.recall_promises.ensures.room in
     let many = length-def_types list.is_canonical list.groups in
-    new.below_limit n MAX_IDS c.type_ids.result.now (omega (arith, count, room, many)) (new.known_ids n c.type_ids.result.now (subst (All (λ k. k < n)) (sym c.type_ids.ensures) c.requires))
+    new.below_limit n MAX_IDS c.type_ids.result.now (omega (arith, room, many)) (new.known_ids n c.type_ids.result.now (subst (All (λ k. k < n)) (sym c.type_ids.ensures) c.requires))

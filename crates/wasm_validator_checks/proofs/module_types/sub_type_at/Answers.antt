@@ -9,10 +9,10 @@ returns-clause-there g c = sub_type_found c.args.types.now c.args.ids.now c.args
 
 pub returns-clause-shared : goal.returns-clause-shared
 returns-clause-shared g c =
-    sub_type_shared c.args.types.now c.args.ids.now c.args.index c.index.result.now c.len-count.ensures.listable
+    sub_type_shared c.args.types.now c.args.ids.now c.args.index c.index.result.now c.recall_promises.ensures.listable
     (sub_type_found c.args.types.now c.args.ids.now c.args.index (record { index = 0 }) c.index.result.now c.requires.known c.requires.in_range c.index.ensures)
 
 pub returns-clause-arity : goal.returns-clause-arity
 returns-clause-arity g c =
-    sub_type_arity c.args.types.now c.args.ids.now c.args.index c.index.result.now c.len-count.ensures.listable
+    sub_type_arity c.args.types.now c.args.ids.now c.args.index c.index.result.now c.recall_promises.ensures.listable
     (sub_type_found c.args.types.now c.args.ids.now c.args.index (record { index = 0 }) c.index.result.now c.requires.known c.requires.in_range c.index.ensures)

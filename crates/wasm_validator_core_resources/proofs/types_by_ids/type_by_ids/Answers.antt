@@ -8,8 +8,8 @@ pub sub_type-requires : goal.sub_type-requires
 sub_type-requires g c =
     let list = c.args.list.now in
     let there : c.from_index-id.result.index < length (types_in list) = omega (arith, c.requires, c.from_index-id.ensures) in
-    let room : length (types_in list) ≤ MAX_IDS = omega (arith, c.len-count.ensures.count, c.len-count.ensures.room) in
-    read_reaches list.groups c.rec_group_id_of-group.result.index c.from_index-id.result.index c.index-start.result c.index.result.now c.index-2.result.now c.rec_group_id_of-group.ensures there c.index.ensures c.index-start.ensures c.index-2.ensures c.len-count.ensures.listable room
+    let room : length (types_in list) ≤ MAX_IDS = omega (arith, c.recall_promises.ensures.room) in
+    read_reaches list.groups c.rec_group_id_of-group.result.index c.from_index-id.result.index c.index-start.result c.index.result.now c.index-2.result.now c.rec_group_id_of-group.ensures there c.index.ensures c.index-start.ensures c.index-2.ensures c.recall_promises.ensures.listable room
 
 pub returns : goal.returns
 returns g c =

@@ -15,7 +15,7 @@ overflow_cast-index g c =
     let gs = c.args.types.now.groups in
     let end : c.index-ids.result.now.end.index ≡ first_of gs (c.args.group.index + 1) = ap (λ (ids : Range CoreTypeId). ids.end.index) c.index-ids.ensures in
     let below : c.members.index < length (types_in c.args.types.now) = omega (arith, end, c.index-index-end.ensures, c.members-test.true, first_of-within gs (c.args.group.index + 1)) in
-    omega (arith, below, c.len-count.ensures.room, c.len-count.ensures.count)
+    omega (arith, below, c.recall_promises.ensures.room)
 
 pub check_type-requires : goal.check_type-requires
 check_type-requires g c =

@@ -7,4 +7,4 @@ pub returns-clause-leads : goal.returns-clause-leads
 returns-clause-leads g c = sym (supertype_read c.args.types.now.groups c.args.id.index c.supertype_of.result c.supertype_of.ensures)
 
 pub returns-clause-there : goal.returns-clause-there
-returns-clause-there g c = supertype_in c.args.types.now c.args.id.index c.supertype_of.result c.len-count.ensures.listable c.requires c.supertype_of.ensures
+returns-clause-there g c = supertype_in c.args.types.now c.args.id.index c.supertype_of.result c.recall_promises.ensures.listable c.requires c.supertype_of.ensures

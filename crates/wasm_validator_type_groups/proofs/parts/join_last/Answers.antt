@@ -2,20 +2,20 @@ use Rattle.std.proofs.Common.{arith, ◌≡◌, ◌<◌, ◌-◌, ◌∙◌, suc
 use Rattle.wasm_validator_type_groups.proofs.RunsStand.{is_run, behind, last_two, set_last, joined_items, joined_runs}
 use Rattle.wasm_validator_type_groups.proofs.parts.join_last.Goals as goal
 
-pub joined-requires-clause-first : goal.joined-requires-clause-first
-joined-requires-clause-first g c =
+pub join_runs-requires-clause-first : goal.join_runs-requires-clause-first
+join_runs-requires-clause-first g c =
     let rs = c.runs.runs.items in
     let n : c.len-last.result ≡ length rs = c.len-last.ensures ∙ c.runs.runs.ok.0 in
     is_run rs (c.len-last.result - 1 - 1) c.index-in-runs-2.result.now c.runs.invariant.0.each (omega (arith, n, c.runs-test.true)) c.index-in-runs-2.ensures
 
-pub joined-requires-clause-second : goal.joined-requires-clause-second
-joined-requires-clause-second g c =
+pub join_runs-requires-clause-second : goal.join_runs-requires-clause-second
+join_runs-requires-clause-second g c =
     let rs = c.runs.runs.items in
     let n : c.len-last.result ≡ length rs = c.len-last.ensures ∙ c.runs.runs.ok.0 in
     is_run rs (c.len-last.result - 1) c.index-in-runs-3.result.now c.runs.invariant.0.each (omega (arith, n, c.runs-test.true)) c.index-in-runs-3.ensures
 
-pub joined-requires-clause-behind : goal.joined-requires-clause-behind
-joined-requires-clause-behind g c =
+pub join_runs-requires-clause-behind : goal.join_runs-requires-clause-behind
+join_runs-requires-clause-behind g c =
     let rs = c.runs.runs.items in
     let k = c.len-last.result - 1 - 1 in
     let a = c.index-in-runs-2.result.now in

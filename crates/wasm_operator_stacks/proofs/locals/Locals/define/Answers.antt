@@ -8,7 +8,7 @@ pub returns-clause-ok : goal.returns-clause-ok
 returns-clause-ok g c =
     on_ok c.extend.result
     (λ e.
-    defined c.self.inside.front.items c.resize.new.self.items c.self.inside.behind c.extend.new.self c.len-len.result (vec_len c.self.inside.front) c.filled-wanted.result c.args.count c.args.local
-    c.len-len.ensures (search rules) c.filled-wanted.ensures.least c.filled-wanted.ensures.most (λ h. c.filled-wanted.ensures.alone (rw c.len.ensures h)) c.in_ok-resize.ensures.items e
+    defined c.self.inside.front.items c.resize.new.self.items c.self.inside.behind c.extend.new.self c.len-len.result (vec_len c.self.inside.front) c.front_after-wanted.result c.args.count c.args.local
+    c.len-len.ensures (search rules) c.front_after-wanted.ensures.least c.front_after-wanted.ensures.most (λ h. c.front_after-wanted.ensures.alone (rw c.len.ensures h)) c.in_ok-resize.ensures.items e
     ∙ ap (λ h. h.content ++ replicate c.args.count (local_of c.args.local)) c.self.view_is)
     c.extend.ensures.ok

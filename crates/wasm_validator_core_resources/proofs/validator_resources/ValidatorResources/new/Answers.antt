@@ -4,7 +4,7 @@ use Rattle.wasm_validator_core_resources.proofs.validator_resources.ValidatorRes
 
 pub invariant_of-module : goal.invariant_of-module
 invariant_of-module g c = record {
-  listable = c.len-types.ensures.listable;
+  listable = c.recall_promises.ensures.listable;
   held = c.requires.held;
   types = c.requires.types;
   elements = omega (arith, c.element_count-elements.type_inv, c.element_count-elements.ensures, ap (λ (s : Spaces). length s.elements) c.as_ref.ensures);

@@ -4,7 +4,8 @@ use Rattle.wasm_validator_type_ancestors.specs.WasmValidatorTypeGroups.Groups.{a
 use Rattle.wasm_validator_type_ancestors.specs.Supers.{extended_in}
 use Rattle.wasm_validator_type_list.specs.Listable.{IsListable}
 use Rattle.wasm_validator_type_list.proofs.Ancestors.{as_many, extend_earlier}
-use Rattle.wasm_validator_type_list.proofs.Sound.{group_room, room_of, mode_of, next_of, on_err, only_once, place_found, place_missed, sound_same, sound_push, shown_same, interned_found, interned_new}
+use Rattle.wasm_validator_type_list.proofs.Sound.{group_room, room_of, mode_of, next_of, only_once, place_found, place_missed, sound_same, sound_push, shown_same, interned_found, interned_new}
+use Rattle.wasm_validator_type_ancestors.proofs.Results.{on_err}
 use Rattle.wasm_validator_type_list.proofs.type_list.TypeList.intern_canonical_rec_group.Goals as goal
 
 pub returns-in-Some-clause-interned : goal.returns-in-Some-clause-interned

@@ -4,8 +4,8 @@ use Rattle.wasm_validator_type_list.proofs.type_list.TypeList.matches_kind.Goals
 
 pub returns-then-composite-shared : goal.returns-then-composite-shared
 returns-then-composite-shared g c =
-    kind_seen c.args.self.now c.args.id.index c.index.result.now c.requires c.index.ensures c.args.shared (abstract_heap_of c.args.ty) (abstract_heap_of c.kind.result) c.abstract_is_subtype.result
-    c.kind.ensures c.if-composite-shared.true c.abstract_is_subtype.ensures
+    kind_seen c.args.self.now c.args.id.index c.index.result.now c.requires c.index.ensures c.args.shared (abstract_heap_of c.args.ty) (abstract_heap_of c.kind.result) c.is_subtype_of.result
+    c.kind.ensures c.if-composite-shared.true c.is_subtype_of.ensures
 
 pub returns-else-composite-shared : goal.returns-else-composite-shared
 returns-else-composite-shared g c =

@@ -4,7 +4,7 @@ use Rattle.wasm_readers_types.specs.SeenTypes.{sub_of}
 use Rattle.wasm_validator_resources.specs.Answers.{same_index}
 use Rattle.test_resources.specs.SampleContexts.{under_ids}
 use Rattle.test_resources.proofs.Types.{type_read, no_id_declares}
-use Rattle.test_resources.proofs.resources.SampleResources.declared.Goals as goal
+use Rattle.test_resources.proofs.resources.SampleResources.type_for.Goals as goal
 
 pub returns-in-Id : goal.returns-in-Id
 returns-in-Id g c =
