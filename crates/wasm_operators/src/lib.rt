@@ -14,7 +14,7 @@ pub use control::{
     read_block_type,
 };
 pub use expressions::read_expression;
-pub use lists::{Immediate, Listed, ListedItems};
+pub use lists::{Immediate, Listed, ListedItems, read_listed};
 pub use operators::{Operator, read_operator};
 pub use references::{CastOperator, ReferenceOperator};
 pub use wasm_operators_plain::{

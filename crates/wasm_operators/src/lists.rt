@@ -105,7 +105,7 @@ impl<'a, T: Immediate<'a>> Iterator for ListedItems<'a, T> {
 
 /// A list: a count, and that many items.
 #[tactic(auto, using(crate::proofs::Listing::list_laws))]
-pub(crate) fn read_listed<'a, T: Immediate<'a>>(
+pub fn read_listed<'a, T: Immediate<'a>>(
     reader: &mut BinaryReader<'a>,
 ) -> Result<Listed<'a, T>, Refusal>
     ensures same { SameInput reader.old reader.new }

@@ -1,10 +1,10 @@
 -- Where payloads lie, in offsets from the start of the input.
 use Rattle.std.specs.Prelude.{ℕ, ◌+◌, ◌==◌, if◌then◌else◌, List, length, Option, Some, None, ◌≡◌, ◌<◌, ◌≤◌, IfSome}
 use Rattle.wasm_spec.specs.Values.{sized_at}
-use Rattle.wasm_readers.specs.WasmReadersBytes.Reader.{input, original, position_in, rest, SameInput, IsMalformed}
-use Rattle.wasm_readers.specs.WasmReadersErrors.declared.error.Refusal.{Refusal}
-use Rattle.wasm_readers.specs.SectionsSeen.{section_start, section_end}
-use Rattle.wasm_readers.specs.WasmReadersBytes.declared.binary_reader.BinaryReader.{BinaryReader}
+use Rattle.wasm_items.specs.WasmReaders.WasmReadersBytes.Reader.{input, original, position_in, rest, SameInput, IsMalformed}
+use Rattle.wasm_items.specs.WasmReaders.WasmReadersErrors.declared.error.Refusal.{Refusal}
+use Rattle.wasm_items.specs.WasmReaders.SectionsSeen.{section_start, section_end}
+use Rattle.wasm_items.specs.WasmReaders.WasmReadersBytes.declared.binary_reader.BinaryReader.{BinaryReader}
 use Rattle.wasm_parser.specs.declared.payload.Payload.{Payload}
 use Rattle.wasm_parser.specs.declared.payload.Payload.TheVariants as payloads
 use Rattle.wasm_parser.specs.declared.parser.ParseAll.{ParseAll}

@@ -2,10 +2,10 @@
 use Rattle.std.specs.Prelude.{ℕ, ◌≡◌, ◌≢◌, ◌⊎◌, List, Option, Some, None}
 use Rattle.std.specs.declared.result.Result.{Result}
 use Rattle.std.specs.declared.result.Result.TheVariants.{Ok, Err}
-use Rattle.wasm_readers.specs.WasmReadersBytes.Reader.{rest}
-use Rattle.wasm_readers.specs.SectionsSeen.{count_of, bytes_of}
-use Rattle.wasm_readers.specs.WasmReadersBytes.declared.binary_reader.BinaryReader.{BinaryReader}
-use Rattle.wasm_readers.specs.WasmReadersErrors.declared.error.Refusal.{Refusal}
+use Rattle.wasm_items.specs.WasmReaders.WasmReadersBytes.Reader.{rest}
+use Rattle.wasm_items.specs.WasmReaders.SectionsSeen.{count_of, bytes_of}
+use Rattle.wasm_items.specs.WasmReaders.WasmReadersBytes.declared.binary_reader.BinaryReader.{BinaryReader}
+use Rattle.wasm_items.specs.WasmReaders.WasmReadersErrors.declared.error.Refusal.{Refusal}
 use Rattle.wasm_parser.specs.declared.custom_section.CustomSectionReader.{CustomSectionReader}
 use Rattle.wasm_parser.specs.declared.function_body.FunctionBody.{FunctionBody}
 use Rattle.wasm_parser.specs.declared.payload.Encoding.{Encoding}

@@ -1,11 +1,11 @@
 ghost use Rattle.std.specs.Prelude.{◌≡◌, ◌+◌, length, Some, None, IfOk, IfErr, OnErr};
 ghost use Rattle.wasm_spec.specs.Values.{name_at};
-ghost use Rattle.wasm_readers.specs.WasmReadersBytes.Reader.{input, SameInput, position_in, original, rest, RefusedFrom};
+ghost use Rattle.wasm_items.specs.WasmReaders.WasmReadersBytes.Reader.{input, SameInput, position_in, original, rest, RefusedFrom};
 ghost use Rattle.wasm_parser.specs.Seen.{name_of, data_of, data_reader};
 
 use std::ops::Range;
-use wasm_readers::BinaryReader;
-use wasm_readers::readers_errors::Refusal;
+use wasm_items::readers::BinaryReader;
+use wasm_items::readers_errors::Refusal;
 
 /// A custom section: a name, and bytes that the standard gives no meaning (Core Specification 3.0,
 /// Binary Format, Custom Section).

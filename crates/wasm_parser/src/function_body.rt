@@ -1,9 +1,20 @@
-ghost use Rattle.std.specs.Prelude.{◌≡◌, ◌+◌, length};
-ghost use Rattle.wasm_readers.specs.WasmReadersBytes.Reader.{input, position_in, original, rest};
-ghost use Rattle.wasm_parser.specs.Seen.{body_of, body_reader};
+//! Function bodies, as their bytes.
 
+ghost use Rattle.std.specs.Prelude.{◌≡◌, ◌+◌, length, Some, None, IfOk, IfErr, OnErr};
+ghost use Rattle.wasm_spec.specs.Values.{u32_at};
+ghost use Rattle.wasm_items.specs.WasmReaders.WasmReadersBytes.Reader.{input, SameInput, position_in, original, rest, RefusedFrom};
+ghost use Rattle.wasm_items.specs.WasmOperators.SeenLists.{behind};
+ghost use Rattle.wasm_items.specs.SeenReaders.{operators_left};
+ghost use Rattle.wasm_parser.specs.Locals.{locals_at};
+ghost use Rattle.wasm_parser.specs.Seen.{body_of, body_reader};
+ghost use Rattle.wasm_parser.specs.SeenLocals.{locals_count, locals_left};
+
+use crate::locals::{LocalDeclaration, LocalsReader};
 use std::ops::Range;
-use wasm_readers::BinaryReader;
+use wasm_items::OperatorsReader;
+use wasm_items::operators::read_listed;
+use wasm_items::readers::BinaryReader;
+use wasm_items::readers_errors::Refusal;
 
 /// The body of one function: its locals and its instructions (Core Specification 3.0, Binary
 /// Format, Code Section).
@@ -45,5 +56,51 @@ impl<'a> FunctionBody<'a> {
         ensures { result ≡ body_reader self.now }
     {
         self.reader
+    }
+
+    /// A reader of the declarations of locals.
+    ///
+    /// # Errors
+    ///
+    /// Refused where the body begins with no count, as by [`BinaryReader::read_var_u32`].
+    pub fn get_locals_reader(&self) -> Result<LocalsReader<'a>, Refusal>
+        ensures ok { IfOk result (λ l. u32_at (body_of self.now)
+            ≡ Some (locals_count l, rest (locals_left l))) }
+        ensures part { IfOk result (λ l. SameInput (body_reader self.now) (locals_left l)) }
+        ensures refusal { IfErr result (RefusedFrom (body_reader self.now)) }
+        ensures err { OnErr result (u32_at (body_of self.now) ≡ None) }
+    {
+        LocalsReader::new(self.reader)
+    }
+
+    /// A reader of the bytes after the declarations of locals.
+    ///
+    /// # Errors
+    ///
+    /// Refused where the body begins with no list of declarations.
+    pub fn get_binary_reader_for_operators(&self) -> Result<BinaryReader<'a>, Refusal>
+        ensures ok { IfOk result (λ r. behind (locals_at (body_of self.now)) ≡ Some (rest r)) }
+        ensures part { IfOk result (λ r. SameInput (body_reader self.now) r) }
+        ensures refusal { IfErr result (RefusedFrom (body_reader self.now)) }
+        ensures err { OnErr result (locals_at (body_of self.now) ≡ None) }
+    {
+        let mut reader = self.reader;
+        read_listed::<LocalDeclaration>(&mut reader)?;
+        Ok(reader)
+    }
+
+    /// A reader of the operators, which follow the declarations of locals.
+    ///
+    /// # Errors
+    ///
+    /// Refused where the body begins with no list of declarations.
+    pub fn get_operators_reader(&self) -> Result<OperatorsReader<'a>, Refusal>
+        ensures ok { IfOk result (λ r. behind (locals_at (body_of self.now))
+            ≡ Some (rest (operators_left r))) }
+        ensures part { IfOk result (λ r. SameInput (body_reader self.now) (operators_left r)) }
+        ensures refusal { IfErr result (RefusedFrom (body_reader self.now)) }
+        ensures err { OnErr result (locals_at (body_of self.now) ≡ None) }
+    {
+        Ok(OperatorsReader::new(self.get_binary_reader_for_operators()?))
     }
 }

@@ -7,11 +7,13 @@ ghost use Rattle.wasm_parser.specs.Laws.{RunsAreFramings, FramingsAreRuns, OneFr
 
 pub mod custom_section;
 pub mod function_body;
+pub mod locals;
 pub mod parser;
 pub mod payload;
 
 pub use custom_section::CustomSectionReader;
 pub use function_body::FunctionBody;
+pub use locals::{LocalDeclaration, LocalsIterator, LocalsReader};
 pub use parser::{ParseAll, Parser};
 pub use payload::{Encoding, Payload};
 
@@ -28,3 +30,11 @@ pub fn laws()
     ensures ends { GivenEnds }
     ensures fewer { PiecesEnd }
 {}
+
+/// Passed on from `wasm_items`.
+pub mod items {
+    pub use wasm_items::{
+        ConstExpr, Data, DataKind, Element, ElementItems, ElementKind, Global, OperatorsIterator,
+        OperatorsReader, Table, TableInit,
+    };
+}

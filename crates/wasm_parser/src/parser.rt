@@ -1,7 +1,7 @@
 ghost use Rattle.std.specs.Prelude.{◌≡◌, ◌≢◌, ◌≤◌, ◌<◌, ◌^◌, ◌-◌, ◌+◌, IfOk, OnOk, OnErr, IfErr, IfSome, length, drop, [], ◌∷◌, ◌++◌, Some, None, IsTrue, nat_eq};
 ghost use Rattle.std.specs.List.{starts_with};
 ghost use Rattle.std.specs.Option.{option_map};
-ghost use Rattle.wasm_readers.specs.WasmReadersBytes.Reader.{SameInput, position_in, original, rest, RefusedFrom};
+ghost use Rattle.wasm_items.specs.WasmReaders.WasmReadersBytes.Reader.{SameInput, position_in, original, rest, RefusedFrom};
 ghost use Rattle.wasm_spec.specs.Framing.{place, piece_of, number_of, agrees, u16_at};
 ghost use Rattle.wasm_parser.specs.Machine.{start, core_header, header_of, numbers_of, entry_of, contents_of, alone_of, section_of, ending_of, part_of, behind, at_sections, failed, next_of};
 ghost use Rattle.wasm_parser.specs.Seen.{offset_of, seen, state};
@@ -11,8 +11,8 @@ use crate::custom_section::CustomSectionReader;
 use crate::function_body::FunctionBody;
 use crate::payload::{Encoding, Payload};
 use std::alloc::{Allocator, Global};
-use wasm_readers::readers_errors::{Fault, Malformed, Refusal};
-use wasm_readers::{BinaryReader, SectionLimited};
+use wasm_items::readers::{BinaryReader, SectionLimited};
+use wasm_items::readers_errors::{Fault, Malformed, Refusal};
 
 /// A parser of modules and components, from its allocator and the offset at which the input begins.
 /// Parsing allocates nothing: the allocator is for the sections' items.

@@ -2,9 +2,8 @@ use crate::custom_section::CustomSectionReader;
 use crate::function_body::FunctionBody;
 use std::alloc::{Allocator, Global as GlobalAllocator};
 use std::ops::Range;
-use wasm_readers::{
-    Data, Element, Export, Global, Import, MemoryType, RecGroup, SectionLimited, Table, TagType,
-};
+use wasm_items::readers::{Export, Import, MemoryType, RecGroup, SectionLimited, TagType};
+use wasm_items::{Data, Element, Global, Table};
 
 /// What the header says that follows it.
 #[derive(Clone, Copy, PartialEq, Eq, Debug)]

@@ -12,10 +12,7 @@ pub mod lists;
 pub mod section_limited;
 pub mod types;
 
-pub use items::{
-    ConstExpr, Data, DataKind, Element, ElementItems, ElementKind, Export, Global, Import, Table,
-    TableHead, TableInit,
-};
+pub use items::{Export, Import, TableHead};
 pub use lists::read_list;
 pub use section_limited::{FromReader, SectionItems, SectionLimited};
 pub use wasm_readers_bytes::BinaryReader;

@@ -1,0 +1,3 @@
+pub mod TableHeads
+pub mod Left
+pub mod Cited
