@@ -1,9 +1,6 @@
 pub use Rattle.wasm_laws_core.proofs as WasmLawsCore
 pub use Rattle.wasm_laws_contexts.proofs as WasmLawsContexts
-pub use Rattle.wasm_validator_items.proofs.ElementsRead
-pub use Rattle.wasm_validator_items.proofs.GlobalsRead
 pub use Rattle.wasm_validator_items.proofs.Segments
-pub use Rattle.wasm_validator_items.proofs.TablesRead
 pub use Rattle.wasm_validator_items.proofs.Renamed as RenamedEntries
 pub mod Entries
 pub mod Depths

@@ -15,7 +15,8 @@ use Rattle.wasm_spec_rules.specs.Sections.{each}
 use Rattle.wasm_laws_core.specs.WasmValidatorCanonical.Sections.{written}
 use Rattle.wasm_laws_core.specs.WasmValidatorTypes.Spaces.{Spaces}
 use Rattle.wasm_laws_core.specs.WasmValidatorCore.Answers.{TypesSoFar}
-use Rattle.wasm_laws_core.specs.Lists.{up_to_functions, add_imports, add_functions, add_memories, add_tags, add_exports}
+pub use Rattle.wasm_laws_core.specs.Lists.{up_to_tables, up_to_memories, up_to_tags}
+use Rattle.wasm_laws_core.specs.Lists.{add_imports, add_functions, add_memories, add_tags, add_exports}
 use Rattle.wasm_laws_contexts.specs.ListedTypes.{types_declare}
 use Rattle.wasm_validator_items.specs.Entries.{add_table_entry, add_global_entry, add_element, add_data}
 use Rattle.wasm_validator_items.specs.Maps.{map_table_entry, map_global_entry, map_element}
@@ -41,16 +42,7 @@ module _ (F : Features) (us : TypesSoFar) where
       (add_elements g parts.elements)) (add_exports F us f parts.exports)) (add_global_entries e parts.globals)) (add_tags F us d parts.tags)) (add_memories F c parts.memories))
       (add_table_entries b parts.tables)) (add_functions us a parts.functions)) (add_imports F us s parts.imports)
 
--- the lists of these parts up to the tables, the memories, the tags, the globals, the exports and the element segments, one after another
-abbrev pub up_to_tables : Parts → Parts
-up_to_tables parts = record (up_to_functions parts) { tables = parts.tables }
-
-abbrev pub up_to_memories : Parts → Parts
-up_to_memories parts = record (up_to_tables parts) { memories = parts.memories }
-
-abbrev pub up_to_tags : Parts → Parts
-up_to_tags parts = record (up_to_memories parts) { tags = parts.tags }
-
+-- the lists of these parts up to the globals, the exports and the element segments, one after another
 abbrev pub up_to_globals : Parts → Parts
 up_to_globals parts = record (up_to_tags parts) { globals = parts.globals }
 

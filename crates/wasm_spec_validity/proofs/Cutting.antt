@@ -2,6 +2,7 @@
 use Rattle.std.proofs.Common.{◌≡◌, sym, ap, ◌∙◌, subst, ℕ, zero, suc, ◌+◌, ◌-◌, ◌^◌, nat_lt, nat_le, ◌==◌, Bool, true, false, if◌then◌else◌, List, [], ◌∷◌, ◌++◌, length, Option, Some, None, option_map, append_assoc, arith, length-append}
 use Rattle.std.proofs.lemmas.List.{append_cancel_right}
 use Rattle.std.specs.Option.{option_and_then}
+use Rattle.std.proofs.lemmas.Option.{none-some}
 use Rattle.wasm_spec.specs.Syntax.{AbstractHeap}
 use Rattle.wasm_spec.specs.Features.{Features}
 use Rattle.wasm_spec.specs.Values.{unsigned_at, signed_at, not_negative, u32_at, s33_index_at}
@@ -26,9 +27,6 @@ use Rattle.wasm_operator_steps.specs.ConstantExpressions.{is_constant}
 
 same_value : {X : Type 0} (x y : X) → Some x ≡ Some y → x ≡ y
 same_value x y e = cc
-
-none : {X : Type 0} (x : X) → None ≡ Some x → ⊥
-none x e = cc
 
 -- a value and the bytes behind it
 abbrev Read : Type 0 → Type 0
@@ -63,7 +61,7 @@ ends_reads : {V : Type 0} {Q : V → Type 0} {k : ℕ} {start : List ℕ} {p q :
 ends_reads {k} {start} {p} {q} h = record { is = λ x rest a e. let r = left_of k start p q h x rest e in record { front = r.front; is = r.is; longer = omega arith } }
 
 ends_none : {V : Type 0} {Q : V → Type 0} {start : List ℕ} → Ends Q start None
-ends_none = record { is = λ x rest a e. absurd (none (x, rest) e) }
+ends_none = record { is = λ x rest a e. absurd (none-some (x, rest) e) }
 
 ends_if : {V : Type 0} {Q : V → Type 0} {start : List ℕ} (c : Bool) {a b : Option (V × List ℕ)} → Ends Q start a → Ends Q start b → Ends Q start (if c then a else b)
 ends_if true h r = h
@@ -71,7 +69,7 @@ ends_if false h r = r
 
 ends_mapped : {V W : Type 0} (Q : W → Type 0) (start : List ℕ) (f : V → W) (p : Option (V × List ℕ)) → Ends (λ v. Q (f v)) start p
     → (y : W) (rest : List ℕ) → Q y → option_map {U = W × List ℕ} (λ x. (f x.0, x.1)) p ≡ Some (y, rest) → IsRest 0 rest start
-ends_mapped Q start f None h y rest a e = absurd (none (y, rest) e)
+ends_mapped Q start f None h y rest a e = absurd (none-some (y, rest) e)
 ends_mapped Q start f (Some x) h y rest a e =
     let same = parts (f x.0) y x.1 rest e in
     h.is x.0 rest (subst Q (sym same.0) a) (λ i. Some (x.0, same.1 i))
@@ -80,7 +78,7 @@ ends_map : {V W : Type 0} {Q : W → Type 0} {start : List ℕ} {p : Option (V �
 ends_map {Q} {start} {p} f h = record { is = ends_mapped Q start f p h }
 
 ends_valued : {V W : Type 0} (start : List ℕ) (f : V → W) (p : Option V) (y : W) (rest : List ℕ) → option_map {U = W × List ℕ} (λ x. (f x, start)) p ≡ Some (y, rest) → IsRest 0 rest start
-ends_valued start f None y rest e = absurd (none (y, rest) e)
+ends_valued start f None y rest e = absurd (none-some (y, rest) e)
 ends_valued start f (Some x) y rest e =
     record { front = []; is = (parts (f x) y start rest e).1; longer = omega arith }
 
@@ -116,7 +114,7 @@ abstract_heap-rest (b ∷ bytes) = reads_behind (reads_value (λ a. a) (abstract
 
 module _ {more : List ℕ} where
   cuts_none : {V : Type 0} {Q : V → Type 0} {o : Option (V × List ℕ)} → Cuts Q more o None
-  cuts_none = record { is = λ x r a e. absurd (none (x, r ++ more) e) }
+  cuts_none = record { is = λ x r a e. absurd (none-some (x, r ++ more) e) }
 
   cuts_here : {V : Type 0} {Q : V → Type 0} {start : List ℕ} {v : V} → Cuts Q more (Some (v, start)) (Some (v, start ++ more))
   cuts_here {start} {v} = record {
@@ -136,7 +134,7 @@ module _ {more : List ℕ} where
 
   cuts_mapped : {V W : Type 0} (Q : W → Type 0) (f : V → W) (o p : Option (V × List ℕ)) → Cuts (λ v. Q (f v)) more o p
       → (y : W) (r : List ℕ) → Q y → option_map {U = W × List ℕ} (λ x. (f x.0, x.1)) p ≡ Some (y, r ++ more) → option_map {U = W × List ℕ} (λ x. (f x.0, x.1)) o ≡ Some (y, r)
-  cuts_mapped {W = W} Q f o None h y r a e = absurd (none (y, r ++ more) e)
+  cuts_mapped {W = W} Q f o None h y r a e = absurd (none-some (y, r ++ more) e)
   cuts_mapped {W = W} Q f o (Some x) h y r a e =
       let same = parts (f x.0) y x.1 (r ++ more) e in
       let found = h.is x.0 r (subst Q (sym same.0) a) (λ i. Some (x.0, same.1 i)) in
@@ -150,7 +148,7 @@ module _ {more : List ℕ} where
 
   cut_behind : {V W : Type 0} (Q : W → Type 0) (o p : Option (V × List ℕ)) (g : V × List ℕ → Option (W × List ℕ)) → Cuts Any more o p → ((x : V × List ℕ) → Ends Q x.1 (g x))
       → ((v : V) (s : List ℕ) → Cuts Q more (g (v, s)) (g (v, s ++ more))) → (y : W) (r : List ℕ) → Q y → option_and_then g p ≡ Some (y, r ++ more) → option_and_then g o ≡ Some (y, r)
-  cut_behind Q o None g h ends c y r a e = absurd (none (y, r ++ more) e)
+  cut_behind Q o None g h ends c y r a e = absurd (none-some (y, r ++ more) e)
   cut_behind Q o (Some x) g h ends c y r a e =
       let l = (ends x).is y (r ++ more) a e in
       let is : x.1 ≡ (l.front ++ r) ++ more = l.is ∙ sym (append_assoc l.front r more) in

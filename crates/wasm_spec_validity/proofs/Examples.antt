@@ -1,6 +1,7 @@
 -- The worked examples.
-use Rattle.std.proofs.Common.{◌≡◌, refl, sym, ◌∙◌, subst, ℕ, zero, suc, ◌+◌, Bool, true, false, nat_eq, List, [], ◌∷◌, length, slice_get, Option, Some, None, option_map, arith}
+use Rattle.std.proofs.Common.{◌≡◌, refl, sym, ◌∙◌, subst, ℕ, zero, suc, ◌+◌, Bool, true, false, nat_eq, List, [], ◌∷◌, length, slice_get, Option, Some, option_map, arith}
 use Rattle.std.proofs.lemmas.List.Elements.{All-nil, All-cons, All-head, All-tail}
+use Rattle.std.proofs.lemmas.Option.{same_Some, none-some}
 use Rattle.wasm_spec.specs.Syntax.{Val, i32, i64, Ref, reference, Sub}
 use Rattle.wasm_spec.specs.BinarySections.{GlobalEntry, funcref, ref_func}
 use Rattle.wasm_spec.specs.Features.{Features}
@@ -29,12 +30,6 @@ use Rattle.wasm_spec_validity.proofs.Determined.{determined, leads, leads-if, al
 
 no : false ≡ true → ⊥
 no e = cc
-
-the_same : {X : Type 0} (x y : X) → Some x ≡ Some y → x ≡ y
-the_same x y e = cc
-
-none : {X : Type 0} (x : X) → None ≡ Some x → ⊥
-none x e = cc
 
 -- a computation tells what is a constant expression, and what isn't
 abbrev is_constant_in : Features → Context ℕ → ℕ → ℕ → Val ℕ → Expression → Bool
@@ -144,13 +139,13 @@ no_null_item x = refused (features true) (context []) 0 0 (reference ref_func) n
 
 -- globals of a module
 own_global : (x : ℕ) (g h : GlobalEntry Expression ℕ) → IsTypedGlobal nat_eq (features true) (context three_globals) 1 itself x g → Some g ≡ Some h → IsTypedGlobal nat_eq (features true) (context three_globals) 1 itself x h
-own_global x g h t e = subst (IsTypedGlobal nat_eq (features true) (context three_globals) 1 itself x) (the_same g h e) t
+own_global x g h t e = subst (IsTypedGlobal nat_eq (features true) (context three_globals) 1 itself x) (same_Some g h e) t
 
 own_globals : (i : ℕ) (g : GlobalEntry Expression ℕ) → slice_get (initialized one_i32 ∷ initialized (0x23 ∷ 1 ∷ 0x0b ∷ []) ∷ []) i ≡ Some g → IsTypedGlobal nat_eq (features true) (context three_globals) 1 itself (1 + i) g
 unfolding instruction_at plain_from constant_from variable_from control_from
 own_globals zero g e = own_global 1 (initialized one_i32) g (accepted (features true) (context three_globals) 1 1 i32 one_i32 refl refl) e
 own_globals (suc zero) g e = own_global 2 (initialized (0x23 ∷ 1 ∷ 0x0b ∷ [])) g (accepted (features true) (context three_globals) 1 2 i32 (0x23 ∷ 1 ∷ 0x0b ∷ []) refl refl) e
-own_globals (suc (suc i)) g e = absurd (none g e)
+own_globals (suc (suc i)) g e = absurd (none-some g e)
 
 pub globals_come_behind_imports : GlobalsComeBehindImports
 globals_come_behind_imports = record {
@@ -209,7 +204,7 @@ abbrev declarations_and : List Declaration → List ℕ → List Declaration × 
 declarations_and ds bytes = (ds, bytes)
 
 behind_none : (ds : List Declaration) (bytes rest : List ℕ) → Some (declarations_and [] bytes) ≡ Some (declarations_and ds rest) → rest ≡ bytes
-behind_none ds bytes rest e = let same = the_same (declarations_and [] bytes) (declarations_and ds rest) e in λ i. (sym same i).1
+behind_none ds bytes rest e = let same = same_Some (declarations_and [] bytes) (declarations_and ds rest) e in λ i. (sym same i).1
 
 refused_body : (n : ℕ) (bytes : List ℕ) → ((ls : List (Local ℕ)) (shared : Bool) → typed_in ls shared n bytes ≡ false) → IsBodyOf n (0 ∷ bytes) → ⊥
 refused_body n bytes f x =
@@ -221,13 +216,13 @@ refused_body n bytes f x =
 
 -- where a function has this type and this body
 at_type : (n x : ℕ) (bytes body : List ℕ) → IsBodyOf n body → Some n ≡ Some x → Some body ≡ Some bytes → IsBodyOf x bytes
-at_type n x bytes body h e f = subst (λ b. IsBodyOf x b) (the_same body bytes f) (subst (λ m. IsBodyOf m body) (the_same n x e) h)
+at_type n x bytes body h e f = subst (λ b. IsBodyOf x b) (same_Some body bytes f) (subst (λ m. IsBodyOf m body) (same_Some n x e) h)
 
 pub bodies_give_results : BodiesGiveResults
 unfolding instruction_at plain_from constant_from control_from
 bodies_give_results zero x bytes e f = at_type 0 x bytes (0 ∷ one_i32) (typed_body 0 (i32 ∷ []) one_i32 refl refl refl refl) e f
 bodies_give_results (suc zero) x bytes e f = at_type 1 x bytes (0 ∷ 0x0b ∷ []) (typed_body 1 [] (0x0b ∷ []) refl refl refl refl) e f
-bodies_give_results (suc (suc i)) x bytes e f = absurd (none x e)
+bodies_give_results (suc (suc i)) x bytes e f = absurd (none-some x e)
 
 pub no_exchanged_bodies : NoExchangedBodies
 unfolding instruction_at plain_from control_from

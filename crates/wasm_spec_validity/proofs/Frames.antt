@@ -1,5 +1,6 @@
 -- What the instructions of constant expressions do to frames: `end` leaves one, and the others leave them as they are.
 use Rattle.std.proofs.Common.{◌≡◌, refl, sym, ap, ◌∙◌, subst, ℕ, Bool, true, false, ◌&&◌, List, [], ◌∷◌, Option, Some, None}
+use Rattle.std.proofs.lemmas.Option.{same_Some, none-some}
 use Rattle.wasm_spec.specs.Syntax.{AbstractHeap, Val}
 use Rattle.wasm_spec.specs.MatchingTests.{World}
 use Rattle.wasm_spec.specs.Features.{Features}
@@ -27,12 +28,6 @@ use Rattle.wasm_operator_steps.specs.ConstantExpressions.{is_constant}
 use Rattle.wasm_operator_steps.proofs.TakenInTurn.{pop_any-frames, pop_vals-frames}
 use Rattle.wasm_spec_validity.specs.Expressions.{is_end}
 
-the_same : {X : Type 0} (x y : X) → Some x ≡ Some y → x ≡ y
-the_same x y e = cc
-
-none : {X : Type 0} (x : X) → None ≡ Some x → ⊥
-none x e = cc
-
 no : false ≡ true → ⊥
 no e = cc
 
@@ -41,12 +36,12 @@ not_end e = cc
 
 -- an attempt that gives something, taken apart
 pub bind-gives : {A B : Type 0} (o : Option A) (g : A → Option B) (b : B) → (o >>= g) ≡ Some b → (a : A) × (o ≡ Some a) × (g a ≡ Some b)
-bind-gives None g b e = absurd (none b e)
+bind-gives None g b e = absurd (none-some b e)
 bind-gives (Some a) g b e = (a, refl, e)
 
 pub guard-gives : {A : Type 0} (c : Bool) (x y : A) → guard c x ≡ Some y → (c ≡ true) × (x ≡ y)
-guard-gives true x y e = (refl, the_same x y e)
-guard-gives false x y e = absurd (none y e)
+guard-gives true x y e = (refl, same_Some x y e)
+guard-gives false x y e = absurd (none-some y e)
 
 -- shapes that leave the frames as they are
 abbrev keeps : Shape → Bool
@@ -76,7 +71,7 @@ module _ {R : Type 0} (W : World R) (B : Surroundings R) where
       let b = bind-gives (types_at W B s t) _ a.0 a.1 in
       let c = bind-gives (act W B (give u) a.0) (run W B []) r a.2 in
       let d = bind-gives (types_at W B a.0 u) _ c.0 c.1 in
-      let after : push_vals d.0 a.0 ≡ r = the_same (push_vals d.0 a.0) c.0 d.2 ∙ the_same c.0 r c.2 in
+      let after : push_vals d.0 a.0 ≡ r = same_Some (push_vals d.0 a.0) c.0 d.2 ∙ same_Some c.0 r c.2 in
       sym (ap (λ (q : State R). q.frames) after) ∙ (pop_vals-frames W b.0 s a.0 b.2).0
 
   converting-keeps : (cs : List Check) (j k : AbstractHeap) (s r : State R) → run W B (actions_of (converting cs j k)) s ≡ Some r → r.frames ≡ s.frames
@@ -86,8 +81,8 @@ module _ {R : Type 0} (W : World R) (B : Surroundings R) where
       let c = guard-gives (is_below_either W B j b.0.0) (push_operand (converted W B k b.0.0) b.0.1) a.0 b.2 in
       let f = bind-gives (pop_any s) _ b.0 b.1 in
       let g = bind-gives (as_reference f.0.0) _ b.0 f.2 in
-      let popped : (g.0, f.0.1) ≡ b.0 = the_same (g.0, f.0.1) b.0 g.2 in
-      sym (ap (λ (q : State R). q.frames) (c.1 ∙ the_same a.0 r a.2)) ∙ sym (ap (λ (q : Operand R × State R). q.1.frames) popped) ∙ (pop_any-frames s f.0 f.1).0
+      let popped : (g.0, f.0.1) ≡ b.0 = same_Some (g.0, f.0.1) b.0 g.2 in
+      sym (ap (λ (q : State R). q.frames) (c.1 ∙ same_Some a.0 r a.2)) ∙ sym (ap (λ (q : Operand R × State R). q.1.frames) popped) ∙ (pop_any-frames s f.0 f.1).0
 
   run-keeps : (x : Shape) → keeps x ≡ true → (s r : State R) → run W B (actions_of x) s ≡ Some r → r.frames ≡ s.frames
   run-keeps (plain cs t u) k s r e = plain-keeps cs t u s r e
@@ -202,4 +197,4 @@ module _ {R : Type 0} (W : World R) (B : Surroundings R) where
   end-frames x s t one e =
       let a = bind-gives (leave_in W B s.frames s) (run W B []) t (step-runs W B (control end_) s t e) in
       let left = subst (λ fs. leave_in W B fs s ≡ Some a.0) one a.1 in
-      sym (ap (λ (q : State R). q.frames) (the_same a.0 t a.2)) ∙ leave-frames x [] s a.0 left
+      sym (ap (λ (q : State R). q.frames) (same_Some a.0 t a.2)) ∙ leave-frames x [] s a.0 left

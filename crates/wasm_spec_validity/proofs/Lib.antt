@@ -5,6 +5,7 @@ pub mod Cutting
 pub mod Frames
 pub mod Whole
 pub mod Determined
+pub mod Named
 pub mod Examples
 pub mod References
 pub mod ModuleExamples

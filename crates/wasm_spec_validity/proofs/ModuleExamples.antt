@@ -1,8 +1,9 @@
 -- Whole modules with a global.
-use Rattle.std.proofs.Common.{◌≡◌, refl, sym, ap, ◌∙◌, subst, arith, ℕ, zero, suc, ◌+◌, ◌≤◌, ◌<◌, true, false, nat_eq, List, [], ◌∷◌, ◌++◌, length, drop, slice_get, Some, None}
+use Rattle.std.proofs.Common.{◌≡◌, refl, sym, ap, ◌∙◌, subst, arith, ℕ, zero, suc, ◌+◌, ◌≤◌, ◌<◌, true, false, nat_eq, List, [], ◌∷◌, ◌++◌, length, drop, slice_get, Some}
 use Rattle.std.proofs.lemmas.List.Elements.{All-nil, All-cons}
 use Rattle.std.proofs.lemmas.Map.Made.{IsDistinct-from_count}
 use Rattle.std.specs.Cmp.Lexicographic.{nat_list_eq_equiv}
+use Rattle.std.proofs.lemmas.Option.{none-some, same_Some}
 use Rattle.wasm_spec.specs.Syntax.{i32, i64}
 use Rattle.wasm_spec.specs.BinarySections.{GlobalEntry, global_entry_at}
 use Rattle.wasm_spec.specs.BinaryTypes.{val_at, flags_at, global_at}
@@ -32,12 +33,6 @@ use Rattle.wasm_spec_validity.proofs.Numbered.{types_are_numbered}
 
 no : false ≡ true → ⊥
 no e = cc
-
-none : {X : Type 0} (x : X) → None ≡ Some x → ⊥
-none x e = cc
-
-the_same : {X : Type 0} (x y : X) → Some x ≡ Some y → x ≡ y
-the_same x y e = cc
 
 abbrev entry : GlobalEntry Expression ℕ
 entry = initialized one_i32
@@ -100,15 +95,15 @@ is_typed =
         elements = All-nil (IsTypedElement nat_eq first_version C 0 (number_at n));
         segments = All-nil (IsTypedData nat_eq first_version C 0 (number_at n));
       };
-      bodies = λ i x bytes s b. absurd (none x s);
+      bodies = λ i x bytes s b. absurd (none-some x s);
     }
   where
     one : (i : ℕ) (g : GlobalEntry Expression ℕ) → slice_get (entry ∷ []) i ≡ Some g
         → IsTypedGlobal nat_eq first_version (context_of spaces (types_are_numbered []) parts) 0 (number_at (types_are_numbered [])) (0 + i) g
     one zero g e =
-        subst (IsTypedGlobal nat_eq first_version (context_of spaces (types_are_numbered []) parts) 0 (number_at (types_are_numbered [])) 0) (the_same entry g e)
+        subst (IsTypedGlobal nat_eq first_version (context_of spaces (types_are_numbered []) parts) 0 (number_at (types_are_numbered [])) 0) (same_Some entry g e)
         (typed_number (context_of spaces (types_are_numbered []) parts) 0)
-    one (suc i) g e = absurd (none g e)
+    one (suc i) g e = absurd (none-some g e)
 
 pub global_is_module : GlobalIsModule
 unfolding global_entry_at global_at val_at flags_at expression_at instruction_at plain_from constant_from control_from
@@ -168,10 +163,10 @@ abbrev and_bytes : {V : Type 0} → V → List ℕ → V × List ℕ
 and_bytes v bytes = (v, bytes)
 
 second : {V : Type 0} (v w : V) (a b : List ℕ) → Some (and_bytes v a) ≡ Some (and_bytes w b) → a ≡ b
-second v w a b e = let same = the_same (and_bytes v a) (and_bytes w b) e in λ i. (same i).1
+second v w a b e = let same = same_Some (and_bytes v a) (and_bytes w b) e in λ i. (same i).1
 
 first : {V : Type 0} (v w : V) (a b : List ℕ) → Some (and_bytes v a) ≡ Some (and_bytes w b) → v ≡ w
-first v w a b e = let same = the_same (and_bytes v a) (and_bytes w b) e in λ i. (same i).0
+first v w a b e = let same = same_Some (and_bytes v a) (and_bytes w b) e in λ i. (same i).0
 
 not_empty : {X : Type 0} (x : X) (xs : List X) → x ∷ xs ≡ [] → ⊥
 not_empty x xs e = cc
@@ -188,11 +183,11 @@ sections_are (s ∷ []) rest e f = let same = first the_section s [] f.0 (ap sec
 sections_are (s ∷ t ∷ ss) rest e f =
     let empty = second the_section s [] f.0 (ap section_at e ∙ f.1) in
     let g = f.2 in
-    absurd (none (t, g.0) (ap section_at empty ∙ g.1))
+    absurd (none-some (t, g.0) (ap section_at empty ∙ g.1))
 
 pieces_are : (ss : List Section) (others : List Piece) → ss ≡ the_section ∷ [] → all_pieces ss ≡ Some others → others ≡ Counted 6 1 another ∷ []
 unfolding piece_of
-pieces_are ss others e f = sym (the_same (Counted 6 1 another ∷ []) others (sym (ap all_pieces e) ∙ f))
+pieces_are ss others e f = sym (same_Some (Counted 6 1 another ∷ []) others (sym (ap all_pieces e) ∙ f))
 
 abbrev other_entry : GlobalEntry Expression ℕ
 other_entry = record { ty = record { content = i64; mutable = false; shared = false }; init = one_i32 }
@@ -200,7 +195,7 @@ other_entry = record { ty = record { content = i64; mutable = false; shared = fa
 globals_are : (number kind : ℕ) (ps : List Piece) (globals : List (GlobalEntry Expression ℕ)) → ps ≡ Version number kind ∷ Counted 6 1 another ∷ End ∷ []
     → all_items 6 (global_entry_at expression_at index) ps ≡ Some globals → other_entry ∷ [] ≡ globals
 unfolding global_entry_at global_at val_at flags_at expression_at instruction_at plain_from constant_from control_from
-globals_are number kind ps globals e f = the_same (other_entry ∷ []) globals (sym (ap (all_items 6 (global_entry_at expression_at index)) e) ∙ f)
+globals_are number kind ps globals e f = same_Some (other_entry ∷ []) globals (sym (ap (all_items 6 (global_entry_at expression_at index)) e) ∙ f)
 
 not_typed : (F : Features) (C : Context ℕ) (imported visible : ℕ) → IsConstant nat_eq F C imported visible i64 one_i32 → ⊥
 unfolding instruction_at plain_from constant_from control_from

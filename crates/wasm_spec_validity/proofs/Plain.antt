@@ -2,6 +2,7 @@
 use Rattle.std.proofs.Common.{◌≡◌, refl, sym, ap, ◌∙◌, ℕ, Bool, List, [], ◌∷◌, ◌++◌, map, length, slice_get, Option, Some, None, IfSome}
 use Rattle.std.specs.List.{All, flat_map}
 use Rattle.std.proofs.lemmas.List.Elements.{All-nil, All-cons}
+use Rattle.std.proofs.lemmas.Option.{none-some}
 use Rattle.wasm_spec.specs.BinarySections.{TableEntry, GlobalEntry, Element, ElementItems, functions, expressions, SegmentMode, passive, active, declarative}
 use Rattle.wasm_spec.specs.Features.{Features}
 use Rattle.wasm_operator_steps.specs.WasmSpecRules.Contexts.{Context}
@@ -15,9 +16,6 @@ use Rattle.wasm_spec_validity.proofs.Numbered.{types_are_numbered}
 not_empty : {X : Type 0} (x : X) (xs : List X) → x ∷ xs ≡ [] → ⊥
 not_empty x xs e = cc
 
-none : {X : Type 0} (x : X) → None ≡ Some x → ⊥
-none x e = cc
-
 both_empty : {X : Type 0} (xs ys : List X) → xs ++ ys ≡ [] → (xs ≡ []) × (ys ≡ [])
 both_empty [] ys e = (refl, e)
 both_empty (x ∷ xs) ys e = absurd (not_empty x (xs ++ ys) e)
@@ -28,7 +26,7 @@ all_empty P f [] h e = All-nil P
 all_empty P f (x ∷ xs) h e = let p = both_empty (f x) (flat_map f xs) e in All-cons P x xs (h x p.0) (all_empty P f xs h p.1)
 
 none_mapped : {X Y : Type 0} (f : X → Y) (xs : List X) (i : ℕ) (x : X) → map f xs ≡ [] → slice_get xs i ≡ Some x → ⊥
-none_mapped f [] i x e s = none x s
+none_mapped f [] i x e s = none-some x s
 none_mapped f (y ∷ ys) i x e s = not_empty (f y) (map f ys) e
 
 module _ {R : Type 0} (same : R → R → Bool) (F : Features) (C : Context R) (imported : ℕ) (at : ℕ → R) where
@@ -66,7 +64,7 @@ module _ {R : Type 0} (same : R → R → Bool) (F : Features) (C : Context R) (
       }
 
 no_bodies : {R : Type 0} (same : R → R → Bool) (F : Features) (C : Context R) (parts : Parts) → parts.bodies ≡ [] → HasTypedBodies same F C parts
-no_bodies same F C parts e i x bytes s b = let n : None ≡ Some bytes = sym (ap (λ (bs : List (List ℕ)). slice_get bs i) e) ∙ b in absurd (none bytes n)
+no_bodies same F C parts e i x bytes s b = let n : None ≡ Some bytes = sym (ap (λ (bs : List (List ℕ)). slice_get bs i) e) ∙ b in absurd (none-some bytes n)
 
 pub plain_modules_are_valid : PlainModulesAreValid
 plain_modules_are_valid F bytes w no_expressions no_bodies_there =

@@ -3,6 +3,7 @@ use Rattle.std.proofs.Common.{◌≡◌, refl, sym, ap, ◌∙◌, subst, ℕ, z
 use Rattle.std.specs.List.{flat_map, All, Contains}
 use Rattle.std.proofs.lemmas.Bool.Decides.{nat_tests, Decides-eqb}
 use Rattle.std.proofs.lemmas.List.Elements.{All-nil, All-cons, All-head, All-tail}
+use Rattle.std.proofs.lemmas.Option.{none-some}
 use Rattle.wasm_spec.specs.BinarySections.{Element}
 use Rattle.wasm_spec.specs.Features.{Features}
 use Rattle.wasm_spec.specs.MatchingTests.{World}
@@ -44,9 +45,6 @@ use Rattle.wasm_spec_validity.proofs.Frames.{bind-gives, guard-gives, plain-type
 
 no : false ≡ true → ⊥
 no e = cc
-
-none : {X : Type 0} (x : X) → None ≡ Some x → ⊥
-none x e = cc
 
 -- checks and actions that hold of these references, where they hold of others
 abbrev allows_check : List ℕ → Check → Bool
@@ -215,11 +213,11 @@ module _ {R : Type 0} (W : World R) (B : Surroundings R) where
   there o f y e = let h = bind-gives o f y e in (h.0, h.1)
 
   one_there : (o : Option (Heap R)) (ws : List (Val R)) → one (option_map (ref_to false) o) ≡ Some ws → (h : Heap R) × (o ≡ Some h)
-  one_there None ws e = absurd (none ws e)
+  one_there None ws e = absurd (none-some ws e)
   one_there (Some h) ws e = (h, refl)
 
   stands : (xs : List ℕ) (x f : ℕ) → slice_get xs x ≡ Some f → x < length xs
-  stands [] x f e = absurd (none f e)
+  stands [] x f e = absurd (none-some f e)
   stands (y ∷ ys) zero f e = omega arith
   stands (y ∷ ys) (suc x) f e = let l = stands ys x f e in omega (arith, l)
 

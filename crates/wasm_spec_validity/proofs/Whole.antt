@@ -4,7 +4,9 @@ use Rattle.std.proofs.Math.Seq.{take-append_seam}
 use Rattle.std.specs.List.{All}
 use Rattle.std.specs.Option.{option_and_then}
 use Rattle.std.proofs.lemmas.List.Elements.{All-head, All-tail}
+use Rattle.std.proofs.lemmas.Option.{same_Some, none-some}
 use Rattle.wasm_spec.specs.Laws.{IsShorterRest}
+use Rattle.wasm_spec.specs.Syntax.{Val}
 use Rattle.wasm_spec.specs.MatchingTests.{World}
 use Rattle.wasm_spec.proofs.LawSet.{goes_on, ignores_what_follows}
 use Rattle.wasm_operators.specs.Control.{end_, value_block}
@@ -13,7 +15,7 @@ use Rattle.wasm_operators.proofs.Fronts.{instruction-reads}
 use Rattle.wasm_operator_steps.specs.WasmSpecRules.Parts.{Expression}
 use Rattle.wasm_operator_steps.specs.Bodies.{Surroundings}
 use Rattle.wasm_operator_steps.specs.ConstantExpressions.{is_constant}
-use Rattle.wasm_operator_steps.specs.ConstantRules.{is_allowed, is_readable}
+use Rattle.wasm_operator_steps.specs.ConstantRules.{is_allowed, is_readable, IsConstantExpression}
 use Rattle.wasm_operator_steps.specs.Machine.{Frame, State}
 use Rattle.wasm_operator_steps.specs.Sequences.{Are}
 use Rattle.wasm_operator_steps.specs.Steps.{start, step_in, steps_in, is_open, is_finished}
@@ -21,12 +23,6 @@ use Rattle.wasm_spec_validity.specs.Expressions.{is_end, behind_end, expression_
 use Rattle.wasm_spec_validity.specs.Laws.{ExpressionsAreWhole}
 use Rattle.wasm_spec_validity.proofs.Cutting.{instruction_is_cut}
 use Rattle.wasm_spec_validity.proofs.Frames.{bind-gives, step-keeps, end-frames}
-
-the_same : {X : Type 0} (x y : X) → Some x ≡ Some y → x ≡ y
-the_same x y e = cc
-
-none : {X : Type 0} (x : X) → None ≡ Some x → ⊥
-none x e = cc
 
 no : false ≡ true → ⊥
 no e = cc
@@ -79,7 +75,7 @@ module _ {R : Type 0} (W : World R) (B : Surroundings R) (imported : ℕ) where
   none_behind (op ∷ ops) s t e f =
       let shut : is_open s ≡ false = none_open s [] e refl in
       let refused : steps_in W B (op ∷ ops) s ≡ None = rw shut refl in
-      absurd (none t (sym refused ∙ f))
+      absurd (none-some t (sym refused ∙ f))
 
   -- by the last instruction, and by one before it
   last_one : (m : ℕ) (op : Instruction ℕ) (ops : List (Instruction ℕ)) (bytes next more : List ℕ) → written bytes ≡ Some (op, next) → Are ops next more
@@ -124,7 +120,7 @@ module _ {R : Type 0} (W : World R) (B : Surroundings R) (imported : ℕ) where
 
   whole_by : (m : ℕ) (ops : List (Instruction ℕ)) → Wholly m ops
   whole_by m [] x s t bytes more enough one are rest all c =
-      let same : s ≡ t = the_same s t all in
+      let same : s ≡ t = same_Some s t all in
       let open_ : is_finished t ≡ false = subst (λ q. is_finished q ≡ false) same (still_open s x one) in
       absurd (no (sym open_ ∙ c))
   whole_by zero (op ∷ ops) x s t bytes more enough one are rest all c = let less = (rest_of bytes are.0 op are.1).shorter in absurd (omega (arith, less, enough))
@@ -160,16 +156,16 @@ abbrev Fronts : ℕ → Type 0
 Fronts m = (bytes more : List ℕ) → behind_end m bytes ≡ Some more → IsFrontOf bytes more
 
 front_by : (m : ℕ) → Fronts m → (b : Bool) (bytes next more : List ℕ) (op : Instruction ℕ) → written bytes ≡ Some (op, next) → (if b then Some next else behind_end m next) ≡ Some more → IsFrontOf bytes more
-front_by m fronts true bytes next more op e f = in_front bytes next more op e ([], the_same next more f)
+front_by m fronts true bytes next more op e f = in_front bytes next more op e ([], same_Some next more f)
 front_by m fronts false bytes next more op e f = in_front bytes next more op e (fronts next more f)
 
 front_read : (m : ℕ) → Fronts m → (o : Option (Instruction ℕ × List ℕ)) (bytes more : List ℕ) → written bytes ≡ o
     → option_and_then (λ i. if is_end i.0 then Some i.1 else behind_end m i.1) o ≡ Some more → IsFrontOf bytes more
-front_read m fronts None bytes more e f = absurd (none more f)
+front_read m fronts None bytes more e f = absurd (none-some more f)
 front_read m fronts (Some i) bytes more e f = front_by m fronts (is_end i.0) bytes i.1 more i.0 e f
 
 fronts : (m : ℕ) → Fronts m
-fronts zero bytes more e = absurd (none more e)
+fronts zero bytes more e = absurd (none-some more e)
 fronts (suc m) bytes more e = front_read m (fronts m) (written bytes) bytes more refl e
 
 -- the bytes before these, and these
@@ -180,9 +176,9 @@ abbrev read : Expression → List ℕ → Expression × List ℕ
 read e more = (e, more)
 
 cut_at : (bytes : List ℕ) (o : Option (List ℕ)) (e more : List ℕ) → option_map (λ r. cut bytes r) o ≡ Some (read e more) → (o ≡ Some more) × (e ≡ take (length bytes - length more) bytes)
-cut_at bytes None e more h = absurd (none (read e more) h)
+cut_at bytes None e more h = absurd (none-some (read e more) h)
 cut_at bytes (Some r) e more h =
-    let same = the_same (cut bytes r) (read e more) h in
+    let same = same_Some (cut bytes r) (read e more) h in
     let right : r ≡ more = λ i. (same i).1 in
     let left : take (length bytes - length r) bytes ≡ e = λ i. (same i).0 in
     ((λ i. Some (right i)), sym left ∙ ap (λ (l : List ℕ). take (length bytes - length l) bytes) right)
@@ -202,11 +198,18 @@ stands_in_front bytes e more h =
     let f = fronts (length bytes) bytes more p.0 in
     f.1 ∙ ap (λ (x : List ℕ). x ++ more) (sym (p.1 ∙ cut_front bytes f.0 more f.1))
 
+-- the bytes of the expression, which are its instructions alone
+pub whole : {R : Type 0} (W : World R) (B : Surroundings R) (imported : ℕ) (v : Val R) (bytes : List ℕ) (t : State R) (more : List ℕ) (x : IsConstantExpression W B imported (start (value_block v)) bytes t more)
+    → (e : Expression) × (expression_at bytes ≡ Some (e, more)) × Are x.instructions e []
+whole W B imported v bytes t more x =
+    let w = whole_by W B imported (length bytes) x.instructions (record { kind = _; block = value_block v; height = 0; unreachable = false; init_height = 0 }) (start (value_block v)) t bytes more (omega arith) refl x.written x.allowed x.typed x.finished in
+    (w.front, is_read bytes w.front more w.is w.ends, w.alone)
+
 pub expressions_are_whole : {R : Type 0} → ExpressionsAreWhole R
 expressions_are_whole W B imported v bytes t more = (
   (λ x.
-      let w = whole_by W B imported (length bytes) x.instructions (record { kind = _; block = value_block v; height = 0; unreachable = false; init_height = 0 }) (start (value_block v)) t bytes more (omega arith) refl x.written x.allowed x.typed x.finished in
-      (w.front, is_read bytes w.front more w.is w.ends, record { instructions = x.instructions; written = w.alone; allowed = x.allowed; typed = x.typed; finished = x.finished })),
+      let w = whole W B imported v bytes t more x in
+      (w.0, w.1, record { instructions = x.instructions; written = w.2; allowed = x.allowed; typed = x.typed; finished = x.finished })),
   (λ h.
       let x = h.2 in
       let is = stands_in_front bytes h.0 more h.1 in

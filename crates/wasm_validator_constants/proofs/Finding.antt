@@ -1,5 +1,5 @@
 -- The way through the bytes finds lists of instructions, and all of them.
-use Rattle.std.proofs.Common.{◌≡◌, ◌≤◌, ◌<◌, ◌∙◌, refl, sym, ap, subst, ℕ, zero, suc, Bool, true, false, List, [], ◌∷◌, length, if◌then◌else◌, Option, Some, None, arith}
+use Rattle.std.proofs.Common.{◌≡◌, ◌≤◌, ◌<◌, ◌∙◌, refl, ap, subst, ℕ, zero, suc, Bool, true, false, List, [], ◌∷◌, length, if◌then◌else◌, Option, Some, None, arith}
 use Rattle.std.specs.Option.{option_and_then}
 use Rattle.std.specs.List.{All}
 use Rattle.std.proofs.lemmas.List.Elements.{All-head, All-tail, All-cons, All-nil}
@@ -25,7 +25,7 @@ module _ {R : Type 0} (W : World R) (B : Surroundings R) (imported : ℕ) where
   unfolding constant_step
   stepped i s t e = allowed_step (is_allowed B imported i) (step_in W B i s) t e
 
-  steps : (i : Instruction ℕ) (s t : State R) → is_allowed B imported i ≡ true → step_in W B i s ≡ Some t → constant_step W B imported i s ≡ Some t
+  pub steps : (i : Instruction ℕ) (s t : State R) → is_allowed B imported i ≡ true → step_in W B i s ≡ Some t → constant_step W B imported i s ≡ Some t
   unfolding constant_step
   steps i s t a e = rw (a, e) refl
 
@@ -93,7 +93,7 @@ module _ {R : Type 0} (W : World R) (B : Surroundings R) (imported : ℕ) where
   none_open [] e = refl
   none_open (f ∷ fs) e = absurd cc
 
-  not_closed : (b : Bool) (i : Instruction ℕ) (s u : State R) → is_finished s ≡ b → step_in W B i s ≡ Some u → b ≡ false
+  pub not_closed : (b : Bool) (i : Instruction ℕ) (s u : State R) → is_finished s ≡ b → step_in W B i s ≡ Some u → b ≡ false
   not_closed false i s u c e = refl
   not_closed true i s u c e = let shut : is_open s ≡ false = none_open s.frames c in let none : step_in W B i s ≡ None = rw shut refl in absurd cc
 
@@ -105,7 +105,7 @@ module _ {R : Type 0} (W : World R) (B : Surroundings R) (imported : ℕ) where
   First most = (ops : List (Instruction ℕ)) (s t : State R) (bytes more : List ℕ) → length bytes ≤ most → Are ops bytes more → All (λ op. is_allowed B imported op ≡ true) ops
       → steps_in W B ops s ≡ Some t → is_finished t ≡ true → typed_from W B imported most s bytes ≡ Some (t, more)
 
-  shorter : (bytes next : List ℕ) (i : Instruction ℕ) → instruction_at (λ n. n) bytes ≡ Some (i, next) → length next < length bytes
+  pub shorter : (bytes next : List ℕ) (i : Instruction ℕ) → instruction_at (λ n. n) bytes ≡ Some (i, next) → length next < length bytes
   shorter bytes next i e = (goes_on (instruction_at (λ n. n)) (λ more. instruction-reads {more = more} (λ n. n)) bytes i next e).shorter
 
   ended_by : (most : ℕ) (s t : State R) (bytes more : List ℕ) → bytes ≡ more → Some s ≡ Some t → is_finished t ≡ true → typed_from W B imported most s bytes ≡ Some (t, more)

@@ -1,3 +1,5 @@
+pub use Rattle.wasm_validator_references.proofs as WasmValidatorReferences
 pub mod Machine
 pub mod Finding
 pub mod Stepping
+pub mod Named

@@ -1,3 +1,4 @@
+pub use Rattle.wasm_validator_references.specs as WasmValidatorReferences
 pub use Rattle.wasm_operator_validator.specs.WasmOperatorStacks as WasmOperatorStacks
 pub use Rattle.wasm_operator_validator.specs.Typed
 pub use Rattle.wasm_operator_validator.specs.Checked

@@ -9,16 +9,19 @@ ghost use Rattle.wasm_validator_resources.specs.Answers.{world, written_index};
 ghost use Rattle.wasm_operator_validator.specs.WasmOperatorStacks.Seen.{Kept};
 ghost use Rattle.wasm_operator_validator.specs.Stepped.{IsWrittenInstruction};
 ghost use Rattle.wasm_operator_validator.specs.Typed.{typed_state};
-ghost use Rattle.wasm_validator_constants.specs.Constants.{constant_step, constant_from};
+ghost use Rattle.wasm_validator_references.specs.WasmSpecValidity.Expressions.{functions_named};
+ghost use Rattle.wasm_validator_references.specs.Notes.{noting};
+ghost use Rattle.wasm_validator_constants.specs.Constants.{constant_step, constant_from, constant_names};
 ghost use Rattle.wasm_operator_validator.specs.Checked.{within, IsRefusedAt, StandsIn, TookAt, ReadsTo};
 
 use crate::operators::{gated_constant, is_constant, reads_constants};
-use std::alloc::Allocator;
+use std::alloc::{AllocError, Allocator};
 use wasm_operator_validator::OperatorValidator;
 use wasm_operators::operators_plain::VariableOperator;
-use wasm_operators::{Operator, read_operator};
+use wasm_operators::{Operator, ReferenceOperator, read_operator};
 use wasm_readers::BinaryReader;
 use wasm_readers::readers_errors::{Error, Fault, OperatorRule, Refusal};
+use wasm_validator_references::NotesFunctions;
 use wasm_validator_resources::WasmModuleResources;
 
 /// The refusal of an operator that a constant expression doesn't have, at this offset.
@@ -97,8 +100,30 @@ pub fn check_constant_operator<'a, A: Allocator, T: WasmModuleResources>(
     }
 }
 
+/// Notes the function that an operator of a constant expression names, if it names one.
+///
+/// # Errors
+///
+/// Fails where memory is refused.
+#[inline(always)]
+pub fn note_function<'a, N: NotesFunctions>(
+    notes: &mut N,
+    op: &Operator<'a>,
+) -> Result<(), AllocError>
+    ensures { OnOk result (notes.new ≡ noting N.note (functions_named
+        (map_instruction written_index (operator_of op.now))) notes.old) }
+{
+    match *op {
+        Operator::Reference(op) => match op {
+            ReferenceOperator::RefFunc { function_index } => notes.note(function_index),
+            _ => Ok(()),
+        },
+        _ => Ok(()),
+    }
+}
+
 /// Reads and types the constant expression that the bytes begin with, up to the `end` that closes
-/// it. So many globals are imported, and they come first.
+/// it, and notes the functions that it names. So many globals are imported, and they come first.
 ///
 /// The validator is one that begins a constant expression; nothing may have been refused before.
 ///
@@ -107,10 +132,11 @@ pub fn check_constant_operator<'a, A: Allocator, T: WasmModuleResources>(
 /// Refused, at the first operator that can't be read, that no constant expression has or that isn't
 /// valid behind those before it (Core Specification 3.0, Validation, Instructions, Constant
 /// Expressions); and where memory is.
-pub fn check_constant_expression<'a, A: Allocator, T: WasmModuleResources>(
+pub fn check_constant_expression<'a, A: Allocator, T: WasmModuleResources, N: NotesFunctions>(
     validator: &mut OperatorValidator<A>,
     resources: &T,
     imported_globals: u32,
+    notes: &mut N,
     reader: &mut BinaryReader<'a>,
 ) -> Result<(), Error>
     requires { validator.old.failed ≡ false }
@@ -118,6 +144,10 @@ pub fn check_constant_expression<'a, A: Allocator, T: WasmModuleResources>(
         (within validator.old (T.context resources.now)) imported_globals
         (typed_state validator.old) (rest reader.old))
         (typed_state validator.new) (rest reader.new) }
+    ensures noted { OnOk result (notes.new ≡ noting N.note
+        (constant_names (world (T.context resources.now))
+        (within validator.old (T.context resources.now)) imported_globals
+        (typed_state validator.old) (rest reader.old)) notes.old) }
     ensures same { Kept validator.old.stacks validator.new.stacks }
     ensures failed { OnOk result (validator.new.failed ≡ false) }
     ensures input { SameInput reader.old reader.new }
@@ -134,6 +164,7 @@ pub fn check_constant_expression<'a, A: Allocator, T: WasmModuleResources>(
             Ok(()) => {}
             Err(error) => return Err(error),
         }
+        note_function(notes, &op)?;
     }
     Ok(())
 }

@@ -8,9 +8,14 @@ mod expressions;
 mod laws;
 mod operators;
 
-pub use expressions::{check_constant_expression, check_constant_operator};
+pub use expressions::{check_constant_expression, check_constant_operator, note_function};
 pub use laws::constants_are_lists_of_instructions;
 pub use operators::{is_constant, reads_constants};
 
 /// What constant expressions are validated by.
 pub use wasm_operator_validator::{OperatorValidator, OperatorValidatorAllocations};
+
+/// Passed on from `wasm_validator_references`.
+pub mod references {
+    pub use wasm_validator_references::{NoNotes, NotesFunctions, ReferencedFunctions};
+}

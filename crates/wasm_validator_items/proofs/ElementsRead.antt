@@ -1,5 +1,5 @@
 -- An element segment that is read and typed in one pass is read and then added.
-use Rattle.std.proofs.Common.{◌≡◌, refl, sym, ap, ◌∙◌, ℕ, zero, suc, ◌<◌, ◌==◌, nat_lt, Bool, true, false, ◌&&◌, if◌then◌else◌, List, length, slice_get, Option, Some, None, option_map, arith}
+use Rattle.std.proofs.Common.{◌≡◌, refl, sym, ap, ◌∙◌, ℕ, zero, suc, ◌<◌, ◌==◌, nat_lt, Bool, true, false, ◌&&◌, if◌then◌else◌, List, slice_get, Option, Some, None, option_map, arith}
 use Rattle.std.specs.Option.{option_and_then}
 use Rattle.std.proofs.Math.Bool.{and-true}
 use Rattle.std.proofs.lemmas.Bool.{eqb-true, ltb-false, true_from_ne_false, false_from_ne_true}
@@ -16,18 +16,15 @@ use Rattle.wasm_spec_rules.proofs.Tests.{unless}
 use Rattle.wasm_readers.specs.Written.{written}
 use Rattle.wasm_readers_types.specs.WasmReadersValues.declared.indices.UnpackedIndex.{UnpackedIndex}
 use Rattle.wasm_validator_resources.specs.Answers.{world}
-use Rattle.wasm_spec_validity.specs.Expressions.{expression_at}
+use Rattle.wasm_validator_segments.specs.WasmValidatorReferences.WasmSpecValidity.Expressions.{expression_at}
 use Rattle.wasm_validator_segments.specs.Elements.{may_go, segment_table_at, items_type_at, typed_items_at, typed_element_from, typed_element_at}
 use Rattle.wasm_validator_segments.specs.Offsets.{behind_table_offset}
 use Rattle.wasm_validator_types.specs.Spaces.{Spaces}
-use Rattle.wasm_validator_core.specs.declared.limits.TheConstants.{MAX_ELEMENT_SEGMENTS}
 use Rattle.wasm_validator_items.specs.Machine.{with_element, with_items, element_step}
 use Rattle.wasm_validator_items.specs.Entries.{listed_items_type, is_offset, are_items, may_be_placed, add_element}
-use Rattle.wasm_validator_items.specs.Reading.{ElementsAreReadAndAdded}
 use Rattle.wasm_validator_items.proofs.Attempts.{behind_where, beside, added, then_mapped, then_then, then_same, map_then}
 use Rattle.wasm_validator_items.proofs.ItemLists.{C, Items, placed, IsPlaced, with_more, function_items, kind_items, expression_items, typed_items, functions_placed, kinds_placed, funcrefs_placed, types_placed}
 use Rattle.wasm_validator_items.proofs.Offsets.{table_offset_is}
-use Rattle.wasm_validator_items.proofs.StepsInTurn.{section_is_added}
 
 map_mapped : {V W X : Type 0} (f : W → X) (g : V → W) (o : Option V) → option_map f (option_map g o) ≡ option_map (λ x. f (g x)) o
 map_mapped f g None = refl
@@ -322,7 +319,3 @@ module _ (F : Features) (declares : List (UnpackedIndex × Sub UnpackedIndex)) (
       map_then with (λ (f : ℕ × List ℕ). typed_element_from (C F declares s) F s.imported_globals f.0 f.1) (u32_at bytes)
       ∙ then_same (λ (f : ℕ × List ℕ). option_map with (typed_element_from (C F declares s) F s.imported_globals f.0 f.1)) (λ f. added add (element_from expression_at written f.0 f.1)) (λ f. flagged f.0 f.1) (u32_at bytes)
       ∙ sym (then_then next (λ (f : ℕ × List ℕ). element_from expression_at written f.0 f.1) (u32_at bytes))
-
-pub elements_are_added : ElementsAreReadAndAdded
-elements_are_added F declares count bytes s =
-    section_is_added (element_step F declares) (element_at expression_at written) (add_element F declares) (element_is_added F declares) (length s.elements) MAX_ELEMENT_SEGMENTS count bytes s

@@ -1,5 +1,5 @@
 -- A global that is read and typed in one pass is read and then added.
-use Rattle.std.proofs.Common.{◌≡◌, sym, ap, ◌∙◌, ℕ, if◌then◌else◌, List, length, Option, None, option_map}
+use Rattle.std.proofs.Common.{◌≡◌, sym, ap, ◌∙◌, ℕ, if◌then◌else◌, List, Option, None, option_map}
 use Rattle.std.specs.Option.{option_and_then}
 use Rattle.wasm_spec.specs.Syntax.{Sub, Global, map_global}
 use Rattle.wasm_spec.specs.BinaryTypes.{global_at}
@@ -10,17 +10,14 @@ use Rattle.wasm_readers.specs.Written.{written}
 use Rattle.wasm_readers_types.specs.WasmReadersValues.declared.indices.UnpackedIndex.{UnpackedIndex}
 use Rattle.wasm_validator_core.specs.WasmValidatorCanonical.Indices.{canonical_index}
 use Rattle.wasm_validator_core.specs.WasmValidatorChecks.Items.{is_valid_global}
-use Rattle.wasm_spec_validity.specs.Expressions.{expression_at}
+use Rattle.wasm_validator_segments.specs.WasmValidatorReferences.WasmSpecValidity.Expressions.{expression_at}
 use Rattle.wasm_validator_types.specs.Spaces.{Spaces}
-use Rattle.wasm_validator_core.specs.declared.limits.TheConstants.{MAX_GLOBALS}
 use Rattle.wasm_validator_core.specs.Answers.{TypesSoFar}
 use Rattle.wasm_validator_core.specs.Items.{types_of_module, with_global}
 use Rattle.wasm_validator_items.specs.Machine.{with_written, global_step}
 use Rattle.wasm_validator_items.specs.Entries.{is_constant_of, add_global_entry}
-use Rattle.wasm_validator_items.specs.Reading.{GlobalsAreReadAndAdded}
 use Rattle.wasm_validator_items.proofs.Attempts.{beside, added, then_mapped, then_then, then_same, both_tests}
 use Rattle.wasm_validator_items.proofs.InitializersRead.{initializer_is}
-use Rattle.wasm_validator_items.proofs.StepsInTurn.{section_is_added}
 
 module _ (F : Features) (declares : List (UnpackedIndex × Sub UnpackedIndex)) (us : TypesSoFar) (s : Spaces) where
   -- a global of this type with an initializer
@@ -43,7 +40,3 @@ module _ (F : Features) (declares : List (UnpackedIndex × Sub UnpackedIndex)) (
   global_is_added bytes =
       then_same (λ (g : Global UnpackedIndex × List ℕ). with_written F declares us s g.0 g.1) (λ g. added add (option_map (entry g.0) (expression_at g.1))) (λ g. typed g.0 g.1) (global_at written bytes)
       ∙ sym (then_then (λ (x : GlobalEntry Expression UnpackedIndex × List ℕ). option_map (beside x.1) (add x.0)) (λ g. option_map (entry g.0) (expression_at g.1)) (global_at written bytes))
-
-pub globals_are_added : GlobalsAreReadAndAdded
-globals_are_added F declares us count bytes s =
-    section_is_added (global_step F declares us) (global_entry_at expression_at written) (add_global_entry F declares us) (global_is_added F declares us) (length s.globals) MAX_GLOBALS count bytes s

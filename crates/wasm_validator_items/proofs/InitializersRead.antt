@@ -9,7 +9,7 @@ use Rattle.wasm_spec_rules.specs.Contexts.{Context}
 use Rattle.wasm_spec_rules.specs.Parts.{Expression}
 use Rattle.wasm_readers_types.specs.WasmReadersValues.declared.indices.UnpackedIndex.{UnpackedIndex}
 use Rattle.wasm_validator_types.specs.Spaces.{Spaces}
-use Rattle.wasm_spec_validity.specs.Expressions.{expression_at}
+use Rattle.wasm_validator_segments.specs.WasmValidatorReferences.WasmSpecValidity.Expressions.{expression_at}
 use Rattle.wasm_validator_items.specs.Expressions.{behind_expression}
 use Rattle.wasm_validator_items.proofs.Finding.{are_found}
 use Rattle.wasm_validator_items.specs.Items.{IsConstantIn, IsTypedExpressionAt}

@@ -17,7 +17,7 @@ use Rattle.wasm_readers_types.specs.WasmReadersValues.declared.indices.UnpackedI
 use Rattle.wasm_validator_core.specs.WasmValidatorCanonical.Indices.{canonical_index}
 use Rattle.wasm_validator_core.specs.WasmValidatorChecks.Items.{is_ref_in_range}
 use Rattle.wasm_validator_resources.specs.Answers.{val_in}
-use Rattle.wasm_spec_validity.specs.Expressions.{expression_at}
+use Rattle.wasm_validator_segments.specs.WasmValidatorReferences.WasmSpecValidity.Expressions.{expression_at}
 use Rattle.wasm_validator_segments.specs.Elements.{behind_function, may_go, reference_at}
 use Rattle.wasm_validator_items.specs.Expressions.{behind_expression}
 use Rattle.wasm_validator_segments.specs.Lists.{behind_list}

@@ -12,8 +12,8 @@ use Rattle.wasm_spec_rules.specs.Parts.{Expression}
 use Rattle.wasm_readers.specs.Written.{written}
 use Rattle.wasm_readers_types.specs.WasmReadersValues.declared.indices.UnpackedIndex.{UnpackedIndex}
 use Rattle.wasm_validator_resources.specs.Answers.{world, val_in}
-use Rattle.wasm_spec_validity.specs.Expressions.{expression_at}
-use Rattle.wasm_spec_validity.proofs.Whole.{expressions_are_whole}
+use Rattle.wasm_validator_segments.specs.WasmValidatorReferences.WasmSpecValidity.Expressions.{expression_at}
+use Rattle.wasm_validator_segments.proofs.WasmValidatorReferences.WasmSpecValidity.Whole.{expressions_are_whole}
 use Rattle.wasm_validator_segments.specs.Data.{behind_data_mode, behind_data}
 use Rattle.wasm_validator_items.specs.Expressions.{around_constants, behind_expression}
 use Rattle.wasm_validator_segments.specs.Globals.{with_content, global_type_at, typed_global_at}

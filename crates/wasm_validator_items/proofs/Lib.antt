@@ -1,3 +1,4 @@
+pub use Rattle.wasm_validator_segments.proofs.WasmValidatorReferences as WasmValidatorReferences
 pub use Rattle.wasm_validator_core_resources.proofs as WasmValidatorCoreResources
 pub use Rattle.wasm_validator_core.proofs as WasmValidatorCore
 pub use Rattle.wasm_validator_segments.proofs.Finding
@@ -8,6 +9,7 @@ mod Steps
 pub mod Items
 pub mod Attempts
 pub mod InitializersRead
+pub mod Named
 pub mod StepsInTurn
 pub mod GlobalsRead
 pub mod Offsets

@@ -44,10 +44,12 @@ module _ {A : Type 0} where
       (omega (arith, starts, onward)) (omega (arith, starts, ends)) h
 
   -- behind a section's count, and so in the section
+  pub section_place : (s : BinaryReader) (e : Error A) → StandsBehind s e → StandsBetween (original s) (original s + length (input s)) e
+  section_place s e h = wider (original s + position_in s) (original s + length (input s)) (original s) (original s + length (input s)) e (omega arith) (omega arith) h
+
   pub in_section : {T : Type 0} (r : Result T (Error A)) (s : BinaryReader) → IfErr r (StandsBehind s) → IfErr r (StandsBetween (original s) (original s + length (input s)))
   in_section (Ok x) s h = tt
-  in_section (Err e) s h =
-      wider (original s + position_in s) (original s + length (input s)) (original s) (original s + length (input s)) e (omega arith) (omega arith) h
+  in_section (Err e) s h = section_place s e h
 
 -- the refusal of what is read, as that of an item
 pub lifted_behind : (A : Type 0) (r : BinaryReader) (e : below.Error) → StandsIn r e → StandsBehind {A = A} r (lifted e)

@@ -8,7 +8,7 @@ use Rattle.wasm_spec.specs.BinarySections.{SegmentMode, passive, active, declara
 use Rattle.wasm_spec.proofs.Renaming.{Renames, renames_none, renames_if, renames_then, renames_map, renames_same_then, renames_same_map, heap-renames, val-renames, table-renames}
 use Rattle.wasm_spec_rules.specs.Parts.{Expression, index}
 use Rattle.wasm_readers.specs.Written.{written}
-use Rattle.wasm_spec_validity.specs.Expressions.{expression_at}
+use Rattle.wasm_validator_segments.specs.WasmValidatorReferences.WasmSpecValidity.Expressions.{expression_at}
 use Rattle.wasm_validator_items.specs.Maps.{map_table_entry, map_global_entry, map_element}
 use Rattle.wasm_validator_items.specs.Reading.{EntriesAreRenamed}
 

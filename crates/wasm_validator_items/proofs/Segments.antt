@@ -8,7 +8,7 @@ use Rattle.wasm_spec.specs.Features.{Features}
 use Rattle.wasm_spec_rules.specs.Attempts.{passes}
 use Rattle.wasm_spec_rules.specs.Parts.{Expression}
 use Rattle.wasm_readers_types.specs.WasmReadersValues.declared.indices.UnpackedIndex.{UnpackedIndex}
-use Rattle.wasm_spec_validity.specs.Expressions.{expression_at}
+use Rattle.wasm_validator_segments.specs.WasmValidatorReferences.WasmSpecValidity.Expressions.{expression_at}
 use Rattle.wasm_validator_segments.specs.Data.{behind_data_mode, behind_data}
 use Rattle.wasm_validator_segments.specs.Offsets.{behind_memory_offset}
 use Rattle.wasm_validator_types.specs.Spaces.{Spaces}

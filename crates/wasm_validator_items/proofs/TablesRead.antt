@@ -1,10 +1,9 @@
 -- A table that is read and typed in one pass is read and then added.
-use Rattle.std.proofs.Common.{◌≡◌, sym, ap, ◌∙◌, ℕ, Bool, true, false, if◌then◌else◌, List, length, Option, Some, None, option_map}
+use Rattle.std.proofs.Common.{◌≡◌, sym, ap, ◌∙◌, ℕ, Bool, true, false, if◌then◌else◌, List, Option, Some, None, option_map}
 use Rattle.std.specs.Option.{option_and_then}
 use Rattle.wasm_spec.specs.Syntax.{Sub, reference, Table, map_table}
 use Rattle.wasm_spec.specs.BinarySections.{TableEntry, table_entry_at}
 use Rattle.wasm_spec.specs.Features.{Features}
-use Rattle.wasm_spec_rules.specs.Limits.{most_tables}
 use Rattle.wasm_spec_rules.specs.Parts.{Expression}
 use Rattle.wasm_readers.specs.Tables.{Head, table_head_at, table_behind}
 use Rattle.wasm_readers.specs.Written.{written}
@@ -12,16 +11,14 @@ use Rattle.wasm_readers.proofs.Tables.{heads_begin_tables}
 use Rattle.wasm_readers_types.specs.WasmReadersValues.declared.indices.UnpackedIndex.{UnpackedIndex}
 use Rattle.wasm_validator_core.specs.WasmValidatorCanonical.Indices.{canonical_index}
 use Rattle.wasm_validator_core.specs.WasmValidatorChecks.Items.{is_valid_defined_table}
-use Rattle.wasm_spec_validity.specs.Expressions.{expression_at}
+use Rattle.wasm_validator_segments.specs.WasmValidatorReferences.WasmSpecValidity.Expressions.{expression_at}
 use Rattle.wasm_validator_types.specs.Spaces.{Spaces}
 use Rattle.wasm_validator_core.specs.Answers.{TypesSoFar}
 use Rattle.wasm_validator_core.specs.Items.{types_of_module, with_table}
 use Rattle.wasm_validator_items.specs.Machine.{with_head, table_step}
 use Rattle.wasm_validator_items.specs.Entries.{is_constant_of, add_table_entry}
-use Rattle.wasm_validator_items.specs.Reading.{TablesAreReadAndAdded}
 use Rattle.wasm_validator_items.proofs.Attempts.{beside, added, then_mapped, then_then, then_same, both_tests, one_test}
 use Rattle.wasm_validator_items.proofs.InitializersRead.{initializer_is}
-use Rattle.wasm_validator_items.proofs.StepsInTurn.{section_is_added}
 
 module _ (F : Features) (declares : List (UnpackedIndex × Sub UnpackedIndex)) (us : TypesSoFar) (s : Spaces) where
   abbrev Entry : Type 0
@@ -61,7 +58,3 @@ module _ (F : Features) (declares : List (UnpackedIndex × Sub UnpackedIndex)) (
       then_same (λ (h : Head × List ℕ). with_head F declares us s h.0 h.1) (λ h. added add (table_behind expression_at h.0 h.1)) (λ h. begun h.0.ty h.0.has_init h.1) (table_head_at bytes)
       ∙ sym (then_then next (λ (h : Head × List ℕ). table_behind expression_at h.0 h.1) (table_head_at bytes))
       ∙ sym (ap (added add) (heads_begin_tables expression_at bytes))
-
-pub tables_are_added : TablesAreReadAndAdded
-tables_are_added F declares us count bytes s =
-    section_is_added (table_step F declares us) (table_entry_at expression_at written) (add_table_entry F declares us) (table_is_added F declares us) (length s.tables) (most_tables F) count bytes s

@@ -1,7 +1,7 @@
 -- What one entry of a section adds to a module that has been read so far, where its constant expressions are typed in that module.
 -- `us` are the types of all modules so far, and `declares` says of each of their ids what it declares.
 -- Core Specification 3.0, Validation, Modules.
-use Rattle.std.specs.Prelude.{ℕ, ◌==◌, nat_lt, nat_le, Bool, true, false, ◌&&◌, if◌then◌else◌, List, length, slice_get, Option, Some, None, is_some}
+use Rattle.std.specs.Prelude.{ℕ, ◌==◌, nat_lt, nat_le, Bool, true, false, ◌&&◌, if◌then◌else◌, List, [], length, slice_get, Option, Some, None, is_some}
 use Rattle.std.specs.List.{list_all}
 use Rattle.wasm_spec.specs.Syntax.{Ref, Val, reference, Sub, map_ref, map_val, map_table, map_global}
 use Rattle.wasm_spec.specs.BinarySections.{TableEntry, GlobalEntry, Element, ElementItems, functions, expressions, Data, SegmentMode, passive, active, declarative, ref_func}
@@ -19,12 +19,18 @@ use Rattle.wasm_validator_segments.specs.Offsets.{address_type}
 use Rattle.wasm_validator_types.specs.Spaces.{Spaces}
 use Rattle.wasm_validator_core.specs.Answers.{TypesSoFar}
 use Rattle.wasm_validator_core.specs.Items.{types_of_module, with_table, with_global}
+use Rattle.wasm_validator_segments.specs.WasmValidatorReferences.References.{names_of_expression}
 use Rattle.wasm_validator_items.specs.Machine.{context_of, behind_initializer, with_element}
 
 -- nothing is behind what was read
 abbrev pub is_whole : Option (List ℕ) → Bool
 is_whole None = false
 is_whole (Some more) = length more == 0
+
+-- the functions that are named by what a table's entries begin with, if that is written
+abbrev pub names_of_init : Bool → List ℕ → List ℕ
+names_of_init true bytes = names_of_expression bytes
+names_of_init false bytes = []
 
 -- the type of a segment's items, as the list of types has it
 abbrev pub listed_items_type : Spaces → ElementItems Expression UnpackedIndex → Ref UnpackedIndex

@@ -9,12 +9,12 @@ use Rattle.wasm_spec_rules.specs.Parts.{Expression}
 use Rattle.wasm_spec_rules.specs.SegmentRules.{index_or_first}
 use Rattle.wasm_readers.specs.Written.{written}
 use Rattle.wasm_readers_types.specs.WasmReadersValues.declared.indices.UnpackedIndex.{UnpackedIndex}
-use Rattle.wasm_spec_validity.specs.WasmOperators.Control.{value_block}
-use Rattle.wasm_spec_validity.specs.WasmOperatorSteps.ConstantRules.{IsConstantExpression}
-use Rattle.wasm_spec_validity.specs.WasmOperatorSteps.Machine.{State}
-use Rattle.wasm_spec_validity.specs.WasmOperatorSteps.Steps.{start}
+use Rattle.wasm_validator_segments.specs.WasmValidatorReferences.WasmSpecValidity.WasmOperators.Control.{value_block}
+use Rattle.wasm_validator_segments.specs.WasmValidatorReferences.WasmSpecValidity.WasmOperatorSteps.ConstantRules.{IsConstantExpression}
+use Rattle.wasm_validator_segments.specs.WasmValidatorReferences.WasmSpecValidity.WasmOperatorSteps.Machine.{State}
+use Rattle.wasm_validator_segments.specs.WasmValidatorReferences.WasmSpecValidity.WasmOperatorSteps.Steps.{start}
 use Rattle.wasm_validator_resources.specs.Answers.{world, val_in}
-use Rattle.wasm_spec_validity.specs.Expressions.{expression_at}
+use Rattle.wasm_validator_segments.specs.WasmValidatorReferences.WasmSpecValidity.Expressions.{expression_at}
 use Rattle.wasm_validator_segments.specs.Data.{behind_data}
 use Rattle.wasm_validator_items.specs.Expressions.{around_constants, behind_expression}
 use Rattle.wasm_validator_segments.specs.Globals.{with_content, typed_global_at}

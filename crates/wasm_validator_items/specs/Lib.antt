@@ -1,3 +1,4 @@
+pub use Rattle.wasm_validator_segments.specs.WasmValidatorReferences as WasmValidatorReferences
 pub use Rattle.wasm_validator_core_resources.specs as WasmValidatorCoreResources
 pub use Rattle.wasm_validator_core.specs as WasmValidatorCore
 pub use Rattle.wasm_validator_segments.specs.Expressions

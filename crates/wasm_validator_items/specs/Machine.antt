@@ -7,14 +7,13 @@ use Rattle.wasm_spec.specs.Syntax.{Ref, Sub, Val, reference, Table, Global, map_
 use Rattle.wasm_spec.specs.BinaryTypes.{global_at}
 use Rattle.wasm_spec.specs.Features.{Features}
 use Rattle.wasm_spec_rules.specs.Contexts.{Context}
-use Rattle.wasm_spec_rules.specs.Limits.{most_tables}
 use Rattle.wasm_readers.specs.Tables.{Head, table_head_at}
 use Rattle.wasm_readers.specs.Written.{written}
 use Rattle.wasm_readers_types.specs.WasmReadersValues.declared.indices.UnpackedIndex.{UnpackedIndex}
 use Rattle.wasm_validator_core.specs.WasmValidatorCanonical.Indices.{canonical_index}
 use Rattle.wasm_validator_core.specs.WasmValidatorChecks.Items.{is_valid_defined_table, is_valid_global}
 use Rattle.wasm_validator_types.specs.Spaces.{Spaces}
-use Rattle.wasm_validator_core.specs.declared.limits.TheConstants.{MAX_GLOBALS, MAX_ELEMENT_SEGMENTS, MAX_DATA_SEGMENTS}
+use Rattle.wasm_validator_core.specs.declared.limits.TheConstants.{MAX_DATA_SEGMENTS}
 use Rattle.wasm_validator_core.specs.Answers.{TypesSoFar}
 use Rattle.wasm_validator_core.specs.Items.{types_of_module, with_table, with_global}
 use Rattle.wasm_validator_core_resources.specs.IndexContexts.{id_of}
@@ -72,10 +71,6 @@ module _ (F : Features) (declares : List (UnpackedIndex × Sub UnpackedIndex)) w
   unfoldable pub global_step : TypesSoFar → Spaces → List ℕ → Option (Spaces × List ℕ)
   global_step us s bytes = option_and_then (λ g. with_written us s g.0 g.1) (global_at written bytes)
 
-  -- a global section: so many globals, which keep to the limit with those that are there
-  abbrev pub global_items : TypesSoFar → ℕ → List ℕ → Spaces → Option Spaces
-  global_items us count bytes s = if nat_le (length s.globals + count) MAX_GLOBALS then items_from (global_step us) count bytes s else None
-
   -- the bytes behind what the entries of a table of this type begin with, if that is written
   abbrev pub behind_init : Spaces → Table UnpackedIndex → Bool → List ℕ → Option (List ℕ)
   behind_init s t true bytes = behind_initializer s (reference t.element) bytes
@@ -94,17 +89,9 @@ module _ (F : Features) (declares : List (UnpackedIndex × Sub UnpackedIndex)) w
   unfoldable pub table_step : TypesSoFar → Spaces → List ℕ → Option (Spaces × List ℕ)
   table_step us s bytes = option_and_then (λ h. with_head us s h.0 h.1) (table_head_at bytes)
 
-  -- a table section: so many tables, which keep to the limit with those that are there
-  abbrev pub table_items : TypesSoFar → ℕ → List ℕ → Spaces → Option Spaces
-  table_items us count bytes s = if nat_le (length s.tables + count) (most_tables F) then items_from (table_step us) count bytes s else None
-
   -- an element segment
   unfoldable pub element_step : Spaces → List ℕ → Option (Spaces × List ℕ)
   element_step s bytes = option_map (λ x. (with_items s x.0, x.1)) (typed_element_at (context_of declares s) F s.imported_globals bytes)
-
-  -- an element section: so many segments, which keep to the limit with those that are there
-  abbrev pub element_items : ℕ → List ℕ → Spaces → Option Spaces
-  element_items count bytes s = if nat_le (length s.elements + count) MAX_ELEMENT_SEGMENTS then items_from element_step count bytes s else None
 
   -- a data segment, which changes nothing
   unfoldable pub data_step : Spaces → List ℕ → Option (Spaces × List ℕ)

@@ -1,19 +1,17 @@
 -- What is read and typed in one pass is what the grammar reads, added: the sections whose items hold constant expressions.
 -- Core Specification 3.0, Validation, Modules, and Binary Format, Modules.
-use Rattle.std.specs.Prelude.{ℕ, ◌≡◌, List, length, Option}
+use Rattle.std.specs.Prelude.{ℕ, ◌≡◌, List, Option}
 use Rattle.std.specs.Option.{option_map}
 use Rattle.wasm_spec.specs.Syntax.{Sub}
 use Rattle.wasm_spec.specs.BinarySections.{table_entry_at, global_entry_at, element_at, data_at}
 use Rattle.wasm_spec.specs.Features.{Features}
-use Rattle.wasm_spec_rules.specs.Limits.{most_tables}
-use Rattle.wasm_spec_rules.specs.Parts.{Expression}
 use Rattle.wasm_readers.specs.Written.{written}
 use Rattle.wasm_readers_types.specs.WasmReadersValues.declared.indices.UnpackedIndex.{UnpackedIndex}
 use Rattle.wasm_validator_types.specs.Spaces.{Spaces}
-use Rattle.wasm_validator_core.specs.declared.limits.TheConstants.{MAX_GLOBALS, MAX_ELEMENT_SEGMENTS, MAX_DATA_SEGMENTS}
+use Rattle.wasm_validator_core.specs.declared.limits.TheConstants.{MAX_DATA_SEGMENTS}
 use Rattle.wasm_validator_core.specs.Answers.{TypesSoFar}
-use Rattle.wasm_spec_validity.specs.Expressions.{expression_at}
-use Rattle.wasm_validator_items.specs.Machine.{items_from, table_step, table_items, global_step, global_items, element_step, element_items, data_step, data_items}
+use Rattle.wasm_validator_segments.specs.WasmValidatorReferences.WasmSpecValidity.Expressions.{expression_at}
+use Rattle.wasm_validator_items.specs.Machine.{items_from, table_step, global_step, element_step, data_step, data_items}
 use Rattle.wasm_validator_items.specs.Sections.{read_one, read_each, read_section}
 use Rattle.wasm_validator_items.specs.Entries.{add_table_entry, add_global_entry, add_element, add_data}
 use Rattle.wasm_validator_items.specs.Maps.{map_table_entry, map_global_entry, map_element}
@@ -22,21 +20,6 @@ use Rattle.wasm_spec_rules.specs.Parts as parts
 -- what each of the ids of a list declares
 abbrev pub Declared : Type 0
 Declared = List (UnpackedIndex × Sub UnpackedIndex)
-
-abbrev pub TablesAreReadAndAdded : Type 0
-TablesAreReadAndAdded =
-    (F : Features) (declares : Declared) (us : TypesSoFar) (count : ℕ) (bytes : List ℕ) (s : Spaces)
-    → table_items F declares us count bytes s ≡ read_section (table_entry_at expression_at written) (add_table_entry F declares us) (length s.tables) (most_tables F) count bytes s
-
-abbrev pub GlobalsAreReadAndAdded : Type 0
-GlobalsAreReadAndAdded =
-    (F : Features) (declares : Declared) (us : TypesSoFar) (count : ℕ) (bytes : List ℕ) (s : Spaces)
-    → global_items F declares us count bytes s ≡ read_section (global_entry_at expression_at written) (add_global_entry F declares us) (length s.globals) MAX_GLOBALS count bytes s
-
-abbrev pub ElementsAreReadAndAdded : Type 0
-ElementsAreReadAndAdded =
-    (F : Features) (declares : Declared) (count : ℕ) (bytes : List ℕ) (s : Spaces)
-    → element_items F declares count bytes s ≡ read_section (element_at expression_at written) (add_element F declares) (length s.elements) MAX_ELEMENT_SEGMENTS count bytes s
 
 -- data segments leave the lists as they are, so that their count is asked for alone
 abbrev pub DataAreReadAndAdded : Type 0

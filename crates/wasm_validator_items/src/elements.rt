@@ -2,8 +2,13 @@
 
 ghost use Rattle.std.specs.Prelude.{◌≡◌, ◌≤◌, ◌+◌, ◌<◌, ◌^◌, length, IfOk, OnOk, IfErr};
 ghost use Rattle.std.specs.declared.option.Option.TheVariants.{Some};
+ghost use Rattle.wasm_spec.specs.BinarySections.{Element, element_at};
 ghost use Rattle.wasm_spec_rules.specs.FeatureFlags.{features_of};
-ghost use Rattle.wasm_readers.specs.WasmReadersBytes.Reader.{SameInput, input, original, position_in, rest};
+ghost use Rattle.wasm_spec_rules.specs.Parts.{Expression};
+ghost use Rattle.wasm_readers.specs.Written.{written};
+ghost use Rattle.wasm_readers_types.specs.WasmReadersValues.declared.indices.UnpackedIndex.{UnpackedIndex};
+ghost use Rattle.wasm_validator_segments.specs.WasmValidatorReferences.WasmSpecValidity.Expressions.{expression_at};
+ghost use Rattle.wasm_readers.specs.WasmReadersBytes.Reader.{SameInput, position_in, rest};
 ghost use Rattle.wasm_readers_types.specs.WasmReadersValues.SeenValues.{val_of};
 ghost use Rattle.wasm_validator_core.specs.Answers.{Adds};
 ghost use Rattle.wasm_validator_core.specs.Errors.{IsMemory};
@@ -12,26 +17,32 @@ ghost use Rattle.wasm_validator_core_resources.specs.IndexContexts.{id_of};
 ghost use Rattle.wasm_validator_core_resources.specs.ListContexts.{list_declares};
 ghost use Rattle.wasm_validator_core_resources.specs.ModuleContexts.{AreByIds};
 ghost use Rattle.wasm_validator_segments.specs.Elements.{typed_element_at};
-ghost use Rattle.wasm_validator_items.specs.Answers.{Refuses, StandsBetween, StandsBehind};
-ghost use Rattle.wasm_validator_items.specs.Machine.{context_of, with_items, element_step, items_from, element_items};
+ghost use Rattle.wasm_validator_segments.specs.WasmValidatorReferences.References.{marked, element_names, names_of_element};
+ghost use Rattle.wasm_validator_core.specs.declared.limits.TheConstants.{MAX_ELEMENT_SEGMENTS};
+ghost use Rattle.wasm_validator_items.specs.Answers.{Refuses, StandsBehind};
+ghost use Rattle.wasm_validator_items.specs.Entries.{add_element};
+ghost use Rattle.wasm_validator_items.specs.Machine.{context_of, with_items, element_step};
 
+use crate::section_items::SectionItem;
 use std::alloc::Allocator;
 use wasm_readers::BinaryReader;
-use wasm_readers_errors::{Counted, Fault, Malformed, Refusal, WasmFeatures};
+use wasm_readers_errors::WasmFeatures;
 use wasm_readers_types::ValType;
-use wasm_validator_core::{Error, MAX_ELEMENT_SEGMENTS, Module, check_max};
+use wasm_validator_core::{Error, Module};
 use wasm_validator_core_resources::{ModuleResources, TypesByIds};
+use wasm_validator_segments::references::ReferencedFunctions;
 use wasm_validator_segments::{ExpressionMemory, check_element};
 use wasm_validator_types::TypeList;
 
-/// Reads and types an element segment in the module as far as it has been read, and gives the type
-/// of its items.
+/// Reads and types an element segment in the module as far as it has been read, notes the functions
+/// that it names, and gives the type of its items.
 fn check_segment<'a, A: Allocator + Copy>(
     features: WasmFeatures,
     list: &TypeList<A>,
     types: &TypesByIds<A>,
     memory: &mut ExpressionMemory<A>,
     opened: &Module<A>,
+    referenced: &mut ReferencedFunctions<A>,
     reader: &mut BinaryReader<'a>,
 ) -> Result<ValType, Error<A>>
     requires held { AreHeld list.now opened.now.types }
@@ -42,6 +53,8 @@ fn check_segment<'a, A: Allocator + Copy>(
     ensures err { IfErr result (λ e. Refuses e (typed_element_at (context_of
         (list_declares id_of list.now.groups) opened.now) (features_of features)
         opened.now.imported_globals (rest reader.old))) }
+    ensures noted { OnOk result (referenced.new
+        ≡ marked (names_of_element (rest reader.old)) referenced.old) }
     ensures input { SameInput reader.old reader.new }
     ensures onward { position_in reader.old ≤ position_in reader.new }
     ensures place { IfErr result (StandsBehind reader.old) }
@@ -49,7 +62,14 @@ fn check_segment<'a, A: Allocator + Copy>(
     let spaces = opened.spaces();
     let imported_globals = spaces.imported_global_count();
     let resources = ModuleResources::new(spaces, list, types, &[], None);
-    let segment = check_element(memory, features, &resources, imported_globals, reader)?;
+    let segment = check_element(
+        memory,
+        features,
+        &resources,
+        imported_globals,
+        referenced,
+        reader,
+    )?;
     Ok(segment)
 }
 
@@ -68,8 +88,8 @@ fn add_segment<A: Allocator + Copy>(opened: &mut Module<A>, ty: ValType) -> Resu
 }
 
 /// Reads the element segment that the bytes begin with, in the module as far as it has been read,
-/// and adds it. Its expressions may read the immutable globals, without `GC` only imported ones, and
-/// are typed in memory that is used again. The reader goes behind it.
+/// adds it, and notes the functions that it names. Its expressions may read the immutable globals,
+/// without `GC` only imported ones, and are typed in memory that is used again. The reader goes behind it.
 ///
 /// The list must have the types of the module; and `types` are all that it has, with ids in the
 /// place of positions in their groups. The number of element segments must fit 32 bits then.
@@ -86,6 +106,7 @@ pub fn add_next_element<'a, A: Allocator + Copy>(
     types: &TypesByIds<A>,
     memory: &mut ExpressionMemory<A>,
     opened: &mut Module<A>,
+    referenced: &mut ReferencedFunctions<A>,
     reader: &mut BinaryReader<'a>,
 ) -> Result<(), Error<A>>
     requires held { AreHeld list.now opened.old.types }
@@ -98,85 +119,40 @@ pub fn add_next_element<'a, A: Allocator + Copy>(
         (list_declares id_of list.now.groups) opened.old (rest reader.old))) }
     ensures types { opened.new.types ≡ opened.old.types }
     ensures count { OnOk result (length opened.new.elements ≤ length opened.old.elements + 1) }
+    ensures noted { OnOk result (referenced.new
+        ≡ marked (names_of_element (rest reader.old)) referenced.old) }
     ensures input { SameInput reader.old reader.new }
     ensures onward { position_in reader.old ≤ position_in reader.new }
     ensures place { IfErr result (StandsBehind reader.old) }
 {
-    let ty = check_segment(features, list, types, memory, opened, reader)?;
+    let ty = check_segment(features, list, types, memory, opened, referenced, reader)?;
     add_segment(opened, ty)?;
     Ok(())
 }
 
-/// Adds so many element segments, behind which nothing is left.
-fn add_each_element<'a, A: Allocator + Copy>(
-    features: WasmFeatures,
-    list: &TypeList<A>,
-    types: &TypesByIds<A>,
-    memory: &mut ExpressionMemory<A>,
-    opened: &mut Module<A>,
-    count: u32,
-    reader: BinaryReader<'a>,
-) -> Result<(), Error<A>>
-    requires held { AreHeld list.now opened.old.types }
-    requires types { AreByIds list.now.groups types.now }
-    requires room { length opened.old.elements + count ≤ MAX_ELEMENT_SEGMENTS }
-    ensures added { Adds result (items_from (element_step (features_of features)
-        (list_declares id_of list.now.groups)) count (rest reader.entry) opened.old) opened.new }
-    ensures types { opened.new.types ≡ opened.old.types }
-    ensures place { IfErr result (StandsBehind reader.entry) }
-{
-    let mut reader = reader;
-    let mut left = count;
-    'segments: while left > 0 {
-        add_next_element(features, list, types, memory, opened, &mut reader)?;
-        left -= 1;
-    }
-    if reader.is_empty() {
-        return Ok(());
-    }
-    let fault = Fault::Malformed(Malformed::SectionSize);
-    let offset = reader.original_position();
-    Err(Error::Refused(Refusal::new(fault, offset)))
-}
+/// Element segments.
+pub struct ElementItem {}
 
-/// Adds the element segments of an element section, whose expressions may read the imported
-/// globals. `reader` is the section's, behind its count; and the expressions are typed in memory
-/// that is used again.
-///
-/// The list must have the types of the module; and `types` are all that it has, with ids in the
-/// place of positions in their groups.
-///
-/// # Errors
-///
-/// Refused where there would be too many element segments, at the section's start; where the bytes
-/// aren't so many valid element segments (Core Specification 3.0, Validation, Modules, Element
-/// Segments), behind where the segment begins; and where memory is. The module is then only to be
-/// dropped.
-pub fn add_elements<'a, A: Allocator + Copy>(
-    features: WasmFeatures,
-    list: &TypeList<A>,
-    types: &TypesByIds<A>,
-    memory: &mut ExpressionMemory<A>,
-    opened: &mut Module<A>,
-    count: u32,
-    reader: BinaryReader<'a>,
-) -> Result<(), Error<A>>
-    requires held { AreHeld list.now opened.old.types }
-    requires types { AreByIds list.now.groups types.now }
-    ensures added { Adds result (element_items (features_of features)
-        (list_declares id_of list.now.groups) count (rest reader.entry) opened.old) opened.new }
-    ensures types { opened.new.types ≡ opened.old.types }
-    ensures place { IfErr result (StandsBetween (original reader.entry)
-        (original reader.entry + length (input reader.entry))) }
-{
-    let there = opened.spaces().element_count() as usize;
-    let more = count as usize;
-    check_max(
-        there,
-        more,
-        MAX_ELEMENT_SEGMENTS,
-        Counted::ElementSegments,
-        reader.range().start,
-    )?;
-    add_each_element(features, list, types, memory, opened, count, reader)
+impl<A: Allocator + Copy> SectionItem<A> for ElementItem {
+    ghost Entry = { Element Expression UnpackedIndex };
+
+    ghost reads = { element_at expression_at written };
+
+    ghost names = { element_names };
+
+    ghost adds = { λ F declares us. add_element F declares };
+
+    ghost room = { λ s n. length s.elements + n ≤ MAX_ELEMENT_SEGMENTS };
+
+    fn add_next<'a>(
+        features: WasmFeatures,
+        list: &TypeList<A>,
+        types: &TypesByIds<A>,
+        memory: &mut ExpressionMemory<A>,
+        opened: &mut Module<A>,
+        referenced: &mut ReferencedFunctions<A>,
+        reader: &mut BinaryReader<'a>,
+    ) -> Result<(), Error<A>> {
+        add_next_element(features, list, types, memory, opened, referenced, reader)
+    }
 }

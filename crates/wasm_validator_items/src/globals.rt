@@ -1,33 +1,41 @@
 //! The globals of a global section, with their initializers.
 
-ghost use Rattle.std.specs.Prelude.{◌≡◌, ◌≤◌, ◌+◌, is_ok, length, IfOk, IfErr};
+ghost use Rattle.std.specs.Prelude.{◌≡◌, ◌≤◌, is_ok, IfOk, OnOk, IfErr, ⊤};
 ghost use Rattle.std.specs.declared.option.Option.TheVariants.{Some};
+ghost use Rattle.wasm_spec.specs.BinarySections.{GlobalEntry, global_entry_at};
 ghost use Rattle.wasm_spec.specs.Syntax.{map_global};
+ghost use Rattle.wasm_spec_rules.specs.Parts.{Expression};
+ghost use Rattle.wasm_readers.specs.Written.{written};
+ghost use Rattle.wasm_readers_types.specs.WasmReadersValues.declared.indices.UnpackedIndex.{UnpackedIndex};
+ghost use Rattle.wasm_validator_segments.specs.WasmValidatorReferences.WasmSpecValidity.Expressions.{expression_at};
 ghost use Rattle.wasm_spec_rules.specs.FeatureFlags.{features_of};
-ghost use Rattle.wasm_readers.specs.WasmReadersBytes.Reader.{SameInput, input, original, position_in, rest};
+ghost use Rattle.wasm_readers.specs.WasmReadersBytes.Reader.{SameInput, position_in, rest};
 ghost use Rattle.wasm_readers_types.specs.SeenExterns.{global_of};
 ghost use Rattle.wasm_validator_types.specs.WasmValidatorTypeList.DefTypes.{types_of_list};
 ghost use Rattle.wasm_validator_core.specs.WasmValidatorCanonical.Indices.{canonical_index};
 ghost use Rattle.wasm_validator_core.specs.WasmValidatorChecks.Answers.{IsRefusalAt};
 ghost use Rattle.wasm_validator_core.specs.WasmValidatorChecks.Items.{is_valid_global};
-ghost use Rattle.wasm_validator_core.specs.Answers.{Adds};
 ghost use Rattle.wasm_validator_core.specs.Items.{types_of_module};
 ghost use Rattle.wasm_validator_core.specs.Ready.{AreHeld};
 ghost use Rattle.wasm_validator_core_resources.specs.IndexContexts.{id_of};
 ghost use Rattle.wasm_validator_core_resources.specs.ListContexts.{list_declares};
 ghost use Rattle.wasm_validator_core_resources.specs.ModuleContexts.{AreByIds};
-ghost use Rattle.wasm_validator_items.specs.Answers.{Refuses, StandsBetween, StandsBehind};
-ghost use Rattle.wasm_validator_items.specs.Machine.{global_step, items_from, global_items};
+ghost use Rattle.wasm_validator_segments.specs.WasmValidatorReferences.References.{marked, global_names, names_of_global};
+ghost use Rattle.wasm_validator_items.specs.Answers.{Refuses, StandsBehind};
+ghost use Rattle.wasm_validator_items.specs.Entries.{add_global_entry};
+ghost use Rattle.wasm_validator_items.specs.Machine.{global_step};
 
 use crate::initializers::check_initializer;
+use crate::section_items::SectionItem;
 use std::alloc::Allocator;
 use wasm_readers::BinaryReader;
 use wasm_readers::externs::read_global_type;
-use wasm_readers_errors::{Counted, Fault, Malformed, Refusal, WasmFeatures};
+use wasm_readers_errors::{Refusal, WasmFeatures};
 use wasm_readers_types::{GlobalType, TypeRef, ValType};
-use wasm_validator_core::{Error, MAX_GLOBALS, Module, check_max};
+use wasm_validator_core::{Error, Module};
 use wasm_validator_core_resources::TypesByIds;
 use wasm_validator_segments::ExpressionMemory;
+use wasm_validator_segments::references::ReferencedFunctions;
 use wasm_validator_types::{EntityType, TypeList};
 
 /// Accepts the type of a global, and gives it as the list of types has it.
@@ -56,8 +64,8 @@ fn listed_global<A: Allocator + Copy>(
     }
 }
 
-/// Reads the global that the bytes begin with, in the module as far as it has been read, and adds
-/// it. Its initializer may read the immutable globals before it, without `GC` only imported ones,
+/// Reads the global that the bytes begin with, in the module as far as it has been read, adds it, and
+/// notes the functions that it names. Its initializer may read the immutable globals before it, without `GC` only imported ones,
 /// and is typed in memory that is used again. The reader goes behind it.
 ///
 /// The list must have the types of the module; and `types` are all that it has, with ids in the
@@ -75,6 +83,7 @@ pub fn add_next_global<'a, A: Allocator + Copy>(
     types: &TypesByIds<A>,
     memory: &mut ExpressionMemory<A>,
     opened: &mut Module<A>,
+    referenced: &mut ReferencedFunctions<A>,
     reader: &mut BinaryReader<'a>,
 ) -> Result<(), Error<A>>
     requires held { AreHeld list.now opened.old.types }
@@ -86,6 +95,8 @@ pub fn add_next_global<'a, A: Allocator + Copy>(
         (list_declares id_of list.now.groups) (types_of_list list.now) opened.old
         (rest reader.old))) }
     ensures types { opened.new.types ≡ opened.old.types }
+    ensures noted { OnOk result (referenced.new
+        ≡ marked (names_of_global (rest reader.old)) referenced.old) }
     ensures input { SameInput reader.old reader.new }
     ensures onward { position_in reader.old ≤ position_in reader.new }
     ensures place { IfErr result (StandsBehind reader.old) }
@@ -94,82 +105,36 @@ pub fn add_next_global<'a, A: Allocator + Copy>(
     let written = read_global_type(reader)?;
     let ty = listed_global(features, list, opened, written, offset)?;
     let content = ty.content_type;
-    check_initializer(features, list, types, memory, opened, content, reader)?;
+    check_initializer(
+        features, list, types, memory, opened, content, referenced, reader,
+    )?;
     opened.add_global(ty, offset)?;
     Ok(())
 }
 
-/// Adds so many globals, behind which nothing is left.
-fn add_each_global<'a, A: Allocator + Copy>(
-    features: WasmFeatures,
-    list: &TypeList<A>,
-    types: &TypesByIds<A>,
-    memory: &mut ExpressionMemory<A>,
-    opened: &mut Module<A>,
-    count: u32,
-    reader: BinaryReader<'a>,
-) -> Result<(), Error<A>>
-    requires held { AreHeld list.now opened.old.types }
-    requires types { AreByIds list.now.groups types.now }
-    ensures added { Adds result (items_from (global_step (features_of features)
-        (list_declares id_of list.now.groups) (types_of_list list.now)) count (rest reader.entry)
-        opened.old) opened.new }
-    ensures types { opened.new.types ≡ opened.old.types }
-    ensures place { IfErr result (StandsBehind reader.entry) }
-{
-    let mut reader = reader;
-    let mut left = count;
-    'globals: while left > 0 {
-        add_next_global(features, list, types, memory, opened, &mut reader)?;
-        left -= 1;
-    }
-    if reader.is_empty() {
-        return Ok(());
-    }
-    let fault = Fault::Malformed(Malformed::SectionSize);
-    let offset = reader.original_position();
-    Err(Error::Refused(Refusal::new(fault, offset)))
-}
+/// Globals with their initializers.
+pub struct GlobalItem {}
 
-/// Adds the globals of a global section, each with its initializer, which may read the imported
-/// globals. `reader` is the section's, behind its count; and the initializers are typed in memory
-/// that is used again.
-///
-/// The list must have the types of the module; and `types` are all that it has, with ids in the
-/// place of positions in their groups.
-///
-/// # Errors
-///
-/// Refused where there would be too many globals, at the section's start; where the bytes aren't so
-/// many globals, each of a type that keeps every rule, with a constant expression of what it holds
-/// (Core Specification 3.0, Validation, Modules, Globals), where its type or the operator stands;
-/// and where memory is. The module is then only to be dropped.
-pub fn add_globals<'a, A: Allocator + Copy>(
-    features: WasmFeatures,
-    list: &TypeList<A>,
-    types: &TypesByIds<A>,
-    memory: &mut ExpressionMemory<A>,
-    opened: &mut Module<A>,
-    count: u32,
-    reader: BinaryReader<'a>,
-) -> Result<(), Error<A>>
-    requires held { AreHeld list.now opened.old.types }
-    requires types { AreByIds list.now.groups types.now }
-    ensures added { Adds result (global_items (features_of features)
-        (list_declares id_of list.now.groups) (types_of_list list.now) count (rest reader.entry)
-        opened.old) opened.new }
-    ensures types { opened.new.types ≡ opened.old.types }
-    ensures place { IfErr result (StandsBetween (original reader.entry)
-        (original reader.entry + length (input reader.entry))) }
-{
-    let there = opened.spaces().global_count() as usize;
-    let more = count as usize;
-    check_max(
-        there,
-        more,
-        MAX_GLOBALS,
-        Counted::Globals,
-        reader.range().start,
-    )?;
-    add_each_global(features, list, types, memory, opened, count, reader)
+impl<A: Allocator + Copy> SectionItem<A> for GlobalItem {
+    ghost Entry = { GlobalEntry Expression UnpackedIndex };
+
+    ghost reads = { global_entry_at expression_at written };
+
+    ghost names = { global_names };
+
+    ghost adds = { add_global_entry };
+
+    ghost room = { λ s n. ⊤ };
+
+    fn add_next<'a>(
+        features: WasmFeatures,
+        list: &TypeList<A>,
+        types: &TypesByIds<A>,
+        memory: &mut ExpressionMemory<A>,
+        opened: &mut Module<A>,
+        referenced: &mut ReferencedFunctions<A>,
+        reader: &mut BinaryReader<'a>,
+    ) -> Result<(), Error<A>> {
+        add_next_global(features, list, types, memory, opened, referenced, reader)
+    }
 }

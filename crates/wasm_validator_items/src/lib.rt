@@ -10,20 +10,22 @@ ghost use Rattle.wasm_spec.specs.Features.{Features};
 ghost use Rattle.wasm_spec_rules.specs.Contexts.{Context};
 ghost use Rattle.wasm_readers_types.specs.WasmReadersValues.declared.indices.UnpackedIndex.{UnpackedIndex};
 ghost use Rattle.wasm_validator_items.specs.Items.{ExpressionsAreTyped, GlobalsAreTyped, DataAreTyped};
-ghost use Rattle.wasm_validator_items.specs.Reading.{TablesAreReadAndAdded, GlobalsAreReadAndAdded, ElementsAreReadAndAdded, DataAreReadAndAdded, ItemsAreReadAndAdded, SectionsAddSingleItems, EntriesAreRenamed};
+ghost use Rattle.wasm_validator_items.specs.Reading.{DataAreReadAndAdded, ItemsAreReadAndAdded, SectionsAddSingleItems, EntriesAreRenamed};
 
 pub mod constants;
 mod data;
 mod elements;
 mod globals;
 mod initializers;
+mod section_items;
 mod tables;
 
 pub use constants::{Constants, tells_types_apart};
 pub use data::{add_data_segments, check_next_data};
-pub use elements::{add_elements, add_next_element};
-pub use globals::{add_globals, add_next_global};
-pub use tables::{add_next_table, add_tables};
+pub use elements::{ElementItem, add_next_element};
+pub use globals::{GlobalItem, add_next_global};
+pub use section_items::{SectionItem, add_items};
+pub use tables::{TableItem, add_next_table};
 pub use wasm_validator_segments::ExpressionMemory;
 
 /// Reading and typing expressions, globals and data segments in one pass accepts exactly those of the
@@ -37,12 +39,10 @@ pub fn items_are_typed()
         → DataAreTyped C F imported }
 {}
 
-/// Each section is read by the grammar, and its items are added one after another.
-pub fn sections_are_read_and_added()
-    ensures tables { TablesAreReadAndAdded }
-    ensures globals { GlobalsAreReadAndAdded }
-    ensures elements { ElementsAreReadAndAdded }
-    ensures segments { DataAreReadAndAdded }
+/// A data section is read by the grammar, and its segments are added one after another.
+#[tactic(auto, using(crate::proofs::Segments::data_are_added))]
+pub fn data_sections_are_read_and_added()
+    ensures { DataAreReadAndAdded }
 {}
 
 /// A single item is read by the grammar, and then added.
@@ -73,4 +73,9 @@ pub mod validator_core {
 /// Passed on from `wasm_validator_core_resources`.
 pub mod validator_core_resources {
     pub use wasm_validator_core_resources::ValidatorResources;
+}
+
+/// Passed on from `wasm_validator_references`.
+pub mod references {
+    pub use wasm_validator_segments::references::ReferencedFunctions;
 }

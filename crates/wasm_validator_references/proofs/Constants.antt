@@ -6,13 +6,13 @@ use Rattle.std.proofs.lemmas.List.Elements.{All-head, All-tail}
 use Rattle.wasm_spec.specs.Syntax.{i32, i64, f32, f64, v128, reference}
 use Rattle.wasm_spec.specs.Features.{Features}
 use Rattle.wasm_spec.specs.MatchingTests.{World}
-use Rattle.wasm_operators.specs.WasmOperatorsPlain.declared.variables.VariableOperator.TheVariants.{GlobalGet}
-use Rattle.wasm_operators.specs.WasmOperatorsPlain.declared.conversions.ConversionOperator.TheVariants.{AnyConvertExtern, ExternConvertAny, RefI31, RefI31Shared}
-use Rattle.wasm_operators.specs.Control.{Control, end_, value_block}
-use Rattle.wasm_operators.specs.References as references
-use Rattle.wasm_operators.specs.Instructions as instruction
-use Rattle.wasm_operators.specs.Instructions.{Instruction, control}
-use Rattle.wasm_spec_rules.specs.Worlds.{world_of}
+use Rattle.wasm_spec_validity.specs.WasmOperators.WasmOperatorsPlain.declared.variables.VariableOperator.TheVariants.{GlobalGet}
+use Rattle.wasm_spec_validity.specs.WasmOperators.WasmOperatorsPlain.declared.conversions.ConversionOperator.TheVariants.{AnyConvertExtern, ExternConvertAny, RefI31, RefI31Shared}
+use Rattle.wasm_spec_validity.specs.WasmOperators.Control.{Control, end_, value_block}
+use Rattle.wasm_spec_validity.specs.WasmOperators.References as references
+use Rattle.wasm_spec_validity.specs.WasmOperators.Instructions as instruction
+use Rattle.wasm_spec_validity.specs.WasmOperators.Instructions.{Instruction, control}
+use Rattle.wasm_spec_validity.specs.WasmOperatorSteps.WasmSpecRules.Worlds.{world_of}
 use Rattle.wasm_spec_validity.specs.WasmOperatorSteps.Bodies.{Surroundings}
 use Rattle.wasm_spec_validity.specs.WasmOperatorSteps.Machine.{Operand, bottom, bottom_reference, open_reference, known, block_kind, Frame, State, pop_any, pop_vals, matches_operand}
 use Rattle.wasm_spec_validity.specs.WasmOperatorSteps.Meanings.{address, pop_frame, leave_in, run}

@@ -1,9 +1,6 @@
+pub use Rattle.wasm_spec_validity.proofs as WasmSpecValidity
+pub mod Noting
 pub mod Marks
-pub mod Marking
-pub mod Loops
-pub mod Naming
-pub mod Passing
-pub mod Unnamed
 pub mod Constants
 pub mod EntryPieces
 pub mod SectionPieces

@@ -7,11 +7,11 @@ use Rattle.wasm_spec.specs.Syntax.{Memory}
 use Rattle.wasm_spec.specs.BinaryModules.{export_at}
 use Rattle.wasm_spec.specs.BinarySections.{Data, SegmentMode, passive, active, declarative, table_entry_at, global_entry_at, element_at}
 use Rattle.wasm_spec.specs.Features.{Features}
-use Rattle.wasm_spec_rules.specs.Attempts.{among}
-use Rattle.wasm_spec_rules.specs.IndexSpaces.{IndexSpaces}
-use Rattle.wasm_spec_rules.specs.LinkRules.{exported_functions}
-use Rattle.wasm_spec_rules.specs.Parts.{Parts, Expression, index}
-use Rattle.wasm_spec_rules.specs.SegmentRules.{index_or_first, IsValidDataMode, IsValidData}
+use Rattle.wasm_spec_validity.specs.WasmOperatorSteps.WasmSpecRules.Attempts.{among}
+use Rattle.wasm_spec_validity.specs.WasmOperatorSteps.WasmSpecRules.IndexSpaces.{IndexSpaces}
+use Rattle.wasm_spec_validity.specs.WasmOperatorSteps.WasmSpecRules.LinkRules.{exported_functions}
+use Rattle.wasm_spec_validity.specs.WasmOperatorSteps.WasmSpecRules.Parts.{Parts, Expression, index}
+use Rattle.wasm_spec_validity.specs.WasmOperatorSteps.WasmSpecRules.SegmentRules.{index_or_first, IsValidDataMode, IsValidData}
 use Rattle.wasm_spec_validity.specs.WasmOperatorSteps.Meanings.{address}
 use Rattle.wasm_spec_validity.specs.Expressions.{expression_at, named}
 use Rattle.wasm_spec_validity.specs.Modules.{Numbering, context_of, imported_globals, number_at}

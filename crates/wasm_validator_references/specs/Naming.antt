@@ -4,12 +4,12 @@ use Rattle.std.specs.Prelude.{ℕ, ◌≡◌, nat_eq, Bool, List, []}
 use Rattle.std.specs.List.{All, flat_map}
 use Rattle.wasm_spec.specs.Features.{Features}
 use Rattle.wasm_spec.specs.Framing.{Piece}
-use Rattle.wasm_spec_rules.specs.Attempts.{among}
-use Rattle.wasm_spec_rules.specs.Contexts.{Context}
-use Rattle.wasm_spec_rules.specs.IndexSpaces.{IndexSpaces}
-use Rattle.wasm_spec_rules.specs.LinkRules.{referenced}
-use Rattle.wasm_spec_rules.specs.Parts.{Parts, Expression, HasParts}
-use Rattle.wasm_spec_rules.specs.SegmentRules.{IsValidData}
+use Rattle.wasm_spec_validity.specs.WasmOperatorSteps.WasmSpecRules.Attempts.{among}
+use Rattle.wasm_spec_validity.specs.WasmOperatorSteps.WasmSpecRules.Contexts.{Context}
+use Rattle.wasm_spec_validity.specs.WasmOperatorSteps.WasmSpecRules.IndexSpaces.{IndexSpaces}
+use Rattle.wasm_spec_validity.specs.WasmOperatorSteps.WasmSpecRules.LinkRules.{referenced}
+use Rattle.wasm_spec_validity.specs.WasmOperatorSteps.WasmSpecRules.Parts.{Parts, Expression, HasParts}
+use Rattle.wasm_spec_validity.specs.WasmOperatorSteps.WasmSpecRules.SegmentRules.{IsValidData}
 use Rattle.wasm_spec_validity.specs.WasmOperatorSteps.Meanings.{address}
 use Rattle.wasm_spec_validity.specs.Expressions.{expression_at, named}
 use Rattle.wasm_spec_validity.specs.Modules.{Numbering, context_of, imported_globals, number_at}

@@ -6,10 +6,11 @@ use Rattle.wasm_spec.specs.BinaryModules.{export_at}
 use Rattle.wasm_spec.specs.BinarySections.{TableEntry, GlobalEntry, Element, ElementItems, functions, expressions, SegmentMode, passive, active, declarative, table_entry_at, global_entry_at, element_at}
 use Rattle.wasm_spec.specs.Framing.{Piece, Version, Custom, Counted, Start, DataCount, CodeStart, CodeEntry, Unknown, End}
 use Rattle.wasm_spec.specs.Values.{items_at}
-use Rattle.wasm_spec_rules.specs.LinkRules.{exported_functions}
-use Rattle.wasm_spec_rules.specs.Parts.{Expression}
+use Rattle.wasm_spec_validity.specs.WasmOperatorSteps.WasmSpecRules.LinkRules.{exported_functions}
+use Rattle.wasm_spec_validity.specs.WasmOperatorSteps.WasmSpecRules.Parts.{Expression}
 use Rattle.wasm_readers.specs.Written.{written}
 use Rattle.wasm_spec_validity.specs.Expressions.{expression_at, named}
+use Rattle.wasm_validator_references.specs.Notes.{noting}
 
 -- A flag stands at a function's index, and is set where the function counts. One more function: where there are no flags up to it, they
 -- are there, not set.
@@ -21,8 +22,7 @@ mark (suc i) (b ∷ bs) = b ∷ mark i bs
 
 -- some more functions, one after another
 abbrev pub marked : List ℕ → List Bool → List Bool
-marked [] flags = flags
-marked (x ∷ xs) flags = marked xs (mark x flags)
+marked xs flags = noting mark xs flags
 
 -- the functions that the items of sections name
 abbrev pub optional_names : Option Expression → List ℕ
@@ -74,6 +74,18 @@ names_if names (Some x) = names x.0
 
 abbrev pub names_at : {V : Type 0} → (List ℕ → Option (V × List ℕ)) → (V → List ℕ) → List ℕ → List ℕ
 names_at reads names bytes = names_if names (reads bytes)
+
+abbrev pub names_of_expression : List ℕ → List ℕ
+names_of_expression bytes = names_at expression_at named bytes
+
+abbrev pub names_of_table : List ℕ → List ℕ
+names_of_table bytes = names_at (table_entry_at expression_at written) table_names bytes
+
+abbrev pub names_of_global : List ℕ → List ℕ
+names_of_global bytes = names_at (global_entry_at expression_at written) global_names bytes
+
+abbrev pub names_of_element : List ℕ → List ℕ
+names_of_element bytes = names_at (element_at expression_at written) element_names bytes
 
 -- those that a section names, by its id. The offset of a data segment is a number, and names none.
 abbrev pub section_names : ℕ → ℕ → List ℕ → List ℕ

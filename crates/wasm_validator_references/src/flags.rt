@@ -1,16 +1,10 @@
 //! Flags of functions.
 
-ghost use Rattle.std.specs.Prelude.{◌≡◌, ◌≤◌, ◌-◌, true, false, [], length, drop, Some, OnOk};
-ghost use Rattle.wasm_readers_bytes.specs.Reader.{SameInput, rest};
-ghost use Rattle.wasm_validator_references.specs.References.{mark};
-ghost use Rattle.wasm_validator_references.specs.Marking.{mark_many, mark_function};
+ghost use Rattle.std.specs.Prelude.{◌≡◌, ◌≤◌, [], length, drop, OnOk};
+ghost use Rattle.wasm_validator_references.specs.References.{mark, marked};
 
 use std::alloc::{AllocError, Allocator, Global};
 use std::marker::Model;
-use wasm_readers::BinaryReader;
-
-/// From so many functions on their indices are first taken as bytes.
-const MANY_FUNCTIONS: u32 = 16;
 
 /// A flag for each function of a module, set where the function counts as referenced. A contract
 /// sees the flags. Behind the last one no function counts.
@@ -60,27 +54,27 @@ impl<A: Allocator + Copy> ReferencedFunctions<A> {
     pub fn mark(&mut self, function_index: u32) -> Result<(), AllocError>
         ensures { OnOk result (self.new ≡ mark function_index self.old) }
     {
-        let place = function_index as usize;
-        if place < self.flags.len() {
-            self.flags[place] = true;
-            return Ok(());
-        }
-        add_mark(&mut self.flags, place)
+        mark_flag(&mut self.flags, function_index as usize)
     }
 
-    /// Sets the flags of functions whose indices are next, so many at the most, and gives how many
-    /// of these are left where an index or its flag isn't there.
-    pub(crate) fn mark_known(&mut self, count: u32, reader: &mut BinaryReader<'_>) -> u32
-        ensures so_far { mark_many mark_function result self.new (rest reader.new)
-            ≡ mark_many mark_function count self.old (rest reader.old) }
-        ensures fewer { result ≤ count }
+    /// Sets the flags of the functions whose indices are these bytes, as `mark` does one by one.
+    pub(crate) fn mark_bytes(&mut self, function_indices: &[u8]) -> Result<(), AllocError>
+        ensures { OnOk result (self.new ≡ marked function_indices.now self.old) }
     {
-        let mut left = count;
-        if count >= MANY_FUNCTIONS {
-            left = set_run(self.flags.as_mut_slice(), count, reader);
-        }
-        set_flags(self.flags.as_mut_slice(), left, reader)
+        mark_each(&mut self.flags, function_indices)
     }
+}
+
+/// Sets the flag at this place, and adds those before it, not set, where they aren't there yet.
+#[inline]
+fn mark_flag<A: Allocator>(flags: &mut Vec<bool, A>, place: usize) -> Result<(), AllocError>
+    ensures { OnOk result (flags.new.items ≡ mark place flags.old.items) }
+{
+    if place < flags.len() {
+        flags[place] = true;
+        return Ok(());
+    }
+    add_mark(flags, place)
 }
 
 /// Adds flags up to this place, of which the last one is set.
@@ -95,26 +89,18 @@ fn add_mark<A: Allocator>(flags: &mut Vec<bool, A>, place: usize) -> Result<(), 
     Ok(flags.push(true)?)
 }
 
-/// The least of two.
-#[inline(always)]
-fn least(a: usize, b: usize) -> usize
-    ensures first { result ≤ a }
-    ensures second { result ≤ b }
-{
-    if a < b { a } else { b }
-}
-
-/// Sets the flags of the functions whose indices are the first bytes, so many at the most, and
-/// gives how many these are: up to one that is no index alone, or whose flag isn't there.
-fn set_each(flags: &mut [bool], bytes: &[u8], count: u32) -> usize
+/// Sets the flags of the functions whose indices are these bytes from this place on, and gives the
+/// place of the first whose flag isn't there, or that behind the last.
+fn set_each(flags: &mut [bool], bytes: &[u8], from: usize) -> usize
+    requires { from ≤ length bytes.now }
+    ensures onward { from ≤ result }
     ensures within { result ≤ length bytes.now }
-    ensures fewer { result ≤ count }
-    ensures so_far { mark_many mark_function (count - result) flags.new (drop result bytes.now)
-        ≡ mark_many mark_function count flags.old bytes.now }
+    ensures so_far { marked (drop result bytes.now) flags.new
+        ≡ marked (drop from bytes.now) flags.old }
 {
-    let most = least(count as usize, bytes.len());
-    let limit = least(flags.len(), 128);
-    let mut at = 0;
+    let most = bytes.len();
+    let limit = flags.len();
+    let mut at = from;
     'functions: while at < most {
         let place = bytes[at] as usize;
         if place >= limit {
@@ -126,62 +112,17 @@ fn set_each(flags: &mut [bool], bytes: &[u8], count: u32) -> usize
     at
 }
 
-/// Sets the flags of functions whose indices are next, so many at the most, as far as each is one
-/// byte and its flag is there, and gives how many of these are left.
-fn set_run(flags: &mut [bool], count: u32, reader: &mut BinaryReader<'_>) -> u32
-    ensures so_far { mark_many mark_function result flags.new (rest reader.new)
-        ≡ mark_many mark_function count flags.old (rest reader.old) }
-    ensures fewer { result ≤ count }
+/// Sets the flags of the functions whose indices are these bytes, one after another.
+fn mark_each<A: Allocator>(flags: &mut Vec<bool, A>, bytes: &[u8]) -> Result<(), AllocError>
+    ensures { OnOk result (flags.new.items ≡ marked bytes.now flags.old.items) }
 {
-    let bytes = reader.remaining();
-    let set = set_each(flags, bytes, count);
-    match reader.read_reader(set) {
-        Ok(_) => count - set as u32,
-        Err(_) => unreachable!(),
-    }
-}
-
-/// Sets the flag of the function whose index is next, and tells whether both are there.
-#[inline(always)]
-fn set_next(flags: &mut [bool], reader: &mut BinaryReader<'_>) -> bool
-    ensures same { SameInput reader.old reader.new }
-    ensures taken { result ≡ true → mark_function flags.old (rest reader.old)
-        ≡ Some (flags.new, rest reader.new) }
-    ensures kept { result ≡ false → flags.new ≡ flags.old }
-    ensures unread { result ≡ false → reader.new ≡ reader.old }
-{
-    let mut ahead = *reader;
-    match ahead.next_var_u32() {
-        Some(function_index) => {
-            let place = function_index as usize;
-            if place < flags.len() {
-                flags[place] = true;
-                reader.go_on_from(&ahead);
-                return true;
-            }
-            false
+    let mut at = 0;
+    'functions: while at < bytes.len() {
+        at = set_each(flags.as_mut_slice(), bytes, at);
+        if at < bytes.len() {
+            mark_flag(flags, bytes[at] as usize)?;
+            at += 1;
         }
-        None => false,
     }
-}
-
-/// Sets the flags of functions whose indices are next, so many at the most, and gives how many of
-/// these are left where an index or its flag isn't there.
-fn set_flags(flags: &mut [bool], count: u32, reader: &mut BinaryReader<'_>) -> u32
-    ensures so_far { mark_many mark_function result flags.new (rest reader.new)
-        ≡ mark_many mark_function count flags.old (rest reader.old) }
-    ensures fewer { result ≤ count }
-{
-    // The reader itself is not lent, so that it can be kept in registers.
-    let mut ahead = *reader;
-    let mut left = count;
-    'functions: while left > 0 {
-        if !set_next(flags, &mut ahead) {
-            reader.go_on_from(&ahead);
-            return left;
-        }
-        left -= 1;
-    }
-    reader.go_on_from(&ahead);
-    left
+    Ok(())
 }

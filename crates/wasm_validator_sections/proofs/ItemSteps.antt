@@ -1,5 +1,5 @@
 -- The items of a section, one step at a time.
-use Rattle.std.proofs.Common.{◌≡◌, refl, sym, ap, subst, ◌∙◌, ℕ, zero, suc, ◌≤◌, Bool, true, false, cond, List, [], ◌∷◌, length, eqb, Option, Some, None, arith}
+use Rattle.std.proofs.Common.{◌≡◌, refl, sym, ap, subst, ◌∙◌, ℕ, zero, suc, ◌-◌, ◌≤◌, Bool, true, false, cond, if◌then◌else◌, List, [], ◌∷◌, length, eqb, Option, Some, None, arith}
 use Rattle.std.specs.Option.{option_map, option_and_then}
 use Rattle.std.proofs.lemmas.Option.{none-some, same_Some}
 use Rattle.std.specs.Result.{IsErrAnd}
@@ -12,6 +12,10 @@ use Rattle.wasm_validator_items.proofs.WasmValidatorCore.AddedGroups.{refusal}
 use Rattle.wasm_validator_items.specs.WasmValidatorCore.declared.error.Error.{Error}
 use Rattle.wasm_validator_items.specs.WasmValidatorCore.declared.error.Error.TheVariants.{Refused, DuplicateExport, InFunction, OutOfMemory}
 use Rattle.wasm_validator_items.specs.WasmValidatorCore.Answers.{IsNowhere, Adds, AddsWhere}
+use Rattle.wasm_validator_items.specs.WasmValidatorReferences.Notes.{names_along}
+use Rattle.wasm_validator_items.specs.WasmValidatorReferences.References.{mark, marked, names_if, names_in, names_or_none}
+use Rattle.wasm_validator_items.proofs.WasmValidatorReferences.Noting.{item_noted, items_named}
+use Rattle.wasm_validator_items.proofs.Named.{all_read}
 use Rattle.wasm_validator_sections.specs.Sections.{read_each}
 
 -- what holds after items one after another held before them, where that is so of each
@@ -57,6 +61,16 @@ module _ {V : Type 0} (encoded : List ℕ → Option (V × List ℕ)) where
   fewer_left zero n bytes after v e = absurd (no_item (eqb (length bytes) 0) (v, (n, after)) e)
   fewer_left (suc m) n bytes after v e = let same = (item_is m (encoded bytes) v n after e).1 in omega (arith, same)
 
+  -- an item whose functions are noted
+  pub item_is_noted : (names : V → List ℕ) (left n : ℕ) (bytes after : List ℕ) (v : V) (old new : List Bool) → next_item encoded left bytes ≡ Some (Some (v, (n, after))) → new ≡ marked (names v) old
+      → marked (names_along encoded names n after) new ≡ marked (names_along encoded names left bytes) old
+  item_is_noted names zero n bytes after v old new e f = absurd (no_item (eqb (length bytes) 0) (v, (n, after)) e)
+  item_is_noted names (suc m) n bytes after v old new e f =
+      let here = item_is m (encoded bytes) v n after e in
+      let back : m ≡ suc m - 1 = omega arith in
+      ap (λ (k : ℕ). marked (names_along encoded names k after) new) (sym here.1 ∙ back)
+      ∙ item_noted mark encoded names (suc m) bytes after v old new (omega arith) here.0 (f ∙ ap (λ (o : Option (V × List ℕ)). marked (names_if names o) old) (sym here.0))
+
   module _ {S : Type 0} (add : S → V → Option S) where
     pub read_each-step : (left n : ℕ) (bytes after : List ℕ) (v : V) (s t : S) → next_item encoded left bytes ≡ Some (Some (v, (n, after))) → add s v ≡ Some t
         → read_each encoded add n after t ≡ read_each encoded add left bytes s
@@ -67,6 +81,28 @@ module _ {V : Type 0} (encoded : List ℕ → Option (V × List ℕ)) where
         → read_each encoded add left bytes s ≡ None
     read_each-refused zero n bytes after v s e a = absurd (no_item (eqb (length bytes) 0) (v, (n, after)) e)
     read_each-refused (suc m) n bytes after v s e a = let here = item_is m (encoded bytes) v n after e in rw (here.0, a) refl
+
+    -- behind the last item the functions that all of them name are noted
+    end_noted : (names : V → List ℕ) (b : Bool) (count : ℕ) (rest bytes : List ℕ) (s t : S) (old new : List Bool) → (if b then Some t else None) ≡ read_each encoded add count bytes s → b ≡ true
+        → new ≡ marked (names_along encoded names count bytes) old → new ≡ marked (names_in encoded names count bytes) old
+    end_noted names b count rest bytes s t old new e f h =
+        let all : read_each encoded add count bytes s ≡ Some t = sym e ∙ ap (λ (c : Bool). if c then Some t else None) f in
+        let xs = all_read encoded add count bytes s t all in
+        h ∙ ap (λ (ns : List ℕ). marked ns old) (items_named encoded names count bytes xs.0 xs.1 ∙ sym (ap (names_or_none names) xs.1))
+
+    at_end : (b : Bool) → cond {A = Option (Option (V × (ℕ × List ℕ)))} b (Some None) None ≡ Some None → b ≡ true
+    at_end true e = refl
+    at_end false e = absurd cc
+
+    not_at_end : (m : ℕ) (o : Option (V × List ℕ)) → option_map (item_here m) o ≡ Some None → ⊥
+    not_at_end m None e = cc
+    not_at_end m (Some x) e = cc
+
+    pub all_noted : (names : V → List ℕ) (left count : ℕ) (rest bytes : List ℕ) (s t : S) (old new : List Bool) → next_item encoded left rest ≡ Some None
+        → read_each encoded add left rest t ≡ read_each encoded add count bytes s → marked (names_along encoded names left rest) new ≡ marked (names_along encoded names count bytes) old
+        → new ≡ marked (names_in encoded names count bytes) old
+    all_noted names zero count rest bytes s t old new e f h = end_noted names (eqb (length rest) 0) count rest bytes s t old new f (at_end (eqb (length rest) 0) e) h
+    all_noted names (suc m) count rest bytes s t old new e f h = absurd (not_at_end m (encoded rest) e)
 
     -- an item that leads nowhere, where this held before each item that it holds after
     pub read_each-nowhere : (P : S → Type 0) → ((s t : S) (v : V) → add s v ≡ Some t → P t → P s) → (left n : ℕ) (bytes after : List ℕ) (v : V) (s : S) → next_item encoded left bytes ≡ Some (Some (v, (n, after))) → IsNowhere P (add s v)

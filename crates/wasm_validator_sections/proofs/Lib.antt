@@ -1,5 +1,5 @@
 pub use Rattle.wasm_validator_items.proofs.WasmValidatorCoreResources as WasmValidatorCoreResources
-pub use Rattle.wasm_validator_references.proofs as WasmValidatorReferences
+pub use Rattle.wasm_validator_items.proofs.WasmValidatorReferences as WasmValidatorReferences
 pub use Rattle.wasm_validator_items.proofs.WasmValidatorCore.WasmValidatorChecks as WasmValidatorChecks
 pub use Rattle.wasm_laws_modules.proofs.WasmLawsCore as WasmLawsCore
 pub use Rattle.wasm_laws_modules.proofs.WasmLawsContexts as WasmLawsContexts
@@ -11,5 +11,4 @@ pub mod ConstantSections
 pub mod Forms
 pub mod Reading
 pub mod SectionEntries
-pub mod NotedNames
 pub mod GroupsGrow

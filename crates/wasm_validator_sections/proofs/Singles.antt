@@ -1,8 +1,7 @@
 -- What the calls for single items answer: an item that is read and typed in one pass is read by the grammar and then added, over what the
--- types of the list declare; and the functions that it names are marked.
-use Rattle.std.proofs.Common.{◌≡◌, sym, ap, subst, ◌∙◌, ℕ, ◌+◌, nat_le, Bool, true, false, if◌then◌else◌, List, length, Option, Some, None}
+-- types of the list declare.
+use Rattle.std.proofs.Common.{◌≡◌, sym, ap, subst, ◌∙◌, ℕ, ◌+◌, nat_le, Bool, true, if◌then◌else◌, List, length, Option, Some, None}
 use Rattle.std.specs.Prelude.{IfOk, IfErr}
-use Rattle.std.specs.Option.{option_map, option_and_then}
 use Rattle.std.specs.declared.result.Result.{Result}
 use Rattle.std.specs.declared.result.Result.TheVariants.{Ok, Err}
 use Rattle.wasm_spec.specs.BinarySections.{table_entry_at, global_entry_at, element_at, data_at}
@@ -23,12 +22,11 @@ use Rattle.wasm_validator_items.specs.WasmValidatorCoreResources.IndexContexts.{
 use Rattle.wasm_validator_items.specs.WasmValidatorCoreResources.ListContexts.{list_declares}
 use Rattle.wasm_laws_modules.specs.WasmLawsContexts.ListedTypes.{types_declare}
 use Rattle.wasm_laws_modules.proofs.WasmLawsContexts.ListedTypes.{lists_declare_their_types}
-use Rattle.wasm_validator_references.specs.WasmSpecValidity.Expressions.{expression_at}
-use Rattle.wasm_validator_references.specs.References.{marked, names_if, names_at}
+use Rattle.wasm_validator_items.specs.WasmValidatorReferences.WasmSpecValidity.Expressions.{expression_at}
 use Rattle.wasm_validator_items.specs.Answers.{Refuses}
 use Rattle.wasm_validator_items.specs.Entries.{add_table_entry, add_global_entry, add_element, add_data}
 use Rattle.wasm_validator_items.specs.Machine.{table_step, global_step, element_step, data_step}
-use Rattle.wasm_validator_items.specs.Sections.{read_one, read_one_of}
+use Rattle.wasm_validator_items.specs.Sections.{read_one}
 use Rattle.wasm_validator_items.proofs.Singles.{items_are_added}
 use Rattle.wasm_validator_sections.specs.Singles.{next_table, next_global, next_element, next_data}
 
@@ -94,25 +92,3 @@ module _ {A : Type 0} (F : Features) (c : Bool) (gs : List (List (SubType A))) (
   data_checked r u more here ok err =
       subst (λ (w : Spaces). Adds r (next_data F us s bytes) (w, more)) here
       (kept_adds r (data_step F ids u bytes) (next_data F us s bytes) (u, more) (ap (λ (w : Spaces). data_step F ids w bytes) here ∙ data_is) ok err)
-
-nothing : {X : Type 0} (x : X) → None ≡ Some x → ⊥
-nothing x e = cc
-
--- the functions that an item names are marked, where it is there
-module _ {S V : Type 0} (reads : List ℕ → Option (V × List ℕ)) (names : V → List ℕ) (add : S → V → Option S) (s : S) (bytes : List ℕ) (old new : List Bool)
-    (marks : (item : V) (more : List ℕ) → reads bytes ≡ Some (item, more) → new ≡ marked (names item) old) where
-  named : (found : S × List ℕ) (o : Option (V × List ℕ)) → reads bytes ≡ o → option_and_then (λ x. option_map (λ t. (t, x.1)) (add s x.0)) o ≡ Some found → new ≡ marked (names_at reads names bytes) old
-  named found None e h = absurd (nothing found h)
-  named found (Some x) e h =
-      marks x.0 x.1 e
-      ∙ ap (λ (o : Option (V × List ℕ)). marked (names_if names o) old) (sym e)
-
-  pub names_marked : (found : S × List ℕ) → read_one reads add s bytes ≡ Some found → new ≡ marked (names_at reads names bytes) old
-  names_marked found h = named found (reads bytes) (λ i. reads bytes) h
-
-  if_limited : (b : Bool) (o : Option (S × List ℕ)) (found : S × List ℕ) → (if b then o else None) ≡ Some found → o ≡ Some found
-  if_limited true o found h = h
-  if_limited false o found h = absurd (nothing found h)
-
-  pub limited_marked : (there most : ℕ) (found : S × List ℕ) → read_one_of reads add there most s bytes ≡ Some found → new ≡ marked (names_at reads names bytes) old
-  limited_marked there most found h = names_marked found (if_limited (nat_le (there + 1) most) (read_one reads add s bytes) found h)

@@ -1,4 +1,4 @@
-pub use Rattle.wasm_validator_references.specs as WasmValidatorReferences
+pub use Rattle.wasm_validator_items.specs.WasmValidatorReferences as WasmValidatorReferences
 pub use Rattle.wasm_validator_items.specs.WasmValidatorCore.WasmValidatorChecks as WasmValidatorChecks
 pub use Rattle.wasm_validator_items.specs.WasmValidatorCore as WasmValidatorCore
 pub use Rattle.wasm_laws_modules.specs.WasmLawsCore as WasmLawsCore

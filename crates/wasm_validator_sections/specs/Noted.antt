@@ -1,6 +1,6 @@
 -- What is noted of a module beside its lists, while its sections are read.
 use Rattle.std.specs.Prelude.{ℕ, Bool, List, [], Option, Some, None}
-use Rattle.wasm_validator_references.specs.References.{marked}
+use Rattle.wasm_validator_items.specs.WasmValidatorReferences.References.{marked}
 use Rattle.wasm_validator_sections.specs.declared.module_state.ModuleState.{ModuleState}
 
 -- What is noted of a module while its sections are read, beside its lists: the number of data segments that it is to have, if that is

@@ -9,8 +9,7 @@ use Rattle.wasm_validator_types.specs.Spaces.{Spaces}
 use Rattle.wasm_validator_items.specs.WasmValidatorCore.declared.limits.TheConstants.{MAX_ELEMENT_SEGMENTS}
 use Rattle.wasm_validator_items.specs.WasmValidatorCore.Answers.{TypesSoFar}
 use Rattle.wasm_laws_modules.specs.WasmLawsContexts.ListedTypes.{types_declare}
-use Rattle.wasm_validator_references.specs.WasmSpecValidity.Expressions.{expression_at}
-use Rattle.wasm_validator_references.specs.References.{names_at, table_names, global_names, element_names}
+use Rattle.wasm_validator_items.specs.WasmValidatorReferences.WasmSpecValidity.Expressions.{expression_at}
 use Rattle.wasm_validator_items.specs.Entries.{add_table_entry, add_global_entry, add_element, add_data}
 use Rattle.wasm_validator_items.specs.Sections.{read_one, read_one_of}
 
@@ -28,13 +27,3 @@ module _ (F : Features) (us : TypesSoFar) (s : Spaces) where
   -- nothing is added of a data segment
   abbrev pub next_data : List ℕ → Option (Spaces × List ℕ)
   next_data bytes = read_one (data_at expression_at) (add_data F (types_declare us us)) s bytes
-
--- the functions that the item names which the bytes begin with
-abbrev pub names_of_table : List ℕ → List ℕ
-names_of_table bytes = names_at (table_entry_at expression_at written) table_names bytes
-
-abbrev pub names_of_global : List ℕ → List ℕ
-names_of_global bytes = names_at (global_entry_at expression_at written) global_names bytes
-
-abbrev pub names_of_element : List ℕ → List ℕ
-names_of_element bytes = names_at (element_at expression_at written) element_names bytes

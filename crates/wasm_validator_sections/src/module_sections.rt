@@ -3,7 +3,9 @@
 ghost use Rattle.std.specs.Prelude.{◌≡◌, OnOk, IfErr, IsTrue};
 ghost use Rattle.wasm_spec_rules.specs.FeatureFlags.{features_of};
 ghost use Rattle.wasm_readers.specs.SectionsSeen.{count_of, bytes_of, section_start, section_end};
-ghost use Rattle.wasm_validator_references.specs.References.{names_of_tables, names_of_globals, names_of_exports, names_of_elements};
+ghost use Rattle.wasm_spec_rules.specs.LinkRules.{exported_functions};
+ghost use Rattle.wasm_readers.specs.Items.{export_of};
+ghost use Rattle.wasm_validator_items.specs.WasmValidatorReferences.References.{marked, names_of_tables, names_of_globals, names_of_exports, names_of_elements};
 ghost use Rattle.wasm_validator_sections.specs.Noted.{naming, noted_of};
 ghost use Rattle.wasm_validator_type_list.specs.DefTypes.{types_of_list};
 ghost use Rattle.wasm_validator_items.specs.WasmValidatorCore.WasmValidatorCanonical.Groups.{AreValid};
@@ -14,16 +16,18 @@ ghost use Rattle.wasm_validator_sections.specs.Machine.{type_items, import_items
 ghost use Rattle.wasm_validator_sections.specs.SectionsTold.{OfContent, StandsBetween, TellsTypes, TellsImports, TellsFunctions, TellsTables, TellsMemories, TellsTags, TellsGlobals, TellsExports, TellsElements, TellsData};
 
 use crate::{Constants, ModuleState, tells_types_apart};
-use std::alloc::Allocator;
+use std::alloc::{AllocError, Allocator};
+use wasm_parser::items::{Data, Element, Global, Table};
 use wasm_readers::{
-    Counted, Data, Element, Export, Global, Import, MemoryType, RecGroup, SectionLimited, Table,
-    TagType, WasmFeatures,
+    Counted, Export, ExternalKind, Import, MemoryType, RecGroup, SectionLimited, TagType,
+    WasmFeatures,
 };
+use wasm_validator_items::references::ReferencedFunctions;
 use wasm_validator_items::validator_core::{
     Error, MAX_DATA_SEGMENTS, MAX_ELEMENT_SEGMENTS, MAX_EXPORTS, MAX_FUNCTIONS, MAX_GLOBALS,
     MAX_IMPORTS, MAX_TAGS, MAX_TYPES, Module, check_max,
 };
-use wasm_validator_references::{mark_elements, mark_exports, mark_globals, mark_tables};
+use wasm_validator_items::{ElementItem, GlobalItem, TableItem, add_items};
 use wasm_validator_types::{IndexSpaces, TypeList};
 
 /// Adds the types of a type section.
@@ -124,44 +128,6 @@ pub fn add_functions<A: Allocator + Copy>(
     Ok(())
 }
 
-/// Adds the tables of a table section, with what their entries begin with.
-fn add_tables<'a, A: Allocator + Copy>(
-    features: WasmFeatures,
-    list: &TypeList<A>,
-    constants: &mut Constants<A>,
-    opened: &mut Module<A>,
-    section: &SectionLimited<'a, Table<'a>, A>,
-) -> Result<(), Error<A>>
-    requires held { AreHeld list.now opened.old.types }
-    requires first { AreFirstByIds list.now.groups constants.old.types }
-    ensures added { Adds result (table_items (features_of features) (types_of_list list.now)
-        (count_of section.now) (bytes_of section.now) opened.old) opened.new }
-    ensures types { opened.new.types ≡ opened.old.types }
-    ensures first { AreFirstByIds list.now.groups constants.new.types }
-    ensures place { IfErr result (StandsBetween (section_start section.now)
-        (section_end section.now)) }
-    ensures told { IfErr result (OfContent (TellsTables section.now features opened.old)) }
-{
-    check_max(
-        opened.spaces().table_count() as usize,
-        section.count() as usize,
-        opened.max_tables(features),
-        Counted::Tables,
-        section.range().start,
-    )?;
-    tells_types_apart(list);
-    constants.update(list)?;
-    wasm_validator_items::add_tables(
-        features,
-        list,
-        &constants.types,
-        &mut constants.memory,
-        opened,
-        section.count(),
-        section.reader(),
-    )
-}
-
 /// Adds the memories of a memory section.
 pub fn add_memories<A: Allocator + Copy>(
     features: WasmFeatures,
@@ -216,112 +182,6 @@ pub fn add_tags<A: Allocator + Copy>(
     let mut tags = section.items();
     'tags: while let Some((offset, ty)) = tags.read_next()? {
         opened.add_tag(features, list, ty, offset)?;
-    }
-    Ok(())
-}
-
-/// Adds the globals of a global section, with their initializers.
-fn add_globals<'a, A: Allocator + Copy>(
-    features: WasmFeatures,
-    list: &TypeList<A>,
-    constants: &mut Constants<A>,
-    opened: &mut Module<A>,
-    section: &SectionLimited<'a, Global<'a>, A>,
-) -> Result<(), Error<A>>
-    requires held { AreHeld list.now opened.old.types }
-    requires first { AreFirstByIds list.now.groups constants.old.types }
-    ensures added { Adds result (global_items (features_of features) (types_of_list list.now)
-        (count_of section.now) (bytes_of section.now) opened.old) opened.new }
-    ensures types { opened.new.types ≡ opened.old.types }
-    ensures first { AreFirstByIds list.now.groups constants.new.types }
-    ensures place { IfErr result (StandsBetween (section_start section.now)
-        (section_end section.now)) }
-    ensures told { IfErr result (OfContent (TellsGlobals section.now opened.old)) }
-{
-    check_max(
-        opened.spaces().global_count() as usize,
-        section.count() as usize,
-        MAX_GLOBALS,
-        Counted::Globals,
-        section.range().start,
-    )?;
-    tells_types_apart(list);
-    constants.update(list)?;
-    wasm_validator_items::add_globals(
-        features,
-        list,
-        &constants.types,
-        &mut constants.memory,
-        opened,
-        section.count(),
-        section.reader(),
-    )
-}
-
-/// Adds the element segments of an element section.
-fn add_elements<'a, A: Allocator + Copy>(
-    features: WasmFeatures,
-    list: &TypeList<A>,
-    constants: &mut Constants<A>,
-    opened: &mut Module<A>,
-    section: &SectionLimited<'a, Element<'a>, A>,
-) -> Result<(), Error<A>>
-    requires held { AreHeld list.now opened.old.types }
-    requires first { AreFirstByIds list.now.groups constants.old.types }
-    ensures added { Adds result (element_items (features_of features) (types_of_list list.now)
-        (count_of section.now) (bytes_of section.now) opened.old) opened.new }
-    ensures types { opened.new.types ≡ opened.old.types }
-    ensures first { AreFirstByIds list.now.groups constants.new.types }
-    ensures place { IfErr result (StandsBetween (section_start section.now)
-        (section_end section.now)) }
-    ensures told { IfErr result (OfContent (TellsElements section.now opened.old)) }
-{
-    check_max(
-        opened.spaces().element_count() as usize,
-        section.count() as usize,
-        MAX_ELEMENT_SEGMENTS,
-        Counted::ElementSegments,
-        section.range().start,
-    )?;
-    tells_types_apart(list);
-    constants.update(list)?;
-    wasm_validator_items::add_elements(
-        features,
-        list,
-        &constants.types,
-        &mut constants.memory,
-        opened,
-        section.count(),
-        section.reader(),
-    )
-}
-
-/// Adds the exports of an export section.
-fn add_exports<'a, A: Allocator + Copy>(
-    features: WasmFeatures,
-    alloc: A,
-    list: &TypeList<A>,
-    opened: &mut Module<A>,
-    section: &SectionLimited<'a, Export<'a>, A>,
-) -> Result<(), Error<A>>
-    ensures added { Adds result (export_items (features_of features) (types_of_list list.now)
-        (count_of section.now) (bytes_of section.now) opened.old) opened.new }
-    ensures types { opened.new.types ≡ opened.old.types }
-    ensures place { IfErr result (StandsBetween (section_start section.now)
-        (section_end section.now)) }
-    ensures told { IfErr result (OfContent (TellsExports features section.now
-        (types_of_list list.now) opened.old)) }
-{
-    check_max(
-        opened.spaces().export_count(),
-        section.count() as usize,
-        MAX_EXPORTS,
-        Counted::Exports,
-        section.range().start,
-    )?;
-    let mut exports = section.items();
-    'exports: while let Some((offset, export)) = exports.read_next()? {
-        opened.add_export(features, alloc, list, &export, offset)?;
     }
     Ok(())
 }
@@ -384,13 +244,25 @@ pub fn take_tables<'a, A: Allocator + Copy>(
         (section_end section.now)) }
     ensures told { IfErr result (OfContent (TellsTables section.now features state.old.«module»)) }
 {
-    match add_tables(features, list, constants, &mut state.module, section) {
-        Ok(()) => {
-            mark_tables(&mut state.referenced, section)?;
-            Ok(())
-        }
-        Err(error) => Err(error),
-    }
+    check_max(
+        state.module.spaces().table_count() as usize,
+        section.count() as usize,
+        state.module.max_tables(features),
+        Counted::Tables,
+        section.range().start,
+    )?;
+    tells_types_apart(list);
+    constants.update(list)?;
+    add_items::<A, TableItem>(
+        features,
+        list,
+        &constants.types,
+        &mut constants.memory,
+        &mut state.module,
+        &mut state.referenced,
+        section.count(),
+        section.reader(),
+    )
 }
 
 /// Adds the globals of a global section, and notes the functions that they name.
@@ -414,13 +286,25 @@ pub fn take_globals<'a, A: Allocator + Copy>(
         (section_end section.now)) }
     ensures told { IfErr result (OfContent (TellsGlobals section.now state.old.«module»)) }
 {
-    match add_globals(features, list, constants, &mut state.module, section) {
-        Ok(()) => {
-            mark_globals(&mut state.referenced, section)?;
-            Ok(())
-        }
-        Err(error) => Err(error),
-    }
+    check_max(
+        state.module.spaces().global_count() as usize,
+        section.count() as usize,
+        MAX_GLOBALS,
+        Counted::Globals,
+        section.range().start,
+    )?;
+    tells_types_apart(list);
+    constants.update(list)?;
+    add_items::<A, GlobalItem>(
+        features,
+        list,
+        &constants.types,
+        &mut constants.memory,
+        &mut state.module,
+        &mut state.referenced,
+        section.count(),
+        section.reader(),
+    )
 }
 
 /// Adds the element segments of an element section, and notes the functions that they name.
@@ -444,12 +328,38 @@ pub fn take_elements<'a, A: Allocator + Copy>(
         (section_end section.now)) }
     ensures told { IfErr result (OfContent (TellsElements section.now state.old.«module»)) }
 {
-    match add_elements(features, list, constants, &mut state.module, section) {
-        Ok(()) => {
-            mark_elements(&mut state.referenced, section)?;
-            Ok(())
-        }
-        Err(error) => Err(error),
+    check_max(
+        state.module.spaces().element_count() as usize,
+        section.count() as usize,
+        MAX_ELEMENT_SEGMENTS,
+        Counted::ElementSegments,
+        section.range().start,
+    )?;
+    tells_types_apart(list);
+    constants.update(list)?;
+    add_items::<A, ElementItem>(
+        features,
+        list,
+        &constants.types,
+        &mut constants.memory,
+        &mut state.module,
+        &mut state.referenced,
+        section.count(),
+        section.reader(),
+    )
+}
+
+/// Notes the function that is exported, if it is a function.
+fn note_export<A: Allocator + Copy>(
+    referenced: &mut ReferencedFunctions<A>,
+    export: &Export<'_>,
+) -> Result<(), AllocError>
+    ensures { OnOk result (referenced.new
+        ≡ marked (exported_functions (export_of export.now)) referenced.old) }
+{
+    match export.kind {
+        ExternalKind::Func => referenced.mark(export.index),
+        _ => Ok(()),
     }
 }
 
@@ -472,11 +382,19 @@ pub fn take_exports<'a, A: Allocator + Copy>(
     ensures told { IfErr result (OfContent (TellsExports features section.now
         (types_of_list list.now) state.old.«module»)) }
 {
-    match add_exports(features, alloc, list, &mut state.module, section) {
-        Ok(()) => {
-            mark_exports(&mut state.referenced, section)?;
-            Ok(())
-        }
-        Err(error) => Err(error),
+    check_max(
+        state.module.spaces().export_count(),
+        section.count() as usize,
+        MAX_EXPORTS,
+        Counted::Exports,
+        section.range().start,
+    )?;
+    let mut exports = section.items();
+    'exports: while let Some((offset, export)) = exports.read_next()? {
+        state
+            .module
+            .add_export(features, alloc, list, &export, offset)?;
+        note_export(&mut state.referenced, &export)?;
     }
+    Ok(())
 }

@@ -12,16 +12,16 @@ ghost use Rattle.wasm_validator_items.specs.WasmValidatorCore.Ready.{AreHeld};
 ghost use Rattle.wasm_validator_items.specs.WasmValidatorCore.Told.{Tells, told_of_added_table};
 ghost use Rattle.wasm_validator_items.specs.WasmValidatorCore.Items.{add_table};
 ghost use Rattle.wasm_validator_items.specs.WasmValidatorCoreResources.ById.{AreFirstByIds};
-ghost use Rattle.wasm_validator_references.specs.References.{marked};
+ghost use Rattle.wasm_validator_items.specs.WasmValidatorReferences.References.{marked, names_of_table, names_of_global, names_of_element};
 ghost use Rattle.wasm_validator_items.specs.Answers.{StandsBehind};
-ghost use Rattle.wasm_validator_sections.specs.Singles.{next_table, next_global, next_element, next_data, names_of_table, names_of_global, names_of_element};
+ghost use Rattle.wasm_validator_sections.specs.Singles.{next_table, next_global, next_element, next_data};
 
 use crate::single_items;
 use std::alloc::{Allocator, Global};
 use wasm_readers::{BinaryReader, TableType, WasmFeatures};
 use wasm_validator_items::Constants;
+use wasm_validator_items::references::ReferencedFunctions;
 use wasm_validator_items::validator_core::{Error, Module};
-use wasm_validator_references::{ReferencedFunctions, mark_element, mark_global, mark_table};
 use wasm_validator_types::TypeList;
 
 /// A module while its sections are read.
@@ -112,14 +112,14 @@ impl<A: Allocator + Copy> ModuleState<A> {
         ensures onward { position_in reader.old ≤ position_in reader.new }
         ensures place { IfErr result (StandsBehind reader.old) }
     {
-        let item = *reader;
-        match single_items::add_table(features, list, constants, &mut self.module, reader) {
-            Ok(()) => {
-                mark_table(&mut self.referenced, item)?;
-                Ok(())
-            }
-            Err(error) => Err(error),
-        }
+        single_items::add_table(
+            features,
+            list,
+            constants,
+            &mut self.module,
+            &mut self.referenced,
+            reader,
+        )
     }
 
     /// Adds the global that the bytes begin with, and notes the functions that it names. Its
@@ -156,14 +156,14 @@ impl<A: Allocator + Copy> ModuleState<A> {
         ensures onward { position_in reader.old ≤ position_in reader.new }
         ensures place { IfErr result (StandsBehind reader.old) }
     {
-        let item = *reader;
-        match single_items::add_global(features, list, constants, &mut self.module, reader) {
-            Ok(()) => {
-                mark_global(&mut self.referenced, item)?;
-                Ok(())
-            }
-            Err(error) => Err(error),
-        }
+        single_items::add_global(
+            features,
+            list,
+            constants,
+            &mut self.module,
+            &mut self.referenced,
+            reader,
+        )
     }
 
     /// Adds the element segment that the bytes begin with, and notes the functions that it names. Its
@@ -199,14 +199,14 @@ impl<A: Allocator + Copy> ModuleState<A> {
         ensures onward { position_in reader.old ≤ position_in reader.new }
         ensures place { IfErr result (StandsBehind reader.old) }
     {
-        let item = *reader;
-        match single_items::add_element(features, list, constants, &mut self.module, reader) {
-            Ok(()) => {
-                mark_element(&mut self.referenced, item)?;
-                Ok(())
-            }
-            Err(error) => Err(error),
-        }
+        single_items::add_element(
+            features,
+            list,
+            constants,
+            &mut self.module,
+            &mut self.referenced,
+            reader,
+        )
     }
 
     /// Checks the data segment that the bytes begin with, which adds nothing to the module. Its

@@ -8,11 +8,13 @@ ghost use Rattle.wasm_validator_type_list.specs.DefTypes.{types_of_list};
 ghost use Rattle.wasm_validator_items.specs.WasmValidatorCore.Answers.{Adds};
 ghost use Rattle.wasm_validator_items.specs.WasmValidatorCore.Ready.{AreHeld};
 ghost use Rattle.wasm_validator_items.specs.WasmValidatorCoreResources.ById.{AreFirstByIds};
+ghost use Rattle.wasm_validator_items.specs.WasmValidatorReferences.References.{marked, names_of_table, names_of_global, names_of_element};
 ghost use Rattle.wasm_validator_items.specs.Answers.{StandsBehind};
 ghost use Rattle.wasm_validator_sections.specs.Singles.{next_table, next_global, next_element, next_data};
 
 use std::alloc::Allocator;
 use wasm_readers::{BinaryReader, Counted, Refusal, WasmFeatures};
+use wasm_validator_items::references::ReferencedFunctions;
 use wasm_validator_items::validator_core::{Error, MAX_ELEMENT_SEGMENTS, Module, check_max};
 use wasm_validator_items::{
     Constants, add_next_element, add_next_global, add_next_table, check_next_data,
@@ -20,18 +22,21 @@ use wasm_validator_items::{
 };
 use wasm_validator_types::TypeList;
 
-/// Adds the table that the bytes begin with.
+/// Adds the table that the bytes begin with, and notes the functions that it names.
 pub(crate) fn add_table<'a, A: Allocator + Copy>(
     features: WasmFeatures,
     list: &TypeList<A>,
     constants: &mut Constants<A>,
     opened: &mut Module<A>,
+    referenced: &mut ReferencedFunctions<A>,
     reader: &mut BinaryReader<'a>,
 ) -> Result<(), Error<A>>
     requires held { AreHeld list.now opened.old.types }
     requires first { AreFirstByIds list.now.groups constants.old.types }
     ensures added { Adds result (next_table (features_of features) (types_of_list list.now)
         opened.old (rest reader.old)) (opened.new, rest reader.new) }
+    ensures noted { OnOk result (referenced.new
+        ≡ marked (names_of_table (rest reader.old)) referenced.old) }
     ensures types { opened.new.types ≡ opened.old.types }
     ensures first { AreFirstByIds list.now.groups constants.new.types }
     ensures input { SameInput reader.old reader.new }
@@ -46,22 +51,26 @@ pub(crate) fn add_table<'a, A: Allocator + Copy>(
         &constants.types,
         &mut constants.memory,
         opened,
+        referenced,
         reader,
     )
 }
 
-/// Adds the global that the bytes begin with.
+/// Adds the global that the bytes begin with, and notes the functions that it names.
 pub(crate) fn add_global<'a, A: Allocator + Copy>(
     features: WasmFeatures,
     list: &TypeList<A>,
     constants: &mut Constants<A>,
     opened: &mut Module<A>,
+    referenced: &mut ReferencedFunctions<A>,
     reader: &mut BinaryReader<'a>,
 ) -> Result<(), Error<A>>
     requires held { AreHeld list.now opened.old.types }
     requires first { AreFirstByIds list.now.groups constants.old.types }
     ensures added { Adds result (next_global (features_of features) (types_of_list list.now)
         opened.old (rest reader.old)) (opened.new, rest reader.new) }
+    ensures noted { OnOk result (referenced.new
+        ≡ marked (names_of_global (rest reader.old)) referenced.old) }
     ensures types { opened.new.types ≡ opened.old.types }
     ensures first { AreFirstByIds list.now.groups constants.new.types }
     ensures input { SameInput reader.old reader.new }
@@ -76,6 +85,7 @@ pub(crate) fn add_global<'a, A: Allocator + Copy>(
         &constants.types,
         &mut constants.memory,
         opened,
+        referenced,
         reader,
     )
 }
@@ -96,18 +106,21 @@ fn check_element_room<A: Allocator + Copy>(opened: &Module<A>, offset: u64) -> R
     )
 }
 
-/// Adds the element segment that the bytes begin with.
+/// Adds the element segment that the bytes begin with, and notes the functions that it names.
 pub(crate) fn add_element<'a, A: Allocator + Copy>(
     features: WasmFeatures,
     list: &TypeList<A>,
     constants: &mut Constants<A>,
     opened: &mut Module<A>,
+    referenced: &mut ReferencedFunctions<A>,
     reader: &mut BinaryReader<'a>,
 ) -> Result<(), Error<A>>
     requires held { AreHeld list.now opened.old.types }
     requires first { AreFirstByIds list.now.groups constants.old.types }
     ensures added { Adds result (next_element (features_of features) (types_of_list list.now)
         opened.old (rest reader.old)) (opened.new, rest reader.new) }
+    ensures noted { OnOk result (referenced.new
+        ≡ marked (names_of_element (rest reader.old)) referenced.old) }
     ensures types { opened.new.types ≡ opened.old.types }
     ensures first { AreFirstByIds list.now.groups constants.new.types }
     ensures input { SameInput reader.old reader.new }
@@ -123,6 +136,7 @@ pub(crate) fn add_element<'a, A: Allocator + Copy>(
         &constants.types,
         &mut constants.memory,
         opened,
+        referenced,
         reader,
     )
 }

@@ -6,9 +6,11 @@ use Rattle.std.specs.Option.{option_and_then}
 use Rattle.wasm_spec.specs.Values.{u32_at, bytes_at}
 use Rattle.wasm_spec_rules.specs.Contexts.{Context}
 use Rattle.wasm_readers_types.specs.WasmReadersValues.declared.indices.UnpackedIndex.{UnpackedIndex}
+use Rattle.wasm_validator_constants.specs.WasmValidatorReferences.Notes.{noting}
 use Rattle.wasm_validator_segments.specs.Elements.{behind_function}
 use Rattle.wasm_validator_segments.specs.Lists.{behind_many}
-use Rattle.wasm_validator_segments.specs.Known.{AreAtMost, AreFunctions}
+use Rattle.wasm_validator_segments.specs.Known.{AreAtMost, AreFunctions, NameThemselves}
+use Rattle.wasm_validator_segments.specs.Named.{itself, names_of_functions}
 
 -- a byte below 128 is a number alone
 single : (n : ℕ) (more : List ℕ) → n < 128 → u32_at (n ∷ more) ≡ Some (n, more)
@@ -50,6 +52,13 @@ module _ (C : Context UnpackedIndex) where
       ap (option_and_then (behind_many (behind_function C) (length bytes))) (one_function b most (bytes ++ more) (omega (arith, first, low)) first has)
       ∙ known most bytes low has (λ i h. all (suc i) (omega (arith, h))) more
 
+  pub name_themselves : (most : ℕ) (bytes : List ℕ) → most < 128 → AreAtMost most bytes → NameThemselves bytes
+  name_themselves most [] low all more = refl
+  name_themselves most (b ∷ bytes) low all more =
+      let first : b ≤ most = all zero (omega arith) in
+      ap (λ (o : Option (ℕ × List ℕ)). elim o [ None ↦ [] | Some x ↦ itself x.0 ++ names_of_functions (length bytes) x.1 ]) (single b (bytes ++ more) (omega (arith, first, low)))
+      ∙ ap (λ (xs : List ℕ). b ∷ xs) (name_themselves most bytes low (λ i h. all (suc i) (omega (arith, h))) more)
+
   cut_by : (n : ℕ) (xs : List ℕ) (p : Parted) (c : Bool) → c ≡ nat_lt (length xs) n → (if c then None else Some (cut n xs)) ≡ Some p → (length p.0 ≡ n) × (xs ≡ p.0 ++ p.1)
   cut_by n xs p true h e = cc
   cut_by n xs p false h e =
@@ -64,3 +73,9 @@ module _ (C : Context UnpackedIndex) where
       let p : Parted = (ys, zs) in
       let parts = cut_by n xs p (nat_lt (length xs) n) refl e in
       (λ i. behind_many (behind_function C) (sym parts.0 i) (parts.1 i)) ∙ h zs
+
+  pub all_named : {S : Type 0} (note : ℕ → S → S) (kept next : S) (n : ℕ) (xs ys zs : List ℕ) → bytes_at n xs ≡ Some (ys, zs) → NameThemselves ys → next ≡ noting note ys kept → next ≡ noting note (names_of_functions n xs) kept
+  all_named note kept next n xs ys zs e h f =
+      let p : Parted = (ys, zs) in
+      let parts = cut_by n xs p (nat_lt (length xs) n) refl e in
+      f ∙ ap (λ (names : List ℕ). noting note names kept) (sym ((λ i. names_of_functions (sym parts.0 i) (parts.1 i)) ∙ h zs))

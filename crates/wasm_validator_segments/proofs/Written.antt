@@ -10,7 +10,7 @@ use Rattle.wasm_spec.proofs.Renaming.{Renames, renames_if, renames_map, renames_
 use Rattle.wasm_readers.specs.Written.{written}
 use Rattle.wasm_readers_types.specs.WasmReadersValues.declared.indices.UnpackedIndex.{UnpackedIndex}
 use Rattle.wasm_validator_resources.specs.Answers.{IsWrittenHeap, IsWrittenVal}
-use Rattle.wasm_validator_segments.specs.Elements.{written_type_at}
+use Rattle.wasm_items.specs.Written.{written_type_at}
 
 heap_written : (h : Heap ℕ) → IsWrittenHeap (map_heap written h)
 heap_written (abstract_heap s a) = tt

@@ -4,12 +4,12 @@ use Rattle.std.specs.Prelude.{ℕ, Bool, true, false, ◌==◌, nat_lt, if◌the
 use Rattle.std.specs.Option.{option_map, option_and_then}
 use Rattle.wasm_spec.specs.Syntax.{Ref, Val, reference}
 use Rattle.wasm_spec.specs.Values.{u32_at}
-use Rattle.wasm_spec.specs.BinaryTypes.{has_bit, flags_at, ref_at}
-use Rattle.wasm_spec.specs.BinarySections.{funcref, ref_func}
+use Rattle.wasm_spec.specs.BinaryTypes.{has_bit, flags_at}
+use Rattle.wasm_spec.specs.BinarySections.{ref_func}
 use Rattle.wasm_spec.specs.MatchingTests.{matches_val}
 use Rattle.wasm_spec.specs.Features.{Features}
 use Rattle.wasm_spec_rules.specs.Contexts.{Context}
-use Rattle.wasm_readers.specs.Written.{written}
+use Rattle.wasm_items.specs.Written.{written_type_at}
 use Rattle.wasm_readers_types.specs.WasmReadersValues.declared.indices.UnpackedIndex.{UnpackedIndex}
 use Rattle.wasm_spec_rules.specs.Attempts.{passes}
 use Rattle.wasm_validator_resources.specs.Answers.{world, val_in}
@@ -21,10 +21,6 @@ use Rattle.wasm_validator_segments.specs.Offsets.{behind_table_offset}
 abbrev pub index_if : Bool → List ℕ → Option (ℕ × List ℕ)
 index_if true bytes = u32_at bytes
 index_if false bytes = Some (0, bytes)
-
--- the type of expressions: for the flag 4 it isn't written
-abbrev pub written_type_at : ℕ → List ℕ → Option (Ref UnpackedIndex × List ℕ)
-written_type_at flag bytes = if flag == 4 then Some (funcref, bytes) else ref_at written bytes
 
 module _ (C : Context UnpackedIndex) where
   -- the index of a function that is there

@@ -1,3 +1,4 @@
+pub use Rattle.wasm_validator_constants.specs.WasmValidatorReferences as WasmValidatorReferences
 pub use Rattle.wasm_validator_constants.specs.Checked
 pub mod Expressions
 pub mod Numbers
@@ -6,6 +7,7 @@ pub mod Globals
 pub mod Data
 pub mod Lists
 pub mod Elements
+pub mod Named
 pub mod Known
 pub mod Plain
 pub mod Answers

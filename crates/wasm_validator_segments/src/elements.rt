@@ -1,27 +1,30 @@
 //! Element segments.
 
-ghost use Rattle.std.specs.Prelude.{◌≡◌, ◌≤◌, IfErr, IfOk, OnErr, Some, None};
-ghost use Rattle.wasm_spec.specs.BinaryTypes.{flags_at};
+ghost use Rattle.std.specs.Prelude.{◌≡◌, ◌≤◌, IfErr, IfOk, OnOk, OnErr, Some, None};
 ghost use Rattle.wasm_spec_rules.specs.FeatureFlags.{features_of};
 ghost use Rattle.wasm_readers.specs.WasmReadersBytes.Reader.{SameInput, position_in, rest, RefusedFrom};
 ghost use Rattle.wasm_readers_errors.specs.Errors.{Reads};
-ghost use Rattle.wasm_readers_types.specs.WasmReadersValues.SeenValues.{val_of, ref_of};
+ghost use Rattle.wasm_readers_types.specs.WasmReadersValues.SeenValues.{val_of};
 ghost use Rattle.wasm_validator_constants.specs.Checked.{IsRefusedAt, StandsIn};
+ghost use Rattle.wasm_validator_constants.specs.WasmValidatorReferences.Notes.{noting};
+ghost use Rattle.wasm_validator_constants.specs.WasmValidatorReferences.References.{names_of_element};
 ghost use Rattle.wasm_validator_segments.specs.Answers.{GoesPast};
-ghost use Rattle.wasm_validator_segments.specs.Elements.{index_if, written_type_at, may_go, reference_at, items_type_at, segment_table_at, behind_items, typed_items_at, typed_element_from, typed_element_at};
+ghost use Rattle.wasm_validator_segments.specs.Elements.{index_if, may_go, reference_at, items_type_at, segment_table_at, behind_items, typed_items_at, typed_element_from, typed_element_at};
+ghost use Rattle.wasm_validator_segments.specs.Named.{names_of_place, names_of_items, names_of_element_from};
 
 use crate::data::{no_bulk_memory, unknown_flag};
 use crate::globals::refused_at;
-use crate::lists::{check_expression_list, check_function_list};
+use crate::lists::{check_expression_list, check_function_list, check_functions};
 use crate::memory::ExpressionMemory;
 use crate::offsets::check_table_offset;
 use crate::plain::next_plain_segment;
 use bitflags::Flags;
 use std::alloc::Allocator;
+use wasm_items::{read_kind, read_written_type};
 use wasm_readers::BinaryReader;
-use wasm_readers::types::read_ref_type;
 use wasm_readers_errors::{Error, Fault, ItemRule, Malformed, Refusal, WasmFeatures};
 use wasm_readers_types::{RefType, ValType};
+use wasm_validator_constants::references::NotesFunctions;
 use wasm_validator_resources::WasmModuleResources;
 
 /// An index where one is written, and else the first.
@@ -33,39 +36,6 @@ fn read_index_if(reader: &mut BinaryReader<'_>, there: bool) -> Result<u32, Refu
     ensures err { OnErr result (index_if there (rest reader.old) ≡ None) }
 {
     if there { reader.read_var_u32() } else { Ok(0) }
-}
-
-/// The kind of items that are indices of functions.
-#[tactic(auto, unfolding(wasm_spec::specs::BinaryTypes::flags_at))]
-fn read_kind(reader: &mut BinaryReader<'_>) -> Result<u8, Refusal>
-    ensures same { SameInput reader.old reader.new }
-    ensures onward { position_in reader.old ≤ position_in reader.new }
-    ensures refusal { IfErr result (RefusedFrom reader.old) }
-    ensures ok { IfOk result (λ x. flags_at 0 (rest reader.old) ≡ Some (x, rest reader.new)) }
-    ensures err { OnErr result (flags_at 0 (rest reader.old) ≡ None) }
-{
-    let offset = reader.original_position();
-    let kind = reader.read_u8()?;
-    if kind > 0 {
-        return Err(Refusal::new(Fault::Malformed(Malformed::ElementKind), offset));
-    }
-    Ok(kind)
-}
-
-/// The type of expressions, as it is written.
-fn read_written_type(flag: u32, reader: &mut BinaryReader<'_>) -> Result<RefType, Refusal>
-    ensures same { SameInput reader.old reader.new }
-    ensures onward { position_in reader.old ≤ position_in reader.new }
-    ensures refusal { IfErr result (RefusedFrom reader.old) }
-    ensures ok { IfOk result (λ x. written_type_at flag (rest reader.old)
-        ≡ Some (ref_of x, rest reader.new)) }
-    ensures err { OnErr result (written_type_at flag (rest reader.old) ≡ None) }
-{
-    if flag == 4 {
-        Ok(RefType::FUNCREF)
-    } else {
-        read_ref_type(reader)
-    }
 }
 
 /// The type of expressions, with the identity in the place of its type index.
@@ -114,16 +84,18 @@ fn check_items_type<'a, T: WasmModuleResources>(
 
 /// The table that a segment with this flag goes to, if it goes to one, behind its offset.
 #[tactic(auto, unfolding(crate::specs::Elements::segment_table_at))]
-fn check_segment_table<'a, A: Allocator + Copy, T: WasmModuleResources>(
+fn check_segment_table<'a, A: Allocator + Copy, T: WasmModuleResources, N: NotesFunctions>(
     memory: &mut ExpressionMemory<A>,
     features: WasmFeatures,
     resources: &T,
     imported_globals: u32,
     flag: u32,
+    notes: &mut N,
     reader: &mut BinaryReader<'a>,
 ) -> Result<Option<u32>, Error>
     ensures reads { Reads (λ x. x) result (segment_table_at (T.context resources.now)
         (features_of features) imported_globals flag (rest reader.old)) (rest reader.new) }
+    ensures noted { OnOk result (notes.new ≡ noting N.note (names_of_place flag (rest reader.old)) notes.old) }
     ensures input { SameInput reader.old reader.new }
     ensures onward { position_in reader.old ≤ position_in reader.new }
     ensures place { IfErr result (StandsIn reader.old) }
@@ -142,6 +114,7 @@ fn check_segment_table<'a, A: Allocator + Copy, T: WasmModuleResources>(
         resources,
         imported_globals,
         table_index,
+        notes,
         reader,
     )?;
     Ok(Some(table_index))
@@ -161,26 +134,36 @@ fn may_go<T: WasmModuleResources>(resources: &T, table: Option<u32>, ty: ValType
 }
 
 /// Reads the items of a segment with this flag, which are of this type.
-fn check_items<'a, A: Allocator + Copy, T: WasmModuleResources>(
+fn check_items<'a, A: Allocator + Copy, T: WasmModuleResources, N: NotesFunctions>(
     memory: &mut ExpressionMemory<A>,
     features: WasmFeatures,
     resources: &T,
     imported_globals: u32,
     flag: u32,
     ty: ValType,
+    notes: &mut N,
     reader: &mut BinaryReader<'a>,
 ) -> Result<(), Error>
     ensures past { GoesPast result (behind_items (T.context resources.now)
         (features_of features) imported_globals flag (val_of ty) (rest reader.old))
         (rest reader.new) }
+    ensures noted { OnOk result (notes.new ≡ noting N.note (names_of_items flag (rest reader.old)) notes.old) }
     ensures input { SameInput reader.old reader.new }
     ensures onward { position_in reader.old ≤ position_in reader.new }
     ensures place { IfErr result (StandsIn reader.old) }
 {
     if flag & 4 != 0 {
-        return check_expression_list(memory, features, resources, imported_globals, ty, reader);
+        return check_expression_list(
+            memory,
+            features,
+            resources,
+            imported_globals,
+            ty,
+            notes,
+            reader,
+        );
     }
-    check_function_list(resources, reader)?;
+    check_function_list(resources, notes, reader)?;
     Ok(())
 }
 
@@ -194,7 +177,7 @@ fn wrong_items(offset: u64) -> Error
 
 /// Reads the items of a segment with this flag, which are of this type and go to this table, if
 /// they go to one.
-fn check_items_for<'a, A: Allocator + Copy, T: WasmModuleResources>(
+fn check_items_for<'a, A: Allocator + Copy, T: WasmModuleResources, N: NotesFunctions>(
     memory: &mut ExpressionMemory<A>,
     features: WasmFeatures,
     resources: &T,
@@ -202,11 +185,13 @@ fn check_items_for<'a, A: Allocator + Copy, T: WasmModuleResources>(
     flag: u32,
     table: Option<u32>,
     ty: ValType,
+    notes: &mut N,
     reader: &mut BinaryReader<'a>,
 ) -> Result<ValType, Error>
     ensures reads { Reads val_of result (typed_items_at (T.context resources.now)
         (features_of features) imported_globals flag table (val_of ty) (rest reader.old))
         (rest reader.new) }
+    ensures noted { OnOk result (notes.new ≡ noting N.note (names_of_items flag (rest reader.old)) notes.old) }
     ensures input { SameInput reader.old reader.new }
     ensures onward { position_in reader.old ≤ position_in reader.new }
     ensures place { IfErr result (StandsIn reader.old) }
@@ -221,28 +206,39 @@ fn check_items_for<'a, A: Allocator + Copy, T: WasmModuleResources>(
         imported_globals,
         flag,
         ty,
+        notes,
         reader,
     )?;
     Ok(ty)
 }
 
 /// Reads an element segment with this flag, which is at most 7.
-fn check_element_from<'a, A: Allocator + Copy, T: WasmModuleResources>(
+fn check_element_from<'a, A: Allocator + Copy, T: WasmModuleResources, N: NotesFunctions>(
     memory: &mut ExpressionMemory<A>,
     features: WasmFeatures,
     resources: &T,
     imported_globals: u32,
     flag: u32,
+    notes: &mut N,
     reader: &mut BinaryReader<'a>,
 ) -> Result<ValType, Error>
     requires { flag ≤ 7 }
     ensures reads { Reads val_of result (typed_element_from (T.context resources.now)
         (features_of features) imported_globals flag (rest reader.old)) (rest reader.new) }
+    ensures noted { OnOk result (notes.new ≡ noting N.note (names_of_element_from flag (rest reader.old)) notes.old) }
     ensures input { SameInput reader.old reader.new }
     ensures onward { position_in reader.old ≤ position_in reader.new }
     ensures place { IfErr result (StandsIn reader.old) }
 {
-    let table = check_segment_table(memory, features, resources, imported_globals, flag, reader)?;
+    let table = check_segment_table(
+        memory,
+        features,
+        resources,
+        imported_globals,
+        flag,
+        notes,
+        reader,
+    )?;
     let ty = check_items_type(features, resources, flag, reader)?;
     check_items_for(
         memory,
@@ -252,6 +248,7 @@ fn check_element_from<'a, A: Allocator + Copy, T: WasmModuleResources>(
         flag,
         table,
         ty,
+        notes,
         reader,
     )
 }
@@ -259,15 +256,17 @@ fn check_element_from<'a, A: Allocator + Copy, T: WasmModuleResources>(
 /// Reads any element segment, part by part.
 #[inline(never)]
 #[tactic(auto, unfolding(crate::specs::Elements::typed_element_at))]
-fn check_any_element<'a, A: Allocator + Copy, T: WasmModuleResources>(
+fn check_any_element<'a, A: Allocator + Copy, T: WasmModuleResources, N: NotesFunctions>(
     memory: &mut ExpressionMemory<A>,
     features: WasmFeatures,
     resources: &T,
     imported_globals: u32,
+    notes: &mut N,
     reader: &mut BinaryReader<'a>,
 ) -> Result<ValType, Error>
     ensures reads { Reads val_of result (typed_element_at (T.context resources.now)
         (features_of features) imported_globals (rest reader.old)) (rest reader.new) }
+    ensures noted { OnOk result (notes.new ≡ noting N.note (names_of_element (rest reader.old)) notes.old) }
     ensures input { SameInput reader.old reader.new }
     ensures onward { position_in reader.old ≤ position_in reader.new }
     ensures place { IfErr result (StandsIn reader.old) }
@@ -277,11 +276,19 @@ fn check_any_element<'a, A: Allocator + Copy, T: WasmModuleResources>(
         let last = reader.original_position() - 1;
         return Err(unknown_flag(Malformed::ElementFlags, last));
     }
-    check_element_from(memory, features, resources, imported_globals, flag, reader)
+    check_element_from(
+        memory,
+        features,
+        resources,
+        imported_globals,
+        flag,
+        notes,
+        reader,
+    )
 }
 
-/// Reads an element segment, whose expressions are typed in memory that is used again. The answer
-/// is the type of its items, whose references are identities. So many globals are imported, and
+/// Reads an element segment, whose expressions are typed in memory that is used again, and notes the
+/// functions that it names: those that it lists, and those of its expressions. The answer is the type of its items, whose references are identities. So many globals are imported, and
 /// they come first.
 ///
 /// # Errors
@@ -292,23 +299,29 @@ fn check_any_element<'a, A: Allocator + Copy, T: WasmModuleResources>(
 /// offset that is a constant expression of the table's address type, and any other asks for
 /// `BULK_MEMORY` (Core Specification 3.0, Validation, Modules, Element Segments); and where memory
 /// is.
-pub fn check_element<'a, A: Allocator + Copy, T: WasmModuleResources>(
+pub fn check_element<'a, A: Allocator + Copy, T: WasmModuleResources, N: NotesFunctions>(
     memory: &mut ExpressionMemory<A>,
     features: WasmFeatures,
     resources: &T,
     imported_globals: u32,
+    notes: &mut N,
     reader: &mut BinaryReader<'a>,
 ) -> Result<ValType, Error>
     ensures reads { Reads val_of result (typed_element_at (T.context resources.now)
         (features_of features) imported_globals (rest reader.old)) (rest reader.new) }
+    ensures noted { OnOk result (notes.new ≡ noting N.note (names_of_element (rest reader.old)) notes.old) }
     ensures input { SameInput reader.old reader.new }
     ensures onward { position_in reader.old ≤ position_in reader.new }
     ensures place { IfErr result (StandsIn reader.old) }
 {
     let mut ahead = *reader;
-    if next_plain_segment(resources, &mut ahead).is_some() {
-        reader.go_on_from(&ahead);
-        return Ok(ValType::Ref(RefType::FUNC));
+    match next_plain_segment(resources, &mut ahead) {
+        Some(count) => {
+            reader.go_on_from(&ahead);
+            check_functions(resources, notes, count, reader)?;
+            let ty = ValType::Ref(RefType::FUNC);
+            Ok(ty)
+        }
+        None => check_any_element(memory, features, resources, imported_globals, notes, reader),
     }
-    check_any_element(memory, features, resources, imported_globals, reader)
 }

@@ -1,11 +1,13 @@
 //! Globals with their initializers.
 
-ghost use Rattle.std.specs.Prelude.{◌≤◌, IfErr};
+ghost use Rattle.std.specs.Prelude.{◌≡◌, ◌≤◌, IfErr, OnOk};
 ghost use Rattle.wasm_spec_rules.specs.FeatureFlags.{features_of};
 ghost use Rattle.wasm_readers.specs.WasmReadersBytes.Reader.{SameInput, position_in, rest};
 ghost use Rattle.wasm_readers_errors.specs.Errors.{Reads};
 ghost use Rattle.wasm_readers_types.specs.SeenExterns.{global_of};
 ghost use Rattle.wasm_validator_constants.specs.Checked.{IsRefusedAt, StandsIn};
+ghost use Rattle.wasm_validator_constants.specs.WasmValidatorReferences.Notes.{noting};
+ghost use Rattle.wasm_validator_constants.specs.WasmValidatorReferences.References.{names_of_global};
 ghost use Rattle.wasm_validator_segments.specs.Globals.{global_type_at, typed_global_at};
 
 use crate::expressions::check_expression_of_type;
@@ -15,6 +17,7 @@ use wasm_readers::BinaryReader;
 use wasm_readers::externs::read_global_type;
 use wasm_readers_errors::{Error, Refusal, WasmFeatures};
 use wasm_readers_types::GlobalType;
+use wasm_validator_constants::references::NotesFunctions;
 use wasm_validator_resources::WasmModuleResources;
 
 /// The same refusal, at this offset.
@@ -54,8 +57,8 @@ fn check_global_type<'a, T: WasmModuleResources>(
     }
 }
 
-/// Reads a global, with its initializer, which is typed in memory that is used again. The answer's
-/// references are identities. So many globals are imported, and they come first.
+/// Reads a global, with its initializer, which is typed in memory that is used again, and notes the
+/// functions that it names. The answer's references are identities. So many globals are imported, and they come first.
 ///
 /// # Errors
 ///
@@ -63,15 +66,17 @@ fn check_global_type<'a, T: WasmModuleResources>(
 /// types the module has, and then with a constant expression of what it holds (Core Specification
 /// 3.0, Validation, Modules, Globals); and where memory is.
 #[tactic(auto, unfolding(crate::specs::Globals::typed_global_at))]
-pub fn check_global_entry<'a, A: Allocator + Copy, T: WasmModuleResources>(
+pub fn check_global_entry<'a, A: Allocator + Copy, T: WasmModuleResources, N: NotesFunctions>(
     memory: &mut ExpressionMemory<A>,
     features: WasmFeatures,
     resources: &T,
     imported_globals: u32,
+    notes: &mut N,
     reader: &mut BinaryReader<'a>,
 ) -> Result<GlobalType, Error>
     ensures reads { Reads global_of result (typed_global_at (T.context resources.now)
         (features_of features) imported_globals (rest reader.old)) (rest reader.new) }
+    ensures noted { OnOk result (notes.new ≡ noting N.note (names_of_global (rest reader.old)) notes.old) }
     ensures input { SameInput reader.old reader.new }
     ensures onward { position_in reader.old ≤ position_in reader.new }
     ensures place { IfErr result (StandsIn reader.old) }
@@ -84,6 +89,7 @@ pub fn check_global_entry<'a, A: Allocator + Copy, T: WasmModuleResources>(
         resources,
         imported_globals,
         content,
+        notes,
         reader,
     )?;
     Ok(ty)

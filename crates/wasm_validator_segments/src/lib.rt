@@ -23,3 +23,8 @@ pub use laws::expressions_are_found;
 pub use lists::{check_expression_list, check_function_list};
 pub use memory::ExpressionMemory;
 pub use offsets::{check_memory_offset, check_table_offset};
+
+/// Passed on from `wasm_validator_references`.
+pub mod references {
+    pub use wasm_validator_constants::references::ReferencedFunctions;
+}

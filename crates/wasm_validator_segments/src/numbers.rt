@@ -1,11 +1,12 @@
 //! Constant expressions of one integer.
 
-ghost use Rattle.std.specs.Prelude.{◌≡◌, ◌≤◌, Some, OnSome};
+ghost use Rattle.std.specs.Prelude.{◌≡◌, ◌≤◌, [], Some, OnSome};
 ghost use Rattle.wasm_spec.specs.Syntax.{i32, i64};
 ghost use Rattle.wasm_readers.specs.WasmReadersBytes.Reader.{SameInput, position_in, rest};
 ghost use Rattle.wasm_readers_types.specs.WasmReadersValues.SeenValues.{val_of};
 ghost use Rattle.wasm_operators.specs.Control.{end_};
 ghost use Rattle.wasm_operators.specs.Instructions.{control, instruction_at};
+ghost use Rattle.wasm_validator_constants.specs.WasmValidatorReferences.References.{names_of_expression};
 ghost use Rattle.wasm_validator_segments.specs.Numbers.{IsAnywhere};
 
 use wasm_readers::BinaryReader;
@@ -34,6 +35,7 @@ fn next_i32(reader: &mut BinaryReader<'_>) -> Option<()>
     ensures same { SameInput reader.old reader.new }
     ensures onward { OnSome result (position_in reader.old ≤ position_in reader.new) }
     ensures some { OnSome result (IsAnywhere i32 (rest reader.old) (rest reader.new)) }
+    ensures named { OnSome result (names_of_expression (rest reader.old) ≡ []) }
 {
     if reader.next_u8()? != 0x41 {
         return None;
@@ -50,6 +52,7 @@ fn next_i64(reader: &mut BinaryReader<'_>) -> Option<()>
     ensures same { SameInput reader.old reader.new }
     ensures onward { OnSome result (position_in reader.old ≤ position_in reader.new) }
     ensures some { OnSome result (IsAnywhere i64 (rest reader.old) (rest reader.new)) }
+    ensures named { OnSome result (names_of_expression (rest reader.old) ≡ []) }
 {
     if reader.next_u8()? != 0x42 {
         return None;
@@ -65,6 +68,7 @@ pub(crate) fn next_number(ty: ValType, reader: &mut BinaryReader<'_>) -> Option<
     ensures same { SameInput reader.old reader.new }
     ensures onward { OnSome result (position_in reader.old ≤ position_in reader.new) }
     ensures some { OnSome result (IsAnywhere (val_of ty) (rest reader.old) (rest reader.new)) }
+    ensures named { OnSome result (names_of_expression (rest reader.old) ≡ []) }
 {
     match ty {
         ValType::I32 => next_i32(reader),

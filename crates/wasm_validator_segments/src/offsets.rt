@@ -1,10 +1,12 @@
 //! Where active segments begin.
 
-ghost use Rattle.std.specs.Prelude.{◌≡◌, ◌≤◌, IfErr};
+ghost use Rattle.std.specs.Prelude.{◌≡◌, ◌≤◌, IfErr, OnOk};
 ghost use Rattle.wasm_spec_rules.specs.FeatureFlags.{features_of};
 ghost use Rattle.wasm_readers.specs.WasmReadersBytes.Reader.{SameInput, position_in, rest};
 ghost use Rattle.wasm_readers_types.specs.WasmReadersValues.SeenValues.{val_of};
 ghost use Rattle.wasm_validator_constants.specs.Checked.{IsRefusedAt, StandsIn};
+ghost use Rattle.wasm_validator_constants.specs.WasmValidatorReferences.Notes.{noting};
+ghost use Rattle.wasm_validator_constants.specs.WasmValidatorReferences.References.{names_of_expression};
 ghost use Rattle.wasm_validator_segments.specs.Answers.{GoesPast};
 ghost use Rattle.wasm_validator_segments.specs.Offsets.{address_type, behind_table_offset, behind_memory_offset};
 
@@ -14,6 +16,7 @@ use std::alloc::Allocator;
 use wasm_readers::BinaryReader;
 use wasm_readers_errors::{Error, Fault, OperatorRule, Refusal, WasmFeatures};
 use wasm_readers_types::ValType;
+use wasm_validator_constants::references::{NoNotes, NotesFunctions};
 use wasm_validator_resources::WasmModuleResources;
 
 /// The type of addresses, of 64 bits or of 32.
@@ -32,7 +35,8 @@ pub(crate) fn unknown(rule: OperatorRule, index: u32, offset: u64) -> Error
 }
 
 /// Reads and types the offset of a segment that is active in the table of this index, in memory
-/// that is used again. So many globals are imported, and they come first.
+/// that is used again, and notes the functions that it names. So many globals are imported, and they
+/// come first.
 ///
 /// # Errors
 ///
@@ -40,16 +44,18 @@ pub(crate) fn unknown(rule: OperatorRule, index: u32, offset: u64) -> Error
 /// of its address type (Core Specification 3.0, Validation, Modules, Element Segments); and where
 /// memory is.
 #[tactic(auto, unfolding(crate::specs::Offsets::behind_table_offset))]
-pub fn check_table_offset<'a, A: Allocator + Copy, T: WasmModuleResources>(
+pub fn check_table_offset<'a, A: Allocator + Copy, T: WasmModuleResources, N: NotesFunctions>(
     memory: &mut ExpressionMemory<A>,
     features: WasmFeatures,
     resources: &T,
     imported_globals: u32,
     table_index: u32,
+    notes: &mut N,
     reader: &mut BinaryReader<'a>,
 ) -> Result<(), Error>
     ensures past { GoesPast result (behind_table_offset (T.context resources.now)
         (features_of features) imported_globals table_index (rest reader.old)) (rest reader.new) }
+    ensures noted { OnOk result (notes.new ≡ noting N.note (names_of_expression (rest reader.old)) notes.old) }
     ensures input { SameInput reader.old reader.new }
     ensures onward { position_in reader.old ≤ position_in reader.new }
     ensures place { IfErr result (StandsIn reader.old) }
@@ -59,11 +65,20 @@ pub fn check_table_offset<'a, A: Allocator + Copy, T: WasmModuleResources>(
         Some(table) => address_type(table.table64),
         None => return Err(unknown(OperatorRule::UnknownTable, table_index, offset)),
     };
-    check_expression_of_type(memory, features, resources, imported_globals, ty, reader)
+    check_expression_of_type(
+        memory,
+        features,
+        resources,
+        imported_globals,
+        ty,
+        notes,
+        reader,
+    )
 }
 
 /// Reads and types the offset of a segment that is active in the memory of this index, in memory
-/// that is used again. So many globals are imported, and they come first.
+/// that is used again. It names no functions, since it gives a number. So many globals are imported,
+/// and they come first.
 ///
 /// # Errors
 ///
@@ -90,5 +105,14 @@ pub fn check_memory_offset<'a, A: Allocator + Copy, T: WasmModuleResources>(
         Some(memory) => address_type(memory.memory64),
         None => return Err(unknown(OperatorRule::UnknownMemory, memory_index, offset)),
     };
-    check_expression_of_type(memory, features, resources, imported_globals, ty, reader)
+    let mut notes = NoNotes {};
+    check_expression_of_type(
+        memory,
+        features,
+        resources,
+        imported_globals,
+        ty,
+        &mut notes,
+        reader,
+    )
 }

@@ -1,11 +1,11 @@
 //! Element segments as compilers write them: functions for the first table, from an offset that is
 //! an integer.
 
-ghost use Rattle.std.specs.Prelude.{◌≡◌, ◌≤◌, true, OnSome};
+ghost use Rattle.std.specs.Prelude.{◌≡◌, ◌≤◌, true, OnSome, IfSome};
 ghost use Rattle.wasm_readers.specs.WasmReadersBytes.Reader.{SameInput, position_in, rest};
 ghost use Rattle.wasm_validator_segments.specs.Plain.{TakesFunctions, IsPlain};
 
-use crate::lists::{MAX_ITEMS, pass_all_functions};
+use crate::lists::MAX_ITEMS;
 use crate::numbers::next_number;
 use wasm_readers::BinaryReader;
 use wasm_readers_types::{RefType, ValType, same};
@@ -27,17 +27,18 @@ fn takes_functions<T: WasmModuleResources>(resources: &T) -> bool
     }
 }
 
-/// Goes past an element segment of functions that are there, which goes to the first table from an
-/// offset that is an integer, if one is next. Else the reader may stand further on.
+/// Goes past what an element segment of functions begins with that goes to the first table from an
+/// offset that is an integer, and gives how many functions follow. Else the reader may stand further
+/// on.
 #[inline(always)]
 pub(crate) fn next_plain_segment<'a, T: WasmModuleResources>(
     resources: &T,
     reader: &mut BinaryReader<'a>,
-) -> Option<()>
+) -> Option<u32>
     ensures same { SameInput reader.old reader.new }
     ensures onward { OnSome result (position_in reader.old ≤ position_in reader.new) }
-    ensures some { OnSome result (IsPlain (T.context resources.now) (rest reader.old)
-        (rest reader.new)) }
+    ensures some { IfSome result (λ count. IsPlain (T.context resources.now) count
+        (rest reader.old) (rest reader.new)) }
 {
     if reader.next_var_u32()? != 0 {
         return None;
@@ -50,8 +51,5 @@ pub(crate) fn next_plain_segment<'a, T: WasmModuleResources>(
     if !takes_functions(resources) {
         return None;
     }
-    if !pass_all_functions(resources, count, reader) {
-        return None;
-    }
-    Some(())
+    Some(count)
 }

@@ -1,4 +1,4 @@
-use Rattle.std.proofs.Common.{◌≡◌, ◌≤◌, ◌<◌, subst, Some, None, false, length, arith, rules}
+use Rattle.std.proofs.Common.{◌≡◌, ◌<◌, ap, subst, ℕ, List, Some, None, false, length, arith, rules}
 use Rattle.wasm_readers.specs.WasmReadersBytes.Reader.{position_in, rest}
 use Rattle.wasm_operators.specs.Maps.{map_instruction}
 use Rattle.wasm_operators.specs.SeenOperators.{operator_of}
@@ -6,10 +6,11 @@ use Rattle.wasm_operators.proofs.Skipping.{shorter}
 use Rattle.wasm_operator_validator.specs.WasmOperatorSteps.Steps.{is_finished}
 use Rattle.wasm_validator_resources.specs.Answers.{world, written_index}
 use Rattle.wasm_operator_validator.specs.Typed.{typed_state}
-use Rattle.wasm_validator_constants.specs.Constants.{constant_step, constant_from}
+use Rattle.wasm_validator_references.specs.Notes.{noting}
+use Rattle.wasm_validator_constants.specs.Constants.{constant_step, constant_from, constant_names}
 use Rattle.wasm_operator_validator.specs.Checked.{within}
 use Rattle.wasm_operator_validator.proofs.Written.{is_written, by_numbers, no_numbers}
-use Rattle.wasm_validator_constants.proofs.Machine.{go_one, refused_here, none_here, all_of}
+use Rattle.wasm_validator_constants.proofs.Machine.{go_one, refused_here, none_here, names_of_all, all_of}
 use Rattle.wasm_operator_validator.proofs.Kept.{kept_around, kept_on, same_kept, ends}
 use Rattle.wasm_validator_constants.proofs.expressions.check_constant_expression.Goals as goal
 
@@ -26,7 +27,12 @@ operators-init g c =
       onward = omega arith;
       kept = same_kept v.stacks;
       going = c.requires;
-      so_far = (length (rest c.args.reader.now), omega arith, all_of (world C) (within v C) c.args.imported_globals (typed_state v) (rest c.args.reader.now));
+      so_far = (
+        length (rest c.args.reader.now),
+        omega arith,
+        all_of (world C) (within v C) c.args.imported_globals (typed_state v) (rest c.args.reader.now),
+        ap (λ (xs : List ℕ). noting g.N.NotesFunctions.note xs c.args.notes.now) (names_of_all (world C) (within v C) c.args.imported_globals (typed_state v) (rest c.args.reader.now)),
+      );
     }
 
 pub returns-in-Err-clause-took : goal.returns-in-Err-clause-took
@@ -61,8 +67,10 @@ operators-preserved g c =
       onward = omega (arith, further, before);
       kept = kept_on v.stacks w.stacks u.stacks c.operators.invariant.kept c.in-Ok-check_constant_operator.ensures.same;
       going = c.in-Ok-check_constant_operator.ensures.failed;
-      so_far = go_one (world C) (within v C) n far.0 (typed_state w) (typed_state u) (rest old) (rest new) i (constant_from (world C) (within v C) n (typed_state v) (rest c.args.reader.now))
-          far.1 (shorter old new c.in-Ok.ensures.same further) going read step far.2;
+      so_far = go_one (world C) (within v C) n g.N.NotesFunctions.note c.operators.notes c.note_function.new.notes
+          (noting g.N.NotesFunctions.note (constant_names (world C) (within v C) n (typed_state v) (rest c.args.reader.now)) c.args.notes.now)
+          far.0 (typed_state w) (typed_state u) (rest old) (rest new) i (constant_from (world C) (within v C) n (typed_state v) (rest c.args.reader.now))
+          far.1 (shorter old new c.in-Ok.ensures.same further) going read step c.in_ok-note_function.ensures far.2 far.3;
     }
 
 pub returns-in-Err-check_constant_operator-clause-took : goal.returns-in-Err-check_constant_operator-clause-took

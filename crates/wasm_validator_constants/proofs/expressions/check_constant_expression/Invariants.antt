@@ -3,7 +3,8 @@ use Rattle.wasm_readers.specs.WasmReadersBytes.Reader.{SameInput, position_in, r
 use Rattle.wasm_validator_resources.specs.Answers.{world}
 use Rattle.wasm_operator_validator.specs.WasmOperatorStacks.Seen.{Kept}
 use Rattle.wasm_operator_validator.specs.Typed.{typed_state}
-use Rattle.wasm_validator_constants.specs.Constants.{typed_from, constant_from}
+use Rattle.wasm_validator_references.specs.Notes.{noting}
+use Rattle.wasm_validator_constants.specs.Constants.{typed_from, constant_from, named_from, constant_names}
 use Rattle.wasm_operator_validator.specs.Checked.{within}
 use Rattle.wasm_validator_constants.proofs.expressions.check_constant_expression.Given as goal
 
@@ -15,7 +16,9 @@ invariant-operators g l = record {
   going : l.validator.failed ≡ false;
   so_far : (most : ℕ) × (length (rest l.reader) ≤ most)
       × (typed_from (world (g.T.WasmModuleResources.context l.resources)) (within l.initial.validator (g.T.WasmModuleResources.context l.resources)) l.imported_globals most (typed_state l.validator) (rest l.reader)
-      ≡ constant_from (world (g.T.WasmModuleResources.context l.resources)) (within l.initial.validator (g.T.WasmModuleResources.context l.resources)) l.imported_globals (typed_state l.initial.validator) (rest l.initial.reader));
+      ≡ constant_from (world (g.T.WasmModuleResources.context l.resources)) (within l.initial.validator (g.T.WasmModuleResources.context l.resources)) l.imported_globals (typed_state l.initial.validator) (rest l.initial.reader))
+      × (noting g.N.NotesFunctions.note (named_from (world (g.T.WasmModuleResources.context l.resources)) (within l.initial.validator (g.T.WasmModuleResources.context l.resources)) l.imported_globals most (typed_state l.validator) (rest l.reader)) l.notes
+      ≡ noting g.N.NotesFunctions.note (constant_names (world (g.T.WasmModuleResources.context l.resources)) (within l.initial.validator (g.T.WasmModuleResources.context l.resources)) l.imported_globals (typed_state l.initial.validator) (rest l.initial.reader)) l.initial.notes);
 }
 
 abbrev pub decreases-operators : goal.decreases-operators

@@ -1,4 +1,6 @@
-use Rattle.std.proofs.Common.{◌+◌, ◌≤◌, length, arith}
+use Rattle.std.proofs.Common.{◌+◌, ◌≤◌, ◌∙◌, sym, ap, ℕ, List, length, arith}
+use Rattle.wasm_validator_segments.specs.WasmValidatorReferences.References.{marked}
+use Rattle.wasm_validator_items.proofs.Named.{global_named}
 use Rattle.wasm_spec_rules.specs.FeatureFlags.{features_of}
 use Rattle.wasm_readers.specs.WasmReadersBytes.Reader.{input, original, position_in, rest}
 use Rattle.wasm_readers_types.specs.SeenExterns.{global_of}
@@ -55,3 +57,7 @@ returns-in_err-add_global-clause-place g c =
     err_as c.from_residual-in_err-add_global.result c.in_err-add_global.field-0.0 (λ (e : Error g.row.A.Denot). StandsBehind r e) c.from_residual-in_err-add_global.ensures.1
     (at_between c.original_position-offset.result (original r + position_in r) (original r + length (input r)) c.in_err-add_global.field-0.0
     (omega (arith, here)) (omega (arith, here, within)) c.in_err-add_global.ensures.place)
+
+pub returns-clause-noted : goal.returns-clause-noted
+returns-clause-noted g c =
+    c.in_ok-check_initializer.ensures.noted ∙ ap (λ (xs : List ℕ). marked xs c.args.referenced.now) (sym (global_named (global_of c.in_ok-written.written) (rest c.args.reader.now) (rest c.read_global_type.new.reader) c.in_ok-written.ensures.ok))

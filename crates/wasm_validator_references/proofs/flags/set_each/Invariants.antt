@@ -1,13 +1,14 @@
 use Rattle.std.proofs.Common.{◌≡◌, ◌≤◌, ◌-◌, length, drop}
-use Rattle.wasm_validator_references.specs.Marking.{mark_many, mark_function}
+use Rattle.wasm_validator_references.specs.References.{marked}
 use Rattle.wasm_validator_references.proofs.flags.set_each.Given as goal
 
 abbrev pub invariant-functions : goal.invariant-functions
 invariant-functions l = record {
-  within : l.at ≤ l.most;
+  onward : l.from ≤ l.at;
+  within : l.at ≤ length l.bytes;
   same : length l.flags ≡ length l.fn.flags;
-  so_far : mark_many mark_function (l.fn.count - l.at) l.flags (drop l.at l.bytes) ≡ mark_many mark_function l.fn.count l.fn.flags l.bytes;
+  so_far : marked (drop l.at l.bytes) l.flags ≡ marked (drop l.from l.bytes) l.fn.flags;
 }
 
 abbrev pub decreases-functions : goal.decreases-functions
-decreases-functions l = l.most - l.at
+decreases-functions l = length l.bytes - l.at

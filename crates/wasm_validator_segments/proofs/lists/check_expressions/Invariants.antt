@@ -4,6 +4,8 @@ use Rattle.wasm_readers_types.specs.WasmReadersValues.SeenValues.{val_of}
 use Rattle.wasm_readers.specs.WasmReadersBytes.Reader.{SameInput, position_in, rest}
 use Rattle.wasm_validator_segments.specs.Expressions.{behind_expression}
 use Rattle.wasm_validator_segments.specs.Lists.{behind_many}
+use Rattle.wasm_validator_constants.specs.WasmValidatorReferences.Notes.{noting}
+use Rattle.wasm_validator_segments.specs.Named.{names_of_expressions}
 use Rattle.wasm_validator_segments.proofs.lists.check_expressions.Given as goal
 
 abbrev pub invariant-items : goal.invariant-items
@@ -12,6 +14,7 @@ invariant-items g l = record {
   onward : position_in l.fn.reader ≤ position_in l.reader;
   so_far : behind_many (behind_expression (g.T.WasmModuleResources.context l.fn.resources) (features_of l.fn.features) l.fn.imported_globals (val_of l.fn.ty)) l.left (rest l.reader)
       ≡ behind_many (behind_expression (g.T.WasmModuleResources.context l.fn.resources) (features_of l.fn.features) l.fn.imported_globals (val_of l.fn.ty)) l.fn.count (rest l.fn.reader);
+  noted : noting g.N.NotesFunctions.note (names_of_expressions l.left (rest l.reader)) l.notes ≡ noting g.N.NotesFunctions.note (names_of_expressions l.fn.count (rest l.fn.reader)) l.fn.notes;
 }
 
 abbrev pub decreases-items : goal.decreases-items

@@ -1,5 +1,0 @@
-use Rattle.wasm_validator_items.proofs.Places.{in_section}
-use Rattle.wasm_validator_items.proofs.globals.add_globals.Goals as goal
-
-pub returns-clause-place : goal.returns-clause-place
-returns-clause-place g c = in_section c.add_each_global.result c.args.reader c.add_each_global.ensures.place

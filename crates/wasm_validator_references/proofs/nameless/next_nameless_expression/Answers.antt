@@ -1,7 +1,0 @@
-use Rattle.wasm_readers_bytes.specs.Reader.{rest}
-use Rattle.wasm_validator_references.proofs.Passing.{passed}
-use Rattle.wasm_validator_references.proofs.nameless.next_nameless_expression.Goals as goal
-
-pub returns-then-branch-eq11-clause-some : goal.returns-then-branch-eq11-clause-some
-returns-then-branch-eq11-clause-some c =
-    passed c.in_ok-next_u8.field-0 (rest c.args.reader.now) (rest c.next_nameless.new.reader) (rest c.next_u8.new.self) c.in_ok-next_nameless.ensures.some c.in_ok-next_u8.ensures.some c.if-branch-eq11.true
