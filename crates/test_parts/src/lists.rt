@@ -8,7 +8,7 @@ ghost use Rattle.wasm_validator_type_list.specs.Listable.{IsListable};
 
 use std::alloc::{AllocError, Global};
 use std::test::Fail;
-use wasm_readers_errors::{Error, Fault, Refusal, Rule};
+use wasm_readers_errors::{Error, Fault, Rule};
 use wasm_readers_types::{
     CompositeInnerType, CompositeType, CoreTypeId, FuncType, Items, RecGroup, StructType, SubType,
     ValType,
@@ -194,7 +194,9 @@ fn add(list: &mut TypeList, group: RecGroup) -> Result<bool, Error> {
 fn is_full<T>(answer: &Result<T, Error>) -> bool {
     match answer {
         Err(Error::Refused(refusal)) => {
-            *refusal == Refusal::new(Fault::Rule(Rule::TooManyTypes), 7)
+            matches!(refusal.fault, Fault::Rule(Rule::TooManyTypes))
+                && refusal.offset == 7
+                && refusal.missing.is_none()
         }
         _ => false,
     }

@@ -20,31 +20,31 @@ use Rattle.wasm_spec_rules.specs.Sections.{each}
 use Rattle.wasm_spec_rules.proofs.Tests.{then_some, guarded}
 use Rattle.wasm_spec_validity.specs.Expressions.{expression_at}
 use Rattle.wasm_spec_validity.specs.Modules.{Numbering}
-use Rattle.wasm_validator_modules.specs.WasmValidatorCanonical.Groups.{AreValid}
+use Rattle.wasm_validator_states.specs.WasmValidatorCanonical.Groups.{AreValid}
 use Rattle.wasm_validator_types.specs.Spaces.{Spaces}
-use Rattle.wasm_validator_modules.specs.WasmValidatorSections.WasmValidatorCore.Answers.{TypesSoFar}
-use Rattle.wasm_validator_modules.specs.WasmValidatorSections.WasmValidatorCore.Items.{is_startable, is_data_count}
-use Rattle.wasm_validator_modules.specs.WasmValidatorSections.WasmValidatorReferences.References.{section_names, names_of_globals}
-use Rattle.wasm_validator_modules.specs.WasmValidatorSections.WasmLawsContexts.ListedTypes.{types_declare}
-use Rattle.wasm_validator_modules.specs.WasmValidatorSections.WasmLawsCore.Shown.{listed_table, listed_global, listed_element}
-use Rattle.wasm_validator_modules.specs.WasmValidatorSections.WasmLawsModules.Contexts.{ShowsConstants}
-use Rattle.wasm_validator_modules.specs.WasmValidatorSections.Entries.{may_be_stored, add_data}
-use Rattle.wasm_validator_modules.specs.WasmValidatorSections.Machine.{data_items, section_items, start_item, data_count_item, beside}
-use Rattle.wasm_validator_modules.specs.WasmValidatorSections.Noted.{Noted, naming, counting, noting_nothing}
-use Rattle.wasm_validator_modules.specs.WasmValidatorSections.Started.{Started, starting, taking, bodies_left}
-use Rattle.wasm_validator_modules.proofs.WasmValidatorSections.WasmLawsCore.AddedItems.{each_changed}
-use Rattle.wasm_validator_modules.proofs.WasmValidatorSections.WasmLawsCore.Starts.{starts_are_decided}
-use Rattle.wasm_validator_modules.proofs.WasmValidatorSections.SectionEntries.{limited, section_entries, renames_nothing, same_item}
-use Rattle.wasm_validator_modules.specs.Standing.{Stage, Standing, in_module, in_code, HoldsAt, within, at_stage}
-use Rattle.wasm_validator_modules.specs.States.{within_by, after_section, after_start, after_data_count, after_code_start, code_started, body_taken, after_body}
-use Rattle.wasm_validator_modules.specs.SectionLaws.{IsReading, HasAdded, AddsEach, HasAddedEach, FitsTable, FitsGlobal, FitsElement}
-use Rattle.wasm_validator_modules.proofs.Growing.{body_some}
-use Rattle.wasm_validator_modules.proofs.SectionLaws.{moved, moved_from, moved_to, at_module, functions_add, memories_add, tags_add}
-use Rattle.wasm_validator_modules.proofs.EntriesAdded.{tables_add, globals_add, elements_add}
-use Rattle.wasm_validator_modules.proofs.ExportsAdded.{exports_add}
-use Rattle.wasm_validator_modules.proofs.ImportsAdded.{imports_add}
-use Rattle.wasm_validator_modules.proofs.TypesAdded.{types_add}
-use Rattle.wasm_validator_modules.proofs.UsedLaws.{used_laws}
+use Rattle.wasm_validator_states.specs.WasmValidatorSections.WasmValidatorCore.Answers.{TypesSoFar}
+use Rattle.wasm_validator_states.specs.WasmValidatorSections.WasmValidatorCore.Items.{is_startable, is_data_count}
+use Rattle.wasm_validator_states.specs.WasmValidatorSections.WasmValidatorReferences.References.{section_names, names_of_globals}
+use Rattle.wasm_validator_states.specs.WasmValidatorSections.WasmLawsContexts.ListedTypes.{types_declare}
+use Rattle.wasm_validator_states.specs.WasmValidatorSections.WasmLawsCore.Shown.{listed_table, listed_global, listed_element}
+use Rattle.wasm_validator_states.specs.WasmValidatorSections.WasmLawsModules.Contexts.{ShowsConstants}
+use Rattle.wasm_validator_states.specs.WasmValidatorSections.Entries.{may_be_stored, add_data}
+use Rattle.wasm_validator_states.specs.WasmValidatorSections.Machine.{data_items, section_items, start_item, data_count_item, beside}
+use Rattle.wasm_validator_states.specs.WasmValidatorSections.Noted.{Noted, naming, counting, noting_nothing}
+use Rattle.wasm_validator_states.specs.WasmValidatorSections.Started.{Started, starting, taking, bodies_left}
+use Rattle.wasm_validator_states.proofs.WasmValidatorSections.WasmLawsCore.AddedItems.{each_changed}
+use Rattle.wasm_validator_states.proofs.WasmValidatorSections.WasmLawsCore.Starts.{starts_are_decided}
+use Rattle.wasm_validator_states.proofs.WasmValidatorSections.SectionEntries.{limited, section_entries, renames_nothing, same_item}
+use Rattle.wasm_validator_states.specs.Standing.{Stage, Standing, in_module, in_code, HoldsAt, within, at_stage}
+use Rattle.wasm_validator_states.specs.States.{within_by, after_section, after_start, after_data_count, after_code_start, code_started, body_taken, after_body}
+use Rattle.wasm_validator_states.specs.SectionLaws.{IsReading, HasAdded, AddsEach, HasAddedEach, FitsTable, FitsGlobal, FitsElement}
+use Rattle.wasm_validator_states.proofs.Growing.{body_some}
+use Rattle.wasm_validator_states.proofs.SectionLaws.{moved, moved_from, moved_to, at_module, functions_add, memories_add, tags_add}
+use Rattle.wasm_validator_states.proofs.EntriesAdded.{tables_add, globals_add, elements_add}
+use Rattle.wasm_validator_states.proofs.ExportsAdded.{exports_add}
+use Rattle.wasm_validator_states.proofs.ImportsAdded.{imports_add}
+use Rattle.wasm_validator_states.proofs.TypesAdded.{types_add}
+use Rattle.wasm_validator_states.proofs.UsedLaws.{used_laws}
 use Rattle.wasm_laws_sections.specs.Read.{HasTypes, Shows}
 use Rattle.wasm_laws_sections.specs.AnyOrder.{Reads, IsRightTable, IsRightElement, IsRightData, AreRightGlobals, StartsAnywhere, DataCountsAnywhere, CodeStartsAnywhere, BodiesAnywhere, TypesAnywhere, ImportsAnywhere, FunctionsAnywhere, MemoriesAnywhere, TagsAnywhere, ExportsAnywhere, TablesAnywhere, GlobalsAnywhere, ElementsAnywhere, SegmentsAnywhere, SegmentsAfterCode}
 use Rattle.wasm_laws_sections.proofs.HeldTypes.{stand}

@@ -4,7 +4,7 @@ use Rattle.std.specs.Prelude.{◌↔◌}
 use Rattle.std.specs.List.{All}
 use Rattle.std.proofs.lemmas.List.Elements.{All-nil, All-cons, All-head, All-tail}
 use Rattle.wasm_validator_types.specs.Spaces.{Spaces}
-use Rattle.wasm_validator_modules.specs.SectionLaws.{AddsEach}
+use Rattle.wasm_validator_states.specs.SectionLaws.{AddsEach}
 
 module _ {V : Type 0} (P : Spaces → V → Type 0) (Q : V → Type 0) (next : Spaces → V → Spaces) (K : Spaces → Type 0) (right : (s : Spaces) (v : V) → K s → P s v ↔ Q v) (keeps : (s : Spaces) (v : V) → K s → K (next s v))
     (lists : Spaces → List V → Spaces) (none : (s : Spaces) → lists s [] ≡ s) (more : (s : Spaces) (v : V) (vs : List V) → lists (next s v) vs ≡ lists s (v ∷ vs)) where

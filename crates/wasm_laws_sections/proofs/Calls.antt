@@ -1,8 +1,8 @@
 -- Calls lead from a state that is reached to another.
 use Rattle.std.proofs.Common.{refl, sym, subst, List, [], ◌∷◌, ◌++◌}
 use Rattle.std.specs.declared.result.Result.TheVariants.{Ok, Err}
-use Rattle.wasm_validator_modules.specs.WasmValidatorCore.declared.error.Error.TheVariants.{Refused, DuplicateExport, InFunction, OutOfMemory}
-use Rattle.wasm_validator_modules.specs.Standing.{Standing, fresh, after_reset}
+use Rattle.wasm_validator_states.specs.WasmValidatorCore.declared.error.Error.TheVariants.{Refused, DuplicateExport, InFunction, OutOfMemory}
+use Rattle.wasm_validator_states.specs.Standing.{Standing, fresh, after_reset}
 use Rattle.wasm_laws_sections.specs.Reached.{Called, accepted, refused, without_memory, reset, Leads, LeadsAll, IsReached, NewStatesAreReached, CallsLeadOn, ResetsLeadOn}
 
 lead_on : (cs : List Called) (c : Called) (s t u : Standing) → LeadsAll cs s t → Leads c t u → LeadsAll (cs ++ c ∷ []) s u

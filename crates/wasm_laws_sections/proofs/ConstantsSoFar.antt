@@ -28,22 +28,22 @@ use Rattle.wasm_spec_validity.specs.Modules.{Numbering, number_at, context_of, i
 use Rattle.wasm_spec_validity.specs.Typing.{IsConstant, IsTypedElementMode, AreTypedItems, IsTypedDataMode}
 use Rattle.wasm_readers_types.specs.WasmReadersValues.declared.indices.UnpackedIndex.{UnpackedIndex}
 use Rattle.wasm_validator_resources.specs.Answers.{world}
-use Rattle.wasm_validator_modules.specs.WasmValidatorCanonical.Indices.{canonical_index}
-use Rattle.wasm_validator_modules.specs.WasmValidatorCanonical.Sections.{written}
+use Rattle.wasm_validator_states.specs.WasmValidatorCanonical.Indices.{canonical_index}
+use Rattle.wasm_validator_states.specs.WasmValidatorCanonical.Sections.{written}
 use Rattle.wasm_validator_types.specs.Spaces.{Spaces}
-use Rattle.wasm_validator_modules.specs.WasmValidatorSections.WasmValidatorChecks.Items.{is_ref_in_range}
-use Rattle.wasm_validator_modules.specs.WasmValidatorSections.WasmValidatorCore.Answers.{TypesSoFar}
-use Rattle.wasm_validator_modules.specs.WasmValidatorSections.WasmLawsCore.Shown.{listed, listed_table, listed_global}
-use Rattle.wasm_validator_modules.specs.WasmValidatorSections.WasmLawsContexts.ListedTypes.{types_declare}
-use Rattle.wasm_validator_modules.specs.WasmValidatorSections.WasmLawsContexts.WasmValidatorCoreResources.IndexContexts.{id_of}
-use Rattle.wasm_validator_modules.specs.WasmValidatorSections.WasmLawsContexts.WasmValidatorCoreResources.ModuleContexts.{exact_flags, numbers_from}
-use Rattle.wasm_validator_modules.specs.WasmValidatorSections.WasmLawsModules.Contexts.{ShowsConstants}
-use Rattle.wasm_validator_modules.specs.WasmValidatorSections.WasmLawsModules.Maps.{map_items}
-use Rattle.wasm_validator_modules.specs.WasmValidatorSections.Entries.{is_constant_of, is_constant_or_none, is_offset, are_items, may_be_placed, may_be_stored}
-use Rattle.wasm_validator_modules.proofs.WasmValidatorSections.WasmLawsModules.Behind.{decides_then}
-use Rattle.wasm_validator_modules.proofs.WasmValidatorSections.WasmLawsModules.ConstantsOverNumbers.{constants_are_over_numbers}
-use Rattle.wasm_validator_modules.proofs.WasmValidatorSections.WasmLawsModules.MatchingOverIds.{references_match_over_ids}
-use Rattle.wasm_validator_modules.specs.SectionLaws.{FitsTable, FitsGlobal, FitsElement, FitsData}
+use Rattle.wasm_validator_states.specs.WasmValidatorSections.WasmValidatorChecks.Items.{is_ref_in_range}
+use Rattle.wasm_validator_states.specs.WasmValidatorSections.WasmValidatorCore.Answers.{TypesSoFar}
+use Rattle.wasm_validator_states.specs.WasmValidatorSections.WasmLawsCore.Shown.{listed, listed_table, listed_global}
+use Rattle.wasm_validator_states.specs.WasmValidatorSections.WasmLawsContexts.ListedTypes.{types_declare}
+use Rattle.wasm_validator_states.specs.WasmValidatorSections.WasmLawsContexts.WasmValidatorCoreResources.IndexContexts.{id_of}
+use Rattle.wasm_validator_states.specs.WasmValidatorSections.WasmLawsContexts.WasmValidatorCoreResources.ModuleContexts.{exact_flags, numbers_from}
+use Rattle.wasm_validator_states.specs.WasmValidatorSections.WasmLawsModules.Contexts.{ShowsConstants}
+use Rattle.wasm_validator_states.specs.WasmValidatorSections.WasmLawsModules.Maps.{map_items}
+use Rattle.wasm_validator_states.specs.WasmValidatorSections.Entries.{is_constant_of, is_constant_or_none, is_offset, are_items, may_be_placed, may_be_stored}
+use Rattle.wasm_validator_states.proofs.WasmValidatorSections.WasmLawsModules.Behind.{decides_then}
+use Rattle.wasm_validator_states.proofs.WasmValidatorSections.WasmLawsModules.ConstantsOverNumbers.{constants_are_over_numbers}
+use Rattle.wasm_validator_states.proofs.WasmValidatorSections.WasmLawsModules.MatchingOverIds.{references_match_over_ids}
+use Rattle.wasm_validator_states.specs.SectionLaws.{FitsTable, FitsGlobal, FitsElement, FitsData}
 use Rattle.wasm_laws_sections.specs.Read.{HasTypes, Shows}
 use Rattle.wasm_laws_sections.specs.AnyOrder.{IsRightTable, IsRightGlobal, IsRightElement, IsRightData}
 use Rattle.wasm_laws_sections.proofs.HeldTypes.{stand, as_many, once, module_types, own_ids}

@@ -22,27 +22,27 @@ use Rattle.wasm_spec_rules.specs.Sections.{each}
 use Rattle.wasm_spec_rules.proofs.Tests.{then_some, guarded}
 use Rattle.wasm_spec_validity.specs.Modules.{Numbering}
 use Rattle.wasm_spec_validity.proofs.Numbered.{types_are_numbered}
-use Rattle.wasm_validator_modules.specs.WasmValidatorCanonical.Sections.{written}
-use Rattle.wasm_validator_modules.specs.WasmValidatorCanonical.Apart.{AreApart}
-use Rattle.wasm_validator_modules.specs.WasmValidatorCanonical.Groups.{AreValid}
+use Rattle.wasm_validator_states.specs.WasmValidatorCanonical.Sections.{written}
+use Rattle.wasm_validator_states.specs.WasmValidatorCanonical.Apart.{AreApart}
+use Rattle.wasm_validator_states.specs.WasmValidatorCanonical.Groups.{AreValid}
 use Rattle.wasm_validator_types.specs.Spaces.{Spaces, no_spaces}
-use Rattle.wasm_validator_modules.specs.WasmValidatorSections.WasmValidatorCore.Answers.{TypesSoFar}
-use Rattle.wasm_validator_modules.specs.WasmValidatorSections.WasmValidatorCore.Machine.{add_group}
-use Rattle.wasm_validator_modules.specs.WasmValidatorSections.WasmValidatorReferences.References.{section_names}
-use Rattle.wasm_validator_modules.specs.WasmValidatorSections.WasmLawsCore.Imports.{FitsImport, with_entry}
-use Rattle.wasm_validator_modules.specs.WasmValidatorSections.Machine.{type_items, section_items, start_item, data_count_item, beside}
-use Rattle.wasm_validator_modules.specs.WasmValidatorSections.Noted.{Noted, nothing_noted, naming, counting, noting_nothing}
-use Rattle.wasm_validator_modules.specs.WasmValidatorSections.Started.{Started, starting, taking, bodies_left}
-use Rattle.wasm_validator_modules.proofs.WasmValidatorSections.WasmLawsCore.AddedItems.{for_each}
-use Rattle.wasm_validator_modules.proofs.WasmValidatorSections.SectionEntries.{limited, section_entries}
-use Rattle.wasm_validator_modules.specs.Standing.{Stage, unparsed, in_module, in_code, ended, failed, Standing, fresh, refused_at, read_refused_at, body_refused_at, ended_at, reset_at, within, at_stage, HoldsValid}
-use Rattle.wasm_validator_modules.specs.States.{begun, within_by, after_section, after_start, after_data_count, after_code_start, code_started, body_taken, after_body, module_ended, after_piece, is_barred, left_by}
-use Rattle.wasm_validator_modules.specs.SectionLaws.{AddsEach}
-use Rattle.wasm_validator_modules.proofs.AddedTypes.{ends_at}
-use Rattle.wasm_validator_modules.proofs.Growing.{within_some}
-use Rattle.wasm_validator_modules.proofs.KnownSections.{section_known}
-use Rattle.wasm_validator_modules.proofs.ModuleRun.{section_case}
-use Rattle.wasm_validator_modules.proofs.SectionLaws.{at_module}
+use Rattle.wasm_validator_states.specs.WasmValidatorSections.WasmValidatorCore.Answers.{TypesSoFar}
+use Rattle.wasm_validator_states.specs.WasmValidatorSections.WasmValidatorCore.Machine.{add_group}
+use Rattle.wasm_validator_states.specs.WasmValidatorSections.WasmValidatorReferences.References.{section_names}
+use Rattle.wasm_validator_states.specs.WasmValidatorSections.WasmLawsCore.Imports.{FitsImport, with_entry}
+use Rattle.wasm_validator_states.specs.WasmValidatorSections.Machine.{type_items, section_items, start_item, data_count_item, beside}
+use Rattle.wasm_validator_states.specs.WasmValidatorSections.Noted.{Noted, nothing_noted, naming, counting, noting_nothing}
+use Rattle.wasm_validator_states.specs.WasmValidatorSections.Started.{Started, starting, taking, bodies_left}
+use Rattle.wasm_validator_states.proofs.WasmValidatorSections.WasmLawsCore.AddedItems.{for_each}
+use Rattle.wasm_validator_states.proofs.WasmValidatorSections.SectionEntries.{limited, section_entries}
+use Rattle.wasm_validator_states.specs.Standing.{Stage, unparsed, in_module, in_code, ended, failed, Standing, fresh, refused_at, read_refused_at, body_refused_at, ended_at, reset_at, within, at_stage, HoldsValid}
+use Rattle.wasm_validator_states.specs.States.{begun, within_by, after_section, after_start, after_data_count, after_code_start, code_started, body_taken, after_body, module_ended, after_piece, is_barred, left_by}
+use Rattle.wasm_validator_states.specs.SectionLaws.{AddsEach}
+use Rattle.wasm_validator_states.proofs.AddedTypes.{ends_at}
+use Rattle.wasm_validator_states.proofs.Growing.{within_some}
+use Rattle.wasm_validator_states.proofs.KnownSections.{section_known}
+use Rattle.wasm_validator_states.proofs.ModuleRun.{section_case}
+use Rattle.wasm_validator_states.proofs.SectionLaws.{at_module}
 use Rattle.wasm_laws_sections.specs.Reached.{Called, accepted, refused, without_memory, reset, Leads, LeadsAll}
 use Rattle.wasm_laws_sections.specs.Read.{Shows, HasRead, IsReadAt, ReachedStatesAreRead}
 use Rattle.wasm_laws_sections.specs.AnyOrder.{Reads, ReadsCode, IsRightTable}

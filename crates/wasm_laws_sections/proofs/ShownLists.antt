@@ -17,12 +17,12 @@ use Rattle.wasm_spec_rules.specs.LinkRules.{IsValidExtern, export_name, IsValidE
 use Rattle.wasm_spec_rules.specs.Parts.{Parts, Expression}
 use Rattle.wasm_readers_types.specs.WasmReadersValues.declared.indices.UnpackedIndex.{UnpackedIndex}
 use Rattle.wasm_validator_types.specs.Spaces.{Spaces, no_spaces}
-use Rattle.wasm_validator_modules.specs.WasmValidatorSections.WasmValidatorCore.Answers.{TypesSoFar}
-use Rattle.wasm_validator_modules.specs.WasmValidatorSections.WasmLawsCore.Exports.{AreApart, HasSpaces, FitExports, with_exports}
-use Rattle.wasm_validator_modules.specs.WasmValidatorSections.WasmLawsCore.Imports.{KeepsLimits, FitsImport, with_entry}
-use Rattle.wasm_validator_modules.specs.WasmValidatorSections.WasmLawsCore.Shown.{listed_table, listed_global, entity_in, as_exported, exported_as, export_row, exported_row, export_rows}
-use Rattle.wasm_validator_modules.proofs.WasmValidatorSections.WasmLawsCore.AddedItems.{for_each}
-use Rattle.wasm_validator_modules.proofs.WasmValidatorSections.WasmLawsCore.ExportNames.{row_names, no_names, names_append}
+use Rattle.wasm_validator_states.specs.WasmValidatorSections.WasmValidatorCore.Answers.{TypesSoFar}
+use Rattle.wasm_validator_states.specs.WasmValidatorSections.WasmLawsCore.Exports.{AreApart, HasSpaces, FitExports, with_exports}
+use Rattle.wasm_validator_states.specs.WasmValidatorSections.WasmLawsCore.Imports.{KeepsLimits, FitsImport, with_entry}
+use Rattle.wasm_validator_states.specs.WasmValidatorSections.WasmLawsCore.Shown.{listed_table, listed_global, entity_in, as_exported, exported_as, export_row, exported_row, export_rows}
+use Rattle.wasm_validator_states.proofs.WasmValidatorSections.WasmLawsCore.AddedItems.{for_each}
+use Rattle.wasm_validator_states.proofs.WasmValidatorSections.WasmLawsCore.ExportNames.{row_names, no_names, names_append}
 use Rattle.wasm_laws_sections.specs.Read.{AreHeld, ShowsIndices, ShowsTables, ShowsMemories, ShowsGlobals, Shows}
 use Rattle.wasm_laws_sections.proofs.HeldTypes.{no_types}
 

@@ -3,9 +3,9 @@ use Rattle.std.specs.Prelude.{ℕ, ◌≡◌, true, List, [], ◌∷◌, Some}
 use Rattle.std.specs.declared.result.Result.{Result}
 use Rattle.wasm_spec.specs.Framing.{Piece}
 use Rattle.wasm_readers_errors.specs.WasmReadersFeatures.declared.features.WasmFeatures.{WasmFeatures}
-use Rattle.wasm_validator_modules.specs.WasmValidatorCore.declared.error.Error.{Error}
-use Rattle.wasm_validator_modules.specs.Standing.{Standing, failed, fresh, may_reset, after_reset, HoldsValid, Leaves}
-use Rattle.wasm_validator_modules.specs.States.{after_piece, left_by}
+use Rattle.wasm_validator_states.specs.WasmValidatorCore.declared.error.Error.{Error}
+use Rattle.wasm_validator_states.specs.Standing.{Standing, failed, fresh, may_reset, after_reset, HoldsValid, Leaves}
+use Rattle.wasm_validator_states.specs.States.{after_piece, left_by}
 
 -- One call: a payload that is accepted or refused, a payload for which memory is refused, or a reset.
 pub data Called : Type 0 where

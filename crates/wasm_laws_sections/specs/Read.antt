@@ -13,17 +13,17 @@ use Rattle.wasm_spec_rules.specs.Limits.{most_tables, most_memories}
 use Rattle.wasm_spec_rules.specs.Parts.{Parts}
 use Rattle.wasm_spec_validity.specs.Modules.{imported_globals}
 use Rattle.wasm_readers_types.specs.WasmReadersValues.declared.indices.UnpackedIndex.{UnpackedIndex}
-use Rattle.wasm_validator_modules.specs.WasmValidatorCanonical.Apart.{AreApart}
-use Rattle.wasm_validator_modules.specs.WasmValidatorCanonical.Groups.{AreValid}
-use Rattle.wasm_validator_modules.specs.WasmValidatorCanonical.Sections.{with_all_written, HoldsSection}
+use Rattle.wasm_validator_states.specs.WasmValidatorCanonical.Apart.{AreApart}
+use Rattle.wasm_validator_states.specs.WasmValidatorCanonical.Groups.{AreValid}
+use Rattle.wasm_validator_states.specs.WasmValidatorCanonical.Sections.{with_all_written, HoldsSection}
 use Rattle.wasm_validator_types.specs.Entities.{Entity}
 use Rattle.wasm_validator_types.specs.Spaces.{Spaces}
-use Rattle.wasm_validator_modules.specs.WasmValidatorSections.WasmValidatorCore.Answers.{TypesSoFar}
-use Rattle.wasm_validator_modules.specs.WasmValidatorSections.WasmLawsCore.Exports as export_laws
-use Rattle.wasm_validator_modules.specs.WasmValidatorSections.WasmLawsCore.Shown.{listed_table, listed_global}
-use Rattle.wasm_validator_modules.specs.WasmValidatorSections.Noted.{Noted}
-use Rattle.wasm_validator_modules.specs.WasmValidatorSections.Started.{Started, starting}
-use Rattle.wasm_validator_modules.specs.Standing.{Stage, unparsed, in_module, in_code, ended, failed, Standing}
+use Rattle.wasm_validator_states.specs.WasmValidatorSections.WasmValidatorCore.Answers.{TypesSoFar}
+use Rattle.wasm_validator_states.specs.WasmValidatorSections.WasmLawsCore.Exports as export_laws
+use Rattle.wasm_validator_states.specs.WasmValidatorSections.WasmLawsCore.Shown.{listed_table, listed_global}
+use Rattle.wasm_validator_states.specs.WasmValidatorSections.Noted.{Noted}
+use Rattle.wasm_validator_states.specs.WasmValidatorSections.Started.{Started, starting}
+use Rattle.wasm_validator_states.specs.Standing.{Stage, unparsed, in_module, in_code, ended, failed, Standing}
 use Rattle.wasm_laws_sections.specs.Reached.{IsReached}
 
 -- The types of all modules are valid, and none comes twice.

@@ -1,7 +1,7 @@
 -- Modules that are looked at one after another: what is decided of the rest goes behind the answers so far.
 use Rattle.std.proofs.Common.{◌≡◌, refl, sym, ap, subst, ◌∙◌, inl, inr, ℕ, zero, suc, ◌+◌, ◌<◌, ◌≤◌, true, List, [], ◌∷◌, ◌++◌, length, drop, get_or, append_assoc, append-nil, arith}
 use Rattle.std.specs.declared.result.Result.{Result}
-use Rattle.wasm_validator_types.specs.declared.shown.Types as shown
+use Rattle.wasm_validator_modules.specs.WasmValidatorTypes.declared.shown.Types as shown
 use Rattle.wasm_validator_modules.specs.WasmValidatorCore.declared.error.Error.{Error}
 use Rattle.std.specs.Borrow.{Bor}
 use Rattle.wasm_validator_modules.specs.Standing.{Standing, may_reset, after_reset}

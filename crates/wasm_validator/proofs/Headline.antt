@@ -29,8 +29,8 @@ use Rattle.wasm_validator_type_list.specs.DefTypes.{types_of_list}
 use Rattle.wasm_validator_type_list.specs.Laws.{type_of_id}
 use Rattle.wasm_validator_type_list.proofs.Order.{ids_are_ordered_as_types}
 use Rattle.wasm_validator_type_list.proofs.Joined.{types_declare_what_ids_declare}
-use Rattle.wasm_validator_types.specs.Shown.{shown_of}
-use Rattle.wasm_validator_types.specs.declared.shown.Types as shown
+use Rattle.wasm_validator_modules.specs.WasmValidatorTypes.Shown.{shown_of}
+use Rattle.wasm_validator_modules.specs.WasmValidatorTypes.declared.shown.Types as shown
 use Rattle.wasm_validator_modules.specs.WasmValidatorCore.declared.error.Error.{Error}
 use Rattle.wasm_validator_modules.specs.WasmValidatorCore.declared.error.Error.TheVariants.{Refused, DuplicateExport, InFunction, OutOfMemory}
 use Rattle.wasm_validator_modules.specs.WasmValidatorCore.Answers.{TypesSoFar}

@@ -11,8 +11,8 @@ use Rattle.wasm_spec.specs.Trees.{DefType}
 use Rattle.wasm_spec_rules.specs.FeatureFlags.{features_of}
 use Rattle.wasm_validator_type_list.proofs.DefTypes.{length-def_types}
 use Rattle.wasm_validator_type_list.specs.DefTypes.{types_of_list}
-use Rattle.wasm_validator_types.specs.Shown.{shown_of, HoldsIds}
-use Rattle.wasm_validator_types.specs.declared.shown.Types as shown
+use Rattle.wasm_validator_modules.specs.WasmValidatorTypes.Shown.{shown_of, HoldsIds}
+use Rattle.wasm_validator_modules.specs.WasmValidatorTypes.declared.shown.Types as shown
 use Rattle.wasm_validator_modules.specs.WasmValidatorCanonical.Sections.{StandsFor}
 use Rattle.wasm_validator_modules.specs.WasmValidatorCore.declared.error.Error.{Error}
 use Rattle.wasm_validator_modules.specs.WasmValidatorCore.Answers.{TypesSoFar}

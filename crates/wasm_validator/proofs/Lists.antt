@@ -9,8 +9,8 @@ use Rattle.wasm_spec_rules.specs.FeatureFlags.{features_of}
 use Rattle.wasm_spec_rules.specs.Modules.{IsWellFormed}
 use Rattle.wasm_readers_errors.specs.WasmReadersFeatures.declared.features.WasmFeatures.{WasmFeatures}
 use Rattle.wasm_validator_type_list.specs.DefTypes.{types_of_list}
-use Rattle.wasm_validator_types.specs.Shown.{shown_of}
-use Rattle.wasm_validator_types.specs.declared.shown.Types as shown
+use Rattle.wasm_validator_modules.specs.WasmValidatorTypes.Shown.{shown_of}
+use Rattle.wasm_validator_modules.specs.WasmValidatorTypes.declared.shown.Types as shown
 use Rattle.wasm_validator_modules.specs.WasmValidatorCore.declared.error.Error.{Error}
 use Rattle.wasm_validator_modules.specs.WasmValidatorCore.Answers.{TypesSoFar}
 use Rattle.wasm_validator_modules.specs.Standing.{unparsed, ended, Standing, after_reset}

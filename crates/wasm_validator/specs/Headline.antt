@@ -20,8 +20,8 @@ use Rattle.wasm_validator_type_list.specs.Listable.{AreListable}
 use Rattle.wasm_validator_type_list.specs.Declares.{declares}
 use Rattle.wasm_validator_type_list.specs.DefTypes.{types_of_list}
 use Rattle.wasm_validator_modules.specs.WasmValidatorCanonical.Counted.{with_types}
-use Rattle.wasm_validator_types.specs.Shown.{shown_of}
-use Rattle.wasm_validator_types.specs.declared.shown.Types as shown
+use Rattle.wasm_validator_modules.specs.WasmValidatorTypes.Shown.{shown_of}
+use Rattle.wasm_validator_modules.specs.WasmValidatorTypes.declared.shown.Types as shown
 use Rattle.wasm_validator_modules.specs.WasmValidatorCore.declared.error.Error.{Error}
 use Rattle.wasm_validator_modules.specs.WasmValidatorCore.declared.error.Error.TheVariants.{OutOfMemory}
 use Rattle.wasm_validator_modules.specs.WasmValidatorCore.Answers.{TypesSoFar}

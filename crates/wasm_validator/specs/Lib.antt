@@ -1,5 +1,5 @@
 pub use Rattle.wasm_validator_modules.specs.WasmSpecValidity as WasmSpecValidity
-pub use Rattle.wasm_validator_types.specs as WasmValidatorTypes
+pub use Rattle.wasm_validator_modules.specs.WasmValidatorTypes as WasmValidatorTypes
 pub use Rattle.wasm_validator_modules.specs.WasmValidatorCore as WasmValidatorCore
 pub use Rattle.wasm_validator_modules.specs.WasmValidatorCanonical as WasmValidatorCanonical
 pub use Rattle.wasm_validator_modules.specs.Standing

@@ -6,25 +6,22 @@ use Rattle.wasm_spec_rules.specs.Contexts.{Context}
 use Rattle.wasm_readers_types.specs.WasmReadersValues.declared.indices.UnpackedIndex.{UnpackedIndex}
 use Rattle.wasm_readers_errors.specs.declared.error.Error.{Error}
 use Rattle.wasm_readers_errors.specs.declared.error.Error.TheVariants.{Refused, OutOfMemory}
-use Rattle.wasm_parser.specs.declared.function_body.FunctionBody.{FunctionBody}
-use Rattle.wasm_parser.specs.Seen.{body_reader}
-use Rattle.wasm_validator_sections.specs.WasmValidatorFunc.declared.func_validator.FuncToValidate.{FuncToValidate}
-use Rattle.wasm_validator_sections.specs.WasmValidatorFunc.Functions.{Refuses, StandsInOrFirst}
-use Rattle.wasm_validator_type_list.proofs.Grouped.{all-right}
-use Rattle.wasm_validator_sections.specs.WasmValidatorCore.declared.error.Error as whole
-use Rattle.wasm_validator_sections.specs.WasmValidatorCore.Errors.{lifted_in}
-use Rattle.wasm_validator_sections.specs.SectionsTold.{StandsBetween}
+use Rattle.wasm_validator_states.specs.WasmParser.declared.function_body.FunctionBody.{FunctionBody}
+use Rattle.wasm_validator_states.specs.WasmParser.Seen.{body_reader}
+use Rattle.wasm_validator_states.specs.WasmValidatorSections.WasmValidatorFunc.declared.func_validator.FuncToValidate.{FuncToValidate}
+use Rattle.wasm_validator_states.specs.WasmValidatorSections.WasmValidatorFunc.Functions.{Refuses, StandsInOrFirst}
+use Rattle.wasm_validator_states.proofs.WholeModules.{one_of}
+use Rattle.wasm_validator_states.specs.WasmValidatorSections.WasmValidatorCore.declared.error.Error as whole
+use Rattle.wasm_validator_states.specs.WasmValidatorSections.WasmValidatorCore.Errors.{lifted_in}
+use Rattle.wasm_validator_states.specs.WasmValidatorSections.SectionsTold.{StandsBetween}
 use Rattle.wasm_readers_errors.specs.WasmReadersFeatures.declared.features.WasmFeatures.{WasmFeatures}
-use Rattle.wasm_validator_modules.specs.States.{BodyToValidate}
-use Rattle.wasm_validator_modules.specs.Payloads.{body_seen, bodies_seen, pending_seen, pending_in, EndsBy, AllEndBy, GivenEndBy, StandsBy, IsBodyOfIts, DecidesBodies}
+use Rattle.wasm_validator_states.specs.States.{BodyToValidate}
+use Rattle.wasm_validator_states.specs.Payloads.{IsBodyOfIts, DecidesBodies}
+use Rattle.wasm_validator_modules.specs.Given.{body_seen, bodies_seen, pending_seen, pending_in, EndsBy, AllEndBy, GivenEndBy, StandsBy}
 use Rattle.wasm_validator_modules.specs.declared.payload.PendingBody.{PendingBody}
 use Rattle.wasm_validator_modules.specs.declared.payload.Bodies.{Bodies}
 use Rattle.wasm_validator_modules.specs.declared.payload.ValidPayload.{ValidPayload}
 use Rattle.wasm_validator_modules.specs.declared.payload.ValidPayload.TheVariants.{Ok, Func, End}
-
--- one of some
-pub one_of : {X : Type 0} (P : X → Type 0) (xs ys rest : List X) (x : X) → xs ≡ ys ++ x ∷ rest → All P xs → P x
-one_of P xs ys rest x e h = all-right P ys (x ∷ rest) (subst (All P) e h) 0 x (omega arith)
 
 -- where one is refused, that is told, with its function
 pub refused_one : {A : Type 0} (features : WasmFeatures) (context : Context UnpackedIndex) (xs ys rest : List PendingBody) (p : PendingBody) (e : Error) (f : whole.Error A) → f ≡ lifted_in p.index e → xs ≡ ys ++ p ∷ rest

@@ -9,19 +9,19 @@ use Rattle.wasm_readers_types.specs.WasmReadersValues.declared.indices.UnpackedI
 use Rattle.wasm_readers_errors.specs.WasmReadersFeatures.declared.features.WasmFeatures.{WasmFeatures}
 use Rattle.wasm_spec.specs.Framing as parts
 use Rattle.wasm_spec.specs.Framing.{Piece, Version, Custom, Counted, Start, DataCount, CodeStart, CodeEntry, Unknown}
-use Rattle.wasm_validator_sections.specs.WasmValidatorReferences.References.{section_names}
-use Rattle.wasm_parser.specs.declared.function_body.FunctionBody.{FunctionBody}
-use Rattle.wasm_validator_types.specs.Spaces.{Spaces}
-use Rattle.wasm_validator_sections.specs.WasmValidatorCore.Answers.{TypesSoFar}
-use Rattle.wasm_validator_sections.specs.WasmValidatorFunc.declared.func_validator.FuncToValidate.{FuncToValidate}
-use Rattle.wasm_validator_sections.specs.Machine.{section_items, start_item, data_count_item, beside}
-use Rattle.wasm_validator_sections.specs.Noted.{Noted, naming, counting, noting_nothing}
-use Rattle.wasm_validator_modules.specs.Standing.{Stage, unparsed, in_module, in_code, ended, failed, Standing, within, within_all, at_stage}
-use Rattle.wasm_validator_modules.specs.States.{BodyToValidate, begun, code_started, body_taken, module_ended, after_piece, next_function, body_with, body_at, handed}
-use Rattle.wasm_validator_modules.specs.Payloads.{body_seen, bodies_given, IsKept, IsGivenIn, kept_behind}
+use Rattle.wasm_validator_states.specs.WasmValidatorSections.WasmValidatorReferences.References.{section_names}
+use Rattle.wasm_validator_states.specs.WasmParser.declared.function_body.FunctionBody.{FunctionBody}
+use Rattle.wasm_validator_states.specs.WasmValidatorTypes.Spaces.{Spaces}
+use Rattle.wasm_validator_states.specs.WasmValidatorSections.WasmValidatorCore.Answers.{TypesSoFar}
+use Rattle.wasm_validator_states.specs.WasmValidatorSections.WasmValidatorFunc.declared.func_validator.FuncToValidate.{FuncToValidate}
+use Rattle.wasm_validator_states.specs.WasmValidatorSections.Machine.{section_items, start_item, data_count_item, beside}
+use Rattle.wasm_validator_states.specs.WasmValidatorSections.Noted.{Noted, naming, counting, noting_nothing}
+use Rattle.wasm_validator_states.specs.Standing.{Stage, unparsed, in_module, in_code, ended, failed, Standing, within, within_all, at_stage}
+use Rattle.wasm_validator_states.specs.States.{BodyToValidate, begun, code_started, body_taken, module_ended, after_piece, next_function, body_with, body_at, handed}
+use Rattle.wasm_validator_modules.specs.Given.{body_seen, bodies_given, IsKept, IsGivenIn, kept_behind}
 use Rattle.wasm_validator_modules.specs.declared.payload.ValidPayload.{ValidPayload}
 use Rattle.wasm_validator_modules.specs.declared.payload.ValidPayload.TheVariants.{Ok, Func, End}
-use Rattle.wasm_validator_modules.proofs.Growing.{body_some}
+use Rattle.wasm_validator_states.proofs.Growing.{body_some}
 
 -- The code has started with this context, and no body comes behind its end.
 abbrev pub IsIn : Context UnpackedIndex → Stage → Type 0

@@ -1,38 +1,17 @@
-pub use Rattle.wasm_validator_canonical.proofs as WasmValidatorCanonical
-pub use Rattle.wasm_validator_sections.proofs as WasmValidatorSections
-pub use Rattle.wasm_validator_sections.proofs.WasmLawsCore as WasmLawsCore
+pub use Rattle.wasm_validator_states.proofs.WasmValidatorCanonical as WasmValidatorCanonical
+pub use Rattle.wasm_validator_states.proofs.WasmLawsCore as WasmLawsCore
+pub use Rattle.wasm_validator_states.proofs.Growing
+pub use Rattle.wasm_validator_states.proofs.Resets
+pub use Rattle.wasm_validator_states.proofs.TableKept
+pub use Rattle.wasm_validator_states.proofs.HeldShown
+pub mod Cited
 pub mod Sections
 pub mod ToldMoves
 pub mod KeptTypes
-pub mod Growing
-pub mod ValidTypes
 pub mod SectionMoves
 pub mod Runs
 pub mod Bodies
 pub mod KeptContext
 pub mod GoingOn
 pub mod Together
-pub mod AddedTypes
-pub mod ModuleRun
-pub mod SectionLists
-pub mod KnownSections
-pub mod FramedParts
-pub mod ValidRules
-pub mod UsedLaws
-pub mod RunOfParts
-pub mod CodeOrder
-pub mod PieceRuns
-pub mod TypedBodies
-pub mod ValidModules
-pub mod WholeModules
 pub mod HeldApart
-pub mod Sequences
-pub mod OwnIds
-pub mod Resets
-pub mod TableKept
-pub mod SectionLaws
-pub mod EntriesAdded
-pub mod ImportsAdded
-pub mod ExportsAdded
-pub mod TypesAdded
-pub mod HeldShown

@@ -4,29 +4,31 @@ use Rattle.std.specs.Option.{option_and_then}
 use Rattle.std.specs.Prelude.{IsErrAnd, IsSome}
 use Rattle.wasm_spec.specs.Framing as parts
 use Rattle.wasm_spec.specs.Framing.{Piece, IsFramed, Version, Custom, Counted, Start, DataCount, CodeStart, CodeEntry, Unknown}
-use Rattle.wasm_parser.specs.Machine.{State, start, next_of, Run, Given}
+use Rattle.wasm_validator_states.specs.WasmParser.Machine.{State, start, next_of, Run, Given}
 use Rattle.wasm_readers_errors.specs.declared.error.Refusal.{Refusal}
-use Rattle.wasm_parser.proofs.Law.{run_framed, framed_run}
-use Rattle.wasm_parser.proofs.Onward.{front, grows, ends, stuck}
-use Rattle.wasm_validator_types.specs.declared.shown.Types.{Types}
+use Rattle.wasm_validator_states.proofs.WasmParser.Law.{run_framed, framed_run}
+use Rattle.wasm_validator_states.proofs.WasmParser.Onward.{front, grows, ends, stuck}
+use Rattle.wasm_validator_states.specs.WasmValidatorTypes.declared.shown.Types.{Types}
 use Rattle.wasm_validator_modules.specs.declared.payload.ValidPayload.{ValidPayload}
 use Rattle.wasm_validator_modules.specs.declared.payload.ValidPayload.TheVariants.{Ok, Func, End}
 use Rattle.std.specs.declared.result.Result.{Result}
 use Rattle.std.specs.declared.result.Result.TheVariants as results
-use Rattle.wasm_validator_sections.specs.WasmValidatorCore.declared.error.Error.{Error}
-use Rattle.wasm_validator_sections.specs.WasmValidatorCore.declared.error.Error.TheVariants.{Refused, DuplicateExport, InFunction, OutOfMemory}
+use Rattle.wasm_validator_states.specs.WasmValidatorSections.WasmValidatorCore.declared.error.Error.{Error}
+use Rattle.wasm_validator_states.specs.WasmValidatorSections.WasmValidatorCore.declared.error.Error.TheVariants.{Refused, DuplicateExport, InFunction, OutOfMemory}
 use Rattle.wasm_spec_rules.proofs.Tests.{then_some}
-use Rattle.wasm_validator_sections.specs.WasmValidatorCore.Answers.{IsNowhere}
-use Rattle.wasm_validator_sections.specs.WasmValidatorCore.Errors.{IsContent}
-use Rattle.wasm_validator_sections.specs.Started.{starting}
-use Rattle.wasm_validator_modules.specs.Standing.{Stage, unparsed, in_module, in_code, ended, failed, Standing, at_stage, HoldsValid, Leaves, IsEnded, HasNotEnded}
-use Rattle.wasm_validator_modules.specs.States.{after_piece, BodyToValidate, code_started, body_taken, body_at, handed, IsBeforeEnd, left_by, takes_memory, code_count}
-use Rattle.wasm_validator_modules.specs.Payloads.{ShowsModule, Show, IsFunction, KeepsBodies, body_seen, bodies_given, latest_of, after_all, handed_behind, all_handed, Runs, Rejects, HasTaken, IsToldOfFormat, IsLeft, IsBehindCode, IsOutOfMemory, TellsFormat, Validates}
-use Rattle.wasm_validator_sections.specs.SectionsTold.{StandsBetween}
-use Rattle.wasm_validator_modules.proofs.Growing.{body_some}
+use Rattle.wasm_validator_states.specs.WasmValidatorSections.WasmValidatorCore.Answers.{IsNowhere}
+use Rattle.wasm_validator_states.specs.WasmValidatorSections.WasmValidatorCore.Errors.{IsContent}
+use Rattle.wasm_validator_states.specs.WasmValidatorSections.Started.{starting}
+use Rattle.wasm_validator_states.specs.Standing.{Stage, unparsed, in_module, in_code, ended, failed, Standing, at_stage, HoldsValid, Leaves, IsEnded, HasNotEnded}
+use Rattle.wasm_validator_states.specs.States.{after_piece, BodyToValidate, code_started, body_taken, body_at, handed, IsBeforeEnd, left_by, takes_memory, code_count}
+use Rattle.wasm_validator_states.specs.Payloads.{Show, after_all, handed_behind, all_handed, Runs, Rejects, HasTaken, IsToldOfFormat, IsLeft, IsBehindCode, IsOutOfMemory, Validates}
+use Rattle.wasm_validator_modules.specs.Given.{ShowsModule, IsFunction, KeepsBodies, body_seen, bodies_given, latest_of, TellsFormat}
+use Rattle.wasm_validator_states.specs.WasmValidatorSections.SectionsTold.{StandsBetween}
+use Rattle.wasm_validator_states.proofs.Growing.{body_some}
 use Rattle.wasm_readers_errors.specs.WasmReadersFeatures.declared.features.WasmFeatures.{WasmFeatures}
 use Rattle.std.proofs.lemmas.Option.{same_Some}
-use Rattle.wasm_validator_modules.proofs.ValidTypes.{all_back}
+use Rattle.wasm_validator_states.proofs.ValidTypes.{all_back}
+use Rattle.wasm_validator_states.proofs.WholeModules.{refusal}
 
 -- pieces after pieces
 all_from : (ps qs : List Piece) (t : Standing) (o : Option Standing) → ((u : Standing) → after_all u ps ≡ Some t → after_all u (ps ++ qs) ≡ after_all t qs)
@@ -240,10 +242,6 @@ module _ {A : Type 0} where
       let split : after_all old all ≡ after_all now (p ∷ n.0) = ap (after_all old) (b.1 ∙ ap (λ (qs : List Piece). g.pieces ++ qs) n.1) ∙ after_all-append g.pieces (p ∷ n.0) old now g.taken in
       let c = then_some (λ t. after_all t n.0) (after_piece now p) q (sym split ∙ r) in
       a c.0 c.1 (all_back n.0 c.0 q c.2 v)
-
-  -- a refusal, as an answer of any type
-  abbrev pub refusal : (T : Type 0) → Error A → Result T (Error A)
-  refusal T e = results.Err e
 
   -- what was taken
   pub has_taken : (bytes : List ℕ) (old now : Standing) (s : State) (latest : Option (Types A)) (bodies : List BodyToValidate) → Progress bytes old now s latest bodies → HasTaken bytes old now s

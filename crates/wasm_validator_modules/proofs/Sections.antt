@@ -2,29 +2,30 @@
 use Rattle.std.proofs.Common.{◌≡◌, refl, sym, ap, subst, ◌∙◌, ℕ, ◌<◌, List, Some, None}
 use Rattle.wasm_readers_errors.specs.WasmReadersFeatures.declared.features.WasmFeatures.{WasmFeatures}
 use Rattle.wasm_readers_types.specs.declared.types.SubType.{SubType}
-use Rattle.wasm_validator_sections.specs.WasmLawsContexts.WasmValidatorCoreResources.ById.{AreFirstByIds}
-use Rattle.wasm_validator_types.specs.Spaces.{Spaces}
+use Rattle.wasm_validator_states.specs.WasmValidatorSections.WasmLawsContexts.WasmValidatorCoreResources.ById.{AreFirstByIds}
+use Rattle.wasm_validator_states.specs.WasmValidatorTypes.Spaces.{Spaces}
 use Rattle.wasm_validator_modules.specs.declared.validator.State.{State}
 use Rattle.wasm_validator_modules.specs.declared.validator.State.TheVariants.{Unparsed, Module, Code, End, Failed}
-use Rattle.wasm_validator_sections.specs.WasmValidatorCore.Answers.{TypesSoFar}
+use Rattle.wasm_validator_states.specs.WasmValidatorSections.WasmValidatorCore.Answers.{TypesSoFar}
 use Rattle.wasm_spec.specs.Features.{Features}
 use Rattle.wasm_spec_rules.specs.FeatureFlags.{features_of}
-use Rattle.wasm_validator_canonical.specs.Groups.{AreValid}
-use Rattle.wasm_validator_type_list.specs.DefTypes.{types_of_list}
-use Rattle.wasm_validator_types.specs.Shown.{Shown, HoldsIds}
-use Rattle.wasm_validator_modules.specs.Standing.{shown_at, Standing, ended}
-use Rattle.wasm_validator_type_list.specs.Listing.{Listing, types_in}
-use Rattle.wasm_validator_type_list.specs.Listing as lists
-use Rattle.wasm_validator_type_list.proofs.DefTypes.{length-def_types}
-use Rattle.wasm_validator_sections.specs.WasmValidatorCore.Ready.{AreIdsOf}
-use Rattle.wasm_validator_sections.specs.declared.module_state.ModuleState.{ModuleState}
+use Rattle.wasm_validator_states.specs.WasmValidatorCanonical.Groups.{AreValid}
+use Rattle.wasm_validator_states.specs.WasmValidatorTypeList.DefTypes.{types_of_list}
+use Rattle.wasm_validator_states.specs.WasmValidatorTypes.Shown.{Shown, HoldsIds}
+use Rattle.wasm_validator_states.specs.Standing.{shown_at, Standing, ended}
+use Rattle.wasm_validator_states.specs.WasmValidatorTypeList.Listing.{Listing, types_in}
+use Rattle.wasm_validator_states.specs.WasmValidatorTypeList.Listing as lists
+use Rattle.wasm_validator_states.proofs.WasmValidatorTypeList.DefTypes.{length-def_types}
+use Rattle.wasm_validator_states.specs.WasmValidatorSections.WasmValidatorCore.Ready.{AreIdsOf}
+use Rattle.wasm_validator_states.specs.WasmValidatorSections.declared.module_state.ModuleState.{ModuleState}
 use Rattle.wasm_validator_modules.specs.Ready.{AreIdsIn, AreValidIn, AreFirstIn}
-use Rattle.wasm_validator_modules.specs.States.{open_of, read_of, stage_of, state_kept, module_ended, after_end}
+use Rattle.wasm_validator_states.specs.States.{module_ended, after_end}
+use Rattle.wasm_validator_modules.specs.Views.{open_of, read_of, stage_of, state_kept}
 use Rattle.std.specs.List.{All}
 use Rattle.std.specs.Prelude.{OnOk}
 use Rattle.std.specs.declared.result.Result.{Result}
 use Rattle.std.specs.declared.result.Result.TheVariants as results
-use Rattle.wasm_validator_sections.specs.WasmValidatorCore.declared.error.Error.{Error}
+use Rattle.wasm_validator_states.specs.WasmValidatorSections.WasmValidatorCore.declared.error.Error.{Error}
 
 -- the end of a module that is being read
 module _ {A : Type 0} where

@@ -1,16 +1,16 @@
-pub use Rattle.wasm_spec_validity.specs as WasmSpecValidity
-pub use Rattle.wasm_validator_canonical.specs as WasmValidatorCanonical
-pub use Rattle.wasm_validator_sections.specs as WasmValidatorSections
-pub use Rattle.wasm_validator_sections.specs.WasmValidatorCore as WasmValidatorCore
-pub mod Standing
+pub use Rattle.wasm_validator_states.specs.WasmValidatorTypes as WasmValidatorTypes
+pub use Rattle.wasm_validator_states.specs.WasmSpecValidity as WasmSpecValidity
+pub use Rattle.wasm_validator_states.specs.WasmValidatorCanonical as WasmValidatorCanonical
+pub use Rattle.wasm_validator_states.specs.WasmValidatorCore as WasmValidatorCore
+pub use Rattle.wasm_validator_states.specs.Standing
+pub use Rattle.wasm_validator_states.specs.States
+pub use Rattle.wasm_validator_states.specs.Shows
+pub use Rattle.wasm_validator_states.specs.Payloads
+pub use Rattle.wasm_validator_states.specs.Verdict
+pub use Rattle.wasm_validator_states.specs.Sequences
+pub use Rattle.wasm_validator_states.specs.Table
 pub mod Codes
-pub mod Shows
+pub mod Views
 pub mod Ready
 pub mod OrderTold
-pub mod States
-pub mod Payloads
-pub mod Verdict
-pub mod Driven
-pub mod Sequences
-pub mod Table
-pub mod SectionLaws
+pub mod Given

@@ -3,11 +3,11 @@ use Rattle.std.specs.Prelude.{List, ⊤}
 use Rattle.wasm_spec_rules.specs.FeatureFlags.{features_of}
 use Rattle.wasm_readers_errors.specs.WasmReadersFeatures.declared.features.WasmFeatures.{WasmFeatures}
 use Rattle.wasm_readers_types.specs.declared.types.SubType.{SubType}
-use Rattle.wasm_validator_type_list.specs.Listing.{Listing}
-use Rattle.wasm_validator_canonical.specs.Groups.{AreValid}
-use Rattle.wasm_validator_type_list.specs.DefTypes.{types_of_list}
-use Rattle.wasm_validator_sections.specs.WasmValidatorCore.Ready.{IsOpenFor, AreIdsOf}
-use Rattle.wasm_validator_sections.specs.WasmLawsContexts.WasmValidatorCoreResources.ById.{AreFirstByIds}
+use Rattle.wasm_validator_states.specs.WasmValidatorTypeList.Listing.{Listing}
+use Rattle.wasm_validator_states.specs.WasmValidatorCanonical.Groups.{AreValid}
+use Rattle.wasm_validator_states.specs.WasmValidatorTypeList.DefTypes.{types_of_list}
+use Rattle.wasm_validator_states.specs.WasmValidatorSections.WasmValidatorCore.Ready.{IsOpenFor, AreIdsOf}
+use Rattle.wasm_validator_states.specs.WasmValidatorSections.WasmLawsContexts.WasmValidatorCoreResources.ById.{AreFirstByIds}
 use Rattle.wasm_validator_modules.specs.declared.validator.State.{State}
 use Rattle.wasm_validator_modules.specs.declared.validator.State.TheVariants.{Unparsed, Module, Code, End, Failed}
 use Rattle.wasm_validator_modules.specs.declared.validator.Validator.TheInside.{Inside}

@@ -1,26 +1,40 @@
+//! Payloads, handed in one by one or as a parser finds them in the bytes of a whole module.
+//!
+//! `Validator::payload` gives each payload to the method of its section (`validator.rt`), and hands
+//! out a function for each body and the types at the end. `Validator::validate_all` does this for
+//! all payloads of the bytes (`run`), up to the first that is refused, and collects the bodies
+//! (`Bodies`): what they look up is the same for all, and kept once. Behind the end it validates
+//! them in their order, in the same memory. So a module whose sections are refused is refused
+//! before any body is looked at, and a validator whose module was refused for a body stands at the
+//! end, where it may be reset.
+//!
+//! Offsets count bytes from the start of the input (Core Specification 3.0, Binary Format, Modules,
+//! and Validation, Modules).
+
 ghost use Rattle.wasm_readers_errors.specs.WasmReadersFeatures.declared.features.TheConstants.WasmFeatures.{STANDARD};
 ghost use Rattle.std.specs.Prelude.{ℕ, true, false, ◌≡◌, ◌≤◌, ◌++◌, ◌∷◌, [], IfOk, IfErr, OnOk, OnErr, IfSome, Some, None, length, map};
 ghost use Rattle.std.specs.Option.{option_map};
-ghost use Rattle.wasm_parser.specs.Machine.{next_of};
-ghost use Rattle.wasm_parser.specs.Places.{starts_at, ends_at, input_end, refused_with, ReadsInput};
-ghost use Rattle.wasm_parser.specs.Seen.{seen, state, body_reader};
-ghost use Rattle.wasm_validator_sections.specs.SectionsTold.{StandsBetween};
-ghost use Rattle.wasm_validator_sections.specs.WasmValidatorCore.Errors.{IsContent};
-ghost use Rattle.wasm_validator_types.specs.Shown.{shown_of, HoldsIds};
-ghost use Rattle.wasm_validator_modules.specs.Standing.{Leaves};
-ghost use Rattle.wasm_validator_sections.specs.WasmValidatorFunc.Functions.{Decides, StandsInOrFirst};
-ghost use Rattle.wasm_validator_modules.specs.States.{after_piece, handed, left_by, takes_memory, IsSection};
-ghost use Rattle.wasm_validator_modules.specs.Payloads.{ShowsModule, HoldsIdsAtEnd, HoldsTypes, IsFunction, KeepsBodies, IsKept, IsGivenIn, kept_behind, latest_of, bodies_given, bodies_seen, pending_seen, EndsBy, EachEndsBy, AllEndBy, GivenEndBy, IsBodyOfIts, DecidesBodies, TellsFormat, Validates};
-ghost use Rattle.wasm_validator_modules.specs.Verdict.{DecidesModule, DecidesAlone, EndsModule, StopsModule};
+ghost use Rattle.wasm_validator_states.specs.WasmParser.Machine.{next_of};
+ghost use Rattle.wasm_validator_states.specs.WasmParser.Places.{starts_at, ends_at, input_end, refused_with, ReadsInput};
+ghost use Rattle.wasm_validator_states.specs.WasmParser.Seen.{seen, state, body_reader};
+ghost use Rattle.wasm_validator_states.specs.WasmValidatorSections.SectionsTold.{StandsBetween};
+ghost use Rattle.wasm_validator_states.specs.WasmValidatorSections.WasmValidatorCore.Errors.{IsContent};
+ghost use Rattle.wasm_validator_states.specs.WasmValidatorTypes.Shown.{shown_of, HoldsIds};
+ghost use Rattle.wasm_validator_states.specs.Standing.{Leaves};
+ghost use Rattle.wasm_validator_states.specs.WasmValidatorSections.WasmValidatorFunc.Functions.{Decides, StandsInOrFirst};
+ghost use Rattle.wasm_validator_states.specs.States.{after_piece, handed, left_by, takes_memory, IsSection};
+ghost use Rattle.wasm_validator_states.specs.Payloads.{HoldsTypes, IsBodyOfIts, DecidesBodies, Validates};
+ghost use Rattle.wasm_validator_modules.specs.Given.{ShowsModule, HoldsIdsAtEnd, IsFunction, KeepsBodies, IsKept, IsGivenIn, kept_behind, latest_of, bodies_given, bodies_seen, pending_seen, EndsBy, EachEndsBy, AllEndBy, GivenEndBy, TellsFormat};
+ghost use Rattle.wasm_validator_states.specs.Verdict.{DecidesModule, DecidesAlone, EndsModule, StopsModule};
 
 use crate::validator::Validator;
 use std::alloc::{AllocError, Allocator, Global};
-use wasm_parser::{FunctionBody, ParseAll, Parser, Payload};
 use wasm_readers::WasmFeatures;
-use wasm_validator_sections::validator_core::Error;
-use wasm_validator_sections::validator_core_resources::ValidatorResources;
-use wasm_validator_sections::validator_func::{FuncToValidate, FuncValidatorAllocations};
-use wasm_validator_types::{Types, ValidatorId};
+use wasm_validator_states::parser::{FunctionBody, ParseAll, Parser, Payload};
+use wasm_validator_states::sections::validator_core::Error;
+use wasm_validator_states::sections::validator_core_resources::ValidatorResources;
+use wasm_validator_states::sections::validator_func::{FuncToValidate, FuncValidatorAllocations};
+use wasm_validator_states::types::{Types, ValidatorId};
 
 /// A function whose body is to be validated.
 #[derive(Drop)]
@@ -142,7 +156,7 @@ impl<A: Allocator + Copy> Validator<A> {
     /// Refused where the parser refuses the bytes; as by [`Validator::payload`] where that refuses a
     /// payload; behind the end, where a function's body isn't valid, with the function's index, and
     /// then the validator may be reset; and where memory is. The offset is in the input or its end.
-    #[tactic(auto, using(crate::proofs::HeldShown::answer_held))]
+    #[tactic(auto, using(crate::proofs::Cited::answer_held))]
     pub fn validate_all(&mut self, bytes: &[u8]) -> Result<Types<A>, Error<A>>
         ensures decided { DecidesModule result bytes.now self.old self.new }
         ensures place { IfErr result (StandsBetween 0 (length bytes.now)) }
@@ -152,8 +166,7 @@ impl<A: Allocator + Copy> Validator<A> {
         answer_all(self, bytes).answer
     }
 
-    /// Goes over the payloads of these bytes, up to the first that is refused, and collects the
-    /// bodies.
+    /// Goes over the payloads of these bytes, up to one that is refused, and collects the bodies.
     fn run<'a>(&mut self, bytes: &'a [u8]) -> Result<(Types<A>, Bodies<'a, A>), Error<A>>
         ensures validates { Validates (λ b. bodies_seen b) result bytes.now self.old self.new }
         ensures within { IfOk result (λ x. AllEndBy (length bytes.now) x.1) }

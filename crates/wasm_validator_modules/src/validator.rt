@@ -1,25 +1,61 @@
+//! A validator: where it stands, and one method for each payload but custom sections.
+//!
+//! # States
+//!
+//! A validator is in one of five states: before a header (`Unparsed`), in a module whose code has
+//! not started (`Module`), behind the start of its code (`Code`), at its end (`End`), or failed.
+//!
+//! | Call | in | leads to | refused for its content or memory |
+//! |---|---|---|---|
+//! | `version` | `Unparsed` | `Module` | stays |
+//! | a section, `start_section`, `data_count_section` | `Module` | `Module` | `Failed` |
+//! | `code_section_start` | `Module` | `Code` | `Failed` |
+//! | `code_section_entry` | `Code`, while bodies are to come | `Code` | `Failed` |
+//! | `data_section` | `Module`, `Code` | stays | `Failed` |
+//! | `end` | `Module`, `Code` | `End` | `Failed` |
+//! | `reset` | `Unparsed`, `End` | `Unparsed` | never |
+//!
+//! In any other state a call is refused and changes nothing, but for two: `end` before a header
+//! leads to `End`, and tags without their proposal fail a validator behind the start of the code
+//! too. An unknown section is refused everywhere. `wasm_spec_rules` has this table as a definition
+//! (`StateTable`), and `state_table` says that the machine keeps it.
+//!
+//! # How a section is added
+//!
+//! Its method takes the module out of the state and leaves `Failed` there (`take_module`), adds the
+//! items to it, and puts it back only if all were added (`put_back`). So what was added in part is
+//! dropped with the module, and no code undoes it.
+//!
+//! # Units
+//!
+//! Offsets count bytes from the start of the input. A range has the offsets of the first byte and of
+//! the one behind the last. Sections, bodies and the end have the meaning that the Core
+//! Specification 3.0 gives them (Validation, Modules; Binary Format, Modules).
+
 ghost use Rattle.wasm_readers_errors.specs.WasmReadersFeatures.declared.features.TheConstants.WasmFeatures.{STANDARD};
 ghost use Rattle.std.specs.Prelude.{◌≡◌, List, ◌∷◌, ◌-◌, not, [], IfOk, IfErr, IfSome, IfNone, IsSome, IsErr, OnOk, OnErr, Some, None, true, false, is_ok, ◌↔◌, ◌+◌};
-ghost use Rattle.wasm_validator_sections.specs.WasmValidatorCore.Errors.{IsContent, offset_of};
+ghost use Rattle.wasm_validator_states.specs.WasmValidatorSections.WasmValidatorCore.Errors.{IsContent, offset_of};
 ghost use Rattle.wasm_readers.specs.WasmReadersBytes.Reader.{original, position_in};
 ghost use Rattle.wasm_readers_errors.specs.Refusals.{plain};
 ghost use Rattle.wasm_spec_rules.specs.FeatureFlags.{features_of};
 ghost use Rattle.wasm_readers.specs.SectionsSeen.{count_of, bytes_of, section_start, section_end};
-ghost use Rattle.wasm_parser.specs.Seen.{body_of, body_reader};
-ghost use Rattle.wasm_validator_sections.specs.WasmValidatorCore.Answers.{TypesSoFar};
-ghost use Rattle.wasm_validator_sections.specs.declared.code_state.TheConstants.{MAX_FUNCTION_SIZE};
-ghost use Rattle.wasm_validator_type_list.specs.Interned.{AreOnce};
-ghost use Rattle.wasm_validator_type_list.specs.Listing.{Listing, committed};
+ghost use Rattle.wasm_validator_states.specs.WasmParser.Seen.{body_of, body_reader};
+ghost use Rattle.wasm_validator_states.specs.WasmValidatorSections.WasmValidatorCore.Answers.{TypesSoFar};
+ghost use Rattle.wasm_validator_states.specs.WasmValidatorSections.declared.code_state.TheConstants.{MAX_FUNCTION_SIZE};
+ghost use Rattle.wasm_validator_states.specs.WasmValidatorTypeList.Interned.{AreOnce};
+ghost use Rattle.wasm_validator_states.specs.WasmValidatorTypeList.Listing.{Listing, committed};
 ghost use Rattle.wasm_readers_types.specs.declared.types.SubType.{SubType};
 ghost use Rattle.wasm_validator_modules.specs.Ready.{AreIdsIn, AreValidIn, AreFirstIn};
-ghost use Rattle.wasm_validator_type_list.specs.DefTypes.{types_of_list};
-ghost use Rattle.wasm_validator_types.specs.Shown.{shown_of, shown_by, HoldsIds};
-ghost use Rattle.wasm_validator_modules.specs.Payloads.{Show, body_seen, TakesBody};
-ghost use Rattle.wasm_validator_modules.specs.Standing.{HoldsValid, Leaves, Moves, read_refused_at, body_refused_at, ended_at, fresh, is_failed, may_reset, after_reset, shown_at};
-ghost use Rattle.wasm_validator_modules.specs.Verdict.{StandsApart};
+ghost use Rattle.wasm_validator_states.specs.WasmValidatorTypeList.DefTypes.{types_of_list};
+ghost use Rattle.wasm_validator_states.specs.WasmValidatorTypes.Shown.{shown_of, shown_by, HoldsIds};
+ghost use Rattle.wasm_validator_states.specs.Payloads.{Show};
+ghost use Rattle.wasm_validator_modules.specs.Given.{body_seen, TakesBody};
+ghost use Rattle.wasm_validator_states.specs.Standing.{HoldsValid, Leaves, Moves, read_refused_at, body_refused_at, ended_at, fresh, is_failed, may_reset, after_reset, shown_at};
+ghost use Rattle.wasm_validator_states.specs.Verdict.{StandsApart};
 ghost use Rattle.wasm_validator_modules.specs.OrderTold.{TellsWithin, TellsReading, TellsOrder, TellsTagSection, TellsStart, TellsDataCount, header_told, body_told, end_order_told};
-ghost use Rattle.wasm_validator_sections.specs.SectionsTold.{OfContent, StandsBetween, TellsTypes, TellsImports, TellsExports, TellsFunctions, TellsTables, TellsMemories, TellsGlobals, TellsElements, TellsData};
-ghost use Rattle.wasm_validator_modules.specs.States.{open_of, read_of, ended_spaces, stage_of, order_at, end_order_at, body_order_at, state_kept, is_module, after_version, after_section, section_refused_at, after_start, after_data_count, after_code_start, body_at, after_body, after_end};
+ghost use Rattle.wasm_validator_states.specs.WasmValidatorSections.SectionsTold.{OfContent, StandsBetween, TellsTypes, TellsImports, TellsExports, TellsFunctions, TellsTables, TellsMemories, TellsGlobals, TellsElements, TellsData};
+ghost use Rattle.wasm_validator_states.specs.States.{after_version, after_section, section_refused_at, after_start, after_data_count, after_code_start, body_at, after_body, after_end};
+ghost use Rattle.wasm_validator_modules.specs.Views.{open_of, read_of, ended_spaces, stage_of, order_at, end_order_at, body_order_at, state_kept, is_module};
 
 use bitflags::Flags;
 use std::alloc::{AllocError, Allocator, Global};
@@ -27,21 +63,24 @@ use std::marker::Model;
 use std::mem;
 use std::ops::Range;
 use std::rc::Rc;
-use wasm_parser::{Encoding, FunctionBody};
 use wasm_readers::{
-    Data, Element, Export, Fault, Global as GlobalItem, Import, MemoryType, OutOfOrder, RecGroup,
-    Refusal, Rule, SectionLimited, Table, TagType, WasmFeatures,
+    Export, Fault, Import, MemoryType, OutOfOrder, RecGroup, Refusal, Rule, SectionLimited,
+    TagType, WasmFeatures,
 };
-use wasm_validator_canonical::{needs_type_canonicalization, types_are_apart};
-use wasm_validator_sections::validator_core::{Error, Module, check_data_count};
-use wasm_validator_sections::validator_core_resources::ValidatorResources;
-use wasm_validator_sections::validator_func::FuncToValidate;
-use wasm_validator_sections::{
+use wasm_validator_states::parser::items::{Data, Element, Global as GlobalItem, Table};
+use wasm_validator_states::parser::{Encoding, FunctionBody};
+use wasm_validator_states::sections::validator_core::{Error, Module, check_data_count};
+use wasm_validator_states::sections::validator_core_resources::ValidatorResources;
+use wasm_validator_states::sections::validator_func::FuncToValidate;
+use wasm_validator_states::sections::{
     CodeState, Constants, ModuleState, add_functions, add_imports, add_memories, add_tags,
     add_types, check_data_segments, handed_out, started, take_elements, take_exports, take_globals,
     take_tables, tells_types_apart,
 };
-use wasm_validator_types::{IndexSpaces, TypeList, Types, TypesRef, ValidatorId};
+use wasm_validator_states::types::{
+    IndexSpaces, TypeList, Types, TypesRef, ValidatorId, needs_type_canonicalization,
+    types_are_apart,
+};
 
 /// What a validator is doing.
 #[derive(Drop)]
@@ -79,7 +118,7 @@ impl<A: Allocator> Drop for Validator<A> {
 }
 
 impl<A: Allocator> Model for Validator<A> {
-    ghost use Rattle.wasm_validator_modules.specs.Standing.{Standing};
+    ghost use Rattle.wasm_validator_states.specs.Standing.{Standing};
 
     ghost Value = { Standing };
 
@@ -87,7 +126,7 @@ impl<A: Allocator> Model for Validator<A> {
 
     ghost coded = { coded_standing };
 
-    ghost use Rattle.wasm_validator_modules.specs.States.{standing_of};
+    ghost use Rattle.wasm_validator_modules.specs.Views.{standing_of};
 
     ghost view = { standing_of };
 
@@ -121,7 +160,7 @@ fn end_out_of_order<A: Allocator>(state: &State<A>) -> OutOfOrder
 
 /// Takes the module out, where one is being read whose code has not started, and leaves `Failed` in
 /// its place.
-fn opened<A: Allocator>(state: &mut State<A>, offset: u64) -> Result<ModuleState<A>, Refusal>
+fn take_module<A: Allocator>(state: &mut State<A>, offset: u64) -> Result<ModuleState<A>, Refusal>
     ensures ok { IfOk result (λ m. open_of state.old ≡ Some m.«module») }
     ensures was { IfOk result (λ m. state.old ≡ State.Module m) }
     ensures left { OnOk result (state.new ≡ State.Failed) }
@@ -149,7 +188,7 @@ enum EndedSpaces<A: Allocator> {
 }
 
 /// Takes the module out, where one is being read, and leaves `Failed` in its place.
-fn closing<A: Allocator>(state: &mut State<A>) -> Result<EndedSpaces<A>, OutOfOrder>
+fn close_module<A: Allocator>(state: &mut State<A>) -> Result<EndedSpaces<A>, OutOfOrder>
     ensures ok { IfOk result (λ m. read_of state.old ≡ Some (ended_spaces m)) }
     ensures left { OnOk result (state.new ≡ State.Failed) }
     ensures none { OnErr result (read_of state.old ≡ None) }
@@ -168,7 +207,7 @@ fn closing<A: Allocator>(state: &mut State<A>) -> Result<EndedSpaces<A>, OutOfOr
 }
 
 /// The index spaces of the module that is being read, where one is.
-fn reading<A: Allocator + Copy>(state: &State<A>) -> Option<&IndexSpaces<A>>
+fn find_spaces<A: Allocator + Copy>(state: &State<A>) -> Option<&IndexSpaces<A>>
     ensures some { IfSome result (λ m. read_of state.now ≡ Some m.now) }
     ensures none { IfNone result (read_of state.now ≡ None) }
 {
@@ -194,7 +233,7 @@ fn body_out_of_order<A: Allocator>(state: &State<A>) -> OutOfOrder
 
 /// Takes one body more, where one is to come. Where it is too long, or memory is refused, the
 /// validator has failed.
-fn taken<A: Allocator + Copy>(
+fn take_body<A: Allocator + Copy>(
     state: &mut State<A>,
     features: WasmFeatures,
     body: &FunctionBody<'_>,
@@ -230,7 +269,7 @@ fn taken<A: Allocator + Copy>(
 
 /// Puts the module back where a section was added to it. Where one was refused, the validator has
 /// failed.
-fn kept<A: Allocator>(
+fn put_back<A: Allocator>(
     state: &mut State<A>,
     read: ModuleState<A>,
     added: Result<(), Error<A>>,
@@ -249,7 +288,7 @@ fn kept<A: Allocator>(
 }
 
 /// What a check of a module says, as the answer of a section.
-fn checked<A: Allocator>(answer: Result<(), Refusal>) -> Result<(), Error<A>>
+fn lift_refusal<A: Allocator>(answer: Result<(), Refusal>) -> Result<(), Error<A>>
     ensures same { is_ok result ≡ is_ok answer }
     ensures refusal { IfErr answer (λ r. IfErr result (λ e. e ≡ Error.Refused r)) }
 {
@@ -260,7 +299,7 @@ fn checked<A: Allocator>(answer: Result<(), Refusal>) -> Result<(), Error<A>>
 }
 
 /// The index spaces of a module that has ended, to be shared.
-fn shared<A: Allocator + Copy>(
+fn share_spaces<A: Allocator + Copy>(
     alloc: A,
     ended: EndedSpaces<A>,
 ) -> Result<Rc<IndexSpaces<A>, A>, AllocError>
@@ -273,7 +312,7 @@ fn shared<A: Allocator + Copy>(
 }
 
 /// The types of a module that has ended.
-fn finished<A: Allocator + Copy>(
+fn finish_types<A: Allocator + Copy>(
     id: ValidatorId,
     features: WasmFeatures,
     alloc: A,
@@ -292,7 +331,7 @@ fn finished<A: Allocator + Copy>(
     // Asked for what it promises: where equal types are one, no type has two ids.
     let _is_canonical = types.is_canonical();
     let list = types.commit()?;
-    let spaces = shared(alloc, ended)?;
+    let spaces = share_spaces(alloc, ended)?;
     Ok(Types::new(id, features, list, spaces))
 }
 
@@ -383,7 +422,7 @@ impl<A: Allocator + Copy> Validator<A> {
         if level != 0 {
             return None;
         }
-        match reading(&self.state) {
+        match find_spaces(&self.state) {
             Some(spaces) => {
                 let list = &self.types;
                 Some(TypesRef::new(self.id, self.features, list, spaces))
@@ -468,7 +507,7 @@ impl<A: Allocator + Copy> Validator<A> {
             (TellsTypes self.old.features section.now)
             (section_start section.now) self.old.stage)) }
     {
-        match opened(&mut self.state, section.range().start) {
+        match take_module(&mut self.state, section.range().start) {
             Ok(mut state) => {
                 // What is kept of the list stays the first of it, since it tells types apart.
                 tells_types_apart(&self.types);
@@ -480,7 +519,7 @@ impl<A: Allocator + Copy> Validator<A> {
                     section,
                 );
                 tells_types_apart(&self.types);
-                kept(&mut self.state, state, added)
+                put_back(&mut self.state, state, added)
             }
             Err(refusal) => Err(Error::Refused(refusal)),
         }
@@ -506,10 +545,10 @@ impl<A: Allocator + Copy> Validator<A> {
             (TellsImports self.old.features section.now)
             (section_start section.now) self.old.stage)) }
     {
-        match opened(&mut self.state, section.range().start) {
+        match take_module(&mut self.state, section.range().start) {
             Ok(mut state) => {
                 let added = add_imports(self.features, &self.types, &mut state.module, section);
-                kept(&mut self.state, state, added)
+                put_back(&mut self.state, state, added)
             }
             Err(refusal) => Err(Error::Refused(refusal)),
         }
@@ -535,7 +574,7 @@ impl<A: Allocator + Copy> Validator<A> {
             (TellsExports self.old.features section.now)
             (section_start section.now) self.old.stage)) }
     {
-        match opened(&mut self.state, section.range().start) {
+        match take_module(&mut self.state, section.range().start) {
             Ok(mut state) => {
                 let added = take_exports(
                     self.features,
@@ -544,7 +583,7 @@ impl<A: Allocator + Copy> Validator<A> {
                     &mut state,
                     section,
                 );
-                kept(&mut self.state, state, added)
+                put_back(&mut self.state, state, added)
             }
             Err(refusal) => Err(Error::Refused(refusal)),
         }
@@ -567,10 +606,10 @@ impl<A: Allocator + Copy> Validator<A> {
         ensures told { IfErr result (OfContent (TellsWithin (TellsFunctions section.now)
             (section_start section.now) self.old.stage)) }
     {
-        match opened(&mut self.state, section.range().start) {
+        match take_module(&mut self.state, section.range().start) {
             Ok(mut state) => {
                 let added = add_functions(&self.types, &mut state.module, section);
-                kept(&mut self.state, state, added)
+                put_back(&mut self.state, state, added)
             }
             Err(refusal) => Err(Error::Refused(refusal)),
         }
@@ -598,7 +637,7 @@ impl<A: Allocator + Copy> Validator<A> {
             (λ us. TellsTables section.now self.old.features)
             (section_start section.now) self.old.stage)) }
     {
-        match opened(&mut self.state, section.range().start) {
+        match take_module(&mut self.state, section.range().start) {
             Ok(mut state) => {
                 let added = take_tables(
                     self.features,
@@ -607,7 +646,7 @@ impl<A: Allocator + Copy> Validator<A> {
                     &mut state,
                     section,
                 );
-                kept(&mut self.state, state, added)
+                put_back(&mut self.state, state, added)
             }
             Err(refusal) => Err(Error::Refused(refusal)),
         }
@@ -633,10 +672,10 @@ impl<A: Allocator + Copy> Validator<A> {
             (λ us. TellsMemories section.now self.old.features)
             (section_start section.now) self.old.stage)) }
     {
-        match opened(&mut self.state, section.range().start) {
+        match take_module(&mut self.state, section.range().start) {
             Ok(mut state) => {
                 let added = add_memories(self.features, &mut state.module, section);
-                kept(&mut self.state, state, added)
+                put_back(&mut self.state, state, added)
             }
             Err(refusal) => Err(Error::Refused(refusal)),
         }
@@ -674,10 +713,10 @@ impl<A: Allocator + Copy> Validator<A> {
                 WasmFeatures::EXCEPTIONS,
             )));
         }
-        match opened(&mut self.state, offset) {
+        match take_module(&mut self.state, offset) {
             Ok(mut state) => {
                 let added = add_tags(self.features, &self.types, &mut state.module, section);
-                kept(&mut self.state, state, added)
+                put_back(&mut self.state, state, added)
             }
             Err(refusal) => Err(Error::Refused(refusal)),
         }
@@ -704,7 +743,7 @@ impl<A: Allocator + Copy> Validator<A> {
         ensures told { IfErr result (OfContent (TellsWithin (λ us. TellsGlobals section.now)
             (section_start section.now) self.old.stage)) }
     {
-        match opened(&mut self.state, section.range().start) {
+        match take_module(&mut self.state, section.range().start) {
             Ok(mut state) => {
                 let added = take_globals(
                     self.features,
@@ -713,7 +752,7 @@ impl<A: Allocator + Copy> Validator<A> {
                     &mut state,
                     section,
                 );
-                kept(&mut self.state, state, added)
+                put_back(&mut self.state, state, added)
             }
             Err(refusal) => Err(Error::Refused(refusal)),
         }
@@ -735,10 +774,10 @@ impl<A: Allocator + Copy> Validator<A> {
         ensures told { IfErr result (TellsWithin (TellsStart range.now.start function)
             range.now.start self.old.stage) }
     {
-        match opened(&mut self.state, range.start) {
+        match take_module(&mut self.state, range.start) {
             Ok(state) => {
                 let answer = state.module.check_start(&self.types, function, range.start);
-                kept(&mut self.state, state, checked(answer))
+                put_back(&mut self.state, state, lift_refusal(answer))
             }
             Err(refusal) => Err(Error::Refused(refusal)),
         }
@@ -765,7 +804,7 @@ impl<A: Allocator + Copy> Validator<A> {
         ensures told { IfErr result (OfContent (TellsWithin (λ us. TellsElements section.now)
             (section_start section.now) self.old.stage)) }
     {
-        match opened(&mut self.state, section.range().start) {
+        match take_module(&mut self.state, section.range().start) {
             Ok(mut state) => {
                 let added = take_elements(
                     self.features,
@@ -774,7 +813,7 @@ impl<A: Allocator + Copy> Validator<A> {
                     &mut state,
                     section,
                 );
-                kept(&mut self.state, state, added)
+                put_back(&mut self.state, state, added)
             }
             Err(refusal) => Err(Error::Refused(refusal)),
         }
@@ -797,11 +836,11 @@ impl<A: Allocator + Copy> Validator<A> {
             (TellsDataCount self.old.features range.now.start count)
             range.now.start self.old.stage) }
     {
-        match opened(&mut self.state, range.start) {
+        match take_module(&mut self.state, range.start) {
             Ok(mut state) => {
-                let accepted = checked(check_data_count(self.features, count, range.start));
+                let accepted = lift_refusal(check_data_count(self.features, count, range.start));
                 state.data_count = Some(count);
-                kept(&mut self.state, state, accepted)
+                put_back(&mut self.state, state, accepted)
             }
             Err(refusal) => Err(Error::Refused(refusal)),
         }
@@ -820,7 +859,7 @@ impl<A: Allocator + Copy> Validator<A> {
         ensures place { IfErr result (λ e. IsContent e → offset_of e ≡ range.now.start) }
         ensures told { IfErr result (OfContent (TellsOrder range.now.start self.old.stage)) }
     {
-        match opened(&mut self.state, range.start) {
+        match take_module(&mut self.state, range.start) {
             Ok(state) => {
                 match started(self.alloc, &mut self.types, &mut self.constants, state) {
                     Ok(code) => {
@@ -853,7 +892,7 @@ impl<A: Allocator + Copy> Validator<A> {
             (plain (body_told self.old.stage)
             (original (body_reader body.now) + position_in (body_reader body.now))))) }
     {
-        taken(&mut self.state, self.features, body)
+        take_body(&mut self.state, self.features, body)
     }
 
     /// The data segments of a module (Core Specification 3.0, Validation, Modules, Data Segments).
@@ -875,7 +914,7 @@ impl<A: Allocator + Copy> Validator<A> {
         ensures told { IfErr result (OfContent (TellsReading (λ us m. TellsData section.now)
             (section_start section.now) self.old.stage)) }
     {
-        let checked = match reading(&self.state) {
+        let checked = match find_spaces(&self.state) {
             Some(spaces) => check_data_segments(
                 self.features,
                 &self.types,
@@ -937,8 +976,8 @@ impl<A: Allocator + Copy> Validator<A> {
         ensures told { IfErr result (OfContent (λ e. e
             ≡ Error.Refused (plain (Fault.OutOfOrder (end_order_told self.old.stage)) offset))) }
     {
-        match closing(&mut self.state) {
-            Ok(state) => match finished(
+        match close_module(&mut self.state) {
+            Ok(state) => match finish_types(
                 self.id,
                 self.features,
                 self.alloc,

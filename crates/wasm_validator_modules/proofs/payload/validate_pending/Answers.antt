@@ -1,6 +1,7 @@
 use Rattle.std.proofs.Common.{subst}
-use Rattle.wasm_validator_sections.specs.WasmValidatorFunc.Functions.{Decides}
-use Rattle.wasm_validator_modules.specs.Payloads.{pending_seen, IsBodyOfIts}
+use Rattle.wasm_validator_states.specs.WasmValidatorSections.WasmValidatorFunc.Functions.{Decides}
+use Rattle.wasm_validator_states.specs.Payloads.{IsBodyOfIts}
+use Rattle.wasm_validator_modules.specs.Given.{pending_seen}
 use Rattle.wasm_validator_modules.proofs.payload.validate_pending.Goals as goal
 
 pub returns-clause-decides : goal.returns-clause-decides

@@ -1,10 +1,10 @@
 use Rattle.std.proofs.Common.{sym, subst}
 use Rattle.wasm_spec_rules.specs.FeatureFlags.{features_of}
-use Rattle.wasm_validator_type_list.specs.DefTypes.{types_of_list}
-use Rattle.wasm_validator_types.specs.Spaces.{Spaces}
-use Rattle.wasm_validator_canonical.specs.Groups.{AreValid}
-use Rattle.wasm_validator_sections.specs.WasmValidatorCore.Ready.{IsOpenFor, AreIdsOf}
-use Rattle.wasm_validator_sections.specs.WasmLawsContexts.WasmValidatorCoreResources.ById.{AreFirstByIds}
+use Rattle.wasm_validator_states.specs.WasmValidatorTypeList.DefTypes.{types_of_list}
+use Rattle.wasm_validator_states.specs.WasmValidatorTypes.Spaces.{Spaces}
+use Rattle.wasm_validator_states.specs.WasmValidatorCanonical.Groups.{AreValid}
+use Rattle.wasm_validator_states.specs.WasmValidatorSections.WasmValidatorCore.Ready.{IsOpenFor, AreIdsOf}
+use Rattle.wasm_validator_states.specs.WasmValidatorSections.WasmLawsContexts.WasmValidatorCoreResources.ById.{AreFirstByIds}
 use Rattle.wasm_validator_modules.proofs.Sections.{open-ids, open-valid, open-first}
 use Rattle.wasm_validator_modules.proofs.validator.Validator.code_section_start.Goals as goal
 

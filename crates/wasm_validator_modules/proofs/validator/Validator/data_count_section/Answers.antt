@@ -1,13 +1,13 @@
 use Rattle.std.proofs.Common.{Some, sym, subst, rules}
 use Rattle.wasm_readers_errors.specs.WasmReadersFeatures.declared.features.WasmFeatures.{WasmFeatures}
-use Rattle.wasm_validator_type_list.specs.DefTypes.{types_of_list}
-use Rattle.wasm_validator_types.specs.Spaces.{Spaces}
-use Rattle.wasm_validator_sections.specs.WasmValidatorCore.declared.error.Error.{Error}
-use Rattle.wasm_validator_sections.specs.WasmValidatorCore.Answers.{TypesSoFar}
-use Rattle.wasm_validator_sections.specs.WasmValidatorCore.Told.{told_of_data_count}
+use Rattle.wasm_validator_states.specs.WasmValidatorTypeList.DefTypes.{types_of_list}
+use Rattle.wasm_validator_states.specs.WasmValidatorTypes.Spaces.{Spaces}
+use Rattle.wasm_validator_states.specs.WasmValidatorSections.WasmValidatorCore.declared.error.Error.{Error}
+use Rattle.wasm_validator_states.specs.WasmValidatorSections.WasmValidatorCore.Answers.{TypesSoFar}
+use Rattle.wasm_validator_states.specs.WasmValidatorSections.WasmValidatorCore.Told.{told_of_data_count}
 use Rattle.wasm_validator_modules.specs.OrderTold.{TellsDataCount}
 use Rattle.wasm_validator_modules.proofs.ToldMoves.{all_told_within, checked_told}
-use Rattle.wasm_validator_sections.specs.declared.module_state.ModuleState.{ModuleState}
+use Rattle.wasm_validator_states.specs.WasmValidatorSections.declared.module_state.ModuleState.{ModuleState}
 use Rattle.wasm_validator_modules.specs.Ready.{AreIdsIn, AreValidIn, AreFirstIn}
 use Rattle.wasm_validator_modules.proofs.Sections.{open-ids, open-valid, open-first, kept-ids, kept-valid, kept-first}
 use Rattle.wasm_validator_modules.proofs.validator.Validator.data_count_section.Goals as goal
@@ -21,9 +21,9 @@ invariant_of-self g c =
     let types = c.self.inside.constants.types in
     record {
       list = c.self.invariant.list;
-      ids = subst (AreIdsIn list) (sym c.kept.ensures.kept) (kept-ids list after c.checked-accepted.result (open-ids list c.self.inside.state before.«module» c.in-Ok.ensures.ok c.self.invariant.ids));
-      valid = subst (AreValidIn features list) (sym c.kept.ensures.kept) (kept-valid list after features c.checked-accepted.result (open-valid features list c.self.inside.state before.«module» c.in-Ok.ensures.ok c.self.invariant.valid));
-      first = subst (AreFirstIn list types) (sym c.kept.ensures.kept) (kept-first list after types c.checked-accepted.result (open-first list types c.self.inside.state before.«module» c.in-Ok.ensures.ok c.self.invariant.first));
+      ids = subst (AreIdsIn list) (sym c.put_back.ensures.kept) (kept-ids list after c.lift_refusal-accepted.result (open-ids list c.self.inside.state before.«module» c.in-Ok.ensures.ok c.self.invariant.ids));
+      valid = subst (AreValidIn features list) (sym c.put_back.ensures.kept) (kept-valid list after features c.lift_refusal-accepted.result (open-valid features list c.self.inside.state before.«module» c.in-Ok.ensures.ok c.self.invariant.valid));
+      first = subst (AreFirstIn list types) (sym c.put_back.ensures.kept) (kept-first list after types c.lift_refusal-accepted.result (open-first list types c.self.inside.state before.«module» c.in-Ok.ensures.ok c.self.invariant.first));
     }
 
 pub returns-in-Ok-clause-told : goal.returns-in-Ok-clause-told
@@ -32,5 +32,5 @@ returns-in-Ok-clause-told g c =
     let tells : WasmFeatures → TypesSoFar → Spaces → Error g.row.A.Denot → Type 0 = λ (f : WasmFeatures) (us : TypesSoFar) (m : Spaces) (e : Error g.row.A.Denot). TellsDataCount f place c.args.count us m e in
     let module_read = c.in-Ok.state.«module» in
     let told = told_of_data_count c.self.inside.features place c.args.count in
-    all_told_within c.self.inside.id c.self.inside.features (types_of_list c.self.inside.types) c.self.inside.state module_read tells place c.args.self.now c.checked-accepted.result c.kept.result c.in-Ok.ensures.ok c.self.view_is c.kept.ensures.same
-    (checked_told c.check_data_count.result c.checked-accepted.result told place c.checked-accepted.ensures.same c.checked-accepted.ensures.refusal c.check_data_count.ensures.told (search rules))
+    all_told_within c.self.inside.id c.self.inside.features (types_of_list c.self.inside.types) c.self.inside.state module_read tells place c.args.self.now c.lift_refusal-accepted.result c.put_back.result c.in-Ok.ensures.ok c.self.view_is c.put_back.ensures.same
+    (checked_told c.check_data_count.result c.lift_refusal-accepted.result told place c.lift_refusal-accepted.ensures.same c.lift_refusal-accepted.ensures.refusal c.check_data_count.ensures.told (search rules))

@@ -1,23 +1,24 @@
 use Rattle.std.proofs.Common.{refl, ap, ◌∙◌, sym, subst}
 use Rattle.wasm_readers.specs.SectionsSeen.{count_of, bytes_of, section_start}
-use Rattle.wasm_validator_type_list.specs.DefTypes.{types_of_list}
-use Rattle.wasm_validator_sections.specs.WasmValidatorCore.Answers.{HasValidTypes, TypesSoFar}
-use Rattle.wasm_validator_sections.specs.WasmValidatorCore.Ready.{AreIdsOf}
+use Rattle.wasm_validator_states.specs.WasmValidatorTypeList.DefTypes.{types_of_list}
+use Rattle.wasm_validator_states.specs.WasmValidatorSections.WasmValidatorCore.Answers.{HasValidTypes, TypesSoFar}
+use Rattle.wasm_validator_states.specs.WasmValidatorSections.WasmValidatorCore.Ready.{AreIdsOf}
 use Rattle.wasm_spec_rules.specs.FeatureFlags.{features_of}
-use Rattle.wasm_validator_sections.specs.Machine.{other_items, section_items}
+use Rattle.wasm_validator_states.specs.WasmValidatorSections.Machine.{other_items, section_items}
 use Rattle.wasm_validator_modules.specs.Ready.{AreIdsIn, AreValidIn, AreFirstIn}
-use Rattle.wasm_validator_sections.specs.WasmValidatorReferences.References.{section_names}
-use Rattle.wasm_validator_sections.specs.Noted.{naming}
-use Rattle.wasm_validator_modules.specs.Standing.{Standing, Moves}
-use Rattle.wasm_validator_modules.specs.States.{stage_of, after_section, order_at}
+use Rattle.wasm_validator_states.specs.WasmValidatorSections.WasmValidatorReferences.References.{section_names}
+use Rattle.wasm_validator_states.specs.WasmValidatorSections.Noted.{naming}
+use Rattle.wasm_validator_states.specs.Standing.{Standing, Moves}
+use Rattle.wasm_validator_states.specs.States.{after_section}
+use Rattle.wasm_validator_modules.specs.Views.{stage_of, order_at}
 use Rattle.wasm_validator_modules.proofs.SectionMoves.{adds_beside, section_moves, nothing_more}
 use Rattle.wasm_validator_modules.proofs.Sections.{open-ids, open-valid, open-first, kept-ids, kept-valid, kept-first}
 use Rattle.wasm_readers_errors.specs.WasmReadersFeatures.declared.features.WasmFeatures.{WasmFeatures}
-use Rattle.wasm_validator_types.specs.Spaces.{Spaces}
-use Rattle.wasm_validator_sections.specs.WasmValidatorCore.declared.error.Error.{Error}
+use Rattle.wasm_validator_states.specs.WasmValidatorTypes.Spaces.{Spaces}
+use Rattle.wasm_validator_states.specs.WasmValidatorSections.WasmValidatorCore.declared.error.Error.{Error}
 use Rattle.wasm_readers_errors.specs.Refusals.{plain}
 use Rattle.wasm_readers_errors.specs.declared.error.Fault.TheVariants as fault
-use Rattle.wasm_validator_sections.specs.SectionsTold.{TellsFunctions}
+use Rattle.wasm_validator_states.specs.WasmValidatorSections.SectionsTold.{TellsFunctions}
 use Rattle.wasm_validator_modules.proofs.ToldMoves.{told_within, order_within}
 use Rattle.wasm_validator_modules.proofs.validator.Validator.function_section.Goals as goal
 
@@ -36,9 +37,9 @@ invariant_of-self g c =
     let first = open-first list types c.self.inside.state before c.in-Ok.ensures.ok c.self.invariant.first in
     record {
       list = c.self.invariant.list;
-      ids = subst (AreIdsIn list) (sym c.kept.ensures.kept) (kept-ids list (record c.in-Ok.state { «module» = added.new.opened }) added.result (subst (AreIdsOf list) (sym added.ensures.types) ids));
-      valid = subst (AreValidIn features list) (sym c.kept.ensures.kept) (kept-valid list (record c.in-Ok.state { «module» = added.new.opened }) features added.result valid);
-      first = subst (AreFirstIn list types) (sym c.kept.ensures.kept) (kept-first list (record c.in-Ok.state { «module» = added.new.opened }) types added.result first);
+      ids = subst (AreIdsIn list) (sym c.put_back.ensures.kept) (kept-ids list (record c.in-Ok.state { «module» = added.new.opened }) added.result (subst (AreIdsOf list) (sym added.ensures.types) ids));
+      valid = subst (AreValidIn features list) (sym c.put_back.ensures.kept) (kept-valid list (record c.in-Ok.state { «module» = added.new.opened }) features added.result valid);
+      first = subst (AreFirstIn list types) (sym c.put_back.ensures.kept) (kept-first list (record c.in-Ok.state { «module» = added.new.opened }) types added.result first);
     }
 
 pub returns-in-Ok-clause-moves : goal.returns-in-Ok-clause-moves
@@ -50,16 +51,16 @@ returns-in-Ok-clause-moves g c =
     let bytes = bytes_of c.args.section.now in
     let types = types_of_list c.self.inside.types in
     let before = c.in-Ok.state.«module» in
-    let new : Standing = record { id = id; features = features; stage = stage_of types c.kept.new.state } in
-    subst (λ r. Moves r (after_section c.args.self.now 3 count bytes) c.args.self.now new) (sym c.kept.ensures.same)
+    let new : Standing = record { id = id; features = features; stage = stage_of types c.put_back.new.state } in
+    subst (λ r. Moves r (after_section c.args.self.now 3 count bytes) c.args.self.now new) (sym c.put_back.ensures.same)
     (section_moves id features types c.in-Ok.state (naming (section_names 3 count bytes)) (λ g. section_items g 3 count bytes) c.self.inside.state added.result types (record c.in-Ok.state { «module» = added.new.opened }) c.args.self.now new
-    c.in-Ok.ensures.was c.self.view_is (λ i. record { id = id; features = features; stage = stage_of types (sym c.kept.ensures.kept i) })
+    c.in-Ok.ensures.was c.self.view_is (λ i. record { id = id; features = features; stage = stage_of types (sym c.put_back.ensures.kept i) })
     (adds_beside (HasValidTypes features) types added.result (other_items (features_of features) types 3 count bytes before) added.new.opened added.ensures.added) (nothing_more added.result (record c.in-Ok.state { «module» = added.new.opened }) c.in-Ok.state refl))
 
 pub returns-in-Ok-clause-told : goal.returns-in-Ok-clause-told
 returns-in-Ok-clause-told g c =
     let tells : WasmFeatures → TypesSoFar → Spaces → Error g.row.A.Denot → Type 0 = λ (f : WasmFeatures) (us : TypesSoFar) (m : Spaces) (e : Error g.row.A.Denot). TellsFunctions c.args.section.now us m e in
-    told_within c.self.inside.id c.self.inside.features (types_of_list c.self.inside.types) c.self.inside.state c.in-Ok.state.«module» tells (section_start c.args.section.now) c.args.self.now c.add_functions-added.result c.kept.result c.in-Ok.ensures.ok c.self.view_is c.kept.ensures.same c.add_functions-added.ensures.told
+    told_within c.self.inside.id c.self.inside.features (types_of_list c.self.inside.types) c.self.inside.state c.in-Ok.state.«module» tells (section_start c.args.section.now) c.args.self.now c.add_functions-added.result c.put_back.result c.in-Ok.ensures.ok c.self.view_is c.put_back.ensures.same c.add_functions-added.ensures.told
 
 pub returns-in-Err-clause-told : goal.returns-in-Err-clause-told
 returns-in-Err-clause-told g c =

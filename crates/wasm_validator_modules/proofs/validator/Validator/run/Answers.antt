@@ -1,18 +1,18 @@
 use Rattle.std.proofs.Common.{◌≡◌, refl, sym, subst, ◌∙◌, ◌≤◌, arith, Option, None, List, [], ◌++◌, length}
-use Rattle.wasm_parser.specs.Places.{starts_at, ends_at, input_end}
-use Rattle.wasm_parser.specs.Seen.{seen, state}
-use Rattle.wasm_parser.proofs.Falls.{falls}
-use Rattle.wasm_validator_types.specs.declared.shown.Types.{Types}
+use Rattle.wasm_validator_states.specs.WasmParser.Places.{starts_at, ends_at, input_end}
+use Rattle.wasm_validator_states.specs.WasmParser.Seen.{seen, state}
+use Rattle.wasm_validator_states.proofs.WasmParser.Falls.{falls}
+use Rattle.wasm_validator_states.specs.WasmValidatorTypes.declared.shown.Types.{Types}
 use Rattle.wasm_validator_modules.specs.declared.payload.ValidPayload.{ValidPayload}
 use Rattle.wasm_validator_modules.specs.declared.payload.Bodies.{Bodies}
-use Rattle.wasm_validator_modules.specs.States.{BodyToValidate}
-use Rattle.wasm_validator_modules.specs.Payloads.{bodies_seen, bodies_given, latest_of, IsGivenIn}
-use Rattle.wasm_parser.specs.Machine.{State}
+use Rattle.wasm_validator_states.specs.States.{BodyToValidate}
+use Rattle.wasm_validator_modules.specs.Given.{bodies_seen, bodies_given, latest_of, IsGivenIn}
+use Rattle.wasm_validator_states.specs.WasmParser.Machine.{State}
 use Rattle.wasm_validator_modules.proofs.GoingOn.{refused_nothing}
 use Rattle.wasm_validator_modules.proofs.Together.{Together, is_on, together_step, refused_together, stuck_together}
 use Rattle.wasm_validator_modules.proofs.Bodies.{none_ends_by, given_wider, nothing_seen}
 use Rattle.wasm_validator_modules.proofs.KeptContext.{IsInKept, given_in, kept_in}
-use Rattle.wasm_validator_modules.proofs.Growing.{same_features}
+use Rattle.wasm_validator_states.proofs.Growing.{same_features}
 use Rattle.wasm_validator_modules.proofs.Runs.{Progress, begun, progress-step, accepted, has_ended, no_memory, refused_format, rejected_payload, refused_whole, told_memory, between_wider}
 use Rattle.wasm_validator_modules.proofs.validator.Validator.run.Goals as goal
 

@@ -1,8 +1,8 @@
 use Rattle.std.proofs.Common.{◌≡◌, length}
-use Rattle.wasm_parser.specs.Places.{ReadsInput, input_end}
-use Rattle.wasm_parser.specs.Seen.{state}
-use Rattle.wasm_parser.specs.Machine.{most_left}
-use Rattle.wasm_validator_modules.specs.Payloads.{bodies_seen, AllEndBy}
+use Rattle.wasm_validator_states.specs.WasmParser.Places.{ReadsInput, input_end}
+use Rattle.wasm_validator_states.specs.WasmParser.Seen.{state}
+use Rattle.wasm_validator_states.specs.WasmParser.Machine.{most_left}
+use Rattle.wasm_validator_modules.specs.Given.{bodies_seen, AllEndBy}
 use Rattle.wasm_validator_modules.proofs.Together.{Together}
 use Rattle.wasm_validator_modules.proofs.KeptContext.{IsInKept}
 use Rattle.wasm_validator_modules.proofs.Runs.{Progress}

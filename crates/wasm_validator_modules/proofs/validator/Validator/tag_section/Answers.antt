@@ -6,22 +6,23 @@ use Rattle.wasm_readers_errors.specs.declared.error.Fault.TheVariants as fault
 use Rattle.wasm_readers_errors.specs.declared.error.Rule.TheVariants.{Exceptions}
 use Rattle.wasm_readers_errors.specs.WasmReadersFeatures.declared.features.WasmFeatures.{WasmFeatures}
 use Rattle.wasm_readers_errors.specs.WasmReadersFeatures.declared.features.TheConstants.WasmFeatures.{EXCEPTIONS}
-use Rattle.wasm_validator_types.specs.Spaces.{Spaces}
-use Rattle.wasm_validator_sections.specs.WasmValidatorCore.declared.error.Error.{Error}
-use Rattle.wasm_validator_sections.specs.WasmValidatorCore.declared.error.Error.TheVariants.{Refused}
-use Rattle.wasm_validator_sections.specs.WasmValidatorCore.Answers.{TypesSoFar, HasValidTypes}
-use Rattle.wasm_validator_modules.specs.States.{order_at, stage_of, after_section}
+use Rattle.wasm_validator_states.specs.WasmValidatorTypes.Spaces.{Spaces}
+use Rattle.wasm_validator_states.specs.WasmValidatorSections.WasmValidatorCore.declared.error.Error.{Error}
+use Rattle.wasm_validator_states.specs.WasmValidatorSections.WasmValidatorCore.declared.error.Error.TheVariants.{Refused}
+use Rattle.wasm_validator_states.specs.WasmValidatorSections.WasmValidatorCore.Answers.{TypesSoFar, HasValidTypes}
+use Rattle.wasm_validator_states.specs.States.{after_section}
+use Rattle.wasm_validator_modules.specs.Views.{order_at, stage_of}
 use Rattle.wasm_validator_modules.specs.OrderTold.{TellsWithin}
-use Rattle.wasm_validator_sections.specs.SectionsTold.{OfContent, Either, TellsTags}
+use Rattle.wasm_validator_states.specs.WasmValidatorSections.SectionsTold.{OfContent, Either, TellsTags}
 use Rattle.wasm_validator_modules.proofs.ToldMoves.{told_within, order_within}
-use Rattle.wasm_validator_type_list.specs.DefTypes.{types_of_list}
-use Rattle.wasm_validator_sections.specs.WasmValidatorCore.Ready.{AreIdsOf}
+use Rattle.wasm_validator_states.specs.WasmValidatorTypeList.DefTypes.{types_of_list}
+use Rattle.wasm_validator_states.specs.WasmValidatorSections.WasmValidatorCore.Ready.{AreIdsOf}
 use Rattle.wasm_spec_rules.specs.FeatureFlags.{features_of}
-use Rattle.wasm_validator_sections.specs.Machine.{other_items, section_items}
+use Rattle.wasm_validator_states.specs.WasmValidatorSections.Machine.{other_items, section_items}
 use Rattle.wasm_validator_modules.specs.Ready.{AreIdsIn, AreValidIn, AreFirstIn}
-use Rattle.wasm_validator_sections.specs.WasmValidatorReferences.References.{section_names}
-use Rattle.wasm_validator_sections.specs.Noted.{naming}
-use Rattle.wasm_validator_modules.specs.Standing.{Standing, Leaves, Moves}
+use Rattle.wasm_validator_states.specs.WasmValidatorSections.WasmValidatorReferences.References.{section_names}
+use Rattle.wasm_validator_states.specs.WasmValidatorSections.Noted.{naming}
+use Rattle.wasm_validator_states.specs.Standing.{Standing, Leaves, Moves}
 use Rattle.wasm_validator_modules.proofs.SectionMoves.{adds_beside, section_moves, tags_refused, nothing_more}
 use Rattle.wasm_validator_modules.proofs.Sections.{open-ids, open-valid, open-first, kept-ids, kept-valid, kept-first}
 use Rattle.wasm_validator_modules.proofs.validator.Validator.tag_section.Goals as goal
@@ -41,9 +42,9 @@ invariant_of-self-in-Ok g c =
     let first = open-first list types c.self.inside.state before c.in-Ok.ensures.ok c.self.invariant.first in
     record {
       list = c.self.invariant.list;
-      ids = subst (AreIdsIn list) (sym c.kept.ensures.kept) (kept-ids list (record c.in-Ok.state { «module» = added.new.opened }) added.result (subst (AreIdsOf list) (sym added.ensures.types) ids));
-      valid = subst (AreValidIn features list) (sym c.kept.ensures.kept) (kept-valid list (record c.in-Ok.state { «module» = added.new.opened }) features added.result valid);
-      first = subst (AreFirstIn list types) (sym c.kept.ensures.kept) (kept-first list (record c.in-Ok.state { «module» = added.new.opened }) types added.result first);
+      ids = subst (AreIdsIn list) (sym c.put_back.ensures.kept) (kept-ids list (record c.in-Ok.state { «module» = added.new.opened }) added.result (subst (AreIdsOf list) (sym added.ensures.types) ids));
+      valid = subst (AreValidIn features list) (sym c.put_back.ensures.kept) (kept-valid list (record c.in-Ok.state { «module» = added.new.opened }) features added.result valid);
+      first = subst (AreFirstIn list types) (sym c.put_back.ensures.kept) (kept-first list (record c.in-Ok.state { «module» = added.new.opened }) types added.result first);
     }
 
 pub returns-in-Ok-clause-moves : goal.returns-in-Ok-clause-moves
@@ -55,12 +56,12 @@ returns-in-Ok-clause-moves g c =
     let bytes = bytes_of c.args.section.now in
     let types = types_of_list c.self.inside.types in
     let before = c.in-Ok.state.«module» in
-    let new : Standing = record { id = id; features = features; stage = stage_of types c.kept.new.state } in
+    let new : Standing = record { id = id; features = features; stage = stage_of types c.put_back.new.state } in
     let on : (features_of features).exceptions ≡ true = sym (c.contains.ensures tt) ∙ c.if-not-contains.false in
-    subst (λ h. Leaves c.kept.result (after_section c.args.self.now 13 count bytes) h c.args.self.now new) (tags_refused c.args.self.now.features c.args.self.now.stage (ap (λ (s : Standing). (features_of s.features).exceptions) (sym c.self.view_is) ∙ on))
-    (subst (λ r. Moves r (after_section c.args.self.now 13 count bytes) c.args.self.now new) (sym c.kept.ensures.same)
+    subst (λ h. Leaves c.put_back.result (after_section c.args.self.now 13 count bytes) h c.args.self.now new) (tags_refused c.args.self.now.features c.args.self.now.stage (ap (λ (s : Standing). (features_of s.features).exceptions) (sym c.self.view_is) ∙ on))
+    (subst (λ r. Moves r (after_section c.args.self.now 13 count bytes) c.args.self.now new) (sym c.put_back.ensures.same)
     (section_moves id features types c.in-Ok.state (naming (section_names 13 count bytes)) (λ g. section_items g 13 count bytes) c.self.inside.state added.result types (record c.in-Ok.state { «module» = added.new.opened }) c.args.self.now new
-    c.in-Ok.ensures.was c.self.view_is (λ i. record { id = id; features = features; stage = stage_of types (sym c.kept.ensures.kept i) })
+    c.in-Ok.ensures.was c.self.view_is (λ i. record { id = id; features = features; stage = stage_of types (sym c.put_back.ensures.kept i) })
     (adds_beside (HasValidTypes features) types added.result (other_items (features_of features) types 13 count bytes before) added.new.opened added.ensures.added) (nothing_more added.result (record c.in-Ok.state { «module» = added.new.opened }) c.in-Ok.state refl)))
 
 pub returns-in-Ok-clause-content : goal.returns-in-Ok-clause-content
@@ -74,8 +75,8 @@ returns-in-Ok-clause-told g c =
     let old = c.args.self.now in
     let tells : WasmFeatures → TypesSoFar → Spaces → Error g.row.A.Denot → Type 0 = λ (f : WasmFeatures) (us : TypesSoFar) (m : Spaces) (e : Error g.row.A.Denot). TellsTags f c.args.section.now us m e in
     let on : (features_of old.features).exceptions ≡ true = ap (λ (s : Standing). (features_of s.features).exceptions) (sym c.self.view_is) ∙ (sym (c.contains.ensures tt) ∙ c.if-not-contains.false) in
-    subst (λ (b : Bool). IfErr c.kept.result (OfContent (λ (e : Error g.row.A.Denot). Either b (TellsWithin (tells old.features) start old.stage e) (e ≡ Refused (lacking EXCEPTIONS (fault.Rule Exceptions) start))))) (sym on)
-    (told_within c.self.inside.id c.self.inside.features (types_of_list c.self.inside.types) c.self.inside.state c.in-Ok.state.«module» tells start old c.add_tags-added.result c.kept.result c.in-Ok.ensures.ok c.self.view_is c.kept.ensures.same c.add_tags-added.ensures.told)
+    subst (λ (b : Bool). IfErr c.put_back.result (OfContent (λ (e : Error g.row.A.Denot). Either b (TellsWithin (tells old.features) start old.stage e) (e ≡ Refused (lacking EXCEPTIONS (fault.Rule Exceptions) start))))) (sym on)
+    (told_within c.self.inside.id c.self.inside.features (types_of_list c.self.inside.types) c.self.inside.state c.in-Ok.state.«module» tells start old c.add_tags-added.result c.put_back.result c.in-Ok.ensures.ok c.self.view_is c.put_back.ensures.same c.add_tags-added.ensures.told)
 
 pub returns-in-Err-clause-told : goal.returns-in-Err-clause-told
 returns-in-Err-clause-told g c =

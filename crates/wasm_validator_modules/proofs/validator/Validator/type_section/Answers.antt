@@ -1,24 +1,25 @@
 use Rattle.std.proofs.Common.{refl, ap, ◌∙◌, sym, subst}
 use Rattle.wasm_readers.specs.SectionsSeen.{count_of, bytes_of, section_start, section_end}
-use Rattle.wasm_validator_type_list.specs.DefTypes.{types_of_list}
-use Rattle.wasm_validator_sections.specs.Machine.{section_items}
-use Rattle.wasm_validator_sections.specs.WasmValidatorReferences.References.{section_names}
-use Rattle.wasm_validator_sections.specs.Noted.{naming}
-use Rattle.wasm_validator_modules.specs.Standing.{Standing, Moves}
-use Rattle.wasm_validator_modules.specs.States.{stage_of, after_section, order_at}
+use Rattle.wasm_validator_states.specs.WasmValidatorTypeList.DefTypes.{types_of_list}
+use Rattle.wasm_validator_states.specs.WasmValidatorSections.Machine.{section_items}
+use Rattle.wasm_validator_states.specs.WasmValidatorSections.WasmValidatorReferences.References.{section_names}
+use Rattle.wasm_validator_states.specs.WasmValidatorSections.Noted.{naming}
+use Rattle.wasm_validator_states.specs.Standing.{Standing, Moves}
+use Rattle.wasm_validator_states.specs.States.{after_section}
+use Rattle.wasm_validator_modules.specs.Views.{stage_of, order_at}
 use Rattle.wasm_validator_modules.proofs.Sections.{open-ids, open-valid, open-first, added-ids, added-valid}
 use Rattle.wasm_validator_modules.proofs.SectionMoves.{section_moves, nothing_more}
 use Rattle.std.specs.Prelude.{IfErr}
-use Rattle.wasm_validator_sections.specs.declared.module_state.ModuleState.{ModuleState}
+use Rattle.wasm_validator_states.specs.WasmValidatorSections.declared.module_state.ModuleState.{ModuleState}
 use Rattle.wasm_validator_modules.specs.Ready.{AreIdsIn, AreValidIn, AreFirstIn}
 use Rattle.wasm_validator_modules.proofs.KeptTypes.{grown-first}
 use Rattle.wasm_readers_errors.specs.WasmReadersFeatures.declared.features.WasmFeatures.{WasmFeatures}
-use Rattle.wasm_validator_types.specs.Spaces.{Spaces}
-use Rattle.wasm_validator_sections.specs.WasmValidatorCore.declared.error.Error.{Error}
-use Rattle.wasm_validator_sections.specs.WasmValidatorCore.Answers.{TypesSoFar}
+use Rattle.wasm_validator_states.specs.WasmValidatorTypes.Spaces.{Spaces}
+use Rattle.wasm_validator_states.specs.WasmValidatorSections.WasmValidatorCore.declared.error.Error.{Error}
+use Rattle.wasm_validator_states.specs.WasmValidatorSections.WasmValidatorCore.Answers.{TypesSoFar}
 use Rattle.wasm_readers_errors.specs.Refusals.{plain}
 use Rattle.wasm_readers_errors.specs.declared.error.Fault.TheVariants as fault
-use Rattle.wasm_validator_sections.specs.SectionsTold.{StandsBetween, TellsTypes}
+use Rattle.wasm_validator_states.specs.WasmValidatorSections.SectionsTold.{StandsBetween, TellsTypes}
 use Rattle.wasm_validator_modules.proofs.ToldMoves.{told_within, order_within}
 use Rattle.wasm_validator_modules.proofs.validator.Validator.type_section.Goals as goal
 
@@ -39,15 +40,15 @@ invariant_of-self g c =
     let types = c.self.inside.constants.types in
     record {
       list = added.ensures.open;
-      ids = subst (AreIdsIn new) (sym c.kept.ensures.kept) (added-ids new after added.result added.ensures.ids);
-      valid = subst (AreValidIn features new) (sym c.kept.ensures.kept) (added-valid new after features added.result added.ensures.valid);
-      first = subst (AreFirstIn new types) (sym c.kept.ensures.kept)
+      ids = subst (AreIdsIn new) (sym c.put_back.ensures.kept) (added-ids new after added.result added.ensures.ids);
+      valid = subst (AreValidIn features new) (sym c.put_back.ensures.kept) (added-valid new after features added.result added.ensures.valid);
+      first = subst (AreFirstIn new types) (sym c.put_back.ensures.kept)
           (grown-first features old new types before after (count_of c.args.section.now) (bytes_of c.args.section.now) added.result c.tells_types_apart.ensures.listable c.tells_types_apart-in-Ok.ensures.listable c.tells_types_apart-in-Ok.ensures.apart
           (added.ensures.open.mode ∙ sym c.self.invariant.list.mode) added.ensures.added (open-first old types c.self.inside.state before c.in-Ok.ensures.ok c.self.invariant.first));
     }
 
 pub returns-in-Ok-clause-place : goal.returns-in-Ok-clause-place
-returns-in-Ok-clause-place g c = subst (λ r. IfErr r (StandsBetween (section_start c.args.section.now) (section_end c.args.section.now))) (sym c.kept.ensures.same) c.add_types-added.ensures.place
+returns-in-Ok-clause-place g c = subst (λ r. IfErr r (StandsBetween (section_start c.args.section.now) (section_end c.args.section.now))) (sym c.put_back.ensures.same) c.add_types-added.ensures.place
 
 pub returns-in-Ok-clause-moves : goal.returns-in-Ok-clause-moves
 returns-in-Ok-clause-moves g c =
@@ -57,15 +58,15 @@ returns-in-Ok-clause-moves g c =
     let count = count_of c.args.section.now in
     let bytes = bytes_of c.args.section.now in
     let types = types_of_list added.new.list in
-    let new : Standing = record { id = id; features = features; stage = stage_of types c.kept.new.state } in
-    subst (λ r. Moves r (after_section c.args.self.now 1 count bytes) c.args.self.now new) (sym c.kept.ensures.same)
+    let new : Standing = record { id = id; features = features; stage = stage_of types c.put_back.new.state } in
+    subst (λ r. Moves r (after_section c.args.self.now 1 count bytes) c.args.self.now new) (sym c.put_back.ensures.same)
     (section_moves id features (types_of_list c.self.inside.types) c.in-Ok.state (naming (section_names 1 count bytes)) (λ g. section_items g 1 count bytes) c.self.inside.state added.result types (record c.in-Ok.state { «module» = added.new.opened }) c.args.self.now new
-    c.in-Ok.ensures.was c.self.view_is (λ i. record { id = id; features = features; stage = stage_of types (sym c.kept.ensures.kept i) }) added.ensures.added (nothing_more added.result (record c.in-Ok.state { «module» = added.new.opened }) c.in-Ok.state refl))
+    c.in-Ok.ensures.was c.self.view_is (λ i. record { id = id; features = features; stage = stage_of types (sym c.put_back.ensures.kept i) }) added.ensures.added (nothing_more added.result (record c.in-Ok.state { «module» = added.new.opened }) c.in-Ok.state refl))
 
 pub returns-in-Ok-clause-told : goal.returns-in-Ok-clause-told
 returns-in-Ok-clause-told g c =
     let tells : WasmFeatures → TypesSoFar → Spaces → Error g.row.A.Denot → Type 0 = λ (f : WasmFeatures) (us : TypesSoFar) (m : Spaces) (e : Error g.row.A.Denot). TellsTypes f c.args.section.now us m e in
-    told_within c.self.inside.id c.self.inside.features (types_of_list c.self.inside.types) c.self.inside.state c.in-Ok.state.«module» tells (section_start c.args.section.now) c.args.self.now c.add_types-added.result c.kept.result c.in-Ok.ensures.ok c.self.view_is c.kept.ensures.same c.add_types-added.ensures.told
+    told_within c.self.inside.id c.self.inside.features (types_of_list c.self.inside.types) c.self.inside.state c.in-Ok.state.«module» tells (section_start c.args.section.now) c.args.self.now c.add_types-added.result c.put_back.result c.in-Ok.ensures.ok c.self.view_is c.put_back.ensures.same c.add_types-added.ensures.told
 
 pub returns-in-Err-clause-told : goal.returns-in-Err-clause-told
 returns-in-Err-clause-told g c =

@@ -1,5 +1,0 @@
-use Rattle.wasm_validator_modules.proofs.Sequences.{one_id_for_all}
-use Rattle.wasm_validator_modules.proofs.one_id_for_one_type.Goals as goal
-
-pub returns : goal.returns
-returns g c = one_id_for_all

@@ -1,5 +1,0 @@
-use Rattle.wasm_validator_modules.proofs.OwnIds.{own_id_for_each}
-use Rattle.wasm_validator_modules.proofs.own_id_for_each_type.Goals as goal
-
-pub returns : goal.returns
-returns g c = own_id_for_each

@@ -1,0 +1,133 @@
+-- What a payload that is accepted gives: nothing more, a function whose body is to be validated, or the types of the module that has ended.
+use Rattle.std.specs.Prelude.{ℕ, ◌≡◌, ◌≤◌, ◌⊎◌, ◌+◌, List, [], ◌∷◌, map, Option, Some, None, IsSome, ⊤}
+use Rattle.wasm_spec_rules.specs.Contexts.{Context}
+use Rattle.wasm_readers_types.specs.WasmReadersValues.declared.indices.UnpackedIndex.{UnpackedIndex}
+use Rattle.std.specs.declared.result.Result.{Result}
+use Rattle.std.specs.declared.result.Result.TheVariants as results
+use Rattle.wasm_spec.specs.Framing as parts
+use Rattle.wasm_spec.specs.Framing.{Piece}
+use Rattle.wasm_validator_states.specs.WasmParser.Places.{IsFormat, reader_end}
+use Rattle.wasm_validator_states.specs.WasmValidatorTypes.Shown.{shown_of, HoldsIds}
+use Rattle.wasm_validator_states.specs.WasmValidatorTypes.declared.shown.Types.{Types}
+use Rattle.wasm_validator_states.specs.WasmValidatorSections.WasmValidatorCore.declared.error.Error.{Error}
+use Rattle.wasm_validator_states.specs.WasmValidatorSections.WasmValidatorCore.declared.error.Error.TheVariants.{Refused, DuplicateExport, InFunction, OutOfMemory}
+use Rattle.wasm_validator_modules.specs.declared.payload.PendingBody.{PendingBody}
+use Rattle.wasm_validator_modules.specs.declared.payload.Bodies.{Bodies}
+use Rattle.wasm_validator_modules.specs.declared.payload.ValidPayload.{ValidPayload}
+use Rattle.wasm_validator_modules.specs.declared.payload.ValidPayload.TheVariants.{Ok, Func, End}
+use Rattle.wasm_validator_states.specs.WasmParser.declared.function_body.FunctionBody.{FunctionBody}
+use Rattle.wasm_validator_states.specs.WasmParser.Seen.{body_of, body_reader}
+use Rattle.wasm_readers.specs.WasmReadersBytes.Reader.{original, position_in}
+use Rattle.wasm_readers_errors.specs.declared.error.Error as reading
+use Rattle.wasm_readers_errors.specs.declared.error.Error.TheVariants as reading_error
+use Rattle.std.specs.List.{All}
+use Rattle.wasm_readers_errors.specs.Refusals.{plain}
+use Rattle.wasm_validator_states.specs.WasmValidatorSections.WasmValidatorFunc.declared.func_validator.FuncToValidate.{FuncToValidate}
+use Rattle.wasm_validator_states.specs.Standing.{Stage, ended, Standing, shown_at, failed, body_refused_at}
+use Rattle.wasm_validator_states.specs.States.{IsBeforeEnd, body_taken, BodyToValidate, body_at, handed, code_count}
+use Rattle.wasm_validator_modules.specs.OrderTold.{body_told}
+use Rattle.wasm_readers_errors.specs.WasmReadersFeatures.declared.features.WasmFeatures.{WasmFeatures}
+use Rattle.wasm_validator_states.specs.Payloads.{Show}
+
+-- the end gives the types of the module that was being read, and any other payload gives nothing
+abbrev pub ShowsModule : {A : Type 0} → Standing → Piece → ValidPayload A → Type 0
+ShowsModule s p Ok = IsBeforeEnd p
+ShowsModule s p (Func f b) = IsBeforeEnd p
+ShowsModule s p (End t) = (p ≡ parts.End) × Show s t
+
+-- the list has each id of the module that has ended
+abbrev pub HoldsIdsAtEnd : {A : Type 0} → ValidPayload A → Type 0
+HoldsIdsAtEnd Ok = ⊤
+HoldsIdsAtEnd (Func f b) = ⊤
+HoldsIdsAtEnd (End t) = HoldsIds (shown_of t)
+
+-- a function and its body, as they are handed out
+abbrev pub body_seen : FuncToValidate (Context UnpackedIndex) → FunctionBody → BodyToValidate
+body_seen f b = record { index = f.index; ty = f.ty; features = f.features; context = f.resources; bytes = body_of b }
+
+abbrev pub bodies_given : {A : Type 0} → ValidPayload A → List BodyToValidate
+bodies_given Ok = []
+bodies_given (Func f b) = body_seen f b ∷ []
+bodies_given (End t) = []
+
+-- A body is taken, and handed out with its function; or it is refused, and that is told of it, at its first byte. Memory is refused only while a
+-- module is being read, and where it was a body's turn.
+abbrev pub TakesBody : {A : Type 0} → Result (FuncToValidate (Context UnpackedIndex)) (Error A) → WasmFeatures → FunctionBody → Stage → Stage → Type 0
+TakesBody (results.Ok f) features b g h = (body_taken (body_of b) g ≡ Some h) × (body_at features (body_of b) g ≡ body_seen f b ∷ [])
+TakesBody (results.Err (Refused r)) features b g h =
+    (body_taken (body_of b) g ≡ None) × (h ≡ body_refused_at g) × (r ≡ plain (body_told g) (original (body_reader b) + position_in (body_reader b)))
+TakesBody (results.Err (DuplicateExport name offset)) features b g h = ⊥
+TakesBody (results.Err (InFunction index r)) features b g h = ⊥
+TakesBody (results.Err OutOfMemory) features b g h = IsSome (shown_at g) × (body_refused_at g ≡ failed) × (h ≡ failed)
+
+-- a payload gave a function
+abbrev pub IsFunction : {A : Type 0} → ValidPayload A → Type 0
+IsFunction Ok = ⊥
+IsFunction (Func f b) = ⊤
+IsFunction (End t) = ⊥
+
+-- memory is taken to keep a function's body, and for all bodies where the code section starts
+abbrev pub KeepsBodies : {A : Type 0} → Piece → ValidPayload A → Type 0
+KeepsBodies p v = IsFunction v ⊎ IsSome (code_count p)
+
+-- a function whose body is to be validated under these features and in this context, as it was handed out
+abbrev pub pending_seen : WasmFeatures → Context UnpackedIndex → PendingBody → BodyToValidate
+pending_seen features context p = record { index = p.index; ty = p.ty; features = features; context = context; bytes = body_of p.body }
+
+-- all of a module: none before the first, from which on the context is kept
+abbrev pub pending_in : WasmFeatures → Option (Context UnpackedIndex) → List PendingBody → List BodyToValidate
+pending_in features None ps = []
+pending_in features (Some context) ps = map (pending_seen features context) ps
+
+abbrev pub bodies_seen : {A : Type 0} → Bodies A → List BodyToValidate
+bodies_seen bodies = pending_in bodies.features bodies.resources bodies.pending.items
+
+-- this context is the one that is kept, if one is
+abbrev pub IsKept : Option (Context UnpackedIndex) → Context UnpackedIndex → Type 0
+IsKept None context = ⊤
+IsKept (Some kept) context = kept ≡ context
+
+-- a function that a payload gives is to be validated under these features, and in the same context as those before it
+abbrev pub IsGivenIn : {A : Type 0} → WasmFeatures → Option (Context UnpackedIndex) → ValidPayload A → Type 0
+IsGivenIn features kept Ok = ⊤
+IsGivenIn features kept (Func f b) = (f.features ≡ features) × IsKept kept f.resources
+IsGivenIn features kept (End t) = ⊤
+
+-- the context that is kept then
+abbrev pub kept_behind : {A : Type 0} → Option (Context UnpackedIndex) → ValidPayload A → Option (Context UnpackedIndex)
+kept_behind kept Ok = kept
+kept_behind kept (Func f b) = Some f.resources
+kept_behind kept (End t) = kept
+
+-- a body ends by this offset, and each of some does
+abbrev pub EndsBy : ℕ → FunctionBody → Type 0
+EndsBy end b = reader_end (body_reader b) ≤ end
+
+abbrev pub EachEndsBy : ℕ → List PendingBody → Type 0
+EachEndsBy end ps = All (λ (p : PendingBody). EndsBy end p.body) ps
+
+abbrev pub AllEndBy : {A : Type 0} → ℕ → Bodies A → Type 0
+AllEndBy end bodies = EachEndsBy end bodies.pending.items
+
+abbrev pub GivenEndBy : {A : Type 0} → ℕ → ValidPayload A → Type 0
+GivenEndBy end Ok = ⊤
+GivenEndBy end (Func f b) = EndsBy end b
+GivenEndBy end (End t) = ⊤
+
+-- a refusal stands before this offset, or there
+abbrev pub StandsBy : ℕ → reading.Error → Type 0
+StandsBy end (reading_error.Refused r) = r.offset ≤ end
+StandsBy end reading_error.OutOfMemory = ⊤
+
+-- the types of the module that has ended last
+abbrev pub latest_of : {A : Type 0} → Option (Types A) → ValidPayload A → Option (Types A)
+latest_of before Ok = before
+latest_of before (Func f b) = before
+latest_of before (End t) = Some t
+
+-- the parser's refusal, as an error
+abbrev pub TellsFormat : {A : Type 0} → Error A → Type 0
+TellsFormat (Refused r) = IsFormat r
+TellsFormat (DuplicateExport name offset) = ⊥
+TellsFormat (InFunction index r) = ⊥
+TellsFormat OutOfMemory = ⊥

@@ -1,0 +1,30 @@
+pub use Rattle.wasm_parser.proofs as WasmParser
+pub use Rattle.wasm_validator_type_list.proofs as WasmValidatorTypeList
+pub use Rattle.wasm_validator_canonical.proofs as WasmValidatorCanonical
+pub use Rattle.wasm_validator_sections.proofs as WasmValidatorSections
+pub use Rattle.wasm_validator_sections.proofs.WasmLawsCore as WasmLawsCore
+pub mod Growing
+pub mod ValidTypes
+pub mod AddedTypes
+pub mod ModuleRun
+pub mod SectionLists
+pub mod KnownSections
+pub mod FramedParts
+pub mod ValidRules
+pub mod UsedLaws
+pub mod RunOfParts
+pub mod CodeOrder
+pub mod PieceRuns
+pub mod TypedBodies
+pub mod ValidModules
+pub mod WholeModules
+pub mod Sequences
+pub mod OwnIds
+pub mod Resets
+pub mod TableKept
+pub mod SectionLaws
+pub mod EntriesAdded
+pub mod ImportsAdded
+pub mod ExportsAdded
+pub mod TypesAdded
+pub mod HeldShown

@@ -1,0 +1,16 @@
+pub use Rattle.wasm_spec_validity.specs as WasmSpecValidity
+pub use Rattle.wasm_parser.specs as WasmParser
+pub use Rattle.wasm_validator_type_list.specs as WasmValidatorTypeList
+pub use Rattle.wasm_validator_types.specs as WasmValidatorTypes
+pub use Rattle.wasm_validator_canonical.specs as WasmValidatorCanonical
+pub use Rattle.wasm_validator_sections.specs as WasmValidatorSections
+pub use Rattle.wasm_validator_sections.specs.WasmValidatorCore as WasmValidatorCore
+pub mod Standing
+pub mod States
+pub mod Shows
+pub mod Payloads
+pub mod Verdict
+pub mod Driven
+pub mod Sequences
+pub mod Table
+pub mod SectionLaws
