@@ -1,0 +1,3 @@
+pub mod Bodies
+pub mod Modules
+pub mod Laws

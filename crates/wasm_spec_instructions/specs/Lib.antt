@@ -1,0 +1,10 @@
+pub mod Code
+pub mod ValueTypes
+pub mod Scopes
+pub mod Rules
+pub mod Sequences
+pub mod Expressions
+pub mod Names
+pub mod Fixed
+pub mod Laws
+pub mod Consequences

@@ -1,0 +1,63 @@
+-- What code is typed in beside the module and the locals: the part of a context that blocks and instructions change.
+-- Core Specification 3.0, Validation, Conventions (Contexts: labels, return, and the locals that are set).
+use Rattle.std.specs.Prelude.{◌≡◌, ℕ, Bool, true, ◌||◌, List, [], ◌∷◌, ◌++◌, Option, Some, slice_get}
+use Rattle.std.specs.Option.{option_map}
+use Rattle.wasm_operator_steps.specs.WasmSpecRules.WasmSpec.Syntax.{Val}
+use Rattle.wasm_operator_steps.specs.WasmSpecRules.WasmSpec.MatchingTests.{World}
+use Rattle.wasm_operator_steps.specs.WasmSpecRules.Attempts.{◌>>=◌, passes, among, last_of, front_of}
+use Rattle.wasm_operator_steps.specs.Matching.{matches_vals}
+use Rattle.wasm_operator_steps.specs.Bodies.{Surroundings}
+use Rattle.wasm_operator_steps.specs.Machine.{State}
+use Rattle.wasm_operator_steps.specs.Actions.{OperandTypes, label, returned, repeated, front, last, joined, Check, local_is_set, each_matches}
+use Rattle.wasm_operator_steps.specs.Meanings.{copies, one, types_at, holds}
+
+-- the types at the labels, the innermost first; the results of the function; and the locals that were set
+pub record Scope (R : Type 0) : Type 0 where
+  pub labels : List (List (Val R))
+  pub returns : Option (List (Val R))
+  pub sets : List ℕ
+
+module _ {R : Type 0} where
+  -- in a block whose label has these types
+  abbrev pub inside : List (Val R) → Scope R → Scope R
+  inside ls C = record { labels = ls ∷ C.labels; returns = C.returns; sets = C.sets }
+
+  -- behind code that sets these locals
+  abbrev pub behind : List ℕ → Scope R → Scope R
+  behind xs C = record { labels = C.labels; returns = C.returns; sets = xs ++ C.sets }
+
+module _ {R : Type 0} (W : World R) (B : Surroundings R) where
+  abbrev pub nowhere : State R
+  nowhere = record { operands = []; frames = []; inits = [] }
+
+  -- A local is set from the start, or was set.
+  abbrev pub is_set : ℕ → List ℕ → Bool
+  is_set x sets = passes (λ l. l.set) (slice_get B.locals x) || among x sets
+
+  -- What the table's words for types mean here: labels and results are those of the scope, and all else is in the module.
+  abbrev pub types_in : List (List (Val R)) → Option (List (Val R)) → OperandTypes → Option (List (Val R))
+  types_in labels returns (label n) = slice_get labels n
+  types_in labels returns returned = returns
+  types_in labels returns (repeated n t) = option_map (copies n) (types_in labels returns t)
+  types_in labels returns (front t) = option_map front_of (types_in labels returns t)
+  types_in labels returns (last t) = one (types_in labels returns t >>= last_of)
+  types_in labels returns (joined t u) = do
+    vs ← types_in labels returns t
+    ws ← types_in labels returns u
+    Some (vs ++ ws)
+  types_in labels returns t = types_at W B nowhere t
+
+  -- and its checks
+  abbrev pub holds_in : List (List (Val R)) → Option (List (Val R)) → List ℕ → Check → Bool
+  holds_in labels returns sets (local_is_set x) = is_set x sets
+  holds_in labels returns sets (each_matches t u) = passes (λ vs. passes (matches_vals W vs) (types_in labels returns u)) (types_in labels returns t)
+  holds_in labels returns sets c = holds W B nowhere c
+
+  abbrev pub AllHold : Scope R → List Check → Type 0
+  AllHold C [] = Unit {0}
+  AllHold C (c ∷ cs) = (holds_in C.labels C.returns C.sets c ≡ true) × AllHold C cs
+
+  -- these locals are set behind code that sets those
+  abbrev pub AreSet : List ℕ → List ℕ → Type 0
+  AreSet sets [] = Unit {0}
+  AreSet sets (x ∷ xs) = (is_set x sets ≡ true) × AreSet sets xs
