@@ -34,9 +34,9 @@ find_kit() {
     kit=$(dirname "$(dirname "$(readlink -f "$(command -v rt)")")")
 }
 
-# The crates of the program, one on a line, lowest first.
+# The crates of the program, or of the crate that is named, one on a line, lowest first.
 crates_of_program() {
-    awk '
+    awk -v top="${1:-wasm_validate}" '
         { sub(/#.*/, "") }
         /^[a-z0-9_]+[^:]*:/ { name = $1; sub(/:.*/, "", name); given[name] = 1; sub(/^[^:]*:/, ""); uses[name] = $0 }
         function visit(name, names, count, i) {
@@ -46,7 +46,7 @@ crates_of_program() {
             for (i = 1; i <= count; i++) visit(names[i])
             print name
         }
-        END { visit("wasm_validate") }' "$top/crates.txt"
+        END { visit(top) }' "$top/crates.txt"
 }
 
 # A checksum of the program's sources, with their places, and of the kit's place and identity.
@@ -83,7 +83,7 @@ one_at_a_time() {
 }
 
 # A folder that looks like the kit, but for its compiler, which is called for each module that `rt try` makes. Ours compiles the one of the whole
-# program with optimization and without the sanitizer, and ends the try there.
+# program with optimization and without the sanitizer, and ends the try there; or, where `module` is asked for, only keeps what it was to compile.
 make_kit() {
     mkdir -p "$1/bin" "$1/toolchain/bin" || return 1
     ln -s "$kit"/* "$1" 2>/dev/null
@@ -105,7 +105,7 @@ for word in "\$@"; do
     esac
 done
 if [ -z "\$is_whole" ]; then exec "$kit/toolchain/bin/clang" "\$@"; fi
-"$kit/toolchain/bin/clang" "\${words[@]}" && cp module.o "$1/program.o"
+if [ "${2:-}" = module ]; then cp module.bc "$1/program.bc"; else "$kit/toolchain/bin/clang" "\${words[@]}" && cp module.o "$1/program.o"; fi
 exit 1
 CLANG
     chmod +x "$1/toolchain/bin/clang"

@@ -1,0 +1,32 @@
+-- What a verdict says of the bytes.
+use Rattle.std.proofs.Common.{ℕ, ◌≡◌, ◌≤◌, List, refl, sym, ◌∙◌, arith}
+use Rattle.std.specs.declared.result.Result.TheVariants.{Ok, Err}
+use Rattle.wasm_readers_errors.specs.WasmReadersFeatures.declared.features.WasmFeatures.{WasmFeatures}
+use Rattle.wasm_validator.specs.WasmValidatorCore.declared.error.Error.TheVariants.{Refused, DuplicateExport, InFunction, OutOfMemory}
+use Rattle.wasm_validator.specs.WasmSpecValidity.Modules.{up_to_bodies}
+use Rattle.wasm_validator.specs.Verdict.{DecidesAlone, AreModule, AreNoModule}
+use Rattle.ruthvelka_c.specs.declared.report.Report.{Report}
+use Rattle.ruthvelka_c.specs.declared.report.TheConstants.{VALID, REFUSED}
+use Rattle.ruthvelka_c.specs.Answers.{Answer}
+use Rattle.ruthvelka_c.specs.Reports.{Tells}
+
+pub valid : (answer : Answer) (bytes : List ℕ) (features : WasmFeatures) (r : Report) → DecidesAlone answer bytes 0 features → Tells answer r → r.verdict ≡ VALID → AreModule features bytes
+valid (Ok t) bytes features r d tells e = d.1.module_valid
+valid (Err (Refused x)) bytes features r d tells e = let v = tells.verdict in absurd (omega (arith, v, e))
+valid (Err (DuplicateExport name offset)) bytes features r d tells e = let v = tells.verdict in absurd (omega (arith, v, e))
+valid (Err (InFunction index x)) bytes features r d tells e = let v = tells.verdict in absurd (omega (arith, v, e))
+valid (Err OutOfMemory) bytes features r d tells e = let v = tells.verdict in absurd (omega (arith, v, e))
+
+pub refused : (answer : Answer) (bytes : List ℕ) (features : WasmFeatures) (r : Report) → DecidesAlone answer bytes 0 features → Tells answer r → r.verdict ≡ REFUSED → AreNoModule features bytes
+refused (Ok t) bytes features r d tells e = let v = tells.verdict in absurd (omega (arith, v, e))
+refused (Err (Refused x)) bytes features r d tells e = λ m. d.0 (up_to_bodies m)
+refused (Err (DuplicateExport name offset)) bytes features r d tells e = λ m. d.0 (up_to_bodies m)
+refused (Err (InFunction index x)) bytes features r d tells e = d.0
+refused (Err OutOfMemory) bytes features r d tells e = let v = tells.verdict in absurd (omega (arith, v, e))
+
+pub known : (answer : Answer) (r : Report) → Tells answer r → r.verdict ≤ 2
+known (Ok t) r tells = let v = tells.verdict in omega (arith, v)
+known (Err (Refused x)) r tells = let v = tells.verdict in omega (arith, v)
+known (Err (DuplicateExport name offset)) r tells = let v = tells.verdict in omega (arith, v)
+known (Err (InFunction index x)) r tells = let v = tells.verdict in omega (arith, v)
+known (Err OutOfMemory) r tells = let v = tells.verdict in omega (arith, v)

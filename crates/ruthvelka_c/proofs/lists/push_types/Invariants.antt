@@ -1,0 +1,6 @@
+use Rattle.std.proofs.Common.{◌≡◌, ◌≤◌, ◌++◌, take, length}
+use Rattle.wasm_validator.specs.WasmValidatorTypes.Shown.{shown_by}
+use Rattle.ruthvelka_c.proofs.lists.push_types.Given as goal
+
+abbrev pub invariant-types : goal.invariant-types
+invariant-types l = l.ids.items ≡ l.initial.ids.items ++ take l.index (shown_by l.types).spaces.types

@@ -1,0 +1,4 @@
+pub mod Arrays
+pub mod Answers
+pub mod Reports
+pub mod Lists

@@ -1,0 +1,48 @@
+-- What is told of a list of modules.
+use Rattle.std.specs.Prelude.{ℕ, ◌≡◌, ◌<◌, ◌≤◌, List, [], length, map, slice_get, Option, Some, None}
+use Rattle.std.specs.List.{flat_map}
+use Rattle.std.specs.declared.result.Result.TheVariants.{Ok, Err}
+use Rattle.wasm_spec_rules.specs.FeatureFlags.{features_of}
+use Rattle.wasm_validator.specs.WasmValidatorTypes.Shown.{shown_of}
+use Rattle.wasm_validator.specs.Headline.{Headline}
+use Rattle.ruthvelka_c.specs.declared.report.Report.{Report}
+use Rattle.ruthvelka_c.specs.declared.report.TheConstants.{NOT_CHECKED}
+use Rattle.ruthvelka_c.specs.declared.lists.Bytes.{Bytes}
+use Rattle.ruthvelka_c.specs.Answers.{Answer}
+use Rattle.ruthvelka_c.specs.Arrays.{AreWritten}
+use Rattle.ruthvelka_c.specs.Reports.{Tells, flags, function_ids}
+
+abbrev pub bytes_of : Bytes → List ℕ
+bytes_of b = b.bytes.now
+
+-- the ids of the types of an accepted module, and those of its functions
+abbrev pub types_of : Answer → List ℕ
+types_of (Ok t) = (shown_of t).spaces.types
+types_of (Err e) = []
+
+abbrev pub functions_of : Answer → List ℕ
+functions_of (Ok t) = function_ids (shown_of t).spaces
+functions_of (Err e) = []
+
+-- the report tells of the answer, and without one that the module was not looked at
+abbrev pub TellsMaybe : Option Answer → Report → Type 0
+TellsMaybe (Some answer) r = Tells answer r
+TellsMaybe None r = r.verdict ≡ NOT_CHECKED
+
+abbrev pub answered_on : List Answer → ℕ → Report → Type 0
+answered_on answers k r = TellsMaybe (slice_get answers k) r
+
+-- A report on each of so many modules stands in the array, as far as there is room, and what is behind them is as it was.
+pub record ReportsTell (answers : List Answer) (count : ℕ) (old new : List Report) : Type 0 where
+  pub room : length new ≡ length old
+  pub told : (k : ℕ) (r : Report) → k < count → slice_get new k ≡ Some r → answered_on answers k r
+  pub others : (k : ℕ) → count ≤ k → slice_get new k ≡ slice_get old k
+
+-- What is told of a list of modules by a new validator with these proposals: as `validate_list` answers.
+pub record ToldList
+    (modules : List (List ℕ)) (features : ℕ) (reports_old reports_new : List Report) (types_old types_new functions_old functions_new : List ℕ) : Type 0 where
+  pub answers : List Answer
+  pub headline : Headline (features_of (flags features)) modules answers []
+  pub reports : ReportsTell answers (length modules) reports_old reports_new
+  pub types : AreWritten (flat_map types_of answers) types_old types_new
+  pub functions : AreWritten (flat_map functions_of answers) functions_old functions_new

@@ -1,0 +1,113 @@
+//! The C interface of the validator. `include/ruthvelka.h` says to a C programmer what is promised;
+//! here it is stated and proved, by the clauses of the validator itself.
+#![tactic(auto)]
+
+ghost use Rattle.std.specs.Prelude.{◌≡◌, ◌≤◌, map};
+ghost use Rattle.wasm_validator.specs.Verdict.{AreModule, AreNoModule};
+ghost use Rattle.ruthvelka_c.specs.Arrays.{HasText};
+ghost use Rattle.ruthvelka_c.specs.Reports.{Told, ToldWithIds, flags};
+ghost use Rattle.ruthvelka_c.specs.Lists.{ToldList, bytes_of};
+
+mod answers;
+mod arrays;
+mod lists;
+mod report;
+
+use answers::{answer_alone, answer_list, write_ids};
+use arrays::write_numbers;
+pub use lists::Bytes;
+use lists::{gather_functions, gather_types, write_reports};
+use report::{report_of, write_message};
+pub use report::{NO_FUNCTION, NO_MEMORY, NOT_CHECKED, REFUSED, Report, VALID};
+use std::alloc::Global;
+
+/// The version of the library, as major · 1,000,000 + minor · 1,000 + patch.
+#[unsafe(no_mangle)]
+pub extern "C" fn ruthvelka_proved_version() -> u32
+    ensures { result ≡ 1000 }
+{
+    1000
+}
+
+/// Validates one module with these proposals, writes the message of a refusal as far as there is
+/// room, and reports the verdict, which is also the result.
+#[unsafe(no_mangle)]
+pub extern "C" fn ruthvelka_proved_validate(
+    alloc: Global,
+    bytes: &[u8],
+    features: u64,
+    message: &mut [u8],
+    report: &mut Report,
+) -> u32
+    ensures told { Told bytes.now features report.new }
+    ensures verdict { result ≡ report.new.verdict }
+    ensures known { result ≤ 2 }
+    ensures valid { result ≡ VALID → AreModule (flags features) bytes.now }
+    ensures refused { result ≡ REFUSED → AreNoModule (flags features) bytes.now }
+    ensures message { HasText report.new.message_length message.old message.new }
+{
+    let answer = answer_alone(alloc, bytes, features);
+    let message_length = write_message(alloc, &answer, message);
+    *report = report_of(&answer, message_length);
+    report.verdict
+}
+
+/// The same, and writes the ids of the module's types, and of the types of its functions, by their
+/// indices, as far as there is room. Nothing is written there where the module is not valid.
+#[unsafe(no_mangle)]
+pub extern "C" fn ruthvelka_proved_validate_with_ids(
+    alloc: Global,
+    bytes: &[u8],
+    features: u64,
+    message: &mut [u8],
+    report: &mut Report,
+    type_ids: &mut [u32],
+    function_ids: &mut [u32],
+) -> u32
+    ensures told { ToldWithIds bytes.now features report.new type_ids.old type_ids.new
+        function_ids.old function_ids.new }
+    ensures verdict { result ≡ report.new.verdict }
+    ensures known { result ≤ 2 }
+    ensures valid { result ≡ VALID → AreModule (flags features) bytes.now }
+    ensures refused { result ≡ REFUSED → AreNoModule (flags features) bytes.now }
+    ensures message { HasText report.new.message_length message.old message.new }
+{
+    let answer = answer_alone(alloc, bytes, features);
+    let message_length = write_message(alloc, &answer, message);
+    write_ids(&answer, type_ids, function_ids);
+    *report = report_of(&answer, message_length);
+    report.verdict
+}
+
+/// Validates modules one after another by one validator with these proposals, as far as it goes, and
+/// reports on each, as far as there is room. The ids of the types, and of the types of the
+/// functions, of all accepted modules come one module after another, as far as there is room. The
+/// result is `VALID` where this was done, whatever the verdicts are, and `NO_MEMORY` where memory for
+/// the list itself was refused; then nothing is written.
+#[unsafe(no_mangle)]
+pub extern "C" fn ruthvelka_proved_validate_list(
+    alloc: Global,
+    modules: &[Bytes],
+    features: u64,
+    reports: &mut [Report],
+    type_ids: &mut [u32],
+    function_ids: &mut [u32],
+) -> u32
+    ensures told { result ≡ VALID → ToldList (map bytes_of modules.now) features reports.old
+        reports.new type_ids.old type_ids.new function_ids.old function_ids.new }
+    ensures known { result ≤ 2 }
+{
+    let Ok(answers) = answer_list(alloc, modules, features) else {
+        return NO_MEMORY;
+    };
+    let Ok(types) = gather_types(alloc, answers.as_slice()) else {
+        return NO_MEMORY;
+    };
+    let Ok(functions) = gather_functions(alloc, answers.as_slice()) else {
+        return NO_MEMORY;
+    };
+    write_reports(answers.as_slice(), modules.len(), reports);
+    write_numbers(type_ids, types.as_slice());
+    write_numbers(function_ids, functions.as_slice());
+    VALID
+}
