@@ -64,9 +64,10 @@ fn listed_global<A: Allocator + Copy>(
     }
 }
 
-/// Reads the global that the bytes begin with, in the module as far as it has been read, adds it, and
-/// notes the functions that it names. Its initializer may read the immutable globals before it, without `GC` only imported ones,
-/// and is typed in memory that is used again. The reader goes behind it.
+/// Reads the global that the bytes begin with, in the module as far as it has been read, adds it,
+/// and notes the functions that it names. Its initializer may read the immutable globals before it,
+/// without `GC` only imported ones, and is typed in memory that is used again. The reader goes
+/// behind it.
 ///
 /// The list must have the types of the module; and `types` are all that it has, with ids in the
 /// place of positions in their groups.

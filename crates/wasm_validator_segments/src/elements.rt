@@ -287,9 +287,10 @@ fn check_any_element<'a, A: Allocator + Copy, T: WasmModuleResources, N: NotesFu
     )
 }
 
-/// Reads an element segment, whose expressions are typed in memory that is used again, and notes the
-/// functions that it names: those that it lists, and those of its expressions. The answer is the type of its items, whose references are identities. So many globals are imported, and
-/// they come first.
+/// Reads an element segment, whose expressions are typed in memory that is used again, and notes
+/// the functions that it names: those that it lists, and those of its expressions. The answer is
+/// the type of its items, whose references are identities. So many globals are imported, and they
+/// come first.
 ///
 /// # Errors
 ///
