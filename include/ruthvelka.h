@@ -58,7 +58,11 @@ extern "C" {
 #define RUTHVELKA_CUSTOM_DESCRIPTORS (UINT64_C(1) << 16)       /* descriptor clauses, and exact references */
 #define RUTHVELKA_STACK_SWITCHING (UINT64_C(1) << 17)          /* continuations */
 #define RUTHVELKA_COMPONENT_MODEL (UINT64_C(1) << 18)          /* components, which are not validated */
-/* What the standard has: all but SHARED_EVERYTHING_THREADS, CUSTOM_PAGE_SIZES, CUSTOM_DESCRIPTORS, STACK_SWITCHING and COMPONENT_MODEL. */
+#define RUTHVELKA_VECTOR_OPERATORS (UINT64_C(1) << 19)         /* the operators on vectors, which need SIMD too */
+#define RUTHVELKA_ATOMIC_OPERATORS (UINT64_C(1) << 20)         /* the atomic operators, which need THREADS too */
+#define RUTHVELKA_LEGACY_EXCEPTIONS (UINT64_C(1) << 21)        /* try, catch, catch_all, rethrow and delegate, which need EXCEPTIONS too */
+/* What the standard has: all but SHARED_EVERYTHING_THREADS, CUSTOM_PAGE_SIZES, CUSTOM_DESCRIPTORS, STACK_SWITCHING, COMPONENT_MODEL,
+   VECTOR_OPERATORS, ATOMIC_OPERATORS and LEGACY_EXCEPTIONS. */
 #define RUTHVELKA_STANDARD UINT64_C(32703)
 
 /* What a call tells of a module. */

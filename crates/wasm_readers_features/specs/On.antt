@@ -63,3 +63,12 @@ custom_descriptors_on = has_flag 65536
 
 abbrev pub stack_switching_on : WasmFeatures → Bool
 stack_switching_on = has_flag 131072
+
+abbrev pub vector_operators_on : WasmFeatures → Bool
+vector_operators_on = has_flag 524288
+
+abbrev pub atomic_operators_on : WasmFeatures → Bool
+atomic_operators_on = has_flag 1048576
+
+abbrev pub legacy_exceptions_on : WasmFeatures → Bool
+legacy_exceptions_on = has_flag 2097152

@@ -2,7 +2,7 @@
 //! each flag; and the set of what the standard has.
 
 ghost use Rattle.std.specs.Prelude.{⊤, ◌≡◌, [], ◌∷◌, codes};
-ghost use Rattle.wasm_readers_features.specs.On.{mutable_global_on, reference_types_on, multi_value_on, bulk_memory_on, simd_on, threads_on, shared_everything_threads_on, floats_on, multi_memory_on, exceptions_on, memory64_on, extended_const_on, function_references_on, gc_on, gc_types_on, custom_page_sizes_on, custom_descriptors_on, stack_switching_on, component_model_on};
+ghost use Rattle.wasm_readers_features.specs.On.{mutable_global_on, reference_types_on, multi_value_on, bulk_memory_on, simd_on, threads_on, shared_everything_threads_on, floats_on, multi_memory_on, exceptions_on, memory64_on, extended_const_on, function_references_on, gc_on, gc_types_on, custom_page_sizes_on, custom_descriptors_on, stack_switching_on, component_model_on, vector_operators_on, atomic_operators_on, legacy_exceptions_on};
 
 use bitflags::{Flag, Flags, bitflag_items};
 
@@ -28,6 +28,15 @@ use bitflags::{Flag, Flags, bitflag_items};
 /// - `CUSTOM_DESCRIPTORS`: descriptor clauses, and exact references.
 /// - `STACK_SWITCHING`: continuations.
 /// - `COMPONENT_MODEL`: components, which are not validated.
+/// - `VECTOR_OPERATORS`: the operators on vectors, also the relaxed ones. They need `SIMD` too, which
+///   alone allows the type of vectors and `v128.const`.
+/// - `ATOMIC_OPERATORS`: the atomic operators. They need `THREADS` too, which alone allows shared
+///   memories.
+/// - `LEGACY_EXCEPTIONS`: `try`, `catch`, `catch_all`, `rethrow` and `delegate`, by which exceptions
+///   were handled before references to them. They need `EXCEPTIONS` too.
+///
+/// The last three are no flags of the Rust crate; they have to be asked for, and are in no set but
+/// `all()`.
 #[derive(Clone, Copy, PartialEq, Eq, Hash, Debug)]
 pub struct WasmFeatures(u64);
 
@@ -52,12 +61,16 @@ bitflag_items! {
         const CUSTOM_DESCRIPTORS = 65536;
         const STACK_SWITCHING = 131072;
         const COMPONENT_MODEL = 262144;
+        const VECTOR_OPERATORS = 524288;
+        const ATOMIC_OPERATORS = 1048576;
+        const LEGACY_EXCEPTIONS = 2097152;
     }
 }
 
 impl WasmFeatures {
     /// All but `SHARED_EVERYTHING_THREADS`, `CUSTOM_DESCRIPTORS`, `STACK_SWITCHING`,
-    /// `CUSTOM_PAGE_SIZES` and `COMPONENT_MODEL`.
+    /// `CUSTOM_PAGE_SIZES`, `COMPONENT_MODEL`, `VECTOR_OPERATORS`, `ATOMIC_OPERATORS` and
+    /// `LEGACY_EXCEPTIONS`.
     pub const STANDARD: WasmFeatures = WasmFeatures(32703);
 
     /// No proposal.
@@ -69,9 +82,9 @@ impl WasmFeatures {
 
     /// Every proposal.
     pub fn all() -> WasmFeatures
-        ensures { result.0 ≡ 524287 }
+        ensures { result.0 ≡ 4194303 }
     {
-        WasmFeatures(524287)
+        WasmFeatures(4194303)
     }
 
     /// Whether `MUTABLE_GLOBAL` is on: mutable globals are imported and exported.
@@ -207,6 +220,28 @@ impl WasmFeatures {
     {
         self.contains(WasmFeatures::COMPONENT_MODEL)
     }
+
+    /// Whether `VECTOR_OPERATORS` is on: the operators on vectors, which need `SIMD` too.
+    pub fn vector_operators(&self) -> bool
+        ensures { result ≡ vector_operators_on self.now }
+    {
+        self.contains(WasmFeatures::VECTOR_OPERATORS)
+    }
+
+    /// Whether `ATOMIC_OPERATORS` is on: the atomic operators, which need `THREADS` too.
+    pub fn atomic_operators(&self) -> bool
+        ensures { result ≡ atomic_operators_on self.now }
+    {
+        self.contains(WasmFeatures::ATOMIC_OPERATORS)
+    }
+
+    /// Whether `LEGACY_EXCEPTIONS` is on: `try`, `catch`, `catch_all`, `rethrow` and `delegate`, which
+    /// need `EXCEPTIONS` too.
+    pub fn legacy_exceptions(&self) -> bool
+        ensures { result ≡ legacy_exceptions_on self.now }
+    {
+        self.contains(WasmFeatures::LEGACY_EXCEPTIONS)
+    }
 }
 
 impl Flags for WasmFeatures {
@@ -221,7 +256,8 @@ impl Flags for WasmFeatures {
         ∷ (codes "EXTENDED_CONST", 2048) ∷ (codes "FUNCTION_REFERENCES", 4096) ∷ (codes "GC", 8192)
         ∷ (codes "GC_TYPES", 16384) ∷ (codes "CUSTOM_PAGE_SIZES", 32768)
         ∷ (codes "CUSTOM_DESCRIPTORS", 65536) ∷ (codes "STACK_SWITCHING", 131072)
-        ∷ (codes "COMPONENT_MODEL", 262144) ∷ [] };
+        ∷ (codes "COMPONENT_MODEL", 262144) ∷ (codes "VECTOR_OPERATORS", 524288)
+        ∷ (codes "ATOMIC_OPERATORS", 1048576) ∷ (codes "LEGACY_EXCEPTIONS", 2097152) ∷ [] };
 
     ghost set_of = { λ p. p.0 };
 

@@ -22,6 +22,9 @@ pub record Features : Type 0 where
   pub custom_descriptors : Bool
   pub stack_switching : Bool
   pub component_model : Bool
+  pub vector_operators : Bool
+  pub atomic_operators : Bool
+  pub legacy_exceptions : Bool
 
 -- whether equal types are one type: without these features no type can refer to another, and each written type is its own
 abbrev pub canonical : Features → Bool

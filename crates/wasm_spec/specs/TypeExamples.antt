@@ -29,6 +29,9 @@ features b = record {
   custom_descriptors = b;
   stack_switching = b;
   component_model = b;
+  vector_operators = b;
+  atomic_operators = b;
+  legacy_exceptions = b;
 }
 
 module _ {R : Type 0} where

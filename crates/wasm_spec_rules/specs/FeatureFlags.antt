@@ -24,4 +24,7 @@ features_of flags = record {
   custom_descriptors = has_flag 65536 flags;
   stack_switching = has_flag 131072 flags;
   component_model = has_flag 262144 flags;
+  vector_operators = has_flag 524288 flags;
+  atomic_operators = has_flag 1048576 flags;
+  legacy_exceptions = has_flag 2097152 flags;
 }

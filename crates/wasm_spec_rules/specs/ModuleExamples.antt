@@ -37,6 +37,9 @@ first_version = record {
   custom_descriptors = false;
   stack_switching = false;
   component_model = false;
+  vector_operators = false;
+  atomic_operators = false;
+  legacy_exceptions = false;
 }
 
 -- a table of so many entries
