@@ -1,0 +1,3 @@
+pub use Rattle.wasm_operators_vector.specs as WasmOperatorsVector
+pub mod Codes
+pub mod Forms
