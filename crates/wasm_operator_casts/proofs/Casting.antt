@@ -3,17 +3,17 @@ use Rattle.std.proofs.Common.{◌≡◌, ℕ, Bool, true, false, refl, sym, ◌�
 use Rattle.std.specs.Option.{option_map}
 use Rattle.std.specs.Prelude.{Some, None, Option}
 use Rattle.std.proofs.lemmas.Option.{same_Some}
-use Rattle.wasm_spec.specs.Features.{Features}
-use Rattle.wasm_spec.specs.Matching.{top_of_heap}
-use Rattle.wasm_spec.specs.MatchingTests.{matches_heap, matches_val}
-use Rattle.wasm_spec.specs.Syntax.{AbstractHeap, Heap, abstract_heap, concrete, exact, Ref, reference, map_heap, map_ref}
-use Rattle.wasm_spec.specs.ValueTypes.{allows_heap, allows_ref, allows_val}
-use Rattle.wasm_spec_rules.specs.Contexts.{Context}
-use Rattle.wasm_spec_rules.specs.FeatureFlags.{features_of}
-use Rattle.wasm_readers_types.specs.WasmReadersValues.declared.indices.UnpackedIndex.{UnpackedIndex}
+use Rattle.wasm_operator_references.specs.WasmSpec.Features.{Features}
+use Rattle.wasm_operator_references.specs.WasmSpec.Matching.{top_of_heap}
+use Rattle.wasm_operator_references.specs.WasmSpec.MatchingTests.{matches_heap, matches_val}
+use Rattle.wasm_operator_references.specs.WasmSpec.Syntax.{AbstractHeap, Heap, abstract_heap, concrete, exact, Ref, reference, map_heap, map_ref}
+use Rattle.wasm_operator_references.specs.WasmSpec.ValueTypes.{allows_heap, allows_ref, allows_val}
+use Rattle.wasm_operator_references.specs.WasmSpecRules.Contexts.{Context}
+use Rattle.wasm_operator_references.specs.WasmSpecRules.FeatureFlags.{features_of}
+use Rattle.wasm_operator_references.specs.WasmReadersTypes.WasmReadersValues.declared.indices.UnpackedIndex.{UnpackedIndex}
 use Rattle.wasm_operator_references.specs.WasmOperatorChecks.WasmOperatorSteps.Actions.{may_be_cast}
-use Rattle.wasm_spec_rules.specs.Attempts.{◌>>=◌}
-use Rattle.wasm_spec_rules.specs.Signatures.{resolve_heap, resolve_ref}
+use Rattle.wasm_operator_references.specs.WasmSpecRules.Attempts.{◌>>=◌}
+use Rattle.wasm_operator_references.specs.WasmSpecRules.Signatures.{resolve_heap, resolve_ref}
 use Rattle.wasm_operator_references.specs.WasmOperatorChecks.WasmOperatorSteps.Meanings.{casts}
 use Rattle.wasm_operator_references.specs.WasmOperatorChecks.WasmValidatorResources.Answers.{IsWrittenHeap, world, written_index}
 use Rattle.wasm_operator_references.specs.WasmOperatorChecks.WasmOperatorStacks.Seen.{around}

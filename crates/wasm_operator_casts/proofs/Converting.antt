@@ -1,12 +1,12 @@
 -- Conversions of references, and unboxed integers.
 use Rattle.std.proofs.Common.{◌≡◌, Bool, false, [], ◌∷◌, refl}
 use Rattle.std.specs.Prelude.{Some, None}
-use Rattle.wasm_spec.specs.Matching.{is_shared_heap}
-use Rattle.wasm_spec.specs.Syntax.{AbstractHeap, i31_heap, abstract_heap, Ref, Val, reference, i32}
-use Rattle.wasm_spec_rules.specs.Contexts.{Context}
-use Rattle.wasm_readers_types.specs.WasmReadersValues.declared.indices.UnpackedIndex.{UnpackedIndex}
+use Rattle.wasm_operator_references.specs.WasmSpec.Matching.{is_shared_heap}
+use Rattle.wasm_operator_references.specs.WasmSpec.Syntax.{AbstractHeap, i31_heap, abstract_heap, Ref, Val, reference, i32}
+use Rattle.wasm_operator_references.specs.WasmSpecRules.Contexts.{Context}
+use Rattle.wasm_operator_references.specs.WasmReadersTypes.WasmReadersValues.declared.indices.UnpackedIndex.{UnpackedIndex}
 use Rattle.wasm_operator_references.specs.WasmOperatorChecks.WasmOperatorSteps.Actions.{these, take_below, give, convert}
-use Rattle.wasm_spec_rules.specs.Attempts.{guard}
+use Rattle.wasm_operator_references.specs.WasmSpecRules.Attempts.{guard}
 use Rattle.wasm_operator_references.specs.WasmOperatorChecks.WasmOperatorSteps.Bodies.{Surroundings}
 use Rattle.wasm_operator_references.specs.WasmOperatorChecks.WasmOperatorSteps.Machine.{Operand, State, known, push_operand}
 use Rattle.wasm_operator_references.specs.WasmOperatorChecks.WasmOperatorSteps.Meanings.{converted, is_below_either}

@@ -2,13 +2,13 @@
 use Rattle.std.proofs.Common.{◌≡◌, ℕ, Bool, true, false, not, [], ◌∷◌, refl, sym, ◌∙◌}
 use Rattle.std.specs.Option.{option_map}
 use Rattle.std.specs.Prelude.{Some, None, Option, slice_get}
-use Rattle.wasm_spec.specs.Matching.{kind_of, top_of, top_of_heap}
-use Rattle.wasm_spec.specs.MatchingTests.{same_abstract}
-use Rattle.wasm_spec.specs.Syntax.{AbstractHeap, cont_heap, abstract_heap, concrete, exact, Ref, Sub, Val, reference}
-use Rattle.wasm_spec_rules.specs.Contexts.{Context}
-use Rattle.wasm_readers_types.specs.WasmReadersValues.declared.indices.UnpackedIndex.{UnpackedIndex}
+use Rattle.wasm_operator_references.specs.WasmSpec.Matching.{kind_of, top_of, top_of_heap}
+use Rattle.wasm_operator_references.specs.WasmSpec.MatchingTests.{same_abstract}
+use Rattle.wasm_operator_references.specs.WasmSpec.Syntax.{AbstractHeap, cont_heap, abstract_heap, concrete, exact, Ref, Sub, Val, reference}
+use Rattle.wasm_operator_references.specs.WasmSpecRules.Contexts.{Context}
+use Rattle.wasm_operator_references.specs.WasmReadersTypes.WasmReadersValues.declared.indices.UnpackedIndex.{UnpackedIndex}
 use Rattle.wasm_operator_references.specs.WasmOperatorChecks.WasmOperatorSteps.Actions.{top, can_be_tested}
-use Rattle.wasm_spec_rules.specs.Attempts.{◌>>=◌}
+use Rattle.wasm_operator_references.specs.WasmSpecRules.Attempts.{◌>>=◌}
 use Rattle.wasm_operator_references.specs.WasmOperatorChecks.WasmValidatorResources.Answers.{world, sub_in}
 use Rattle.wasm_operator_references.specs.WasmOperatorChecks.WasmOperatorStacks.declared.stacks.Stacks.{Stacks}
 use Rattle.wasm_operator_references.specs.WasmOperatorChecks.Steps.{typed, held}

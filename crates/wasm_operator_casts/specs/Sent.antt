@@ -1,15 +1,15 @@
 -- What branches on casts check, and what they send.
 use Rattle.std.specs.Prelude.{◌≡◌, ℕ, true, List, [], ◌∷◌, ◌++◌, Option, Some, Result, Ok, Err}
-use Rattle.wasm_spec.specs.Syntax.{Ref, Val, reference}
-use Rattle.wasm_spec.specs.MatchingTests.{World, matches_val}
-use Rattle.wasm_spec_rules.specs.Contexts.{Context}
-use Rattle.wasm_readers_types.specs.WasmReadersValues.SeenValues.{ref_of}
-use Rattle.wasm_readers_types.specs.WasmReadersValues.declared.indices.UnpackedIndex.{UnpackedIndex}
-use Rattle.wasm_readers_types.specs.WasmReadersValues.declared.values.RefType.{RefType}
+use Rattle.wasm_operator_references.specs.WasmSpec.Syntax.{Ref, Val, reference}
+use Rattle.wasm_operator_references.specs.WasmSpec.MatchingTests.{World, matches_val}
+use Rattle.wasm_operator_references.specs.WasmSpecRules.Contexts.{Context}
+use Rattle.wasm_operator_references.specs.WasmReadersTypes.WasmReadersValues.SeenValues.{ref_of}
+use Rattle.wasm_operator_references.specs.WasmReadersTypes.WasmReadersValues.declared.indices.UnpackedIndex.{UnpackedIndex}
+use Rattle.wasm_operator_references.specs.WasmReadersTypes.WasmReadersValues.declared.values.RefType.{RefType}
 use Rattle.wasm_operator_references.specs.WasmOperatorChecks.WasmOperatorSteps.Actions.{has, gc, allows, may_be_cast, Action, need}
-use Rattle.wasm_spec_rules.specs.Attempts.{◌>>=◌, guard, last_of, front_of}
+use Rattle.wasm_operator_references.specs.WasmSpecRules.Attempts.{◌>>=◌, guard, last_of, front_of}
 use Rattle.wasm_operator_references.specs.WasmOperatorChecks.WasmOperatorSteps.Machine.{State}
-use Rattle.wasm_spec_rules.specs.Signatures.{resolve_ref}
+use Rattle.wasm_operator_references.specs.WasmSpecRules.Signatures.{resolve_ref}
 use Rattle.wasm_operator_references.specs.WasmOperatorChecks.WasmOperatorStacks.Seen.{state_of}
 use Rattle.wasm_operator_references.specs.WasmOperatorChecks.WasmOperatorStacks.declared.stacks.Stacks.{Stacks}
 use Rattle.wasm_operator_references.specs.WasmOperatorChecks.Steps.{Took, acted, held}

@@ -1,13 +1,13 @@
 -- The greatest type of the hierarchy of a written heap type.
 use Rattle.std.specs.Prelude.{ℕ, Bool, Option}
-use Rattle.wasm_spec.specs.Syntax.{Heap, abstract_heap}
-use Rattle.wasm_spec.specs.Matching.{top_of_heap}
-use Rattle.wasm_spec_rules.specs.Contexts.{Context}
-use Rattle.wasm_readers_types.specs.WasmReadersValues.SeenValues.{abstract_heap_of}
-use Rattle.wasm_readers_types.specs.WasmReadersValues.declared.indices.UnpackedIndex.{UnpackedIndex}
-use Rattle.wasm_readers_types.specs.WasmReadersValues.declared.values.AbstractHeapType.{AbstractHeapType}
-use Rattle.wasm_spec_rules.specs.Attempts.{◌>>=◌}
-use Rattle.wasm_spec_rules.specs.Signatures.{resolve_heap}
+use Rattle.wasm_operator_references.specs.WasmSpec.Syntax.{Heap, abstract_heap}
+use Rattle.wasm_operator_references.specs.WasmSpec.Matching.{top_of_heap}
+use Rattle.wasm_operator_references.specs.WasmSpecRules.Contexts.{Context}
+use Rattle.wasm_operator_references.specs.WasmReadersTypes.WasmReadersValues.SeenValues.{abstract_heap_of}
+use Rattle.wasm_operator_references.specs.WasmReadersTypes.WasmReadersValues.declared.indices.UnpackedIndex.{UnpackedIndex}
+use Rattle.wasm_operator_references.specs.WasmReadersTypes.WasmReadersValues.declared.values.AbstractHeapType.{AbstractHeapType}
+use Rattle.wasm_operator_references.specs.WasmSpecRules.Attempts.{◌>>=◌}
+use Rattle.wasm_operator_references.specs.WasmSpecRules.Signatures.{resolve_heap}
 use Rattle.wasm_operator_references.specs.WasmOperatorChecks.WasmValidatorResources.Answers.{world}
 
 abbrev pub top_seen : Bool × AbstractHeapType → Heap UnpackedIndex

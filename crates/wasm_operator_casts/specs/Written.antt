@@ -1,6 +1,6 @@
 -- Casts as they are written in a module: each index in a type is a type index of the module.
-use Rattle.wasm_readers_types.specs.WasmReadersValues.declared.indices.UnpackedIndex.{UnpackedIndex}
-use Rattle.wasm_operators.specs.References.{Cast, ref_test, ref_cast, br_on_cast, br_on_cast_fail}
+use Rattle.wasm_operator_references.specs.WasmReadersTypes.WasmReadersValues.declared.indices.UnpackedIndex.{UnpackedIndex}
+use Rattle.wasm_operator_references.specs.WasmOperators.References.{Cast, ref_test, ref_cast, br_on_cast, br_on_cast_fail}
 use Rattle.wasm_operator_references.specs.WasmOperatorChecks.WasmValidatorResources.Answers.{IsWrittenHeap}
 
 abbrev pub IsWrittenCast : Cast UnpackedIndex → Type 0

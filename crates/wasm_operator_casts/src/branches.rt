@@ -2,12 +2,12 @@
 
 ghost use Rattle.std.specs.Prelude.{◌≡◌, Some, false, if◌then◌else◌};
 ghost use Rattle.std.specs.Option.{option_map};
-ghost use Rattle.wasm_spec.specs.Syntax.{map_ref, reference};
-ghost use Rattle.wasm_spec.specs.ValueTypes.{allows_val};
-ghost use Rattle.wasm_spec_rules.specs.FeatureFlags.{features_of};
-ghost use Rattle.wasm_readers_types.specs.WasmReadersValues.SeenValues.{ref_of};
-ghost use Rattle.wasm_operators.specs.References.{br_on_cast, br_on_cast_fail};
-ghost use Rattle.wasm_spec_rules.specs.Signatures.{resolve_ref};
+ghost use Rattle.wasm_operator_references.specs.WasmSpec.Syntax.{map_ref, reference};
+ghost use Rattle.wasm_operator_references.specs.WasmSpec.ValueTypes.{allows_val};
+ghost use Rattle.wasm_operator_references.specs.WasmSpecRules.FeatureFlags.{features_of};
+ghost use Rattle.wasm_operator_references.specs.WasmReadersTypes.WasmReadersValues.SeenValues.{ref_of};
+ghost use Rattle.wasm_operator_references.specs.WasmOperators.References.{br_on_cast, br_on_cast_fail};
+ghost use Rattle.wasm_operator_references.specs.WasmSpecRules.Signatures.{resolve_ref};
 ghost use Rattle.wasm_operator_references.specs.WasmOperatorChecks.WasmOperatorSteps.Meanings.{casts};
 ghost use Rattle.wasm_operator_references.specs.WasmOperatorChecks.WasmOperatorSteps.Shapes.{cast_shape};
 ghost use Rattle.wasm_operator_references.specs.WasmOperatorChecks.WasmValidatorResources.Answers.{IsWrittenHeap, world, written_index};
@@ -20,10 +20,10 @@ use crate::tops::top_of;
 use std::alloc::Allocator;
 use wasm_operator_references::operator_checks::{OperatorError, OperatorFault, OperatorRule, has};
 use wasm_operator_references::operator_stacks::Stacks;
+use wasm_operator_references::readers_errors::WasmFeatures;
+use wasm_operator_references::readers_types::{RefType, ValType};
 use wasm_operator_references::validator_resources::{WasmModuleResources, check_ref_type};
 use wasm_operator_references::{matches_abstract, unknown_type};
-use wasm_readers_errors::WasmFeatures;
-use wasm_readers_types::{RefType, ValType};
 
 /// Whether the features allow a reference type as it is written.
 #[tactic(auto, using(crate::proofs::Casting::allowances))]

@@ -1,8 +1,8 @@
 //! Tests and casts.
 
-ghost use Rattle.wasm_spec.specs.Syntax.{map_heap};
-ghost use Rattle.wasm_readers_types.specs.WasmReadersValues.SeenValues.{heap_of};
-ghost use Rattle.wasm_operators.specs.References.{ref_cast, ref_test, reference_to};
+ghost use Rattle.wasm_operator_references.specs.WasmSpec.Syntax.{map_heap};
+ghost use Rattle.wasm_operator_references.specs.WasmReadersTypes.WasmReadersValues.SeenValues.{heap_of};
+ghost use Rattle.wasm_operator_references.specs.WasmOperators.References.{ref_cast, ref_test, reference_to};
 ghost use Rattle.wasm_operator_references.specs.WasmOperatorChecks.WasmOperatorSteps.Shapes.{cast_shape};
 ghost use Rattle.wasm_operator_references.specs.WasmOperatorChecks.WasmValidatorResources.Answers.{IsWrittenHeap, written_index};
 ghost use Rattle.wasm_operator_references.specs.WasmOperatorChecks.WasmOperatorStacks.Seen.{Kept};
@@ -14,11 +14,11 @@ use wasm_operator_references::operator_checks::{
     OperatorError, OperatorFault, OperatorRule, Takes, ValTypes, has, plain,
 };
 use wasm_operator_references::operator_stacks::{Stacks, TypeWord};
+use wasm_operator_references::operators::operators_plain::NumberType;
+use wasm_operator_references::readers_errors::WasmFeatures;
+use wasm_operator_references::readers_types::HeapType;
 use wasm_operator_references::validator_resources::WasmModuleResources;
 use wasm_operator_references::{allows_heap, resolve, unknown_type};
-use wasm_operators::operators_plain::NumberType;
-use wasm_readers_errors::WasmFeatures;
-use wasm_readers_types::HeapType;
 
 /// `ref.test` (Core Specification 3.0, Validation, Instructions, Reference Instructions), to a type
 /// with null or without.

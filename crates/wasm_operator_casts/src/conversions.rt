@@ -1,10 +1,10 @@
 //! Conversions of references, and unboxed integers.
 
 ghost use Rattle.std.specs.Prelude.{◌≡◌, ◌∷◌, [], true, false};
-ghost use Rattle.wasm_spec.specs.Syntax.{abstract_heap, i32};
-ghost use Rattle.wasm_readers_types.specs.WasmReadersValues.SeenValues.{abstract_heap_of};
-ghost use Rattle.wasm_readers_types.specs.WasmReadersValues.declared.indices.UnpackedIndex.{UnpackedIndex};
-ghost use Rattle.wasm_operators.specs.WasmOperatorsPlain.declared.conversions.ConversionOperator.TheVariants.{AnyConvertExtern, ExternConvertAny, RefI31, I31GetS, RefI31Shared};
+ghost use Rattle.wasm_operator_references.specs.WasmSpec.Syntax.{abstract_heap, i32};
+ghost use Rattle.wasm_operator_references.specs.WasmReadersTypes.WasmReadersValues.SeenValues.{abstract_heap_of};
+ghost use Rattle.wasm_operator_references.specs.WasmReadersTypes.WasmReadersValues.declared.indices.UnpackedIndex.{UnpackedIndex};
+ghost use Rattle.wasm_operator_references.specs.WasmOperators.WasmOperatorsPlain.declared.conversions.ConversionOperator.TheVariants.{AnyConvertExtern, ExternConvertAny, RefI31, I31GetS, RefI31Shared};
 ghost use Rattle.wasm_operator_references.specs.WasmOperatorChecks.WasmOperatorSteps.Actions.{has as has_check, gc, allows};
 ghost use Rattle.wasm_operator_references.specs.WasmOperatorChecks.WasmOperatorSteps.Bodies.{Surroundings};
 ghost use Rattle.wasm_operator_references.specs.WasmOperatorChecks.WasmOperatorSteps.Meanings.{converted};
@@ -21,11 +21,11 @@ use wasm_operator_references::operator_checks::{
     OperatorError, OperatorFault, OperatorRule, Takes, ValTypes, has, plain,
 };
 use wasm_operator_references::operator_stacks::{Stacks, TypeWord, Word};
+use wasm_operator_references::operators::operators_plain::NumberType;
+use wasm_operator_references::readers_errors::WasmFeatures;
+use wasm_operator_references::readers_types::{AbstractHeapType, HeapType};
 use wasm_operator_references::validator_resources::WasmModuleResources;
 use wasm_operator_references::{Referenced, allows_heap, look_below};
-use wasm_operators::operators_plain::NumberType;
-use wasm_readers_errors::WasmFeatures;
-use wasm_readers_types::{AbstractHeapType, HeapType};
 
 /// A reference of another hierarchy, null and shared as this one.
 #[tactic(auto, using(crate::proofs::Converting::words))]

@@ -1,8 +1,8 @@
 //! What branches on casts send to their label.
 
 ghost use Rattle.std.specs.Prelude.{◌++◌, ◌∷◌, []};
-ghost use Rattle.wasm_spec.specs.Syntax.{reference};
-ghost use Rattle.wasm_readers_types.specs.WasmReadersValues.SeenValues.{ref_of};
+ghost use Rattle.wasm_operator_references.specs.WasmSpec.Syntax.{reference};
+ghost use Rattle.wasm_operator_references.specs.WasmReadersTypes.WasmReadersValues.SeenValues.{ref_of};
 ghost use Rattle.wasm_operator_references.specs.WasmOperatorChecks.WasmOperatorStacks.SeenTypeWords.{val_in};
 ghost use Rattle.wasm_operator_references.specs.WasmOperatorChecks.WasmOperatorSteps.Actions.{label};
 ghost use Rattle.wasm_operator_references.specs.WasmOperatorChecks.WasmValidatorResources.Answers.{world};
@@ -17,9 +17,9 @@ use wasm_operator_references::operator_checks::{
 };
 use wasm_operator_references::operator_control::label_types;
 use wasm_operator_references::operator_stacks::{Stacks, TypeWord, Word};
+use wasm_operator_references::readers_types::{RefType, ValType};
 use wasm_operator_references::validator_resources::WasmModuleResources;
 use wasm_operator_references::{exchange_with, front_types, last_type};
-use wasm_readers_types::{RefType, ValType};
 
 /// Takes operands of some types with one of another type on top, and gives the same types with one
 /// of a third type on top. Where that can't be, all stays.

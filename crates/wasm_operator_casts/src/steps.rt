@@ -1,7 +1,7 @@
 //! Steps of casts and conversions.
 
-ghost use Rattle.wasm_operators.specs.Maps.{map_cast};
-ghost use Rattle.wasm_operators.specs.SeenReferences.{cast_of};
+ghost use Rattle.wasm_operator_references.specs.WasmOperators.Maps.{map_cast};
+ghost use Rattle.wasm_operator_references.specs.WasmOperators.SeenReferences.{cast_of};
 ghost use Rattle.wasm_operator_references.specs.WasmOperatorChecks.WasmOperatorSteps.Shapes.{cast_shape, conversion_shape};
 ghost use Rattle.wasm_operator_references.specs.WasmOperatorChecks.WasmValidatorResources.Answers.{written_index};
 ghost use Rattle.wasm_operator_references.specs.WasmOperatorChecks.WasmOperatorStacks.Seen.{Kept};
@@ -16,8 +16,8 @@ use crate::conversions::{
 use std::alloc::Allocator;
 use wasm_operator_references::operator_checks::OperatorError;
 use wasm_operator_references::operator_stacks::Stacks;
+use wasm_operator_references::operators::{CastOperator, ConversionOperator};
 use wasm_operator_references::validator_resources::WasmModuleResources;
-use wasm_operators::{CastOperator, ConversionOperator};
 
 /// A test or cast of a reference (Core Specification 3.0, Validation, Instructions, Reference
 /// Instructions), or a branch on a cast, as it is written in a module.

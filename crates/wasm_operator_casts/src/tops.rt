@@ -2,14 +2,14 @@
 
 ghost use Rattle.std.specs.Prelude.{◌≡◌, true, not};
 ghost use Rattle.std.specs.Option.{option_map};
-ghost use Rattle.wasm_spec.specs.MatchingTests.{same_abstract};
-ghost use Rattle.wasm_spec.specs.Syntax.{abstract_heap, concrete, cont_heap, exact, map_heap};
-ghost use Rattle.wasm_readers_types.specs.WasmReadersValues.SeenValues.{abstract_heap_of, heap_of, ref_of};
+ghost use Rattle.wasm_operator_references.specs.WasmSpec.MatchingTests.{same_abstract};
+ghost use Rattle.wasm_operator_references.specs.WasmSpec.Syntax.{abstract_heap, concrete, cont_heap, exact, map_heap};
+ghost use Rattle.wasm_operator_references.specs.WasmReadersTypes.WasmReadersValues.SeenValues.{abstract_heap_of, heap_of, ref_of};
 ghost use Rattle.wasm_operator_references.specs.WasmOperatorChecks.WasmValidatorResources.Answers.{IsWrittenHeap, written_index};
 ghost use Rattle.wasm_operator_casts.specs.Tops.{top_in, top_seen};
 
+use wasm_operator_references::readers_types::{AbstractHeapType, HeapType, RefType, UnpackedIndex};
 use wasm_operator_references::validator_resources::WasmModuleResources;
-use wasm_readers_types::{AbstractHeapType, HeapType, RefType, UnpackedIndex};
 
 /// The greatest type of the hierarchy of a type index, exactly or not, and whether it is shared, if
 /// the module has that type.

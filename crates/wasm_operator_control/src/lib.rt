@@ -53,3 +53,20 @@ pub mod operator_checks {
         check_types, exchange_types, halt, has, look, match_all, matches, plain,
     };
 }
+
+/// Passed on from `wasm_readers_types`.
+pub mod readers_types {
+    pub use wasm_readers_types::{AbstractHeapType, HeapType, RefType, UnpackedIndex, ValType};
+}
+
+/// Passed on from `wasm_readers_errors`.
+pub mod readers_errors {
+    pub use wasm_operator_numbers::readers_errors::WasmFeatures;
+}
+
+/// Passed on from `wasm_operators`.
+pub mod operators {
+    pub use wasm_operator_numbers::operators::{
+        CastOperator, ConversionOperator, ReferenceOperator, operators_plain,
+    };
+}

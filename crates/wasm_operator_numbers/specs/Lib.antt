@@ -1,3 +1,4 @@
+pub use Rattle.wasm_operator_checks.specs.WasmSpecRules as WasmSpecRules
 pub use Rattle.wasm_operators.specs as WasmOperators
 pub use Rattle.wasm_operator_checks.specs.WasmOperatorSteps as WasmOperatorSteps
 pub use Rattle.wasm_operator_checks.specs.WasmOperatorStacks as WasmOperatorStacks

@@ -52,5 +52,7 @@ pub mod operators_plain {
 
 /// Passed on from `wasm_operators`.
 pub mod operators {
-    pub use wasm_operators::FrameKind;
+    pub use wasm_operators::{
+        CastOperator, ConversionOperator, FrameKind, ReferenceOperator, operators_plain,
+    };
 }

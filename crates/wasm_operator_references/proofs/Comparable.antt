@@ -1,11 +1,11 @@
 -- References below an abstract heap type, and two that are compared.
 use Rattle.std.proofs.Common.{◌≡◌, Bool, true, false, ◌&&◌, [], ◌∷◌, refl, sym, ◌∙◌, ap}
 use Rattle.std.specs.Prelude.{Some, None, Option}
-use Rattle.wasm_spec.specs.Syntax.{AbstractHeap, eq_heap, abstract_heap, Ref, reference, i32}
-use Rattle.wasm_spec.specs.Matching.{is_shared_heap}
-use Rattle.wasm_spec.specs.MatchingTests.{World, matches_heap, matches_val}
+use Rattle.wasm_operator_control.specs.WasmSpec.Syntax.{AbstractHeap, eq_heap, abstract_heap, Ref, reference, i32}
+use Rattle.wasm_operator_control.specs.WasmSpec.Matching.{is_shared_heap}
+use Rattle.wasm_operator_control.specs.WasmSpec.MatchingTests.{World, matches_heap, matches_val}
 use Rattle.wasm_operator_control.specs.WasmOperatorChecks.WasmSpecRules.Contexts.{Context}
-use Rattle.wasm_readers_types.specs.WasmReadersValues.declared.indices.UnpackedIndex.{UnpackedIndex}
+use Rattle.wasm_operator_control.specs.WasmReadersTypes.WasmReadersValues.declared.indices.UnpackedIndex.{UnpackedIndex}
 use Rattle.wasm_operator_control.specs.WasmOperatorChecks.WasmOperatorSteps.Actions.{these, take_comparable, give}
 use Rattle.wasm_operator_control.specs.WasmOperatorChecks.WasmSpecRules.Attempts.{◌>>=◌, guard}
 use Rattle.wasm_operator_control.specs.WasmOperatorChecks.WasmOperatorSteps.Bodies.{Surroundings}

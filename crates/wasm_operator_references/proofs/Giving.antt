@@ -2,10 +2,10 @@
 use Rattle.std.proofs.Common.{◌≡◌, ◌≢◌, ℕ, ◌+◌, ◌-◌, ◌≤◌, List, [], ◌∷◌, ◌++◌, length, take, drop, map, get_or, refl, sym, ◌∙◌, ap, arith, length-append}
 use Rattle.std.specs.Prelude.{suc, Some, None}
 use Rattle.std.proofs.lemmas.List.{drop-map, length-map, map-append, take-map}
-use Rattle.wasm_spec.specs.Syntax.{Val}
-use Rattle.wasm_readers_types.specs.WasmReadersValues.SeenValues.{val_of}
-use Rattle.wasm_readers_types.specs.WasmReadersValues.declared.indices.UnpackedIndex.{UnpackedIndex}
-use Rattle.wasm_readers_types.specs.WasmReadersValues.declared.values.ValType.{ValType}
+use Rattle.wasm_operator_control.specs.WasmSpec.Syntax.{Val}
+use Rattle.wasm_operator_control.specs.WasmReadersTypes.WasmReadersValues.SeenValues.{val_of}
+use Rattle.wasm_operator_control.specs.WasmReadersTypes.WasmReadersValues.declared.indices.UnpackedIndex.{UnpackedIndex}
+use Rattle.wasm_operator_control.specs.WasmReadersTypes.WasmReadersValues.declared.values.ValType.{ValType}
 use Rattle.wasm_operator_control.specs.WasmOperatorChecks.WasmSpecRules.Attempts.{last_of, front_of}
 use Rattle.wasm_operator_control.specs.WasmOperatorChecks.WasmOperatorSteps.Machine.{Operand, State, known, pushed_onto, push_operand, push_vals}
 use Rattle.wasm_operator_control.specs.WasmOperatorChecks.WasmOperatorStacks.Seen.{below}

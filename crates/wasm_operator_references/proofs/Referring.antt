@@ -1,9 +1,9 @@
 -- References that are looked at, and what asks whether they are null.
 use Rattle.std.proofs.Common.{◌≡◌, [], ◌∷◌, refl}
 use Rattle.std.specs.Prelude.{Some, None}
-use Rattle.wasm_spec.specs.Syntax.{i32}
+use Rattle.wasm_operator_control.specs.WasmSpec.Syntax.{i32}
 use Rattle.wasm_operator_control.specs.WasmOperatorChecks.WasmSpecRules.Contexts.{Context}
-use Rattle.wasm_readers_types.specs.WasmReadersValues.declared.indices.UnpackedIndex.{UnpackedIndex}
+use Rattle.wasm_operator_control.specs.WasmReadersTypes.WasmReadersValues.declared.indices.UnpackedIndex.{UnpackedIndex}
 use Rattle.wasm_operator_control.specs.WasmOperatorChecks.WasmOperatorSteps.Actions.{these, take_reference, make_non_null, give}
 use Rattle.wasm_operator_control.specs.WasmOperatorChecks.WasmOperatorSteps.Machine.{Operand, State, known, as_reference, non_null, pop_any, pop_reference, push_operand}
 use Rattle.wasm_operator_control.specs.WasmOperatorChecks.WasmOperatorStacks.Seen.{state_of}

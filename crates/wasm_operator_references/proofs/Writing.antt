@@ -2,11 +2,11 @@
 use Rattle.std.proofs.Common.{◌≡◌, ℕ, Bool, [], ◌∷◌, refl}
 use Rattle.std.specs.Option.{option_map}
 use Rattle.std.specs.Prelude.{Some, None}
-use Rattle.wasm_spec.specs.Syntax.{AbstractHeap, Heap, abstract_heap, Ref, Val, reference}
-use Rattle.wasm_spec.specs.Features.{Features}
-use Rattle.wasm_spec.specs.ValueTypes.{allows_ref, allows_val}
+use Rattle.wasm_operator_control.specs.WasmSpec.Syntax.{AbstractHeap, Heap, abstract_heap, Ref, Val, reference}
+use Rattle.wasm_operator_control.specs.WasmSpec.Features.{Features}
+use Rattle.wasm_operator_control.specs.WasmSpec.ValueTypes.{allows_ref, allows_val}
 use Rattle.wasm_operator_control.specs.WasmOperatorChecks.WasmSpecRules.Contexts.{Context}
-use Rattle.wasm_readers_types.specs.WasmReadersValues.declared.indices.UnpackedIndex.{UnpackedIndex}
+use Rattle.wasm_operator_control.specs.WasmReadersTypes.WasmReadersValues.declared.indices.UnpackedIndex.{UnpackedIndex}
 use Rattle.wasm_operator_control.specs.WasmOperatorChecks.WasmOperatorSteps.Actions.{these}
 use Rattle.wasm_operator_control.specs.WasmOperatorChecks.WasmSpecRules.Signatures.{resolve_ref}
 use Rattle.wasm_operator_control.specs.WasmOperatorChecks.WasmOperatorSteps.Shapes.{reference_to}

@@ -1,9 +1,9 @@
 -- What contracts see of references among operands.
 use Rattle.std.specs.Prelude.{◌≡◌, ◌≤◌, ℕ, length, Option, Some, None, Result, Ok, Err}
-use Rattle.wasm_spec.specs.Syntax.{AbstractHeap, reference}
-use Rattle.wasm_spec.specs.MatchingTests.{World}
-use Rattle.wasm_readers_types.specs.WasmReadersValues.SeenValues.{ref_of, abstract_heap_of}
-use Rattle.wasm_readers_types.specs.WasmReadersValues.declared.indices.UnpackedIndex.{UnpackedIndex}
+use Rattle.wasm_operator_control.specs.WasmSpec.Syntax.{AbstractHeap, reference}
+use Rattle.wasm_operator_control.specs.WasmSpec.MatchingTests.{World}
+use Rattle.wasm_operator_control.specs.WasmReadersTypes.WasmReadersValues.SeenValues.{ref_of, abstract_heap_of}
+use Rattle.wasm_operator_control.specs.WasmReadersTypes.WasmReadersValues.declared.indices.UnpackedIndex.{UnpackedIndex}
 use Rattle.wasm_operator_control.specs.WasmOperatorChecks.WasmSpecRules.Attempts.{◌>>=◌, guard}
 use Rattle.wasm_operator_control.specs.WasmOperatorChecks.WasmOperatorSteps.Bodies.{Surroundings}
 use Rattle.wasm_operator_control.specs.WasmOperatorChecks.WasmOperatorSteps.Machine.{Operand, bottom_reference, open_reference, known, State, pop_reference}

@@ -1,6 +1,6 @@
 //! Branches on null.
 
-ghost use Rattle.wasm_operators.specs.References.{br_on_null, br_on_non_null};
+ghost use Rattle.wasm_operator_control.specs.WasmOperators.References.{br_on_null, br_on_non_null};
 ghost use Rattle.wasm_operator_control.specs.WasmOperatorChecks.WasmOperatorSteps.Shapes.{reference_shape};
 ghost use Rattle.wasm_operator_control.specs.WasmOperatorChecks.WasmOperatorStacks.Seen.{Kept};
 ghost use Rattle.wasm_operator_control.specs.WasmOperatorChecks.Steps.{Performs};
@@ -13,8 +13,8 @@ use wasm_operator_control::operator_checks::{
     OperatorError, OperatorFault, OperatorRule, check_types, exchange_types, has, matches,
 };
 use wasm_operator_control::operator_stacks::Stacks;
+use wasm_operator_control::readers_errors::WasmFeatures;
 use wasm_operator_control::validator_resources::WasmModuleResources;
-use wasm_readers_errors::WasmFeatures;
 
 /// `br_on_null` (Core Specification 3.0, Validation, Instructions, Control Instructions).
 ///

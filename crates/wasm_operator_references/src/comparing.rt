@@ -1,11 +1,11 @@
 //! References below an abstract heap type, and `ref.eq`.
 
 ghost use Rattle.std.specs.Prelude.{◌≡◌, ◌≤◌, length};
-ghost use Rattle.wasm_spec.specs.MatchingTests.{matches_heap};
-ghost use Rattle.wasm_spec.specs.Syntax.{abstract_heap};
-ghost use Rattle.wasm_readers_types.specs.WasmReadersValues.SeenValues.{abstract_heap_of, ref_of};
-ghost use Rattle.wasm_readers_types.specs.WasmReadersValues.declared.indices.UnpackedIndex.{UnpackedIndex};
-ghost use Rattle.wasm_operators.specs.References.{ref_eq};
+ghost use Rattle.wasm_operator_control.specs.WasmSpec.MatchingTests.{matches_heap};
+ghost use Rattle.wasm_operator_control.specs.WasmSpec.Syntax.{abstract_heap};
+ghost use Rattle.wasm_operator_control.specs.WasmReadersTypes.WasmReadersValues.SeenValues.{abstract_heap_of, ref_of};
+ghost use Rattle.wasm_operator_control.specs.WasmReadersTypes.WasmReadersValues.declared.indices.UnpackedIndex.{UnpackedIndex};
+ghost use Rattle.wasm_operator_control.specs.WasmOperators.References.{ref_eq};
 ghost use Rattle.wasm_operator_control.specs.WasmOperatorChecks.WasmOperatorSteps.Bodies.{Surroundings};
 ghost use Rattle.wasm_operator_control.specs.WasmOperatorChecks.WasmOperatorSteps.Meanings.{is_below_either, agree};
 ghost use Rattle.wasm_operator_control.specs.WasmOperatorChecks.WasmOperatorSteps.Shapes.{reference_shape};
@@ -18,10 +18,10 @@ use crate::referenced::{Referenced, look_reference};
 use std::alloc::Allocator;
 use wasm_operator_control::operator_checks::{OperatorError, OperatorFault, OperatorRule, has};
 use wasm_operator_control::operator_stacks::{Stacks, Word};
+use wasm_operator_control::operators::operators_plain::NumberType;
+use wasm_operator_control::readers_errors::WasmFeatures;
+use wasm_operator_control::readers_types::{AbstractHeapType, HeapType, RefType, ValType};
 use wasm_operator_control::validator_resources::WasmModuleResources;
-use wasm_operators::operators_plain::NumberType;
-use wasm_readers_errors::WasmFeatures;
-use wasm_readers_types::{AbstractHeapType, HeapType, RefType, ValType};
 
 /// Whether what a reference type points to matches an abstract heap type (Core Specification 3.0,
 /// Validation, Matching, Heap Types).

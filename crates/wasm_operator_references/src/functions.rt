@@ -1,10 +1,10 @@
 //! References to functions.
 
 ghost use Rattle.std.specs.Prelude.{◌≡◌, ◌&&◌, if◌then◌else◌, IsSome, slice_get};
-ghost use Rattle.wasm_spec.specs.Syntax.{concrete, exact, map_heap};
+ghost use Rattle.wasm_operator_control.specs.WasmSpec.Syntax.{concrete, exact, map_heap};
 ghost use Rattle.wasm_operator_control.specs.WasmOperatorChecks.WasmSpecRules.FeatureFlags.{features_of};
-ghost use Rattle.wasm_readers_types.specs.WasmReadersValues.SeenValues.{heap_of};
-ghost use Rattle.wasm_operators.specs.References.{ref_func};
+ghost use Rattle.wasm_operator_control.specs.WasmReadersTypes.WasmReadersValues.SeenValues.{heap_of};
+ghost use Rattle.wasm_operator_control.specs.WasmOperators.References.{ref_func};
 ghost use Rattle.wasm_operator_control.specs.WasmOperatorChecks.WasmSpecRules.Attempts.{passes};
 ghost use Rattle.wasm_operator_control.specs.WasmOperatorChecks.WasmOperatorSteps.Shapes.{reference_shape};
 ghost use Rattle.wasm_operator_control.specs.WasmOperatorChecks.WasmValidatorResources.Answers.{IsWrittenHeap, written_index};
@@ -17,9 +17,9 @@ use wasm_operator_control::operator_checks::{
     OperatorError, OperatorFault, OperatorRule, Takes, ValTypes, has, plain,
 };
 use wasm_operator_control::operator_stacks::{Stacks, TypeWord};
+use wasm_operator_control::readers_errors::WasmFeatures;
+use wasm_operator_control::readers_types::{HeapType, UnpackedIndex};
 use wasm_operator_control::validator_resources::WasmModuleResources;
-use wasm_readers_errors::WasmFeatures;
-use wasm_readers_types::{HeapType, UnpackedIndex};
 
 /// Whether a reference to a function is exactly to its type: where the function is, and descriptors
 /// can tell.

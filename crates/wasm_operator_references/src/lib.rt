@@ -41,3 +41,20 @@ pub mod operator_checks {
         plain,
     };
 }
+
+/// Passed on from `wasm_readers_types`.
+pub mod readers_types {
+    pub use wasm_operator_control::readers_types::{
+        AbstractHeapType, HeapType, RefType, UnpackedIndex, ValType,
+    };
+}
+
+/// Passed on from `wasm_readers_errors`.
+pub mod readers_errors {
+    pub use wasm_operator_control::readers_errors::WasmFeatures;
+}
+
+/// Passed on from `wasm_operators`.
+pub mod operators {
+    pub use wasm_operator_control::operators::{CastOperator, ConversionOperator, operators_plain};
+}

@@ -1,8 +1,8 @@
 //! `ref.null`, and what asks whether a reference is null.
 
-ghost use Rattle.wasm_spec.specs.Syntax.{map_heap};
-ghost use Rattle.wasm_readers_types.specs.WasmReadersValues.SeenValues.{heap_of};
-ghost use Rattle.wasm_operators.specs.References.{ref_null, ref_is_null, ref_as_non_null};
+ghost use Rattle.wasm_operator_control.specs.WasmSpec.Syntax.{map_heap};
+ghost use Rattle.wasm_operator_control.specs.WasmReadersTypes.WasmReadersValues.SeenValues.{heap_of};
+ghost use Rattle.wasm_operator_control.specs.WasmOperators.References.{ref_null, ref_is_null, ref_as_non_null};
 ghost use Rattle.wasm_operator_control.specs.WasmOperatorChecks.WasmOperatorSteps.Shapes.{reference_shape};
 ghost use Rattle.wasm_operator_control.specs.WasmOperatorChecks.WasmValidatorResources.Answers.{IsWrittenHeap, written_index};
 ghost use Rattle.wasm_operator_control.specs.WasmOperatorChecks.WasmOperatorStacks.Seen.{Kept};
@@ -15,10 +15,10 @@ use wasm_operator_control::operator_checks::{
     OperatorError, OperatorFault, OperatorRule, Takes, ValTypes, has, plain,
 };
 use wasm_operator_control::operator_stacks::{Stacks, TypeWord, Word};
+use wasm_operator_control::operators::operators_plain::NumberType;
+use wasm_operator_control::readers_errors::WasmFeatures;
+use wasm_operator_control::readers_types::HeapType;
 use wasm_operator_control::validator_resources::WasmModuleResources;
-use wasm_operators::operators_plain::NumberType;
-use wasm_readers_errors::WasmFeatures;
-use wasm_readers_types::HeapType;
 
 /// `ref.null` (Core Specification 3.0, Validation, Instructions, Reference Instructions).
 ///

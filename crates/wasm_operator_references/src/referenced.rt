@@ -10,7 +10,7 @@ ghost use Rattle.wasm_operator_references.specs.SeenReferences.{reference_seen, 
 use std::alloc::Allocator;
 use wasm_operator_control::operator_checks::{OperatorFault, OperatorRule, look};
 use wasm_operator_control::operator_stacks::{Operand, Stacks, TypeWord, Word};
-use wasm_readers_types::{AbstractHeapType, RefType, ValType};
+use wasm_operator_control::readers_types::{AbstractHeapType, RefType, ValType};
 
 /// A reference among operands: of a known type, and in code that isn't reached of any reference
 /// type, or of an abstract heap type whose shared flag is open, not null.

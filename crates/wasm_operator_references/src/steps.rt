@@ -1,7 +1,7 @@
 //! Steps of operators on references.
 
-ghost use Rattle.wasm_operators.specs.Maps.{map_reference};
-ghost use Rattle.wasm_operators.specs.SeenReferences.{reference_of};
+ghost use Rattle.wasm_operator_control.specs.WasmOperators.Maps.{map_reference};
+ghost use Rattle.wasm_operator_control.specs.WasmOperators.SeenReferences.{reference_of};
 ghost use Rattle.wasm_operator_control.specs.WasmOperatorChecks.WasmOperatorSteps.Shapes.{reference_shape};
 ghost use Rattle.wasm_operator_control.specs.WasmOperatorChecks.WasmValidatorResources.Answers.{written_index};
 ghost use Rattle.wasm_operator_control.specs.WasmOperatorChecks.WasmOperatorStacks.Seen.{Kept};
@@ -15,8 +15,8 @@ use crate::nulls::{ref_as_non_null, ref_is_null, ref_null};
 use std::alloc::Allocator;
 use wasm_operator_control::operator_checks::OperatorError;
 use wasm_operator_control::operator_stacks::Stacks;
+use wasm_operator_control::operators::ReferenceOperator;
 use wasm_operator_control::validator_resources::WasmModuleResources;
-use wasm_operators::ReferenceOperator;
 
 /// An operator on references (Core Specification 3.0, Validation, Instructions, Reference
 /// Instructions), with the branches on null, as it is written in a module.

@@ -2,11 +2,11 @@
 
 ghost use Rattle.std.specs.Prelude.{◌≡◌, ◌&&◌, ◌||◌};
 ghost use Rattle.std.specs.Option.{option_map};
-ghost use Rattle.wasm_spec.specs.Syntax.{map_heap};
-ghost use Rattle.wasm_spec.specs.ValueTypes.{allows_val};
+ghost use Rattle.wasm_operator_control.specs.WasmSpec.Syntax.{map_heap};
+ghost use Rattle.wasm_operator_control.specs.WasmSpec.ValueTypes.{allows_val};
 ghost use Rattle.wasm_operator_control.specs.WasmOperatorChecks.WasmSpecRules.FeatureFlags.{features_of};
-ghost use Rattle.wasm_readers_types.specs.WasmReadersValues.SeenValues.{heap_of, ref_of};
-ghost use Rattle.wasm_operators.specs.References.{reference_to};
+ghost use Rattle.wasm_operator_control.specs.WasmReadersTypes.WasmReadersValues.SeenValues.{heap_of, ref_of};
+ghost use Rattle.wasm_operator_control.specs.WasmOperators.References.{reference_to};
 ghost use Rattle.wasm_operator_control.specs.WasmOperatorChecks.WasmSpecRules.Signatures.{resolve_ref};
 ghost use Rattle.wasm_operator_control.specs.WasmOperatorChecks.WasmOperatorSteps.Shapes.{reference_to as val_to};
 ghost use Rattle.wasm_operator_control.specs.WasmOperatorChecks.WasmValidatorResources.Answers.{IsWrittenHeap, written_index};
@@ -14,9 +14,9 @@ ghost use Rattle.wasm_operator_control.specs.WasmOperatorChecks.WasmValidatorRes
 use std::alloc::Allocator;
 use wasm_operator_control::operator_checks::{OperatorFault, OperatorRule, has};
 use wasm_operator_control::operator_stacks::Stacks;
+use wasm_operator_control::readers_errors::WasmFeatures;
+use wasm_operator_control::readers_types::{HeapType, RefType, UnpackedIndex};
 use wasm_operator_control::validator_resources::{WasmModuleResources, check_ref_type};
-use wasm_readers_errors::WasmFeatures;
-use wasm_readers_types::{HeapType, RefType, UnpackedIndex};
 
 /// Whether the features allow references to this heap type, with null or without.
 #[tactic(auto, using(crate::proofs::Writing::allowed))]

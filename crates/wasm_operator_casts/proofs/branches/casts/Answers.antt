@@ -1,5 +1,5 @@
 use Rattle.std.proofs.Common.{rules}
-use Rattle.wasm_readers_types.specs.WasmReadersValues.SeenValues.{ref_of}
+use Rattle.wasm_operator_references.specs.WasmReadersTypes.WasmReadersValues.SeenValues.{ref_of}
 use Rattle.wasm_operator_casts.proofs.Casting.{by_descriptors, by_no_top}
 use Rattle.wasm_operator_casts.proofs.branches.casts.Goals as goal
 

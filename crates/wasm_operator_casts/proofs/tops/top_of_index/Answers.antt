@@ -1,5 +1,5 @@
 use Rattle.std.proofs.Common.{refl, ap, ◌∙◌}
-use Rattle.wasm_spec.specs.Matching.{top_of}
+use Rattle.wasm_operator_references.specs.WasmSpec.Matching.{top_of}
 use Rattle.wasm_operator_casts.proofs.Topping.{concrete_top, exact_top}
 use Rattle.wasm_operator_casts.proofs.tops.top_of_index.Goals as goal
 
