@@ -1,17 +1,29 @@
 -- What an instruction is read from stands at the front of the bytes: what is left is a rest of them, and bytes behind them change
 -- only that.
-use Rattle.std.proofs.Common.{ℕ, nat_lt, ◌==◌, List, [], ◌∷◌, ◌++◌, Option, Some, None}
-use Rattle.wasm_operators_plain.specs.WasmSpec.Values.{u32_at, s33_index_at, not_negative}
+use Rattle.std.proofs.Common.{ℕ, nat_lt, ◌==◌, List, [], ◌∷◌, ◌++◌, Bool, true, false, Option, Some, None}
+use Rattle.std.specs.Prelude.{is_some}
+use Rattle.wasm_operators_plain.specs.WasmSpec.Values.{byte_at, u32_at, s33_index_at, not_negative}
 use Rattle.wasm_operators_plain.specs.WasmSpec.BinaryTypes.{val_at}
 use Rattle.wasm_operators_plain.proofs.WasmSpec.Front.{Reads, reads_none, reads_here, reads_value, reads_behind, reads_weaken, reads_if, reads_map, reads_then, reads_list, signed-reads, heap-reads, val-reads}
 use Rattle.wasm_operators_plain.specs.Numeric.{numeric_from, saturating_from}
 use Rattle.wasm_operators_plain.specs.Memories.{access_from}
 use Rattle.wasm_operators_plain.specs.Conversions.{conversion_from, shared_from}
 use Rattle.wasm_operators_plain.specs.declared.memories.MemoryOperator.{MemoryOperator}
-use Rattle.wasm_operators_plain.proofs.Fronts.{u32-reads, one_index-reads, two_indices-reads, memarg-reads, call-reads, variable-reads, table_access-reads, table-reads, memory_size-reads, memory-reads, constant-reads, vector-reads, struct-reads, array-reads}
+use Rattle.wasm_operators_plain.proofs.Fronts.{u32-reads, one_index-reads, two_indices-reads, memarg-reads, call-reads, variable-reads, table_access-reads, table-reads, memory_size-reads, memory-reads, constant-reads, bits_128-reads, vector-reads, struct-reads, array-reads}
 use Rattle.wasm_operators.specs.References.{cast_flags_from, cast_flags_at, branch_at, reference_from, cast_from}
 use Rattle.wasm_operators.specs.Control.{catch_at, br_table_at, try_table_at, block_at, control_from, parametric_from}
-use Rattle.wasm_operators.specs.Instructions.{with_memarg, aggregate_from, bulk_from, prefixed_from, plain_from, instruction_at}
+use Rattle.wasm_operators_plain.specs.declared.memories.MemArg.{MemArg}
+use Rattle.wasm_operators_atomic.specs.WasmOperatorsVector.Codes as vectors
+use Rattle.wasm_operators_atomic.specs.WasmOperatorsVector.Forms as vector_forms
+use Rattle.wasm_operators_atomic.specs.WasmOperatorsVector.declared.forms.Immediates.{Immediates}
+use Rattle.wasm_operators_atomic.specs.WasmOperatorsVector.declared.forms.Immediates.TheVariants as form
+use Rattle.wasm_operators_atomic.specs.WasmOperatorsVector.declared.forms.Form.{Form}
+use Rattle.wasm_operators_atomic.specs.WasmOperatorsVector.declared.forms.Form.TheVariants.{Compute, Access}
+use Rattle.wasm_operators_atomic.specs.Codes as atomics
+use Rattle.wasm_operators_atomic.specs.Forms as atomic_forms
+use Rattle.wasm_operators.specs.declared.immediates.ImmediateValues.{ImmediateValues}
+use Rattle.wasm_operators.specs.FormImmediates.{zero_at, values_at, behind_memarg, place_at, immediates_at}
+use Rattle.wasm_operators.specs.Instructions.{with_memarg, with_form, aggregate_from, bulk_from, vectors_from, atomics_from, prefixed_from, plain_from, instruction_at}
 
 module _ {more : List ℕ} where
   s33_index-reads : (bytes : List ℕ) → Reads more 1 bytes (s33_index_at bytes) (s33_index_at (bytes ++ more))
@@ -35,6 +47,33 @@ module _ {more : List ℕ} where
   unfolding cast_flags_at
   cast_flags-reads [] = reads_none
   cast_flags-reads (b ∷ bytes) = reads_behind (reads_value (λ f. f) (cast_flags_from b))
+
+  -- immediates by forms
+  byte-reads : (bytes : List ℕ) → Reads more 1 bytes (byte_at bytes) (byte_at (bytes ++ more))
+  byte-reads [] = reads_none
+  byte-reads (b ∷ bytes) = reads_behind reads_here
+
+  zero-reads : (bytes : List ℕ) → Reads more 0 bytes (zero_at bytes) (zero_at (bytes ++ more))
+  zero-reads [] = reads_none
+  zero-reads (b ∷ bytes) = reads_weaken (reads_behind (reads_if (b == 0) reads_here reads_none))
+
+  values-reads : (i : Immediates) (bytes : List ℕ) → Reads more 0 bytes (values_at i bytes) (values_at i (bytes ++ more))
+  values-reads form.Nothing bytes = reads_here
+  values-reads form.Zero bytes = zero-reads bytes
+  values-reads (form.Lane n) bytes = reads_weaken (reads_map _ (byte-reads bytes))
+  values-reads form.Lanes bytes = reads_map _ (bits_128-reads bytes)
+
+  behind-reads : (has_lane : Bool) (m : MemArg) (bytes : List ℕ) → Reads more 0 bytes (behind_memarg has_lane m bytes) (behind_memarg has_lane m (bytes ++ more))
+  behind-reads true m bytes = reads_weaken (reads_map _ (byte-reads bytes))
+  behind-reads false m bytes = reads_here
+
+  immediates-reads : (f : Form) (bytes : List ℕ) → Reads more 0 bytes (immediates_at f bytes) (immediates_at f (bytes ++ more))
+  immediates-reads (Compute i t g) bytes = values-reads i bytes
+  immediates-reads (Access a lanes t g) bytes = reads_weaken (reads_then _ (memarg-reads bytes) (λ m. behind-reads (is_some lanes) m.0 m.1))
+
+  with_form-reads : {X Y : Type 0} (op : X → ImmediateValues → Y) (form : X → Form) (found : Option X) (bytes : List ℕ) → Reads more 0 bytes (with_form op form bytes found) (with_form op form (bytes ++ more) found)
+  with_form-reads op form None bytes = reads_none
+  with_form-reads op form (Some x) bytes = reads_map _ (immediates-reads (form x) bytes)
 
   module _ {R : Type 0} (to : ℕ → R) where
     block-reads : (bytes : List ℕ) → Reads more 1 bytes (block_at to bytes) (block_at to (bytes ++ more))
@@ -124,6 +163,18 @@ module _ {more : List ℕ} where
         (reads_if (nat_lt n 12) (reads_map _ (memory-reads n bytes))
         (reads_map _ (table-reads n bytes)))
 
+    vectors-reads : (n : ℕ) (bytes : List ℕ) → Reads more 0 bytes (vectors_from to n bytes) (vectors_from to n (bytes ++ more))
+    unfolding vectors_from
+    vectors-reads n bytes =
+        reads_if (n == 12) (reads_map _ (vector-reads n bytes))
+        (with_form-reads _ vector_forms.form_of (vectors.operator_from n) bytes)
+
+    atomics-reads : (n : ℕ) (bytes : List ℕ) → Reads more 0 bytes (atomics_from to n bytes) (atomics_from to n (bytes ++ more))
+    unfolding atomics_from
+    atomics-reads n bytes =
+        reads_if (n == 0x72) (reads_value _ (shared_from n))
+        (with_form-reads _ atomic_forms.form_of (atomics.operator_from n) bytes)
+
     plain-reads : (b : ℕ) (bytes : List ℕ) → Reads more 0 bytes (plain_from to b bytes) (plain_from to b (bytes ++ more))
     unfolding plain_from
     plain-reads b bytes =
@@ -144,8 +195,8 @@ module _ {more : List ℕ} where
     prefixed-reads b n bytes =
         reads_if (b == 0xfb) (aggregate-reads n bytes)
         (reads_if (b == 0xfc) (bulk-reads n bytes)
-        (reads_if (b == 0xfd) (reads_map _ (vector-reads n bytes))
-        (reads_if (b == 0xfe) (reads_value _ (shared_from n)) reads_none)))
+        (reads_if (b == 0xfd) (vectors-reads n bytes)
+        (reads_if (b == 0xfe) (atomics-reads n bytes) reads_none)))
 
     pub instruction-reads : (bytes : List ℕ) → Reads more 1 bytes (instruction_at to bytes) (instruction_at to (bytes ++ more))
     unfolding instruction_at

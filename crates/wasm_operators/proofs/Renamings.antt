@@ -13,7 +13,15 @@ use Rattle.wasm_operators_plain.specs.Arrays.{array_from}
 use Rattle.wasm_operators_plain.specs.Conversions.{conversion_from, shared_from}
 use Rattle.wasm_operators.specs.References.{cast_flags_at, branch_at, reference_from, cast_from}
 use Rattle.wasm_operators.specs.Control.{catch_at, br_table_at, try_table_at, block_at, control_from, parametric_from}
-use Rattle.wasm_operators.specs.Instructions.{with_memarg, aggregate_from, bulk_from, prefixed_from, plain_from, instruction_at}
+use Rattle.wasm_operators_atomic.specs.WasmOperatorsVector.Codes as vectors
+use Rattle.wasm_operators_atomic.specs.WasmOperatorsVector.Forms as vector_forms
+use Rattle.wasm_operators_atomic.specs.WasmOperatorsVector.declared.forms.Form.{Form}
+use Rattle.wasm_operators_atomic.specs.WasmOperatorsVector.declared.operators.VectorOperator.{VectorOperator}
+use Rattle.wasm_operators_atomic.specs.Codes as atomics
+use Rattle.wasm_operators_atomic.specs.Forms as atomic_forms
+use Rattle.wasm_operators_atomic.specs.declared.operators.AtomicOperator.{AtomicOperator}
+use Rattle.wasm_operators.specs.FormImmediates.{immediates_at}
+use Rattle.wasm_operators.specs.Instructions.{vector, atomic, with_memarg, with_form, aggregate_from, bulk_from, vectors_from, atomics_from, prefixed_from, plain_from, instruction_at}
 use Rattle.wasm_operators.specs.Maps.{map_block, map_control, map_parametric, map_reference, map_cast, map_instruction, map_try_table, map_branch}
 use Rattle.wasm_operators_plain.specs.declared.memories.MemoryOperator.{MemoryOperator}
 
@@ -43,6 +51,14 @@ module _ {R S : Type 0} (f : R → S) (to : ℕ → R) where
   with_memarg-renames : (found : Option MemoryOperator) (bytes : List ℕ) → Renames (map_instruction f) (with_memarg bytes found) (with_memarg bytes found)
   with_memarg-renames None bytes = renames_none
   with_memarg-renames (Some op) bytes = renames_same_map (memarg_at bytes) _ _ (λ m. refl)
+
+  vector-renames : (found : Option VectorOperator) (bytes : List ℕ) → Renames (map_instruction f) (with_form vector vector_forms.form_of bytes found) (with_form vector vector_forms.form_of bytes found)
+  vector-renames None bytes = renames_none
+  vector-renames (Some op) bytes = renames_same_map (immediates_at (vector_forms.form_of op) bytes) _ _ (λ i. refl)
+
+  atomic-renames : (found : Option AtomicOperator) (bytes : List ℕ) → Renames (map_instruction f) (with_form atomic atomic_forms.form_of bytes found) (with_form atomic atomic_forms.form_of bytes found)
+  atomic-renames None bytes = renames_none
+  atomic-renames (Some op) bytes = renames_same_map (immediates_at (atomic_forms.form_of op) bytes) _ _ (λ i. refl)
 
   control-renames : (b : ℕ) (bytes : List ℕ) → Renames (map_control f) (control_from to b bytes) (control_from then_renamed b bytes)
   unfolding control_from
@@ -110,6 +126,14 @@ module _ {R S : Type 0} (f : R → S) (to : ℕ → R) where
       (renames_if (nat_lt n 12) (renames_same_map (memory_from n bytes) _ _ (λ x. refl))
       (renames_same_map (table_from n bytes) _ _ (λ x. refl)))
 
+  vectors-renames : (n : ℕ) (bytes : List ℕ) → Renames (map_instruction f) (vectors_from to n bytes) (vectors_from then_renamed n bytes)
+  unfolding vectors_from
+  vectors-renames n bytes = renames_if (n == 12) (renames_same_map (vector_from n bytes) _ _ (λ x. refl)) (vector-renames (vectors.operator_from n) bytes)
+
+  atomics-renames : (n : ℕ) (bytes : List ℕ) → Renames (map_instruction f) (atomics_from to n bytes) (atomics_from then_renamed n bytes)
+  unfolding atomics_from
+  atomics-renames n bytes = renames_if (n == 0x72) (renames_same_map (shared_from n) _ _ (λ x. refl)) (atomic-renames (atomics.operator_from n) bytes)
+
   plain-renames : (b : ℕ) (bytes : List ℕ) → Renames (map_instruction f) (plain_from to b bytes) (plain_from then_renamed b bytes)
   unfolding plain_from
   plain-renames b bytes =
@@ -130,8 +154,8 @@ module _ {R S : Type 0} (f : R → S) (to : ℕ → R) where
   prefixed-renames b n bytes =
       renames_if (b == 0xfb) (aggregate-renames n bytes)
       (renames_if (b == 0xfc) (bulk-renames n bytes)
-      (renames_if (b == 0xfd) (renames_same_map (vector_from n bytes) _ _ (λ x. refl))
-      (renames_if (b == 0xfe) (renames_same_map (shared_from n) _ _ (λ x. refl)) renames_none)))
+      (renames_if (b == 0xfd) (vectors-renames n bytes)
+      (renames_if (b == 0xfe) (atomics-renames n bytes) renames_none)))
 
   pub instruction-renames : (bytes : List ℕ) → Renames (map_instruction f) (instruction_at to bytes) (instruction_at then_renamed bytes)
   unfolding instruction_at

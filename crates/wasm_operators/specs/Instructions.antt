@@ -26,6 +26,15 @@ use Rattle.wasm_operators_plain.specs.declared.numeric.SaturatingOperator.{Satur
 use Rattle.wasm_operators_plain.specs.declared.conversions.ConversionOperator.{ConversionOperator}
 use Rattle.wasm_operators_plain.specs.declared.structs.StructOperator.{StructOperator}
 use Rattle.wasm_operators_plain.specs.declared.arrays.ArrayOperator.{ArrayOperator}
+use Rattle.wasm_operators_atomic.specs.WasmOperatorsVector.Codes as vectors
+use Rattle.wasm_operators_atomic.specs.WasmOperatorsVector.Forms as vector_forms
+use Rattle.wasm_operators_atomic.specs.WasmOperatorsVector.declared.forms.Form.{Form}
+use Rattle.wasm_operators_atomic.specs.WasmOperatorsVector.declared.operators.VectorOperator.{VectorOperator}
+use Rattle.wasm_operators_atomic.specs.Codes as atomics
+use Rattle.wasm_operators_atomic.specs.Forms as atomic_forms
+use Rattle.wasm_operators_atomic.specs.declared.operators.AtomicOperator.{AtomicOperator}
+use Rattle.wasm_operators.specs.FormImmediates.{immediates_at}
+use Rattle.wasm_operators.specs.declared.immediates.ImmediateValues.{ImmediateValues}
 
 -- the instructions by family
 pub data Instruction (R : Type 0) : Type 0 where
@@ -44,6 +53,8 @@ pub data Instruction (R : Type 0) : Type 0 where
   conversion : ConversionOperator → Instruction R
   structure : StructOperator → Instruction R
   array : ArrayOperator → Instruction R
+  vector : VectorOperator → ImmediateValues → Instruction R
+  atomic : AtomicOperator → ImmediateValues → Instruction R
 
 -- what was read of a family, as an instruction
 abbrev pub of_family : {X Y : Type 0} → (X → Y) → Option (X × List ℕ) → Option (Y × List ℕ)
@@ -57,6 +68,11 @@ with_nothing op bytes found = option_map (λ x. (op x, bytes)) found
 abbrev pub with_memarg : {R : Type 0} → List ℕ → Option MemoryOperator → Option (Instruction R × List ℕ)
 with_memarg bytes None = None
 with_memarg bytes (Some op) = option_map (λ m. (access op m.0, m.1)) (memarg_at bytes)
+
+-- an operator with the immediates of its form
+abbrev pub with_form : {X Y : Type 0} → (X → ImmediateValues → Y) → (X → Form) → List ℕ → Option X → Option (Y × List ℕ)
+with_form op form bytes None = None
+with_form op form bytes (Some x) = option_map (λ i. (op x i.0, i.1)) (immediates_at (form x) bytes)
 
 module _ {R : Type 0} (to : ℕ → R) where
   -- behind the prefix fb
@@ -75,13 +91,25 @@ module _ {R : Type 0} (to : ℕ → R) where
       else (if nat_lt n 12 then of_family memory (memory_from n bytes)
       else of_family table (table_from n bytes))
 
+  -- behind the prefix fd
+  unfoldable pub vectors_from : ℕ → List ℕ → Option (Instruction R × List ℕ)
+  vectors_from n bytes =
+      if n == 12 then of_family constant (vector_from n bytes)
+      else with_form vector vector_forms.form_of bytes (vectors.operator_from n)
+
+  -- behind the prefix fe
+  unfoldable pub atomics_from : ℕ → List ℕ → Option (Instruction R × List ℕ)
+  atomics_from n bytes =
+      if n == 0x72 then with_nothing conversion bytes (shared_from n)
+      else with_form atomic atomic_forms.form_of bytes (atomics.operator_from n)
+
   -- behind a prefix from fb on
   unfoldable pub prefixed_from : ℕ → ℕ → List ℕ → Option (Instruction R × List ℕ)
   prefixed_from b n bytes =
       if b == 0xfb then aggregate_from n bytes
       else (if b == 0xfc then bulk_from n bytes
-      else (if b == 0xfd then of_family constant (vector_from n bytes)
-      else (if b == 0xfe then with_nothing conversion bytes (shared_from n)
+      else (if b == 0xfd then vectors_from n bytes
+      else (if b == 0xfe then atomics_from n bytes
       else None)))
 
   -- by a first byte below fb

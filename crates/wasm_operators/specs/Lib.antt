@@ -4,6 +4,8 @@ pub mod SeenReferences
 pub mod SeenLists
 pub mod Control
 pub mod SeenControl
+pub use Rattle.wasm_operators_atomic.specs as WasmOperatorsAtomic
+pub mod FormImmediates
 pub mod Instructions
 pub mod SeenOperators
 pub mod Expressions

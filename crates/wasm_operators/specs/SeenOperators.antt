@@ -23,3 +23,5 @@ operator_of (operator.Cast op) = syntax.cast (cast_of op)
 operator_of (operator.Conversion op) = syntax.conversion op
 operator_of (operator.Struct op) = syntax.structure op
 operator_of (operator.Array op) = syntax.array op
+operator_of (operator.Vector op values) = syntax.vector op values
+operator_of (operator.Atomic op values) = syntax.atomic op values

@@ -4,6 +4,7 @@
 mod control;
 mod expressions;
 mod frequent;
+mod immediates;
 pub mod laws;
 mod lists;
 mod operators;
@@ -14,6 +15,7 @@ pub use control::{
     read_block_type,
 };
 pub use expressions::read_expression;
+pub use immediates::{ImmediateValues, read_immediates};
 pub use lists::{Immediate, Listed, ListedItems, read_listed};
 pub use operators::{Operator, read_operator};
 pub use references::{CastOperator, ReferenceOperator};
@@ -22,6 +24,14 @@ pub use wasm_operators_plain::{
     Ieee64, MemArg, MemoryOperator, NumericOperator, SaturatingOperator, StructOperator,
     TableOperator, V128, VariableOperator, max_align, read_memarg,
 };
+
+/// Passed on from `wasm_operators_atomic`.
+pub mod operators_atomic {
+    pub use wasm_operators_atomic::operators_vector::{
+        Alignment, Form, Immediates, Operands, ValueType, VectorOperator, vector_form,
+    };
+    pub use wasm_operators_atomic::{AtomicOperator, atomic_form};
+}
 
 /// Passed on from `wasm_operators_plain`.
 pub mod operators_plain {

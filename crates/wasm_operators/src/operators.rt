@@ -4,12 +4,15 @@ ghost use Rattle.std.specs.Prelude.{◌≡◌, ◌≤◌, ◌<◌, ◌+◌, Some
 ghost use Rattle.wasm_operators_plain.specs.WasmReaders.WasmReadersBytes.Reader.{SameInput, position_in, original, rest, RefusedFrom};
 ghost use Rattle.wasm_operators_plain.specs.WasmReaders.Written.{written};
 ghost use Rattle.wasm_operators_plain.specs.Refusals.{RefusedBetween};
-ghost use Rattle.wasm_operators.specs.Instructions.{aggregate_from, bulk_from, prefixed_from, plain_from, instruction_at};
+ghost use Rattle.wasm_operators.specs.Instructions.{aggregate_from, bulk_from, vectors_from, atomics_from, prefixed_from, plain_from, instruction_at};
 ghost use Rattle.wasm_operators.specs.SeenOperators.{operator_of};
 
 use crate::control::{ControlOperator, ParametricOperator, read_control, read_parametric};
 use crate::frequent::next_frequent;
+use crate::immediates::{ImmediateValues, read_immediates};
 use crate::references::{CastOperator, ReferenceOperator, read_cast, read_reference};
+use wasm_operators_atomic::operators_vector::{self, VectorOperator, vector_form};
+use wasm_operators_atomic::{AtomicOperator, atomic_form};
 use wasm_operators_plain::readers::BinaryReader;
 use wasm_operators_plain::readers_errors::Refusal;
 use wasm_operators_plain::{
@@ -40,6 +43,9 @@ pub enum Operator<'a> {
     Conversion(ConversionOperator),
     Struct(StructOperator),
     Array(ArrayOperator),
+    /// An operator on vectors other than the constant.
+    Vector(VectorOperator, ImmediateValues),
+    Atomic(AtomicOperator, ImmediateValues),
 }
 
 /// The operator of this code behind the prefix `0xfb`, which stood at this offset.
@@ -100,6 +106,57 @@ fn read_bulk<'a>(
     }
 }
 
+/// The operator of this code behind the prefix `0xfd`, which stood at this offset.
+#[tactic(auto, unfolding(crate::specs::Instructions::vectors_from))]
+fn read_on_vectors<'a>(
+    reader: &mut BinaryReader<'a>,
+    code: u32,
+    offset: u64,
+) -> Result<Operator<'a>, Refusal>
+    requires { offset ≤ original reader.old + position_in reader.old }
+    ensures same { SameInput reader.old reader.new }
+    ensures onward { position_in reader.old ≤ position_in reader.new }
+    ensures refusal { IfErr result (RefusedBetween offset reader.old) }
+    ensures ok { IfOk result (λ op. vectors_from code (rest reader.old)
+        ≡ Some (operator_of op, rest reader.new)) }
+    ensures err { OnErr result (vectors_from code (rest reader.old) ≡ None) }
+{
+    if code == 12 {
+        return Ok(Operator::Constant(read_vector(reader, code, offset)?));
+    }
+    match operators_vector::operator_from_code(code) {
+        Some(op) => Ok(Operator::Vector(op, read_immediates(reader, vector_form(op), offset)?)),
+        None => Err(unknown_prefixed_opcode(0xfd, code, offset)),
+    }
+}
+
+/// The operator of this code behind the prefix `0xfe`, which stood at this offset.
+#[tactic(auto, unfolding(crate::specs::Instructions::atomics_from))]
+fn read_atomic<'a>(
+    reader: &mut BinaryReader<'a>,
+    code: u32,
+    offset: u64,
+) -> Result<Operator<'a>, Refusal>
+    requires { offset ≤ original reader.old + position_in reader.old }
+    ensures same { SameInput reader.old reader.new }
+    ensures onward { position_in reader.old ≤ position_in reader.new }
+    ensures refusal { IfErr result (RefusedBetween offset reader.old) }
+    ensures ok { IfOk result (λ op. atomics_from code (rest reader.old)
+        ≡ Some (operator_of op, rest reader.new)) }
+    ensures err { OnErr result (atomics_from code (rest reader.old) ≡ None) }
+{
+    if code == 0x72 {
+        return match shared_from_code(code) {
+            Some(op) => Ok(Operator::Conversion(op)),
+            None => Err(unknown_prefixed_opcode(0xfe, code, offset)),
+        };
+    }
+    match wasm_operators_atomic::operator_from_code(code) {
+        Some(op) => Ok(Operator::Atomic(op, read_immediates(reader, atomic_form(op), offset)?)),
+        None => Err(unknown_prefixed_opcode(0xfe, code, offset)),
+    }
+}
+
 /// The operator of this code behind this prefix, which stood at this offset.
 #[tactic(auto, unfolding(crate::specs::Instructions::prefixed_from))]
 fn read_prefixed<'a>(
@@ -119,11 +176,8 @@ fn read_prefixed<'a>(
     match prefix {
         0xfb => read_aggregate(reader, code, offset),
         0xfc => read_bulk(reader, code, offset),
-        0xfd => Ok(Operator::Constant(read_vector(reader, code, offset)?)),
-        0xfe => match shared_from_code(code) {
-            Some(op) => Ok(Operator::Conversion(op)),
-            None => Err(unknown_prefixed_opcode(0xfe, code, offset)),
-        },
+        0xfd => read_on_vectors(reader, code, offset),
+        0xfe => read_atomic(reader, code, offset),
         _ => Err(unknown_opcode(prefix, offset)),
     }
 }

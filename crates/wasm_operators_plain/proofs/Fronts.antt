@@ -51,7 +51,7 @@ module _ {more : List ℕ} where
   unfolding bits_64_at
   bits_64-reads bytes = reads_then _ (bits_32-reads bytes) (λ low. reads_map _ (bits_32-reads low.1))
 
-  bits_128-reads : (bytes : List ℕ) → Reads more 0 bytes (bits_128_at bytes) (bits_128_at (bytes ++ more))
+  pub bits_128-reads : (bytes : List ℕ) → Reads more 0 bytes (bits_128_at bytes) (bits_128_at (bytes ++ more))
   unfolding bits_128_at
   bits_128-reads bytes = reads_then _ (bits_64-reads bytes) (λ low. reads_map _ (bits_64-reads low.1))
 

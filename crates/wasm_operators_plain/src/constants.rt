@@ -74,7 +74,7 @@ fn read_bits_64(reader: &mut BinaryReader) -> Result<u64, Refusal>
 
 /// The bits of sixteen bytes, the least significant first.
 #[tactic(auto, unfolding(crate::specs::Constants::bits_128_at))]
-fn read_bits_128(reader: &mut BinaryReader) -> Result<V128, Refusal>
+pub fn read_bits_128(reader: &mut BinaryReader) -> Result<V128, Refusal>
     ensures same { SameInput reader.old reader.new }
     ensures onward { position_in reader.old ≤ position_in reader.new }
     ensures refusal { IfErr result (RefusedFrom reader.old) }

@@ -22,7 +22,9 @@ mod variables;
 
 pub use arrays::{ArrayOperator, read_array};
 pub use calls::{CallOperator, read_call};
-pub use constants::{ConstantOperator, Ieee32, Ieee64, V128, read_constant, read_vector};
+pub use constants::{
+    ConstantOperator, Ieee32, Ieee64, V128, read_bits_128, read_constant, read_vector,
+};
 pub use conversions::{ConversionOperator, conversion_from_code, shared_from_code};
 pub use memories::{
     BulkMemoryOperator, MemArg, MemoryOperator, access_from_opcode, max_align, read_memarg,

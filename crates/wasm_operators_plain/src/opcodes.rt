@@ -1,8 +1,7 @@
-//! Opcodes that no operator has which is served.
+//! Opcodes that no operator has.
 
 ghost use Rattle.std.specs.Prelude.{◌≡◌};
 ghost use Rattle.wasm_readers.specs.WasmReadersErrors.Refusals.{plain};
-ghost use Rattle.wasm_readers.specs.WasmReadersErrors.Opcodes.{told_of_prefixed};
 
 use wasm_readers::readers_errors::{Fault, Malformed, Refusal};
 
@@ -15,13 +14,13 @@ pub fn unknown_opcode(opcode: u8, offset: u64) -> Refusal
 }
 
 /// The refusal of the number `code` behind a prefix which stands at this byte offset from the start
-/// of the input: as an operator that is not served, or as an illegal opcode.
+/// of the input.
 #[inline(never)]
 pub fn unknown_prefixed_opcode(prefix: u8, code: u32, offset: u64) -> Refusal
-    ensures { result ≡ plain (Fault.Malformed (told_of_prefixed prefix code)) offset }
+    ensures { result ≡ plain (Fault.Malformed (Malformed.PrefixedOpcode prefix code)) offset }
 {
     Refusal::new(
-        Fault::Malformed(Malformed::of_prefixed_opcode(prefix, code)),
+        Fault::Malformed(Malformed::PrefixedOpcode(prefix, code)),
         offset,
     )
 }

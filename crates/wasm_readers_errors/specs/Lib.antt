@@ -4,4 +4,3 @@ pub use Rattle.wasm_readers_features.specs as WasmReadersFeatures
 pub mod Errors
 pub mod Refusals
 pub mod Lifting
-pub mod Opcodes

@@ -8,7 +8,6 @@
 //! [`Error`] is a refusal, or memory that was refused.
 
 ghost use Rattle.std.specs.Prelude.{◌≡◌};
-ghost use Rattle.wasm_readers_errors.specs.Opcodes.{is_vector_code, is_vector_gap};
 
 use crate::item_rules::ItemRule;
 use crate::operator_rules::{GatedConstant, OperatorRule};
@@ -102,10 +101,8 @@ pub enum Malformed {
     Opcode(u8),
     /// No operator has this opcode: a prefix, and the number after it.
     PrefixedOpcode(u8, u32),
-    /// An operator on vectors other than `v128.const`: none of these is read.
-    VectorOperator,
-    /// An atomic operator, whose opcode begins with `0xfe`: none of these is read.
-    AtomicOperator,
+    /// The byte behind `atomic.fence` isn't zero.
+    FenceByte,
     /// The alignment of a memory operator is too large.
     Alignment,
     /// The flags of a cast have a bit without a meaning.
@@ -115,22 +112,6 @@ pub enum Malformed {
 }
 
 impl Malformed {
-    ghost use Rattle.wasm_readers_errors.specs.Opcodes.{told_of_prefixed};
-
-    /// What is wrong with an opcode of this prefix and this number after it, where no operator that
-    /// is read has it (Core Specification 3.0, Binary Format, Instructions).
-    pub fn of_prefixed_opcode(prefix: u8, code: u32) -> Malformed
-        ensures { result ≡ told_of_prefixed prefix code }
-    {
-        if prefix == 0xfe {
-            Malformed::AtomicOperator
-        } else if prefix == 0xfd && is_vector_code(code) {
-            Malformed::VectorOperator
-        } else {
-            Malformed::PrefixedOpcode(prefix, code)
-        }
-    }
-
     fn write<W: fmt::Write>(self, f: &mut fmt::Formatter<W>) -> fmt::Result {
         match self {
             Malformed::IntegerTooLong(integer) => write_integer(
@@ -181,49 +162,11 @@ impl Malformed {
                 "function and code section have inconsistent lengths",
             Malformed::DataCounts => "data count and data section have inconsistent lengths",
             Malformed::Opcode(_) | Malformed::PrefixedOpcode(_, _) => "illegal opcode",
-            Malformed::VectorOperator => "vector operators are not served",
-            Malformed::AtomicOperator => "atomic operators are not served",
+            Malformed::FenceByte => "nonzero byte after `atomic.fence`",
             Malformed::Alignment => "malformed memop alignment: alignment too large",
             Malformed::CastFlags => "malformed cast flags",
             Malformed::CatchKind => "invalid leading byte for a catch clause",
         }
-    }
-}
-
-/// Whether a vector operator has this number after the prefix `0xfd` (Core Specification 3.0,
-/// Binary Format, Instructions, Vector Instructions).
-fn is_vector_code(code: u32) -> bool
-    ensures { result ≡ is_vector_code code }
-{
-    code < 276 && !is_vector_gap(code)
-}
-
-/// Whether no vector operator has this number, though some have greater ones.
-fn is_vector_gap(code: u32) -> bool
-    ensures { result ≡ is_vector_gap code }
-{
-    match code {
-        154
-        | 162
-        | 165
-        | 166
-        | 175
-        | 176
-        | 178
-        | 179
-        | 180
-        | 187
-        | 194
-        | 197
-        | 198
-        | 207
-        | 208
-        | 210
-        | 211
-        | 212
-        | 226
-        | 238 => true,
-        _ => false,
     }
 }
 

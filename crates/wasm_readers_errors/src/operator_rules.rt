@@ -139,6 +139,16 @@ pub enum OperatorRule {
     SharedEverything,
     /// An operator needs `CUSTOM_DESCRIPTORS`.
     CustomDescriptors,
+    /// An operator on vectors needs `VECTOR_OPERATORS`.
+    VectorOperators,
+    /// An atomic operator needs `ATOMIC_OPERATORS`.
+    AtomicOperators,
+    /// An atomic operator needs `THREADS`.
+    Threads,
+    /// A lane that the vector doesn't have.
+    Lane,
+    /// The alignment of an atomic operator isn't the size of its access.
+    AtomicAlignment,
 }
 
 /// The items of a module, and of a function, that an operator names by an index.
@@ -184,6 +194,9 @@ impl OperatorRule {
             OperatorRule::SharedEverything => Some(WasmFeatures::SHARED_EVERYTHING_THREADS),
             OperatorRule::CustomDescriptors => Some(WasmFeatures::CUSTOM_DESCRIPTORS),
             OperatorRule::LocalGlobal => Some(WasmFeatures::GC),
+            OperatorRule::VectorOperators => Some(WasmFeatures::VECTOR_OPERATORS),
+            OperatorRule::AtomicOperators => Some(WasmFeatures::ATOMIC_OPERATORS),
+            OperatorRule::Threads => Some(WasmFeatures::THREADS),
             _ => None,
         }
     }
@@ -240,6 +253,9 @@ impl OperatorRule {
             OperatorRule::TableTypes => "type mismatch: table has another element type",
             OperatorRule::Alignment => "alignment must not be larger than natural",
             OperatorRule::Offset => "offset out of range: must be <= 2**32",
+            OperatorRule::Lane => "SIMD index out of bounds",
+            OperatorRule::AtomicAlignment =>
+                "atomic instructions must always specify maximum alignment",
             OperatorRule::TagResults => "invalid exception type: non-empty tag result type",
             OperatorRule::CatchTypes =>
                 "type mismatch: catch clause sends other types than its label has",
@@ -275,6 +291,9 @@ impl OperatorRule {
             OperatorRule::Gc => "gc support is not enabled",
             OperatorRule::SharedEverything => "shared-everything-threads support is not enabled",
             OperatorRule::CustomDescriptors => "custom descriptors support is not enabled",
+            OperatorRule::VectorOperators => "vector operators are not served",
+            OperatorRule::AtomicOperators => "atomic operators are not served",
+            OperatorRule::Threads => "threads support is not enabled",
             _ => "invalid operator",
         }
     }
