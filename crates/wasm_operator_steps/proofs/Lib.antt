@@ -2,6 +2,7 @@ pub mod ControlRuns
 pub mod HeapRuns
 pub mod SharedRuns
 pub mod Attempts
+pub mod OptIn
 pub mod WorldsRenamed
 pub mod MatchingRenamed
 pub mod MachineRenamed

@@ -12,7 +12,7 @@ use Rattle.wasm_spec_rules.specs.Attempts.{◌>>=◌, guard, among, passes, last
 use Rattle.wasm_operator_steps.specs.Matching.{matches_vals, matches_storage}
 use Rattle.wasm_operator_steps.specs.Bodies.{Surroundings, map_local, map_surroundings}
 use Rattle.wasm_operator_steps.specs.Machine.{Operand, bottom, bottom_reference, open_reference, known, Kind, block_kind, loop_kind, if_kind, else_kind, try_table_kind, Frame, State, map_operand, map_frame, map_state, map_popped, push_operand, push_vals, pop_any, pop_reference, same_number, chosen, become_unreachable, push_frame, set_local, pop_vals}
-use Rattle.wasm_operator_steps.specs.Actions.{Signed, of_type, of_function, of_tag, OperandTypes, these, params, results, label, returned, local, global, function_reference, new_reference, fields, element, field, table_address, memory_address, table_element, segment, lesser_table_address, lesser_memory_address, top, descriptor_of, repeated, front, last, joined, Check, has, allows, global_is_mutable, local_is_set, function_is_referenced, is_exception, each_matches, may_be_cast, can_be_tested, is_aligned, fields_have_defaults, has_no_descriptor, field_is_mutable, field_is_packed, element_is_mutable, element_has_default, element_is_number, element_is_packed, element_is_storable, data_is_there, segment_is_there, reaches_global, reaches_table, reaches_type, reaches_function, Action, need, refuse, take, give, take_any, take_reference, take_comparable, make_non_null, choose, stop, turn_to_else, leave, take_below, convert, enter, set, branch_on_null, branch_to_one_of}
+use Rattle.wasm_operator_steps.specs.Actions.{Signed, of_type, of_function, of_tag, OperandTypes, these, params, results, label, returned, local, global, function_reference, new_reference, fields, element, field, table_address, memory_address, table_element, segment, lesser_table_address, lesser_memory_address, top, descriptor_of, repeated, front, last, joined, Check, has, allows, global_is_mutable, local_is_set, function_is_referenced, is_exception, each_matches, may_be_cast, can_be_tested, is_aligned, suits, fields_have_defaults, has_no_descriptor, field_is_mutable, field_is_packed, element_is_mutable, element_has_default, element_is_number, element_is_packed, element_is_storable, data_is_there, segment_is_there, reaches_global, reaches_table, reaches_type, reaches_function, Action, need, refuse, take, give, take_any, take_reference, take_comparable, make_non_null, choose, stop, turn_to_else, leave, take_below, convert, enter, set, branch_on_null, branch_to_one_of}
 use Rattle.wasm_spec_rules.specs.Signatures.{Signature, resolve_heap, resolve_ref, resolve_val, resolve_vals, signature_of}
 use Rattle.wasm_operator_steps.specs.Meanings.{ref_to, resolve_block, fields_of, element_of, unpack, unpack_field, is_packed, has_default, all_have_defaults, copies, one, is_of_continuations, address, both, label_by, sub_at, comp_at, type_signature, block_signature, frame_signature, label_at, returned_at, signature_at, fields_at, element_at, field_at, exact_if, function_heap, descriptor_at, top_heap, table_is_64, memory_is_64, types_at, casts, holds, is_below_either, agree, converted, pop_frame, may_end, leave_in, turn_in, labels_fit, act, run}
 use Rattle.wasm_operator_steps.specs.Renaming.{Renames}
@@ -265,6 +265,7 @@ module _ {R S : Type 0} (f : R → S) (W : World R) (V : World S) (h : Renames f
       (resolve_ref B.context.types r) (resolve_ref-map f B.context.types r)
   holds-map s (can_be_tested r) = passes-map (map_heap f) _ _ (λ x. ap not (is_of_continuations-map f x)) (top_heap W B r.heap) (top_heap-map r.heap)
   holds-map s (is_aligned op m) = refl
+  holds-map s (suits g values) = refl
   holds-map s (fields_have_defaults n) = passes-map (map (map_field f)) all_have_defaults all_have_defaults (all_have_defaults-map f) (fields_at W B n) (fields_at-map n)
   holds-map s (has_no_descriptor n) = passes-map (map_sub f) _ _ (λ d. ap not (is_some-map f d.descriptor)) (sub_at W B n) (sub_at-map n)
   holds-map s (field_is_mutable n k) = passes-map (map_field f) _ _ (λ x. refl) (field_at W B n k) (field_at-map n k)

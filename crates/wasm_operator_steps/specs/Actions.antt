@@ -5,6 +5,8 @@ use Rattle.wasm_spec_rules.specs.WasmSpec.Syntax.{AbstractHeap, Ref, Val}
 use Rattle.wasm_operators.specs.Control.{Block}
 use Rattle.wasm_operators.specs.WasmOperatorsPlain.declared.memories.MemoryOperator.{MemoryOperator}
 use Rattle.wasm_operators.specs.WasmOperatorsPlain.declared.memories.MemArg.{MemArg}
+use Rattle.wasm_operators.specs.WasmOperatorsAtomic.WasmOperatorsVector.declared.forms.Form.{Form}
+use Rattle.wasm_operators.specs.declared.immediates.ImmediateValues.{ImmediateValues}
 use Rattle.wasm_operator_steps.specs.Machine.{Kind}
 
 -- what has a signature, by its index
@@ -32,13 +34,13 @@ pub data OperandTypes : Type 0 where
 
 -- the proposals that an instruction may need
 pub data Needed : Type 0 where
-  multi_value reference_types bulk_memory exceptions function_references gc shared_everything_threads custom_descriptors : Needed
+  multi_value reference_types bulk_memory exceptions function_references gc shared_everything_threads custom_descriptors simd threads vector_operators atomic_operators : Needed
 
 -- Checks:
 -- a feature is on; a written type is one that the features allow; a global is mutable; a local is set; a function counts as referenced;
 -- a tag has no results, so that it is one of exceptions; each type of one list matches that of another; a reference type may be cast
 -- to another; references of its hierarchy can be tested, which those to continuations can't; a load or a store may have its memory
--- argument; all fields of a structure have a default, and it has no descriptor; a field is mutable, and is packed or isn't; the same of
+-- argument; an operator of a form may have its immediates; all fields of a structure have a default, and it has no descriptor; a field is mutable, and is packed or isn't; the same of
 -- an array's elements, and they are numbers or vectors; the elements of one array may be stored in another; a data segment or an element
 -- segment is there; a global, a table, a type, or the type of a function is shared, where the body is that of a shared function.
 pub data Check : Type 0 where
@@ -49,6 +51,7 @@ pub data Check : Type 0 where
   may_be_cast : Ref ℕ → Ref ℕ → Check
   can_be_tested : Ref ℕ → Check
   is_aligned : MemoryOperator → MemArg → Check
+  suits : Form → ImmediateValues → Check
   fields_have_defaults has_no_descriptor : ℕ → Check
   field_is_mutable : ℕ → ℕ → Check
   field_is_packed : Bool → ℕ → ℕ → Check

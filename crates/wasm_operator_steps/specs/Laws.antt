@@ -1,24 +1,27 @@
 -- Laws of the steps, as facts that a contract can name.
-use Rattle.std.specs.Prelude.{◌≡◌, ◌≤◌, ℕ, Bool, true, List, ◌++◌, length, Option, Some, is_some}
+use Rattle.std.specs.Prelude.{◌≡◌, ◌≤◌, ℕ, Bool, true, false, List, ◌++◌, length, Option, Some, None, is_some}
 use Rattle.std.specs.Bool.{Decides}
 use Rattle.std.specs.Option.{option_map}
 use Rattle.wasm_spec_rules.specs.WasmSpec.Syntax.{Sub}
 use Rattle.wasm_spec_rules.specs.WasmSpec.Declared.{ancestor_at, IsAncestor}
-use Rattle.wasm_spec_rules.specs.WasmSpec.MatchingTests.{IsWorld}
+use Rattle.wasm_spec_rules.specs.WasmSpec.MatchingTests.{World, IsWorld}
 use Rattle.wasm_spec_rules.specs.Contexts.{Context}
 use Rattle.wasm_operators.specs.WasmOperatorsPlain.Numeric.{numeric_opcode}
 use Rattle.wasm_operators.specs.WasmOperatorsPlain.Signatures.{signature_at}
 use Rattle.wasm_operators.specs.WasmOperatorsPlain.declared.numeric.NumericOperator.{NumericOperator}
 use Rattle.wasm_operators.specs.Control.{Block}
 use Rattle.wasm_operators.specs.Maps.{map_block}
-use Rattle.wasm_operators.specs.Instructions.{Instruction, numeric}
+use Rattle.wasm_operators.specs.Instructions.{Instruction, numeric, vector, atomic}
+use Rattle.wasm_operators.specs.WasmOperatorsAtomic.WasmOperatorsVector.declared.operators.VectorOperator.{VectorOperator}
+use Rattle.wasm_operators.specs.WasmOperatorsAtomic.declared.operators.AtomicOperator.{AtomicOperator}
+use Rattle.wasm_operators.specs.declared.immediates.ImmediateValues.{ImmediateValues}
 use Rattle.wasm_spec_rules.specs.Worlds.{declared_in, world_of}
 use Rattle.wasm_operator_steps.specs.Bodies.{Surroundings, map_surroundings}
 use Rattle.wasm_operator_steps.specs.Machine.{State, map_state}
 use Rattle.wasm_operator_steps.specs.Identities.{refs_surroundings, refs_state, refs_block, IsOneToOneOn}
 use Rattle.wasm_operator_steps.specs.ConstantExpressions.{gives_reference, takes_no_reference, is_number, GivesOne, GivesOneReference}
 use Rattle.wasm_operator_steps.specs.Shapes.{computing, shape_of}
-use Rattle.wasm_operator_steps.specs.Steps.{step, steps, is_typed}
+use Rattle.wasm_operator_steps.specs.Steps.{step_in, step, steps, is_typed}
 
 -- A step, a run of steps and a finish over renamed identities are those over the identities themselves, renamed.
 pub record AreRenamed {R S : Type 0} (same : R → R → Bool) (renamed : S → S → Bool) (f : R → S) (B : Surroundings R) : Type 0 where
@@ -46,6 +49,16 @@ pub record KeepsVerdicts {R S : Type 0} (same : R → R → Bool) (renamed : S �
 
 abbrev pub VerdictsRename : (R S : Type 0) → Type 0
 VerdictsRename R S = Discrete R → (same : R → R → Bool) (renamed : S → S → Bool) (f : R → S) (B : Surroundings R) → KeepsVerdicts same renamed f B
+
+-- Where one of their two features is off no step by an operator on vectors is taken, and none by an atomic operator.
+pub record AreOptIn {R : Type 0} (W : World R) (B : Surroundings R) : Type 0 where
+  pub needs_vector_operators : B.features.vector_operators ≡ false → (op : VectorOperator) (values : ImmediateValues) (s : State R) → step_in W B (vector op values) s ≡ None
+  pub needs_simd : B.features.simd ≡ false → (op : VectorOperator) (values : ImmediateValues) (s : State R) → step_in W B (vector op values) s ≡ None
+  pub needs_atomic_operators : B.features.atomic_operators ≡ false → (op : AtomicOperator) (values : ImmediateValues) (s : State R) → step_in W B (atomic op values) s ≡ None
+  pub needs_threads : B.features.threads ≡ false → (op : AtomicOperator) (values : ImmediateValues) (s : State R) → step_in W B (atomic op values) s ≡ None
+
+abbrev pub OperatorsAreOptIn : (R : Type 0) → Type 0
+OperatorsAreOptIn R = (W : World R) (B : Surroundings R) → AreOptIn W B
 
 -- A numeric instruction checks, takes and gives what the table of signatures says of its opcode.
 abbrev pub NumericShapesByOpcode : Type 0

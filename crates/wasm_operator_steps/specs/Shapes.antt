@@ -1,6 +1,6 @@
 -- The first table: each instruction has one of few shapes, with what it checks, takes and gives.
 -- Core Specification 3.0, Validation, Instructions, and the proposals for shared references and for custom descriptors.
-use Rattle.std.specs.Prelude.{ℕ, Bool, true, false, if◌then◌else◌, List, [], ◌∷◌, ◌++◌}
+use Rattle.std.specs.Prelude.{ℕ, Bool, true, false, if◌then◌else◌, List, [], ◌∷◌, ◌++◌, map, Option, Some, None}
 use Rattle.wasm_spec_rules.specs.WasmSpec.Syntax.{AbstractHeap, any_heap, i31_heap, array_heap, func_heap, extern_heap, exn_heap, Heap, abstract_heap, concrete, Ref, Val, i32, i64, f32, f64, v128, reference}
 use Rattle.wasm_operators.specs.WasmOperatorsPlain.Signatures.{signature_of, saturating_signature_of}
 use Rattle.wasm_operators.specs.WasmOperatorsPlain.declared.signatures.NumberType.{NumberType}
@@ -35,7 +35,14 @@ use Rattle.wasm_operators.specs.WasmOperatorsPlain.declared.structs.StructOperat
 use Rattle.wasm_operators.specs.WasmOperatorsPlain.declared.arrays.ArrayOperator.{ArrayOperator}
 use Rattle.wasm_operators.specs.WasmOperatorsPlain.declared.arrays.ArrayOperator.TheVariants.{ArrayNew, ArrayNewDefault, ArrayNewFixed, ArrayNewData, ArrayNewElem, ArrayGet, ArrayGetS, ArrayGetU, ArraySet, ArrayLen, ArrayFill, ArrayCopy, ArrayInitData, ArrayInitElem}
 use Rattle.wasm_operator_steps.specs.Machine.{Kind, block_kind, loop_kind, if_kind, try_table_kind}
-use Rattle.wasm_operator_steps.specs.Actions.{of_type, of_function, of_tag, OperandTypes, these, params, results, label, returned, local, global, function_reference, new_reference, fields, element, field, table_address, memory_address, table_element, segment, lesser_table_address, lesser_memory_address, top, descriptor_of, repeated, front, last, joined, Needed, multi_value, reference_types, bulk_memory, exceptions, function_references, gc, shared_everything_threads, custom_descriptors, Check, has, allows, global_is_mutable, local_is_set, function_is_referenced, is_exception, each_matches, may_be_cast, can_be_tested, is_aligned, fields_have_defaults, has_no_descriptor, field_is_mutable, field_is_packed, element_is_mutable, element_has_default, element_is_number, element_is_packed, element_is_storable, data_is_there, segment_is_there, reaches_global, reaches_table, reaches_type, reaches_function}
+use Rattle.wasm_operators.specs.WasmOperatorsAtomic.WasmOperatorsVector.Forms as vectors
+use Rattle.wasm_operators.specs.WasmOperatorsAtomic.WasmOperatorsVector.declared.operators.VectorOperator.{VectorOperator}
+use Rattle.wasm_operators.specs.WasmOperatorsAtomic.Forms as atomics
+use Rattle.wasm_operators.specs.WasmOperatorsAtomic.declared.operators.AtomicOperator.{AtomicOperator}
+use Rattle.wasm_operators.specs.WasmOperatorsAtomic.WasmOperatorsVector.declared.forms.Form.{Form}
+use Rattle.wasm_operators.specs.declared.immediates.ImmediateValues.{ImmediateValues}
+use Rattle.wasm_operator_steps.specs.Forms.{types_taken, types_given, memarg_of}
+use Rattle.wasm_operator_steps.specs.Actions.{of_type, of_function, of_tag, OperandTypes, these, params, results, label, returned, local, global, function_reference, new_reference, fields, element, field, table_address, memory_address, table_element, segment, lesser_table_address, lesser_memory_address, top, descriptor_of, repeated, front, last, joined, Needed, multi_value, reference_types, bulk_memory, exceptions, function_references, gc, shared_everything_threads, custom_descriptors, Check, has, allows, global_is_mutable, local_is_set, function_is_referenced, is_exception, each_matches, may_be_cast, can_be_tested, is_aligned, fields_have_defaults, has_no_descriptor, field_is_mutable, field_is_packed, element_is_mutable, element_has_default, element_is_number, element_is_packed, element_is_storable, data_is_there, segment_is_there, reaches_global, reaches_table, reaches_type, reaches_function, suits, simd, threads, vector_operators, atomic_operators}
 
 -- Shapes: takes some operands and gives others; takes some, and what follows isn't reached; takes some and enters a block; `end`; `else`;
 -- takes any operand; chooses one of two; tests a reference for null; asserts that it isn't null; branches where it is null; branches
@@ -301,6 +308,27 @@ array_shape (ArrayCopy x y) = plain (aggregate_checks x (reaches_type y ∷ elem
 array_shape (ArrayInitData x y) = plain (aggregate_checks x (element_is_mutable x ∷ element_is_number x ∷ data_is_there y ∷ [])) (these (nullable_to x ∷ i32 ∷ i32 ∷ i32 ∷ [])) nothing
 array_shape (ArrayInitElem x y) = plain (aggregate_checks x (element_is_mutable x ∷ each_matches (segment y) (element x) ∷ [])) (these (nullable_to x ∷ i32 ∷ i32 ∷ i32 ∷ [])) nothing
 
+-- Vector Instructions but the constant, and the atomic instructions of Threads: each is told by its form, and the address of an access is
+-- below its other operands
+abbrev pub address_of : Option MemArg → OperandTypes
+address_of None = nothing
+address_of (Some m) = memory_address m.memory
+
+abbrev pub allow_each : List (Val ℕ) → List Check
+allow_each vs = map allows vs
+
+abbrev pub form_checks : Form → ImmediateValues → List Check
+form_checks f values = suits f values ∷ allow_each (types_taken f ++ types_given f)
+
+abbrev pub form_shape : List Check → Form → ImmediateValues → Shape
+form_shape cs f values = plain (cs ++ form_checks f values) (joined (address_of (memarg_of values)) (these (types_taken f))) (these (types_given f))
+
+abbrev pub vector_shape : VectorOperator → ImmediateValues → Shape
+vector_shape op values = form_shape (has vector_operators ∷ has simd ∷ []) (vectors.form_of op) values
+
+abbrev pub atomic_shape : AtomicOperator → ImmediateValues → Shape
+atomic_shape op values = form_shape (has atomic_operators ∷ has threads ∷ []) (atomics.form_of op) values
+
 -- all instructions
 abbrev pub shape_of : Instruction ℕ → Shape
 shape_of (instruction.control op) = control_shape op
@@ -318,3 +346,5 @@ shape_of (instruction.cast op) = cast_shape op
 shape_of (instruction.conversion op) = conversion_shape op
 shape_of (instruction.structure op) = struct_shape op
 shape_of (instruction.array op) = array_shape op
+shape_of (instruction.vector op values) = vector_shape op values
+shape_of (instruction.atomic op values) = atomic_shape op values

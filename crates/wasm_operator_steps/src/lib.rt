@@ -3,7 +3,7 @@
 //! Validation, Instructions, and Appendix, Validation Algorithm).
 #![tactic(auto)]
 
-ghost use Rattle.wasm_operator_steps.specs.Laws.{StepsRename, NumericShapesByOpcode, VerdictsRename, ConstantsGiveReferences, WorldsAreRight};
+ghost use Rattle.wasm_operator_steps.specs.Laws.{StepsRename, OperatorsAreOptIn, NumericShapesByOpcode, VerdictsRename, ConstantsGiveReferences, WorldsAreRight};
 ghost use Rattle.wasm_operator_steps.specs.StackLaws.{ListsAreTakenInTurn, TakingKeepsFrames, TypesAreTakenInTurn, UnreachedCodeTakesAnything, EqualTypesMatch, EqualTypesMatchInContexts, ActionsAreRunInTurn};
 ghost use Rattle.wasm_operator_steps.specs.ControlExamples.{Blocks, NoBlocks, Branches, NoBranches, Calls, NoCalls, Exceptions, NoExceptions, Parametrics, NoParametrics, Variables, NoVariables, ControlNeedsFeatures, Constants, NoConstants, ConstantInstructions, NoConstantInstructions};
 ghost use Rattle.wasm_operator_steps.specs.HeapExamples.{Memories, NoMemories, Tables, NoTables, References, NoReferences, Casts, NoCasts, Conversions, NoConversions, Structures, NoStructures, Arrays, NoArrays, Descriptors, NoDescriptors, MemoriesNeedFeatures, ReferencesNeedFeatures, AggregatesNeedFeatures};
@@ -17,6 +17,13 @@ pub use wasm_operators::{BlockType, FrameKind};
 #[tactic(auto, using(crate::proofs::StepsRenamed::steps_rename))]
 pub fn steps_rename<R, S>()
     ensures renamed { StepsRename R S }
+{}
+
+/// Without a feature that they need, no step by an operator on vectors is taken, and none by an atomic
+/// operator.
+#[tactic(auto, using(crate::proofs::OptIn::operators_are_opt_in))]
+pub fn operators_are_opt_in<R>()
+    ensures opt_in { OperatorsAreOptIn R }
 {}
 
 /// Bodies of control, parametric and variable instructions, and constant expressions: valid ones,

@@ -7,6 +7,7 @@ mod arity;
 mod bytes;
 mod control;
 mod counts;
+mod forms;
 mod frame_stack;
 mod heap;
 mod laws;

@@ -5,6 +5,7 @@ ghost use Rattle.std.specs.Option.{option_and_then};
 ghost use Rattle.wasm_operator_validator.specs.Arities.{arity, in_u32, operator_shape};
 
 use crate::control::{call_arity, control_arity, parametric_arity};
+use crate::forms::{atomic_arity, vector_arity};
 use crate::heap::{array_arity, cast_arity, conversion_arity, reference_arity, struct_arity};
 use crate::module::ModuleArity;
 use crate::values::{
@@ -32,6 +33,8 @@ fn counts_of<M: ModuleArity>(op: &Operator, resources: &M) -> Option<(u128, u128
         Operator::Conversion(op) => Some(conversion_arity(*op)),
         Operator::Struct(op) => struct_arity(op, resources),
         Operator::Array(op) => Some(array_arity(op)),
+        Operator::Vector(op, values) => Some(vector_arity(*op, *values)),
+        Operator::Atomic(op, values) => Some(atomic_arity(*op, *values)),
     }
 }
 

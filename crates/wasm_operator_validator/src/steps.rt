@@ -12,7 +12,7 @@ use wasm_operator_blocks::validator_resources::WasmModuleResources;
 use wasm_operator_blocks::{step_call, step_control, step_parametric, step_variable};
 use wasm_operator_casts::{step_cast, step_conversion, step_reference};
 use wasm_operator_fast::operator_numbers::{
-    access_memory, bulk_memory, compute, constant, step_table,
+    access_memory, bulk_memory, compute, constant, step_atomic, step_table, step_vector,
 };
 use wasm_operator_structs::step_struct;
 use wasm_operators::Operator;
@@ -54,5 +54,7 @@ pub fn step<'a, A: Allocator, T: WasmModuleResources>(
         Operator::Conversion(op) => step_conversion(stacks, resources, op),
         Operator::Struct(op) => step_struct(stacks, resources, op),
         Operator::Array(op) => step_array(stacks, resources, op),
+        Operator::Vector(op, values) => step_vector(stacks, resources, op, values),
+        Operator::Atomic(op, values) => step_atomic(stacks, resources, op, values),
     }
 }

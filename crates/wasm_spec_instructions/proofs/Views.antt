@@ -186,3 +186,5 @@ view (instruction.cast op) = is_plain (cast-simple op)
 view (instruction.conversion op) = is_plain (conversion-simple op)
 view (instruction.structure op) = is_plain (struct-simple op)
 view (instruction.array op) = is_plain (array-simple op)
+view (instruction.vector op values) = is_plain refl
+view (instruction.atomic op values) = is_plain refl

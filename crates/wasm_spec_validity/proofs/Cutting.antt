@@ -21,7 +21,13 @@ use Rattle.wasm_operators.proofs.WasmOperatorsPlain.Fronts.{u32-reads, vector-re
 use Rattle.wasm_operators.specs.Control.{Block, Control, block, loop, if_, br_table, try_table, control_from}
 use Rattle.wasm_operators.specs.declared.control.Catch.{Catch}
 use Rattle.wasm_operators.specs.References.{reference_from}
-use Rattle.wasm_operators.specs.Instructions.{Instruction, control, with_memarg, aggregate_from, bulk_from, prefixed_from, plain_from, instruction_at}
+use Rattle.wasm_operators.specs.Instructions.{Instruction, control, vector, atomic, with_memarg, with_form, aggregate_from, bulk_from, vectors_from, atomics_from, prefixed_from, plain_from, instruction_at}
+use Rattle.wasm_operators.specs.WasmOperatorsAtomic.WasmOperatorsVector.Codes as vectors
+use Rattle.wasm_operators.specs.WasmOperatorsAtomic.WasmOperatorsVector.Forms as vector_forms
+use Rattle.wasm_operators.specs.WasmOperatorsAtomic.WasmOperatorsVector.declared.operators.VectorOperator.{VectorOperator}
+use Rattle.wasm_operators.specs.WasmOperatorsAtomic.Codes as atomics
+use Rattle.wasm_operators.specs.WasmOperatorsAtomic.Forms as atomic_forms
+use Rattle.wasm_operators.specs.WasmOperatorsAtomic.declared.operators.AtomicOperator.{AtomicOperator}
 use Rattle.wasm_operators.proofs.Fronts.{instruction-reads}
 use Rattle.wasm_operator_steps.specs.ConstantExpressions.{is_constant}
 
@@ -345,13 +351,29 @@ module _ (F : Features) where
       ends_if (nat_lt n 8) (ends_value _ (saturating_from n))
       (ends_if (nat_lt n 12) (ends_map _ (ends_never (λ c. no))) (ends_map _ (ends_never (λ c. no))))
 
+  vector-ends : (found : Option VectorOperator) (bytes : List ℕ) → Ends IsConstantOne bytes (with_form vector vector_forms.form_of bytes found)
+  vector-ends None bytes = ends_none
+  vector-ends (Some op) bytes = ends_map _ (ends_never (λ i. no))
+
+  atomic-ends : (found : Option AtomicOperator) (bytes : List ℕ) → Ends IsConstantOne bytes (with_form atomic atomic_forms.form_of bytes found)
+  atomic-ends None bytes = ends_none
+  atomic-ends (Some op) bytes = ends_map _ (ends_never (λ i. no))
+
+  vectors-ends : (n : ℕ) (bytes : List ℕ) → Ends IsConstantOne bytes (vectors_from (λ n. n) n bytes)
+  unfolding vectors_from
+  vectors-ends n bytes = ends_if (n == 12) (ends_map _ (ends_reads (vector-reads n bytes))) (vector-ends (vectors.operator_from n) bytes)
+
+  atomics-ends : (n : ℕ) (bytes : List ℕ) → Ends IsConstantOne bytes (atomics_from (λ n. n) n bytes)
+  unfolding atomics_from
+  atomics-ends n bytes = ends_if (n == 0x72) (ends_value _ (shared_from n)) (atomic-ends (atomics.operator_from n) bytes)
+
   prefixed-ends : (b n : ℕ) (bytes : List ℕ) → Ends IsConstantOne bytes (prefixed_from (λ n. n) b n bytes)
   unfolding prefixed_from
   prefixed-ends b n bytes =
       ends_if (b == 0xfb) (aggregate-ends n bytes)
       (ends_if (b == 0xfc) (bulk-ends n bytes)
-      (ends_if (b == 0xfd) (ends_map _ (ends_reads (vector-reads n bytes)))
-      (ends_if (b == 0xfe) (ends_value _ (shared_from n)) ends_none)))
+      (ends_if (b == 0xfd) (vectors-ends n bytes)
+      (ends_if (b == 0xfe) (atomics-ends n bytes) ends_none)))
 
   module _ {more : List ℕ} where
     constant_control-cuts : (b : ℕ) (bytes : List ℕ) → Cuts (λ c. IsConstantOne (control c)) more (control_from (λ n. n) b bytes) (control_from (λ n. n) b (bytes ++ more))
@@ -391,13 +413,29 @@ module _ (F : Features) where
         cuts_if (nat_lt n 8) (cuts_value bytes _ (saturating_from n))
         (cuts_if (nat_lt n 12) (cuts_map _ (cuts_never (λ c. no))) (cuts_map _ (cuts_never (λ c. no))))
 
+    vector-one-cuts : (found : Option VectorOperator) (bytes : List ℕ) → Cuts IsConstantOne more (with_form vector vector_forms.form_of bytes found) (with_form vector vector_forms.form_of (bytes ++ more) found)
+    vector-one-cuts None bytes = cuts_none
+    vector-one-cuts (Some op) bytes = cuts_map _ (cuts_never (λ i. no))
+
+    atomic-one-cuts : (found : Option AtomicOperator) (bytes : List ℕ) → Cuts IsConstantOne more (with_form atomic atomic_forms.form_of bytes found) (with_form atomic atomic_forms.form_of (bytes ++ more) found)
+    atomic-one-cuts None bytes = cuts_none
+    atomic-one-cuts (Some op) bytes = cuts_map _ (cuts_never (λ i. no))
+
+    vectors-cuts : (n : ℕ) (bytes : List ℕ) → Cuts IsConstantOne more (vectors_from (λ n. n) n bytes) (vectors_from (λ n. n) n (bytes ++ more))
+    unfolding vectors_from
+    vectors-cuts n bytes = cuts_if (n == 12) (cuts_map _ (cuts_any (vector-cuts n bytes))) (vector-one-cuts (vectors.operator_from n) bytes)
+
+    atomics-cuts : (n : ℕ) (bytes : List ℕ) → Cuts IsConstantOne more (atomics_from (λ n. n) n bytes) (atomics_from (λ n. n) n (bytes ++ more))
+    unfolding atomics_from
+    atomics-cuts n bytes = cuts_if (n == 0x72) (cuts_value bytes _ (shared_from n)) (atomic-one-cuts (atomics.operator_from n) bytes)
+
     prefixed-cuts : (b n : ℕ) (bytes : List ℕ) → Cuts IsConstantOne more (prefixed_from (λ n. n) b n bytes) (prefixed_from (λ n. n) b n (bytes ++ more))
     unfolding prefixed_from
     prefixed-cuts b n bytes =
         cuts_if (b == 0xfb) (aggregate-cuts n bytes)
         (cuts_if (b == 0xfc) (bulk-cuts n bytes)
-        (cuts_if (b == 0xfd) (cuts_map _ (cuts_any (vector-cuts n bytes)))
-        (cuts_if (b == 0xfe) (cuts_value bytes _ (shared_from n)) cuts_none)))
+        (cuts_if (b == 0xfd) (vectors-cuts n bytes)
+        (cuts_if (b == 0xfe) (atomics-cuts n bytes) cuts_none)))
 
     instruction-cuts : (bytes : List ℕ) → Cuts IsConstantOne more (instruction_at (λ n. n) bytes) (instruction_at (λ n. n) (bytes ++ more))
     unfolding instruction_at

@@ -15,18 +15,33 @@ ghost use Rattle.wasm_validator_constants.specs.Constants.{constant_step, consta
 ghost use Rattle.wasm_operator_validator.specs.Checked.{within, IsRefusedAt, StandsIn, TookAt, ReadsTo};
 
 use crate::operators::{gated_constant, is_constant, reads_constants};
+use bitflags::Flags;
 use std::alloc::{AllocError, Allocator};
 use wasm_operator_validator::OperatorValidator;
 use wasm_operators::operators_plain::VariableOperator;
 use wasm_operators::{Operator, ReferenceOperator, read_operator};
 use wasm_readers::BinaryReader;
-use wasm_readers::readers_errors::{Error, Fault, OperatorRule, Refusal};
+use wasm_readers::readers_errors::{Error, Fault, OperatorRule, Refusal, WasmFeatures};
 use wasm_validator_references::NotesFunctions;
 use wasm_validator_resources::WasmModuleResources;
 
+/// The rule that an operator breaks which no proposal brings into constant expressions: without the
+/// features of operators on vectors and of atomic ones that these are not served.
+fn broken_rule<'a>(features: WasmFeatures, op: &Operator<'a>) -> OperatorRule {
+    match *op {
+        Operator::Vector(_, _) if !features.contains(WasmFeatures::VECTOR_OPERATORS) => {
+            OperatorRule::VectorOperators
+        }
+        Operator::Atomic(_, _) if !features.contains(WasmFeatures::ATOMIC_OPERATORS) => {
+            OperatorRule::AtomicOperators
+        }
+        _ => OperatorRule::NotConstant,
+    }
+}
+
 /// The refusal of an operator that a constant expression doesn't have, at this offset.
 #[inline(never)]
-fn not_constant<'a>(op: &Operator<'a>, offset: u64) -> Error
+fn not_constant<'a>(features: WasmFeatures, op: &Operator<'a>, offset: u64) -> Error
     ensures { IsRefusedAt offset result }
 {
     match gated_constant(op) {
@@ -35,7 +50,7 @@ fn not_constant<'a>(op: &Operator<'a>, offset: u64) -> Error
             offset,
             gated.feature(),
         )),
-        None => Error::Refused(Refusal::new(Fault::Operator(OperatorRule::NotConstant, 0), offset)),
+        None => Error::Refused(Refusal::new(Fault::Operator(broken_rule(features, op), 0), offset)),
     }
 }
 
@@ -89,7 +104,7 @@ pub fn check_constant_operator<'a, A: Allocator, T: WasmModuleResources>(
 {
     let features = *validator.features();
     if !is_constant(features, op) {
-        return Err(not_constant(op, offset));
+        return Err(not_constant(features, op, offset));
     }
     if !reads_constants(features, resources, imported_globals, op) {
         return Err(not_readable(resources, op, offset));

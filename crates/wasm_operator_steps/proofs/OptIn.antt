@@ -1,0 +1,36 @@
+-- Operators that need a feature take no step without it.
+use Rattle.std.proofs.Common.{◌≡◌, refl, ℕ, Bool, true, false, List, ◌∷◌}
+use Rattle.std.specs.Prelude.{Option, Some, None}
+use Rattle.wasm_spec_rules.specs.WasmSpec.MatchingTests.{World}
+use Rattle.wasm_spec_rules.specs.Attempts.{◌>>=◌, guard}
+use Rattle.wasm_operators.specs.Instructions.{Instruction}
+use Rattle.wasm_operator_steps.specs.Bodies.{Surroundings}
+use Rattle.wasm_operator_steps.specs.Machine.{State}
+use Rattle.wasm_operator_steps.specs.Actions.{Needed, Check, has, Action, need, simd, threads, vector_operators, atomic_operators}
+use Rattle.wasm_operator_steps.specs.Meanings.{is_on, holds, run}
+use Rattle.wasm_operator_steps.specs.Shapes.{shape_of}
+use Rattle.wasm_operator_steps.specs.Steps.{actions_of, is_open, step_in}
+use Rattle.wasm_operator_steps.specs.Laws.{OperatorsAreOptIn}
+
+nowhere : {X Y : Type 0} (o : Option X) (k : X → Option Y) → ((x : X) → k x ≡ None) → (o >>= k) ≡ None
+nowhere None k h = refl
+nowhere (Some x) k h = h x
+
+module _ {R : Type 0} (W : World R) (B : Surroundings R) where
+  -- actions behind a check of a feature that is off, and behind another check
+  first : (p : Needed) (rest : List Action) → is_on B.features p ≡ false → (s : State R) → run W B (need (has p) ∷ rest) s ≡ None
+  first p rest e s = rw e refl
+
+  second : (c : Check) (p : Needed) (rest : List Action) → is_on B.features p ≡ false → (s : State R) → run W B (need c ∷ need (has p) ∷ rest) s ≡ None
+  second c p rest e s = nowhere (guard (holds W B s c) s) (run W B (need (has p) ∷ rest)) (first p rest e)
+
+  step_by : (op : Instruction ℕ) → ((s : State R) → run W B (actions_of (shape_of op)) s ≡ None) → (s : State R) → step_in W B op s ≡ None
+  step_by op h s = nowhere (guard (is_open s) s) (run W B (actions_of (shape_of op))) h
+
+pub operators_are_opt_in : {R : Type 0} → OperatorsAreOptIn R
+operators_are_opt_in W B = record {
+  needs_vector_operators = λ e op values. step_by W B _ (first W B vector_operators _ e);
+  needs_simd = λ e op values. step_by W B _ (second W B (has vector_operators) simd _ e);
+  needs_atomic_operators = λ e op values. step_by W B _ (first W B atomic_operators _ e);
+  needs_threads = λ e op values. step_by W B _ (second W B (has atomic_operators) threads _ e);
+}
