@@ -469,7 +469,9 @@ def numbers():
                           ('a cast by a descriptor, fb 23', '00 fb 23 00 1a'), ('a wide sum, fc 13', '00 fc 13 1a 1a'),
                           ('a memory.discard, fc 12', '00 fc 12 00'), ('an opcode behind fb that none has', 'fb 7f'),
                           ('an opcode behind fc that none has', 'fc 7f')]:
-        case(title, with_body(b'\0' + bytes.fromhex(digits) + b'\x0b', mems=['1']), wanted='refused; missing nothing; ' + IN_BODY, own=True)
+        # operators on vectors and atomic ones have to be asked for
+        missing = 'vector_operators' if ', fd ' in title else 'atomic_operators' if ', fe ' in title else 'nothing'
+        case(title, with_body(b'\0' + bytes.fromhex(digits) + b'\x0b', mems=['1']), wanted='refused; missing %s; ' % missing + IN_BODY, own=True)
 
 
 # ------------------------------------------------------------------------------------------------- memories

@@ -306,7 +306,7 @@ fn step_by_form<A: Allocator, T: WasmModuleResources>(
 }
 
 /// An operator on vectors.
-#[tactic(auto, using(wasm_operator_checks::proofs::Acting::acts, crate::proofs::Formed::features))]
+#[tactic(auto, using(wasm_operator_checks::proofs::Acting::acts))]
 pub fn step_vector<A: Allocator, T: WasmModuleResources>(
     stacks: &mut Stacks<A>,
     resources: &T,
@@ -327,7 +327,7 @@ pub fn step_vector<A: Allocator, T: WasmModuleResources>(
 }
 
 /// An atomic operator.
-#[tactic(auto, using(wasm_operator_checks::proofs::Acting::acts, crate::proofs::Formed::features))]
+#[tactic(auto, using(wasm_operator_checks::proofs::Acting::acts))]
 pub fn step_atomic<A: Allocator, T: WasmModuleResources>(
     stacks: &mut Stacks<A>,
     resources: &T,
