@@ -1,24 +1,25 @@
 -- Laws of the steps, as facts that a contract can name.
-use Rattle.std.specs.Prelude.{◌≡◌, ◌≤◌, ℕ, Bool, true, List, ◌++◌, length, Option, Some, is_some}
+use Rattle.std.specs.Prelude.{◌≡◌, ◌≤◌, ℕ, Bool, true, false, ◌&&◌, List, ◌++◌, length, Option, Some, None, is_some}
 use Rattle.std.specs.Bool.{Decides}
 use Rattle.std.specs.Option.{option_map}
 use Rattle.wasm_spec_rules.specs.WasmSpec.Syntax.{Sub}
 use Rattle.wasm_spec_rules.specs.WasmSpec.Declared.{ancestor_at, IsAncestor}
-use Rattle.wasm_spec_rules.specs.WasmSpec.MatchingTests.{IsWorld}
+use Rattle.wasm_spec_rules.specs.WasmSpec.MatchingTests.{World, IsWorld}
 use Rattle.wasm_spec_rules.specs.Contexts.{Context}
 use Rattle.wasm_operators.specs.WasmOperatorsPlain.Numeric.{numeric_opcode}
 use Rattle.wasm_operators.specs.WasmOperatorsPlain.Signatures.{signature_at}
 use Rattle.wasm_operators.specs.WasmOperatorsPlain.declared.numeric.NumericOperator.{NumericOperator}
 use Rattle.wasm_operators.specs.Control.{Block}
 use Rattle.wasm_operators.specs.Maps.{map_block}
-use Rattle.wasm_operators.specs.Instructions.{Instruction, numeric}
+use Rattle.wasm_operators.specs.Legacy.{Legacy}
+use Rattle.wasm_operators.specs.Instructions.{Instruction, numeric, legacy}
 use Rattle.wasm_spec_rules.specs.Worlds.{declared_in, world_of}
 use Rattle.wasm_operator_steps.specs.Bodies.{Surroundings, map_surroundings}
 use Rattle.wasm_operator_steps.specs.Machine.{State, map_state}
 use Rattle.wasm_operator_steps.specs.Identities.{refs_surroundings, refs_state, refs_block, IsOneToOneOn}
 use Rattle.wasm_operator_steps.specs.ConstantExpressions.{gives_reference, takes_no_reference, is_number, GivesOne, GivesOneReference}
 use Rattle.wasm_operator_steps.specs.Shapes.{computing, shape_of}
-use Rattle.wasm_operator_steps.specs.Steps.{step, steps, is_typed}
+use Rattle.wasm_operator_steps.specs.Steps.{step_in, step, steps, is_typed}
 
 -- A step, a run of steps and a finish over renamed identities are those over the identities themselves, renamed.
 pub record AreRenamed {R S : Type 0} (same : R → R → Bool) (renamed : S → S → Bool) (f : R → S) (B : Surroundings R) : Type 0 where
@@ -50,6 +51,11 @@ VerdictsRename R S = Discrete R → (same : R → R → Bool) (renamed : S → S
 -- A numeric instruction checks, takes and gives what the table of signatures says of its opcode.
 abbrev pub NumericShapesByOpcode : Type 0
 NumericShapesByOpcode = (op : NumericOperator) → option_map computing (signature_at (numeric_opcode op)) ≡ Some (shape_of (numeric op))
+
+-- Without their feature, or without that of exceptions, no step is taken by an operator of the legacy exception-handling proposal.
+abbrev pub LegacyNeedsFeatures : (R : Type 0) → Type 0
+LegacyNeedsFeatures R =
+    (W : World R) (B : Surroundings R) (op : Legacy ℕ) (s : State R) → (B.features.legacy_exceptions && B.features.exceptions) ≡ false → step_in W B (legacy op) s ≡ None
 
 -- Of the instructions of constant expressions some give exactly one reference each, and the others take none.
 pub record ReferencesAreCounted {R : Type 0} (same : R → R → Bool) (B : Surroundings R) : Type 0 where

@@ -10,6 +10,7 @@ mod counts;
 mod frame_stack;
 mod heap;
 mod laws;
+mod legacy;
 mod module;
 mod operators;
 mod queries;

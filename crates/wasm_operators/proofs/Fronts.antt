@@ -11,6 +11,7 @@ use Rattle.wasm_operators_plain.specs.declared.memories.MemoryOperator.{MemoryOp
 use Rattle.wasm_operators_plain.proofs.Fronts.{u32-reads, one_index-reads, two_indices-reads, memarg-reads, call-reads, variable-reads, table_access-reads, table-reads, memory_size-reads, memory-reads, constant-reads, vector-reads, struct-reads, array-reads}
 use Rattle.wasm_operators.specs.References.{cast_flags_from, cast_flags_at, branch_at, reference_from, cast_from}
 use Rattle.wasm_operators.specs.Control.{catch_at, br_table_at, try_table_at, block_at, control_from, parametric_from}
+use Rattle.wasm_operators.specs.Legacy.{legacy_from}
 use Rattle.wasm_operators.specs.Instructions.{with_memarg, aggregate_from, bulk_from, prefixed_from, plain_from, instruction_at}
 
 module _ {more : List ℕ} where
@@ -77,6 +78,16 @@ module _ {more : List ℕ} where
         (reads_if (b == 0x1f) (reads_weaken (reads_map _ (try_table-reads bytes)))
         reads_none)))))))))))))
 
+    legacy-reads : (b : ℕ) (bytes : List ℕ) → Reads more 0 bytes (legacy_from to b bytes) (legacy_from to b (bytes ++ more))
+    unfolding legacy_from
+    legacy-reads b bytes =
+        reads_if (b == 0x06) (reads_weaken (reads_map _ (block-reads bytes)))
+        (reads_if (b == 0x07) (one_index-reads _ bytes)
+        (reads_if (b == 0x09) (one_index-reads _ bytes)
+        (reads_if (b == 0x18) (one_index-reads _ bytes)
+        (reads_if (b == 0x19) reads_here
+        reads_none))))
+
     parametric-reads : (b : ℕ) (bytes : List ℕ) → Reads more 0 bytes (parametric_from to b bytes) (parametric_from to b (bytes ++ more))
     unfolding parametric_from
     parametric-reads b bytes =
@@ -127,8 +138,13 @@ module _ {more : List ℕ} where
     plain-reads : (b : ℕ) (bytes : List ℕ) → Reads more 0 bytes (plain_from to b bytes) (plain_from to b (bytes ++ more))
     unfolding plain_from
     plain-reads b bytes =
-        reads_if (nat_lt b 0x10) (reads_map _ (control-reads b bytes))
-        (reads_if (nat_lt b 0x1a) (reads_map _ (call-reads b bytes))
+        reads_if (nat_lt b 0x06) (reads_map _ (control-reads b bytes))
+        (reads_if (nat_lt b 0x08) (reads_map _ (legacy-reads b bytes))
+        (reads_if (nat_lt b 0x09) (reads_map _ (control-reads b bytes))
+        (reads_if (nat_lt b 0x0a) (reads_map _ (legacy-reads b bytes))
+        (reads_if (nat_lt b 0x10) (reads_map _ (control-reads b bytes))
+        (reads_if (nat_lt b 0x18) (reads_map _ (call-reads b bytes))
+        (reads_if (nat_lt b 0x1a) (reads_map _ (legacy-reads b bytes))
         (reads_if (nat_lt b 0x1f) (reads_map _ (parametric-reads b bytes))
         (reads_if (nat_lt b 0x20) (reads_map _ (control-reads b bytes))
         (reads_if (nat_lt b 0x25) (reads_map _ (variable-reads b bytes))
@@ -137,7 +153,7 @@ module _ {more : List ℕ} where
         (reads_if (nat_lt b 0x41) (reads_map _ (memory_size-reads b bytes))
         (reads_if (nat_lt b 0x45) (reads_map _ (constant-reads b bytes))
         (reads_if (nat_lt b 0xd0) (reads_value _ (numeric_from b))
-        (reads_map _ (reference-reads b bytes)))))))))))
+        (reads_map _ (reference-reads b bytes))))))))))))))))
 
     prefixed-reads : (b n : ℕ) (bytes : List ℕ) → Reads more 0 bytes (prefixed_from to b n bytes) (prefixed_from to b n (bytes ++ more))
     unfolding prefixed_from

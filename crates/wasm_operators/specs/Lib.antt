@@ -4,6 +4,8 @@ pub mod SeenReferences
 pub mod SeenLists
 pub mod Control
 pub mod SeenControl
+pub mod Legacy
+pub mod SeenLegacy
 pub mod Instructions
 pub mod SeenOperators
 pub mod Expressions

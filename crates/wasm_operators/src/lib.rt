@@ -5,6 +5,7 @@ mod control;
 mod expressions;
 mod frequent;
 pub mod laws;
+mod legacy;
 mod lists;
 mod operators;
 mod references;
@@ -14,6 +15,7 @@ pub use control::{
     read_block_type,
 };
 pub use expressions::read_expression;
+pub use legacy::LegacyOperator;
 pub use lists::{Immediate, Listed, ListedItems, read_listed};
 pub use operators::{Operator, read_operator};
 pub use references::{CastOperator, ReferenceOperator};

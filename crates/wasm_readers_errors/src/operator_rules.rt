@@ -139,6 +139,16 @@ pub enum OperatorRule {
     SharedEverything,
     /// An operator needs `CUSTOM_DESCRIPTORS`.
     CustomDescriptors,
+    /// The operator of this opcode needs `LEGACY_EXCEPTIONS`.
+    LegacyExceptions,
+    /// `catch` stands behind no `try` or `catch`.
+    CatchOutsideTry,
+    /// `catch_all` stands behind no `try` or `catch`.
+    CatchAllOutsideTry,
+    /// `delegate` stands in no `try`, or behind a `catch` of it.
+    DelegateOutsideTry,
+    /// `rethrow` names a label of what has caught nothing.
+    RethrowLabel,
 }
 
 /// The items of a module, and of a function, that an operator names by an index.
@@ -184,6 +194,7 @@ impl OperatorRule {
             OperatorRule::SharedEverything => Some(WasmFeatures::SHARED_EVERYTHING_THREADS),
             OperatorRule::CustomDescriptors => Some(WasmFeatures::CUSTOM_DESCRIPTORS),
             OperatorRule::LocalGlobal => Some(WasmFeatures::GC),
+            OperatorRule::LegacyExceptions => Some(WasmFeatures::LEGACY_EXCEPTIONS),
             _ => None,
         }
     }
@@ -275,6 +286,12 @@ impl OperatorRule {
             OperatorRule::Gc => "gc support is not enabled",
             OperatorRule::SharedEverything => "shared-everything-threads support is not enabled",
             OperatorRule::CustomDescriptors => "custom descriptors support is not enabled",
+            OperatorRule::LegacyExceptions => "illegal opcode",
+            OperatorRule::CatchOutsideTry => "catch found outside of a `try` block",
+            OperatorRule::CatchAllOutsideTry => "catch_all found outside of a `try` block",
+            OperatorRule::DelegateOutsideTry => "delegate found outside of a `try` block",
+            OperatorRule::RethrowLabel =>
+                "invalid rethrow label: target was not a `catch` block",
             _ => "invalid operator",
         }
     }
@@ -293,6 +310,7 @@ impl OperatorRule {
                 let text = self.text();
                 match self {
                     OperatorRule::UnsetLocal => write!(f, "{text}: {number}"),
+                    OperatorRule::LegacyExceptions => write!(f, "{text} 0x{number:02x}"),
                     OperatorRule::NotAFunction
                     | OperatorRule::NotAStruct
                     | OperatorRule::NotAnArray => write!(f, "{text} at index {number}"),

@@ -244,6 +244,9 @@ module _ {R : Type 0} {W : World R} {B : Surroundings R} (P : Place W B) where
   act-at turn_to_else p w = absurd w
   act-at leave p w = absurd w
   act-at (enter k b) p w = absurd w
+  act-at (turn_to_catch t k) p w = absurd w
+  act-at (find_outside n) p w = absurd w
+  act-at (find_caught n) p w = absurd w
 
   abbrev pub AllWithin : List Action → Type 0
   AllWithin [] = Unit {0}

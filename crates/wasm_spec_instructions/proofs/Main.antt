@@ -71,9 +71,9 @@ typed :
     {R : Type 0} (m : Mode) (W : World R) (B : Surroundings R) (b : Block R) (g : Signature R) (ops : List (Instruction ℕ)) → IsInOrder W → Allows W B m → IsPlain W m (body_scope g.gives)
     → block_signature W B b ≡ Some g → AllServed m ops → passes is_finished (steps_in W B ops (start b)) ≡ true → IsTypedExpression W B g.gives ops
 unfolding Sound
-typed {R} m W B b g ops o u n e s h =
+typed {R} m W B b g ops o u n e s l h =
     let a = passes-gives is_finished (steps_in W B ops (start b)) h in
-    let p = parsed W B b g e ops a.0 a.1 a.2 in
+    let p = parsed W B b g e ops a.0 l a.1 a.2 in
     let d : (check W B (body_scope g.gives) p.0 (stack [] false []) >>= λ q. lend W g.gives q >>= λ z. Some (left W B b g e)) ≡ Some a.0 =
     sym (whole W B b g e p.0 p.1) ∙ ap (λ (xs : List (Instruction ℕ)). steps_in W B xs (start b)) (sym p.2) ∙ a.1 in
     let f = bind-gives (check W B (body_scope g.gives) p.0 (stack [] false [])) (λ q. lend W g.gives q >>= λ z. Some (left W B b g e)) a.0 d in
@@ -89,7 +89,32 @@ typed {R} m W B b g ops o u n e s h =
     }
 
 pub soundness : (R : Type 0) → Soundness R
-soundness R W B b g ops o e m h = typed (without m.0) W B b g ops o tt tt e (served-without m.0 ops m.1) h
+soundness R W B b g ops o e m l h = typed (without m.0) W B b g ops o tt tt e (served-without m.0 ops m.1) l h
 
 pub soundness_without_sharing : (R : Type 0) → SoundnessWithoutSharing R
-soundness_without_sharing R W B b g ops o u n e h = typed unshared W B b g ops o u (n, tt) e (served-unshared ops) h
+soundness_without_sharing R W B b g ops o u n l e h = typed unshared W B b g ops o u (n, tt) e (served-unshared ops) l h
+
+-- without their feature no operator of legacy exceptions is accepted
+module _ {R : Type 0} (W : World R) (B : Surroundings R) (off : B.features.legacy_exceptions ≡ false) where
+  without_both : (b : Bool) → (B.features.legacy_exceptions && b) ≡ false
+  without_both b = ap (λ (x : Bool). x && b) off
+
+  each-without : (i : Instruction ℕ) → View i → (s t : State R) → step_in W B i s ≡ Some t → is_legacy i ≡ false
+  each-without i (is_plain w) s t e = refl
+  each-without i (is_opening o) s t e = opened o
+    where
+      opened : (o : Opening) → is_legacy (written o) ≡ false
+      opened (a_block b) = refl
+      opened (a_loop b) = refl
+      opened (an_if b) = refl
+      opened (a_try_table b cs) = refl
+  each-without i is_else s t e = refl
+  each-without i is_end s t e = refl
+  each-without i (is_of_legacy op) s t e = absurd (absent t (sym (legacy_needs_features W B op s (without_both B.features.exceptions)) ∙ e))
+
+  all-without : (ops : List (Instruction ℕ)) (s t : State R) → steps_in W B ops s ≡ Some t → AreWithoutLegacy ops
+  all-without [] s t e = tt
+  all-without (i ∷ ops) s t e = let a = bind-gives (step_in W B i s) (steps_in W B ops) t e in (each-without i (view i) s a.0 a.1, all-without ops a.0 t a.2)
+
+pub accepted_code_is_without_legacy : (R : Type 0) → AcceptedCodeIsWithoutLegacy R
+accepted_code_is_without_legacy R W B ops s t off e = all-without W B off ops s t e

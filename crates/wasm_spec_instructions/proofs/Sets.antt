@@ -151,6 +151,9 @@ module _ {R : Type 0} (W : World R) (B : Surroundings R) where
     act-same turn_to_else p q e = absurd (absent q e)
     act-same leave p q e = absurd (absent q e)
     act-same (enter k b) p q e = absurd (absent q e)
+    act-same (turn_to_catch t k) p q e = absurd (absent q e)
+    act-same (find_outside n) p q e = absurd (absent q e)
+    act-same (find_caught n) p q e = absurd (absent q e)
     act-same (take t) p q e = let f = bind-gives (types_in W B C.labels C.returns t) (λ (vs : List (Val R)). lpops W vs p) q e in kept p q (pops-sets W f.0 p q f.2)
     act-same (give t) p q e = let f = bind-gives (types_in W B C.labels C.returns t) (λ (vs : List (Val R)). Some (lpush vs p)) q e in kept p q (same_sets (lpush f.0 p) q (the_same (lpush f.0 p) q f.2))
     act-same take_any p q e =
@@ -228,6 +231,9 @@ module _ {R : Type 0} (W : World R) (B : Surroundings R) where
     shape-adds (measuring cs k t) = checked-adds cs (take_below k ∷ give t ∷ []) refl
     shape-adds (comparing cs t) = checked-adds cs (take_comparable ∷ give t ∷ []) refl
     shape-adds (converting cs j k) = checked-adds cs (convert j k ∷ []) refl
+    shape-adds (catching cs t k) = checked-adds cs (turn_to_catch t k ∷ []) refl
+    shape-adds (delegating cs l) = checked-adds cs (find_outside l ∷ leave ∷ []) refl
+    shape-adds (rethrowing cs l) = checked-adds cs (find_caught l ∷ stop ∷ []) refl
 
     pub simple-same : (s : Shape) (p q : Stack R) → lrun W B C (actions_of s) p ≡ Some q → Same (q.sets ++ C.sets) (sets_of s ++ (p.sets ++ C.sets))
     simple-same s p q e = λ m. run-same (actions_of s) p q e m ∙ ap (λ (is : List ℕ). is_set W B m (is ++ (p.sets ++ C.sets))) (shape-adds s)

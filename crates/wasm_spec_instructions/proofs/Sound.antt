@@ -423,6 +423,9 @@ module _ {R : Type 0} (W : World R) (o : IsInOrder W) (B : Surroundings R) (C : 
   rule-sound (opening cs t k b) p q zs i t₀ v e h = no i
   rule-sound closing p q zs i t₀ v e h = no i
   rule-sound turning p q zs i t₀ v e h = no i
+  rule-sound (catching cs t k) p q zs i t₀ v e h = no i
+  rule-sound (delegating cs l) p q zs i t₀ v e h = no i
+  rule-sound (rethrowing cs l) p q zs i t₀ v e h = no i
   rule-sound dropping p q zs i t₀ v e h = dropping-sound p q zs e h
   rule-sound choosing p q zs i t₀ v e h = choosing-sound p q zs e h
   rule-sound never p q zs i t₀ v e h = absurd (absent q e)

@@ -46,6 +46,9 @@ module _ {R : Type 0} {W : World R} {B : Surroundings R} where
   simple-within P (opening cs t k b) e = no e
   simple-within P closing e = no e
   simple-within P turning e = no e
+  simple-within P (catching cs t k) e = no e
+  simple-within P (delegating cs l) e = no e
+  simple-within P (rethrowing cs l) e = no e
 
   -- a block is entered
   open-at :

@@ -141,6 +141,9 @@ module _ {R : Type 0} (W : World R) (B : Surroundings R) where
   IsWithin turn_to_else = ⊥
   IsWithin leave = ⊥
   IsWithin (enter k b) = ⊥
+  IsWithin (turn_to_catch t k) = ⊥
+  IsWithin (find_outside n) = ⊥
+  IsWithin (find_caught n) = ⊥
   IsWithin _ = Unit {0}
 
   abbrev pub lact : Scope R → Action → Stack R → Option (Stack R)
@@ -162,6 +165,9 @@ module _ {R : Type 0} (W : World R) (B : Surroundings R) where
   lact C turn_to_else p = None
   lact C leave p = None
   lact C (enter k b) p = None
+  lact C (turn_to_catch t k) p = None
+  lact C (find_outside n) p = None
+  lact C (find_caught n) p = None
 
   abbrev pub lrun : Scope R → List Action → Stack R → Option (Stack R)
   lrun C [] p = Some p
