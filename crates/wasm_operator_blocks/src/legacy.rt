@@ -217,25 +217,14 @@ fn rethrow<A: Allocator, T: WasmModuleResources>(
     }
 }
 
-/// The opcode of an operator.
-fn opcode_of(op: LegacyOperator) -> u32 {
-    match op {
-        LegacyOperator::Try { .. } => 0x06,
-        LegacyOperator::Catch { .. } => 0x07,
-        LegacyOperator::Rethrow { .. } => 0x09,
-        LegacyOperator::Delegate { .. } => 0x18,
-        LegacyOperator::CatchAll => 0x19,
-    }
-}
-
 /// Whether both proposals are on that the operators need. Without `LEGACY_EXCEPTIONS` this opcode is
 /// none.
-fn check_features<A: Allocator>(stacks: &Stacks<A>, opcode: u32) -> Result<(), OperatorFault>
+fn check_features<A: Allocator>(stacks: &Stacks<A>, opcode: u8) -> Result<(), OperatorFault>
     ensures ok { OnOk result (are_on (features_of stacks.now.features) ≡ true) }
     ensures err { OnErr result (are_on (features_of stacks.now.features) ≡ false) }
 {
     if !has(stacks, WasmFeatures::LEGACY_EXCEPTIONS) {
-        return Err(OperatorFault::at(OperatorRule::LegacyExceptions, opcode));
+        return Err(OperatorFault::at(OperatorRule::LegacyExceptions, opcode as u32));
     }
     if !has(stacks, WasmFeatures::EXCEPTIONS) {
         return Err(OperatorFault::new(OperatorRule::Exceptions));
@@ -288,7 +277,7 @@ pub fn step_legacy<A: Allocator, T: WasmModuleResources>(
         (legacy_shape (legacy_written op)) stacks.old stacks.new }
     ensures same { Kept stacks.old stacks.new }
 {
-    match check_features(stacks, opcode_of(op)) {
+    match check_features(stacks, op.opcode()) {
         Ok(()) => step_enabled(stacks, resources, op),
         Err(fault) => Err(OperatorError::Refused(fault)),
     }

@@ -11,6 +11,13 @@ pub data Legacy (R : Type 0) : Type 0 where
   catch_ rethrow delegate : ℕ → Legacy R
   catch_all : Legacy R
 
+abbrev pub legacy_opcode : {R : Type 0} → Legacy R → ℕ
+legacy_opcode (try_ b) = 0x06
+legacy_opcode (catch_ x) = 0x07
+legacy_opcode (rethrow l) = 0x09
+legacy_opcode (delegate l) = 0x18
+legacy_opcode catch_all = 0x19
+
 module _ {R : Type 0} (to : ℕ → R) where
   -- by their byte
   unfoldable pub legacy_from : ℕ → List ℕ → Option (Legacy R × List ℕ)

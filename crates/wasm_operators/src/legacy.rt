@@ -28,6 +28,25 @@ pub enum LegacyOperator {
     CatchAll,
 }
 
+impl LegacyOperator {
+    ghost use Rattle.std.specs.Prelude.{◌≡◌};
+    ghost use Rattle.wasm_operators.specs.Legacy.{legacy_opcode};
+    ghost use Rattle.wasm_operators.specs.SeenLegacy.{legacy_of};
+
+    /// The opcode, a byte.
+    pub fn opcode(self) -> u8
+        ensures { result ≡ legacy_opcode (legacy_of self) }
+    {
+        match self {
+            LegacyOperator::Try { .. } => 0x06,
+            LegacyOperator::Catch { .. } => 0x07,
+            LegacyOperator::Rethrow { .. } => 0x09,
+            LegacyOperator::Delegate { .. } => 0x18,
+            LegacyOperator::CatchAll => 0x19,
+        }
+    }
+}
+
 /// The operator of legacy exceptions of this opcode, which stood at this offset.
 #[tactic(auto, unfolding(crate::specs::Legacy::legacy_from))]
 pub(crate) fn read_legacy(

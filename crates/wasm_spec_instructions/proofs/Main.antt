@@ -1,21 +1,24 @@
 -- The machine accepts exactly what the rules type.
-use Rattle.std.proofs.Common.{◌≡◌, refl, sym, ap, subst, ◌∙◌, ℕ, Bool, true, false, List, [], ◌∷◌, ◌++◌, Some}
+use Rattle.std.proofs.Common.{◌≡◌, refl, sym, ap, subst, ◌∙◌, ℕ, Bool, true, false, ◌&&◌, List, [], ◌∷◌, ◌++◌, Some}
 use Rattle.wasm_operator_steps.specs.WasmSpecRules.WasmSpec.Syntax.{Val}
 use Rattle.wasm_operator_steps.specs.WasmSpecRules.WasmSpec.MatchingTests.{World}
 use Rattle.wasm_operator_steps.specs.WasmSpecRules.Attempts.{◌>>=◌, passes}
 use Rattle.wasm_operator_steps.specs.WasmSpecRules.Signatures.{Signature}
 use Rattle.wasm_operators.specs.Control.{Block}
+use Rattle.wasm_operators.specs.Instructions as instruction
 use Rattle.wasm_operators.specs.Instructions.{Instruction}
 use Rattle.wasm_operator_steps.specs.Bodies.{Surroundings}
 use Rattle.wasm_operator_steps.specs.Meanings.{block_signature}
 use Rattle.wasm_operator_steps.specs.Shapes.{shape_of}
-use Rattle.wasm_operator_steps.specs.Steps.{is_finished, start, steps_in}
+use Rattle.wasm_operator_steps.specs.Steps.{is_finished, start, step_in, steps_in}
+use Rattle.wasm_operator_steps.specs.Machine.{State}
+use Rattle.wasm_operator_steps.proofs.LegacyRuns.{legacy_needs_features}
 use Rattle.wasm_spec_instructions.specs.Code.{Code, else_, done, simply, enclosing, choosing_between, end_, flatten, IsProper}
 use Rattle.wasm_spec_instructions.specs.ValueTypes.{ValueType, vals, IsInOrder}
 use Rattle.wasm_spec_instructions.specs.Expressions.{body_scope, IsTypedExpression}
 use Rattle.wasm_spec_instructions.specs.Sequences.{Typed}
-use Rattle.wasm_spec_instructions.specs.Laws.{AreServedAs, Soundness, SoundnessWithoutSharing, Completeness}
-use Rattle.wasm_spec_instructions.proofs.Attempts.{bind-at, bind-gives, passes-gives}
+use Rattle.wasm_spec_instructions.specs.Laws.{AreServedAs, is_legacy, AreWithoutLegacy, AcceptedCodeIsWithoutLegacy, Soundness, SoundnessWithoutSharing, Completeness}
+use Rattle.wasm_spec_instructions.proofs.Attempts.{absent, bind-at, bind-gives, passes-gives}
 use Rattle.wasm_spec_instructions.proofs.Within.{stack, lend, check}
 use Rattle.wasm_spec_instructions.proofs.Outer.{left, whole}
 use Rattle.wasm_spec_instructions.proofs.Fits.{onto, rev, rev-rev, empty-fits, end-complete, end-sound}
@@ -69,7 +72,7 @@ from_nothing {R} W o B rs c f =
 
 typed :
     {R : Type 0} (m : Mode) (W : World R) (B : Surroundings R) (b : Block R) (g : Signature R) (ops : List (Instruction ℕ)) → IsInOrder W → Allows W B m → IsPlain W m (body_scope g.gives)
-    → block_signature W B b ≡ Some g → AllServed m ops → passes is_finished (steps_in W B ops (start b)) ≡ true → IsTypedExpression W B g.gives ops
+    → block_signature W B b ≡ Some g → AllServed m ops → AreWithoutLegacy ops → passes is_finished (steps_in W B ops (start b)) ≡ true → IsTypedExpression W B g.gives ops
 unfolding Sound
 typed {R} m W B b g ops o u n e s l h =
     let a = passes-gives is_finished (steps_in W B ops (start b)) h in
@@ -99,22 +102,13 @@ module _ {R : Type 0} (W : World R) (B : Surroundings R) (off : B.features.legac
   without_both : (b : Bool) → (B.features.legacy_exceptions && b) ≡ false
   without_both b = ap (λ (x : Bool). x && b) off
 
-  each-without : (i : Instruction ℕ) → View i → (s t : State R) → step_in W B i s ≡ Some t → is_legacy i ≡ false
-  each-without i (is_plain w) s t e = refl
-  each-without i (is_opening o) s t e = opened o
-    where
-      opened : (o : Opening) → is_legacy (written o) ≡ false
-      opened (a_block b) = refl
-      opened (a_loop b) = refl
-      opened (an_if b) = refl
-      opened (a_try_table b cs) = refl
-  each-without i is_else s t e = refl
-  each-without i is_end s t e = refl
-  each-without i (is_of_legacy op) s t e = absurd (absent t (sym (legacy_needs_features W B op s (without_both B.features.exceptions)) ∙ e))
+  each-without : (i : Instruction ℕ) (s t : State R) → step_in W B i s ≡ Some t → is_legacy i ≡ false
+  each-without (instruction.legacy op) s t e = absurd (absent t (sym (legacy_needs_features W B op s (without_both B.features.exceptions)) ∙ e))
+  each-without _ s t e = refl
 
   all-without : (ops : List (Instruction ℕ)) (s t : State R) → steps_in W B ops s ≡ Some t → AreWithoutLegacy ops
   all-without [] s t e = tt
-  all-without (i ∷ ops) s t e = let a = bind-gives (step_in W B i s) (steps_in W B ops) t e in (each-without i (view i) s a.0 a.1, all-without ops a.0 t a.2)
+  all-without (i ∷ ops) s t e = let a = bind-gives (step_in W B i s) (steps_in W B ops) t e in (each-without i s a.0 a.1, all-without ops a.0 t a.2)
 
 pub accepted_code_is_without_legacy : (R : Type 0) → AcceptedCodeIsWithoutLegacy R
 accepted_code_is_without_legacy R W B ops s t off e = all-without W B off ops s t e

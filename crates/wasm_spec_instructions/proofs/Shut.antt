@@ -4,8 +4,8 @@ use Rattle.wasm_operator_steps.specs.WasmSpecRules.WasmSpec.Syntax.{eq_heap, Val
 use Rattle.wasm_operator_steps.specs.WasmSpecRules.WasmSpec.MatchingTests.{World}
 use Rattle.wasm_operator_steps.specs.Bodies.{Surroundings}
 use Rattle.wasm_operator_steps.specs.Machine.{Operand, bottom, bottom_reference, open_reference, known, pushed_onto, as_reference, non_null, same_number, chosen, matches_operand}
-use Rattle.wasm_operator_steps.specs.Actions.{OperandTypes, Check, Action, need, refuse, take, give, take_any, take_reference, take_comparable, make_non_null, choose, stop, turn_to_else, leave, take_below, convert, enter, set, branch_on_null, branch_to_one_of}
-use Rattle.wasm_operator_steps.specs.Shapes.{Shape, plain, ending, opening, closing, turning, dropping, choosing, never, testing_null, asserting_non_null, branching_on_null, branching_on_non_null, branching_by_table, setting, giving_back, measuring, comparing, converting}
+use Rattle.wasm_operator_steps.specs.Actions.{OperandTypes, Check, Action, need, refuse, take, give, take_any, take_reference, take_comparable, make_non_null, choose, stop, turn_to_else, leave, take_below, convert, enter, set, branch_on_null, branch_to_one_of, turn_to_catch, find_outside, find_caught}
+use Rattle.wasm_operator_steps.specs.Shapes.{Shape, plain, ending, opening, closing, turning, dropping, choosing, never, testing_null, asserting_non_null, branching_on_null, branching_on_non_null, branching_by_table, setting, giving_back, measuring, comparing, converting, catching, delegating, rethrowing}
 use Rattle.wasm_operator_steps.specs.Meanings.{is_below_either, agree}
 use Rattle.wasm_operator_steps.specs.Steps.{actions_of, checked}
 use Rattle.wasm_spec_instructions.specs.Scopes.{Scope, types_in, holds_in}

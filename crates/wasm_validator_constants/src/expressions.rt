@@ -15,18 +15,30 @@ ghost use Rattle.wasm_validator_constants.specs.Constants.{constant_step, consta
 ghost use Rattle.wasm_operator_validator.specs.Checked.{within, IsRefusedAt, StandsIn, TookAt, ReadsTo};
 
 use crate::operators::{gated_constant, is_constant, reads_constants};
+use bitflags::Flags;
 use std::alloc::{AllocError, Allocator};
 use wasm_operator_validator::OperatorValidator;
 use wasm_operators::operators_plain::VariableOperator;
 use wasm_operators::{Operator, ReferenceOperator, read_operator};
 use wasm_readers::BinaryReader;
-use wasm_readers::readers_errors::{Error, Fault, OperatorRule, Refusal};
+use wasm_readers::readers_errors::{Error, Fault, OperatorRule, Refusal, WasmFeatures};
 use wasm_validator_references::NotesFunctions;
 use wasm_validator_resources::WasmModuleResources;
 
+/// The rule against an operator that no constant expression has, and its number. Without
+/// `LEGACY_EXCEPTIONS` the opcodes of that proposal are none.
+fn rule_against<'a>(features: WasmFeatures, op: &Operator<'a>) -> (OperatorRule, u32) {
+    match *op {
+        Operator::Legacy(op) if !features.contains(WasmFeatures::LEGACY_EXCEPTIONS) => {
+            (OperatorRule::LegacyExceptions, op.opcode() as u32)
+        }
+        _ => (OperatorRule::NotConstant, 0),
+    }
+}
+
 /// The refusal of an operator that a constant expression doesn't have, at this offset.
 #[inline(never)]
-fn not_constant<'a>(op: &Operator<'a>, offset: u64) -> Error
+fn not_constant<'a>(features: WasmFeatures, op: &Operator<'a>, offset: u64) -> Error
     ensures { IsRefusedAt offset result }
 {
     match gated_constant(op) {
@@ -35,7 +47,14 @@ fn not_constant<'a>(op: &Operator<'a>, offset: u64) -> Error
             offset,
             gated.feature(),
         )),
-        None => Error::Refused(Refusal::new(Fault::Operator(OperatorRule::NotConstant, 0), offset)),
+        None => {
+            let (rule, number) = rule_against(features, op);
+            Error::Refused(Refusal {
+                fault: Fault::Operator(rule, number),
+                offset,
+                missing: rule.missing(),
+            })
+        }
     }
 }
 
@@ -89,7 +108,7 @@ pub fn check_constant_operator<'a, A: Allocator, T: WasmModuleResources>(
 {
     let features = *validator.features();
     if !is_constant(features, op) {
-        return Err(not_constant(op, offset));
+        return Err(not_constant(features, op, offset));
     }
     if !reads_constants(features, resources, imported_globals, op) {
         return Err(not_readable(resources, op, offset));
