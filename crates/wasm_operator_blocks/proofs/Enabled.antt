@@ -1,5 +1,5 @@
 -- The operators of legacy exceptions: labels that they find, and the features that they need.
-use Rattle.std.proofs.Common.{◌≡◌, refl, ◌∙◌, ap, arith, ℕ, suc, ◌+◌, Bool, true, false, ◌&&◌, List, [], ◌∷◌}
+use Rattle.std.proofs.Common.{◌≡◌, refl, ◌∙◌, ap, arith, ℕ, suc, ◌+◌, Bool, true, false, ◌&&◌, List, [], ◌∷◌, map}
 use Rattle.std.specs.Option.{option_map}
 use Rattle.std.specs.Prelude.{Option, Some, None, is_some, slice_get, Result}
 use Rattle.wasm_spec_rules.specs.FeatureFlags.{features_of}
@@ -33,11 +33,17 @@ outside_no_try true x xs n e = rw e refl
 outside_no_try false x xs n e = refl
 
 pub outside_found : (b : Bool) (x y : Frame) (xs : List Frame) (n : ℕ) → b ≡ true → is_try (kind_of x.kind) ≡ true → option_map frame_of (Some y) ≡ slice_get (frames_seen b x xs) (n + 1) → delegates (frames_seen b x xs) n ≡ true
-outside_found true x y xs n e f h = let q : n + 1 ≡ suc n = omega arith in rw (f, ← (h ∙ ap (slice_get (frames_seen true x xs)) q)) refl
+outside_found true x y xs n e f h =
+    let q : n + 1 ≡ suc n = omega arith in
+    let p : Some (frame_of y) ≡ slice_get (map frame_of xs) n = h ∙ ap (slice_get (frames_seen true x xs)) q in
+    rw (f, ← p) refl
 outside_found false x y xs n e f h = cc
 
 pub outside_past : (b : Bool) (x : Frame) (xs : List Frame) (n : ℕ) → b ≡ true → is_try (kind_of x.kind) ≡ true → option_map frame_of None ≡ slice_get (frames_seen b x xs) (n + 1) → delegates (frames_seen b x xs) n ≡ false
-outside_past true x xs n e f h = let q : n + 1 ≡ suc n = omega arith in rw (f, ← (h ∙ ap (slice_get (frames_seen true x xs)) q)) refl
+outside_past true x xs n e f h =
+    let q : n + 1 ≡ suc n = omega arith in
+    let p : None ≡ slice_get (map frame_of xs) n = h ∙ ap (slice_get (frames_seen true x xs)) q in
+    rw (f, ← p) refl
 outside_past false x xs n e f h = cc
 
 pub ruleset outside = (outside_nowhere, outside_no_try, outside_found, outside_past)

@@ -82,21 +82,21 @@ module _ {A : Type 0} (v : Stacks A) (C : Context UnpackedIndex) (test : Kind �
   abbrev here : Option (State UnpackedIndex)
   here = replaced (world C) (around v C) test k starts (frame_of v.frame) (map frame_of v.outer) (state_of v)
 
-  abbrev declared : Option (Signature UnpackedIndex)
-  declared = signature_in C (block_in v.frame.block)
+  abbrev type_here : Option (Signature UnpackedIndex)
+  type_here = signature_in C (block_in v.frame.block)
 
-  here_unsigned : declared ≡ None → here ≡ None
+  here_unsigned : type_here ≡ None → here ≡ None
   here_unsigned e = unsigned_replaced (world C) (around v C) test k starts (frame_of v.frame) (map frame_of v.outer) (state_of v) (same_signature v C (block_in v.frame.block) ∙ e)
 
-  here_not_popped : (g : Signature UnpackedIndex) → declared ≡ Some g → pop_vals (world C) g.gives (state_of v) ≡ None → here ≡ None
+  here_not_popped : (g : Signature UnpackedIndex) → type_here ≡ Some g → pop_vals (world C) g.gives (state_of v) ≡ None → here ≡ None
   here_not_popped g e h = not_popped (world C) (around v C) test k starts (frame_of v.frame) (map frame_of v.outer) (state_of v) g (same_signature v C (block_in v.frame.block) ∙ e) h
 
-  here_high : (g : Signature UnpackedIndex) (n : ℕ) → declared ≡ Some g → pop_vals (world C) g.gives (state_of v) ≡ Some (below n (state_of v)) → length v.operands - n ≢ v.frame.height → here ≡ None
+  here_high : (g : Signature UnpackedIndex) (n : ℕ) → type_here ≡ Some g → pop_vals (world C) g.gives (state_of v) ≡ Some (below n (state_of v)) → length v.operands - n ≢ v.frame.height → here ≡ None
   here_high g n e h d =
       too_high (world C) (around v C) test k starts (frame_of v.frame) (map frame_of v.outer) (state_of v) g (below n (state_of v)) (same_signature v C (block_in v.frame.block) ∙ e) h
       (differ _ _ (λ p. d (sym (height_of v.operands n) ∙ p)))
 
-  here_other : (g : Signature UnpackedIndex) (n : ℕ) → declared ≡ Some g → pop_vals (world C) g.gives (state_of v) ≡ Some (below n (state_of v)) → length v.operands - n ≡ v.frame.height → test (kind_of v.frame.kind) ≡ false → here ≡ None
+  here_other : (g : Signature UnpackedIndex) (n : ℕ) → type_here ≡ Some g → pop_vals (world C) g.gives (state_of v) ≡ Some (below n (state_of v)) → length v.operands - n ≡ v.frame.height → test (kind_of v.frame.kind) ≡ false → here ≡ None
   here_other g n e h d i =
       other_kind (world C) (around v C) test k starts (frame_of v.frame) (map frame_of v.outer) (state_of v) g (below n (state_of v)) (same_signature v C (block_in v.frame.block) ∙ e) h (same _ _ (height_of v.operands n ∙ d)) i
 
@@ -106,7 +106,7 @@ module _ {A : Type 0} (v : Stacks A) (C : Context UnpackedIndex) (test : Kind �
   unfolding again
   again_as vs n e d = rw (d, e) refl
 
-  here_is : (g : Signature UnpackedIndex) (n : ℕ) (mid new : State UnpackedIndex) → v.is_open ≡ true → declared ≡ Some g → pop_vals (world C) g.gives (state_of v) ≡ Some (below n (state_of v)) → length v.operands - n ≡ v.frame.height
+  here_is : (g : Signature UnpackedIndex) (n : ℕ) (mid new : State UnpackedIndex) → v.is_open ≡ true → type_here ≡ Some g → pop_vals (world C) g.gives (state_of v) ≡ Some (below n (state_of v)) → length v.operands - n ≡ v.frame.height
       → test (kind_of v.frame.kind) ≡ true → mid ≡ push_vals (starts g) (below n (state_of v)) → new ≡ again k mid → here ≡ Some new
   here_is g n mid new o e h d i q m =
       is_replaced (world C) (around v C) test k starts (frame_of v.frame) (map frame_of v.outer) (state_of v) g (below n (state_of v)) (same_signature v C (block_in v.frame.block) ∙ e) h (same _ _ (height_of v.operands n ∙ d)) i

@@ -16,9 +16,11 @@ in_try b = legacy (try_ b)
 abbrev pub trying : List (Instruction ℕ) → List (Instruction ℕ)
 trying ops = in_try empty_block ∷ ops
 
--- local 2 is set, and is read
-abbrev pub set_it get_it : List (Instruction ℕ) → List (Instruction ℕ)
+-- local 2 is set, or is read, before these
+abbrev pub set_it : List (Instruction ℕ) → List (Instruction ℕ)
 set_it ops = variable (LocalGet 0) ∷ variable (LocalSet 2) ∷ ops
+
+abbrev pub get_it : List (Instruction ℕ) → List (Instruction ℕ)
 get_it ops = variable (LocalGet 2) ∷ dropped ∷ ops
 
 -- The first tag holds nothing, and the second one an i32.
