@@ -765,6 +765,103 @@ def proposals():
     case('no proposal lifts an unknown local', 'local.get 7; drop', wanted='refused 1 unknown local 7: local index out of bounds; missing nothing')
 
 
+# The operators of the legacy exception-handling proposal. The Rust crate's reader tells of a `catch`, a `catch_all` and a `delegate` that
+# stand elsewhere behind their opcode, where the validator tells of them at their place.
+CATCH = 'catch found outside of a `try` block'
+CATCH_ALL = 'catch_all found outside of a `try` block'
+DELEGATE = 'delegate found outside of a `try` block'
+TRY, TRY_I32, END, DROP, I32, I64 = '0640', '067f', '0b', '1a', '4101', '4201'
+LEGACY = 'all+legacy_exceptions'
+
+
+def legacy():
+    subject('legacy_exceptions')
+
+    def bytes_of(*parts, locals=''):
+        return declared(locals) + bytes.fromhex(''.join(parts)) + b'\x0b'
+
+    def ok(name, *parts, ty=0, locals='', wanted=None):
+        case(name, '', raw=bytes_of(*parts, locals=locals), ty=ty, features=LEGACY, wanted=wanted)
+
+    def told(name, rule, head, *rest):
+        """Refused by this rule at the last operator of the head."""
+        at = 1 + sum(len(x) // 2 for x in head[:-1])
+        case(name, '', raw=bytes_of(*head, *rest), features=LEGACY, wanted='refused %d %s' % (at, rule))
+
+    ok('try', TRY, END)
+    ok('try with a catch', TRY, '0700', END)
+    ok('try with two catches and a catch_all', TRY, '0700', '0701', DROP, '19', END)
+    ok('try with a catch_all alone', TRY, '19', END)
+    ok('try gives a value', TRY_I32, I32, END, ty=9)
+    ok('try gives no value', TRY_I32, END, ty=9)
+    ok('try gives another type', TRY_I32, I64, END, ty=9)
+    ok('a catch gives what its tag holds', TRY_I32, I32, '0701', END, ty=9)
+    ok('a catch leaves what its tag holds', TRY, '0701', END)
+    ok('a catch gives too little', TRY_I32, I32, '0700', END, ty=9)
+    ok('a catch_all gives too little', TRY_I32, I32, '19', END, ty=9)
+    ok('a catch does not have what stood before the try', I32, TRY, '0700', DROP, END, DROP)
+    ok('a try takes what its type takes', I32, '0608', DROP, '0701', DROP, END)
+    ok('a catch does not have what its try takes', I32, '0608', DROP, '0700', DROP, END)
+    ok('a try without what its type takes', '0608', DROP, END)
+    ok('a try of an unknown type', '06e300', END)
+    ok('a try of a type that is no function', '0603', END)
+    ok('code behind a throw in a try', TRY, '0800', '0700', END)
+    ok('a catch is reached behind code that is not', TRY, '00', '0700', DROP, END)
+    ok('a catch_all is reached behind code that is not', TRY, '00', '19', DROP, END)
+    ok('a try before a catch gives too little', TRY_I32, '0701', END, ty=9)
+    ok('a try before a catch gives another type', TRY_I32, I64, '0701', END, ty=9)
+    ok('a try before a catch leaves a value', TRY, I32, '0700', END)
+    ok('a catch before a catch leaves a value', TRY, '0701', '0700', END)
+    ok('a catch before a catch_all leaves a value', TRY, '0701', '19', END)
+    ok('a catch of a tag that is not there', TRY, '0709', END)
+    ok('a local that a try sets is set in it', '4100', DROP, TRY, 'd2012100', '2000', DROP, '0700', END, locals='!func')
+    ok('a local that a try sets is not set in a catch', TRY, 'd2012100', '0700', '2000', DROP, END, locals='!func')
+    ok('a local that a catch sets is not set in a catch_all', TRY, '0700', 'd2012100', '19', '2000', DROP, END, locals='!func')
+    ok('a local that a catch sets is not set behind it', TRY, '0700', 'd2012100', END, '2000', DROP, locals='!func')
+    ok('a local that was set before is set in a catch', 'd2012100', TRY, '0700', '2000', DROP, END, locals='!func')
+    for name, op, rule in [('catch', '0700', CATCH), ('catch_all', '19', CATCH_ALL), ('delegate', '1800', DELEGATE)]:
+        for where, head in [('a body', []), ('a block', ['0240']), ('a loop', ['0340']), ('an if', [I32, '0440']), ('an else', [I32, '0440', '05']),
+                            ('a try_table', ['1f4000']), ('a try behind its catch_all', [TRY, '19']), ('a block in a try', [TRY, '0240'])]:
+            told('%s in %s' % (name, where), rule, head + [op], END, END)
+    told('delegate in a catch', DELEGATE, [TRY, '0700', '1800'], END, END)
+    told('else in a try', ELSE, [TRY, '05'], END)
+    told('else in a catch', ELSE, [TRY, '0700', '05'], END)
+    ok('delegate to the body', TRY, '1800')
+    ok('delegate of a try with a value', TRY_I32, I32, '1800', ty=9)
+    ok('delegate of a try that gives too little', TRY_I32, '1800', ty=9)
+    ok('delegate of a try that leaves a value', TRY, I32, '1800')
+    ok('delegate to the try around it', TRY, TRY, '1800', '19', END)
+    ok('delegate to the body from a try in a try', TRY, TRY, '1801', '19', END)
+    ok('delegate to a block', '0240', TRY, '1800', END)
+    ok('delegate behind the body', TRY, '1801')
+    ok('delegate behind the body from a try in a try', TRY, TRY, '1802', '19', END)
+    ok('delegate ends a try', '0240', TRY, '1800', '0c00', END)
+    ok('rethrow in a catch', TRY, '0700', '0900', END)
+    ok('rethrow in a catch_all', TRY, '19', '0900', END)
+    ok('rethrow from a block in a catch', TRY, '0700', '0240', '0901', END, END)
+    ok('code behind a rethrow is not reached', TRY_I32, I32, '19', '0900', END, ty=9)
+    ok('a wrong operand behind a rethrow', TRY_I32, I32, '19', '0900', I64, END, ty=9)
+    ok('rethrow in a try', TRY, '0900', '19', END)
+    ok('rethrow to a block', '0240', '0900', END)
+    ok('rethrow to a block in a catch', TRY, '0700', '0240', '0900', END, END)
+    ok('rethrow to the body', '0900')
+    ok('rethrow to a try_table', '1f4000', '0900', END)
+    ok('rethrow behind its try', TRY, '0700', END, '0900')
+    ok('rethrow to a label that is not there', TRY, '0700', '0909', END)
+    ok('a branch from a try takes what it gives', TRY_I32, I32, '0c00', END, ty=9)
+    ok('a branch from a catch takes what it gives', TRY_I32, I32, '0701', '0c00', END, ty=9)
+    ok('a branch from a catch without what it gives', TRY_I32, I32, '19', '0c00', END, ty=9)
+    ok('a try that is not ended', TRY, wanted='refused 4')
+    ok('try_table and try in one body', TRY, '1f40010200', END, '0700', END)
+    for name, op in [('try', TRY), ('catch', '0700'), ('rethrow', '0900'), ('delegate', '1800'), ('catch_all', '19')]:
+        code = int(op[:2], 16)
+        for features, wanted in [('all-legacy_exceptions', 'illegal opcode 0x%02x; missing legacy_exceptions' % code),
+                                 ('default', 'illegal opcode 0x%02x; missing legacy_exceptions' % code),
+                                 (LEGACY + '-exceptions', 'exceptions support is not enabled; missing exceptions')]:
+            case('%s with %s' % (name, features), '', raw=bytes_of(op, END), features=features, wanted='refused 1 ' + wanted)
+    case('try with the two features that it needs', '', raw=bytes_of(TRY, '0700', '0900', END), features='none+legacy_exceptions+exceptions', wanted='ok')
+
+
 HEAD = '''# Each line is a row; blank lines and lines that begin with `#` are passed over. A row's parts stand between ` | `:
 #
 #     NAME | FEATURES | TYPE | BODY | WANTED
@@ -793,7 +890,7 @@ def wanted_of(wp, type_index, body, told):
 
 
 def main():
-    for part in [numbers, memories, tables, variables, control, references, aggregates, proposals]:
+    for part in [numbers, memories, tables, variables, control, references, aggregates, proposals, legacy]:
         part()
     wp = oracle.WP()
     total = 0

@@ -3,6 +3,7 @@ pub mod Given
 pub mod Resolved
 pub mod Entering
 pub mod Turned
+pub mod Enabled
 pub mod Choosing
 pub mod Throwing
 pub mod Tabled

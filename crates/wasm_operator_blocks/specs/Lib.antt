@@ -3,4 +3,5 @@ pub mod Written
 pub mod Known
 pub mod Sent
 pub mod Again
+pub mod Legacy
 pub mod Fitting

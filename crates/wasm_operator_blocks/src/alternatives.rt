@@ -28,18 +28,21 @@ fn is_if(kind: FrameKind) -> bool
         FrameKind::Loop => false,
         FrameKind::Else => false,
         FrameKind::TryTable => false,
+        FrameKind::LegacyTry => false,
+        FrameKind::LegacyCatch => false,
+        FrameKind::LegacyCatchAll => false,
     }
 }
 
-/// Begins the innermost frame again as `else`, and forgets which locals it set.
+/// Begins the innermost frame again as one of this kind, and forgets which locals it set.
 #[tactic(auto, using(crate::proofs::Turned::begins))]
-fn begin_again<A: Allocator>(stacks: &mut Stacks<A>)
+pub(crate) fn begin_again<A: Allocator>(stacks: &mut Stacks<A>, kind: FrameKind)
     requires { stacks.old.is_open ≡ true }
-    ensures state { state_of stacks.new ≡ again (state_of stacks.old) }
+    ensures state { state_of stacks.new ≡ again (kind_of kind) (state_of stacks.old) }
     ensures same { Kept stacks.old stacks.new }
 {
     stacks.locals.unset(stacks.frame.init_height);
-    stacks.frame.kind = FrameKind::Else;
+    stacks.frame.kind = kind;
     stacks.frame.unreachable = false;
     stacks.frame.init_height = stacks.locals.count_set();
 }
@@ -85,7 +88,7 @@ pub fn turn_to_else<A: Allocator, T: WasmModuleResources>(
     }
     match exchange_types(stacks, taken, takes) {
         Ok(()) => {
-            begin_again(stacks);
+            begin_again(stacks, FrameKind::Else);
             Ok(())
         }
         Err(_) => Err(OperatorError::OutOfMemory),

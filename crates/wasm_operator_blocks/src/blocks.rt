@@ -20,7 +20,7 @@ use wasm_operators::{BlockType, FrameKind};
 
 /// Opens a frame of this kind, over what its type takes.
 #[tactic(auto, using(crate::proofs::Cited::acts, crate::proofs::Entering::enters))]
-fn open_plain<A: Allocator, T: WasmModuleResources>(
+pub(crate) fn open_plain<A: Allocator, T: WasmModuleResources>(
     stacks: &mut Stacks<A>,
     resources: &T,
     kind: FrameKind,

@@ -1,5 +1,5 @@
-//! Blocks, branches by a table, exceptions and choices, and the dispatch of control, parametric and
-//! variable operators.
+//! Blocks, branches by a table, exceptions, also by the legacy proposal, and choices, and the
+//! dispatch of control, parametric and variable operators.
 #![tactic(auto)]
 
 mod alternatives;
@@ -8,6 +8,7 @@ mod catches;
 mod choices;
 mod dispatch;
 mod exceptions;
+mod legacy;
 mod openings;
 mod tables;
 mod tries;
@@ -17,6 +18,7 @@ pub use blocks::{open_block, open_if, open_loop};
 pub use choices::{select, select_of, select_typed};
 pub use dispatch::{step_control, step_parametric, step_variable};
 pub use exceptions::{throw, throw_ref};
+pub use legacy::step_legacy;
 pub use tables::branch_by_table;
 pub use tries::open_try_table;
 

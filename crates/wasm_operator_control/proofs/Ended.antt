@@ -14,7 +14,7 @@ use Rattle.wasm_operator_numbers.specs.WasmOperatorSteps.Actions.{leave}
 use Rattle.wasm_operator_numbers.specs.WasmOperatorSteps.Bodies.{Surroundings}
 use Rattle.wasm_operator_numbers.specs.WasmOperatorSteps.Matching.{matches_vals}
 use Rattle.wasm_operator_numbers.specs.WasmOperatorSteps.Machine as machine
-use Rattle.wasm_operator_numbers.specs.WasmOperatorSteps.Machine.{Kind, block_kind, loop_kind, if_kind, else_kind, try_table_kind, State, pop_vals, push_vals}
+use Rattle.wasm_operator_numbers.specs.WasmOperatorSteps.Machine.{Kind, block_kind, loop_kind, if_kind, else_kind, try_table_kind, legacy_try_kind, legacy_catch_kind, legacy_catch_all_kind, State, pop_vals, push_vals}
 use Rattle.wasm_operator_numbers.specs.WasmOperatorChecks.WasmValidatorResources.WasmSpecRules.Signatures.{Signature}
 use Rattle.wasm_operator_numbers.specs.WasmOperatorSteps.Meanings.{block_signature, leave_in, may_end}
 use Rattle.wasm_operator_numbers.specs.WasmOperatorChecks.WasmValidatorResources.Answers.{world}
@@ -76,6 +76,9 @@ same_end W B loop_kind g = refl
 same_end W B if_kind g = refl
 same_end W B else_kind g = refl
 same_end W B try_table_kind g = refl
+same_end W B legacy_try_kind g = refl
+same_end W B legacy_catch_kind g = refl
+same_end W B legacy_catch_all_kind g = refl
 
 signed : (vs : List (Val UnpackedIndex)) (o : Option (Signature UnpackedIndex)) → Some vs ≡ option_map (λ g. g.gives) o → (g : Signature UnpackedIndex) × (o ≡ Some g) × (g.gives ≡ vs)
 signed vs None e = cc

@@ -6,7 +6,7 @@ use Rattle.wasm_operator_numbers.specs.WasmOperatorChecks.WasmValidatorResources
 use Rattle.wasm_readers_types.specs.WasmReadersValues.declared.indices.UnpackedIndex.{UnpackedIndex}
 use Rattle.wasm_operator_numbers.specs.WasmOperators.Control.{Block, empty_block, value_block, func_block}
 use Rattle.wasm_operator_numbers.specs.WasmOperatorChecks.WasmValidatorResources.WasmSpecRules.Attempts.{◌>>=◌}
-use Rattle.wasm_operator_numbers.specs.WasmOperatorSteps.Machine.{Kind, block_kind, loop_kind, if_kind, else_kind, try_table_kind}
+use Rattle.wasm_operator_numbers.specs.WasmOperatorSteps.Machine.{Kind, block_kind, loop_kind, if_kind, else_kind, try_table_kind, legacy_try_kind, legacy_catch_kind, legacy_catch_all_kind}
 use Rattle.wasm_operator_numbers.specs.WasmOperatorSteps.Matching.{matches_vals}
 use Rattle.wasm_operator_numbers.specs.WasmOperatorChecks.WasmValidatorResources.WasmSpecRules.Signatures.{Signature, signature_of}
 use Rattle.wasm_operator_numbers.specs.WasmOperatorChecks.WasmValidatorResources.Answers.{sub_in}
@@ -27,3 +27,6 @@ ends_in W block_kind g = true
 ends_in W loop_kind g = true
 ends_in W else_kind g = true
 ends_in W try_table_kind g = true
+ends_in W legacy_try_kind g = true
+ends_in W legacy_catch_kind g = true
+ends_in W legacy_catch_all_kind g = true

@@ -49,6 +49,9 @@ fn may_end<T: WasmModuleResources>(resources: &T, kind: FrameKind, block: BlockW
         FrameKind::Loop => true,
         FrameKind::Else => true,
         FrameKind::TryTable => true,
+        FrameKind::LegacyTry => true,
+        FrameKind::LegacyCatch => true,
+        FrameKind::LegacyCatchAll => true,
     }
 }
 

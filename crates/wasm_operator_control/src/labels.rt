@@ -92,6 +92,9 @@ fn branch_types<'a, T: WasmModuleResources>(
         FrameKind::If => block_gives(resources, block),
         FrameKind::Else => block_gives(resources, block),
         FrameKind::TryTable => block_gives(resources, block),
+        FrameKind::LegacyTry => block_gives(resources, block),
+        FrameKind::LegacyCatch => block_gives(resources, block),
+        FrameKind::LegacyCatchAll => block_gives(resources, block),
     }
 }
 

@@ -8,7 +8,7 @@ use Rattle.wasm_operator_control.specs.WasmOperatorChecks.WasmSpecRules.Contexts
 use Rattle.wasm_readers_types.specs.WasmReadersValues.declared.indices.UnpackedIndex.{UnpackedIndex}
 use Rattle.wasm_operators.specs.Control.{empty_block, value_block}
 use Rattle.wasm_operator_control.specs.WasmOperatorChecks.WasmOperatorSteps.Actions.{leave}
-use Rattle.wasm_operator_control.specs.WasmOperatorChecks.WasmOperatorSteps.Machine.{Kind, block_kind, loop_kind, if_kind, else_kind, try_table_kind, is_if, State, known, pop_val, push_operand}
+use Rattle.wasm_operator_control.specs.WasmOperatorChecks.WasmOperatorSteps.Machine.{Kind, block_kind, loop_kind, if_kind, else_kind, try_table_kind, legacy_try_kind, legacy_catch_kind, legacy_catch_all_kind, is_if, State, known, pop_val, push_operand}
 use Rattle.wasm_operator_control.specs.WasmOperatorChecks.WasmSpecRules.Signatures.{Signature}
 use Rattle.wasm_operator_control.specs.WasmOperatorChecks.WasmValidatorResources.Answers.{world}
 use Rattle.wasm_operator_control.specs.WasmOperatorChecks.WasmOperatorStacks.Seen.{state_of, below}
@@ -24,6 +24,9 @@ nothing_ends W loop_kind = refl
 nothing_ends W if_kind = refl
 nothing_ends W else_kind = refl
 nothing_ends W try_table_kind = refl
+nothing_ends W legacy_try_kind = refl
+nothing_ends W legacy_catch_kind = refl
+nothing_ends W legacy_catch_all_kind = refl
 
 other_ends : (W : World UnpackedIndex) (k : Kind) (g : Signature UnpackedIndex) → is_if k ≡ false → true ≡ ends_in W k g
 other_ends W block_kind g e = refl
@@ -31,6 +34,9 @@ other_ends W loop_kind g e = refl
 other_ends W if_kind g e = cc
 other_ends W else_kind g e = refl
 other_ends W try_table_kind g e = refl
+other_ends W legacy_try_kind g e = refl
+other_ends W legacy_catch_kind g e = refl
+other_ends W legacy_catch_all_kind g e = refl
 
 module _ {A : Type 0} (v : Stacks A) (C : Context UnpackedIndex) (new : State UnpackedIndex) where
   abbrev pub Closed : Type 0

@@ -25,6 +25,9 @@ fn is_if(kind: FrameKind) -> bool
         FrameKind::Else => false,
         FrameKind::Loop => false,
         FrameKind::TryTable => false,
+        FrameKind::LegacyTry => false,
+        FrameKind::LegacyCatch => false,
+        FrameKind::LegacyCatchAll => false,
     }
 }
 

@@ -7,7 +7,7 @@ use Rattle.wasm_operator_steps.specs.Control.{empty_block, value_block, func_blo
 use Rattle.wasm_operator_steps.specs.FrameKind.{FrameKind}
 use Rattle.wasm_operator_steps.specs.FrameKind.TheVariants as frame_kind
 use Rattle.wasm_operator_steps.specs.Machine as machine
-use Rattle.wasm_operator_steps.specs.Machine.{Kind, block_kind, loop_kind, if_kind, else_kind, try_table_kind}
+use Rattle.wasm_operator_steps.specs.Machine.{Kind, block_kind, loop_kind, if_kind, else_kind, try_table_kind, legacy_try_kind, legacy_catch_kind, legacy_catch_all_kind}
 use Rattle.wasm_operator_stacks.specs.Words.{block_at}
 use Rattle.wasm_operator_stacks.specs.declared.block_word.BlockWord.{BlockWord}
 use Rattle.wasm_operator_stacks.specs.declared.block_word.Block.{Block}
@@ -28,6 +28,9 @@ kind_of frame_kind.If = if_kind
 kind_of frame_kind.Else = else_kind
 kind_of frame_kind.Loop = loop_kind
 kind_of frame_kind.TryTable = try_table_kind
+kind_of frame_kind.LegacyTry = legacy_try_kind
+kind_of frame_kind.LegacyCatch = legacy_catch_kind
+kind_of frame_kind.LegacyCatchAll = legacy_catch_all_kind
 
 abbrev pub frame_of : Frame → machine.Frame UnpackedIndex
 frame_of x = record { kind = kind_of x.kind; block = block_in x.block; height = x.height; unreachable = x.unreachable; init_height = x.init_height }

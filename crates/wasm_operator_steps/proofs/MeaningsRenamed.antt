@@ -11,10 +11,10 @@ use Rattle.wasm_operators.specs.Maps.{map_block}
 use Rattle.wasm_spec_rules.specs.Attempts.{◌>>=◌, guard, among, passes, last_of, front_of, list_of}
 use Rattle.wasm_operator_steps.specs.Matching.{matches_vals, matches_storage}
 use Rattle.wasm_operator_steps.specs.Bodies.{Surroundings, map_local, map_surroundings}
-use Rattle.wasm_operator_steps.specs.Machine.{Operand, bottom, bottom_reference, open_reference, known, Kind, block_kind, loop_kind, if_kind, else_kind, try_table_kind, Frame, State, map_operand, map_frame, map_state, map_popped, push_operand, push_vals, pop_any, pop_reference, same_number, chosen, become_unreachable, push_frame, set_local, pop_vals}
-use Rattle.wasm_operator_steps.specs.Actions.{Signed, of_type, of_function, of_tag, OperandTypes, these, params, results, label, returned, local, global, function_reference, new_reference, fields, element, field, table_address, memory_address, table_element, segment, lesser_table_address, lesser_memory_address, top, descriptor_of, repeated, front, last, joined, Check, has, allows, global_is_mutable, local_is_set, function_is_referenced, is_exception, each_matches, may_be_cast, can_be_tested, is_aligned, suits, fields_have_defaults, has_no_descriptor, field_is_mutable, field_is_packed, element_is_mutable, element_has_default, element_is_number, element_is_packed, element_is_storable, data_is_there, segment_is_there, reaches_global, reaches_table, reaches_type, reaches_function, Action, need, refuse, take, give, take_any, take_reference, take_comparable, make_non_null, choose, stop, turn_to_else, leave, take_below, convert, enter, set, branch_on_null, branch_to_one_of}
+use Rattle.wasm_operator_steps.specs.Machine.{Operand, bottom, bottom_reference, open_reference, known, Kind, block_kind, loop_kind, if_kind, else_kind, try_table_kind, legacy_try_kind, legacy_catch_kind, legacy_catch_all_kind, is_try, may_catch, has_caught, Frame, State, delegates, rethrows, map_operand, map_frame, map_state, map_popped, push_operand, push_vals, pop_any, pop_reference, same_number, chosen, become_unreachable, push_frame, set_local, pop_vals}
+use Rattle.wasm_operator_steps.specs.Actions.{Signed, of_type, of_function, of_tag, OperandTypes, these, params, results, label, returned, local, global, function_reference, new_reference, fields, element, field, table_address, memory_address, table_element, segment, lesser_table_address, lesser_memory_address, top, descriptor_of, repeated, front, last, joined, Check, has, allows, global_is_mutable, local_is_set, function_is_referenced, is_exception, each_matches, may_be_cast, can_be_tested, is_aligned, suits, fields_have_defaults, has_no_descriptor, field_is_mutable, field_is_packed, element_is_mutable, element_has_default, element_is_number, element_is_packed, element_is_storable, data_is_there, segment_is_there, reaches_global, reaches_table, reaches_type, reaches_function, Action, need, refuse, take, give, take_any, take_reference, take_comparable, make_non_null, choose, stop, turn_to_else, leave, take_below, convert, enter, turn_to_catch, find_outside, find_caught, set, branch_on_null, branch_to_one_of}
 use Rattle.wasm_spec_rules.specs.Signatures.{Signature, resolve_heap, resolve_ref, resolve_val, resolve_vals, signature_of}
-use Rattle.wasm_operator_steps.specs.Meanings.{ref_to, resolve_block, fields_of, element_of, unpack, unpack_field, is_packed, has_default, all_have_defaults, copies, one, is_of_continuations, address, both, label_by, sub_at, comp_at, type_signature, block_signature, frame_signature, label_at, returned_at, signature_at, fields_at, element_at, field_at, exact_if, function_heap, descriptor_at, top_heap, table_is_64, memory_is_64, types_at, casts, holds, is_below_either, agree, converted, pop_frame, may_end, leave_in, turn_in, labels_fit, act, run}
+use Rattle.wasm_operator_steps.specs.Meanings.{ref_to, resolve_block, fields_of, element_of, unpack, unpack_field, is_packed, has_default, all_have_defaults, copies, one, is_of_continuations, address, both, label_by, sub_at, comp_at, type_signature, block_signature, frame_signature, label_at, returned_at, signature_at, fields_at, element_at, field_at, exact_if, function_heap, descriptor_at, top_heap, table_is_64, memory_is_64, types_at, casts, holds, is_below_either, agree, converted, pop_frame, may_end, leave_in, turn_in, catch_in, labels_fit, act, run}
 use Rattle.wasm_operator_steps.specs.Renaming.{Renames}
 use Rattle.wasm_operator_steps.proofs.Attempts.{bind-map, bind-same, then-map, passes-map, guard-map, is_some-map, last_of-map, front_of-map}
 use Rattle.wasm_operator_steps.proofs.MatchingRenamed.{matches_heap-map, matches_ref-map, matches_vals-map, matches_storage-map, is_shared_heap-map, top_of_heap-map}
@@ -129,6 +129,9 @@ module _ {R S : Type 0} (f : R → S) where
   label_by-map if_kind g = refl
   label_by-map else_kind g = refl
   label_by-map try_table_kind g = refl
+  label_by-map legacy_try_kind g = refl
+  label_by-map legacy_catch_kind g = refl
+  label_by-map legacy_catch_all_kind g = refl
 
 module _ {R S : Type 0} (f : R → S) (W : World R) (V : World S) (h : Renames f W V) (B : Surroundings R) where
   abbrev N : Surroundings S
@@ -325,6 +328,9 @@ module _ {R S : Type 0} (f : R → S) (W : World R) (V : World S) (h : Renames f
   may_end-map loop_kind g = refl
   may_end-map else_kind g = refl
   may_end-map try_table_kind g = refl
+  may_end-map legacy_try_kind g = refl
+  may_end-map legacy_catch_kind g = refl
+  may_end-map legacy_catch_all_kind g = refl
 
   leave_in-map : (xs : List (Frame R)) (s : State R) → leave_in V N (map (map_frame f) xs) (map_state f s) ≡ option_map (map_state f) (leave_in W B xs s)
   leave_in-map [] s = refl
@@ -339,6 +345,20 @@ module _ {R S : Type 0} (f : R → S) (W : World R) (V : World S) (h : Renames f
       bind-map (map_signature f) (map_state f) _ _
       (λ g. bind-map (map_state f) (map_state f) _ _ (λ t. guard-map (map_state f) (push_frame else_kind x.block g.takes t) refl (push_frame-map f else_kind x.block g.takes t)) (pop_frame W B x xs g s) (pop_frame-map x xs g s))
       (frame_signature W B x) (frame_signature-map x)
+
+  catch_in-map : (k : Kind) (vs : List (Val R)) (xs : List (Frame R)) (s : State R) → catch_in V N k (map_vals f vs) (map (map_frame f) xs) (map_state f s) ≡ option_map (map_state f) (catch_in W B k vs xs s)
+  catch_in-map k vs [] s = refl
+  catch_in-map k vs (x ∷ xs) s =
+      bind-map (map_signature f) (map_state f) _ _
+      (λ g. bind-map (map_state f) (map_state f) _ _ (λ t. guard-map (map_state f) (push_frame k x.block vs t) refl (push_frame-map f k x.block vs t)) (pop_frame W B x xs g s) (pop_frame-map x xs g s))
+      (frame_signature W B x) (frame_signature-map x)
+
+  delegates-map : (xs : List (Frame R)) (n : ℕ) → delegates (map (map_frame f) xs) n ≡ delegates xs n
+  delegates-map [] n = refl
+  delegates-map (x ∷ xs) n = λ i. is_try x.kind && (ap is_some (slice_get-map (map_frame f) xs n) ∙ is_some-map (map_frame f) (slice_get xs n)) i
+
+  rethrows-map : (xs : List (Frame R)) (n : ℕ) → rethrows (map (map_frame f) xs) n ≡ rethrows xs n
+  rethrows-map xs n = passes-map (map_frame f) (λ (x : Frame R). has_caught x.kind) (λ (x : Frame S). has_caught x.kind) (λ x. refl) (slice_get xs n) (slice_get-map (map_frame f) xs n)
 
   labels_fit-map : (s : State R) (k : ℕ) (ns : List ℕ) → labels_fit V N (map_state f s) k ns ≡ labels_fit W B s k ns
   labels_fit-map s k [] = refl
@@ -382,6 +402,9 @@ module _ {R S : Type 0} (f : R → S) (W : World R) (V : World S) (h : Renames f
       (λ g. bind-map (map_state f) (map_state f) _ _ (λ t. ap Some (push_frame-map f k c g.takes t)) (pop_vals W g.takes s) (pop_vals-map f W V h g.takes s))
       (block_signature W B c) (block_signature-map c))
       (resolve_block B.context.types b) (resolve_block-map f B.context.types b)
+  act-map (turn_to_catch t k) s = bind-map (map_vals f) (map_state f) _ _ (λ vs. catch_in-map k vs s.frames s) (types_at W B s t) (types_at-map s t)
+  act-map (find_outside n) s = guard-map (map_state f) s (delegates-map s.frames n) refl
+  act-map (find_caught n) s = guard-map (map_state f) s (rethrows-map s.frames n) refl
   act-map (set n) s = (λ i. Some (set_local (holds-map s (local_is_set n) i) n (map_state f s))) ∙ ap Some (set_local-map f (holds W B s (local_is_set n)) n s)
   act-map (branch_on_null n) s =
       bind-map (map_popped f) (map_state f) _ _

@@ -34,7 +34,7 @@ pub data OperandTypes : Type 0 where
 
 -- the proposals that an instruction may need
 pub data Needed : Type 0 where
-  multi_value reference_types bulk_memory exceptions function_references gc shared_everything_threads custom_descriptors simd threads vector_operators atomic_operators : Needed
+  multi_value reference_types bulk_memory exceptions function_references gc shared_everything_threads custom_descriptors simd threads vector_operators atomic_operators legacy_exceptions : Needed
 
 -- Checks:
 -- a feature is on; a written type is one that the features allow; a global is mutable; a local is set; a function counts as referenced;
@@ -65,8 +65,9 @@ pub data Check : Type 0 where
 -- go on only where a check holds, or not at all; take operands of these types, or give them; take any operand; take a reference; take a
 -- reference below an abstract heap type, shared or not; take two references that may be compared; know that a reference isn't null; turn a
 -- reference of one hierarchy into one of another; choose one of two operands;
--- know that what follows isn't reached; turn to `else`; leave a frame, or enter one; know that a local is set; branch where a reference is
--- null; branch to one of several labels.
+-- know that what follows isn't reached; turn to `else`; leave a frame, or enter one; turn to a `catch` or to `catch_all`, over operands of
+-- these types; go on only where the innermost frame is a `try` and this label is outside of it, or where the frame of this label has caught
+-- an exception; know that a local is set; branch where a reference is null; branch to one of several labels.
 pub data Action : Type 0 where
   need : Check → Action
   refuse : Action
@@ -75,6 +76,8 @@ pub data Action : Type 0 where
   take_below : AbstractHeap → Action
   convert : AbstractHeap → AbstractHeap → Action
   enter : Kind → Block ℕ → Action
+  turn_to_catch : OperandTypes → Kind → Action
+  find_outside find_caught : ℕ → Action
   set : ℕ → Action
   branch_on_null : ℕ → Action
   branch_to_one_of : List ℕ → ℕ → Action

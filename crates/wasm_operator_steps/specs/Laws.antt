@@ -1,5 +1,5 @@
 -- Laws of the steps, as facts that a contract can name.
-use Rattle.std.specs.Prelude.{◌≡◌, ◌≤◌, ℕ, Bool, true, false, List, ◌++◌, length, Option, Some, None, is_some}
+use Rattle.std.specs.Prelude.{◌≡◌, ◌≤◌, ℕ, Bool, true, false, ◌&&◌, List, ◌++◌, length, Option, Some, None, is_some}
 use Rattle.std.specs.Bool.{Decides}
 use Rattle.std.specs.Option.{option_map}
 use Rattle.wasm_spec_rules.specs.WasmSpec.Syntax.{Sub}
@@ -11,10 +11,11 @@ use Rattle.wasm_operators.specs.WasmOperatorsPlain.Signatures.{signature_at}
 use Rattle.wasm_operators.specs.WasmOperatorsPlain.declared.numeric.NumericOperator.{NumericOperator}
 use Rattle.wasm_operators.specs.Control.{Block}
 use Rattle.wasm_operators.specs.Maps.{map_block}
-use Rattle.wasm_operators.specs.Instructions.{Instruction, numeric, vector, atomic}
+use Rattle.wasm_operators.specs.Instructions.{Instruction, numeric, legacy, vector, atomic}
 use Rattle.wasm_operators.specs.WasmOperatorsAtomic.WasmOperatorsVector.declared.operators.VectorOperator.{VectorOperator}
 use Rattle.wasm_operators.specs.WasmOperatorsAtomic.declared.operators.AtomicOperator.{AtomicOperator}
 use Rattle.wasm_operators.specs.declared.immediates.ImmediateValues.{ImmediateValues}
+use Rattle.wasm_operators.specs.Legacy.{Legacy}
 use Rattle.wasm_spec_rules.specs.Worlds.{declared_in, world_of}
 use Rattle.wasm_operator_steps.specs.Bodies.{Surroundings, map_surroundings}
 use Rattle.wasm_operator_steps.specs.Machine.{State, map_state}
@@ -63,6 +64,11 @@ OperatorsAreOptIn R = (W : World R) (B : Surroundings R) → AreOptIn W B
 -- A numeric instruction checks, takes and gives what the table of signatures says of its opcode.
 abbrev pub NumericShapesByOpcode : Type 0
 NumericShapesByOpcode = (op : NumericOperator) → option_map computing (signature_at (numeric_opcode op)) ≡ Some (shape_of (numeric op))
+
+-- Without their feature, or without that of exceptions, no step is taken by an operator of the legacy exception-handling proposal.
+abbrev pub LegacyNeedsFeatures : (R : Type 0) → Type 0
+LegacyNeedsFeatures R =
+    (W : World R) (B : Surroundings R) (op : Legacy ℕ) (s : State R) → (B.features.legacy_exceptions && B.features.exceptions) ≡ false → step_in W B (legacy op) s ≡ None
 
 -- Of the instructions of constant expressions some give exactly one reference each, and the others take none.
 pub record ReferencesAreCounted {R : Type 0} (same : R → R → Bool) (B : Surroundings R) : Type 0 where

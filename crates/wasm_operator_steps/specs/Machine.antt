@@ -1,12 +1,12 @@
 -- The two stacks of the validation algorithm, operands and control frames, the innermost first.
 -- Core Specification 3.0, Appendix, Validation Algorithm (Data Structures).
-use Rattle.std.specs.Prelude.{ℕ, Bool, true, false, ◌==◌, ◌-◌, List, [], ◌∷◌, map, length, drop, Option, Some, None, slice_get, if◌then◌else◌}
+use Rattle.std.specs.Prelude.{ℕ, Bool, true, false, ◌&&◌, ◌==◌, ◌-◌, List, [], ◌∷◌, map, length, drop, Option, Some, None, is_some, slice_get, if◌then◌else◌}
 use Rattle.wasm_spec_rules.specs.WasmSpec.Syntax.{AbstractHeap, abstract_heap, Ref, Val, i32, i64, f32, f64, v128, reference, map_val}
 use Rattle.wasm_spec_rules.specs.WasmSpec.Matching.{is_shared_heap}
 use Rattle.wasm_spec_rules.specs.WasmSpec.MatchingTests.{World, matches_heap, matches_val}
 use Rattle.wasm_operators.specs.Control.{Block}
 use Rattle.wasm_operators.specs.Maps.{map_block}
-use Rattle.wasm_spec_rules.specs.Attempts.{◌>>=◌, guard}
+use Rattle.wasm_spec_rules.specs.Attempts.{◌>>=◌, guard, passes}
 
 -- Operands. In code that isn't reached: one of any type; one of any reference type, not null; and a reference to an abstract heap
 -- type, not null, whose shared flag is open. Elsewhere those of a known type.
@@ -15,13 +15,28 @@ pub data Operand (R : Type 0) : Type 0 where
   open_reference : AbstractHeap → Operand R
   known : Val R → Operand R
 
--- what opened a frame: a body and a constant expression are blocks
+-- what opened a frame: a body and a constant expression are blocks; and a `try` of the legacy proposal, a `catch` of it, and its `catch_all`
 pub data Kind : Type 0 where
-  block_kind loop_kind if_kind else_kind try_table_kind : Kind
+  block_kind loop_kind if_kind else_kind try_table_kind legacy_try_kind legacy_catch_kind legacy_catch_all_kind : Kind
 
 abbrev pub is_if : Kind → Bool
 is_if if_kind = true
 is_if _ = false
+
+abbrev pub is_try : Kind → Bool
+is_try legacy_try_kind = true
+is_try _ = false
+
+-- A `catch` or a `catch_all` may follow, and an exception is caught.
+abbrev pub may_catch : Kind → Bool
+may_catch legacy_try_kind = true
+may_catch legacy_catch_kind = true
+may_catch _ = false
+
+abbrev pub has_caught : Kind → Bool
+has_caught legacy_catch_kind = true
+has_caught legacy_catch_all_kind = true
+has_caught _ = false
 
 -- Frames: what opened them, their block type, how many operands stood below and how many locals were set before, and whether the rest
 -- of their code isn't reached.
@@ -130,6 +145,15 @@ module _ {R : Type 0} where
   -- a frame more, with these operands in it
   abbrev pub push_frame : Kind → Block R → List (Val R) → State R → State R
   push_frame k b starts s = push_vals starts (record s { frames = record { kind = k; block = b; height = length s.operands; unreachable = false; init_height = length s.inits } ∷ s.frames })
+
+  -- the innermost frame is a `try` that has caught nothing, and this label is one outside of it
+  abbrev pub delegates : List (Frame R) → ℕ → Bool
+  delegates [] n = false
+  delegates (x ∷ xs) n = is_try x.kind && is_some (slice_get xs n)
+
+  -- the frame of this label has caught an exception
+  abbrev pub rethrows : List (Frame R) → ℕ → Bool
+  rethrows xs n = passes (λ x. has_caught x.kind) (slice_get xs n)
 
   -- the local is set from now on, until its frame ends
   abbrev pub set_local : Bool → ℕ → State R → State R

@@ -16,9 +16,9 @@ use Rattle.wasm_spec_rules.specs.Attempts.{◌>>=◌, guard, passes, among, last
 use Rattle.wasm_spec_rules.specs.Signatures.{Signature, signature_of, resolve_heap, resolve_ref, resolve_val, resolve_vals}
 use Rattle.wasm_operator_steps.specs.Matching.{matches_vals, matches_storage}
 use Rattle.wasm_operator_steps.specs.Bodies.{Surroundings}
-use Rattle.wasm_operator_steps.specs.Machine.{Operand, bottom_reference, open_reference, known, Kind, loop_kind, if_kind, else_kind, is_if, Frame, State, push_operand, push_vals, pop_any, pop_reference, non_null, same_number, chosen, become_unreachable, push_frame, set_local, pop_vals}
+use Rattle.wasm_operator_steps.specs.Machine.{Operand, bottom_reference, open_reference, known, Kind, loop_kind, if_kind, else_kind, is_if, may_catch, Frame, State, delegates, rethrows, push_operand, push_vals, pop_any, pop_reference, non_null, same_number, chosen, become_unreachable, push_frame, set_local, pop_vals}
 use Rattle.wasm_operator_steps.specs.Forms.{suits_form, memarg_of, reaches_memory}
-use Rattle.wasm_operator_steps.specs.Actions.{Signed, of_type, of_function, of_tag, OperandTypes, these, params, results, label, returned, local, global, function_reference, new_reference, fields, element, field, table_address, memory_address, table_element, segment, lesser_table_address, lesser_memory_address, top, descriptor_of, repeated, front, last, joined, Needed, multi_value, reference_types, bulk_memory, exceptions, function_references, gc, shared_everything_threads, custom_descriptors, atomic_operators, vector_operators, threads, simd, Check, has, allows, global_is_mutable, local_is_set, function_is_referenced, is_exception, each_matches, may_be_cast, can_be_tested, is_aligned, suits, fields_have_defaults, has_no_descriptor, field_is_mutable, field_is_packed, element_is_mutable, element_has_default, element_is_number, element_is_packed, element_is_storable, data_is_there, segment_is_there, reaches_global, reaches_table, reaches_type, reaches_function, Action, need, refuse, take, give, take_any, take_reference, take_comparable, make_non_null, choose, stop, turn_to_else, leave, take_below, convert, enter, set, branch_on_null, branch_to_one_of}
+use Rattle.wasm_operator_steps.specs.Actions.{Signed, of_type, of_function, of_tag, OperandTypes, these, params, results, label, returned, local, global, function_reference, new_reference, fields, element, field, table_address, memory_address, table_element, segment, lesser_table_address, lesser_memory_address, top, descriptor_of, repeated, front, last, joined, Needed, multi_value, reference_types, bulk_memory, exceptions, function_references, gc, shared_everything_threads, custom_descriptors, legacy_exceptions, atomic_operators, vector_operators, threads, simd, Check, has, allows, global_is_mutable, local_is_set, function_is_referenced, is_exception, each_matches, may_be_cast, can_be_tested, is_aligned, suits, fields_have_defaults, has_no_descriptor, field_is_mutable, field_is_packed, element_is_mutable, element_has_default, element_is_number, element_is_packed, element_is_storable, data_is_there, segment_is_there, reaches_global, reaches_table, reaches_type, reaches_function, Action, need, refuse, take, give, take_any, take_reference, take_comparable, make_non_null, choose, stop, turn_to_else, leave, take_below, convert, enter, turn_to_catch, find_outside, find_caught, set, branch_on_null, branch_to_one_of}
 
 module _ {R : Type 0} where
   abbrev pub ref_to : Bool → Heap R → Val R
@@ -82,6 +82,7 @@ is_on F simd = F.simd
 is_on F threads = F.threads
 is_on F vector_operators = F.vector_operators
 is_on F atomic_operators = F.atomic_operators
+is_on F legacy_exceptions = F.legacy_exceptions
 
 -- an alignment no greater than the bytes accessed, and an offset that an address has room for
 abbrev pub allows_memarg : MemoryOperator → MemArg → Memory → Bool
@@ -263,6 +264,14 @@ module _ {R : Type 0} (W : World R) (B : Surroundings R) where
     t ← pop_frame x xs g s
     guard (is_if x.kind) (push_frame else_kind x.block g.takes t)
 
+  -- the frame of a `try` is left, and one of its block type is entered, in which these operands stand
+  abbrev pub catch_in : Kind → List (Val R) → List (Frame R) → State R → Option (State R)
+  catch_in k vs [] s = None
+  catch_in k vs (x ∷ xs) s = do
+    g ← frame_signature x
+    t ← pop_frame x xs g s
+    guard (may_catch x.kind) (push_frame k x.block vs t)
+
   -- each of these labels takes so many operands, and finds its types on top
   abbrev pub labels_fit : State R → ℕ → List ℕ → Bool
   labels_fit s k [] = true
@@ -309,6 +318,11 @@ module _ {R : Type 0} (W : World R) (B : Surroundings R) where
     g ← block_signature c
     t ← pop_vals W g.takes s
     Some (push_frame k c g.takes t)
+  act (turn_to_catch t k) s = do
+    vs ← types_at s t
+    catch_in k vs s.frames s
+  act (find_outside n) s = guard (delegates s.frames n) s
+  act (find_caught n) s = guard (rethrows s.frames n) s
   act (set n) s = Some (set_local (holds s (local_is_set n)) n s)
   act (branch_on_null n) s = do
     p ← pop_reference s

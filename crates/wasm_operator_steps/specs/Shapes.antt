@@ -9,6 +9,8 @@ use Rattle.wasm_operators.specs.WasmOperatorsPlain.declared.signatures.Signature
 use Rattle.wasm_operators.specs.WasmOperatorsPlain.declared.signatures.Signature.TheVariants.{Unary, Binary}
 use Rattle.wasm_operators.specs.Control as control
 use Rattle.wasm_operators.specs.Control.{Block, empty_block, value_block, func_block, Control, Parametric}
+use Rattle.wasm_operators.specs.Legacy as legacy
+use Rattle.wasm_operators.specs.Legacy.{Legacy}
 use Rattle.wasm_operators.specs.References as references
 use Rattle.wasm_operators.specs.References.{Reference, Cast}
 use Rattle.wasm_operators.specs.Instructions as instruction
@@ -34,7 +36,7 @@ use Rattle.wasm_operators.specs.WasmOperatorsPlain.declared.structs.StructOperat
 use Rattle.wasm_operators.specs.WasmOperatorsPlain.declared.structs.StructOperator.TheVariants.{StructNew, StructNewDefault, StructGet, StructGetS, StructGetU, StructSet, StructNewDesc, StructNewDefaultDesc}
 use Rattle.wasm_operators.specs.WasmOperatorsPlain.declared.arrays.ArrayOperator.{ArrayOperator}
 use Rattle.wasm_operators.specs.WasmOperatorsPlain.declared.arrays.ArrayOperator.TheVariants.{ArrayNew, ArrayNewDefault, ArrayNewFixed, ArrayNewData, ArrayNewElem, ArrayGet, ArrayGetS, ArrayGetU, ArraySet, ArrayLen, ArrayFill, ArrayCopy, ArrayInitData, ArrayInitElem}
-use Rattle.wasm_operator_steps.specs.Machine.{Kind, block_kind, loop_kind, if_kind, try_table_kind}
+use Rattle.wasm_operator_steps.specs.Machine.{Kind, block_kind, loop_kind, if_kind, try_table_kind, legacy_try_kind, legacy_catch_kind, legacy_catch_all_kind}
 use Rattle.wasm_operators.specs.WasmOperatorsAtomic.WasmOperatorsVector.Forms as vectors
 use Rattle.wasm_operators.specs.WasmOperatorsAtomic.WasmOperatorsVector.declared.operators.VectorOperator.{VectorOperator}
 use Rattle.wasm_operators.specs.WasmOperatorsAtomic.Forms as atomics
@@ -42,12 +44,14 @@ use Rattle.wasm_operators.specs.WasmOperatorsAtomic.declared.operators.AtomicOpe
 use Rattle.wasm_operators.specs.WasmOperatorsAtomic.WasmOperatorsVector.declared.forms.Form.{Form}
 use Rattle.wasm_operators.specs.declared.immediates.ImmediateValues.{ImmediateValues}
 use Rattle.wasm_operator_steps.specs.Forms.{types_taken, types_given, memarg_of}
-use Rattle.wasm_operator_steps.specs.Actions.{of_type, of_function, of_tag, OperandTypes, these, params, results, label, returned, local, global, function_reference, new_reference, fields, element, field, table_address, memory_address, table_element, segment, lesser_table_address, lesser_memory_address, top, descriptor_of, repeated, front, last, joined, Needed, multi_value, reference_types, bulk_memory, exceptions, function_references, gc, shared_everything_threads, custom_descriptors, Check, has, allows, global_is_mutable, local_is_set, function_is_referenced, is_exception, each_matches, may_be_cast, can_be_tested, is_aligned, fields_have_defaults, has_no_descriptor, field_is_mutable, field_is_packed, element_is_mutable, element_has_default, element_is_number, element_is_packed, element_is_storable, data_is_there, segment_is_there, reaches_global, reaches_table, reaches_type, reaches_function, suits, simd, threads, vector_operators, atomic_operators}
+use Rattle.wasm_operator_steps.specs.Actions.{of_type, of_function, of_tag, OperandTypes, these, params, results, label, returned, local, global, function_reference, new_reference, fields, element, field, table_address, memory_address, table_element, segment, lesser_table_address, lesser_memory_address, top, descriptor_of, repeated, front, last, joined, Needed, multi_value, reference_types, bulk_memory, exceptions, function_references, gc, shared_everything_threads, custom_descriptors, legacy_exceptions, Check, has, allows, global_is_mutable, local_is_set, function_is_referenced, is_exception, each_matches, may_be_cast, can_be_tested, is_aligned, fields_have_defaults, has_no_descriptor, field_is_mutable, field_is_packed, element_is_mutable, element_has_default, element_is_number, element_is_packed, element_is_storable, data_is_there, segment_is_there, reaches_global, reaches_table, reaches_type, reaches_function, suits, simd, threads, vector_operators, atomic_operators}
 
 -- Shapes: takes some operands and gives others; takes some, and what follows isn't reached; takes some and enters a block; `end`; `else`;
 -- takes any operand; chooses one of two; tests a reference for null; asserts that it isn't null; branches where it is null; branches
 -- where it isn't; branches by a table; sets a local; sets it and gives it back; takes a reference below an abstract heap type, shared
--- or not; takes two that may be compared; turns a reference of one hierarchy into one of another; is never valid.
+-- or not; takes two that may be compared; turns a reference of one hierarchy into one of another; is never valid; turns a `try` to a `catch`
+-- or to its `catch_all`, over these operands; ends a `try` and hands its exceptions to a label; throws again what the frame of a label has
+-- caught.
 pub data Shape : Type 0 where
   plain : List Check → OperandTypes → OperandTypes → Shape
   ending : List Check → OperandTypes → Shape
@@ -60,6 +64,8 @@ pub data Shape : Type 0 where
   measuring : List Check → AbstractHeap → OperandTypes → Shape
   comparing : List Check → OperandTypes → Shape
   converting : List Check → AbstractHeap → AbstractHeap → Shape
+  catching : List Check → OperandTypes → Kind → Shape
+  delegating rethrowing : List Check → ℕ → Shape
 
 -- words on types
 abbrev pub nothing : OperandTypes
@@ -116,6 +122,17 @@ control_shape (control.br l) = ending [] (label l)
 control_shape (control.br_if l) = plain [] (joined (label l) (one i32)) (label l)
 control_shape (control.br_table ls l) = branching_by_table ls l
 control_shape control.return_ = ending [] returned
+
+-- The operators of the legacy exception-handling proposal, which need two features
+abbrev pub legacy_checks : List Check → List Check
+legacy_checks cs = has legacy_exceptions ∷ has exceptions ∷ cs
+
+abbrev pub legacy_shape : Legacy ℕ → Shape
+legacy_shape (legacy.try_ b) = opening (legacy_checks (block_checks b)) nothing legacy_try_kind b
+legacy_shape (legacy.catch_ x) = catching (legacy_checks (is_exception x ∷ [])) (params (of_tag x)) legacy_catch_kind
+legacy_shape legacy.catch_all = catching (legacy_checks []) nothing legacy_catch_all_kind
+legacy_shape (legacy.delegate l) = delegating (legacy_checks []) l
+legacy_shape (legacy.rethrow l) = rethrowing (legacy_checks []) l
 
 -- the results of a call in place of the caller
 abbrev pub returns : OperandTypes → Check
@@ -332,6 +349,7 @@ atomic_shape op values = form_shape (has atomic_operators ∷ has threads ∷ []
 -- all instructions
 abbrev pub shape_of : Instruction ℕ → Shape
 shape_of (instruction.control op) = control_shape op
+shape_of (instruction.legacy op) = legacy_shape op
 shape_of (instruction.call op) = call_shape op
 shape_of (instruction.parametric op) = parametric_shape op
 shape_of (instruction.variable op) = variable_shape op

@@ -3,7 +3,8 @@
 //! Validation, Instructions, and Appendix, Validation Algorithm).
 #![tactic(auto)]
 
-ghost use Rattle.wasm_operator_steps.specs.Laws.{StepsRename, OperatorsAreOptIn, NumericShapesByOpcode, VerdictsRename, ConstantsGiveReferences, WorldsAreRight};
+ghost use Rattle.wasm_operator_steps.specs.Laws.{LegacyNeedsFeatures, StepsRename, OperatorsAreOptIn, NumericShapesByOpcode, VerdictsRename, ConstantsGiveReferences, WorldsAreRight};
+ghost use Rattle.wasm_operator_steps.specs.LegacyExamples.{Tries, NoTries, TriesNeedFeatures};
 ghost use Rattle.wasm_operator_steps.specs.StackLaws.{ListsAreTakenInTurn, TakingKeepsFrames, TypesAreTakenInTurn, UnreachedCodeTakesAnything, EqualTypesMatch, EqualTypesMatchInContexts, ActionsAreRunInTurn};
 ghost use Rattle.wasm_operator_steps.specs.ControlExamples.{Blocks, NoBlocks, Branches, NoBranches, Calls, NoCalls, Exceptions, NoExceptions, Parametrics, NoParametrics, Variables, NoVariables, ControlNeedsFeatures, Constants, NoConstants, ConstantInstructions, NoConstantInstructions};
 ghost use Rattle.wasm_operator_steps.specs.HeapExamples.{Memories, NoMemories, Tables, NoTables, References, NoReferences, Casts, NoCasts, Conversions, NoConversions, Structures, NoStructures, Arrays, NoArrays, Descriptors, NoDescriptors, MemoriesNeedFeatures, ReferencesNeedFeatures, AggregatesNeedFeatures};
@@ -82,6 +83,20 @@ pub fn shared_examples()
     ensures structures { ReachesStructures }
     ensures arrays { ReachesArrays }
     ensures the_rest { ReachesTheRest }
+{}
+
+/// Bodies with operators of legacy exceptions: valid ones, and ones that are not.
+#[tactic(auto, using(crate::proofs::LegacyRuns::legacy_runs))]
+pub fn legacy_examples()
+    ensures tries { Tries }
+    ensures no_tries { NoTries }
+    ensures need_features { TriesNeedFeatures }
+{}
+
+/// Without their features no step is taken by an operator of legacy exceptions.
+#[tactic(auto, using(crate::proofs::LegacyRuns::legacy_needs_features))]
+pub fn legacy_needs_features<R>()
+    ensures { LegacyNeedsFeatures R }
 {}
 
 /// Numeric operators take and give what their opcodes say.

@@ -10,7 +10,7 @@ use Rattle.wasm_readers_types.specs.WasmReadersValues.declared.indices.UnpackedI
 use Rattle.wasm_operators.specs.Control.{Block, empty_block, value_block, func_block}
 use Rattle.wasm_operator_blocks.specs.WasmOperatorChecks.WasmSpecRules.Attempts.{◌>>=◌, last_of, front_of}
 use Rattle.wasm_operator_blocks.specs.WasmOperatorChecks.WasmOperatorSteps.Bodies.{Surroundings}
-use Rattle.wasm_operator_blocks.specs.WasmOperatorChecks.WasmOperatorSteps.Machine.{Kind, block_kind, loop_kind, if_kind, else_kind, try_table_kind, Frame, State}
+use Rattle.wasm_operator_blocks.specs.WasmOperatorChecks.WasmOperatorSteps.Machine.{Kind, block_kind, loop_kind, if_kind, else_kind, try_table_kind, legacy_try_kind, legacy_catch_kind, legacy_catch_all_kind, Frame, State}
 use Rattle.wasm_operator_blocks.specs.WasmOperatorChecks.WasmOperatorSteps.Actions.{Signed, of_type, of_function, of_tag, OperandTypes, these, params, results, label, returned, local, global, function_reference, new_reference, fields, element, field, table_address, memory_address, table_element, segment, lesser_table_address, lesser_memory_address, top, descriptor_of, repeated, front, last, joined}
 use Rattle.wasm_operator_blocks.specs.WasmOperatorChecks.WasmSpecRules.Signatures.{Signature, signature_of, resolve_val, resolve_vals}
 use Rattle.wasm_operator_blocks.specs.WasmOperatorChecks.WasmOperatorSteps.Meanings.{fields_of, copies, one, unpack_field, label_by, ref_to, exact_if, function_heap, element_at, field_at, address, table_is_64, memory_is_64, both, top_heap, descriptor_at, sub_at, type_signature, block_signature, signature_at, types_at}
@@ -91,6 +91,9 @@ label-counted block_kind o = gives-counted o
 label-counted if_kind o = gives-counted o
 label-counted else_kind o = gives-counted o
 label-counted try_table_kind o = gives-counted o
+label-counted legacy_try_kind o = gives-counted o
+label-counted legacy_catch_kind o = gives-counted o
+label-counted legacy_catch_all_kind o = gives-counted o
 
 -- a count that is the length of an attempt, where the attempt gives a list
 from-map : {A : Type 0} (n : Option ℕ) (o : Option (List A)) (vs : List A) → n ≡ option_map length o → o ≡ Some vs → n ≡ Some (length vs)

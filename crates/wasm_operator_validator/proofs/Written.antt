@@ -6,6 +6,7 @@ use Rattle.wasm_readers.specs.Written.{written}
 use Rattle.wasm_operator_blocks.specs.WasmOperatorChecks.WasmValidatorResources.Answers.{written_index, IsWrittenHeap, IsWrittenVal}
 use Rattle.wasm_operators.specs.Control as control
 use Rattle.wasm_operators.specs.Control.{Block, empty_block, value_block, func_block, Control}
+use Rattle.wasm_operators.specs.Legacy.{Legacy, try_, catch_, rethrow, delegate, catch_all}
 use Rattle.wasm_operators.specs.References.{Reference, ref_null, ref_is_null, ref_eq, ref_as_non_null, ref_func, br_on_null, br_on_non_null, Cast, ref_test, ref_cast, br_on_cast, br_on_cast_fail}
 use Rattle.wasm_operators.specs.Instructions as instruction
 use Rattle.wasm_operators.specs.Instructions.{Instruction, instruction_at}
@@ -51,6 +52,13 @@ control_written (control.br l) = tt
 control_written (control.br_if l) = tt
 control_written (control.br_table ls l) = tt
 
+legacy_written : (op : Legacy ℕ) → Is (instruction.legacy op)
+legacy_written (try_ b) = block_written b
+legacy_written (catch_ x) = tt
+legacy_written (rethrow l) = tt
+legacy_written (delegate l) = tt
+legacy_written catch_all = tt
+
 reference_written : (op : Reference ℕ) → Is (instruction.reference op)
 reference_written (ref_null h) = heap_written h
 reference_written ref_is_null = tt
@@ -68,6 +76,7 @@ cast_written (br_on_cast_fail l r q) = (heap_written r.heap, heap_written q.heap
 
 all_written : (op : Instruction ℕ) → Is op
 all_written (instruction.control op) = control_written op
+all_written (instruction.legacy op) = legacy_written op
 all_written (instruction.call op) = tt
 all_written (instruction.parametric op) = tt
 all_written (instruction.variable op) = tt

@@ -12,7 +12,7 @@ use Rattle.wasm_operators.specs.declared.operators.Operator.{Operator}
 use Rattle.wasm_operator_blocks.specs.WasmOperatorChecks.WasmSpecRules.Attempts.{last_of}
 use Rattle.wasm_operator_blocks.specs.WasmOperatorChecks.WasmOperatorSteps.Machine.{Kind, loop_kind}
 use Rattle.wasm_operator_blocks.specs.WasmOperatorChecks.WasmOperatorSteps.Actions.{Signed, of_type, of_function, of_tag, OperandTypes, these, params, results, label, returned, fields, repeated, front, last, joined}
-use Rattle.wasm_operator_blocks.specs.WasmOperatorChecks.WasmOperatorSteps.Shapes.{Shape, plain, ending, opening, closing, turning, dropping, choosing, never, testing_null, asserting_non_null, branching_on_null, branching_on_non_null, branching_by_table, setting, giving_back, measuring, comparing, converting, shape_of}
+use Rattle.wasm_operator_blocks.specs.WasmOperatorChecks.WasmOperatorSteps.Shapes.{Shape, plain, ending, opening, closing, turning, dropping, choosing, never, testing_null, asserting_non_null, branching_on_null, branching_on_non_null, branching_by_table, setting, giving_back, measuring, comparing, converting, catching, delegating, rethrowing, shape_of}
 use Rattle.wasm_operator_validator.specs.Asked.{Asked}
 
 -- words on numbers that may not be there
@@ -81,7 +81,7 @@ module _ (M : Asked) where
   how_many _ = Some 1
 
   -- How many operands a shape takes, and how many it gives. A block takes what it begins with, and gives it to its own frame; its
-  -- `end` takes what it gives. What is never valid has no arity.
+  -- `end` takes what it gives, and so do what ends a `try` and what turns it to a `catch`. What is never valid has no arity.
   abbrev pub arity : Shape → Option (ℕ × ℕ)
   arity (plain cs t u) = pair (how_many t) (how_many u)
   arity (ending cs t) = pair (how_many t) (Some 0)
@@ -101,6 +101,9 @@ module _ (M : Asked) where
   arity (measuring cs k t) = pair (Some 1) (how_many t)
   arity (comparing cs t) = pair (Some 2) (how_many t)
   arity (converting cs j k) = Some (1, 1)
+  arity (catching cs t k) = pair (gives_of innermost_counts) (how_many t)
+  arity (delegating cs l) = pair (gives_of innermost_counts) (gives_of innermost_counts)
+  arity (rethrowing cs l) = Some (0, 0)
 
 -- both numbers, where they have 32 bits
 abbrev pub in_u32 : ℕ × ℕ → Option (ℕ × ℕ)

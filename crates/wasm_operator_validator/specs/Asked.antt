@@ -6,7 +6,7 @@ use Rattle.wasm_readers_types.specs.WasmReadersValues.declared.indices.UnpackedI
 use Rattle.wasm_operators.specs.Control.{Block}
 use Rattle.wasm_operators.specs.declared.control.FrameKind.{FrameKind}
 use Rattle.wasm_operators.specs.declared.control.FrameKind.TheVariants as frame
-use Rattle.wasm_operator_blocks.specs.WasmOperatorChecks.WasmOperatorSteps.Machine.{Kind, block_kind, loop_kind, if_kind, else_kind, try_table_kind}
+use Rattle.wasm_operator_blocks.specs.WasmOperatorChecks.WasmOperatorSteps.Machine.{Kind, block_kind, loop_kind, if_kind, else_kind, try_table_kind, legacy_try_kind, legacy_catch_kind, legacy_catch_all_kind}
 
 -- Answers, where there is one: the type of a type index and of an id, the type index of a function, and how many parameters and
 -- results the type of a tag has; and the block type and the kind of each frame, the innermost first.
@@ -24,6 +24,9 @@ kind_of frame.If = if_kind
 kind_of frame.Else = else_kind
 kind_of frame.Loop = loop_kind
 kind_of frame.TryTable = try_table_kind
+kind_of frame.LegacyTry = legacy_try_kind
+kind_of frame.LegacyCatch = legacy_catch_kind
+kind_of frame.LegacyCatchAll = legacy_catch_all_kind
 
 -- the type of an index that is an id
 abbrev pub type_of_id : Asked → UnpackedIndex → Option (Sub UnpackedIndex)

@@ -3,7 +3,7 @@
 use Rattle.std.specs.Prelude.{Result, ⊤}
 use Rattle.wasm_operator_blocks.specs.WasmOperatorChecks.WasmSpecRules.Contexts.{Context}
 use Rattle.wasm_readers_types.specs.WasmReadersValues.declared.indices.UnpackedIndex.{UnpackedIndex}
-use Rattle.wasm_operators.specs.Instructions.{Instruction, control, reference, cast}
+use Rattle.wasm_operators.specs.Instructions.{Instruction, control, legacy, reference, cast}
 use Rattle.wasm_operators.specs.Maps.{map_instruction}
 use Rattle.wasm_operator_blocks.specs.WasmOperatorChecks.WasmOperatorSteps.Steps.{step_in}
 use Rattle.wasm_operator_blocks.specs.WasmOperatorChecks.WasmValidatorResources.Answers.{world, written_index}
@@ -13,7 +13,7 @@ use Rattle.wasm_operator_casts.specs.WrittenReferences.{IsWrittenReference}
 use Rattle.wasm_operator_casts.specs.Written.{IsWrittenCast}
 use Rattle.wasm_operator_blocks.specs.WasmOperatorChecks.Steps.{Took}
 use Rattle.wasm_operator_blocks.specs.WasmOperatorChecks.declared.faults.OperatorError.{OperatorError}
-use Rattle.wasm_operator_blocks.specs.Written.{IsWrittenControl}
+use Rattle.wasm_operator_blocks.specs.Written.{IsWrittenControl, IsWrittenLegacy}
 
 -- one step by an operator whose types name type indices of a module
 abbrev pub Steps : {A : Type 0} → Result (Unit {0}) OperatorError → Context UnpackedIndex → Instruction UnpackedIndex → Stacks A → Stacks A → Type 0
@@ -22,6 +22,7 @@ Steps r C op v w = Took r (step_in (world C) (around v C) (map_instruction writt
 -- the types of an operator name type indices of a module
 abbrev pub IsWrittenInstruction : Instruction UnpackedIndex → Type 0
 IsWrittenInstruction (control op) = IsWrittenControl op
+IsWrittenInstruction (legacy op) = IsWrittenLegacy op
 IsWrittenInstruction (reference op) = IsWrittenReference op
 IsWrittenInstruction (cast op) = IsWrittenCast op
 IsWrittenInstruction _ = ⊤

@@ -19,7 +19,11 @@ use wasm_readers_types::ValType;
 
 /// How many operands an operator takes that begins a block, and takes so many besides, and how many
 /// the block begins with.
-fn opening_counts<M: ModuleArity>(resources: &M, ty: BlockType, besides: u8) -> Option<(u128, u128)>
+pub(crate) fn opening_counts<M: ModuleArity>(
+    resources: &M,
+    ty: BlockType,
+    besides: u8,
+) -> Option<(u128, u128)>
     ensures { result ≡ pair (plus (Some besides)
         (takes_of (block_counts (M.asked resources.now) (map_block index_number (block_of ty)))))
         (takes_of (block_counts (M.asked resources.now) (map_block index_number (block_of ty)))) }

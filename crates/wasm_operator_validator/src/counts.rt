@@ -96,7 +96,13 @@ pub(crate) fn label_count<M: ModuleArity>(resources: &M, depth: u32) -> Option<u
         Some((ty, kind)) => match block_counts(resources, ty) {
             Some((takes, gives)) => match kind {
                 FrameKind::Loop => Some(takes),
-                FrameKind::Block | FrameKind::If | FrameKind::Else | FrameKind::TryTable => {
+                FrameKind::Block
+                | FrameKind::If
+                | FrameKind::Else
+                | FrameKind::TryTable
+                | FrameKind::LegacyTry
+                | FrameKind::LegacyCatch
+                | FrameKind::LegacyCatchAll => {
                     Some(gives)
                 }
             },

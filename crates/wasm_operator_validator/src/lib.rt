@@ -11,6 +11,7 @@ mod forms;
 mod frame_stack;
 mod heap;
 mod laws;
+mod legacy;
 mod module;
 mod operators;
 mod queries;

@@ -6,6 +6,7 @@ ghost use Rattle.wasm_operator_validator.specs.Arities.{arity, in_u32, operator_
 
 use crate::control::{call_arity, control_arity, parametric_arity};
 use crate::forms::{atomic_arity, vector_arity};
+use crate::legacy::legacy_arity;
 use crate::heap::{array_arity, cast_arity, conversion_arity, reference_arity, struct_arity};
 use crate::module::ModuleArity;
 use crate::values::{
@@ -19,6 +20,7 @@ fn counts_of<M: ModuleArity>(op: &Operator, resources: &M) -> Option<(u128, u128
 {
     match op {
         Operator::Control(op) => control_arity(op, resources),
+        Operator::Legacy(op) => legacy_arity(op, resources),
         Operator::Call(op) => call_arity(op, resources),
         Operator::Parametric(op) => parametric_arity(op, resources),
         Operator::Variable(op) => Some(variable_arity(op)),

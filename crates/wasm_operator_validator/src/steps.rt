@@ -9,7 +9,9 @@ use wasm_operator_arrays::step_array;
 use wasm_operator_blocks::operator_checks::{OperatorError, OperatorFault, OperatorRule};
 use wasm_operator_blocks::operator_stacks::Stacks;
 use wasm_operator_blocks::validator_resources::WasmModuleResources;
-use wasm_operator_blocks::{step_call, step_control, step_parametric, step_variable};
+use wasm_operator_blocks::{
+    step_call, step_control, step_legacy, step_parametric, step_variable,
+};
 use wasm_operator_casts::{step_cast, step_conversion, step_reference};
 use wasm_operator_fast::operator_numbers::{
     access_memory, bulk_memory, compute, constant, step_atomic, step_table, step_vector,
@@ -40,6 +42,7 @@ pub fn step<'a, A: Allocator, T: WasmModuleResources>(
     }
     match *op {
         Operator::Control(op) => step_control(stacks, resources, op),
+        Operator::Legacy(op) => step_legacy(stacks, resources, op),
         Operator::Call(op) => step_call(stacks, resources, op),
         Operator::Parametric(op) => step_parametric(stacks, resources, op),
         Operator::Variable(op) => step_variable(stacks, resources, op),

@@ -1,9 +1,10 @@
 -- An expression is the same bytes whatever type indices stand for.
 use Rattle.std.proofs.Common.{◌≡◌, refl, ap, ◌∙◌, ℕ, zero, suc, List, length, Option, Some, None, option_map}
 use Rattle.wasm_operators.specs.Control.{Control, unreachable, nop, else_, end_, throw_ref, return_, block, loop, if_, try_table, throw, br, br_if, br_table}
-use Rattle.wasm_operators.specs.Instructions.{Instruction, control, call, parametric, variable, table, access, memory, constant, numeric, saturating, reference, cast, conversion, structure, array, vector, atomic, instruction_at}
-use Rattle.wasm_operators.specs.Expressions.{nesting_of, nesting_of_control, depth_after, go_on, behind_from, behind_expression, expression_at}
-use Rattle.wasm_operators.specs.Maps.{map_control, map_instruction}
+use Rattle.wasm_operators.specs.Instructions.{Instruction, control, legacy, call, parametric, variable, table, access, memory, constant, numeric, saturating, reference, cast, conversion, structure, array, vector, atomic, instruction_at}
+use Rattle.wasm_operators.specs.Expressions.{nesting_of, nesting_of_control, nesting_of_legacy, depth_after, go_on, behind_from, behind_expression, expression_at}
+use Rattle.wasm_operators.specs.Maps.{map_control, map_legacy, map_instruction}
+use Rattle.wasm_operators.specs.Legacy.{Legacy, try_, catch_, rethrow, delegate, catch_all}
 use Rattle.wasm_operators.specs.Laws.{ReadingIsOfBytes}
 use Rattle.wasm_operators.specs.declared.expressions.Nesting.{Nesting}
 use Rattle.wasm_operators.proofs.ExpressionFronts.{stepped, cut}
@@ -30,8 +31,16 @@ module _ {R S : Type 0} (f : R → S) (to : ℕ → R) where
   nesting_of_control-same (br_if l) = refl
   nesting_of_control-same (br_table ls l) = refl
 
+  nesting_of_legacy-same : (op : Legacy R) → nesting_of_legacy (map_legacy f op) ≡ nesting_of_legacy op
+  nesting_of_legacy-same (try_ b) = refl
+  nesting_of_legacy-same (catch_ x) = refl
+  nesting_of_legacy-same (rethrow l) = refl
+  nesting_of_legacy-same (delegate l) = refl
+  nesting_of_legacy-same catch_all = refl
+
   nesting-same : (i : Instruction R) → nesting_of (map_instruction f i) ≡ nesting_of i
   nesting-same (control op) = nesting_of_control-same op
+  nesting-same (legacy op) = nesting_of_legacy-same op
   nesting-same (call op) = refl
   nesting-same (parametric op) = refl
   nesting-same (variable op) = refl

@@ -24,6 +24,7 @@ use Rattle.wasm_operators_atomic.specs.Forms as atomic_forms
 use Rattle.wasm_operators.specs.declared.immediates.ImmediateValues.{ImmediateValues}
 use Rattle.wasm_operators.specs.FormImmediates.{zero_at, values_at, behind_memarg, place_at, immediates_at}
 use Rattle.wasm_operators.specs.Instructions.{with_memarg, with_form, aggregate_from, bulk_from, vectors_from, atomics_from, prefixed_from, plain_from, instruction_at}
+use Rattle.wasm_operators.specs.Legacy.{legacy_from}
 
 module _ {more : List ℕ} where
   s33_index-reads : (bytes : List ℕ) → Reads more 1 bytes (s33_index_at bytes) (s33_index_at (bytes ++ more))
@@ -116,6 +117,16 @@ module _ {more : List ℕ} where
         (reads_if (b == 0x1f) (reads_weaken (reads_map _ (try_table-reads bytes)))
         reads_none)))))))))))))
 
+    legacy-reads : (b : ℕ) (bytes : List ℕ) → Reads more 0 bytes (legacy_from to b bytes) (legacy_from to b (bytes ++ more))
+    unfolding legacy_from
+    legacy-reads b bytes =
+        reads_if (b == 0x06) (reads_weaken (reads_map _ (block-reads bytes)))
+        (reads_if (b == 0x07) (one_index-reads _ bytes)
+        (reads_if (b == 0x09) (one_index-reads _ bytes)
+        (reads_if (b == 0x18) (one_index-reads _ bytes)
+        (reads_if (b == 0x19) reads_here
+        reads_none))))
+
     parametric-reads : (b : ℕ) (bytes : List ℕ) → Reads more 0 bytes (parametric_from to b bytes) (parametric_from to b (bytes ++ more))
     unfolding parametric_from
     parametric-reads b bytes =
@@ -178,8 +189,13 @@ module _ {more : List ℕ} where
     plain-reads : (b : ℕ) (bytes : List ℕ) → Reads more 0 bytes (plain_from to b bytes) (plain_from to b (bytes ++ more))
     unfolding plain_from
     plain-reads b bytes =
-        reads_if (nat_lt b 0x10) (reads_map _ (control-reads b bytes))
-        (reads_if (nat_lt b 0x1a) (reads_map _ (call-reads b bytes))
+        reads_if (nat_lt b 0x06) (reads_map _ (control-reads b bytes))
+        (reads_if (nat_lt b 0x08) (reads_map _ (legacy-reads b bytes))
+        (reads_if (nat_lt b 0x09) (reads_map _ (control-reads b bytes))
+        (reads_if (nat_lt b 0x0a) (reads_map _ (legacy-reads b bytes))
+        (reads_if (nat_lt b 0x10) (reads_map _ (control-reads b bytes))
+        (reads_if (nat_lt b 0x18) (reads_map _ (call-reads b bytes))
+        (reads_if (nat_lt b 0x1a) (reads_map _ (legacy-reads b bytes))
         (reads_if (nat_lt b 0x1f) (reads_map _ (parametric-reads b bytes))
         (reads_if (nat_lt b 0x20) (reads_map _ (control-reads b bytes))
         (reads_if (nat_lt b 0x25) (reads_map _ (variable-reads b bytes))
@@ -188,7 +204,7 @@ module _ {more : List ℕ} where
         (reads_if (nat_lt b 0x41) (reads_map _ (memory_size-reads b bytes))
         (reads_if (nat_lt b 0x45) (reads_map _ (constant-reads b bytes))
         (reads_if (nat_lt b 0xd0) (reads_value _ (numeric_from b))
-        (reads_map _ (reference-reads b bytes)))))))))))
+        (reads_map _ (reference-reads b bytes))))))))))))))))
 
     prefixed-reads : (b n : ℕ) (bytes : List ℕ) → Reads more 0 bytes (prefixed_from to b n bytes) (prefixed_from to b n (bytes ++ more))
     unfolding prefixed_from

@@ -22,7 +22,8 @@ use Rattle.wasm_operators_atomic.specs.Forms as atomic_forms
 use Rattle.wasm_operators_atomic.specs.declared.operators.AtomicOperator.{AtomicOperator}
 use Rattle.wasm_operators.specs.FormImmediates.{immediates_at}
 use Rattle.wasm_operators.specs.Instructions.{vector, atomic, with_memarg, with_form, aggregate_from, bulk_from, vectors_from, atomics_from, prefixed_from, plain_from, instruction_at}
-use Rattle.wasm_operators.specs.Maps.{map_block, map_control, map_parametric, map_reference, map_cast, map_instruction, map_try_table, map_branch}
+use Rattle.wasm_operators.specs.Maps.{map_block, map_control, map_legacy, map_parametric, map_reference, map_cast, map_instruction, map_try_table, map_branch}
+use Rattle.wasm_operators.specs.Legacy.{legacy_from}
 use Rattle.wasm_operators_plain.specs.declared.memories.MemoryOperator.{MemoryOperator}
 
 module _ {R S : Type 0} (f : R → S) (to : ℕ → R) where
@@ -78,6 +79,16 @@ module _ {R S : Type 0} (f : R → S) (to : ℕ → R) where
       (renames_if (b == 0x0f) renames_some
       (renames_if (b == 0x1f) (renames_map _ _ (try_table-renames bytes) (λ x. refl))
       renames_none)))))))))))))
+
+  legacy-renames : (b : ℕ) (bytes : List ℕ) → Renames (map_legacy f) (legacy_from to b bytes) (legacy_from then_renamed b bytes)
+  unfolding legacy_from
+  legacy-renames b bytes =
+      renames_if (b == 0x06) (renames_map _ _ (block-renames bytes) (λ x. refl))
+      (renames_if (b == 0x07) (renames_same_map (u32_at bytes) _ _ (λ x. refl))
+      (renames_if (b == 0x09) (renames_same_map (u32_at bytes) _ _ (λ x. refl))
+      (renames_if (b == 0x18) (renames_same_map (u32_at bytes) _ _ (λ x. refl))
+      (renames_if (b == 0x19) renames_some
+      renames_none))))
 
   parametric-renames : (b : ℕ) (bytes : List ℕ) → Renames (map_parametric f) (parametric_from to b bytes) (parametric_from then_renamed b bytes)
   unfolding parametric_from
@@ -137,8 +148,13 @@ module _ {R S : Type 0} (f : R → S) (to : ℕ → R) where
   plain-renames : (b : ℕ) (bytes : List ℕ) → Renames (map_instruction f) (plain_from to b bytes) (plain_from then_renamed b bytes)
   unfolding plain_from
   plain-renames b bytes =
-      renames_if (nat_lt b 0x10) (renames_map _ _ (control-renames b bytes) (λ x. refl))
-      (renames_if (nat_lt b 0x1a) (renames_same_map (call_from b bytes) _ _ (λ x. refl))
+      renames_if (nat_lt b 0x06) (renames_map _ _ (control-renames b bytes) (λ x. refl))
+      (renames_if (nat_lt b 0x08) (renames_map _ _ (legacy-renames b bytes) (λ x. refl))
+      (renames_if (nat_lt b 0x09) (renames_map _ _ (control-renames b bytes) (λ x. refl))
+      (renames_if (nat_lt b 0x0a) (renames_map _ _ (legacy-renames b bytes) (λ x. refl))
+      (renames_if (nat_lt b 0x10) (renames_map _ _ (control-renames b bytes) (λ x. refl))
+      (renames_if (nat_lt b 0x18) (renames_same_map (call_from b bytes) _ _ (λ x. refl))
+      (renames_if (nat_lt b 0x1a) (renames_map _ _ (legacy-renames b bytes) (λ x. refl))
       (renames_if (nat_lt b 0x1f) (renames_map _ _ (parametric-renames b bytes) (λ x. refl))
       (renames_if (nat_lt b 0x20) (renames_map _ _ (control-renames b bytes) (λ x. refl))
       (renames_if (nat_lt b 0x25) (renames_same_map (variable_from b bytes) _ _ (λ x. refl))
@@ -147,7 +163,7 @@ module _ {R S : Type 0} (f : R → S) (to : ℕ → R) where
       (renames_if (nat_lt b 0x41) (renames_same_map (memory_size_from b bytes) _ _ (λ x. refl))
       (renames_if (nat_lt b 0x45) (renames_same_map (constant_from b bytes) _ _ (λ x. refl))
       (renames_if (nat_lt b 0xd0) (renames_same_map (numeric_from b) _ _ (λ x. refl))
-      (renames_map _ _ (reference-renames b bytes) (λ x. refl)))))))))))
+      (renames_map _ _ (reference-renames b bytes) (λ x. refl))))))))))))))))
 
   prefixed-renames : (b n : ℕ) (bytes : List ℕ) → Renames (map_instruction f) (prefixed_from to b n bytes) (prefixed_from then_renamed b n bytes)
   unfolding prefixed_from

@@ -6,7 +6,7 @@ use Rattle.wasm_operators_plain.specs.WasmReaders.WasmReadersBytes.declared.bina
 use Rattle.wasm_operators.specs.Instructions.{Instruction, instruction_at}
 use Rattle.wasm_operators.specs.Expressions.{nesting_of, depth_after, behind_from}
 use Rattle.wasm_operators.specs.declared.expressions.Nesting.{Nesting}
-use Rattle.wasm_operators.specs.declared.expressions.Nesting.TheVariants.{Opens, Closes, Keeps}
+use Rattle.wasm_operators.specs.declared.expressions.Nesting.TheVariants.{Opens, Closes, Delegates, Keeps}
 
 -- less is left behind what was read
 pub shorter : (old new : BinaryReader) → SameInput old new → position_in old < position_in new → length (rest new) < length (rest old)
@@ -21,6 +21,7 @@ taken false o n e = e
 pub one_deeper : (nesting : Nesting) (depth now : ℕ) → depth_after nesting depth ≡ Some now → now ≤ depth + 1
 one_deeper Opens depth now e = let same : depth + 1 ≡ now = cc in omega arith
 one_deeper Closes depth now e = let less = taken (eqb depth 0) (Some (depth - 1)) now e in let same : depth - 1 ≡ now = cc in omega arith
+one_deeper Delegates depth now e = let same : depth - 1 ≡ now = cc in omega arith
 one_deeper Keeps depth now e = let same : depth ≡ now = cc in omega arith
 
 one_step : {R : Type 0} (to : ℕ → R) (most depth : ℕ) (bytes more : List ℕ) (i : Instruction R) (now : ℕ)

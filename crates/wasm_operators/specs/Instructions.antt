@@ -4,6 +4,7 @@ use Rattle.std.specs.Prelude.{ℕ, ◌==◌, nat_lt, if◌then◌else◌, List, 
 use Rattle.std.specs.Option.{option_map, option_and_then}
 use Rattle.wasm_operators_plain.specs.WasmSpec.Values.{byte_at, u32_at}
 use Rattle.wasm_operators.specs.Control.{Control, Parametric, control_from, parametric_from}
+use Rattle.wasm_operators.specs.Legacy.{Legacy, legacy_from}
 use Rattle.wasm_operators_plain.specs.Calls.{call_from}
 use Rattle.wasm_operators_plain.specs.Variables.{variable_from}
 use Rattle.wasm_operators_plain.specs.Tables.{table_access_from, table_from}
@@ -39,6 +40,7 @@ use Rattle.wasm_operators.specs.declared.immediates.ImmediateValues.{ImmediateVa
 -- the instructions by family
 pub data Instruction (R : Type 0) : Type 0 where
   control : Control R → Instruction R
+  legacy : Legacy R → Instruction R
   call : CallOperator → Instruction R
   parametric : Parametric R → Instruction R
   variable : VariableOperator → Instruction R
@@ -115,8 +117,13 @@ module _ {R : Type 0} (to : ℕ → R) where
   -- by a first byte below fb
   unfoldable pub plain_from : ℕ → List ℕ → Option (Instruction R × List ℕ)
   plain_from b bytes =
-      if nat_lt b 0x10 then of_family control (control_from to b bytes)
-      else (if nat_lt b 0x1a then of_family call (call_from b bytes)
+      if nat_lt b 0x06 then of_family control (control_from to b bytes)
+      else (if nat_lt b 0x08 then of_family legacy (legacy_from to b bytes)
+      else (if nat_lt b 0x09 then of_family control (control_from to b bytes)
+      else (if nat_lt b 0x0a then of_family legacy (legacy_from to b bytes)
+      else (if nat_lt b 0x10 then of_family control (control_from to b bytes)
+      else (if nat_lt b 0x18 then of_family call (call_from b bytes)
+      else (if nat_lt b 0x1a then of_family legacy (legacy_from to b bytes)
       else (if nat_lt b 0x1f then of_family parametric (parametric_from to b bytes)
       else (if nat_lt b 0x20 then of_family control (control_from to b bytes)
       else (if nat_lt b 0x25 then of_family variable (variable_from b bytes)
@@ -125,7 +132,7 @@ module _ {R : Type 0} (to : ℕ → R) where
       else (if nat_lt b 0x41 then of_family memory (memory_size_from b bytes)
       else (if nat_lt b 0x45 then of_family constant (constant_from b bytes)
       else (if nat_lt b 0xd0 then with_nothing numeric bytes (numeric_from b)
-      else of_family reference (reference_from to b bytes))))))))))
+      else of_family reference (reference_from to b bytes)))))))))))))))
 
   -- by the first byte, which may be a prefix of a number
   abbrev pub instruction_from : ℕ → List ℕ → Option (Instruction R × List ℕ)

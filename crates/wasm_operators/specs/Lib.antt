@@ -6,6 +6,8 @@ pub mod Control
 pub mod SeenControl
 pub use Rattle.wasm_operators_atomic.specs as WasmOperatorsAtomic
 pub mod FormImmediates
+pub mod Legacy
+pub mod SeenLegacy
 pub mod Instructions
 pub mod SeenOperators
 pub mod Expressions

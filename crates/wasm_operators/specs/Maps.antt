@@ -2,8 +2,9 @@
 use Rattle.std.specs.Prelude.{ℕ, List, map}
 use Rattle.wasm_operators_plain.specs.WasmSpec.Syntax.{Ref, map_heap, map_ref, map_val}
 use Rattle.wasm_operators.specs.Control.{Block, empty_block, value_block, func_block, Control, unreachable, nop, else_, end_, throw_ref, return_, block, loop, if_, try_table, throw, br, br_if, br_table, Parametric, drop_, select, select_of}
+use Rattle.wasm_operators.specs.Legacy.{Legacy, try_, catch_, rethrow, delegate, catch_all}
 use Rattle.wasm_operators.specs.References.{Reference, ref_null, ref_is_null, ref_eq, ref_as_non_null, ref_func, br_on_null, br_on_non_null, Cast, ref_test, ref_cast, br_on_cast, br_on_cast_fail}
-use Rattle.wasm_operators.specs.Instructions.{Instruction, control, call, parametric, variable, table, access, memory, constant, numeric, saturating, reference, cast, conversion, structure, array, vector, atomic}
+use Rattle.wasm_operators.specs.Instructions.{Instruction, control, legacy, call, parametric, variable, table, access, memory, constant, numeric, saturating, reference, cast, conversion, structure, array, vector, atomic}
 use Rattle.wasm_operators.specs.declared.control.Catch.{Catch}
 
 module _ {R S : Type 0} (f : R → S) where
@@ -31,6 +32,13 @@ module _ {R S : Type 0} (f : R → S) where
   map_control (br_if l) = br_if l
   map_control (br_table ls l) = br_table ls l
 
+  abbrev pub map_legacy : Legacy R → Legacy S
+  map_legacy (try_ b) = try_ (map_block b)
+  map_legacy (catch_ x) = catch_ x
+  map_legacy (rethrow l) = rethrow l
+  map_legacy (delegate l) = delegate l
+  map_legacy catch_all = catch_all
+
   abbrev pub map_parametric : Parametric R → Parametric S
   map_parametric drop_ = drop_
   map_parametric select = select
@@ -56,6 +64,7 @@ module _ {R S : Type 0} (f : R → S) where
 
   abbrev pub map_instruction : Instruction R → Instruction S
   map_instruction (control op) = control (map_control op)
+  map_instruction (legacy op) = legacy (map_legacy op)
   map_instruction (call op) = call op
   map_instruction (parametric op) = parametric (map_parametric op)
   map_instruction (variable op) = variable op

@@ -3,12 +3,14 @@ use Rattle.wasm_operators_plain.specs.WasmReadersTypes.WasmReadersValues.declare
 use Rattle.wasm_operators.specs.Instructions as syntax
 use Rattle.wasm_operators.specs.Instructions.{Instruction}
 use Rattle.wasm_operators.specs.SeenControl.{control_of, parametric_of}
+use Rattle.wasm_operators.specs.SeenLegacy.{legacy_of}
 use Rattle.wasm_operators.specs.SeenReferences.{reference_of, cast_of}
 use Rattle.wasm_operators.specs.declared.operators.Operator.{Operator}
 use Rattle.wasm_operators.specs.declared.operators.Operator.TheVariants as operator
 
 abbrev pub operator_of : Operator → Instruction UnpackedIndex
 operator_of (operator.Control op) = syntax.control (control_of op)
+operator_of (operator.Legacy op) = syntax.legacy (legacy_of op)
 operator_of (operator.Call op) = syntax.call op
 operator_of (operator.Parametric op) = syntax.parametric (parametric_of op)
 operator_of (operator.Variable op) = syntax.variable op

@@ -40,6 +40,12 @@ pub enum FrameKind {
     Loop,
     /// A `try_table`.
     TryTable,
+    /// A `try` before its first `catch` or `catch_all`.
+    LegacyTry,
+    /// A `try` behind a `catch`.
+    LegacyCatch,
+    /// A `try` behind its `catch_all`.
+    LegacyCatchAll,
 }
 
 /// A catch clause of `try_table` (Core Specification 3.0, Binary Format, Instructions, Control

@@ -7,6 +7,7 @@ ghost use Rattle.wasm_operators.specs.Expressions.{nesting_of, depth_after, behi
 ghost use Rattle.wasm_operators.specs.SeenOperators.{operator_of};
 
 use crate::control::ControlOperator;
+use crate::legacy::LegacyOperator;
 use crate::operators::{Operator, read_operator};
 use wasm_operators_plain::readers::BinaryReader;
 use wasm_operators_plain::readers_errors::Refusal;
@@ -18,6 +19,8 @@ pub enum Nesting {
     Opens,
     /// It is the `end` of a block or of the expression.
     Closes,
+    /// It is a `delegate`, which ends a block.
+    Delegates,
     /// It does neither.
     Keeps,
 }
@@ -35,6 +38,11 @@ fn nesting_of(operator: &Operator) -> Nesting
             ControlOperator::End => Nesting::Closes,
             _ => Nesting::Keeps,
         },
+        Operator::Legacy(op) => match op {
+            LegacyOperator::Try { .. } => Nesting::Opens,
+            LegacyOperator::Delegate { .. } => Nesting::Delegates,
+            _ => Nesting::Keeps,
+        },
         _ => Nesting::Keeps,
     }
 }
@@ -48,6 +56,8 @@ fn depth_behind(nesting: Nesting, depth: usize) -> Option<usize>
         Nesting::Opens => Some(depth + 1),
         Nesting::Closes if depth == 0 => None,
         Nesting::Closes => Some(depth - 1),
+        Nesting::Delegates if depth == 0 => Some(0),
+        Nesting::Delegates => Some(depth - 1),
         Nesting::Keeps => Some(depth),
     }
 }

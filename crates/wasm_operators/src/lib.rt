@@ -6,6 +6,7 @@ mod expressions;
 mod frequent;
 mod immediates;
 pub mod laws;
+mod legacy;
 mod lists;
 mod operators;
 mod references;
@@ -16,6 +17,7 @@ pub use control::{
 };
 pub use expressions::read_expression;
 pub use immediates::{ImmediateValues, read_immediates};
+pub use legacy::LegacyOperator;
 pub use lists::{Immediate, Listed, ListedItems, read_listed};
 pub use operators::{Operator, read_operator};
 pub use references::{CastOperator, ReferenceOperator};

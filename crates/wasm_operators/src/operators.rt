@@ -10,6 +10,7 @@ ghost use Rattle.wasm_operators.specs.SeenOperators.{operator_of};
 use crate::control::{ControlOperator, ParametricOperator, read_control, read_parametric};
 use crate::frequent::next_frequent;
 use crate::immediates::{ImmediateValues, read_immediates};
+use crate::legacy::{LegacyOperator, read_legacy};
 use crate::references::{CastOperator, ReferenceOperator, read_cast, read_reference};
 use wasm_operators_atomic::operators_vector::{self, VectorOperator, vector_form};
 use wasm_operators_atomic::{AtomicOperator, atomic_form};
@@ -28,6 +29,8 @@ use wasm_operators_plain::{
 #[derive(Clone, Copy, Debug)]
 pub enum Operator<'a> {
     Control(ControlOperator<'a>),
+    /// An operator of legacy exceptions.
+    Legacy(LegacyOperator),
     Call(CallOperator),
     Parametric(ParametricOperator<'a>),
     Variable(VariableOperator),
@@ -197,10 +200,20 @@ fn read_plain<'a>(
         ≡ Some (operator_of op, rest reader.new)) }
     ensures err { OnErr result (plain_from written opcode (rest reader.old) ≡ None) }
 {
-    if opcode < 0x10 {
+    if opcode < 0x06 {
         Ok(Operator::Control(read_control(reader, opcode, offset)?))
-    } else if opcode < 0x1a {
+    } else if opcode < 0x08 {
+        Ok(Operator::Legacy(read_legacy(reader, opcode, offset)?))
+    } else if opcode < 0x09 {
+        Ok(Operator::Control(read_control(reader, opcode, offset)?))
+    } else if opcode < 0x0a {
+        Ok(Operator::Legacy(read_legacy(reader, opcode, offset)?))
+    } else if opcode < 0x10 {
+        Ok(Operator::Control(read_control(reader, opcode, offset)?))
+    } else if opcode < 0x18 {
         Ok(Operator::Call(read_call(reader, opcode, offset)?))
+    } else if opcode < 0x1a {
+        Ok(Operator::Legacy(read_legacy(reader, opcode, offset)?))
     } else if opcode < 0x1f {
         Ok(Operator::Parametric(read_parametric(reader, opcode, offset)?))
     } else if opcode < 0x20 {

@@ -149,6 +149,16 @@ pub enum OperatorRule {
     Lane,
     /// The alignment of an atomic operator isn't the size of its access.
     AtomicAlignment,
+    /// The operator of this opcode needs `LEGACY_EXCEPTIONS`.
+    LegacyExceptions,
+    /// `catch` stands behind no `try` or `catch`.
+    CatchOutsideTry,
+    /// `catch_all` stands behind no `try` or `catch`.
+    CatchAllOutsideTry,
+    /// `delegate` stands in no `try`, or behind a `catch` of it.
+    DelegateOutsideTry,
+    /// `rethrow` names a label of what has caught nothing.
+    RethrowLabel,
 }
 
 /// The items of a module, and of a function, that an operator names by an index.
@@ -197,6 +207,7 @@ impl OperatorRule {
             OperatorRule::VectorOperators => Some(WasmFeatures::VECTOR_OPERATORS),
             OperatorRule::AtomicOperators => Some(WasmFeatures::ATOMIC_OPERATORS),
             OperatorRule::Threads => Some(WasmFeatures::THREADS),
+            OperatorRule::LegacyExceptions => Some(WasmFeatures::LEGACY_EXCEPTIONS),
             _ => None,
         }
     }
@@ -294,6 +305,12 @@ impl OperatorRule {
             OperatorRule::VectorOperators => "vector operators are not served",
             OperatorRule::AtomicOperators => "atomic operators are not served",
             OperatorRule::Threads => "threads support is not enabled",
+            OperatorRule::LegacyExceptions => "illegal opcode",
+            OperatorRule::CatchOutsideTry => "catch found outside of a `try` block",
+            OperatorRule::CatchAllOutsideTry => "catch_all found outside of a `try` block",
+            OperatorRule::DelegateOutsideTry => "delegate found outside of a `try` block",
+            OperatorRule::RethrowLabel =>
+                "invalid rethrow label: target was not a `catch` block",
             _ => "invalid operator",
         }
     }
@@ -312,6 +329,7 @@ impl OperatorRule {
                 let text = self.text();
                 match self {
                     OperatorRule::UnsetLocal => write!(f, "{text}: {number}"),
+                    OperatorRule::LegacyExceptions => write!(f, "{text} 0x{number:02x}"),
                     OperatorRule::NotAFunction
                     | OperatorRule::NotAStruct
                     | OperatorRule::NotAnArray => write!(f, "{text} at index {number}"),

@@ -1,21 +1,24 @@
 -- The machine accepts exactly what the rules type.
-use Rattle.std.proofs.Common.{◌≡◌, refl, sym, ap, subst, ◌∙◌, ℕ, Bool, true, false, List, [], ◌∷◌, ◌++◌, Some}
+use Rattle.std.proofs.Common.{◌≡◌, refl, sym, ap, subst, ◌∙◌, ℕ, Bool, true, false, ◌&&◌, List, [], ◌∷◌, ◌++◌, Some}
 use Rattle.wasm_operator_steps.specs.WasmSpecRules.WasmSpec.Syntax.{Val}
 use Rattle.wasm_operator_steps.specs.WasmSpecRules.WasmSpec.MatchingTests.{World}
 use Rattle.wasm_operator_steps.specs.WasmSpecRules.Attempts.{◌>>=◌, passes}
 use Rattle.wasm_operator_steps.specs.WasmSpecRules.Signatures.{Signature}
 use Rattle.wasm_operators.specs.Control.{Block}
+use Rattle.wasm_operators.specs.Instructions as instruction
 use Rattle.wasm_operators.specs.Instructions.{Instruction}
 use Rattle.wasm_operator_steps.specs.Bodies.{Surroundings}
 use Rattle.wasm_operator_steps.specs.Meanings.{block_signature}
 use Rattle.wasm_operator_steps.specs.Shapes.{shape_of}
-use Rattle.wasm_operator_steps.specs.Steps.{is_finished, start, steps_in}
+use Rattle.wasm_operator_steps.specs.Steps.{is_finished, start, step_in, steps_in}
+use Rattle.wasm_operator_steps.specs.Machine.{State}
+use Rattle.wasm_operator_steps.proofs.LegacyRuns.{legacy_needs_features}
 use Rattle.wasm_spec_instructions.specs.Code.{Code, else_, done, simply, enclosing, choosing_between, end_, flatten, IsProper}
 use Rattle.wasm_spec_instructions.specs.ValueTypes.{ValueType, vals, IsInOrder}
 use Rattle.wasm_spec_instructions.specs.Expressions.{body_scope, IsTypedExpression}
 use Rattle.wasm_spec_instructions.specs.Sequences.{Typed}
-use Rattle.wasm_spec_instructions.specs.Laws.{AreServedAs, Soundness, SoundnessWithoutSharing, Completeness}
-use Rattle.wasm_spec_instructions.proofs.Attempts.{bind-at, bind-gives, passes-gives}
+use Rattle.wasm_spec_instructions.specs.Laws.{AreServedAs, is_legacy, AreWithoutLegacy, AcceptedCodeIsWithoutLegacy, Soundness, SoundnessWithoutSharing, Completeness}
+use Rattle.wasm_spec_instructions.proofs.Attempts.{absent, bind-at, bind-gives, passes-gives}
 use Rattle.wasm_spec_instructions.proofs.Within.{stack, lend, check}
 use Rattle.wasm_spec_instructions.proofs.Outer.{left, whole}
 use Rattle.wasm_spec_instructions.proofs.Fits.{onto, rev, rev-rev, empty-fits, end-complete, end-sound}
@@ -69,11 +72,11 @@ from_nothing {R} W o B rs c f =
 
 typed :
     {R : Type 0} (m : Mode) (W : World R) (B : Surroundings R) (b : Block R) (g : Signature R) (ops : List (Instruction ℕ)) → IsInOrder W → Allows W B m → IsPlain W m (body_scope g.gives)
-    → block_signature W B b ≡ Some g → AllServed m ops → passes is_finished (steps_in W B ops (start b)) ≡ true → IsTypedExpression W B g.gives ops
+    → block_signature W B b ≡ Some g → AllServed m ops → AreWithoutLegacy ops → passes is_finished (steps_in W B ops (start b)) ≡ true → IsTypedExpression W B g.gives ops
 unfolding Sound
-typed {R} m W B b g ops o u n e s h =
+typed {R} m W B b g ops o u n e s l h =
     let a = passes-gives is_finished (steps_in W B ops (start b)) h in
-    let p = parsed W B b g e ops a.0 a.1 a.2 in
+    let p = parsed W B b g e ops a.0 l a.1 a.2 in
     let d : (check W B (body_scope g.gives) p.0 (stack [] false []) >>= λ q. lend W g.gives q >>= λ z. Some (left W B b g e)) ≡ Some a.0 =
     sym (whole W B b g e p.0 p.1) ∙ ap (λ (xs : List (Instruction ℕ)). steps_in W B xs (start b)) (sym p.2) ∙ a.1 in
     let f = bind-gives (check W B (body_scope g.gives) p.0 (stack [] false [])) (λ q. lend W g.gives q >>= λ z. Some (left W B b g e)) a.0 d in
@@ -89,7 +92,23 @@ typed {R} m W B b g ops o u n e s h =
     }
 
 pub soundness : (R : Type 0) → Soundness R
-soundness R W B b g ops o e m h = typed (without m.0) W B b g ops o tt tt e (served-without m.0 ops m.1) h
+soundness R W B b g ops o e m l h = typed (without m.0) W B b g ops o tt tt e (served-without m.0 ops m.1) l h
 
 pub soundness_without_sharing : (R : Type 0) → SoundnessWithoutSharing R
-soundness_without_sharing R W B b g ops o u n e h = typed unshared W B b g ops o u (n, tt) e (served-unshared ops) h
+soundness_without_sharing R W B b g ops o u n l e h = typed unshared W B b g ops o u (n, tt) e (served-unshared ops) l h
+
+-- without their feature no operator of legacy exceptions is accepted
+module _ {R : Type 0} (W : World R) (B : Surroundings R) (off : B.features.legacy_exceptions ≡ false) where
+  without_both : (b : Bool) → (B.features.legacy_exceptions && b) ≡ false
+  without_both b = ap (λ (x : Bool). x && b) off
+
+  each-without : (i : Instruction ℕ) (s t : State R) → step_in W B i s ≡ Some t → is_legacy i ≡ false
+  each-without (instruction.legacy op) s t e = absurd (absent t (sym (legacy_needs_features W B op s (without_both B.features.exceptions)) ∙ e))
+  each-without _ s t e = refl
+
+  all-without : (ops : List (Instruction ℕ)) (s t : State R) → steps_in W B ops s ≡ Some t → AreWithoutLegacy ops
+  all-without [] s t e = tt
+  all-without (i ∷ ops) s t e = let a = bind-gives (step_in W B i s) (steps_in W B ops) t e in (each-without i s a.0 a.1, all-without ops a.0 t a.2)
+
+pub accepted_code_is_without_legacy : (R : Type 0) → AcceptedCodeIsWithoutLegacy R
+accepted_code_is_without_legacy R W B ops s t off e = all-without W B off ops s t e

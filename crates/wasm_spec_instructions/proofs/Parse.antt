@@ -12,7 +12,8 @@ use Rattle.wasm_operator_steps.specs.Meanings.{block_signature}
 use Rattle.wasm_operator_steps.specs.Steps.{actions_of, is_finished, start, steps_in}
 use Rattle.wasm_spec_instructions.specs.Code.{Opening, a_block, a_loop, an_if, a_try_table, Code, done, simply, enclosing, choosing_between, written, else_, end_, flatten, is_simple, IsProper, kind_of}
 use Rattle.wasm_spec_instructions.proofs.Attempts.{no, the_same, absent, bind-gives, guard-gives}
-use Rattle.wasm_spec_instructions.proofs.Views.{View, is_plain, is_opening, is_else, is_end, view}
+use Rattle.wasm_spec_instructions.specs.Laws.{is_legacy, AreWithoutLegacy}
+use Rattle.wasm_spec_instructions.proofs.Views.{View, is_plain, is_opening, is_else, is_end, is_of_legacy, view}
 use Rattle.wasm_spec_instructions.proofs.Within.{Stack, stack, Entered, fresh, lend, lrun, lenter, lshut}
 use Rattle.wasm_spec_instructions.proofs.Bridge.{Place, at, scope, run-at, opened, IsSigned, inside, over, left_by, turned_by, leave-any, leave-at, turn-any, turn-at}
 use Rattle.wasm_spec_instructions.proofs.Structure.{simple-within, opening-at, lenter-is_signed}
@@ -155,24 +156,25 @@ module _ {R : Type 0} (W : World R) (B : Surroundings R) where
       put_else k (Closes a) ops g.0
       (ih (inside Q else_kind e h) (within Q else_kind e h a) (fresh e.signature) (subst (λ (s : State R). steps_in W B ops s ≡ Some t) (sym (g.1 ∙ the_same y.0 x.0 y.2)) x.2))
 
-  step-closes : (op : Instruction ℕ) → View op → (ops : List (Instruction ℕ)) (P : Place W B) (a : Around P) (p : Stack R) (t : State R) → steps_in W B (op ∷ ops) (at P p) ≡ Some t → Goes ops t → Closes a (op ∷ ops)
-  step-closes op (is_plain w) ops P a p t i ih =
+  step-closes : (op : Instruction ℕ) → View op → is_legacy op ≡ false → (ops : List (Instruction ℕ)) (P : Place W B) (a : Around P) (p : Stack R) (t : State R) → steps_in W B (op ∷ ops) (at P p) ≡ Some t → Goes ops t → Closes a (op ∷ ops)
+  step-closes op (is_plain w) l ops P a p t i ih =
       let f = ap (λ (o : Option (State R)). o >>= steps_in W B ops) (sym (run-at P (actions_of (shape_of op)) p (simple-within P (shape_of op) w))) ∙ i in
       let x = bind-gives (lrun W B (scope P) (actions_of (shape_of op)) p >>= λ q. Some (at P q)) (steps_in W B ops) t f in
       let y = bind-gives (lrun W B (scope P) (actions_of (shape_of op)) p) (λ q. Some (at P q)) x.0 x.1 in
       put_simply a op ops w (ih P a y.0 (subst (λ (s : State R). steps_in W B ops s ≡ Some t) (sym (the_same (at P y.0) x.0 y.2)) x.2))
-  step-closes op (is_opening o) ops P a p t i ih =
+  step-closes op (is_opening o) l ops P a p t i ih =
       let f = ap (λ (o : Option (State R)). o >>= steps_in W B ops) (sym (opening-at P o p)) ∙ i in
       let x = bind-gives (lenter W B (scope P) o p >>= λ e. Some (opened P (kind_of o) e)) (steps_in W B ops) t f in
       let y = bind-gives (lenter W B (scope P) o p) (λ e. Some (opened P (kind_of o) e)) x.0 x.1 in
       let h = lenter-is_signed P o p y.0 y.1 in
       put_opened a o ops y.0 h (ih (inside P (kind_of o) y.0 h) (within P (kind_of o) y.0 h a) (fresh y.0.signature) (subst (λ (s : State R). steps_in W B ops s ≡ Some t) (sym (the_same (opened P (kind_of o) y.0) x.0 y.2)) x.2))
-  step-closes op is_else ops P a p t i ih = else-closes ops P a p t i ih
-  step-closes op is_end ops P a p t i ih = end-closes ops P a p t i ih
+  step-closes op is_else l ops P a p t i ih = else-closes ops P a p t i ih
+  step-closes op is_end l ops P a p t i ih = end-closes ops P a p t i ih
+  step-closes op (is_of_legacy x) l ops P a p t i ih = no (sym l)
 
-  closes : (ops : List (Instruction ℕ)) (t : State R) → is_finished t ≡ true → Goes ops t
-  closes [] t h P a p e = no (ap is_finished (the_same (at P p) t e) ∙ h)
-  closes (op ∷ ops) t h P a p e = step-closes op (view op) ops P a p t e (closes ops t h)
+  closes : (ops : List (Instruction ℕ)) (t : State R) → AreWithoutLegacy ops → is_finished t ≡ true → Goes ops t
+  closes [] t l h P a p e = no (ap is_finished (the_same (at P p) t e) ∙ h)
+  closes (op ∷ ops) t l h P a p e = step-closes op (view op) l.0 ops P a p t e (closes ops t l.1 h)
 
   unclosed : (ops : List (Instruction ℕ)) → Closed block_kind Nothing ops → (c : Code) × IsProper c × (ops ≡ flatten c ++ (end_ ∷ []))
   unclosed ops c = go c.ends
@@ -183,7 +185,7 @@ module _ {R : Type 0} (W : World R) (B : Surroundings R) where
 
   -- what leads from the start to the end is some code and an `end`
   pub parsed :
-      (b : Block R) (g : Signature R) → block_signature W B b ≡ Some g → (ops : List (Instruction ℕ)) (t : State R) → steps_in W B ops (start b) ≡ Some t → is_finished t ≡ true
+      (b : Block R) (g : Signature R) → block_signature W B b ≡ Some g → (ops : List (Instruction ℕ)) (t : State R) → AreWithoutLegacy ops → steps_in W B ops (start b) ≡ Some t → is_finished t ≡ true
       → (c : Code) × IsProper c × (ops ≡ flatten c ++ (end_ ∷ []))
   unfolding Closes
-  parsed b g e ops t i h = unclosed ops (closes ops t h (outer W B b g e) (outermost b g e) (stack [] false []) i)
+  parsed b g e ops t l i h = unclosed ops (closes ops t l h (outer W B b g e) (outermost b g e) (stack [] false []) i)

@@ -6,8 +6,8 @@ use Rattle.wasm_operator_steps.specs.WasmSpecRules.WasmSpec.MatchingTests.{World
 use Rattle.wasm_operator_steps.specs.WasmSpecRules.Attempts.{passes, among}
 use Rattle.wasm_operator_steps.specs.Bodies.{Surroundings}
 use Rattle.wasm_operator_steps.specs.Machine.{Operand, as_reference, chosen, non_null, matches_operand}
-use Rattle.wasm_operator_steps.specs.Actions.{OperandTypes, Check, has, allows, global_is_mutable, local_is_set, function_is_referenced, is_exception, each_matches, may_be_cast, can_be_tested, is_aligned, suits, fields_have_defaults, has_no_descriptor, field_is_mutable, field_is_packed, element_is_mutable, element_has_default, element_is_number, element_is_packed, element_is_storable, data_is_there, segment_is_there, reaches_global, reaches_table, reaches_type, reaches_function, Action, need, refuse, take, give, take_any, take_reference, take_comparable, make_non_null, choose, stop, turn_to_else, leave, take_below, convert, enter, set, branch_on_null, branch_to_one_of}
-use Rattle.wasm_operator_steps.specs.Shapes.{Shape, plain, ending, opening, closing, turning, dropping, choosing, never, testing_null, asserting_non_null, branching_on_null, branching_on_non_null, branching_by_table, setting, giving_back, measuring, comparing, converting}
+use Rattle.wasm_operator_steps.specs.Actions.{OperandTypes, Check, has, allows, global_is_mutable, local_is_set, function_is_referenced, is_exception, each_matches, may_be_cast, can_be_tested, is_aligned, suits, fields_have_defaults, has_no_descriptor, field_is_mutable, field_is_packed, element_is_mutable, element_has_default, element_is_number, element_is_packed, element_is_storable, data_is_there, segment_is_there, reaches_global, reaches_table, reaches_type, reaches_function, Action, need, refuse, take, give, take_any, take_reference, take_comparable, make_non_null, choose, stop, turn_to_else, leave, take_below, convert, enter, set, branch_on_null, branch_to_one_of, turn_to_catch, find_outside, find_caught}
+use Rattle.wasm_operator_steps.specs.Shapes.{Shape, plain, ending, opening, closing, turning, dropping, choosing, never, testing_null, asserting_non_null, branching_on_null, branching_on_non_null, branching_by_table, setting, giving_back, measuring, comparing, converting, catching, delegating, rethrowing}
 use Rattle.wasm_operator_steps.specs.Meanings.{is_below_either, agree, converted}
 use Rattle.wasm_operator_steps.specs.Steps.{actions_of, checked}
 use Rattle.wasm_spec_instructions.specs.Scopes.{Scope, is_set, types_in, holds_in, AreSet}
@@ -152,6 +152,9 @@ module _ {R : Type 0} (W : World R) (B : Surroundings R) where
     act-same turn_to_else p q e = absurd (absent q e)
     act-same leave p q e = absurd (absent q e)
     act-same (enter k b) p q e = absurd (absent q e)
+    act-same (turn_to_catch t k) p q e = absurd (absent q e)
+    act-same (find_outside n) p q e = absurd (absent q e)
+    act-same (find_caught n) p q e = absurd (absent q e)
     act-same (take t) p q e = let f = bind-gives (types_in W B C.labels C.returns t) (λ (vs : List (Val R)). lpops W vs p) q e in kept p q (pops-sets W f.0 p q f.2)
     act-same (give t) p q e = let f = bind-gives (types_in W B C.labels C.returns t) (λ (vs : List (Val R)). Some (lpush vs p)) q e in kept p q (same_sets (lpush f.0 p) q (the_same (lpush f.0 p) q f.2))
     act-same take_any p q e =
@@ -229,6 +232,9 @@ module _ {R : Type 0} (W : World R) (B : Surroundings R) where
     shape-adds (measuring cs k t) = checked-adds cs (take_below k ∷ give t ∷ []) refl
     shape-adds (comparing cs t) = checked-adds cs (take_comparable ∷ give t ∷ []) refl
     shape-adds (converting cs j k) = checked-adds cs (convert j k ∷ []) refl
+    shape-adds (catching cs t k) = checked-adds cs (turn_to_catch t k ∷ []) refl
+    shape-adds (delegating cs l) = checked-adds cs (find_outside l ∷ leave ∷ []) refl
+    shape-adds (rethrowing cs l) = checked-adds cs (find_caught l ∷ stop ∷ []) refl
 
     pub simple-same : (s : Shape) (p q : Stack R) → lrun W B C (actions_of s) p ≡ Some q → Same (q.sets ++ C.sets) (sets_of s ++ (p.sets ++ C.sets))
     simple-same s p q e = λ m. run-same (actions_of s) p q e m ∙ ap (λ (is : List ℕ). is_set W B m (is ++ (p.sets ++ C.sets))) (shape-adds s)

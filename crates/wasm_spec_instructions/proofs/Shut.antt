@@ -4,8 +4,8 @@ use Rattle.wasm_operator_steps.specs.WasmSpecRules.WasmSpec.Syntax.{eq_heap, Val
 use Rattle.wasm_operator_steps.specs.WasmSpecRules.WasmSpec.MatchingTests.{World}
 use Rattle.wasm_operator_steps.specs.Bodies.{Surroundings}
 use Rattle.wasm_operator_steps.specs.Machine.{Operand, bottom, bottom_reference, open_reference, known, pushed_onto, as_reference, non_null, same_number, chosen, matches_operand}
-use Rattle.wasm_operator_steps.specs.Actions.{OperandTypes, Check, Action, need, refuse, take, give, take_any, take_reference, take_comparable, make_non_null, choose, stop, turn_to_else, leave, take_below, convert, enter, set, branch_on_null, branch_to_one_of}
-use Rattle.wasm_operator_steps.specs.Shapes.{Shape, plain, ending, opening, closing, turning, dropping, choosing, never, testing_null, asserting_non_null, branching_on_null, branching_on_non_null, branching_by_table, setting, giving_back, measuring, comparing, converting}
+use Rattle.wasm_operator_steps.specs.Actions.{OperandTypes, Check, Action, need, refuse, take, give, take_any, take_reference, take_comparable, make_non_null, choose, stop, turn_to_else, leave, take_below, convert, enter, set, branch_on_null, branch_to_one_of, turn_to_catch, find_outside, find_caught}
+use Rattle.wasm_operator_steps.specs.Shapes.{Shape, plain, ending, opening, closing, turning, dropping, choosing, never, testing_null, asserting_non_null, branching_on_null, branching_on_non_null, branching_by_table, setting, giving_back, measuring, comparing, converting, catching, delegating, rethrowing}
 use Rattle.wasm_operator_steps.specs.Meanings.{is_below_either, agree}
 use Rattle.wasm_operator_steps.specs.Steps.{actions_of, checked}
 use Rattle.wasm_spec_instructions.specs.Scopes.{Scope, types_in, holds_in}
@@ -99,6 +99,9 @@ module _ {R : Type 0} (W : World R) (B : Surroundings R) (C : Scope R) where
   act-shut turn_to_else p q w e h = absurd (absent q e)
   act-shut leave p q w e h = absurd (absent q e)
   act-shut (enter k b) p q w e h = absurd (absent q e)
+  act-shut (turn_to_catch t k) p q w e h = absurd (absent q e)
+  act-shut (find_outside n) p q w e h = absurd (absent q e)
+  act-shut (find_caught n) p q w e h = absurd (absent q e)
   act-shut (convert j k) p q w e h = absurd w
   act-shut (take t) p q w e h = let f = bind-gives (types_in W B C.labels C.returns t) (λ (vs : List (Val R)). lpops W vs p) q e in pops-shut W f.0 p q f.2 h
   act-shut (give t) p q w e h =
@@ -169,6 +172,9 @@ module _ {R : Type 0} (W : World R) (B : Surroundings R) (C : Scope R) where
   shape-keeps (measuring cs k t) e = all_keep cs (take_below k ∷ give t ∷ []) (tt, (tt, tt))
   shape-keeps (comparing cs t) e = all_keep cs (take_comparable ∷ give t ∷ []) (tt, (tt, tt))
   shape-keeps (converting cs j k) e = no e
+  shape-keeps (catching cs t k) e = all_keep cs (turn_to_catch t k ∷ []) (tt, tt)
+  shape-keeps (delegating cs l) e = all_keep cs (find_outside l ∷ leave ∷ []) (tt, (tt, tt))
+  shape-keeps (rethrowing cs l) e = all_keep cs (find_caught l ∷ stop ∷ []) (tt, (tt, tt))
 
   pub simple-shut : (s : Shape) (p q : Stack R) → is_served true s ≡ true → lrun W B C (actions_of s) p ≡ Some q → AreShut p.items → AreShut q.items
   simple-shut s p q w e h = run-shut (actions_of s) p q (shape-keeps s w) e h

@@ -7,7 +7,7 @@ use Rattle.wasm_operator_steps.specs.WasmSpecRules.Attempts.{◌>>=◌, guard, l
 use Rattle.wasm_operator_steps.specs.Bodies.{Local, Surroundings}
 use Rattle.wasm_operator_steps.specs.Machine.{Operand, non_null, chosen, pushed_onto}
 use Rattle.wasm_operator_steps.specs.Actions.{OperandTypes, label, local, last, front, Check, Action, take, give, take_any, take_reference, take_below, take_comparable, make_non_null, convert, choose, stop, set, branch_on_null, branch_to_one_of}
-use Rattle.wasm_operator_steps.specs.Shapes.{Shape, plain, ending, opening, closing, turning, dropping, choosing, never, testing_null, asserting_non_null, branching_on_null, branching_on_non_null, branching_by_table, setting, giving_back, measuring, comparing, converting, one}
+use Rattle.wasm_operator_steps.specs.Shapes.{Shape, plain, ending, opening, closing, turning, dropping, choosing, never, testing_null, asserting_non_null, branching_on_null, branching_on_non_null, branching_by_table, setting, giving_back, measuring, comparing, converting, one, catching, delegating, rethrowing}
 use Rattle.wasm_operator_steps.specs.Meanings.{is_below_either, agree, converted}
 use Rattle.wasm_operator_steps.specs.Meanings as meaning
 use Rattle.wasm_operator_steps.specs.Steps.{actions_of, checked}
@@ -423,6 +423,9 @@ module _ {R : Type 0} (W : World R) (o : IsInOrder W) (B : Surroundings R) (C : 
   rule-sound (opening cs t k b) p q zs i t₀ v e h = no i
   rule-sound closing p q zs i t₀ v e h = no i
   rule-sound turning p q zs i t₀ v e h = no i
+  rule-sound (catching cs t k) p q zs i t₀ v e h = no i
+  rule-sound (delegating cs l) p q zs i t₀ v e h = no i
+  rule-sound (rethrowing cs l) p q zs i t₀ v e h = no i
   rule-sound dropping p q zs i t₀ v e h = dropping-sound p q zs e h
   rule-sound choosing p q zs i t₀ v e h = choosing-sound p q zs e h
   rule-sound never p q zs i t₀ v e h = absurd (absent q e)

@@ -7,7 +7,7 @@ use Rattle.wasm_operators.specs.Instructions.{Instruction}
 use Rattle.wasm_operator_steps.specs.Bodies.{Surroundings}
 use Rattle.wasm_operator_steps.specs.Machine.{Kind, if_kind, else_kind, State}
 use Rattle.wasm_operator_steps.specs.Actions.{OperandTypes, Check, Action, need, take, give, take_reference, take_comparable, make_non_null, stop, take_below, convert, enter, branch_on_null}
-use Rattle.wasm_operator_steps.specs.Shapes.{Shape, plain, ending, opening, closing, turning, dropping, choosing, never, testing_null, asserting_non_null, branching_on_null, branching_on_non_null, branching_by_table, setting, giving_back, measuring, comparing, converting, shape_of}
+use Rattle.wasm_operator_steps.specs.Shapes.{Shape, plain, ending, opening, closing, turning, dropping, choosing, never, testing_null, asserting_non_null, branching_on_null, branching_on_non_null, branching_by_table, setting, giving_back, measuring, comparing, converting, shape_of, catching, delegating, rethrowing}
 use Rattle.wasm_operator_steps.specs.Meanings.{act, run}
 use Rattle.wasm_operator_steps.specs.Steps.{actions_of, checked, step_in, steps_in}
 use Rattle.wasm_spec_instructions.specs.Code.{Opening, a_block, a_loop, an_if, a_try_table, Code, done, simply, enclosing, choosing_between, written, else_, end_, flatten, is_simple, IsProper, kind_of, block_of, checks_of, condition_of}
@@ -46,6 +46,9 @@ module _ {R : Type 0} {W : World R} {B : Surroundings R} where
   simple-within P (opening cs t k b) e = no e
   simple-within P closing e = no e
   simple-within P turning e = no e
+  simple-within P (catching cs t k) e = no e
+  simple-within P (delegating cs l) e = no e
+  simple-within P (rethrowing cs l) e = no e
 
   -- a block is entered
   open-at :

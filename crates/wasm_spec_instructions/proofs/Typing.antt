@@ -8,7 +8,7 @@ use Rattle.wasm_operator_steps.specs.WasmSpecRules.Attempts.{◌>>=◌, guard}
 use Rattle.wasm_operator_steps.specs.WasmSpecRules.Signatures.{Signature, signature_of, resolve_heap, resolve_val}
 use Rattle.wasm_operators.specs.Control.{Block, empty_block, value_block, func_block}
 use Rattle.wasm_operator_steps.specs.Bodies.{Surroundings}
-use Rattle.wasm_operator_steps.specs.Machine.{Kind, block_kind, loop_kind, if_kind, else_kind, try_table_kind}
+use Rattle.wasm_operator_steps.specs.Machine.{Kind, block_kind, loop_kind, if_kind, else_kind, try_table_kind, legacy_try_kind, legacy_catch_kind, legacy_catch_all_kind}
 use Rattle.wasm_operator_steps.specs.Actions.{Check, take}
 use Rattle.wasm_operator_steps.specs.Shapes.{Shape, branching_by_table, block_checks, catch_checks, shape_of}
 use Rattle.wasm_operator_steps.specs.Meanings.{sub_at, comp_at, type_signature, label_by, resolve_block, block_signature, may_end}
@@ -124,6 +124,9 @@ module _ {R : Type 0} (W : World R) (B : Surroundings R) (u : HasNoSharing W B.f
   label-unshared if_kind g h = h.1
   label-unshared else_kind g h = h.1
   label-unshared try_table_kind g h = h.1
+  label-unshared legacy_try_kind g h = h.1
+  label-unshared legacy_catch_kind g h = h.1
+  label-unshared legacy_catch_all_kind g h = h.1
 
   front-holds : (D : Scope R) (cs ds : List Check) → AllHold W B D (cs ++ ds) → AllHold W B D cs
   front-holds D [] ds h = tt

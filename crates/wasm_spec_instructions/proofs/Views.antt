@@ -7,6 +7,7 @@ use Rattle.wasm_operators.specs.Control as control
 use Rattle.wasm_operators.specs.Control.{Block, empty_block, value_block, func_block, Control, Parametric}
 use Rattle.wasm_operators.specs.References as references
 use Rattle.wasm_operators.specs.References.{Reference, Cast}
+use Rattle.wasm_operators.specs.Legacy.{Legacy}
 use Rattle.wasm_operators.specs.Instructions as instruction
 use Rattle.wasm_operators.specs.Instructions.{Instruction}
 use Rattle.wasm_operators.specs.WasmOperatorsPlain.declared.calls.CallOperator.{CallOperator}
@@ -153,6 +154,7 @@ pub data View : Instruction ℕ → Type 0 where
   is_opening : (o : Opening) → View (written o)
   is_else : View else_
   is_end : View end_
+  is_of_legacy : (op : Legacy ℕ) → View (instruction.legacy op)
 
 control-view : (op : Control ℕ) → View (instruction.control op)
 control-view (control.block b) = is_opening (a_block b)
@@ -172,6 +174,7 @@ control-view control.return_ = is_plain refl
 
 pub view : (i : Instruction ℕ) → View i
 view (instruction.control op) = control-view op
+view (instruction.legacy op) = is_of_legacy op
 view (instruction.call op) = is_plain (call-simple op)
 view (instruction.parametric op) = is_plain (parametric-simple op)
 view (instruction.variable op) = is_plain (variable-simple op)

@@ -7,7 +7,7 @@ use Rattle.wasm_operator_steps.specs.WasmSpecRules.Signatures.{Signature}
 use Rattle.wasm_operators.specs.Control.{Block}
 use Rattle.wasm_operator_steps.specs.Bodies.{Surroundings}
 use Rattle.wasm_operator_steps.specs.Machine.{Operand, bottom, Kind, if_kind, else_kind, pushed_onto, as_reference, non_null, chosen, matches_operand}
-use Rattle.wasm_operator_steps.specs.Actions.{Action, need, refuse, take, give, take_any, take_reference, take_comparable, make_non_null, choose, stop, turn_to_else, leave, take_below, convert, enter, set, branch_on_null, branch_to_one_of}
+use Rattle.wasm_operator_steps.specs.Actions.{Action, need, refuse, take, give, take_any, take_reference, take_comparable, make_non_null, choose, stop, turn_to_else, leave, take_below, convert, enter, set, branch_on_null, branch_to_one_of, turn_to_catch, find_outside, find_caught}
 use Rattle.wasm_operator_steps.specs.Shapes.{shape_of}
 use Rattle.wasm_operator_steps.specs.Meanings.{label_by, resolve_block, block_signature, is_below_either, agree, converted, may_end}
 use Rattle.wasm_operator_steps.specs.Steps.{actions_of, checked}
@@ -141,6 +141,9 @@ module _ {R : Type 0} (W : World R) (B : Surroundings R) where
   IsWithin turn_to_else = ⊥
   IsWithin leave = ⊥
   IsWithin (enter k b) = ⊥
+  IsWithin (turn_to_catch t k) = ⊥
+  IsWithin (find_outside n) = ⊥
+  IsWithin (find_caught n) = ⊥
   IsWithin _ = Unit {0}
 
   abbrev pub lact : Scope R → Action → Stack R → Option (Stack R)
@@ -162,6 +165,9 @@ module _ {R : Type 0} (W : World R) (B : Surroundings R) where
   lact C turn_to_else p = None
   lact C leave p = None
   lact C (enter k b) p = None
+  lact C (turn_to_catch t k) p = None
+  lact C (find_outside n) p = None
+  lact C (find_caught n) p = None
 
   abbrev pub lrun : Scope R → List Action → Stack R → Option (Stack R)
   lrun C [] p = Some p

@@ -1,4 +1,5 @@
--- Structured code: instructions that contain others, and the flat list that is written for them.
+-- Structured code: instructions that contain others, and the flat list that is written for them. The operators of the legacy
+-- exception-handling proposal have no place in it.
 -- Core Specification 3.0, Structure, Instructions (Control Instructions, Expressions), and Binary Format, Instructions.
 use Rattle.std.specs.Prelude.{◌≡◌, ℕ, Bool, true, false, List, [], ◌∷◌, ◌++◌}
 use Rattle.wasm_operators.specs.Control as control
@@ -8,7 +9,7 @@ use Rattle.wasm_operators.specs.Instructions.{Instruction}
 use Rattle.wasm_operators.specs.declared.control.Catch.{Catch}
 use Rattle.wasm_operator_steps.specs.Machine.{Kind, block_kind, loop_kind, if_kind, try_table_kind}
 use Rattle.wasm_operator_steps.specs.Actions.{OperandTypes, Check, has, exceptions}
-use Rattle.wasm_operator_steps.specs.Shapes.{Shape, opening, closing, turning, nothing, one, block_checks, catch_checks, shape_of}
+use Rattle.wasm_operator_steps.specs.Shapes.{Shape, opening, closing, turning, catching, delegating, rethrowing, nothing, one, block_checks, catch_checks, shape_of}
 use Rattle.wasm_operator_steps.specs.WasmSpecRules.WasmSpec.Syntax.{i32}
 
 -- what begins a block
@@ -60,11 +61,14 @@ is_one (simply i c) = is_done c
 is_one (enclosing o b c) = is_done c
 is_one (choosing_between g b d c) = is_done c
 
--- opens, turns and closes no block
+-- opens, turns and closes no block, and names no block that has caught an exception
 abbrev pub is_simple : Shape → Bool
 is_simple (opening cs t k b) = false
 is_simple closing = false
 is_simple turning = false
+is_simple (catching cs t k) = false
+is_simple (delegating cs l) = false
+is_simple (rethrowing cs l) = false
 is_simple _ = true
 
 -- Instructions that open, turn or close a block stand nowhere by themselves.

@@ -9,8 +9,10 @@ use Rattle.wasm_operator_steps.specs.WasmSpecRules.WasmSpec.Syntax.{Sub}
 use Rattle.wasm_operator_steps.specs.WasmSpecRules.WasmSpec.Matching.{shared_flag}
 use Rattle.wasm_operator_steps.specs.WasmSpecRules.Attempts.{passes}
 use Rattle.wasm_operators.specs.Control.{Block}
+use Rattle.wasm_operators.specs.Instructions as instruction
 use Rattle.wasm_operators.specs.Instructions.{Instruction}
 use Rattle.wasm_operator_steps.specs.Bodies.{Surroundings}
+use Rattle.wasm_operator_steps.specs.Machine.{State}
 use Rattle.wasm_operator_steps.specs.Meanings.{block_signature}
 use Rattle.wasm_operator_steps.specs.Shapes.{Shape, branching_by_table, converting, shape_of}
 use Rattle.wasm_operator_steps.specs.Steps.{is_finished, start, steps_in}
@@ -38,16 +40,30 @@ pub record HasNoSharing {R : Type 0} (W : World R) (F : Features) : Type 0 where
   pub types : (a : R) → shared_flag (W.declared a) ≡ false
   pub signatures : (a : R) (s : Sub R) (g : Signature R) → W.declared a ≡ Some s → signature_of s.comp ≡ Some g → AreUnshared W g.takes × AreUnshared W g.gives
 
+-- No operator of the legacy exception-handling proposal, for which structured code has no place and the rules no rule.
+abbrev pub is_legacy : Instruction ℕ → Bool
+is_legacy (instruction.legacy op) = true
+is_legacy _ = false
+
+abbrev pub AreWithoutLegacy : List (Instruction ℕ) → Type 0
+AreWithoutLegacy [] = Unit {0}
+AreWithoutLegacy (i ∷ ops) = (is_legacy i ≡ false) × AreWithoutLegacy ops
+
+-- The machine accepts none of them where their feature is off.
+abbrev pub AcceptedCodeIsWithoutLegacy : (R : Type 0) → Type 0
+AcceptedCodeIsWithoutLegacy R =
+    (W : World R) (B : Surroundings R) (ops : List (Instruction ℕ)) (s t : State R) → B.features.legacy_exceptions ≡ false → steps_in W B ops s ≡ Some t → AreWithoutLegacy ops
+
 -- What the machine accepts, the rules type, where nothing is shared: so in Core Specification 3.0.
 abbrev pub SoundnessWithoutSharing : (R : Type 0) → Type 0
 SoundnessWithoutSharing R =
-    (W : World R) (B : Surroundings R) (b : Block R) (g : Signature R) (ops : List (Instruction ℕ)) → IsInOrder W → HasNoSharing W B.features → AreUnshared W g.gives
+    (W : World R) (B : Surroundings R) (b : Block R) (g : Signature R) (ops : List (Instruction ℕ)) → IsInOrder W → HasNoSharing W B.features → AreUnshared W g.gives → AreWithoutLegacy ops
     → block_signature W B b ≡ Some g → passes is_finished (steps_in W B ops (start b)) ≡ true → IsTypedExpression W B g.gives ops
 
 -- The same with shared types, of code that is served.
 abbrev pub Soundness : (R : Type 0) → Type 0
 Soundness R =
-    (W : World R) (B : Surroundings R) (b : Block R) (g : Signature R) (ops : List (Instruction ℕ)) → IsInOrder W → block_signature W B b ≡ Some g → AreServed ops
+    (W : World R) (B : Surroundings R) (b : Block R) (g : Signature R) (ops : List (Instruction ℕ)) → IsInOrder W → block_signature W B b ≡ Some g → AreServed ops → AreWithoutLegacy ops
     → passes is_finished (steps_in W B ops (start b)) ≡ true → IsTypedExpression W B g.gives ops
 
 -- What the rules type, the machine accepts.

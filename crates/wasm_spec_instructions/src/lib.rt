@@ -5,21 +5,28 @@
 ghost use Rattle.wasm_spec_instructions.specs.Names.{InstructionsHaveTheirRules};
 ghost use Rattle.wasm_spec_instructions.specs.Fixed.{FixedTypesHaveTheirRules};
 ghost use Rattle.wasm_spec_instructions.specs.Consequences.{ScopesMayGrow, SequencesCompose, TypedCodeIsProper, ResultsArePrincipal};
-ghost use Rattle.wasm_spec_instructions.specs.Laws.{Soundness, SoundnessWithoutSharing, Completeness, CodeIsUnique, WorldsAreInOrder, AcceptedWorldsAreInOrder};
+ghost use Rattle.wasm_spec_instructions.specs.Laws.{AcceptedCodeIsWithoutLegacy, Soundness, SoundnessWithoutSharing, Completeness, CodeIsUnique, WorldsAreInOrder, AcceptedWorldsAreInOrder};
 
 /// What the rules type, the machine accepts.
 pub fn algorithm_is_complete<R>()
     ensures { Completeness R }
 {}
 
+/// Where legacy exceptions are off, the machine accepts no operator of theirs.
+#[tactic(auto, using(crate::proofs::Main::accepted_code_is_without_legacy))]
+pub fn accepted_code_is_without_legacy<R>()
+    ensures { AcceptedCodeIsWithoutLegacy R }
+{}
+
 /// What the machine accepts, the rules type: code without conversions of references, or else
-/// without branches by a table.
+/// without branches by a table. Of operators of legacy exceptions there is none in it.
 #[tactic(auto, using(crate::proofs::Main::soundness))]
 pub fn algorithm_is_sound<R>()
     ensures { Soundness R }
 {}
 
-/// Where nothing is shared, whatever the machine accepts, the rules type.
+/// Where nothing is shared, whatever the machine accepts, the rules type, if there is no operator of
+/// legacy exceptions in it.
 #[tactic(auto, using(crate::proofs::Main::soundness_without_sharing))]
 pub fn algorithm_is_sound_without_sharing<R>()
     ensures { SoundnessWithoutSharing R }

@@ -386,7 +386,12 @@ module _ (F : Features) where
     plain-cuts : (b : ℕ) (bytes : List ℕ) → Cuts IsConstantOne more (plain_from (λ n. n) b bytes) (plain_from (λ n. n) b (bytes ++ more))
     unfolding plain_from
     plain-cuts b bytes =
-        cuts_if (nat_lt b 0x10) (cuts_map _ (constant_control-cuts b bytes))
+        cuts_if (nat_lt b 0x06) (cuts_map _ (constant_control-cuts b bytes))
+        (cuts_if (nat_lt b 0x08) (cuts_map _ (cuts_never (λ c. no)))
+        (cuts_if (nat_lt b 0x09) (cuts_map _ (constant_control-cuts b bytes))
+        (cuts_if (nat_lt b 0x0a) (cuts_map _ (cuts_never (λ c. no)))
+        (cuts_if (nat_lt b 0x10) (cuts_map _ (constant_control-cuts b bytes))
+        (cuts_if (nat_lt b 0x18) (cuts_map _ (cuts_never (λ c. no)))
         (cuts_if (nat_lt b 0x1a) (cuts_map _ (cuts_never (λ c. no)))
         (cuts_if (nat_lt b 0x1f) (cuts_map _ (cuts_never (λ c. no)))
         (cuts_if (nat_lt b 0x20) (cuts_map _ (constant_control-cuts b bytes))
@@ -396,7 +401,7 @@ module _ (F : Features) where
         (cuts_if (nat_lt b 0x41) (cuts_map _ (cuts_never (λ c. no)))
         (cuts_if (nat_lt b 0x45) (cuts_map _ (cuts_any (constant-cuts b bytes)))
         (cuts_if (nat_lt b 0xd0) (cuts_value bytes _ (numeric_from b))
-        (cuts_map _ (cuts_any (reference-cuts (λ n. n) b bytes))))))))))))
+        (cuts_map _ (cuts_any (reference-cuts (λ n. n) b bytes)))))))))))))))))
 
     aggregate-cuts : (n : ℕ) (bytes : List ℕ) → Cuts IsConstantOne more (aggregate_from (λ n. n) n bytes) (aggregate_from (λ n. n) n (bytes ++ more))
     unfolding aggregate_from

@@ -171,6 +171,7 @@ module _ (F : Features) where
   constant-keeps (instruction.conversion RefI31Shared) a e = refl
   constant-keeps (instruction.conversion I31GetS) a e = absurd (no a)
   constant-keeps (instruction.conversion I31GetU) a e = absurd (no a)
+  constant-keeps (instruction.legacy op) a e = absurd (no a)
   constant-keeps (instruction.call op) a e = absurd (no a)
   constant-keeps (instruction.parametric op) a e = absurd (no a)
   constant-keeps (instruction.table op) a e = absurd (no a)

@@ -191,6 +191,7 @@ module _ (F : Features) (r : List ℕ) where
   constant-allows (instruction.structure op) a n = structure-allows op
   constant-allows (instruction.array op) a n = array-allows op
   constant-allows (instruction.conversion op) a n = conversion-allows op
+  constant-allows (instruction.legacy op) a n = absurd (no a)
   constant-allows (instruction.call op) a n = absurd (no a)
   constant-allows (instruction.parametric op) a n = absurd (no a)
   constant-allows (instruction.table op) a n = absurd (no a)

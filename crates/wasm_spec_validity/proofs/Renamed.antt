@@ -40,6 +40,7 @@ module _ {R S : Type 0} (f : R → S) (F : Features) (imported : ℕ) where
   readable-map gs (instruction.variable (LocalSet x)) = refl
   readable-map gs (instruction.variable (LocalTee x)) = refl
   readable-map gs (instruction.control op) = refl
+  readable-map gs (instruction.legacy op) = refl
   readable-map gs (instruction.call op) = refl
   readable-map gs (instruction.parametric op) = refl
   readable-map gs (instruction.table op) = refl

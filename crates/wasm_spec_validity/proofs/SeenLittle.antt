@@ -22,7 +22,7 @@ use Rattle.wasm_operator_steps.specs.WasmSpecRules.Signatures.{Signature}
 use Rattle.wasm_operator_steps.specs.Bodies.{Surroundings}
 use Rattle.wasm_operator_steps.specs.ConstantExpressions.{is_constant}
 use Rattle.wasm_operator_steps.specs.ConstantRules.{is_allowed, IsConstantExpression}
-use Rattle.wasm_operator_steps.specs.Machine.{Kind, block_kind, loop_kind, if_kind, else_kind, try_table_kind, Frame, State, push_vals}
+use Rattle.wasm_operator_steps.specs.Machine.{Kind, block_kind, loop_kind, if_kind, else_kind, try_table_kind, legacy_try_kind, legacy_catch_kind, legacy_catch_all_kind, Frame, State, push_vals}
 use Rattle.wasm_operator_steps.specs.Meanings.{block_signature, pop_frame, may_end, leave_in, act, run}
 use Rattle.wasm_operator_steps.specs.Shapes.{computing, shape_of}
 use Rattle.wasm_operator_steps.specs.Steps.{actions_of, is_open, step_in, steps_in}
@@ -56,6 +56,9 @@ module _ {R : Type 0} (W : World R) (B : Surroundings R) (D : Context R) where
   ending_same if_kind g = refl
   ending_same else_kind g = refl
   ending_same try_table_kind g = refl
+  ending_same legacy_try_kind g = refl
+  ending_same legacy_catch_kind g = refl
+  ending_same legacy_catch_all_kind g = refl
 
   -- what is left behind a frame of this signature
   abbrev left : Surroundings R → Frame R → List (Frame R) → State R → Signature R → Option (State R)
@@ -99,6 +102,7 @@ module _ {R : Type 0} (W : World R) (B : Surroundings R) (D : Context R) where
   run_same F (instruction.conversion RefI31) h s = refl
   run_same F (instruction.conversion RefI31Shared) h s = refl
   run_same F (instruction.conversion _) h s = absurd (not_both h)
+  run_same F (instruction.legacy op) h s = absurd (not_both h)
   run_same F (instruction.call op) h s = absurd (not_both h)
   run_same F (instruction.parametric op) h s = absurd (not_both h)
   run_same F (instruction.table op) h s = absurd (not_both h)

@@ -69,6 +69,7 @@ pub use wasm_validator_modules::operators::FrameKind;
 pub use wasm_validator_modules::operators::Ieee32;
 pub use wasm_validator_modules::operators::Ieee64;
 pub use wasm_validator_modules::operators::Immediate;
+pub use wasm_validator_modules::operators::LegacyOperator;
 pub use wasm_validator_modules::operators::Listed;
 pub use wasm_validator_modules::operators::ListedItems;
 pub use wasm_validator_modules::operators::MemArg;

@@ -25,17 +25,21 @@ use wasm_readers::readers_errors::{Error, Fault, OperatorRule, Refusal, WasmFeat
 use wasm_validator_references::NotesFunctions;
 use wasm_validator_resources::WasmModuleResources;
 
-/// The rule that an operator breaks which no proposal brings into constant expressions: without the
-/// features of operators on vectors and of atomic ones that these are not served.
-fn broken_rule<'a>(features: WasmFeatures, op: &Operator<'a>) -> OperatorRule {
+/// The rule against an operator that no constant expression has, and its number. Without the feature
+/// that serves them, the operators on vectors, the atomic ones and those of legacy exceptions are
+/// refused as they are in a body.
+fn rule_against<'a>(features: WasmFeatures, op: &Operator<'a>) -> (OperatorRule, u32) {
     match *op {
         Operator::Vector(_, _) if !features.contains(WasmFeatures::VECTOR_OPERATORS) => {
-            OperatorRule::VectorOperators
+            (OperatorRule::VectorOperators, 0)
         }
         Operator::Atomic(_, _) if !features.contains(WasmFeatures::ATOMIC_OPERATORS) => {
-            OperatorRule::AtomicOperators
+            (OperatorRule::AtomicOperators, 0)
         }
-        _ => OperatorRule::NotConstant,
+        Operator::Legacy(op) if !features.contains(WasmFeatures::LEGACY_EXCEPTIONS) => {
+            (OperatorRule::LegacyExceptions, op.opcode() as u32)
+        }
+        _ => (OperatorRule::NotConstant, 0),
     }
 }
 
@@ -50,7 +54,14 @@ fn not_constant<'a>(features: WasmFeatures, op: &Operator<'a>, offset: u64) -> E
             offset,
             gated.feature(),
         )),
-        None => Error::Refused(Refusal::new(Fault::Operator(broken_rule(features, op), 0), offset)),
+        None => {
+            let (rule, number) = rule_against(features, op);
+            Error::Refused(Refusal {
+                fault: Fault::Operator(rule, number),
+                offset,
+                missing: rule.missing(),
+            })
+        }
     }
 }
 

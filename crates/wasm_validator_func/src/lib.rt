@@ -22,9 +22,9 @@ pub mod operators {
     pub use wasm_operators::{
         ArrayOperator, BlockType, BrTable, BulkMemoryOperator, CallOperator, CastOperator, Catch,
         ConstantOperator, ControlOperator, ConversionOperator, FrameKind, Ieee32, Ieee64,
-        Immediate, Listed, ListedItems, MemArg, MemoryOperator, NumericOperator, Operator,
-        ParametricOperator, ReferenceOperator, SaturatingOperator, StructOperator, TableOperator,
-        TryTable, V128, VariableOperator, max_align, read_block_type, read_expression, read_memarg,
+        Immediate, LegacyOperator, Listed, ListedItems, MemArg, MemoryOperator, NumericOperator,
+        Operator, ParametricOperator, ReferenceOperator, SaturatingOperator, StructOperator,
+        TableOperator, TryTable, V128, VariableOperator, max_align, read_block_type, read_expression, read_memarg,
     };
 }
 
