@@ -10,6 +10,8 @@ use Rattle.wasm_readers_errors.specs.WasmReadersTypes.WasmReadersValues.declared
 use Rattle.wasm_operators.specs.WasmOperatorsPlain.declared.memories.MemArg.{MemArg}
 use Rattle.wasm_operators.specs.WasmOperatorsAtomic.WasmOperatorsVector.declared.forms.ValueType.{ValueType}
 use Rattle.wasm_operators.specs.WasmOperatorsAtomic.WasmOperatorsVector.declared.forms.ValueType.TheVariants as number
+use Rattle.wasm_operators.specs.WasmOperatorsAtomic.WasmOperatorsVector.declared.forms.Immediates.{Immediates}
+use Rattle.wasm_operators.specs.WasmOperatorsAtomic.WasmOperatorsVector.declared.forms.Immediates.TheVariants as form
 use Rattle.wasm_operators.specs.WasmOperatorsAtomic.WasmOperatorsVector.declared.forms.Operands.{Operands}
 use Rattle.wasm_operators.specs.WasmOperatorsAtomic.WasmOperatorsVector.declared.forms.Operands.TheVariants as operands
 use Rattle.wasm_operators.specs.WasmOperatorsAtomic.WasmOperatorsVector.declared.forms.Form.{Form}
@@ -20,7 +22,7 @@ use Rattle.wasm_operator_checks.specs.WasmSpecRules.Contexts.{Context}
 use Rattle.wasm_operator_checks.specs.WasmSpecRules.FeatureFlags.{features_of}
 use Rattle.wasm_operator_checks.specs.WasmSpecRules.Signatures.{resolve_val, resolve_vals}
 use Rattle.wasm_operator_checks.specs.WasmOperatorSteps.Actions.{OperandTypes, these, joined, memory_address, suits, allows, Check, Action, need}
-use Rattle.wasm_operator_checks.specs.WasmOperatorSteps.Forms.{value_type, operand_types, result_types, types_taken, types_given, allows_each, suits_form, memarg_of, reaches_memory}
+use Rattle.wasm_operator_checks.specs.WasmOperatorSteps.Forms.{value_type, operand_types, result_types, types_taken, types_given, allows_each, suits_immediates, suits_form, memarg_of, reaches_memory}
 use Rattle.wasm_operator_checks.specs.WasmOperatorSteps.Shapes.{address_of, allow_each}
 use Rattle.wasm_operator_checks.specs.WasmOperatorSteps.Machine.{State}
 use Rattle.wasm_operator_checks.specs.WasmOperatorSteps.Meanings.{address}
@@ -59,6 +61,20 @@ result_resolved : (ts : List UnpackedIndex) (g : Option ValueType) → resolve_v
 result_resolved ts None = refl
 result_resolved ts (Some x) = rw (value_resolved ts x) refl
 
+-- an operator that accesses no memory has no memory argument
+no_memarg : (i : Immediates) (values : ImmediateValues) (m : MemArg) → suits_immediates i values ≡ true → Some m ≡ memarg_of values → ⊥
+no_memarg i given.Nothing m s e = cc
+no_memarg i (given.Lane l) m s e = cc
+no_memarg i (given.Lanes v) m s e = cc
+no_memarg form.Nothing (given.MemArg a) m s e = cc
+no_memarg (form.Lane n) (given.MemArg a) m s e = cc
+no_memarg form.Lanes (given.MemArg a) m s e = cc
+no_memarg form.Zero (given.MemArg a) m s e = cc
+no_memarg form.Nothing (given.MemArgLane a l) m s e = cc
+no_memarg (form.Lane n) (given.MemArgLane a l) m s e = cc
+no_memarg form.Lanes (given.MemArgLane a l) m s e = cc
+no_memarg form.Zero (given.MemArgLane a l) m s e = cc
+
 -- where a memory is accessed two operands are all
 both_stored : (f : Form) (values : ImmediateValues) (m : MemArg) → suits_form f values ≡ true → Some m ≡ memarg_of values → stored_types (operands_in f) ≡ operand_types (operands_in f)
 both_stored (Access a lanes (operands.Three x y z) g) values m s e = cc
@@ -68,7 +84,7 @@ both_stored (Access a lanes (operands.Two x y) g) values m s e = refl
 both_stored (Compute i operands.Nothing g) values m s e = refl
 both_stored (Compute i (operands.One x) g) values m s e = refl
 both_stored (Compute i (operands.Two x y) g) values m s e = refl
-both_stored (Compute i (operands.Three x y z) g) values m s e = cc
+both_stored (Compute i (operands.Three x y z) g) values m s e = absurd (no_memarg i values m s e)
 
 -- the first of two flags
 left_of : (a b : Bool) → a ≡ false → (a && b) ≡ false

@@ -1,8 +1,9 @@
 //! How many operands operators on vectors, and atomic ones, take and give.
 
-ghost use Rattle.std.specs.Prelude.{◌≡◌, ◌+◌, Some, length};
-ghost use Rattle.wasm_operator_blocks.specs.WasmOperatorChecks.WasmOperatorSteps.Shapes.{form_shape, vector_shape, atomic_shape};
-ghost use Rattle.wasm_operator_validator.specs.Arities.{arity};
+ghost use Rattle.std.specs.Prelude.{◌≡◌, ◌≤◌, ◌+◌, ℕ, Some, [], length};
+ghost use Rattle.wasm_operator_blocks.specs.WasmOperatorChecks.WasmOperatorSteps.Forms.{operand_types, result_types, memarg_of};
+ghost use Rattle.wasm_operator_blocks.specs.WasmOperatorChecks.WasmOperatorSteps.Shapes.{address_of, form_shape, vector_shape, atomic_shape};
+ghost use Rattle.wasm_operator_validator.specs.Arities.{arity, how_many};
 ghost use Rattle.wasm_operator_validator.specs.Asked.{Asked};
 
 use wasm_operators::ImmediateValues;
@@ -11,7 +12,10 @@ use wasm_operators::operators_atomic::{
 };
 
 /// One operand for an address, where a memory is accessed.
-fn address_count(values: ImmediateValues) -> u128 {
+fn address_count(values: ImmediateValues) -> u128
+    ensures count { (M : Asked) → how_many M (address_of (memarg_of values)) ≡ Some result }
+    ensures small { result ≤ 1 }
+{
     match values {
         ImmediateValues::MemArg(_) | ImmediateValues::MemArgLane(_, _) => 1,
         _ => 0,
@@ -19,7 +23,10 @@ fn address_count(values: ImmediateValues) -> u128 {
 }
 
 /// How many operands are taken but for an address.
-fn operand_count(takes: Operands) -> u128 {
+fn operand_count(takes: Operands) -> u128
+    ensures count { length (operand_types {R = ℕ} takes) ≡ result }
+    ensures small { result ≤ 3 }
+{
     match takes {
         Operands::Nothing => 0,
         Operands::One(_) => 1,
@@ -28,16 +35,34 @@ fn operand_count(takes: Operands) -> u128 {
     }
 }
 
+/// How many results are given.
+fn result_count(gives: Option<ValueType>) -> u128
+    ensures { length (result_types {R = ℕ} gives) ≡ result }
+{
+    match gives {
+        Some(_) => 1,
+        None => 0,
+    }
+}
+
 /// How many operands an operator of this form takes and gives.
-fn form_arity(form: Form, values: ImmediateValues) -> (u128, u128) {
-    let (takes, gives) = match form {
-        Form::Compute { takes, gives, .. } => (takes, gives),
-        Form::Access { takes, gives, .. } => (takes, gives),
-    };
-    (
-        address_count(values) + operand_count(takes),
-        if gives.is_some() { 1 } else { 0 },
-    )
+fn form_arity(form: Form, values: ImmediateValues) -> (u128, u128)
+    ensures { (M : Asked) → Some result ≡ arity M (form_shape [] form values) }
+{
+    match form {
+        Form::Compute { takes, gives, .. } => {
+            (
+                address_count(values) + operand_count(takes),
+                result_count(gives),
+            )
+        }
+        Form::Access { takes, gives, .. } => {
+            (
+                address_count(values) + operand_count(takes),
+                result_count(gives),
+            )
+        }
+    }
 }
 
 /// How many operands an operator on vectors takes and gives.
