@@ -855,8 +855,8 @@ def legacy():
     ok('try_table and try in one body', TRY, '1f40010200', END, '0700', END)
     for name, op in [('try', TRY), ('catch', '0700'), ('rethrow', '0900'), ('delegate', '1800'), ('catch_all', '19')]:
         code = int(op[:2], 16)
-        for features, wanted in [('all-legacy_exceptions', 'illegal opcode 0x%02x; missing legacy_exceptions' % code),
-                                 ('default', 'illegal opcode 0x%02x; missing legacy_exceptions' % code),
+        for features, wanted in [('all-legacy_exceptions', 'illegal opcode 0x%02x; missing nothing' % code),
+                                 ('default', 'illegal opcode 0x%02x; missing nothing' % code),
                                  (LEGACY + '-exceptions', 'exceptions support is not enabled; missing exceptions')]:
             case('%s with %s' % (name, features), '', raw=bytes_of(op, END), features=features, wanted='refused 1 ' + wanted)
     case('try with the two features that it needs', '', raw=bytes_of(TRY, '0700', '0900', END), features='none+legacy_exceptions+exceptions', wanted='ok')

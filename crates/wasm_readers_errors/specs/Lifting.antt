@@ -1,7 +1,7 @@
 -- Which proposal would lift the refusal of an operator, and which one an operator of constant expressions needs.
 use Rattle.std.specs.Prelude.{Option, Some, None}
 use Rattle.wasm_readers_features.specs.declared.features.WasmFeatures.{WasmFeatures}
-use Rattle.wasm_readers_features.specs.declared.features.TheConstants.WasmFeatures.{FLOATS, SIMD, MULTI_VALUE, REFERENCE_TYPES, BULK_MEMORY, EXCEPTIONS, FUNCTION_REFERENCES, GC, SHARED_EVERYTHING_THREADS, CUSTOM_DESCRIPTORS, LEGACY_EXCEPTIONS, EXTENDED_CONST}
+use Rattle.wasm_readers_features.specs.declared.features.TheConstants.WasmFeatures.{FLOATS, SIMD, MULTI_VALUE, REFERENCE_TYPES, BULK_MEMORY, EXCEPTIONS, FUNCTION_REFERENCES, GC, SHARED_EVERYTHING_THREADS, CUSTOM_DESCRIPTORS, EXTENDED_CONST}
 use Rattle.wasm_readers_errors.specs.declared.operator_rules.OperatorRule.{OperatorRule}
 use Rattle.wasm_readers_errors.specs.declared.operator_rules.OperatorRule.TheVariants as rule
 use Rattle.wasm_readers_errors.specs.declared.operator_rules.GatedConstant.{GatedConstant}
@@ -20,7 +20,6 @@ lifting rule.Gc = Some GC
 lifting rule.SharedEverything = Some SHARED_EVERYTHING_THREADS
 lifting rule.CustomDescriptors = Some CUSTOM_DESCRIPTORS
 lifting rule.LocalGlobal = Some GC
-lifting rule.LegacyExceptions = Some LEGACY_EXCEPTIONS
 lifting _ = None
 
 -- The proposal that this operator of constant expressions needs.

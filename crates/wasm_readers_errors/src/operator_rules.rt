@@ -139,7 +139,8 @@ pub enum OperatorRule {
     SharedEverything,
     /// An operator needs `CUSTOM_DESCRIPTORS`.
     CustomDescriptors,
-    /// The operator of this opcode needs `LEGACY_EXCEPTIONS`.
+    /// The operator of this opcode needs `LEGACY_EXCEPTIONS`. Without it the opcode is none, and no
+    /// proposal is told.
     LegacyExceptions,
     /// `catch` stands behind no `try` or `catch`.
     CatchOutsideTry,
@@ -194,7 +195,6 @@ impl OperatorRule {
             OperatorRule::SharedEverything => Some(WasmFeatures::SHARED_EVERYTHING_THREADS),
             OperatorRule::CustomDescriptors => Some(WasmFeatures::CUSTOM_DESCRIPTORS),
             OperatorRule::LocalGlobal => Some(WasmFeatures::GC),
-            OperatorRule::LegacyExceptions => Some(WasmFeatures::LEGACY_EXCEPTIONS),
             _ => None,
         }
     }
