@@ -82,11 +82,11 @@ module _ {A : Type 0} (v : Stacks A) (C : Context UnpackedIndex) where
   passed rest e = gate (features_of v.features).legacy_exceptions (features_of v.features).exceptions rest (state_of v) e
 
   behind : (op : Legacy ℕ) → are_on (features_of v.features) ≡ true → acted v C (actions_of (legacy_shape op)) ≡ acted v C (actions_of (enabled_shape op))
-  behind (try_ b) e = passed _ e
-  behind (catch_ x) e = passed _ e
-  behind (rethrow l) e = passed _ e
-  behind (delegate l) e = passed _ e
-  behind catch_all e = passed _ e
+  behind (try_ b) e = passed (actions_of (enabled_shape (try_ b))) e
+  behind (catch_ x) e = passed (actions_of (enabled_shape (catch_ x))) e
+  behind (rethrow l) e = passed (actions_of (enabled_shape (rethrow l))) e
+  behind (delegate l) e = passed (actions_of (enabled_shape (delegate l))) e
+  behind catch_all e = passed (actions_of (enabled_shape catch_all)) e
 
   pub features_on : (r : Result (Unit {0}) OperatorError) (op : Legacy ℕ) (old new : State UnpackedIndex) → are_on (features_of v.features) ≡ true → Took r (acted v C (actions_of (enabled_shape op))) old new → Took r (acted v C (actions_of (legacy_shape op))) old new
   features_on r op old new e t = took_along r _ _ old new (behind op e) t

@@ -1,14 +1,14 @@
 -- The bodies of legacy exceptions, run, and what is refused without the feature.
-use Rattle.std.proofs.Common.{◌≡◌, refl, ℕ, Bool, true, false, ◌&&◌, List, ◌∷◌, Option, Some, None}
+use Rattle.std.proofs.Common.{◌≡◌, refl, ℕ, Bool, true, false, ◌&&◌, List, [], ◌∷◌, Option, Some, None}
 use Rattle.wasm_spec_rules.specs.WasmSpec.MatchingTests.{World}
 use Rattle.wasm_spec_rules.specs.Attempts.{◌>>=◌, guard}
 use Rattle.wasm_operators.specs.Legacy.{Legacy, try_, catch_, delegate, rethrow, catch_all}
 use Rattle.wasm_operator_steps.specs.Bodies.{Surroundings}
-use Rattle.wasm_operator_steps.specs.Machine.{State}
-use Rattle.wasm_operator_steps.specs.Actions.{has, legacy_exceptions, exceptions, Action, need}
-use Rattle.wasm_operator_steps.specs.Shapes.{legacy_shape}
+use Rattle.wasm_operator_steps.specs.Machine.{legacy_try_kind, legacy_catch_kind, legacy_catch_all_kind, State}
+use Rattle.wasm_operator_steps.specs.Actions.{of_tag, params, has, legacy_exceptions, exceptions, is_exception, Action, need, take, stop, leave, enter, turn_to_catch, find_outside, find_caught}
+use Rattle.wasm_operator_steps.specs.Shapes.{nothing, block_checks, legacy_shape}
 use Rattle.wasm_operator_steps.specs.Meanings.{run}
-use Rattle.wasm_operator_steps.specs.Steps.{actions_of, is_open}
+use Rattle.wasm_operator_steps.specs.Steps.{checked, actions_of, is_open}
 use Rattle.wasm_operator_steps.specs.Laws.{LegacyNeedsFeatures}
 use Rattle.wasm_operator_steps.specs.LegacyExamples.{Tries, NoTries, TriesNeedFeatures}
 
@@ -40,11 +40,11 @@ module _ {R : Type 0} (W : World R) (B : Surroundings R) (e : (B.features.legacy
   unmet more t = blocked B.features.legacy_exceptions B.features.exceptions t (run W B more) e
 
   pub none_taken : (op : Legacy ℕ) (t : State R) → run W B (actions_of (legacy_shape op)) t ≡ None
-  none_taken (try_ b) t = unmet _ t
-  none_taken (catch_ x) t = unmet _ t
-  none_taken (rethrow l) t = unmet _ t
-  none_taken (delegate l) t = unmet _ t
-  none_taken catch_all t = unmet _ t
+  none_taken (try_ b) t = unmet (checked (block_checks b) (take nothing ∷ enter legacy_try_kind b ∷ [])) t
+  none_taken (catch_ x) t = unmet (need (is_exception x) ∷ turn_to_catch (params (of_tag x)) legacy_catch_kind ∷ []) t
+  none_taken (rethrow l) t = unmet (find_caught l ∷ stop ∷ []) t
+  none_taken (delegate l) t = unmet (find_outside l ∷ leave ∷ []) t
+  none_taken catch_all t = unmet (turn_to_catch nothing legacy_catch_all_kind ∷ []) t
 
 pub legacy_needs_features : {R : Type 0} → LegacyNeedsFeatures R
 legacy_needs_features W B op s e = behind (guard (is_open s) s) (run W B (actions_of (legacy_shape op))) (none_taken W B e op)
