@@ -1,7 +1,7 @@
 /* ruthvelka.h: validation of WebAssembly modules, for C and C++.
 
    A module is accepted exactly where it is valid under the WebAssembly Core Specification 3.0 and the enabled proposals, within fixed limits;
-   vector operators other than v128.const, atomic operators, the operators of stack switching and of legacy exceptions, and components are refused.
+   vector operators other than v128.const, atomic operators, the operators of stack switching, and components are refused.
    docs/THEOREM.md of the repository has the exact statement; docs/PROVED.md says which part of this library is proved: all but c/, some sixty lines
    of C that pass these calls on and take memory.
 

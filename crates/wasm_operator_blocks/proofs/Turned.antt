@@ -12,6 +12,7 @@ use Rattle.wasm_operator_control.specs.WasmOperatorChecks.WasmOperatorSteps.Acti
 use Rattle.wasm_operator_control.specs.WasmOperatorChecks.WasmOperatorSteps.Bodies.{Surroundings}
 use Rattle.wasm_operator_control.specs.WasmOperatorChecks.WasmOperatorSteps.Machine as machine
 use Rattle.wasm_operator_control.specs.WasmOperatorChecks.WasmOperatorSteps.Machine.{Kind, else_kind, is_if, may_catch, State, pop_vals, push_vals, push_frame}
+use Rattle.wasm_operator_control.specs.WasmOperatorChecks.WasmOperatorSteps.Shapes.{nothing}
 use Rattle.wasm_spec_rules.specs.Signatures.{Signature}
 use Rattle.wasm_operator_control.specs.WasmOperatorChecks.WasmOperatorSteps.Meanings.{block_signature, pop_frame, turn_in, catch_in}
 use Rattle.wasm_operator_control.specs.WasmOperatorChecks.WasmValidatorResources.Answers.{world}
@@ -201,5 +202,11 @@ module _ {A : Type 0} (v : Stacks A) (C : Context UnpackedIndex) (k : Kind) (vs 
   pub catches_with : (r : Result (Unit {0}) OperatorError) (t : OperandTypes) (old new : State UnpackedIndex) → typed v C t ≡ Some vs → Took r (caught v C k vs) old new → Took r (acted v C (turn_to_catch t k ∷ [])) old new
   unfolding acted typed caught
   catches_with r t old new e h = took_along r _ _ old new (rw e (last_some (catch_in (world C) (around v C) k vs (state_of v).frames (state_of v)))) h
+
+  pub catches_nothing : (r : Result (Unit {0}) OperatorError) (old new : State UnpackedIndex) → vs ≡ [] → Took r (caught v C k vs) old new → Took r (acted v C (turn_to_catch nothing k ∷ [])) old new
+  unfolding acted typed caught
+  catches_nothing r old new e h = catches_with r nothing old new (ap Some (sym e)) h
+
+pub ruleset catches_all = (catches_nothing)
 
 pub ruleset catches = (catch_nowhere, catch_unsigned, catch_not_popped, catch_high, catch_nothing, catch_is)

@@ -140,6 +140,7 @@ fn catch<A: Allocator, T: WasmModuleResources>(
 }
 
 /// `catch_all`: the same over nothing.
+#[tactic(auto, using(crate::proofs::Turned::catches_all))]
 fn catch_all<A: Allocator, T: WasmModuleResources>(
     stacks: &mut Stacks<A>,
     resources: &T,
