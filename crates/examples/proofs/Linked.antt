@@ -13,7 +13,7 @@ use Rattle.wasm_spec.specs.Features.{Features, canonical}
 use Rattle.wasm_spec.specs.Trees.{DefType, declared}
 use Rattle.wasm_spec_rules.specs.FeatureFlags.{features_of}
 use Rattle.wasm_spec_rules.specs.IndexSpaces.{index_spaces, imported, functions_in, signature, IsFunctionType}
-use Rattle.wasm_validator_canonical.specs.Sections.{StandsFor}
+use Rattle.wasm_validator.specs.WasmValidatorCanonical.Sections.{StandsFor}
 use Rattle.wasm_validator.proofs.WasmLawsCore.AllLists.{function_of_extern, all_imported}
 use Rattle.wasm_validator.specs.WasmValidatorTypes.Shown.{shown_of}
 use Rattle.wasm_validator.specs.WasmValidatorTypes.declared.shown.Types as shown

@@ -7,7 +7,7 @@ use Rattle.wasm_operators.specs.Control.{Block}
 use Rattle.wasm_operators.specs.declared.control.FrameKind.{FrameKind}
 use Rattle.wasm_operators.specs.declared.control.FrameKind.TheVariants as frame
 use Rattle.wasm_operator_blocks.specs.WasmOperatorChecks.WasmOperatorSteps.Machine as machine
-use Rattle.wasm_operator_validator.specs.Asked.{kind_of}
+use Rattle.wasm_operator_arity.specs.Asked.{kind_of}
 use Rattle.wasm_operator_blocks.specs.WasmOperatorChecks.WasmOperatorStacks.SeenBlocks as stacks
 use Rattle.wasm_operator_blocks.specs.WasmOperatorChecks.WasmOperatorStacks.SeenBlocks.{frame_of, frames_seen}
 use Rattle.wasm_operator_blocks.specs.WasmOperatorChecks.WasmOperatorStacks.declared.stacks.Frame.{Frame}

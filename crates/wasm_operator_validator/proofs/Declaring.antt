@@ -1,7 +1,7 @@
 -- Locals that are declared, or refused.
 use Rattle.std.proofs.Common.{◌≡◌, ℕ, ◌+◌, ◌<◌, ◌≤◌, Bool, true, false, List, ◌++◌, inl, inr, refl, sym, ◌∙◌, ap, length, arith}
 use Rattle.std.specs.Prelude.{Option, Some, None, Ok, Err, replicate, IsTrue, ◌↔◌}
-use Rattle.wasm_spec.specs.Syntax.{Val}
+use Rattle.wasm_operator_blocks.specs.WasmOperatorChecks.WasmSpecRules.WasmSpec.Syntax.{Val}
 use Rattle.wasm_readers_types.specs.WasmReadersValues.declared.indices.UnpackedIndex.{UnpackedIndex}
 use Rattle.wasm_operator_blocks.specs.WasmOperatorChecks.WasmOperatorSteps.Bodies.{Local}
 use Rattle.wasm_operator_blocks.specs.WasmOperatorChecks.WasmOperatorSteps.Meanings.{has_default}

@@ -1,7 +1,7 @@
 -- Locals that are defined.
 use Rattle.std.proofs.Common.{◌≡◌, ℕ, ◌+◌, ◌<◌, ◌≤◌, Bool, true, List, [], ◌∷◌, ◌++◌, length, take, map, get_or, refl, sym, ◌∙◌, ap, arith, add-one, append_assoc}
 use Rattle.std.specs.Prelude.{zero, suc, replicate}
-use Rattle.wasm_spec.specs.Syntax.{Val}
+use Rattle.wasm_operator_blocks.specs.WasmOperatorChecks.WasmSpecRules.WasmSpec.Syntax.{Val}
 use Rattle.wasm_readers_types.specs.WasmReadersValues.SeenValues.{val_of}
 use Rattle.wasm_readers_types.specs.WasmReadersValues.declared.indices.UnpackedIndex.{UnpackedIndex}
 use Rattle.wasm_readers_types.specs.WasmReadersValues.declared.values.ValType.{ValType}

@@ -1,5 +1,3 @@
-pub mod Frames
-pub mod LengthsCounted
 pub mod Stepping
 pub mod Defining
 pub mod Beginning

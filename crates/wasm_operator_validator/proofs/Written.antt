@@ -1,7 +1,7 @@
 -- What is read of the bytes names type indices of a module, and is the instruction that the definitions read.
 use Rattle.std.proofs.Common.{◌≡◌, sym, ap, subst, ◌∙◌, ℕ, List, Option, Some, None}
 use Rattle.std.specs.Option.{option_map}
-use Rattle.wasm_spec.specs.Syntax.{Heap, Val, abstract_heap, concrete, exact, reference, i32, i64, f32, f64, v128, map_heap, map_val}
+use Rattle.wasm_operator_blocks.specs.WasmOperatorChecks.WasmSpecRules.WasmSpec.Syntax.{Heap, Val, abstract_heap, concrete, exact, reference, i32, i64, f32, f64, v128, map_heap, map_val}
 use Rattle.wasm_readers.specs.Written.{written}
 use Rattle.wasm_operator_blocks.specs.WasmOperatorChecks.WasmValidatorResources.Answers.{written_index, IsWrittenHeap, IsWrittenVal}
 use Rattle.wasm_operators.specs.Control as control

@@ -6,9 +6,9 @@ use Rattle.wasm_operator_blocks.specs.WasmOperatorChecks.WasmSpecRules.Contexts.
 use Rattle.wasm_readers_types.specs.WasmReadersValues.declared.indices.UnpackedIndex.{UnpackedIndex}
 use Rattle.wasm_operators.specs.Control.{Block}
 use Rattle.wasm_operator_blocks.specs.WasmOperatorChecks.WasmOperatorSteps.Machine.{Kind, Frame}
-use Rattle.wasm_operator_validator.specs.Arities.{in_u32}
-use Rattle.wasm_operator_validator.specs.Asked.{Asked}
-use Rattle.wasm_operator_validator.specs.Lengths.{lengths_of}
+use Rattle.wasm_operator_arity.specs.Arities.{in_u32}
+use Rattle.wasm_operator_arity.specs.Asked.{Asked}
+use Rattle.wasm_operator_arity.specs.Lengths.{lengths_of}
 use Rattle.wasm_operator_blocks.specs.WasmOperatorChecks.WasmValidatorResources.Answers.{sub_in, sub_of_id, tag_in}
 use Rattle.wasm_operator_blocks.specs.WasmOperatorChecks.WasmOperatorStacks.Seen.{state_of}
 use Rattle.wasm_operator_blocks.specs.WasmOperatorChecks.WasmOperatorStacks.declared.stacks.Stacks.{Stacks}

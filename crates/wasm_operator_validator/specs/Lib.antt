@@ -3,10 +3,6 @@ pub use Rattle.wasm_operator_blocks.specs.WasmOperatorChecks.WasmOperatorStacks 
 pub use Rattle.wasm_operator_blocks.specs.WasmOperatorChecks as WasmOperatorChecks
 pub use Rattle.wasm_operator_fast.specs.WasmOperatorControl as WasmOperatorControl
 pub use Rattle.wasm_operator_fast.specs as WasmOperatorFast
-pub mod Asked
-pub mod Arities
-pub mod Sizes
-pub mod Lengths
 pub mod Stepped
 pub mod Typed
 pub mod Shown

@@ -1,7 +1,7 @@
 -- What the queries of a validator of operators show.
 -- Core Specification 3.0, Appendix, Validation Algorithm (Data Structures).
 use Rattle.std.specs.Prelude.{Option, Some, None}
-use Rattle.wasm_spec.specs.Syntax.{Val}
+use Rattle.wasm_operator_blocks.specs.WasmOperatorChecks.WasmSpecRules.WasmSpec.Syntax.{Val}
 use Rattle.wasm_readers_types.specs.WasmReadersValues.declared.indices.UnpackedIndex.{UnpackedIndex}
 use Rattle.wasm_operators.specs.SeenControl.{block_of}
 use Rattle.wasm_operator_blocks.specs.WasmOperatorChecks.WasmOperatorSteps.Machine as machine

@@ -5,7 +5,7 @@ ghost use Rattle.std.specs.Prelude.{◌≡◌, length, slice_get};
 ghost use Rattle.std.specs.Option.{option_map};
 ghost use Rattle.wasm_readers_types.specs.SeenTypes.{sub_of, func_of};
 ghost use Rattle.wasm_operators.specs.SeenControl.{block_of};
-ghost use Rattle.wasm_operator_validator.specs.Asked.{kind_of, func_alone};
+ghost use Rattle.wasm_operator_arity.specs.Asked.{kind_of, func_alone};
 ghost use Rattle.wasm_operator_validator.specs.Answered.{tag_counts, labels_in, kinds_in};
 
 use crate::validator::OperatorValidator;

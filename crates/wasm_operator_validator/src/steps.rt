@@ -9,9 +9,7 @@ use wasm_operator_arrays::step_array;
 use wasm_operator_blocks::operator_checks::{OperatorError, OperatorFault, OperatorRule};
 use wasm_operator_blocks::operator_stacks::Stacks;
 use wasm_operator_blocks::validator_resources::WasmModuleResources;
-use wasm_operator_blocks::{
-    step_call, step_control, step_legacy, step_parametric, step_variable,
-};
+use wasm_operator_blocks::{step_call, step_control, step_legacy, step_parametric, step_variable};
 use wasm_operator_casts::{step_cast, step_conversion, step_reference};
 use wasm_operator_fast::operator_numbers::{
     access_memory, bulk_memory, compute, constant, step_atomic, step_table, step_vector,

@@ -69,3 +69,10 @@ pub fn types_are_apart<A: Allocator + Copy>(types: &TypeList<A>)
     // Asked for what it promises: where equal types are one, no type has two ids.
     let _is_canonical = types.is_canonical();
 }
+
+/// Passed on from `wasm_validator_type_checks`.
+pub mod type_checks {
+    pub use wasm_validator_type_checks::{
+        MAX_WASM_SUBTYPING_DEPTH, check_composite_type, check_descriptors, check_subtype,
+    };
+}

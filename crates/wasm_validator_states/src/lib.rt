@@ -83,6 +83,9 @@ pub mod sections {
 
 /// Passed on from the crates of types and of what a module looks up.
 pub mod types {
+    pub use wasm_validator_canonical::type_checks::{
+        MAX_WASM_SUBTYPING_DEPTH, check_composite_type, check_descriptors, check_subtype,
+    };
     pub use wasm_validator_canonical::{
         InternRecGroup, TypeCanonicalizer, canonicalize_and_intern_rec_group, intern_rec_group_of,
         needs_type_canonicalization, types_are_apart,
@@ -91,9 +94,6 @@ pub mod types {
         Matches, TypeData, TypeIdentifier, TypeInfo, WithRecGroup, func_signature_matches,
     };
     pub use wasm_validator_resources::WasmModuleResources;
-    pub use wasm_validator_type_checks::{
-        MAX_WASM_SUBTYPING_DEPTH, check_composite_type, check_descriptors, check_subtype,
-    };
     pub use wasm_validator_type_list::LinkCount;
     pub use wasm_validator_types::{
         CoreExports, CoreImports, EntityType, IndexSpaces, RecGroupElements, RecGroupId,

@@ -1,6 +1,6 @@
 //! Laws of the definitions.
 
-ghost use Rattle.wasm_operator_validator.specs.Lengths.{CountsAreLengths};
+ghost use Rattle.wasm_operator_arity.specs.Lengths.{CountsAreLengths};
 
 /// A list of types that validation finds has as many types as are counted.
 #[tactic(auto, using(crate::proofs::LengthsCounted::lengths))]

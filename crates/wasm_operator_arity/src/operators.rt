@@ -2,12 +2,12 @@
 
 ghost use Rattle.std.specs.Prelude.{◌≡◌};
 ghost use Rattle.std.specs.Option.{option_and_then};
-ghost use Rattle.wasm_operator_validator.specs.Arities.{arity, in_u32, operator_shape};
+ghost use Rattle.wasm_operator_arity.specs.Arities.{arity, in_u32, operator_shape};
 
 use crate::control::{call_arity, control_arity, parametric_arity};
 use crate::forms::{atomic_arity, vector_arity};
-use crate::legacy::legacy_arity;
 use crate::heap::{array_arity, cast_arity, conversion_arity, reference_arity, struct_arity};
+use crate::legacy::legacy_arity;
 use crate::module::ModuleArity;
 use crate::values::{
     access_arity, memory_arity, numeric_arity, saturating_arity, table_arity, variable_arity,

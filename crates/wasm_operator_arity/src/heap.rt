@@ -1,14 +1,14 @@
 //! How many operands operators on references, structures and arrays take and give.
 
 ghost use Rattle.std.specs.Prelude.{◌≡◌, ◌∷◌, [], Some, IfSome};
-ghost use Rattle.wasm_spec.specs.Syntax.{i32};
+ghost use Rattle.wasm_operator_steps.specs.WasmSpecRules.WasmSpec.Syntax.{i32};
 ghost use Rattle.wasm_operators.specs.Maps.{map_reference, map_cast};
 ghost use Rattle.wasm_operators.specs.SeenReferences.{reference_of, cast_of};
-ghost use Rattle.wasm_operator_blocks.specs.WasmOperatorChecks.WasmOperatorSteps.Shapes.{reference_shape, cast_shape, conversion_shape, struct_shape, array_shape};
-ghost use Rattle.wasm_operator_blocks.specs.WasmOperatorChecks.WasmOperatorSteps.Actions.{these, label, front, joined};
-ghost use Rattle.wasm_operator_validator.specs.Arities.{how_many, arity, index_number};
-ghost use Rattle.wasm_operator_validator.specs.Sizes.{IsSmall};
-ghost use Rattle.wasm_operator_validator.specs.Asked.{Asked};
+ghost use Rattle.wasm_operator_steps.specs.Shapes.{reference_shape, cast_shape, conversion_shape, struct_shape, array_shape};
+ghost use Rattle.wasm_operator_steps.specs.Actions.{these, label, front, joined};
+ghost use Rattle.wasm_operator_arity.specs.Arities.{how_many, arity, index_number};
+ghost use Rattle.wasm_operator_arity.specs.Sizes.{IsSmall};
+ghost use Rattle.wasm_operator_arity.specs.Asked.{Asked};
 
 use crate::counts::{field_count, label_count};
 use crate::module::ModuleArity;

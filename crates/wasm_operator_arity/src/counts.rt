@@ -5,9 +5,9 @@ ghost use Rattle.std.specs.Prelude.{◌≡◌, IfSome};
 ghost use Rattle.wasm_readers_types.specs.SeenTypes.{sub_of};
 ghost use Rattle.wasm_operators.specs.Maps.{map_block};
 ghost use Rattle.wasm_operators.specs.SeenControl.{block_of};
-ghost use Rattle.wasm_operator_blocks.specs.WasmOperatorChecks.WasmOperatorSteps.Actions.{of_type, of_function, of_tag, params, label, returned, fields};
-ghost use Rattle.wasm_operator_validator.specs.Arities.{func_counts, field_count, signature_counts, block_counts, innermost_counts, how_many, index_number};
-ghost use Rattle.wasm_operator_validator.specs.Sizes.{IsSmall, AreSmall};
+ghost use Rattle.wasm_operator_steps.specs.Actions.{of_type, of_function, of_tag, params, label, returned, fields};
+ghost use Rattle.wasm_operator_arity.specs.Arities.{func_counts, field_count, signature_counts, block_counts, innermost_counts, how_many, index_number};
+ghost use Rattle.wasm_operator_arity.specs.Sizes.{IsSmall, AreSmall};
 
 use crate::module::ModuleArity;
 use std::alloc::Allocator;
@@ -102,9 +102,7 @@ pub(crate) fn label_count<M: ModuleArity>(resources: &M, depth: u32) -> Option<u
                 | FrameKind::TryTable
                 | FrameKind::LegacyTry
                 | FrameKind::LegacyCatch
-                | FrameKind::LegacyCatchAll => {
-                    Some(gives)
-                }
+                | FrameKind::LegacyCatchAll => { Some(gives) }
             },
             None => None,
         },

@@ -2,8 +2,8 @@
 
 ghost use Rattle.std.specs.Prelude.{◌≡◌, List, slice_get};
 ghost use Rattle.std.specs.Option.{option_map};
-ghost use Rattle.wasm_operator_blocks.specs.WasmOperatorChecks.WasmOperatorSteps.Machine.{Kind};
-ghost use Rattle.wasm_operator_validator.specs.Asked.{kind_of};
+ghost use Rattle.wasm_operator_steps.specs.Machine.{Kind};
+ghost use Rattle.wasm_operator_arity.specs.Asked.{kind_of};
 
 use wasm_operators::FrameKind;
 

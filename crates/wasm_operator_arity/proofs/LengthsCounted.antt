@@ -4,18 +4,18 @@ use Rattle.std.proofs.Common.{◌≡◌, refl, sym, ap, ◌∙◌, ℕ, zero, su
 use Rattle.std.specs.Option.{option_and_then}
 use Rattle.std.proofs.lemmas.List.{length-map}
 use Rattle.std.proofs.lemmas.Option.{slice_get-map, same_Some, none-some}
-use Rattle.wasm_spec.specs.Syntax.{exact, Val, reference, Comp, func, array, struct, cont, Sub}
-use Rattle.wasm_spec.specs.MatchingTests.{World}
+use Rattle.wasm_operator_steps.specs.WasmSpecRules.WasmSpec.Syntax.{exact, Val, reference, Comp, func, array, struct, cont, Sub}
+use Rattle.wasm_operator_steps.specs.WasmSpecRules.WasmSpec.MatchingTests.{World}
 use Rattle.wasm_readers_types.specs.WasmReadersValues.declared.indices.UnpackedIndex.{UnpackedIndex}
 use Rattle.wasm_operators.specs.Control.{Block, empty_block, value_block, func_block}
-use Rattle.wasm_operator_blocks.specs.WasmOperatorChecks.WasmSpecRules.Attempts.{◌>>=◌, last_of, front_of}
-use Rattle.wasm_operator_blocks.specs.WasmOperatorChecks.WasmOperatorSteps.Bodies.{Surroundings}
-use Rattle.wasm_operator_blocks.specs.WasmOperatorChecks.WasmOperatorSteps.Machine.{Kind, block_kind, loop_kind, if_kind, else_kind, try_table_kind, legacy_try_kind, legacy_catch_kind, legacy_catch_all_kind, Frame, State}
-use Rattle.wasm_operator_blocks.specs.WasmOperatorChecks.WasmOperatorSteps.Actions.{Signed, of_type, of_function, of_tag, OperandTypes, these, params, results, label, returned, local, global, function_reference, new_reference, fields, element, field, table_address, memory_address, table_element, segment, lesser_table_address, lesser_memory_address, top, descriptor_of, repeated, front, last, joined}
-use Rattle.wasm_operator_blocks.specs.WasmOperatorChecks.WasmSpecRules.Signatures.{Signature, signature_of, resolve_val, resolve_vals}
-use Rattle.wasm_operator_blocks.specs.WasmOperatorChecks.WasmOperatorSteps.Meanings.{fields_of, copies, one, unpack_field, label_by, ref_to, exact_if, function_heap, element_at, field_at, address, table_is_64, memory_is_64, both, top_heap, descriptor_at, sub_at, type_signature, block_signature, signature_at, types_at}
-use Rattle.wasm_operator_validator.specs.Arities.{takes_of, gives_of, func_counts, field_count, one_of, label_count, type_counts, signature_counts, block_counts, how_many}
-use Rattle.wasm_operator_validator.specs.Lengths.{lengths_of, asked_of, CountsAreLengths}
+use Rattle.wasm_operator_steps.specs.WasmSpecRules.Attempts.{◌>>=◌, last_of, front_of}
+use Rattle.wasm_operator_steps.specs.Bodies.{Surroundings}
+use Rattle.wasm_operator_steps.specs.Machine.{Kind, block_kind, loop_kind, if_kind, else_kind, try_table_kind, legacy_try_kind, legacy_catch_kind, legacy_catch_all_kind, Frame, State}
+use Rattle.wasm_operator_steps.specs.Actions.{Signed, of_type, of_function, of_tag, OperandTypes, these, params, results, label, returned, local, global, function_reference, new_reference, fields, element, field, table_address, memory_address, table_element, segment, lesser_table_address, lesser_memory_address, top, descriptor_of, repeated, front, last, joined}
+use Rattle.wasm_operator_steps.specs.WasmSpecRules.Signatures.{Signature, signature_of, resolve_val, resolve_vals}
+use Rattle.wasm_operator_steps.specs.Meanings.{fields_of, copies, one, unpack_field, label_by, ref_to, exact_if, function_heap, element_at, field_at, address, table_is_64, memory_is_64, both, top_heap, descriptor_at, sub_at, type_signature, block_signature, signature_at, types_at}
+use Rattle.wasm_operator_arity.specs.Arities.{takes_of, gives_of, func_counts, field_count, one_of, label_count, type_counts, signature_counts, block_counts, how_many}
+use Rattle.wasm_operator_arity.specs.Lengths.{lengths_of, asked_of, CountsAreLengths}
 
 -- an attempt that gives something, taken apart
 bind-gives : {A B : Type 0} (o : Option A) (g : A → Option B) (b : B) → (o >>= g) ≡ Some b → (a : A) × (o ≡ Some a) × (g a ≡ Some b)

@@ -1,6 +1,6 @@
 -- The last item of a list, by its place.
 use Rattle.std.proofs.Common.{◌≡◌, refl, ◌-◌, List, [], ◌∷◌, length, slice_get, arith}
-use Rattle.wasm_operator_blocks.specs.WasmOperatorChecks.WasmSpecRules.Attempts.{last_of}
+use Rattle.wasm_operator_steps.specs.WasmSpecRules.Attempts.{last_of}
 
 last_of-cons : {A : Type 0} (x : A) (xs : List A) → last_of (x ∷ xs) ≡ slice_get (x ∷ xs) (length xs)
 last_of-cons x [] = refl

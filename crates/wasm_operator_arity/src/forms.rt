@@ -1,10 +1,10 @@
 //! How many operands operators on vectors, and atomic ones, take and give.
 
 ghost use Rattle.std.specs.Prelude.{◌≡◌, ◌≤◌, ◌+◌, ℕ, Some, [], length};
-ghost use Rattle.wasm_operator_blocks.specs.WasmOperatorChecks.WasmOperatorSteps.Forms.{operand_types, result_types, memarg_of};
-ghost use Rattle.wasm_operator_blocks.specs.WasmOperatorChecks.WasmOperatorSteps.Shapes.{address_of, form_shape, vector_shape, atomic_shape};
-ghost use Rattle.wasm_operator_validator.specs.Arities.{arity, how_many};
-ghost use Rattle.wasm_operator_validator.specs.Asked.{Asked};
+ghost use Rattle.wasm_operator_steps.specs.Forms.{operand_types, result_types, memarg_of};
+ghost use Rattle.wasm_operator_steps.specs.Shapes.{address_of, form_shape, vector_shape, atomic_shape};
+ghost use Rattle.wasm_operator_arity.specs.Arities.{arity, how_many};
+ghost use Rattle.wasm_operator_arity.specs.Asked.{Asked};
 
 use wasm_operators::ImmediateValues;
 use wasm_operators::operators_atomic::{

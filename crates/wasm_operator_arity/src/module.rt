@@ -5,7 +5,7 @@ ghost use Rattle.std.specs.Option.{option_map, option_and_then};
 ghost use Rattle.wasm_readers_types.specs.SeenTypes.{sub_of, func_of};
 ghost use Rattle.wasm_readers_types.specs.WasmReadersValues.SeenValues.{index_of, ref_of, index_in};
 ghost use Rattle.wasm_operators.specs.SeenControl.{block_of};
-ghost use Rattle.wasm_operator_validator.specs.Asked.{Asked, kind_of, type_of_id, IsKnown, IsKnownIn, func_alone};
+ghost use Rattle.wasm_operator_arity.specs.Asked.{Asked, kind_of, type_of_id, IsKnown, IsKnownIn, func_alone};
 
 use std::alloc::Allocator;
 use wasm_operators::{BlockType, FrameKind};

@@ -2,9 +2,9 @@
 //! index tells.
 
 ghost use Rattle.std.specs.Prelude.{◌≡◌, Some};
-ghost use Rattle.wasm_operator_blocks.specs.WasmOperatorChecks.WasmOperatorSteps.Shapes.{variable_shape, table_shape, access_shape, memory_shape, computing};
-ghost use Rattle.wasm_operator_validator.specs.Arities.{arity};
-ghost use Rattle.wasm_operator_validator.specs.Asked.{Asked};
+ghost use Rattle.wasm_operator_steps.specs.Shapes.{variable_shape, table_shape, access_shape, memory_shape, computing};
+ghost use Rattle.wasm_operator_arity.specs.Arities.{arity};
+ghost use Rattle.wasm_operator_arity.specs.Asked.{Asked};
 ghost use Rattle.wasm_operators.specs.WasmOperatorsPlain.Signatures.{signature_of, saturating_signature_of};
 
 use wasm_operators::operators_plain::{Signature, numeric_signature, saturating_signature};

@@ -1,13 +1,13 @@
 //! How many operands control operators, calls and parametric operators take and give.
 
 ghost use Rattle.std.specs.Prelude.{◌≡◌, ◌==◌, length, Some, IsTrue, ◌↔◌};
-ghost use Rattle.wasm_spec.specs.BinaryTypes.{val_at};
+ghost use Rattle.wasm_operator_steps.specs.WasmSpecRules.WasmSpec.BinaryTypes.{val_at};
 ghost use Rattle.wasm_readers.specs.Written.{written};
 ghost use Rattle.wasm_operators.specs.Maps.{map_block, map_control, map_parametric};
 ghost use Rattle.wasm_operators.specs.SeenControl.{block_of, control_of, parametric_of};
 ghost use Rattle.wasm_operators.specs.SeenLists.{listed};
-ghost use Rattle.wasm_operator_blocks.specs.WasmOperatorChecks.WasmOperatorSteps.Shapes.{control_shape, call_shape, parametric_shape};
-ghost use Rattle.wasm_operator_validator.specs.Arities.{pair, plus, takes_of, block_counts, arity, index_number};
+ghost use Rattle.wasm_operator_steps.specs.Shapes.{control_shape, call_shape, parametric_shape};
+ghost use Rattle.wasm_operator_arity.specs.Arities.{pair, plus, takes_of, block_counts, arity, index_number};
 
 use crate::counts::{
     block_counts, function_counts, innermost_counts, label_count, returned_count, tag_count,

@@ -2,18 +2,18 @@
 -- Core Specification 3.0, Validation, Instructions.
 use Rattle.std.specs.Prelude.{ℕ, ◌+◌, ◌-◌, ◌*◌, ◌^◌, ◌&&◌, ◌==◌, nat_lt, if◌then◌else◌, length, slice_get, Option, Some, None}
 use Rattle.std.specs.Option.{option_map, option_and_then}
-use Rattle.wasm_spec.specs.Syntax.{Comp, func, struct}
+use Rattle.wasm_operator_steps.specs.WasmSpecRules.WasmSpec.Syntax.{Comp, func, struct}
 use Rattle.wasm_readers_types.specs.WasmReadersValues.declared.indices.UnpackedIndex.{UnpackedIndex}
 use Rattle.wasm_readers_types.specs.WasmReadersValues.declared.indices.UnpackedIndex.TheVariants.{Module, RecGroup, Id}
 use Rattle.wasm_operators.specs.Control.{Block, empty_block, value_block, func_block}
 use Rattle.wasm_operators.specs.Maps.{map_instruction}
 use Rattle.wasm_operators.specs.SeenOperators.{operator_of}
 use Rattle.wasm_operators.specs.declared.operators.Operator.{Operator}
-use Rattle.wasm_operator_blocks.specs.WasmOperatorChecks.WasmSpecRules.Attempts.{last_of}
-use Rattle.wasm_operator_blocks.specs.WasmOperatorChecks.WasmOperatorSteps.Machine.{Kind, loop_kind}
-use Rattle.wasm_operator_blocks.specs.WasmOperatorChecks.WasmOperatorSteps.Actions.{Signed, of_type, of_function, of_tag, OperandTypes, these, params, results, label, returned, fields, repeated, front, last, joined}
-use Rattle.wasm_operator_blocks.specs.WasmOperatorChecks.WasmOperatorSteps.Shapes.{Shape, plain, ending, opening, closing, turning, dropping, choosing, never, testing_null, asserting_non_null, branching_on_null, branching_on_non_null, branching_by_table, setting, giving_back, measuring, comparing, converting, catching, delegating, rethrowing, shape_of}
-use Rattle.wasm_operator_validator.specs.Asked.{Asked}
+use Rattle.wasm_operator_steps.specs.WasmSpecRules.Attempts.{last_of}
+use Rattle.wasm_operator_steps.specs.Machine.{Kind, loop_kind}
+use Rattle.wasm_operator_steps.specs.Actions.{Signed, of_type, of_function, of_tag, OperandTypes, these, params, results, label, returned, fields, repeated, front, last, joined}
+use Rattle.wasm_operator_steps.specs.Shapes.{Shape, plain, ending, opening, closing, turning, dropping, choosing, never, testing_null, asserting_non_null, branching_on_null, branching_on_non_null, branching_by_table, setting, giving_back, measuring, comparing, converting, catching, delegating, rethrowing, shape_of}
+use Rattle.wasm_operator_arity.specs.Asked.{Asked}
 
 -- words on numbers that may not be there
 abbrev pub plus : Option ℕ → Option ℕ → Option ℕ

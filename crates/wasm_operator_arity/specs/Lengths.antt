@@ -1,17 +1,17 @@
 -- Counts against the types that validation looks up: a list that is there has as many types as are counted.
 use Rattle.std.specs.Prelude.{◌≡◌, ℕ, List, length, map, Some, slice_get}
 use Rattle.std.specs.Option.{option_map}
-use Rattle.wasm_spec.specs.Syntax.{Val}
-use Rattle.wasm_spec.specs.MatchingTests.{World}
+use Rattle.wasm_operator_steps.specs.WasmSpecRules.WasmSpec.Syntax.{Val}
+use Rattle.wasm_operator_steps.specs.WasmSpecRules.WasmSpec.MatchingTests.{World}
 use Rattle.wasm_readers_types.specs.WasmReadersValues.declared.indices.UnpackedIndex.{UnpackedIndex}
 use Rattle.wasm_readers_types.specs.WasmReadersValues.declared.indices.UnpackedIndex.TheVariants.{Id}
-use Rattle.wasm_operator_blocks.specs.WasmOperatorChecks.WasmOperatorSteps.Bodies.{Surroundings}
-use Rattle.wasm_operator_blocks.specs.WasmOperatorChecks.WasmOperatorSteps.Machine.{Frame, State}
-use Rattle.wasm_operator_blocks.specs.WasmOperatorChecks.WasmOperatorSteps.Actions.{of_tag, OperandTypes}
-use Rattle.wasm_operator_blocks.specs.WasmOperatorChecks.WasmSpecRules.Signatures.{Signature}
-use Rattle.wasm_operator_blocks.specs.WasmOperatorChecks.WasmOperatorSteps.Meanings.{sub_at, signature_at, types_at}
-use Rattle.wasm_operator_validator.specs.Arities.{how_many}
-use Rattle.wasm_operator_validator.specs.Asked.{Asked}
+use Rattle.wasm_operator_steps.specs.Bodies.{Surroundings}
+use Rattle.wasm_operator_steps.specs.Machine.{Frame, State}
+use Rattle.wasm_operator_steps.specs.Actions.{of_tag, OperandTypes}
+use Rattle.wasm_operator_steps.specs.WasmSpecRules.Signatures.{Signature}
+use Rattle.wasm_operator_steps.specs.Meanings.{sub_at, signature_at, types_at}
+use Rattle.wasm_operator_arity.specs.Arities.{how_many}
+use Rattle.wasm_operator_arity.specs.Asked.{Asked}
 
 -- how many parameters and results a signature has
 abbrev pub lengths_of : {R : Type 0} → Signature R → ℕ × ℕ

@@ -3,8 +3,8 @@
 ghost use Rattle.std.specs.Prelude.{◌≡◌};
 ghost use Rattle.wasm_operators.specs.Maps.{map_legacy};
 ghost use Rattle.wasm_operators.specs.SeenLegacy.{legacy_of};
-ghost use Rattle.wasm_operator_blocks.specs.WasmOperatorChecks.WasmOperatorSteps.Shapes.{legacy_shape};
-ghost use Rattle.wasm_operator_validator.specs.Arities.{arity, index_number};
+ghost use Rattle.wasm_operator_steps.specs.Shapes.{legacy_shape};
+ghost use Rattle.wasm_operator_arity.specs.Arities.{arity, index_number};
 
 use crate::control::opening_counts;
 use crate::counts::{innermost_counts, tag_count};

@@ -1,12 +1,12 @@
 -- What is asked of a module, and of the frames of a body, to tell how many operands an instruction takes and gives.
 use Rattle.std.specs.Prelude.{ℕ, List, Option, Some, None, IsSome, ⊤}
-use Rattle.wasm_spec.specs.Syntax.{Comp, func, Sub}
+use Rattle.wasm_operator_steps.specs.WasmSpecRules.WasmSpec.Syntax.{Comp, func, Sub}
 use Rattle.wasm_readers_types.specs.WasmReadersValues.declared.indices.UnpackedIndex.{UnpackedIndex}
 use Rattle.wasm_readers_types.specs.WasmReadersValues.declared.indices.UnpackedIndex.TheVariants.{Module, RecGroup, Id}
 use Rattle.wasm_operators.specs.Control.{Block}
 use Rattle.wasm_operators.specs.declared.control.FrameKind.{FrameKind}
 use Rattle.wasm_operators.specs.declared.control.FrameKind.TheVariants as frame
-use Rattle.wasm_operator_blocks.specs.WasmOperatorChecks.WasmOperatorSteps.Machine.{Kind, block_kind, loop_kind, if_kind, else_kind, try_table_kind, legacy_try_kind, legacy_catch_kind, legacy_catch_all_kind}
+use Rattle.wasm_operator_steps.specs.Machine.{Kind, block_kind, loop_kind, if_kind, else_kind, try_table_kind, legacy_try_kind, legacy_catch_kind, legacy_catch_all_kind}
 
 -- Answers, where there is one: the type of a type index and of an id, the type index of a function, and how many parameters and
 -- results the type of a tag has; and the block type and the kind of each frame, the innermost first.

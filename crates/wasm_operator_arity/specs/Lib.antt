@@ -1,0 +1,4 @@
+pub mod Asked
+pub mod Arities
+pub mod Sizes
+pub mod Lengths

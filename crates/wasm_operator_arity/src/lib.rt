@@ -1,0 +1,19 @@
+//! How many operands an operator takes and gives, in a module and in the frames that are open (Core
+//! Specification 3.0, Validation, Instructions).
+#![tactic(auto)]
+
+mod control;
+mod counts;
+mod forms;
+mod frame_stack;
+mod heap;
+mod laws;
+mod legacy;
+mod module;
+mod operators;
+mod values;
+
+pub use frame_stack::FrameStack;
+pub use laws::counts_are_lengths;
+pub use module::ModuleArity;
+pub use operators::operator_arity;
