@@ -30,8 +30,8 @@ pub use tails::{return_call, return_call_indirect, return_call_ref};
 /// Passed on from `wasm_operator_numbers`.
 pub mod operator_numbers {
     pub use wasm_operator_numbers::{
-        access_memory, allows_number, bulk_memory, compute, constant, step_atomic, step_table,
-        step_vector,
+        access_memory, allows_number, bulk_memory, compute, constant, form_counts, step_atomic,
+        step_table, step_vector,
     };
 }
 

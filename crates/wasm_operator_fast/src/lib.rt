@@ -20,7 +20,8 @@ pub use steps::fast_step;
 /// Passed on from `wasm_operator_numbers`.
 pub mod operator_numbers {
     pub use wasm_operator_control::operator_numbers::{
-        access_memory, bulk_memory, compute, constant, step_atomic, step_table, step_vector,
+        access_memory, bulk_memory, compute, constant, form_counts, step_atomic, step_table,
+        step_vector,
     };
 }
 

@@ -1,10 +1,10 @@
 //! Operators on vectors, and atomic ones, by their forms.
 
-ghost use Rattle.std.specs.Prelude.{◌≡◌, ◌∷◌, [], ◌++◌, ◌||◌, ◌^◌, nat_lt, ℕ};
+ghost use Rattle.std.specs.Prelude.{◌≡◌, ◌∷◌, [], ◌++◌, ◌||◌, ◌^◌, ◌+◌, ◌≤◌, nat_lt, length, ℕ};
 ghost use Rattle.wasm_readers_errors.specs.WasmSpec.ValueTypes.{allows_val};
 ghost use Rattle.wasm_readers_errors.specs.WasmReadersTypes.WasmReadersValues.declared.indices.UnpackedIndex.{UnpackedIndex};
 ghost use Rattle.wasm_operator_checks.specs.WasmSpecRules.FeatureFlags.{features_of};
-ghost use Rattle.wasm_operator_checks.specs.WasmOperatorSteps.Forms.{value_type, operand_types, types_taken, types_given, result_types, allows_each, allows_alignment, is_lane_of_two, are_lanes_of_two, all_lanes_of_two, suits_immediates, suits_access, suits_form, memarg_of};
+ghost use Rattle.wasm_operator_checks.specs.WasmOperatorSteps.Forms.{value_type, operand_types, types_taken, types_given, result_types, allows_each, allows_alignment, is_lane_of_two, are_lanes_of_two, all_lanes_of_two, suits_immediates, suits_access, suits_form, memarg_of, addresses_in, counts_in};
 ghost use Rattle.wasm_operator_checks.specs.WasmOperatorSteps.Shapes.{form_shape, vector_shape, atomic_shape};
 ghost use Rattle.wasm_operator_checks.specs.WasmOperatorStacks.SeenTypeWords.{val_in};
 ghost use Rattle.wasm_operator_checks.specs.WasmOperatorStacks.Seen.{Kept};
@@ -95,6 +95,60 @@ fn result_of(form: Form) -> Option<ValueType>
     match form {
         Form::Compute { gives, .. } => gives,
         Form::Access { gives, .. } => gives,
+    }
+}
+
+/// How many operands these are.
+fn operand_count(takes: Operands) -> u128
+    ensures count { length (operand_types {R = ℕ} takes) ≡ result }
+    ensures small { result ≤ 3 }
+{
+    match takes {
+        Operands::Nothing => 0,
+        Operands::One(_) => 1,
+        Operands::Two(_, _) => 2,
+        Operands::Three(_, _, _) => 3,
+    }
+}
+
+/// How many results these are.
+fn result_count(gives: Option<ValueType>) -> u128
+    ensures { length (result_types {R = ℕ} gives) ≡ result }
+{
+    match gives {
+        None => 0,
+        Some(_) => 1,
+    }
+}
+
+/// One for an address, where there is a memory argument.
+fn address_count(values: ImmediateValues) -> u128
+    ensures count { result ≡ addresses_in (memarg_of values) }
+    ensures small { result ≤ 1 }
+{
+    match memarg_of(values) {
+        None => 0,
+        Some(_) => 1,
+    }
+}
+
+/// How many operands an operator of this form takes, and how many it gives.
+pub fn form_counts(form: Form, values: ImmediateValues) -> (u128, u128)
+    ensures { result ≡ counts_in form values }
+{
+    match form {
+        Form::Compute { takes, gives, .. } => {
+            (
+                address_count(values) + operand_count(takes),
+                result_count(gives),
+            )
+        }
+        Form::Access { takes, gives, .. } => {
+            (
+                address_count(values) + operand_count(takes),
+                result_count(gives),
+            )
+        }
     }
 }
 

@@ -14,7 +14,7 @@ mod tables;
 pub use accesses::access_memory;
 pub use allowed::allows_number;
 pub use bulk::{elem_drop, table_copy, table_init};
-pub use forms::{step_atomic, step_vector};
+pub use forms::{form_counts, step_atomic, step_vector};
 pub use memories::bulk_memory;
 pub use numbers::{compute, constant};
 pub use reach::table_reached;

@@ -5,7 +5,6 @@ pub use Rattle.wasm_operators.specs.declared.control.FrameKind
 pub mod Matching
 pub mod Bodies
 pub mod Machine
-pub use Rattle.wasm_operators.specs as WasmOperators
 pub mod Forms
 pub mod Actions
 pub mod Meanings

@@ -7,7 +7,6 @@ mod arity;
 mod bytes;
 mod control;
 mod counts;
-mod forms;
 mod frame_stack;
 mod heap;
 mod laws;
