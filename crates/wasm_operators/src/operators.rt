@@ -117,9 +117,9 @@ fn read_on_vectors<'a>(
     ensures same { SameInput reader.old reader.new }
     ensures onward { position_in reader.old ≤ position_in reader.new }
     ensures refusal { IfErr result (RefusedBetween offset reader.old) }
-    ensures ok { IfOk result (λ op. vectors_from code (rest reader.old)
+    ensures ok { IfOk result (λ op. vectors_from written code (rest reader.old)
         ≡ Some (operator_of op, rest reader.new)) }
-    ensures err { OnErr result (vectors_from code (rest reader.old) ≡ None) }
+    ensures err { OnErr result (vectors_from written code (rest reader.old) ≡ None) }
 {
     if code == 12 {
         return Ok(Operator::Constant(read_vector(reader, code, offset)?));
@@ -141,9 +141,9 @@ fn read_atomic<'a>(
     ensures same { SameInput reader.old reader.new }
     ensures onward { position_in reader.old ≤ position_in reader.new }
     ensures refusal { IfErr result (RefusedBetween offset reader.old) }
-    ensures ok { IfOk result (λ op. atomics_from code (rest reader.old)
+    ensures ok { IfOk result (λ op. atomics_from written code (rest reader.old)
         ≡ Some (operator_of op, rest reader.new)) }
-    ensures err { OnErr result (atomics_from code (rest reader.old) ≡ None) }
+    ensures err { OnErr result (atomics_from written code (rest reader.old) ≡ None) }
 {
     if code == 0x72 {
         return match shared_from_code(code) {
