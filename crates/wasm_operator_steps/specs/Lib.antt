@@ -22,3 +22,4 @@ pub mod Samples
 pub mod ControlExamples
 pub mod HeapExamples
 pub mod SharedExamples
+pub mod FormExamples
