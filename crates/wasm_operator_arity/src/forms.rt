@@ -1,28 +1,12 @@
-//! How many operands operators on vectors, and atomic ones, take and give.
+//! Operators on vectors, and atomic ones: their counts, by their forms.
 
-ghost use Rattle.std.specs.Prelude.{◌≡◌, ◌≤◌, ◌+◌, ℕ, Some, [], length};
-ghost use Rattle.wasm_operator_steps.specs.Forms.{operand_types, result_types, memarg_of};
-ghost use Rattle.wasm_operator_steps.specs.Shapes.{address_of, form_shape, vector_shape, atomic_shape};
-ghost use Rattle.wasm_operator_arity.specs.Arities.{arity, how_many};
-ghost use Rattle.wasm_operator_arity.specs.Asked.{Asked};
+ghost use Rattle.std.specs.Prelude.{◌≡◌, ◌+◌, ◌≤◌, ℕ, length};
+ghost use Rattle.wasm_operator_steps.specs.Forms.{operand_types, result_types, memarg_of, addresses_in, counts_in};
 
 use wasm_operators::ImmediateValues;
-use wasm_operators::operators_atomic::{
-    AtomicOperator, Form, Operands, ValueType, VectorOperator, atomic_form, vector_form,
-};
+use wasm_operators::operators_atomic::{Form, Operands, ValueType};
 
-/// One operand for an address, where a memory is accessed.
-fn address_count(values: ImmediateValues) -> u128
-    ensures count { (M : Asked) → how_many M (address_of (memarg_of values)) ≡ Some result }
-    ensures small { result ≤ 1 }
-{
-    match values {
-        ImmediateValues::MemArg(_) | ImmediateValues::MemArgLane(_, _) => 1,
-        _ => 0,
-    }
-}
-
-/// How many operands are taken but for an address.
+/// How many operands these are.
 fn operand_count(takes: Operands) -> u128
     ensures count { length (operand_types {R = ℕ} takes) ≡ result }
     ensures small { result ≤ 3 }
@@ -35,19 +19,30 @@ fn operand_count(takes: Operands) -> u128
     }
 }
 
-/// How many results are given.
+/// How many results these are.
 fn result_count(gives: Option<ValueType>) -> u128
     ensures { length (result_types {R = ℕ} gives) ≡ result }
 {
     match gives {
-        Some(_) => 1,
         None => 0,
+        Some(_) => 1,
     }
 }
 
-/// How many operands an operator of this form takes and gives.
-fn form_arity(form: Form, values: ImmediateValues) -> (u128, u128)
-    ensures { (M : Asked) → Some result ≡ arity M (form_shape [] form values) }
+/// One for an address, where there is a memory argument.
+fn address_count(values: ImmediateValues) -> u128
+    ensures count { result ≡ addresses_in (memarg_of values) }
+    ensures small { result ≤ 1 }
+{
+    match values {
+        ImmediateValues::MemArg(_) | ImmediateValues::MemArgLane(_, _) => 1,
+        _ => 0,
+    }
+}
+
+/// How many operands an operator of this form takes, and how many it gives.
+pub(crate) fn form_counts(form: Form, values: ImmediateValues) -> (u128, u128)
+    ensures { result ≡ counts_in form values }
 {
     match form {
         Form::Compute { takes, gives, .. } => {
@@ -63,18 +58,4 @@ fn form_arity(form: Form, values: ImmediateValues) -> (u128, u128)
             )
         }
     }
-}
-
-/// How many operands an operator on vectors takes and gives.
-pub(crate) fn vector_arity(op: VectorOperator, values: ImmediateValues) -> (u128, u128)
-    ensures { (M : Asked) → Some result ≡ arity M (vector_shape op values) }
-{
-    form_arity(vector_form(op), values)
-}
-
-/// How many operands an atomic operator takes and gives.
-pub(crate) fn atomic_arity(op: AtomicOperator, values: ImmediateValues) -> (u128, u128)
-    ensures { (M : Asked) → Some result ≡ arity M (atomic_shape op values) }
-{
-    form_arity(atomic_form(op), values)
 }

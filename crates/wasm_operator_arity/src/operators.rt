@@ -5,7 +5,7 @@ ghost use Rattle.std.specs.Option.{option_and_then};
 ghost use Rattle.wasm_operator_arity.specs.Arities.{arity, in_u32, operator_shape};
 
 use crate::control::{call_arity, control_arity, parametric_arity};
-use crate::forms::{atomic_arity, vector_arity};
+use crate::forms::form_counts;
 use crate::heap::{array_arity, cast_arity, conversion_arity, reference_arity, struct_arity};
 use crate::legacy::legacy_arity;
 use crate::module::ModuleArity;
@@ -13,8 +13,10 @@ use crate::values::{
     access_arity, memory_arity, numeric_arity, saturating_arity, table_arity, variable_arity,
 };
 use wasm_operators::Operator;
+use wasm_operators::operators_atomic::{atomic_form, vector_form};
 
 /// How many operands an operator takes and gives, whatever the counts.
+#[tactic(auto, using(crate::proofs::Forms::counted))]
 fn counts_of<M: ModuleArity>(op: &Operator, resources: &M) -> Option<(u128, u128)>
     ensures { result ≡ arity (M.asked resources.now) (operator_shape op.now) }
 {
@@ -35,8 +37,8 @@ fn counts_of<M: ModuleArity>(op: &Operator, resources: &M) -> Option<(u128, u128
         Operator::Conversion(op) => Some(conversion_arity(*op)),
         Operator::Struct(op) => struct_arity(op, resources),
         Operator::Array(op) => Some(array_arity(op)),
-        Operator::Vector(op, values) => Some(vector_arity(*op, *values)),
-        Operator::Atomic(op, values) => Some(atomic_arity(*op, *values)),
+        Operator::Vector(op, values) => Some(form_counts(vector_form(*op), *values)),
+        Operator::Atomic(op, values) => Some(form_counts(atomic_form(*op), *values)),
     }
 }
 

@@ -161,4 +161,19 @@ module _ {A : Type 0} (v : Stacks A) (C : Context UnpackedIndex) where
       rw (← n) (joined_typed v C (memory_address m.memory) (these (types_taken f)) a (operand_types t) (memory_typed v C m.memory x a k d) (operands_typed f t e)
       ∙ ap Some (sym (h ∙ ap (λ (ys : List (Val UnpackedIndex)). a ∷ ys) stored)))
 
-pub ruleset forms = (unsuited, suited_alone, suited_there, suited_nowhere, form_allowed, result_typed, taken_typed, taken_above_typed)
+  -- all checks of a form: one type isn't allowed, or all checks hold
+  pub not_allowed : (f : Form) (values : ImmediateValues) (t : Operands) (g : Option ValueType) (fault : OperatorFault) (rest : List Action) (old : State UnpackedIndex)
+      → operands_in f ≡ t → result_in f ≡ g → false ≡ allows_each (features_of v.features) (operand_types t ++ result_types g)
+      → Took (Err (Refused fault)) (acted v C (need (suits f values) ∷ map need (allow_each (types_taken f ++ types_given f)) ++ rest)) old old
+  not_allowed f values t g fault rest old e h a =
+      refused_later v C fault (suits f values) (map need (allow_each (types_taken f ++ types_given f)) ++ rest) old old
+      (one_not_allowed (types_taken f ++ types_given f) fault rest old (form_allowed f t g false e h a))
+
+  pub formed : (r : Result (Unit {0}) OperatorError) (f : Form) (values : ImmediateValues) (t : Operands) (g : Option ValueType) (rest : List Action) (old new : State UnpackedIndex)
+      → held v C (suits f values) ≡ true → operands_in f ≡ t → result_in f ≡ g → true ≡ allows_each (features_of v.features) (operand_types t ++ result_types g) → Took r (acted v C rest) old new
+      → Took r (acted v C (need (suits f values) ∷ map need (allow_each (types_taken f ++ types_given f)) ++ rest)) old new
+  formed r f values t g rest old new s e h a k =
+      needed v C r (suits f values) (map need (allow_each (types_taken f ++ types_given f)) ++ rest) old new s
+      (each_allowed (types_taken f ++ types_given f) r rest old new (form_allowed f t g true e h a) k)
+
+pub ruleset forms = (unsuited, suited_alone, suited_there, suited_nowhere, not_allowed, formed, result_typed, taken_typed, taken_above_typed)

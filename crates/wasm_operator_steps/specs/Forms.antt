@@ -1,7 +1,7 @@
 -- Operators on vectors and atomic ones by their forms: which immediates they may have, and the types that they take and give.
 -- Core Specification 3.0, Validation, Instructions, Vector Instructions and Memory Instructions; Threads, Validation, Instructions,
 -- Atomic Memory Instructions.
-use Rattle.std.specs.Prelude.{ℕ, zero, suc, ◌/◌, ◌%◌, ◌^◌, ◌==◌, ◌&&◌, ◌||◌, nat_le, nat_lt, Bool, true, false, List, [], ◌∷◌, ◌++◌, slice_get, Option, Some, None}
+use Rattle.std.specs.Prelude.{ℕ, zero, suc, ◌/◌, ◌%◌, ◌^◌, ◌==◌, ◌+◌, ◌&&◌, ◌||◌, nat_le, nat_lt, Bool, true, false, List, [], ◌∷◌, ◌++◌, length, slice_get, Option, Some, None}
 use Rattle.wasm_spec_rules.specs.WasmSpec.Syntax.{Memory, Val, i32, i64, f32, f64, v128}
 use Rattle.wasm_spec_rules.specs.WasmSpec.Features.{Features}
 use Rattle.wasm_spec_rules.specs.WasmSpec.ValueTypes.{allows_val}
@@ -99,3 +99,11 @@ memarg_of _ = None
 abbrev pub reaches_memory : List Memory → Option MemArg → Bool
 reaches_memory memories None = true
 reaches_memory memories (Some m) = passes (λ x. x.is_64 || nat_lt m.offset (2 ^ 32)) (slice_get memories m.memory)
+
+-- how many operands are taken, with an address where a memory is accessed, and how many are given
+abbrev pub addresses_in : Option MemArg → ℕ
+addresses_in None = 0
+addresses_in (Some m) = 1
+
+abbrev pub counts_in : Form → ImmediateValues → ℕ × ℕ
+counts_in f values = (addresses_in (memarg_of values) + length (types_taken {R = ℕ} f), length (types_given {R = ℕ} f))

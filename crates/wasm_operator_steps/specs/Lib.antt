@@ -23,3 +23,4 @@ pub mod ControlExamples
 pub mod HeapExamples
 pub mod SharedExamples
 pub mod LegacyExamples
+pub mod FormExamples

@@ -8,6 +8,7 @@ ghost use Rattle.wasm_operator_steps.specs.LegacyExamples.{Tries, NoTries, Tries
 ghost use Rattle.wasm_operator_steps.specs.StackLaws.{ListsAreTakenInTurn, TakingKeepsFrames, TypesAreTakenInTurn, UnreachedCodeTakesAnything, EqualTypesMatch, EqualTypesMatchInContexts, ActionsAreRunInTurn};
 ghost use Rattle.wasm_operator_steps.specs.ControlExamples.{Blocks, NoBlocks, Branches, NoBranches, Calls, NoCalls, Exceptions, NoExceptions, Parametrics, NoParametrics, Variables, NoVariables, ControlNeedsFeatures, Constants, NoConstants, ConstantInstructions, NoConstantInstructions};
 ghost use Rattle.wasm_operator_steps.specs.HeapExamples.{Memories, NoMemories, Tables, NoTables, References, NoReferences, Casts, NoCasts, Conversions, NoConversions, Structures, NoStructures, Arrays, NoArrays, Descriptors, NoDescriptors, MemoriesNeedFeatures, ReferencesNeedFeatures, AggregatesNeedFeatures};
+ghost use Rattle.wasm_operator_steps.specs.FormExamples.{Vectors, NoVectors, Atomics, NoAtomics, FormsNeedFeatures};
 ghost use Rattle.wasm_operator_steps.specs.SharedExamples.{ReachesGlobalsAndTables, ReachesFunctions, ReachesStructures, ReachesArrays, ReachesTheRest};
 
 // What the definitions here speak of, for the crates that stand on them.
@@ -73,6 +74,16 @@ pub fn heap_examples()
     ensures memories_need_features { MemoriesNeedFeatures }
     ensures references_need_features { ReferencesNeedFeatures }
     ensures aggregates_need_features { AggregatesNeedFeatures }
+{}
+
+/// Bodies of operators on vectors and of atomic ones: valid ones, and ones that are not.
+#[tactic(auto, using(crate::proofs::FormRuns::form_runs))]
+pub fn form_examples()
+    ensures vectors { Vectors }
+    ensures no_vectors { NoVectors }
+    ensures atomics { Atomics }
+    ensures no_atomics { NoAtomics }
+    ensures forms_need_features { FormsNeedFeatures }
 {}
 
 /// Bodies of shared functions, which reach only what is shared, and of functions that are not.
