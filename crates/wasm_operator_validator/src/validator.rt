@@ -136,7 +136,8 @@ impl<A: Allocator> OperatorValidator<A> {
             return Err(refuse(OperatorRule::TooManyLocals));
         }
         define_parameters(&mut self.stacks.locals, params)?;
-        self.stacks.open(FrameKind::Block, BlockWord::func(type_index))?;
+        self.stacks
+            .open(FrameKind::Block, BlockWord::func(type_index))?;
         self.failed = false;
         Ok(())
     }
