@@ -36,8 +36,7 @@ pub struct OperatorValidator<A: Allocator = Global> {
 /// The memory of a validator of operators, to be handed on from one body to the next.
 #[derive(Drop)]
 pub struct OperatorValidatorAllocations<A: Allocator = Global> {
-    /// The validator that had it last, whose state says nothing.
-    pub validator: OperatorValidator<A>,
+    stacks: Stacks<A>,
 }
 
 /// The refusal by a rule.
@@ -52,10 +51,7 @@ impl<A: Allocator + Copy> OperatorValidatorAllocations<A> {
     /// No memory yet.
     pub fn new(alloc: A) -> OperatorValidatorAllocations<A> {
         OperatorValidatorAllocations {
-            validator: OperatorValidator {
-                stacks: Stacks::new(alloc, WasmFeatures::STANDARD, false),
-                failed: true,
-            },
+            stacks: Stacks::new(alloc, WasmFeatures::STANDARD, false),
         }
     }
 }
@@ -102,51 +98,12 @@ impl<A: Allocator + Copy> OperatorValidator<A> {
 }
 
 impl<A: Allocator> OperatorValidator<A> {
-    /// Begins the body of a function of this type in place of what was validated before, in the same
-    /// memory.
-    ///
-    /// # Errors
-    ///
-    /// Refuses more than 50,000 parameters, and answers want of memory. The validator has then
-    /// failed.
-    #[tactic(auto, using(crate::proofs::Beginning::begins))]
-    pub fn begin_func<T: WasmModuleResources>(
-        &mut self,
-        type_index: u32,
-        features: WasmFeatures,
-        resources: &T,
-    ) -> Result<(), OperatorError>
-        requires { IsSome (function_in (T.context resources.now) type_index) }
-        ensures begins { OnOk result (BeginsBody self.new (T.context resources.now) type_index) }
-        ensures features { OnOk result (self.new.stacks.features ≡ features) }
-        ensures many { HasMany result (function_in (T.context resources.now) type_index) }
-        ensures failed { self.new.failed ≡ not (is_ok result) }
-    {
-        self.failed = true;
-        let sub = match resources.sub_type_at(type_index) {
-            Some(sub) => sub,
-            None => return Err(refuse(OperatorRule::UnknownType)),
-        };
-        let params = match &sub.composite_type.inner {
-            CompositeInnerType::Func(signature) => signature.params(),
-            _ => return Err(refuse(OperatorRule::NotAFunction)),
-        };
-        self.stacks.clear(features, sub.composite_type.shared);
-        if params.len() > MAX_LOCALS as usize {
-            return Err(refuse(OperatorRule::TooManyLocals));
-        }
-        define_parameters(&mut self.stacks.locals, params)?;
-        self.stacks
-            .open(FrameKind::Block, BlockWord::func(type_index))?;
-        self.failed = false;
-        Ok(())
-    }
-
     /// The start of the body of a function of this type, in memory that was used before.
     ///
     /// # Errors
     ///
     /// Refuses more than 50,000 parameters, and answers want of memory.
+    #[tactic(auto, using(crate::proofs::Beginning::begins))]
     pub fn new_func<T: WasmModuleResources>(
         type_index: u32,
         features: WasmFeatures,
@@ -158,11 +115,25 @@ impl<A: Allocator> OperatorValidator<A> {
         ensures features { IfOk result (λ v. v.stacks.features ≡ features) }
         ensures many { HasMany result (function_in (T.context resources.now) type_index) }
     {
-        let mut validator = allocations.validator;
-        match validator.begin_func(type_index, features, resources) {
-            Ok(()) => Ok(validator),
-            Err(error) => Err(error),
+        let mut stacks = allocations.stacks;
+        let sub = match resources.sub_type_at(type_index) {
+            Some(sub) => sub,
+            None => return Err(refuse(OperatorRule::UnknownType)),
+        };
+        let params = match &sub.composite_type.inner {
+            CompositeInnerType::Func(signature) => signature.params(),
+            _ => return Err(refuse(OperatorRule::NotAFunction)),
+        };
+        stacks.clear(features, sub.composite_type.shared);
+        if params.len() > MAX_LOCALS as usize {
+            return Err(refuse(OperatorRule::TooManyLocals));
         }
+        define_parameters(&mut stacks.locals, params)?;
+        stacks.open(FrameKind::Block, BlockWord::func(type_index))?;
+        Ok(OperatorValidator {
+            stacks,
+            failed: false,
+        })
     }
 
     /// The start of a constant expression of this type, whose types are identities, in memory that
@@ -180,7 +151,7 @@ impl<A: Allocator> OperatorValidator<A> {
         ensures begins { IfOk result (λ v. BeginsConstant v (val_of ty)) }
         ensures features { IfOk result (λ v. v.stacks.features ≡ features) }
     {
-        let mut stacks = allocations.validator.stacks;
+        let mut stacks = allocations.stacks;
         stacks.clear(features, false);
         stacks.open(FrameKind::Block, BlockWord::value(TypeWord::new(ty)))?;
         Ok(OperatorValidator {
@@ -342,6 +313,8 @@ impl<A: Allocator> OperatorValidator<A> {
 
     /// The memory, for the next body.
     pub fn into_allocations(self) -> OperatorValidatorAllocations<A> {
-        OperatorValidatorAllocations { validator: self }
+        OperatorValidatorAllocations {
+            stacks: self.stacks,
+        }
     }
 }
