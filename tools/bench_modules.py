@@ -6,8 +6,9 @@ usage: tools/bench_modules.py [--beside PROGRAM] FILE..   validates each file, a
        tools/bench_modules.py --of HEX OUT                writes the module that a file of hexadecimal digits stands for
 
 Of each file it prints its bytes and operators; the time (the best of five runs, start-up included) and the speed; the instructions of an
-operator, by valgrind's callgrind, without what an empty module takes; and the most memory that the program held at once, by GNU time,
-without the input's bytes and what an empty module takes. With --beside it tells the same of another program, which takes a file's name
+operator, by valgrind's callgrind, without what an empty module takes; the share of operators that fast steps leave to the general way, which are the
+calls of `read_op` that callgrind sees; and the most memory that the program held at once, by GNU time, without the input's bytes and what an empty
+module takes. With --beside it tells the same of another program, which takes a file's name
 too. Operators are counted here, in code as compilers write it: where another one comes, the count is left out. `bin/prove` has to
 have built the program before.
 """
@@ -158,11 +159,29 @@ def most_memory(program, path):
     return int(said.split()[-1]) * 1024
 
 
+def calls_of(name, profile):
+    """How often a function was called whose name has this part, by the lines of callgrind's profile."""
+    total, names, called = 0, {}, ""
+    for line in profile:
+        said = re.match(r"cfn=\((\d+)\)(?: (.*))?", line)
+        if said:
+            called = names.setdefault(said.group(1), said.group(2) or "")
+        elif line.startswith("fn="):
+            said = re.match(r"fn=\((\d+)\)(?: (.*))?", line)
+            names.setdefault(said.group(1), said.group(2) or "")
+        elif line.startswith("calls=") and name in called:
+            total += int(line[6:].split()[0])
+    return total
+
+
 def instructions(program, path):
+    """The instructions of a run, and how many operators its general way read."""
     with tempfile.TemporaryDirectory() as folder:
         asked = ["valgrind", "--tool=callgrind", f"--callgrind-out-file={folder}/out", program, path]
         said = subprocess.run(asked, capture_output=True, text=True).stderr
-    return int(re.search(r"Collected : (\d+)", said).group(1))
+        with open(f"{folder}/out", encoding="utf-8") as profile:
+            left = calls_of("::OperatorValidator::read_op", profile)
+    return int(re.search(r"Collected : (\d+)", said).group(1)), left
 
 
 def measure(program, path, data, count, empty):
@@ -170,8 +189,8 @@ def measure(program, path, data, count, empty):
     memory = most_memory(program, path) - most_memory(program, empty) - len(data)
     print(f"  {os.path.basename(program)}: {seconds:.3f} s, {len(data) / seconds / 1e6:.1f} MB/s", end="")
     if count:
-        spent = instructions(program, path) - instructions(program, empty)
-        print(f", {spent / count:.1f} instructions an operator", end="")
+        (spent, left), (least, _) = instructions(program, path), instructions(program, empty)
+        print(f", {(spent - least) / count:.1f} instructions an operator, {100 * left / count:.2f} % left to the general way", end="")
     print(f", {max(0, memory) / 1e6:.2f} MB beside the input, {100 * max(0, memory) / len(data):.1f} %")
 
 

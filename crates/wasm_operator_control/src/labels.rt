@@ -20,6 +20,7 @@ use wasm_operator_numbers::validator_resources::WasmModuleResources;
 use wasm_readers_types::{CompositeInnerType, FuncType};
 
 /// The function type of this type index, if it is one.
+#[inline(always)]
 pub fn function_type<'a, T: WasmModuleResources>(
     resources: &'a T,
     type_index: u32,
@@ -37,7 +38,7 @@ pub fn function_type<'a, T: WasmModuleResources>(
 }
 
 /// What a block of this type takes.
-#[inline]
+#[inline(always)]
 #[tactic(auto, using(crate::proofs::Labelled::blocks))]
 pub fn block_takes<'a, T: WasmModuleResources>(
     resources: &'a T,
@@ -57,7 +58,7 @@ pub fn block_takes<'a, T: WasmModuleResources>(
 }
 
 /// What a block of this type gives.
-#[inline]
+#[inline(always)]
 #[tactic(auto, using(crate::proofs::Labelled::blocks))]
 pub fn block_gives<'a, T: WasmModuleResources>(
     resources: &'a T,
@@ -77,6 +78,7 @@ pub fn block_gives<'a, T: WasmModuleResources>(
 }
 
 /// What a branch to a frame of this kind and type takes.
+#[inline(always)]
 fn branch_types<'a, T: WasmModuleResources>(
     resources: &'a T,
     kind: FrameKind,
@@ -99,6 +101,7 @@ fn branch_types<'a, T: WasmModuleResources>(
 }
 
 /// The frame of this label, counted from the innermost, if there is one.
+#[inline(always)]
 #[tactic(auto, using(crate::proofs::Labelled::frames))]
 pub fn frame_at<A: Allocator>(stacks: &Stacks<A>, depth: usize) -> Option<Frame>
     ensures { option_map frame_of result ≡ slice_get (state_of stacks.now).frames depth }
@@ -114,6 +117,7 @@ pub fn frame_at<A: Allocator>(stacks: &Stacks<A>, depth: usize) -> Option<Frame>
 }
 
 /// What a branch to this label takes, if there is one.
+#[inline(always)]
 #[tactic(auto, using(crate::proofs::Labelled::labels))]
 pub fn label_types<'a, A: Allocator, T: WasmModuleResources>(
     stacks: &Stacks<A>,
@@ -130,6 +134,7 @@ pub fn label_types<'a, A: Allocator, T: WasmModuleResources>(
 }
 
 /// The frame of the body itself, if it is open.
+#[inline(always)]
 #[tactic(auto, using(crate::proofs::Labelled::lasts))]
 fn outermost<A: Allocator>(stacks: &Stacks<A>) -> Option<Frame>
     ensures { option_map frame_of result ≡ last_of (state_of stacks.now).frames }
@@ -146,6 +151,7 @@ fn outermost<A: Allocator>(stacks: &Stacks<A>) -> Option<Frame>
 }
 
 /// What the body gives, if it is open.
+#[inline(always)]
 #[tactic(auto, using(crate::proofs::Labelled::labels))]
 pub fn returned_types<'a, A: Allocator, T: WasmModuleResources>(
     stacks: &Stacks<A>,

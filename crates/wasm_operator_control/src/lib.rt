@@ -23,7 +23,7 @@ pub use halts::halt_with;
 pub use labels::{block_gives, block_takes, frame_at, function_type, label_types, returned_types};
 pub use locals::{drop_any, local_get, local_set, local_tee};
 pub use reach::{function_reached, null_or, type_reached};
-pub use results::{match_types, returns};
+pub use results::{match_types, returns, val_types_of};
 pub use step::step_call;
 pub use tails::{return_call, return_call_indirect, return_call_ref};
 
@@ -51,7 +51,7 @@ pub mod validator_resources {
 pub mod operator_checks {
     pub use wasm_operator_numbers::operator_checks::{
         OperatorError, OperatorFault, OperatorRule, Takes, ValTypes, address, check_type,
-        check_types, exchange_types, halt, has, look, match_all, matches, plain,
+        check_types, exchange_types, halt, has, look, match_all, matches, plain, reaches,
     };
 }
 

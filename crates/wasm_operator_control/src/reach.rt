@@ -20,7 +20,7 @@ use wasm_readers_types::{CompositeInnerType, FuncType, HeapType, RefType, Unpack
 ///
 /// Refuses an unknown type, one that isn't a function's, and one that isn't shared where the body
 /// is a shared function's.
-#[inline]
+#[inline(always)]
 pub fn type_reached<'a, A: Allocator, T: WasmModuleResources>(
     stacks: &Stacks<A>,
     resources: &'a T,
@@ -52,7 +52,7 @@ pub fn type_reached<'a, A: Allocator, T: WasmModuleResources>(
 ///
 /// Refuses an unknown function, and one whose type isn't shared where the body is a shared
 /// function's.
-#[inline]
+#[inline(always)]
 pub fn function_reached<'a, A: Allocator, T: WasmModuleResources>(
     stacks: &Stacks<A>,
     resources: &'a T,

@@ -19,7 +19,7 @@ use wasm_readers_types::ValType;
 /// A list of types. One or none of them is taken out of its list, so that no loop goes over it.
 #[inline(always)]
 #[tactic(auto, using(crate::proofs::Returned::lists))]
-pub(crate) fn val_types_of<'a>(types: &'a [ValType]) -> ValTypes<'a>
+pub fn val_types_of<'a>(types: &'a [ValType]) -> ValTypes<'a>
     ensures { types_seen result ≡ map val_of types.now }
 {
     match types.len() {

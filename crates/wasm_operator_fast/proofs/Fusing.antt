@@ -11,7 +11,7 @@ use Rattle.wasm_operators_plain.specs.Calls.{call_from}
 use Rattle.wasm_operators_plain.specs.Variables.{variable_from}
 use Rattle.wasm_operators_plain.specs.Constants.{constant_from}
 use Rattle.wasm_operators_plain.specs.Memories.{access_from, memarg_at}
-use Rattle.wasm_operators_plain.specs.declared.calls.CallOperator.TheVariants.{Call}
+use Rattle.wasm_operators_plain.specs.declared.calls.CallOperator.TheVariants.{Call, CallIndirect}
 use Rattle.wasm_operators_plain.specs.declared.memories.MemoryOperator.{MemoryOperator}
 use Rattle.wasm_operators_plain.specs.declared.memories.MemArg.{MemArg}
 use Rattle.wasm_operators_plain.specs.declared.variables.VariableOperator.TheVariants.{LocalGet, LocalSet, LocalTee, GlobalGet, GlobalSet}
@@ -22,7 +22,7 @@ use Rattle.wasm_operators_plain.specs.declared.numeric.NumericOperator.{NumericO
 use Rattle.wasm_operators_plain.specs.declared.signatures.NumberType.{NumberType}
 use Rattle.wasm_operators_plain.specs.declared.signatures.NumberType.TheVariants as number
 use Rattle.wasm_operators_plain.specs.declared.signatures.Signature.{Signature}
-use Rattle.wasm_operators.specs.Control.{Block, block_at, parametric_from, drop_, select, control_from, block, loop, if_, end_, br, br_if, return_}
+use Rattle.wasm_operators.specs.Control.{Block, block_at, parametric_from, drop_, select, control_from, block, loop, if_, end_, br, br_if, return_, nop, unreachable}
 use Rattle.wasm_operators.specs.References.{reference_from}
 use Rattle.wasm_operators.specs.Instructions.{Instruction, instruction_at, plain_from, variable, constant, numeric, parametric, control, call, access}
 use Rattle.wasm_operators.specs.Maps.{map_block, map_instruction}
@@ -221,6 +221,13 @@ module _ {A : Type 0} (v : Stacks A) (C : Context UnpackedIndex) (r : Result (Un
   pub at_call : (n : ℕ) → b ≡ 0x10 → u32_at bytes ≡ Some (n, rest) → Steps (call_shape (Call n)) → Goes
   at_call n e f h = fuse r (call (Call n)) (read_call n e f) h
 
+  read_call_indirect : (n m : ℕ) (behind : List ℕ) → b ≡ 0x11 → u32_at bytes ≡ Some (n, behind) → u32_at behind ≡ Some (m, rest) → plain_from written b bytes ≡ Some (call (CallIndirect n m), rest)
+  unfolding plain_from call_from
+  read_call_indirect n m behind e f g = rw (e, f, g) refl
+
+  pub at_call_indirect : (n m : ℕ) (behind : List ℕ) → b ≡ 0x11 → u32_at bytes ≡ Some (n, behind) → u32_at behind ≡ Some (m, rest) → Steps (call_shape (CallIndirect n m)) → Goes
+  at_call_indirect n m behind e f g h = fuse r (call (CallIndirect n m)) (read_call_indirect n m behind e f g) h
+
   pub at_access : (op : MemoryOperator) (m : MemArg) → 0x28 ≤ b → b < 0x3f → Some op ≡ access_from b → memarg_at bytes ≡ Some (m, rest) → Steps (access_shape op m) → Goes
   at_access op m l h f g k = fuse r (access op m) (read_access b op m bytes rest l h (sym f) g) k
 
@@ -241,6 +248,20 @@ module _ {A : Type 0} (v : Stacks A) (C : Context UnpackedIndex) (r : Result (Un
   unfolding plain_from control_from
   read_return e = rw e refl
 
+  read_unreachable : b ≡ 0x00 → plain_from written b bytes ≡ Some (control unreachable, bytes)
+  unfolding plain_from control_from
+  read_unreachable e = rw e refl
+
+  read_nop : b ≡ 0x01 → plain_from written b bytes ≡ Some (control nop, bytes)
+  unfolding plain_from control_from
+  read_nop e = rw e refl
+
+  pub at_unreachable : b ≡ 0x00 → Fast r (acted v C (actions_of (control_shape unreachable))) old new → Fused r (performed_from v C b bytes) old new bytes
+  at_unreachable e h = fuse v C r b bytes bytes old new r (control unreachable) (read_unreachable e) h
+
+  pub at_nop : b ≡ 0x01 → Fast r (acted v C (actions_of (control_shape nop))) old new → Fused r (performed_from v C b bytes) old new bytes
+  at_nop e h = fuse v C r b bytes bytes old new r (control nop) (read_nop e) h
+
   pub at_return : b ≡ 0x0f → Fast r (acted v C (actions_of (control_shape return_))) old new → Fused r (performed_from v C b bytes) old new bytes
   at_return e h = fuse v C r b bytes bytes old new r (control return_) (read_return e) h
 
@@ -258,7 +279,7 @@ module _ {A : Type 0} (v : Stacks A) (C : Context UnpackedIndex) (r : Result (Un
 
 pub ruleset variables = (fused_left, at_get, at_set, at_tee, at_global, at_put)
 
-pub ruleset structures = (fused_left, at_block, at_loop, at_if, at_end, at_br, at_br_if, at_return, at_call, at_drop, at_select, at_i32, at_i64)
+pub ruleset structures = (fused_left, at_block, at_loop, at_if, at_end, at_br, at_br_if, at_return, at_unreachable, at_nop, at_call, at_call_indirect, at_drop, at_select, at_i32, at_i64)
 
 pub ruleset tables = (fused_left, at_numeric, at_access)
 

@@ -3,6 +3,7 @@ pub mod Peeking
 pub mod Locally
 pub mod Ended
 pub mod Fusing
+pub mod Branching
 mod Entered
 mod BlockTypes
 mod Passing

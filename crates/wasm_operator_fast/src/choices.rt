@@ -1,12 +1,13 @@
-//! `select` between numbers.
+//! `drop`, and `select` between numbers.
 
-ghost use Rattle.wasm_operator_control.specs.WasmOperatorChecks.WasmOperatorSteps.Shapes.{choosing};
+ghost use Rattle.wasm_operator_control.specs.WasmOperatorChecks.WasmOperatorSteps.Shapes.{choosing, dropping};
 ghost use Rattle.wasm_operator_control.specs.WasmOperatorChecks.WasmOperatorStacks.Seen.{Kept};
 ghost use Rattle.wasm_operator_fast.specs.Fast.{Performs};
 
 use crate::not_taken::NotTaken;
 use crate::peeks::peek;
 use std::alloc::Allocator;
+use wasm_operator_control::operator_checks::look;
 use wasm_operator_control::operator_stacks::{Stacks, TypeWord};
 use wasm_operator_control::validator_resources::WasmModuleResources;
 use wasm_operators_plain::NumberType;
@@ -22,9 +23,9 @@ fn select_number<A: Allocator, T: WasmModuleResources>(
     ensures took { Performs result (T.context resources.now) choosing stacks.old stacks.new }
     ensures same { Kept stacks.old stacks.new }
 {
-    peek(stacks, resources, 0, TypeWord::number(NumberType::I32))?;
-    peek(stacks, resources, 1, TypeWord::number(ty))?;
     peek(stacks, resources, 2, TypeWord::number(ty))?;
+    peek(stacks, resources, 1, TypeWord::number(ty))?;
+    peek(stacks, resources, 0, TypeWord::number(NumberType::I32))?;
     stacks.take(2);
     Ok(())
 }
@@ -41,5 +42,25 @@ pub(crate) fn select_integer<A: Allocator, T: WasmModuleResources>(
     match peek(stacks, resources, 1, TypeWord::number(NumberType::I32)) {
         Ok(()) => select_number(stacks, resources, NumberType::I32),
         Err(_) => select_number(stacks, resources, NumberType::I64),
+    }
+}
+
+/// `drop`.
+#[inline(always)]
+#[tactic(auto, using(crate::proofs::Fasting::acts, crate::proofs::Locally::drops))]
+pub(crate) fn drop_one<A: Allocator, T: WasmModuleResources>(
+    stacks: &mut Stacks<A>,
+    _resources: &T,
+) -> Result<(), NotTaken>
+    ensures took { Performs result (T.context _resources.now) dropping
+        stacks.old stacks.new }
+    ensures same { Kept stacks.old stacks.new }
+{
+    match look(stacks, 0) {
+        Some((_, taken)) => {
+            stacks.take(taken);
+            Ok(())
+        }
+        None => Err(NotTaken::Left),
     }
 }

@@ -7,6 +7,7 @@ ghost use Rattle.wasm_operator_control.specs.WasmOperatorChecks.WasmOperatorStac
 ghost use Rattle.wasm_operator_control.specs.WasmOperatorChecks.WasmOperatorStacks.SeenBlocks.{kind_of};
 ghost use Rattle.wasm_operator_fast.specs.Fast.{Performs};
 
+use crate::general::end_generally;
 use crate::not_taken::NotTaken;
 use crate::peeks::peek;
 use std::alloc::Allocator;
@@ -31,7 +32,7 @@ fn is_if(kind: FrameKind) -> bool
     }
 }
 
-/// `end` of a frame that gives nothing or one value.
+/// `end`. What a frame of a function type gives is looked for by the general way.
 #[inline(always)]
 #[tactic(auto, using(crate::proofs::Fasting::acts, crate::proofs::Ended::ends))]
 pub(crate) fn end<A: Allocator, T: WasmModuleResources>(
@@ -64,6 +65,6 @@ pub(crate) fn end<A: Allocator, T: WasmModuleResources>(
             stacks.close();
             Ok(())
         }
-        Block::Func(_) => Err(NotTaken::Left),
+        Block::Func(_) => end_generally(stacks, resources),
     }
 }

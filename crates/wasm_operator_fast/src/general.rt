@@ -1,9 +1,8 @@
-//! Operators that the general way steps once they are read.
+//! Operators that the general way steps once they are read, out of line.
 
-ghost use Rattle.wasm_operators_plain.specs.declared.calls.CallOperator.TheVariants.{Call};
-ghost use Rattle.wasm_operators_plain.specs.declared.variables.VariableOperator.TheVariants.{GlobalGet, GlobalSet};
+ghost use Rattle.wasm_operators_plain.specs.declared.calls.CallOperator.TheVariants.{Call, CallIndirect};
 ghost use Rattle.wasm_operators.specs.Control.{br, br_if, return_};
-ghost use Rattle.wasm_operator_control.specs.WasmOperatorChecks.WasmOperatorSteps.Shapes.{call_shape, control_shape, dropping, variable_shape};
+ghost use Rattle.wasm_operator_control.specs.WasmOperatorChecks.WasmOperatorSteps.Shapes.{call_shape, control_shape, closing};
 ghost use Rattle.wasm_operator_control.specs.WasmOperatorChecks.WasmOperatorStacks.Seen.{Kept};
 ghost use Rattle.wasm_operator_fast.specs.Fast.{Performs};
 
@@ -12,39 +11,11 @@ use crate::plain::as_fast;
 use std::alloc::Allocator;
 use wasm_operator_control::operator_stacks::Stacks;
 use wasm_operator_control::validator_resources::WasmModuleResources;
-use wasm_operator_control::{branch, branch_if, call, drop_any, give_back, global_get, global_set};
-
-/// `global.get`.
-#[inline(always)]
-pub(crate) fn get_global<A: Allocator, T: WasmModuleResources>(
-    stacks: &mut Stacks<A>,
-    resources: &T,
-    index: u32,
-) -> Result<(), NotTaken>
-    ensures took { Performs result (T.context resources.now) (variable_shape (GlobalGet index))
-        stacks.old stacks.new }
-    ensures same { Kept stacks.old stacks.new }
-{
-    as_fast(global_get(stacks, resources, index))
-}
-
-/// `global.set`.
-#[inline(always)]
-pub(crate) fn set_global<A: Allocator, T: WasmModuleResources>(
-    stacks: &mut Stacks<A>,
-    resources: &T,
-    index: u32,
-) -> Result<(), NotTaken>
-    ensures took { Performs result (T.context resources.now) (variable_shape (GlobalSet index))
-        stacks.old stacks.new }
-    ensures same { Kept stacks.old stacks.new }
-{
-    as_fast(global_set(stacks, resources, index))
-}
+use wasm_operator_control::{branch, branch_if, call, call_indirect, end, give_back};
 
 /// `call`.
-#[inline(always)]
-pub(crate) fn call_function<A: Allocator, T: WasmModuleResources>(
+#[inline(never)]
+pub(crate) fn call_generally<A: Allocator, T: WasmModuleResources>(
     stacks: &mut Stacks<A>,
     resources: &T,
     index: u32,
@@ -56,9 +27,24 @@ pub(crate) fn call_function<A: Allocator, T: WasmModuleResources>(
     as_fast(call(stacks, resources, index))
 }
 
+/// `call_indirect`.
+#[inline(never)]
+pub(crate) fn call_in_table<A: Allocator, T: WasmModuleResources>(
+    stacks: &mut Stacks<A>,
+    resources: &T,
+    type_index: u32,
+    table_index: u32,
+) -> Result<(), NotTaken>
+    ensures took { Performs result (T.context resources.now)
+        (call_shape (CallIndirect type_index table_index)) stacks.old stacks.new }
+    ensures same { Kept stacks.old stacks.new }
+{
+    as_fast(call_indirect(stacks, resources, type_index, table_index))
+}
+
 /// `br`.
-#[inline(always)]
-pub(crate) fn branch_away<A: Allocator, T: WasmModuleResources>(
+#[inline(never)]
+pub(crate) fn branch_generally<A: Allocator, T: WasmModuleResources>(
     stacks: &mut Stacks<A>,
     resources: &T,
     depth: u32,
@@ -71,8 +57,8 @@ pub(crate) fn branch_away<A: Allocator, T: WasmModuleResources>(
 }
 
 /// `br_if`.
-#[inline(always)]
-pub(crate) fn branch_perhaps<A: Allocator, T: WasmModuleResources>(
+#[inline(never)]
+pub(crate) fn branch_if_generally<A: Allocator, T: WasmModuleResources>(
     stacks: &mut Stacks<A>,
     resources: &T,
     depth: u32,
@@ -85,8 +71,8 @@ pub(crate) fn branch_perhaps<A: Allocator, T: WasmModuleResources>(
 }
 
 /// `return`.
-#[inline(always)]
-pub(crate) fn return_all<A: Allocator, T: WasmModuleResources>(
+#[inline(never)]
+pub(crate) fn return_generally<A: Allocator, T: WasmModuleResources>(
     stacks: &mut Stacks<A>,
     resources: &T,
 ) -> Result<(), NotTaken>
@@ -97,15 +83,14 @@ pub(crate) fn return_all<A: Allocator, T: WasmModuleResources>(
     as_fast(give_back(stacks, resources))
 }
 
-/// `drop`.
-#[inline(always)]
-pub(crate) fn drop_one<A: Allocator, T: WasmModuleResources>(
+/// `end`.
+#[inline(never)]
+pub(crate) fn end_generally<A: Allocator, T: WasmModuleResources>(
     stacks: &mut Stacks<A>,
     resources: &T,
 ) -> Result<(), NotTaken>
-    ensures took { Performs result (T.context resources.now) dropping
-        stacks.old stacks.new }
+    ensures took { Performs result (T.context resources.now) closing stacks.old stacks.new }
     ensures same { Kept stacks.old stacks.new }
 {
-    as_fast(drop_any(stacks, resources))
+    as_fast(end(stacks, resources))
 }

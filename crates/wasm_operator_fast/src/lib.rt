@@ -3,9 +3,12 @@
 
 mod accesses;
 mod blocks;
+mod branches;
+mod calls;
 mod choices;
 mod ends;
 mod general;
+mod globals;
 mod immediates;
 mod locals;
 mod not_taken;

@@ -1,18 +1,20 @@
 //! Looks at operands whose types are known.
 
-ghost use Rattle.std.specs.Prelude.{◌≡◌, ◌≤◌, ◌+◌, Some, length, OnOk};
+ghost use Rattle.std.specs.Prelude.{◌≡◌, ◌≤◌, ◌+◌, Some, length, map, OnOk};
 ghost use Rattle.wasm_operator_control.specs.WasmOperatorChecks.WasmOperatorStacks.SeenTypeWords.{val_in};
 ghost use Rattle.wasm_operator_control.specs.WasmOperatorChecks.WasmOperatorSteps.Machine.{known, pop_any, pop_val, pop_vals, push_operand};
 ghost use Rattle.wasm_operator_control.specs.WasmOperatorChecks.WasmValidatorResources.Answers.{world};
 ghost use Rattle.wasm_operator_control.specs.WasmOperatorChecks.WasmOperatorStacks.Seen.{state_of, below};
-ghost use Rattle.wasm_operator_control.specs.WasmOperatorChecks.SeenTypes.{takes_seen};
+ghost use Rattle.wasm_operator_control.specs.WasmOperatorChecks.SeenTypes.{types_seen, takes_seen};
+ghost use Rattle.wasm_readers_types.specs.WasmReadersValues.SeenValues.{val_of};
 ghost use Rattle.wasm_operator_fast.specs.Fast.{Peeked};
 
 use crate::not_taken::NotTaken;
 use std::alloc::Allocator;
-use wasm_operator_control::operator_checks::Takes;
+use wasm_operator_control::operator_checks::{Takes, ValTypes};
 use wasm_operator_control::operator_stacks::{Stacks, TypeWord};
 use wasm_operator_control::validator_resources::WasmModuleResources;
+use wasm_readers_types::ValType;
 
 /// Looks whether an operand that is known to be of this type is in the innermost frame, below so
 /// many others.
@@ -35,20 +37,91 @@ pub(crate) fn peek<A: Allocator, T: WasmModuleResources>(
     if !stacks.is_open {
         return Err(NotTaken::Left);
     }
+    let count = stacks.operands.len();
+    let height = stacks.frame.height;
+    if count <= height {
+        return Err(NotTaken::Left);
+    }
+    if count - height <= depth {
+        return Err(NotTaken::Left);
+    }
     let Some(operand) = stacks.operands.get(depth) else {
         return Err(NotTaken::Left);
     };
     if !operand.is(ty) {
         return Err(NotTaken::Left);
     }
-    if stacks.operands.len() - depth <= stacks.frame.height {
-        return Err(NotTaken::Left);
-    }
     Ok(())
 }
 
-/// Looks whether the operands are on top that an operator takes, at most three, and how many they
-/// are.
+/// Looks whether an operand that is known to be of this type is in the innermost frame, below so
+/// many others, and how many are taken with it.
+#[inline(always)]
+fn peek_next<A: Allocator, T: WasmModuleResources>(
+    stacks: &Stacks<A>,
+    resources: &T,
+    taken: usize,
+    ty: TypeWord,
+) -> Result<usize, NotTaken>
+    ensures { Peeked result (pop_val (world (T.context resources.now)) (val_in ty)
+        (below taken (state_of stacks.now))) (state_of stacks.now) }
+{
+    peek(stacks, resources, taken, ty)?;
+    if taken >= stacks.operands.len() {
+        return Err(NotTaken::Left);
+    }
+    Ok(taken + 1)
+}
+
+/// Looks whether operands that are known to be of these types, the last one on top, are in the
+/// innermost frame, below so many others.
+#[inline(always)]
+#[tactic(auto, using(crate::proofs::Cited::list_checks))]
+fn peek_many<A: Allocator, T: WasmModuleResources>(
+    stacks: &Stacks<A>,
+    resources: &T,
+    first: usize,
+    types: &[ValType],
+) -> Result<usize, NotTaken>
+    requires { first ≤ length (state_of stacks.now).operands }
+    ensures { Peeked result (pop_vals (world (T.context resources.now)) (map val_of types.now)
+        (below first (state_of stacks.now))) (state_of stacks.now) }
+{
+    let count = types.len();
+    let mut taken = first;
+    'looking: for i in 0..count {
+        taken = peek_next(
+            stacks,
+            resources,
+            taken,
+            TypeWord::new(types[count - 1 - i]),
+        )?;
+    }
+    Ok(taken)
+}
+
+/// Looks whether operands that are known to be of these types are in the innermost frame, below so
+/// many others, and how many are taken with them.
+#[inline(always)]
+#[tactic(auto, using(crate::proofs::Cited::two))]
+pub(crate) fn peek_types<'a, A: Allocator, T: WasmModuleResources>(
+    stacks: &Stacks<A>,
+    resources: &T,
+    first: usize,
+    types: ValTypes<'a>,
+) -> Result<usize, NotTaken>
+    requires { first ≤ length (state_of stacks.now).operands }
+    ensures { Peeked result (pop_vals (world (T.context resources.now)) (types_seen types.entry)
+        (below first (state_of stacks.now))) (state_of stacks.now) }
+{
+    match types {
+        ValTypes::None => Ok(first),
+        ValTypes::One(ty) => peek_next(stacks, resources, first, ty),
+        ValTypes::Many(types) => peek_many(stacks, resources, first, types),
+    }
+}
+
+/// Looks whether the operands are on top that an operator takes, and how many they are.
 #[inline(always)]
 #[tactic(auto, using(crate::proofs::Cited::two, crate::proofs::Peeking::three))]
 pub(crate) fn peek_takes<'a, A: Allocator, T: WasmModuleResources>(
@@ -66,16 +139,16 @@ pub(crate) fn peek_takes<'a, A: Allocator, T: WasmModuleResources>(
             Ok(1)
         }
         Takes::Two(first, second) => {
-            peek(stacks, resources, 0, second)?;
             peek(stacks, resources, 1, first)?;
+            peek(stacks, resources, 0, second)?;
             Ok(2)
         }
         Takes::Three(first, second, third) => {
-            peek(stacks, resources, 0, third)?;
-            peek(stacks, resources, 1, second)?;
             peek(stacks, resources, 2, first)?;
+            peek(stacks, resources, 1, second)?;
+            peek(stacks, resources, 0, third)?;
             Ok(3)
         }
-        Takes::Many(_) => Err(NotTaken::Left),
+        Takes::Many(types) => peek_many(stacks, resources, 0, types),
     }
 }

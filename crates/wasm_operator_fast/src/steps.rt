@@ -8,11 +8,12 @@ ghost use Rattle.wasm_operator_fast.specs.Fused.{Fuses, step_at};
 
 use crate::accesses::access;
 use crate::blocks::{open_block, open_if, open_loop};
-use crate::choices::select_integer;
+use crate::branches::{branch_away, branch_perhaps, do_nothing, return_all, trap};
+use crate::calls::call_function;
+use crate::choices::{drop_one, select_integer};
 use crate::ends::end;
-use crate::general::{
-    branch_away, branch_perhaps, call_function, drop_one, get_global, return_all, set_global,
-};
+use crate::general::call_in_table;
+use crate::globals::{get_global, set_global};
 use crate::immediates::{next_block, next_byte, next_index, next_memarg, pass_i32, pass_i64};
 use crate::locals::{local_get, local_set, local_tee};
 use crate::not_taken::NotTaken;
@@ -78,6 +79,8 @@ fn step_structural<A: Allocator, T: WasmModuleResources>(
     ensures same { Kept stacks.old stacks.new }
 {
     match opcode {
+        0x00 => trap(stacks, resources),
+        0x01 => do_nothing(stacks, resources),
         0x02 => {
             let gives = next_block(reader)?;
             open_block(stacks, resources, gives)
@@ -103,6 +106,11 @@ fn step_structural<A: Allocator, T: WasmModuleResources>(
         0x10 => {
             let index = next_index(reader)?;
             call_function(stacks, resources, index)
+        }
+        0x11 => {
+            let type_index = next_index(reader)?;
+            let table_index = next_index(reader)?;
+            call_in_table(stacks, resources, type_index, table_index)
         }
         0x1a => drop_one(stacks, resources),
         0x1b => select_integer(stacks, resources),

@@ -1,4 +1,4 @@
-use Rattle.wasm_operator_fast.proofs.general.branch_perhaps.Goals as goal
+use Rattle.wasm_operator_fast.proofs.general.branch_if_generally.Goals as goal
 
 pub returns-clause-took : goal.returns-clause-took
 returns-clause-took g c =

@@ -1,4 +1,4 @@
-use Rattle.wasm_operator_fast.proofs.general.call_function.Goals as goal
+use Rattle.wasm_operator_fast.proofs.general.call_generally.Goals as goal
 
 pub returns-clause-took : goal.returns-clause-took
 returns-clause-took g c =

@@ -1,0 +1,72 @@
+//! Operators on globals.
+
+ghost use Rattle.wasm_operators_plain.specs.declared.variables.VariableOperator.TheVariants.{GlobalGet, GlobalSet};
+ghost use Rattle.wasm_operator_control.specs.WasmOperatorChecks.WasmOperatorSteps.Shapes.{variable_shape};
+ghost use Rattle.wasm_operator_control.specs.WasmOperatorChecks.WasmOperatorStacks.Seen.{Kept};
+ghost use Rattle.wasm_operator_fast.specs.Fast.{Performs};
+
+use crate::not_taken::NotTaken;
+use crate::plain::plain;
+use std::alloc::Allocator;
+use wasm_operator_control::operator_checks::{Takes, ValTypes, reaches};
+use wasm_operator_control::operator_stacks::{Stacks, TypeWord};
+use wasm_operator_control::validator_resources::WasmModuleResources;
+
+/// `global.get`.
+#[inline(always)]
+#[tactic(auto, using(crate::proofs::Fasting::acts, crate::proofs::Cited::globals))]
+pub(crate) fn get_global<A: Allocator, T: WasmModuleResources>(
+    stacks: &mut Stacks<A>,
+    resources: &T,
+    index: u32,
+) -> Result<(), NotTaken>
+    ensures took { Performs result (T.context resources.now) (variable_shape (GlobalGet index))
+        stacks.old stacks.new }
+    ensures same { Kept stacks.old stacks.new }
+{
+    match resources.global_at(index) {
+        Some(ty) => {
+            if !reaches(stacks, ty.shared) {
+                return Err(NotTaken::Left);
+            }
+            plain(
+                stacks,
+                resources,
+                Takes::None,
+                ValTypes::One(TypeWord::new(ty.content_type)),
+            )
+        }
+        None => Err(NotTaken::Left),
+    }
+}
+
+/// `global.set`.
+#[inline(always)]
+#[tactic(auto, using(crate::proofs::Fasting::acts, crate::proofs::Cited::globals))]
+pub(crate) fn set_global<A: Allocator, T: WasmModuleResources>(
+    stacks: &mut Stacks<A>,
+    resources: &T,
+    index: u32,
+) -> Result<(), NotTaken>
+    ensures took { Performs result (T.context resources.now) (variable_shape (GlobalSet index))
+        stacks.old stacks.new }
+    ensures same { Kept stacks.old stacks.new }
+{
+    match resources.global_at(index) {
+        Some(ty) => {
+            if !reaches(stacks, ty.shared) {
+                return Err(NotTaken::Left);
+            }
+            if !ty.mutable {
+                return Err(NotTaken::Left);
+            }
+            plain(
+                stacks,
+                resources,
+                Takes::One(TypeWord::new(ty.content_type)),
+                ValTypes::None,
+            )
+        }
+        None => Err(NotTaken::Left),
+    }
+}
