@@ -1,7 +1,7 @@
 use crate::features::{name_of, parse_features};
 use crate::sample::Sample;
+use examples_own_module::OwnModule;
 use std::alloc::{AllocError, AllocFailed, Global};
-use test_resources::SampleResources;
 use wasm_parser::FunctionBody;
 use wasm_readers::{BinaryReader, Error};
 use wasm_readers_errors::WasmFeatures;
@@ -98,7 +98,16 @@ pub fn judge<'a>(
         Some(unwanted) => (false, unwanted),
         None => (true, row.wanted),
     };
-    let answer = validate(alloc, sample, features, type_index, bytes.as_slice())?;
+    let Some(module) = OwnModule::new(sample.parts()) else {
+        return Err(Trouble::Malformed("a sample with too many types"));
+    };
+    let answer = validate(
+        alloc,
+        &module,
+        features,
+        (VALIDATED, type_index),
+        bytes.as_slice(),
+    );
     let mut given = String::new(alloc);
     push_answer(&mut given, &answer, named)?;
     if (given.as_str() == named) == is_wanted {
@@ -125,27 +134,24 @@ pub fn parse_bytes(alloc: Global, text: &str) -> Result<Vec<u8>, Trouble> {
 /// The index of the function whose body a row has: it stands behind those of the sample.
 const VALIDATED: u32 = 8;
 
-/// What is said of the body of a function of this type.
-fn validate(
+/// What is said of the body of the function with the first index, whose type has the second.
+pub fn validate(
     alloc: Global,
-    sample: &Sample,
+    module: &OwnModule<'_, Global>,
     features: WasmFeatures,
-    type_index: u32,
+    (index, ty): (u32, u32),
     bytes: &[u8],
-) -> Result<Result<(), Error>, Trouble> {
-    let Some(resources) = SampleResources::new(sample.parts()) else {
-        return Err(Trouble::Malformed("a sample with too many types"));
-    };
+) -> Result<(), Error> {
     let body = FunctionBody::new(BinaryReader::new(bytes, 0));
     let function = FuncToValidate {
-        resources: &resources,
-        index: VALIDATED,
-        ty: type_index,
+        resources: module,
+        index,
+        ty,
         features,
     };
     match function.validate(&body, FuncValidatorAllocations::new(alloc)) {
-        Ok(_) => Ok(Ok(())),
-        Err(error) => Ok(Err(error)),
+        Ok(_) => Ok(()),
+        Err(error) => Err(error),
     }
 }
 
