@@ -85,6 +85,20 @@ def past_operator(data, at):
             return past(data, past(data, at))
         if kind <= 17:
             return past(data, at)
+    if code == 0xFD:
+        kind, at = number(data, at)
+        if kind <= 11 or kind in (92, 93):
+            return past(data, past(data, at))
+        if kind in (12, 13):
+            return at + 16
+        if 21 <= kind <= 34:
+            return at + 1
+        if 84 <= kind <= 91:
+            return past(data, past(data, at)) + 1
+        return at
+    if code == 0xFE:
+        kind, at = number(data, at)
+        return at + 1 if kind == 3 else past(data, past(data, at))
     raise ValueError(f"an operator that isn't counted here: {code:02x}")
 
 
@@ -230,4 +244,5 @@ def main():
                 measure(program, path, data, count, empty.name)
 
 
-main()
+if __name__ == "__main__":
+    main()
