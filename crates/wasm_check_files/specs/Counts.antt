@@ -1,6 +1,6 @@
 -- How many there are in an index space of a module. Core Specification 3.0, Syntax, Modules, Indices.
 use Rattle.std.specs.Prelude.{ℕ, length}
-use Rattle.wasm_validator.specs.WasmValidatorTypes.Spaces.{Spaces}
+use Rattle.wasm_validate_files.specs.WasmValidatorTypes.Spaces.{Spaces}
 use Rattle.wasm_check_files.specs.declared.items.Space.{Space}
 use Rattle.wasm_check_files.specs.declared.items.Space.TheVariants as of
 

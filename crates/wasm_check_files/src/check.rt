@@ -1,10 +1,10 @@
 //! Files are checked, and the exit status says what was found.
 
-ghost use Rattle.std.specs.Prelude.{◌≡◌, ◌≤◌, IfOk, length, Some, ⊤};
+ghost use Rattle.std.specs.Prelude.{◌≡◌, ◌≤◌, ◌⊎◌, IfOk, length, Some, ⊤};
 ghost use Rattle.std.specs.List.{All};
 ghost use Rattle.wasm_validate_files.specs.Files.{IsRead, HasRoomForAll};
 ghost use Rattle.wasm_check_files.specs.Checked.{StatusTells, WereChecked, room_for};
-ghost use Rattle.wasm_check_files.specs.Statuses.{IsWorst, status_at, status_of};
+ghost use Rattle.wasm_check_files.specs.Statuses.{IsWorst, status_at, status_of, status_of_error};
 
 use crate::json::write_unread;
 use crate::lines::write_report;
@@ -31,17 +31,32 @@ pub fn check_files<R: Files + io::Input + AllocGlobal, W: Write, E: Write>(
     ensures silent { (result ≡ STATUS_TROUBLE → ⊥) → err.new ≡ err.old }
     ensures quiet { settings.now.form ≡ Form.Quiet → out.new ≡ out.old }
 {
-    let checked = if settings.is_shared {
-        check_group(rt, names, settings, out, err)
-    } else {
-        check_each(rt, names, settings, out, err)
-    };
-    match checked {
+    match check_all(rt, names, settings, out, err) {
         Ok(status) => status,
         Err(error) => {
             let _printed = writeln!(err, "wasm-check: {error}");
             STATUS_TROUBLE
         }
+    }
+}
+
+/// Checks files, by one validator or each by its own, as is asked for.
+fn check_all<R: Files + io::Input + AllocGlobal, W: Write, E: Write>(
+    rt: &R,
+    names: &[&str],
+    settings: &Settings,
+    out: &mut W,
+    err: &mut E,
+) -> io::Result<u8>
+    ensures told { IfOk result (WereChecked settings.now.features
+        (room_for settings.now.features settings.now.is_shared) (length names.now)) }
+    ensures silent { IfOk result (λ status. (status ≡ STATUS_TROUBLE → ⊥) → err.new ≡ err.old) }
+    ensures quiet { settings.now.form ≡ Form.Quiet → out.new ≡ out.old }
+{
+    if settings.is_shared {
+        check_group(rt, names, settings, out, err)
+    } else {
+        check_each(rt, names, settings, out, err)
     }
 }
 
@@ -60,7 +75,7 @@ fn check_each<R: Files + io::Input + AllocGlobal, W: Write, E: Write>(
     let mut status = STATUS_OK;
     'names: for name in names {
         let found = check_group(rt, slice::from_ref(name), settings, out, err)?;
-        status = status.max(found);
+        status = worse(status, found);
     }
     Ok(status)
 }
@@ -116,13 +131,21 @@ fn tell_unread<W: Write, E: Write>(
     let name = shown_name(name);
     let _printed = writeln!(err, "wasm-check: {name}: {error}");
     match settings.form {
-        Form::Json => {
-            let mut text = String::new(alloc);
-            write_unread(&mut text, alloc, name, error)?;
-            out.write_all(text.as_bytes())
-        }
+        Form::Json => print_unread(alloc, name, error, out),
         Form::Text | Form::Quiet => Ok(()),
     }
+}
+
+/// Prints why a file could not be read.
+fn print_unread<W: Write>(
+    alloc: Global,
+    name: &str,
+    error: &io::Error,
+    out: &mut W,
+) -> io::Result<()> {
+    let mut text = String::new(alloc);
+    write_unread(&mut text, alloc, name, error)?;
+    out.write_all(text.as_bytes())
 }
 
 /// Checks files that were read, by one validator, and prints of each what is asked for. The answer is
@@ -181,6 +204,15 @@ fn print_reports<W: Write>(
     Ok(())
 }
 
+/// The larger of two statuses.
+fn worse(one: u8, other: u8) -> u8
+    ensures one { one ≤ result }
+    ensures other { other ≤ result }
+    ensures some { (result ≡ one) ⊎ (result ≡ other) }
+{
+    if one < other { other } else { one }
+}
+
 /// The largest status of so many files.
 fn worst_status(answers: &[Answer<Global>], count: usize) -> u8
     ensures known { result ≤ STATUS_TROUBLE }
@@ -188,7 +220,7 @@ fn worst_status(answers: &[Answer<Global>], count: usize) -> u8
 {
     let mut worst = STATUS_OK;
     'places: for place in 0..count {
-        worst = worst.max(status_at(answers, place));
+        worst = worse(worst, status_at(answers, place));
     }
     worst
 }
@@ -209,7 +241,20 @@ fn status_of(answer: &Answer<Global>) -> u8
 {
     match answer {
         Ok(_) => STATUS_OK,
-        Err(Error::OutOfMemory) => STATUS_TROUBLE,
-        Err(_) => STATUS_REFUSED,
+        Err(error) => status_of_error(error),
+    }
+}
+
+fn status_of_error(error: &Error<Global>) -> u8
+    ensures { result ≡ status_of_error error.now }
+{
+    match error {
+        Error::Refused(_) => STATUS_REFUSED,
+        Error::DuplicateExport { name: _, offset: _ } => STATUS_REFUSED,
+        Error::InFunction {
+            index: _,
+            refusal: _,
+        } => STATUS_REFUSED,
+        Error::OutOfMemory => STATUS_TROUBLE,
     }
 }

@@ -3,6 +3,7 @@
 ghost use Rattle.std.specs.Prelude.{◌≡◌, IfOk, IfErr, Some, map, option_map};
 ghost use Rattle.wasm_check_files.specs.Selecting.{changed, selected, bits_named, is_named, flag_letter, IsUnknown};
 
+use bitflags::Flag;
 pub use wasm_validate_files::validator::{Flags, WasmFeatures};
 
 /// The features that these words select, one after another, from the default ones on: `default` and
@@ -39,7 +40,7 @@ fn change_features(features: WasmFeatures, word: &str) -> Option<WasmFeatures>
         return Some(<WasmFeatures as Flags>::all());
     }
     let (sign, name) = word.as_bytes().split_first()?;
-    let feature = find_feature(name)?;
+    let feature = find_feature(WasmFeatures::flags(), name)?;
     match *sign {
         b'+' => Some(features.union(feature)),
         b'-' => Some(features.difference(feature)),
@@ -47,15 +48,16 @@ fn change_features(features: WasmFeatures, word: &str) -> Option<WasmFeatures>
     }
 }
 
-/// The feature with this name.
-fn find_feature(name: &[u8]) -> Option<WasmFeatures>
+/// The first of these features that the name means.
+fn find_feature(flags: &[Flag<WasmFeatures>], name: &[u8]) -> Option<WasmFeatures>
     ensures { option_map (λ f. f.0) result
-        ≡ bits_named ⟦<WasmFeatures as Flags>⟧.table name.now }
+        ≡ bits_named (map (λ f. (f.name.now, f.value.0)) flags.now) name.now }
 {
-    let flag = WasmFeatures::flags()
-        .iter()
-        .find(|flag| is_named(flag.name.as_bytes(), name))?;
-    Some(flag.value)
+    let (flag, others) = flags.split_first()?;
+    if is_named(flag.name.as_bytes(), name) {
+        return Some(flag.value);
+    }
+    find_feature(others, name)
 }
 
 /// Whether a flag of this name is meant by the other.

@@ -1,7 +1,7 @@
 ghost use Rattle.std.specs.Prelude.{◌≡◌, ◌≤◌, [], map, Any, find, IfOk, IsTrue, ◌↔◌, true, false};
 ghost use Rattle.std.specs.Option.{option_map};
 ghost use Rattle.wasm_validate_files.specs.Files.{AreAllAccepted, HasRoomForAll, IsUnread, bytes_held, is_unread};
-ghost use Rattle.wasm_validate_files.specs.Answers.{AreAnswers, LacksMemory};
+ghost use Rattle.wasm_validate_files.specs.Answers.{AreAnswers, Tells, LacksMemory};
 
 use crate::lines::{Answer, print_lines};
 use std::alloc::{AllocError, Allocator, Global};
@@ -49,13 +49,8 @@ pub fn run<A: Allocator + Copy, W: Write, E: Write>(
         let _printed = writeln!(err, "wasm-validate: cannot read {name}");
         return STATUS_TROUBLE;
     }
-    match answer_files(alloc, files, WasmFeatures::STANDARD) {
-        Ok(answers) => {
-            if lacks_memory(answers.as_slice()) {
-                return print_error(err, "out of memory");
-            }
-            status_of(print_lines(files, answers.as_slice(), out))
-        }
+    match answer_with_memory(alloc, files) {
+        Ok(answers) => status_of(print_lines(files, answers.as_slice(), out)),
         Err(_) => print_error(err, "out of memory"),
     }
 }
@@ -94,6 +89,20 @@ pub fn answer_files<A: Allocator + Copy>(
         Ok(answers) => Ok(answers),
         Err(_) => Err(AllocError),
     }
+}
+
+/// The same with the default features. Where memory was refused for one of them, nothing is answered.
+fn answer_with_memory<A: Allocator + Copy>(
+    alloc: A,
+    files: &[Input<A>],
+) -> Result<Vec<Answer<A>, A>, AllocError>
+    ensures { IfOk result (λ answers. Tells WasmFeatures.STANDARD files.now answers.items) }
+{
+    let answers = answer_files(alloc, files, WasmFeatures::STANDARD)?;
+    if lacks_memory(answers.as_slice()) {
+        return Err(AllocError);
+    }
+    Ok(answers)
 }
 
 /// The bytes of files, and none of one that could not be read.
