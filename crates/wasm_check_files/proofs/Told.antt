@@ -69,17 +69,17 @@ module _ (features : WasmFeatures) where
   status_tells files answers s read are short known worst = record {
     known = known;
     accepted = λ e.
-      all_accepted features files answers read (tells files answers s are short worst (omega (arith, e)))
-      (λ k l. let most = worst.above k l in is_ok (slice_get answers k) (omega (arith, most, e)));
+        all_accepted features files answers read (tells files answers s are short worst (omega (arith, e)))
+        (λ k l. let most = worst.above k l in is_ok (slice_get answers k) (omega (arith, most, e)));
     refused = λ e room accepted.
-      elim worst.some [
-        | inl z ↦ omega (arith, e, z)
-        | inr x ↦
-            let ok : IsOkAt answers x.0 = all_answered features files answers (tells files answers s are short worst (omega (arith, e))) room accepted x.0 x.1 in
-            let zero : status_at answers x.0 ≡ 0 = ap status_of ok.1 in
-            let is = x.2 in
-            omega (arith, zero, is, e)
-      ];
+        elim worst.some [
+          | inl z ↦ omega (arith, e, z)
+          | inr x ↦
+              let ok : IsOkAt answers x.0 = all_answered features files answers (tells files answers s are short worst (omega (arith, e))) room accepted x.0 x.1 in
+              let zero : status_at answers x.0 ≡ 0 = ap status_of ok.1 in
+              let is = x.2 in
+              omega (arith, zero, is, e)
+        ];
   }
 
   -- with the status of trouble nothing is said of files
@@ -116,31 +116,31 @@ module _ (features : WasmFeatures) where
       let known : r ≤ 2 =
       (let k = before.tells.known in
       let l = one.tells.known in
-      elim which [ | inl e ↦ omega (arith, e, k) | inr e ↦ omega (arith, e, l) ]) in
+      elim which [ inl e ↦ omega (arith, e, k) | inr e ↦ omega (arith, e, l) ]) in
       record {
         files = before.files ++ one.files;
         each = λ other.
-          let small : r ≤ 1 = not_two r known other in
-          let p : length before.files ≡ i = before.each (λ e. omega (arith, e, a, small)) in
-          let q : length one.files ≡ n = one.each (λ e. omega (arith, e, b, small)) in
-          let whole = length-append before.files one.files in
-          omega (arith, p, q, whole, single);
+            let small : r ≤ 1 = not_two r known other in
+            let p : length before.files ≡ i = before.each (λ e. omega (arith, e, a, small)) in
+            let q : length one.files ≡ n = one.each (λ e. omega (arith, e, b, small)) in
+            let whole = length-append before.files one.files in
+            omega (arith, p, q, whole, single);
         tells = record {
           known = known;
           accepted = λ e. All-append (IsAccepted features) before.files one.files (before.tells.accepted (omega (arith, e, a))) (one.tells.accepted (omega (arith, e, b)));
           refused = λ e _ accepted.
-            elim which [
-              | inl same ↦ before.tells.refused (sym same ∙ e) tt (all_left before.files one.files accepted)
-              | inr same ↦
-                  let is_one : t ≡ 1 = sym same ∙ e in
-                  let alone : length one.files ≡ n = one.each (λ two. omega (arith, is_one, two)) in
-                  one.tells.refused is_one (room_alone one.files (alone ∙ single)) (all_right before.files one.files accepted)
-            ];
+              elim which [
+                | inl same ↦ before.tells.refused (sym same ∙ e) tt (all_left before.files one.files accepted)
+                | inr same ↦
+                    let is_one : t ≡ 1 = sym same ∙ e in
+                    let alone : length one.files ≡ n = one.each (λ two. omega (arith, is_one, two)) in
+                    one.tells.refused is_one (room_alone one.files (alone ∙ single)) (all_right before.files one.files accepted)
+              ];
         };
       }
-      where
-        not_two : (r : ℕ) → r ≤ 2 → (r ≡ 2 → ⊥) → r ≤ 1
-        not_two r k other = omega (arith, k, other)
+    where
+      not_two : (r : ℕ) → r ≤ 2 → (r ≡ 2 → ⊥) → r ≤ 1
+      not_two r k other = omega (arith, k, other)
 
   -- all files that were named were read
   pub all_checked : (room : List (Input Global) → Type 0) (files : List (Input Global)) (count s : ℕ) → length files ≡ count → StatusTells features room files s → WereChecked features room count s
