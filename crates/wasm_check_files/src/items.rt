@@ -7,7 +7,7 @@ ghost use Rattle.wasm_check_files.specs.Counts.{count_in};
 use crate::settings::Form;
 use crate::{json, lines};
 use std::alloc::{AllocError, Global};
-use wasm_validate_files::validator::{CoreTypeId, EntityType, TypesRef};
+use wasm_validate_files::validator::{CoreTypeId, TypesRef};
 
 /// An index space of a module (Core Specification 3.0, Syntax, Modules, Indices).
 #[derive(Clone, Copy)]
@@ -32,21 +32,39 @@ pub const SPACES: [Space; 7] = [
     Space::Elements,
 ];
 
+/// What an item of a module is.
+#[derive(Clone, Copy)]
+pub enum Kind {
+    /// What has an index of this index space.
+    Of(Space),
+    Import,
+    Export,
+}
+
 /// An item as it is printed.
 #[derive(Clone, Copy)]
 pub struct Item<'a> {
     /// What it is.
-    pub kind: &'a str,
+    pub kind: Kind,
     /// Its place among those of its kind.
     pub index: u32,
     /// The id of its type, if that has one.
     pub id: Option<u64>,
-    /// The module that it's imported from, if it's an import.
-    pub module: Option<&'a str>,
-    /// Its name, if it's an import or an export.
-    pub name: Option<&'a str>,
+    /// The module that an import is from.
+    pub module: &'a str,
+    /// The name of an import or an export.
+    pub name: &'a str,
     /// Its type, as text.
     pub ty: &'a str,
+}
+
+/// What an item of this kind is called.
+pub fn word_of<'a>(kind: Kind) -> &'a str {
+    match kind {
+        Kind::Of(space) => singular(space),
+        Kind::Import => "import",
+        Kind::Export => "export",
+    }
 }
 
 /// What several of an index space are called.
@@ -117,11 +135,11 @@ fn write_space(
         let mut ty = String::new(alloc);
         let id = write_type(&mut ty, shown, space, index)?;
         let item = Item {
-            kind: singular(space),
+            kind: Kind::Of(space),
             index,
             id,
-            module: None,
-            name: None,
+            module: "",
+            name: "",
             ty: ty.as_str(),
         };
         write_item(text, alloc, file, &item, form)?;
@@ -180,14 +198,16 @@ fn write_imports(
     };
     let mut index = 0u32;
     'imports: for (module, name, entity) in imports {
-        write_named(
-            text,
-            alloc,
-            file,
-            ("import", index, Some(module), name),
-            entity,
-            form,
-        )?;
+        let ty = format!(in alloc; "{entity}")?;
+        let item = Item {
+            kind: Kind::Import,
+            index,
+            id: None,
+            module,
+            name,
+            ty: ty.as_str(),
+        };
+        write_item(text, alloc, file, &item, form)?;
         index = index.saturating_add(1);
     }
     Ok(())
@@ -205,37 +225,19 @@ fn write_exports(
     };
     let mut index = 0u32;
     'exports: for (name, entity) in exports {
-        write_named(
-            text,
-            alloc,
-            file,
-            ("export", index, None, name),
-            entity,
-            form,
-        )?;
+        let ty = format!(in alloc; "{entity}")?;
+        let item = Item {
+            kind: Kind::Export,
+            index,
+            id: None,
+            module: "",
+            name,
+            ty: ty.as_str(),
+        };
+        write_item(text, alloc, file, &item, form)?;
         index = index.saturating_add(1);
     }
     Ok(())
-}
-
-fn write_named(
-    text: &mut String,
-    alloc: Global,
-    file: &str,
-    named: (&str, u32, Option<&str>, &str),
-    entity: EntityType,
-    form: Form,
-) -> Result<(), AllocError> {
-    let ty = format!(in alloc; "{entity}")?;
-    let item = Item {
-        kind: named.0,
-        index: named.1,
-        id: None,
-        module: named.2,
-        name: Some(named.3),
-        ty: ty.as_str(),
-    };
-    write_item(text, alloc, file, &item, form)
 }
 
 fn write_item(

@@ -1,7 +1,7 @@
 //! JSON objects, one on each line.
 
 use crate::features::WasmFeatures;
-use crate::items::{Item, SPACES, count_in, plural};
+use crate::items::{Item, Kind, SPACES, count_in, plural, word_of};
 use bitflags::Flags;
 use serde_json::{Map, Value, put};
 use std::alloc::{AllocError, Global};
@@ -57,18 +57,24 @@ pub fn write_item(
 }
 
 fn put_item(members: &mut Members, alloc: Global, item: &Item<'_>) -> Result<(), AllocError> {
-    put_text(members, alloc, "item", item.kind)?;
+    put_text(members, alloc, "item", word_of(item.kind))?;
     put_number(members, alloc, "index", u64::from(item.index))?;
     if let Some(id) = item.id {
         put_number(members, alloc, "id", id)?;
     }
-    if let Some(module) = item.module {
-        put_text(members, alloc, "module", module)?;
-    }
-    if let Some(name) = item.name {
-        put_text(members, alloc, "name", name)?;
-    }
+    put_names(members, alloc, item)?;
     put_text(members, alloc, "type", item.ty)
+}
+
+fn put_names(members: &mut Members, alloc: Global, item: &Item<'_>) -> Result<(), AllocError> {
+    match item.kind {
+        Kind::Import => {
+            put_text(members, alloc, "module", item.module)?;
+            put_text(members, alloc, "name", item.name)
+        }
+        Kind::Export => put_text(members, alloc, "name", item.name),
+        Kind::Of(_) => Ok(()),
+    }
 }
 
 fn put_valid(

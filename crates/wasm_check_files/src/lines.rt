@@ -1,7 +1,7 @@
 //! Lines that a person reads.
 
 use crate::features::WasmFeatures;
-use crate::items::{Item, SPACES, count_in, plural, write_items};
+use crate::items::{Item, Kind, SPACES, count_in, plural, word_of, write_items};
 use crate::json;
 use crate::settings::{Form, Settings};
 use bitflags::Flags;
@@ -104,18 +104,24 @@ fn write_missing(
 
 /// Writes the line of an item of a module.
 pub fn write_item(text: &mut String, name: &str, item: &Item<'_>) -> Result<(), AllocError> {
-    let kind = item.kind;
+    let word = word_of(item.kind);
     let index = item.index;
-    write!(text, "{name}: {kind} {index}")?;
+    write!(text, "{name}: {word} {index}")?;
     if let Some(id) = item.id {
         write!(text, " id {id}")?;
     }
-    if let Some(module) = item.module {
-        write!(text, " {module:?}")?;
-    }
-    if let Some(name) = item.name {
-        write!(text, " {name:?}")?;
-    }
+    write_names(text, item)?;
     let ty = item.ty;
     writeln!(text, ": {ty}")
+}
+
+/// Writes the names of an import or an export.
+fn write_names(text: &mut String, item: &Item<'_>) -> Result<(), AllocError> {
+    let module = item.module;
+    let name = item.name;
+    match item.kind {
+        Kind::Import => write!(text, " {module:?} {name:?}"),
+        Kind::Export => write!(text, " {name:?}"),
+        Kind::Of(_) => Ok(()),
+    }
 }
