@@ -1,7 +1,14 @@
-# What bin/wasm-validate, bin/prove and tools/run_unproved share: the sources of the program, the programs that were built of them, and the kit.
-# Each sets `top` first.
+# What bin/wasm-validate, bin/wasm-check, bin/prove and tools/run_unproved share: the sources of a program, the programs that were built of them,
+# the kit, and how a program is run. Each sets `top` first.
 
-built=$top/out/wasm-validate
+# Sets which program is meant: its crate, its name, and where those that were built are kept.
+choose_program() {
+    crate=$1
+    name=${crate//_/-}
+    built=$top/out/$name
+}
+
+choose_program wasm_validate
 
 # A signal ends what was started here, and then the call. `rt` is started by `setsid`, so that a signal from the keyboard doesn't reach it too: a
 # second one would cut off what it does at the first.
@@ -34,9 +41,9 @@ find_kit() {
     kit=$(dirname "$(dirname "$(readlink -f "$(command -v rt)")")")
 }
 
-# The crates of the program, or of the crate that is named, one on a line, lowest first.
+# The crates of the program, or of the crates that are named, one on a line, lowest first.
 crates_of_program() {
-    awk -v top="${1:-wasm_validate}" '
+    awk -v tops="${*:-$crate}" '
         { sub(/#.*/, "") }
         /^[a-z0-9_]+[^:]*:/ { name = $1; sub(/:.*/, "", name); given[name] = 1; sub(/^[^:]*:/, ""); uses[name] = $0 }
         function visit(name, names, count, i) {
@@ -46,7 +53,7 @@ crates_of_program() {
             for (i = 1; i <= count; i++) visit(names[i])
             print name
         }
-        END { visit(top) }' "$top/crates.txt"
+        END { count = split(tops, chosen, " "); for (i = 1; i <= count; i++) visit(chosen[i]) }' "$top/crates.txt"
 }
 
 # A checksum of the program's sources, with their places, and of the kit's place and identity.
@@ -67,7 +74,7 @@ is_built() {
 
 # Keeps a program of this kind, of the sources with this sum. A call that is running keeps its old file.
 keep() {
-    rm -f "$built/$2.sum"
+    mkdir -p "$built" && rm -f "$built/$2.sum"
     cp "$1" "$built/$2.new" && chmod +x "$built/$2.new" && mv "$built/$2.new" "$built/$2" && echo "$3" >"$built/$2.sum"
 }
 
@@ -120,4 +127,78 @@ compile_crate() {
     [ -s "$room/program.o" ] || return 1
     "$kit/bin/rattle-link" --target x86_64-unknown-linux-gnu --toolchain "$kit/toolchain" -o "$room/program" "$room/program.o" \
         "$kit/c/libos_c.a" "$kit/c/liblibc_c.a" >>"$room/try.log" 2>&1 9>&-
+}
+
+# Runs the program of the sources as they are now, if one is built.
+run_built() {
+    local kind
+    sum=$(sum_of_sources)
+    for kind in proved unproved; do
+        if is_built "$kind" "$sum"; then exec "$built/$kind" "$@" 9>&-; fi
+    done
+}
+
+# Whether the compiled program ends with this status on a file of these bytes.
+ends_with() {
+    local ended
+    printf "$2" >"$room/trial.wasm"
+    "$room/program" "$room/trial.wasm" >>"$room/try.log" 2>&1 9>&-
+    ended=$?
+    if [ "$ended" -ne "$1" ]; then
+        echo "on a file of the bytes $2 the program ended with status $ended in place of $1" >>"$room/try.log"
+        return 1
+    fi
+}
+
+# Compiles the program without its proofs, and tries it on a module that is valid and on one that isn't.
+compile() {
+    compile_crate "$crate" "$room" && ends_with 0 '\0asm\1\0\0\0' && ends_with 1 '\0asm\1\0\0\0\1'
+}
+
+# Has `rt try` run the program, which is slow. It runs in a new folder, into which a file is copied under the name that the caller gives, if that
+# name leads down from the caller's folder and isn't one that rt uses itself. Any other file is named from the root. An option, and a word that names
+# nothing, stay as they are.
+run_by_rt() {
+    local it words=() files=()
+    for it in "$@"; do
+        case "/$it/" in
+        /-*) files+=("$it") ;;
+        //* | */../* | *=* | /program/* | /stdin/* | /stdout/* | /stderr/*) files+=("$(realpath -m -- "$it")") ;;
+        *)
+            files+=("$it")
+            if [ -f "$it" ]; then words+=(--data "$it=$(realpath -- "$it")"); fi
+            ;;
+        esac
+        if [ "${files[-1]}" != "$it" ]; then echo "$name: the line of $it will begin with ${files[-1]}" >&2; fi
+    done
+    (cd "$top/crates/$crate" && exec setsid rt try "${words[@]}" -- "${files[@]}") </dev/null 9>&- &
+    wait $!
+}
+
+# Runs the program, on the caller's words: the one that bin/prove has proved and built of these sources, else one that is compiled from the same
+# sources without their proofs, which takes two minutes the first time. docs/DECISIONS.md says what this rests on.
+run_program() {
+    find_kit "$name"
+    run_built "$@"
+    if one_at_a_time unproved "$name: another call is compiling the program, and this one waits for it"; then
+        # while this call waited, a program may have been built
+        run_built "$@"
+        make_room
+        echo "$name: compiling the program, which takes some two minutes, once" >&2
+        if ! compile; then
+            echo "$name: the program could not be compiled by itself; this is the end of its log, $built/try.log:" >&2
+            cp "$room/try.log" "$built/try.log"
+            tail -n 5 "$room/try.log" >&2
+        elif [ "$(sum_of_sources)" != "$sum" ]; then
+            echo "$name: the sources changed while they were compiled: call it again" >&2
+            exit 2
+        elif keep "$room/program" unproved "$sum"; then
+            echo "$name: compiled; its proofs were not run here: bin/prove runs them" >&2
+            rm -rf "$room"
+            exec "$built/unproved" "$@" 9>&-
+        fi
+        exec 9>&-
+    fi
+    echo "$name: rt try runs the program, which is slow" >&2
+    run_by_rt "$@"
 }

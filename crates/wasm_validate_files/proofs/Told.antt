@@ -9,8 +9,9 @@ use Rattle.std.proofs.lemmas.Option.{none-some, slice_get_cases, get_or_from_sli
 use Rattle.std.proofs.lemmas.Bool.{false≢true}
 use Rattle.std.proofs.lemmas.List.{length-map}
 use Rattle.std.proofs.lemmas.List.Elements.{All-nil, All-cons}
-use Rattle.wasm_readers_errors.specs.WasmReadersFeatures.declared.features.TheConstants.WasmFeatures.{STANDARD}
+use Rattle.wasm_readers_errors.specs.WasmReadersFeatures.declared.features.WasmFeatures.{WasmFeatures}
 use Rattle.wasm_spec_rules.specs.FeatureFlags.{features_of}
+use Rattle.wasm_spec_rules.specs.WasmSpec.Features.{Features, canonical}
 use Rattle.wasm_validator.specs.WasmSpecValidity.Modules.{up_to_bodies}
 use Rattle.wasm_validator.specs.WasmValidatorTypes.declared.shown.Types as shown
 use Rattle.wasm_validator.specs.WasmValidatorCore.declared.error.Error.{Error}
@@ -27,10 +28,10 @@ abbrev Told : Type 0 → Type 0
 Told A = Result (shown.Types A) (Error A)
 
 -- the ids for the types of all files are ids for those of the first
-room_for_first : (n : ℕ) (modules : List (List ℕ)) (held : TypesSoFar) → HaveIds true (features_of STANDARD) held modules → HaveIds true (features_of STANDARD) held (take n modules)
-room_for_first zero modules held h = tt
-room_for_first (suc n) [] held h = tt
-room_for_first (suc n) (bytes ∷ more) held h = λ m. let x = h m in (x.0, room_for_first n more (with_types true held m.types.types) x.1)
+room_for_first : (F : Features) (n : ℕ) (modules : List (List ℕ)) (held : TypesSoFar) → HaveIds (canonical F) F held modules → HaveIds (canonical F) F held (take n modules)
+room_for_first F zero modules held h = tt
+room_for_first F (suc n) [] held h = tt
+room_for_first F (suc n) (bytes ∷ more) held h = λ m. let x = h m in (x.0, room_for_first F n more (with_types (canonical F) held m.types.types) x.1)
 
 module _ {A : Type 0} where
   -- where no first file could not be read, each was
@@ -51,23 +52,24 @@ module _ {A : Type 0} where
   held_at (f ∷ fs) zero d l = λ i. Some (bytes_held f)
   held_at (f ∷ fs) (suc k) d l = held_at fs k d (omega arith)
 
-  room : (files : List (Input A)) (answers : List (Told A)) → HasRoomForAll files → HasRoom (features_of STANDARD) (map bytes_held files) answers []
-  room files answers r = room_for_first (length answers) (map bytes_held files) [] r
+module _ {A : Type 0} (features : WasmFeatures) where
+  room : (files : List (Input A)) (answers : List (Told A)) → HasRoomForAll features files → HasRoom (features_of features) (map bytes_held files) answers []
+  room files answers r = room_for_first (features_of features) (length answers) (map bytes_held files) [] r
 
   -- no answer is that memory was refused
-  none_lacks : (files : List (Input A)) (answers : List (Told A)) → Tells files answers → (k : ℕ) → slice_get answers k ≡ Some (Err OutOfMemory) → ⊥
+  none_lacks : (files : List (Input A)) (answers : List (Told A)) → Tells features files answers → (k : ℕ) → slice_get answers k ≡ Some (Err OutOfMemory) → ⊥
   none_lacks files answers tells k e =
       tells.with_memory (k, Err OutOfMemory, slice_get_within answers k (Err OutOfMemory) e, get_or_from_slice_get answers k (Err OutOfMemory) (Err OutOfMemory) e, tt)
 
   -- Where each file was read and has the answer that it is valid, it is.
   pub all_accepted : (files : List (Input A)) (answers : List (Told A))
-      → All IsRead files → Tells files answers → ((k : ℕ) → k < length files → IsOkAt answers k) → AreAllAccepted files
+      → All IsRead files → Tells features files answers → ((k : ℕ) → k < length files → IsOkAt answers k) → AreAllAccepted features files
   all_accepted files answers read tells oks k d l =
       let ok : IsOkAt answers k = oks k l in
       (read k d l, (tells.headline.accepted k (bytes_held (get_or files k d)) ok.0 (record { given = held_at files k d l; answered = ok.1 })).module_valid)
 
   -- where all files are valid modules, no answer on one is a refusal
-  none_refused : (files : List (Input A)) (answers : List (Told A)) → Tells files answers → HasRoomForAll files → AreAllAccepted files
+  none_refused : (files : List (Input A)) (answers : List (Told A)) → Tells features files answers → HasRoomForAll features files → AreAllAccepted features files
       → (k : ℕ) (r : Told A) (d : Input A) → k < length files → slice_get answers k ≡ Some r → IsOkAt answers k
   none_refused files answers tells fits accepted k (Ok t) d l e = (t, e)
   none_refused files answers tells fits accepted k (Err x) d l e =
@@ -75,7 +77,7 @@ module _ {A : Type 0} where
       absurd (none_lacks files answers tells k (e ∙ ap (λ (y : Error A). Some (Err y)) lacks))
 
   -- and the list of answers doesn't stop
-  none_stops : (files : List (Input A)) (answers : List (Told A)) → Tells files answers → HasRoomForAll files → AreAllAccepted files
+  none_stops : (files : List (Input A)) (answers : List (Told A)) → Tells features files answers → HasRoomForAll features files → AreAllAccepted features files
       → (k : ℕ) (d : Input A) → k < length files → length answers ≤ k → ⊥
   none_stops files answers tells fits accepted k d l past =
       let all : length (map bytes_held files) ≡ length files = length-map files bytes_held in
@@ -93,7 +95,7 @@ module _ {A : Type 0} where
       ]
 
   -- Where all files are valid modules and there is room for their types, each has the answer that it is.
-  pub all_answered : (files : List (Input A)) (answers : List (Told A)) → Tells files answers → HasRoomForAll files → AreAllAccepted files
+  pub all_answered : (files : List (Input A)) (answers : List (Told A)) → Tells features files answers → HasRoomForAll features files → AreAllAccepted features files
       → (k : ℕ) → k < length files → IsOkAt answers k
   all_answered files answers tells fits accepted k l =
       elim (slice_get_cases files k).1 [

@@ -1,9 +1,10 @@
 -- What the program's answer says of its files.
-use Rattle.std.specs.Prelude.{ℕ, ◌≡◌, Bool, true, not, List, [], map, None, IsSome}
+use Rattle.std.specs.Prelude.{ℕ, ◌≡◌, Bool, not, List, [], map, None, IsSome}
 use Rattle.std.specs.Option.{is_some, unwrap_or, option_map}
 use Rattle.std.specs.List.{All}
-use Rattle.wasm_readers_errors.specs.WasmReadersFeatures.declared.features.TheConstants.WasmFeatures.{STANDARD}
+use Rattle.wasm_readers_errors.specs.WasmReadersFeatures.declared.features.WasmFeatures.{WasmFeatures}
 use Rattle.wasm_spec_rules.specs.FeatureFlags.{features_of}
+use Rattle.wasm_spec_rules.specs.WasmSpec.Features.{canonical}
 use Rattle.wasm_validator.specs.Verdict.{AreModule}
 use Rattle.wasm_validator.specs.Headline.{HaveIds}
 use Rattle.wasm_validate_files.specs.declared.files.Input.{Input}
@@ -24,14 +25,14 @@ module _ {A : Type 0} where
   abbrev pub bytes_held : Input A → List ℕ
   bytes_held f = unwrap_or (option_map (λ v. v.items) f.bytes) []
 
-  -- the file was read, and with the default features its bytes are a valid module
-  abbrev pub IsAccepted : Input A → Type 0
-  IsAccepted f = IsRead f × AreModule STANDARD (bytes_held f)
+  -- the file was read, and with these features its bytes are a valid module
+  abbrev pub IsAccepted : WasmFeatures → Input A → Type 0
+  IsAccepted features f = IsRead f × AreModule features (bytes_held f)
 
   -- all files are valid modules
-  abbrev pub AreAllAccepted : List (Input A) → Type 0
-  AreAllAccepted files = All IsAccepted files
+  abbrev pub AreAllAccepted : WasmFeatures → List (Input A) → Type 0
+  AreAllAccepted features files = All (IsAccepted features) files
 
-  -- There are ids for the types of all files, one after another: for each that isn't that of a file before it.
-  abbrev pub HasRoomForAll : List (Input A) → Type 0
-  HasRoomForAll files = HaveIds true (features_of STANDARD) [] (map bytes_held files)
+  -- There are ids for the types of all files, one after another: where equal types are one, for each that isn't that of a file before it.
+  abbrev pub HasRoomForAll : WasmFeatures → List (Input A) → Type 0
+  HasRoomForAll features files = HaveIds (canonical (features_of features)) (features_of features) [] (map bytes_held files)

@@ -1,3 +1,4 @@
+pub use Rattle.wasm_validator.specs.WasmValidatorTypes as WasmValidatorTypes
 pub use Rattle.wasm_validator.specs.WasmValidatorCore as WasmValidatorCore
 pub mod Files
 pub mod Answers

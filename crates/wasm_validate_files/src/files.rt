@@ -1,12 +1,12 @@
 ghost use Rattle.std.specs.Prelude.{◌≡◌, ◌≤◌, [], map, Any, find, IfOk, IsTrue, ◌↔◌, true, false};
 ghost use Rattle.std.specs.Option.{option_map};
 ghost use Rattle.wasm_validate_files.specs.Files.{AreAllAccepted, HasRoomForAll, IsUnread, bytes_held, is_unread};
-ghost use Rattle.wasm_validate_files.specs.Answers.{Tells, LacksMemory};
+ghost use Rattle.wasm_validate_files.specs.Answers.{AreAnswers, Tells, LacksMemory};
 
 use crate::lines::{Answer, print_lines};
 use std::alloc::{AllocError, Allocator, Global};
 use std::io::{self, Write};
-use wasm_validator::{Validator, ValidatorId, validate_list};
+use wasm_validator::{Validator, ValidatorId, WasmFeatures, validate_list};
 
 /// The exit status where all files are valid modules.
 pub const STATUS_OK: u8 = 0;
@@ -33,8 +33,9 @@ pub fn run<A: Allocator + Copy, W: Write, E: Write>(
     err: &mut E,
 ) -> u8
     ensures known { result ≤ 2 }
-    ensures accepted { result ≡ STATUS_OK → AreAllAccepted files.now }
-    ensures refused { result ≡ STATUS_REFUSED → HasRoomForAll files.now → AreAllAccepted files.now → ⊥ }
+    ensures accepted { result ≡ STATUS_OK → AreAllAccepted WasmFeatures.STANDARD files.now }
+    ensures refused { result ≡ STATUS_REFUSED → HasRoomForAll WasmFeatures.STANDARD files.now
+        → AreAllAccepted WasmFeatures.STANDARD files.now → ⊥ }
     ensures quiet { (result ≡ STATUS_TROUBLE → ⊥) → err.new ≡ err.old }
     ensures no_files { files.now ≡ [] → (result ≡ STATUS_TROUBLE) × (out.new ≡ out.old) }
     ensures unread { Any IsUnread files.now → (result ≡ STATUS_TROUBLE) × (out.new ≡ out.old) }
@@ -48,7 +49,7 @@ pub fn run<A: Allocator + Copy, W: Write, E: Write>(
         let _printed = writeln!(err, "wasm-validate: cannot read {name}");
         return STATUS_TROUBLE;
     }
-    match answer_files(alloc, files) {
+    match answer_with_memory(alloc, files) {
         Ok(answers) => status_of(print_lines(files, answers.as_slice(), out)),
         Err(_) => print_error(err, "out of memory"),
     }
@@ -69,24 +70,39 @@ fn first_unread<A: Allocator>(files: &[Input<A>]) -> Option<&Input<A>>
     files.iter().find(|file| file.bytes.is_none())
 }
 
-/// What one new validator answers on files one after another. Only memory can be refused.
-fn answer_files<A: Allocator + Copy>(
+/// What one new validator with these features answers on files one after another, with no bytes for
+/// one that could not be read.
+///
+/// # Errors
+///
+/// Fails where memory for the answers is refused.
+pub fn answer_files<A: Allocator + Copy>(
+    alloc: A,
+    files: &[Input<A>],
+    features: WasmFeatures,
+) -> Result<Vec<Answer<A>, A>, AllocError>
+    ensures { IfOk result (λ answers. AreAnswers features files.now answers.items) }
+{
+    let modules = lend_bytes(alloc, files)?;
+    let mut validator = Validator::new_with_features(alloc, features, ValidatorId::from_number(0));
+    match validate_list(&mut validator, modules.as_slice()) {
+        Ok(answers) => Ok(answers),
+        Err(_) => Err(AllocError),
+    }
+}
+
+/// The same with the default features. Where memory was refused for one of them, nothing is answered.
+fn answer_with_memory<A: Allocator + Copy>(
     alloc: A,
     files: &[Input<A>],
 ) -> Result<Vec<Answer<A>, A>, AllocError>
-    ensures { IfOk result (λ answers. Tells files.now answers.items) }
+    ensures { IfOk result (λ answers. Tells WasmFeatures.STANDARD files.now answers.items) }
 {
-    let modules = lend_bytes(alloc, files)?;
-    let mut validator = Validator::new(alloc, ValidatorId::from_number(0));
-    match validate_list(&mut validator, modules.as_slice()) {
-        Ok(answers) => {
-            if lacks_memory(answers.as_slice()) {
-                return Err(AllocError);
-            }
-            Ok(answers)
-        }
-        Err(_) => Err(AllocError),
+    let answers = answer_files(alloc, files, WasmFeatures::STANDARD)?;
+    if lacks_memory(answers.as_slice()) {
+        return Err(AllocError);
     }
+    Ok(answers)
 }
 
 /// The bytes of files, and none of one that could not be read.

@@ -10,14 +10,15 @@ mod lines;
 mod words;
 
 use files::print_error;
-pub use files::{Input, STATUS_OK, STATUS_REFUSED, STATUS_TROUBLE, run};
+pub use files::{Input, STATUS_OK, STATUS_REFUSED, STATUS_TROUBLE, answer_files, run};
+pub use lines::{Answer, count_exports, count_imports};
 use std::alloc::AllocError;
 use std::env::Env;
 use std::fs;
 use std::io::{self, Write};
 use std::rt::Files;
 pub use wasm_validator as validator;
-use words::{Word, read_words};
+pub use words::{Word, read_words};
 
 /// Reads the files that the arguments name, and validates them, as [`run`] says. The answer is the
 /// exit status. What files hold is beyond a contract, so only how the call ends is said here.

@@ -84,7 +84,8 @@ fn print_refused<A: Allocator, W: Write>(
     writeln!(out, "{name}: refused at {offset}: {error}")
 }
 
-fn count_imports<A: Allocator>(imports: CoreImports<'_, A>) -> u64 {
+/// How many imports these are.
+pub fn count_imports<A: Allocator>(imports: CoreImports<'_, A>) -> u64 {
     let mut count = 0u64;
     for _import in imports {
         count = count.saturating_add(1);
@@ -92,7 +93,8 @@ fn count_imports<A: Allocator>(imports: CoreImports<'_, A>) -> u64 {
     count
 }
 
-fn count_exports<A: Allocator>(exports: CoreExports<'_, A>) -> u64 {
+/// How many exports these are.
+pub fn count_exports<A: Allocator>(exports: CoreExports<'_, A>) -> u64 {
     let mut count = 0u64;
     for _export in exports {
         count = count.saturating_add(1);

@@ -1,0 +1,68 @@
+//! `wasm-check [OPTIONS] FILE..` says of each file whether it is a valid WebAssembly module.
+#![tactic(auto)]
+
+mod words;
+
+use anyhow::{Result, bail};
+use clap::ArgMatches;
+use std::process::ExitCode;
+use wasm_check_files::{Form, STATUS_TROUBLE, Settings, check_files, select_features};
+use words::{command, gather_words};
+
+fn main(rt: HostRuntime) -> ExitCode {
+    match run(&rt) {
+        Ok(status) => ExitCode::from(status),
+        Err(error) => {
+            let _printed = eprintln!(rt; "wasm-check: {error}");
+            ExitCode::from(STATUS_TROUBLE)
+        }
+    }
+}
+
+/// Does what the words on the command line ask for. The answer is the exit status.
+fn run(rt: &HostRuntime) -> Result<u8> {
+    let words = gather_words(rt)?;
+    match command(rt.alloc())?.try_get_matches_from(words.as_slice()) {
+        Ok(matches) => check(rt, &matches),
+        Err(error) => show(rt, &error),
+    }
+}
+
+/// Prints what is wrong with the words, or the help or the version that they ask for.
+fn show(rt: &HostRuntime, error: &clap::Error) -> Result<u8> {
+    error.print(rt)?;
+    if error.use_stderr() {
+        Ok(STATUS_TROUBLE)
+    } else {
+        Ok(0)
+    }
+}
+
+fn check(rt: &HostRuntime, matches: &ArgMatches<'_>) -> Result<u8> {
+    let names = matches.get_strs("FILE").unwrap_or(&[]);
+    if names.iter().filter(|name| **name == "-").count() > 1 {
+        bail!("standard input can be read only once");
+    }
+    let settings = settings_of(matches)?;
+    Ok(check_files(rt, names, &settings, &mut rt.stdout(), &mut rt.stderr()))
+}
+
+fn settings_of(matches: &ArgMatches<'_>) -> Result<Settings> {
+    let features = match select_features(matches.get_strs("features").unwrap_or(&[])) {
+        Ok(features) => features,
+        Err(word) => bail!("--features: `{word}` is no feature with + or - before it"),
+    };
+    let form = if matches.get_flag("quiet") {
+        Form::Quiet
+    } else if matches.get_flag("json") {
+        Form::Json
+    } else {
+        Form::Text
+    };
+    Ok(Settings {
+        features,
+        is_shared: matches.get_flag("shared"),
+        form,
+        shows_items: matches.get_flag("types"),
+    })
+}

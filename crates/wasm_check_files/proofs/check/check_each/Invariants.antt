@@ -1,0 +1,12 @@
+use Rattle.std.proofs.Common.{◌≡◌}
+use Rattle.std.specs.Prelude.{⊤}
+use Rattle.wasm_check_files.specs.Checked.{WereChecked}
+use Rattle.wasm_check_files.specs.declared.settings.Form.TheVariants.{Quiet}
+use Rattle.wasm_check_files.proofs.check.check_each.Given as goal
+
+abbrev pub invariant-names : goal.invariant-names
+invariant-names g l = record {
+  told : WereChecked l.settings.features (λ _. ⊤) l.name-index l.status;
+  silent : (l.status ≡ 2 → ⊥) → l.err ≡ l.initial.err;
+  quiet : l.settings.form ≡ Quiet → l.out ≡ l.initial.out;
+}

@@ -1,0 +1,7 @@
+use Rattle.std.proofs.Common.{length}
+use Rattle.wasm_check_files.specs.Checked.{room_for}
+use Rattle.wasm_check_files.proofs.Told.{troubled}
+use Rattle.wasm_check_files.proofs.check.check_files.Goals as goal
+
+pub returns-in-Err-clause-told : goal.returns-in-Err-clause-told
+returns-in-Err-clause-told g c = troubled c.args.settings.now.features (room_for c.args.settings.now.features c.args.settings.now.is_shared) (length c.args.names.now)

@@ -1,0 +1,6 @@
+use Rattle.std.proofs.Common.{inl, inr, refl, arith, subst}
+use Rattle.wasm_check_files.proofs.Told.{more_worst}
+use Rattle.wasm_check_files.proofs.check.worst_status.Goals as goal
+
+pub places-init : goal.places-init
+places-init c = record { known = omega arith; worst = record { above = λ k l. absurd (omega (arith, l)); some = inl refl } }

@@ -1,0 +1,4 @@
+pub mod Selecting
+pub mod Statuses
+pub mod Checked
+pub mod Counts

@@ -1,0 +1,260 @@
+//! Files are checked, and the exit status says what was found.
+
+ghost use Rattle.std.specs.Prelude.{◌≡◌, ◌≤◌, ◌⊎◌, IfOk, length, Some, ⊤};
+ghost use Rattle.std.specs.List.{All};
+ghost use Rattle.wasm_validate_files.specs.Files.{IsRead, HasRoomForAll};
+ghost use Rattle.wasm_check_files.specs.Checked.{StatusTells, WereChecked, room_for};
+ghost use Rattle.wasm_check_files.specs.Statuses.{IsWorst, status_at, status_of, status_of_error};
+
+use crate::json::write_unread;
+use crate::lines::write_report;
+use crate::read::{read_file, shown_name};
+use crate::settings::{Form, Settings};
+use std::alloc::{AllocError, Global};
+use std::io::{self, Write};
+use std::rt::Files;
+use std::slice;
+use wasm_validate_files::validator::Error;
+use wasm_validate_files::{Answer, Input, STATUS_OK, STATUS_REFUSED, STATUS_TROUBLE, answer_files};
+
+/// Checks the files with these names, in order, and prints of each what is asked for. A file that
+/// can't be read is told on `err` with the reason. The answer is the exit status.
+pub fn check_files<R: Files + io::Input + AllocGlobal, W: Write, E: Write>(
+    rt: &R,
+    names: &[&str],
+    settings: &Settings,
+    out: &mut W,
+    err: &mut E,
+) -> u8
+    ensures told { WereChecked settings.now.features
+        (room_for settings.now.features settings.now.is_shared) (length names.now) result }
+    ensures silent { (result ≡ STATUS_TROUBLE → ⊥) → err.new ≡ err.old }
+    ensures quiet { settings.now.form ≡ Form.Quiet → out.new ≡ out.old }
+{
+    match check_all(rt, names, settings, out, err) {
+        Ok(status) => status,
+        Err(error) => {
+            let _printed = writeln!(err, "wasm-check: {error}");
+            STATUS_TROUBLE
+        }
+    }
+}
+
+/// Checks files, by one validator or each by its own, as is asked for.
+fn check_all<R: Files + io::Input + AllocGlobal, W: Write, E: Write>(
+    rt: &R,
+    names: &[&str],
+    settings: &Settings,
+    out: &mut W,
+    err: &mut E,
+) -> io::Result<u8>
+    ensures told { IfOk result (WereChecked settings.now.features
+        (room_for settings.now.features settings.now.is_shared) (length names.now)) }
+    ensures silent { IfOk result (λ status. (status ≡ STATUS_TROUBLE → ⊥) → err.new ≡ err.old) }
+    ensures quiet { settings.now.form ≡ Form.Quiet → out.new ≡ out.old }
+{
+    if settings.is_shared {
+        check_group(rt, names, settings, out, err)
+    } else {
+        check_each(rt, names, settings, out, err)
+    }
+}
+
+/// Checks files, each by a validator of its own.
+fn check_each<R: Files + io::Input + AllocGlobal, W: Write, E: Write>(
+    rt: &R,
+    names: &[&str],
+    settings: &Settings,
+    out: &mut W,
+    err: &mut E,
+) -> io::Result<u8>
+    ensures told { IfOk result (WereChecked settings.now.features (λ _. ⊤) (length names.now)) }
+    ensures silent { IfOk result (λ status. (status ≡ STATUS_TROUBLE → ⊥) → err.new ≡ err.old) }
+    ensures quiet { settings.now.form ≡ Form.Quiet → out.new ≡ out.old }
+{
+    let mut status = STATUS_OK;
+    'names: for name in names {
+        let found = check_group(rt, slice::from_ref(name), settings, out, err)?;
+        status = worse(status, found);
+    }
+    Ok(status)
+}
+
+/// Checks files by one validator.
+fn check_group<R: Files + io::Input + AllocGlobal, W: Write, E: Write>(
+    rt: &R,
+    names: &[&str],
+    settings: &Settings,
+    out: &mut W,
+    err: &mut E,
+) -> io::Result<u8>
+    ensures told { IfOk result (WereChecked settings.now.features
+        (HasRoomForAll settings.now.features) (length names.now)) }
+    ensures silent { IfOk result (λ status. (status ≡ STATUS_TROUBLE → ⊥) → err.new ≡ err.old) }
+    ensures quiet { settings.now.form ≡ Form.Quiet → out.new ≡ out.old }
+{
+    let mut files = Vec::with_capacity(rt.alloc(), names.len())?;
+    'names: for name in names {
+        match read_file(rt, name) {
+            Ok(bytes) => files.push(input_of(rt.alloc(), name, bytes)?)?,
+            Err(error) => tell_unread(rt.alloc(), name, &error, settings, out, err)?,
+        }
+    }
+    let status = check_inputs(rt.alloc(), files.as_slice(), settings, out)?;
+    if files.len() < names.len() {
+        return Ok(STATUS_TROUBLE);
+    }
+    Ok(status)
+}
+
+/// A file that was read.
+fn input_of(alloc: Global, name: &str, bytes: Vec<u8>) -> Result<Input, AllocError>
+    ensures { IfOk result IsRead }
+{
+    Ok(Input {
+        name: String::from_str(alloc, name)?,
+        bytes: Some(bytes),
+    })
+}
+
+/// Says why a file could not be read.
+fn tell_unread<W: Write, E: Write>(
+    alloc: Global,
+    name: &str,
+    error: &io::Error,
+    settings: &Settings,
+    out: &mut W,
+    err: &mut E,
+) -> io::Result<()>
+    ensures quiet { settings.now.form ≡ Form.Quiet → out.new ≡ out.old }
+{
+    let name = shown_name(name);
+    let _printed = writeln!(err, "wasm-check: {name}: {error}");
+    match settings.form {
+        Form::Json => print_unread(alloc, name, error, out),
+        Form::Text | Form::Quiet => Ok(()),
+    }
+}
+
+/// Prints why a file could not be read.
+fn print_unread<W: Write>(
+    alloc: Global,
+    name: &str,
+    error: &io::Error,
+    out: &mut W,
+) -> io::Result<()> {
+    let mut text = String::new(alloc);
+    write_unread(&mut text, alloc, name, error)?;
+    out.write_all(text.as_bytes())
+}
+
+/// Checks files that were read, by one validator, and prints of each what is asked for. The answer is
+/// the exit status.
+pub fn check_inputs<W: Write>(
+    alloc: Global,
+    files: &[Input],
+    settings: &Settings,
+    out: &mut W,
+) -> io::Result<u8>
+    requires read { All IsRead files.now }
+    ensures told { IfOk result (StatusTells settings.now.features
+        (HasRoomForAll settings.now.features) files.now) }
+    ensures quiet { settings.now.form ≡ Form.Quiet → out.new ≡ out.old }
+{
+    let answers = answer_files(alloc, files, settings.features)?;
+    print_wanted(alloc, files, answers.as_slice(), settings, out)?;
+    Ok(worst_status(answers.as_slice(), files.len()))
+}
+
+/// Prints of each file what is asked for, unless nothing is.
+fn print_wanted<W: Write>(
+    alloc: Global,
+    files: &[Input],
+    answers: &[Answer<Global>],
+    settings: &Settings,
+    out: &mut W,
+) -> io::Result<()>
+    ensures quiet { settings.now.form ≡ Form.Quiet → out.new ≡ out.old }
+{
+    match settings.form {
+        Form::Quiet => Ok(()),
+        Form::Text | Form::Json => print_reports(alloc, files, answers, settings, out),
+    }
+}
+
+/// Prints of each file what is asked for.
+fn print_reports<W: Write>(
+    alloc: Global,
+    files: &[Input],
+    answers: &[Answer<Global>],
+    settings: &Settings,
+    out: &mut W,
+) -> io::Result<()> {
+    'files: for (place, file) in files.iter().enumerate() {
+        let mut text = String::new(alloc);
+        write_report(
+            &mut text,
+            alloc,
+            file.name.as_str(),
+            answers.get(place),
+            settings,
+        )?;
+        out.write_all(text.as_bytes())?;
+    }
+    Ok(())
+}
+
+/// The larger of two statuses.
+fn worse(one: u8, other: u8) -> u8
+    ensures one { one ≤ result }
+    ensures other { other ≤ result }
+    ensures some { (result ≡ one) ⊎ (result ≡ other) }
+{
+    if one < other { other } else { one }
+}
+
+/// The largest status of so many files.
+fn worst_status(answers: &[Answer<Global>], count: usize) -> u8
+    ensures known { result ≤ STATUS_TROUBLE }
+    ensures worst { IsWorst answers.now count result }
+{
+    let mut worst = STATUS_OK;
+    'places: for place in 0..count {
+        worst = worse(worst, status_at(answers, place));
+    }
+    worst
+}
+
+/// The status of the file at this place. Those behind the last answer were not checked.
+fn status_at(answers: &[Answer<Global>], place: usize) -> u8
+    ensures { result ≡ status_at answers.now place }
+{
+    match answers.get(place) {
+        Some(answer) => status_of(answer),
+        None => STATUS_REFUSED,
+    }
+}
+
+/// The status of a file with this answer.
+fn status_of(answer: &Answer<Global>) -> u8
+    ensures { result ≡ status_of (Some answer.now) }
+{
+    match answer {
+        Ok(_) => STATUS_OK,
+        Err(error) => status_of_error(error),
+    }
+}
+
+fn status_of_error(error: &Error<Global>) -> u8
+    ensures { result ≡ status_of_error error.now }
+{
+    match error {
+        Error::Refused(_) => STATUS_REFUSED,
+        Error::DuplicateExport { name: _, offset: _ } => STATUS_REFUSED,
+        Error::InFunction {
+            index: _,
+            refusal: _,
+        } => STATUS_REFUSED,
+        Error::OutOfMemory => STATUS_TROUBLE,
+    }
+}

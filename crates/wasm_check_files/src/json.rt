@@ -1,0 +1,167 @@
+//! JSON objects, one on each line.
+
+use crate::features::WasmFeatures;
+use crate::items::{Item, Kind, SPACES, count_in, plural, word_of};
+use bitflags::Flags;
+use serde_json::{Map, Value, put};
+use std::alloc::{AllocError, Global};
+use std::io;
+use wasm_validate_files::validator::{Error, TypesRef};
+use wasm_validate_files::{Answer, count_exports, count_imports};
+
+/// The members of an object that is made.
+type Members = Map<String, Value>;
+
+/// Writes the object of a file that could be read.
+pub fn write_verdict(
+    text: &mut String,
+    alloc: Global,
+    name: &str,
+    answer: Option<&Answer<Global>>,
+) -> Result<(), AllocError> {
+    let mut members = Map::new(alloc);
+    put_text(&mut members, alloc, "file", name)?;
+    match answer {
+        Some(Ok(types)) => put_valid(&mut members, alloc, &types.as_ref())?,
+        Some(Err(error)) => put_error(&mut members, alloc, error)?,
+        None => put_text(&mut members, alloc, "verdict", "not checked")?,
+    }
+    write_line(text, alloc, members)
+}
+
+/// Writes the object of a file that could not be read.
+pub fn write_unread(
+    text: &mut String,
+    alloc: Global,
+    name: &str,
+    error: &io::Error,
+) -> Result<(), AllocError> {
+    let mut members = Map::new(alloc);
+    put_text(&mut members, alloc, "file", name)?;
+    put_text(&mut members, alloc, "verdict", "unreadable")?;
+    put_message(&mut members, alloc, error)?;
+    write_line(text, alloc, members)
+}
+
+/// Writes the object of an item of a module.
+pub fn write_item(
+    text: &mut String,
+    alloc: Global,
+    name: &str,
+    item: &Item<'_>,
+) -> Result<(), AllocError> {
+    let mut members = Map::new(alloc);
+    put_text(&mut members, alloc, "file", name)?;
+    put_item(&mut members, alloc, item)?;
+    write_line(text, alloc, members)
+}
+
+fn put_item(members: &mut Members, alloc: Global, item: &Item<'_>) -> Result<(), AllocError> {
+    put_text(members, alloc, "item", word_of(item.kind))?;
+    put_number(members, alloc, "index", u64::from(item.index))?;
+    if let Some(id) = item.id {
+        put_number(members, alloc, "id", id)?;
+    }
+    put_names(members, alloc, item)?;
+    put_text(members, alloc, "type", item.ty)
+}
+
+fn put_names(members: &mut Members, alloc: Global, item: &Item<'_>) -> Result<(), AllocError> {
+    match item.kind {
+        Kind::Import => {
+            put_text(members, alloc, "module", item.module)?;
+            put_text(members, alloc, "name", item.name)
+        }
+        Kind::Export => put_text(members, alloc, "name", item.name),
+        Kind::Of(_) => Ok(()),
+    }
+}
+
+fn put_valid(
+    members: &mut Members,
+    alloc: Global,
+    shown: &TypesRef<'_, Global>,
+) -> Result<(), AllocError> {
+    put_text(members, alloc, "verdict", "valid")?;
+    let mut counts = Map::new(alloc);
+    put_counts(&mut counts, alloc, shown)?;
+    put(members, alloc, "counts", Value::Object(counts))
+}
+
+fn put_counts(
+    counts: &mut Members,
+    alloc: Global,
+    shown: &TypesRef<'_, Global>,
+) -> Result<(), AllocError> {
+    'spaces: for space in SPACES {
+        let count = count_in(shown, space);
+        put_number(counts, alloc, plural(space), u64::from(count))?;
+    }
+    if let Some(imports) = shown.core_imports() {
+        put_number(counts, alloc, "imports", count_imports(imports))?;
+    }
+    if let Some(exports) = shown.core_exports() {
+        put_number(counts, alloc, "exports", count_exports(exports))?;
+    }
+    Ok(())
+}
+
+fn put_error(
+    members: &mut Members,
+    alloc: Global,
+    error: &Error<Global>,
+) -> Result<(), AllocError> {
+    if error.is_out_of_memory() {
+        return put_text(members, alloc, "verdict", "out of memory");
+    }
+    put_text(members, alloc, "verdict", "invalid")?;
+    put_number(members, alloc, "offset", error.offset())?;
+    if let Some(function) = error.function() {
+        put_number(members, alloc, "function", u64::from(function))?;
+    }
+    put_message(members, alloc, error)?;
+    if let Some(missing) = error.missing_features() {
+        let names = names_of(alloc, missing)?;
+        put(members, alloc, "missing_features", Value::Array(names))?;
+    }
+    Ok(())
+}
+
+/// The names of features.
+fn names_of(alloc: Global, features: WasmFeatures) -> Result<Vec<Value>, AllocError> {
+    let mut names = Vec::new(alloc);
+    'names: for (name, _) in features.iter_names() {
+        names.push(Value::String(name.to_ascii_lowercase(alloc)?))?;
+    }
+    Ok(names)
+}
+
+fn put_message<D: std::fmt::Display>(
+    members: &mut Members,
+    alloc: Global,
+    error: &D,
+) -> Result<(), AllocError> {
+    let message = format!(in alloc; "{error}")?;
+    put(members, alloc, "message", Value::String(message))
+}
+
+fn put_text(members: &mut Members, alloc: Global, key: &str, text: &str) -> Result<(), AllocError> {
+    put(members, alloc, key, Value::try_from_str(alloc, text)?)
+}
+
+fn put_number(
+    members: &mut Members,
+    alloc: Global,
+    key: &str,
+    number: u64,
+) -> Result<(), AllocError> {
+    put(members, alloc, key, Value::from(number))
+}
+
+/// Writes an object and the end of the line.
+fn write_line(text: &mut String, alloc: Global, members: Members) -> Result<(), AllocError> {
+    let line = Value::Object(members).to_string(alloc)?;
+    text.push_str(line.as_str())?;
+    text.push('\n')?;
+    Ok(())
+}

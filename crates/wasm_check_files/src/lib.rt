@@ -1,0 +1,17 @@
+//! What `wasm-check` says of files: of each whether it is a valid WebAssembly module, on request with
+//! its types, imports, exports and index spaces, as text or as JSON.
+#![tactic(auto)]
+
+mod check;
+mod features;
+mod items;
+mod json;
+mod lines;
+mod read;
+mod settings;
+
+pub use check::{check_files, check_inputs};
+pub use features::{Flags, WasmFeatures, select_features};
+pub use read::{NO_TEXT, read_known_size};
+pub use settings::{Form, Settings};
+pub use wasm_validate_files::{Input, STATUS_OK, STATUS_REFUSED, STATUS_TROUBLE, Word, read_words};
