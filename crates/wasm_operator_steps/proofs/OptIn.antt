@@ -1,15 +1,20 @@
 -- Operators that need a feature take no step without it.
-use Rattle.std.proofs.Common.{◌≡◌, refl, ℕ, Bool, true, false, List, ◌∷◌}
+use Rattle.std.proofs.Common.{◌≡◌, refl, ℕ, Bool, true, false, List, [], ◌∷◌}
 use Rattle.std.specs.Prelude.{Option, Some, None}
 use Rattle.wasm_spec_rules.specs.WasmSpec.MatchingTests.{World}
 use Rattle.wasm_spec_rules.specs.Attempts.{◌>>=◌, guard}
-use Rattle.wasm_operators.specs.Instructions.{Instruction}
+use Rattle.wasm_operators.specs.Instructions.{Instruction, vector, atomic}
 use Rattle.wasm_operator_steps.specs.Bodies.{Surroundings}
 use Rattle.wasm_operator_steps.specs.Machine.{State}
-use Rattle.wasm_operator_steps.specs.Actions.{Needed, Check, has, Action, need, simd, threads, vector_operators, atomic_operators}
+use Rattle.wasm_operators.specs.WasmOperatorsAtomic.WasmOperatorsVector.Forms as vectors
+use Rattle.wasm_operators.specs.WasmOperatorsAtomic.Forms as atomics
+use Rattle.wasm_operators.specs.WasmOperatorsAtomic.WasmOperatorsVector.declared.forms.Form.{Form}
+use Rattle.wasm_operators.specs.declared.immediates.ImmediateValues.{ImmediateValues}
+use Rattle.wasm_operator_steps.specs.Forms.{types_taken, types_given, memarg_of}
+use Rattle.wasm_operator_steps.specs.Actions.{Needed, Check, has, Action, need, take, give, these, joined, simd, threads, vector_operators, atomic_operators}
 use Rattle.wasm_operator_steps.specs.Meanings.{is_on, holds, run}
-use Rattle.wasm_operator_steps.specs.Shapes.{shape_of}
-use Rattle.wasm_operator_steps.specs.Steps.{actions_of, is_open, step_in}
+use Rattle.wasm_operator_steps.specs.Shapes.{shape_of, form_checks, address_of}
+use Rattle.wasm_operator_steps.specs.Steps.{checked, actions_of, is_open, step_in}
 use Rattle.wasm_operator_steps.specs.Laws.{OperatorsAreOptIn}
 
 nowhere : {X Y : Type 0} (o : Option X) (k : X → Option Y) → ((x : X) → k x ≡ None) → (o >>= k) ≡ None
@@ -27,10 +32,14 @@ module _ {R : Type 0} (W : World R) (B : Surroundings R) where
   step_by : (op : Instruction ℕ) → ((s : State R) → run W B (actions_of (shape_of op)) s ≡ None) → (s : State R) → step_in W B op s ≡ None
   step_by op h s = nowhere (guard (is_open s) s) (run W B (actions_of (shape_of op))) h
 
+-- what an operator of a form does behind the checks of its features
+abbrev behind : Form → ImmediateValues → List Action
+behind f values = checked (form_checks f values) (take (joined (address_of (memarg_of values)) (these (types_taken f))) ∷ give (these (types_given f)) ∷ [])
+
 pub operators_are_opt_in : {R : Type 0} → OperatorsAreOptIn R
 operators_are_opt_in W B = record {
-  needs_vector_operators = λ e op values. step_by W B _ (first W B vector_operators _ e);
-  needs_simd = λ e op values. step_by W B _ (second W B (has vector_operators) simd _ e);
-  needs_atomic_operators = λ e op values. step_by W B _ (first W B atomic_operators _ e);
-  needs_threads = λ e op values. step_by W B _ (second W B (has atomic_operators) threads _ e);
+  needs_vector_operators = λ e op values. step_by W B (vector op values) (first W B vector_operators (need (has simd) ∷ behind (vectors.form_of op) values) e);
+  needs_simd = λ e op values. step_by W B (vector op values) (second W B (has vector_operators) simd (behind (vectors.form_of op) values) e);
+  needs_atomic_operators = λ e op values. step_by W B (atomic op values) (first W B atomic_operators (need (has threads) ∷ behind (atomics.form_of op) values) e);
+  needs_threads = λ e op values. step_by W B (atomic op values) (second W B (has atomic_operators) threads (behind (atomics.form_of op) values) e);
 }
