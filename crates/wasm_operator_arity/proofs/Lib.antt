@@ -1,3 +1,3 @@
 pub mod Frames
 pub mod LengthsCounted
-pub mod Forms
+pub mod FormCounts

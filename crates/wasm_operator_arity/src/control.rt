@@ -2,7 +2,7 @@
 
 ghost use Rattle.std.specs.Prelude.{◌≡◌, ◌==◌, length, Some, IsTrue, ◌↔◌};
 ghost use Rattle.wasm_operator_steps.specs.WasmSpecRules.WasmSpec.BinaryTypes.{val_at};
-ghost use Rattle.wasm_readers.specs.Written.{written};
+ghost use Rattle.wasm_operators.specs.WasmOperatorsPlain.WasmReaders.Written.{written};
 ghost use Rattle.wasm_operators.specs.Maps.{map_block, map_control, map_parametric};
 ghost use Rattle.wasm_operators.specs.SeenControl.{block_of, control_of, parametric_of};
 ghost use Rattle.wasm_operators.specs.SeenLists.{listed};

@@ -16,7 +16,7 @@ use wasm_operators::Operator;
 use wasm_operators::operators_atomic::{atomic_form, vector_form};
 
 /// How many operands an operator takes and gives, whatever the counts.
-#[tactic(auto, using(crate::proofs::Forms::counted))]
+#[tactic(auto, using(crate::proofs::FormCounts::counted))]
 fn counts_of<M: ModuleArity>(op: &Operator, resources: &M) -> Option<(u128, u128)>
     ensures { result ≡ arity (M.asked resources.now) (operator_shape op.now) }
 {
