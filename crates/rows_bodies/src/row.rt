@@ -98,7 +98,16 @@ pub fn judge<'a>(
         Some(unwanted) => (false, unwanted),
         None => (true, row.wanted),
     };
-    let answer = validate_in_sample(alloc, sample, features, type_index, bytes.as_slice())?;
+    let Some(module) = OwnModule::new(sample.parts()) else {
+        return Err(Trouble::Malformed("a sample with too many types"));
+    };
+    let answer = validate(
+        alloc,
+        &module,
+        features,
+        (VALIDATED, type_index),
+        bytes.as_slice(),
+    );
     let mut given = String::new(alloc);
     push_answer(&mut given, &answer, named)?;
     if (given.as_str() == named) == is_wanted {
@@ -124,20 +133,6 @@ pub fn parse_bytes(alloc: Global, text: &str) -> Result<Vec<u8>, Trouble> {
 
 /// The index of the function whose body a row has: it stands behind those of the sample.
 const VALIDATED: u32 = 8;
-
-/// What is said of the body of a function of this type.
-fn validate_in_sample(
-    alloc: Global,
-    sample: &Sample,
-    features: WasmFeatures,
-    type_index: u32,
-    bytes: &[u8],
-) -> Result<Result<(), Error>, Trouble> {
-    match OwnModule::new(sample.parts()) {
-        Some(module) => Ok(validate(alloc, &module, features, (VALIDATED, type_index), bytes)),
-        None => Err(Trouble::Malformed("a sample with too many types")),
-    }
-}
 
 /// What is said of the body of the function with the first index, whose type has the second.
 pub fn validate(
