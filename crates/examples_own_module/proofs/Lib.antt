@@ -1,1 +1,1 @@
-pub mod Types
+pub mod Exact

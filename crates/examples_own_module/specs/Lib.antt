@@ -1,1 +1,2 @@
-pub mod OwnContexts
+pub mod Contexts
+pub mod Seen
