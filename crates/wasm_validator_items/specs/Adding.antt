@@ -27,4 +27,3 @@ module _ {A : Type 0} where
     abbrev pub TellsSteps : ℕ → List ℕ → S → Type 0
     TellsSteps zero bytes s = TellsFormat (stop - length bytes) stop e
     TellsSteps (suc n) bytes s = tells stop s bytes e ⊎ Added (λ x. TellsSteps n x.1 x.0) (step s bytes)
-

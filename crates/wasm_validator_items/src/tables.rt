@@ -138,8 +138,15 @@ impl<A: Allocator + Copy> SectionItem<A> for TableItems<'_, A> {
 
     ghost state = { λ a. (a.opened.now, a.referenced.now) };
 
-    ghost kept = { λ a. (a.features, a.list.now, a.types.now, a.memory.ghost_name, a.opened.ghost_name,
-        a.referenced.ghost_name, a.opened.now.types) };
+    ghost kept = { λ a. (
+      a.features,
+      a.list.now,
+      a.types.now,
+      a.memory.ghost_name,
+      a.opened.ghost_name,
+      a.referenced.ghost_name,
+      a.opened.now.types,
+    ) };
 
     ghost step = { λ k p bytes. naming_step (table_step (features_of k.0) (list_declares id_of k.1.groups)
         (types_of_list k.1)) names_of_table p bytes };
