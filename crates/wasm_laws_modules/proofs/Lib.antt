@@ -1,6 +1,5 @@
 pub use Rattle.wasm_laws_core.proofs as WasmLawsCore
 pub use Rattle.wasm_laws_contexts.proofs as WasmLawsContexts
-pub use Rattle.wasm_validator_items.proofs.Segments
 pub use Rattle.wasm_validator_items.proofs.Renamed as RenamedEntries
 pub mod Entries
 pub mod Depths

@@ -11,6 +11,7 @@ pub mod Attempts
 pub mod InitializersRead
 pub mod Named
 pub mod StepsInTurn
+pub mod Adding
 pub mod GlobalsRead
 pub mod Offsets
 pub mod Segments

@@ -4,6 +4,8 @@ pub use Rattle.wasm_validator_core.specs as WasmValidatorCore
 pub use Rattle.wasm_validator_segments.specs.Expressions
 pub mod Machine
 pub mod Answers
+pub mod Telling
+pub mod Adding
 pub mod Sections
 pub mod Entries
 pub mod Items

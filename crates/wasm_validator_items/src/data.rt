@@ -1,21 +1,28 @@
 //! The data segments of a data section.
 
-ghost use Rattle.std.specs.Prelude.{◌≡◌, ◌≤◌, ◌+◌, length, IfOk, IfErr};
+ghost use Rattle.std.specs.Prelude.{◌≡◌, ◌≤◌, ℕ, List, ⊤, IfOk, IfErr};
 ghost use Rattle.std.specs.declared.option.Option.TheVariants.{Some};
 ghost use Rattle.wasm_spec_rules.specs.FeatureFlags.{features_of};
-ghost use Rattle.wasm_readers.specs.WasmReadersBytes.Reader.{SameInput, input, original, position_in, rest};
-ghost use Rattle.wasm_validator_core.specs.Answers.{Adds};
+ghost use Rattle.wasm_readers.specs.WasmReadersBytes.Reader.{SameInput, position_in, rest};
 ghost use Rattle.wasm_validator_core.specs.Ready.{AreHeld};
 ghost use Rattle.wasm_validator_core_resources.specs.IndexContexts.{id_of};
 ghost use Rattle.wasm_validator_core_resources.specs.ListContexts.{list_declares};
 ghost use Rattle.wasm_validator_core_resources.specs.ModuleContexts.{AreByIds};
-ghost use Rattle.wasm_validator_items.specs.Answers.{Refuses, StandsBetween, StandsBehind};
-ghost use Rattle.wasm_validator_items.specs.Machine.{data_step, items_from, data_items};
+ghost use Rattle.wasm_validator_items.specs.Answers.{Refuses, StandsBehind};
+ghost use Rattle.wasm_validator_items.specs.Machine.{data_step};
+ghost use Rattle.wasm_readers_errors.specs.WasmReadersFeatures.declared.features.WasmFeatures.{WasmFeatures};
+ghost use Rattle.wasm_readers_errors.specs.declared.error.Counted.TheVariants as counted;
+ghost use Rattle.wasm_readers_types.specs.declared.types.SubType.{SubType};
+ghost use Rattle.wasm_validator_types.specs.WasmValidatorTypeList.Listing.{Listing};
+ghost use Rattle.wasm_validator_types.specs.Spaces.{Spaces};
+ghost use Rattle.wasm_validator_core.specs.declared.limits.TheConstants.{MAX_DATA_SEGMENTS};
+ghost use Rattle.wasm_validator_types.specs.WasmValidatorTypeList.DefTypes.{types_of_list};
 
+use crate::section_items::{ItemLimit, SectionItem};
 use std::alloc::Allocator;
 use wasm_readers::BinaryReader;
-use wasm_readers_errors::{Counted, Fault, Malformed, Refusal, WasmFeatures};
-use wasm_validator_core::{Error, MAX_DATA_SEGMENTS, check_max};
+use wasm_readers_errors::{Counted, WasmFeatures};
+use wasm_validator_core::{Error, MAX_DATA_SEGMENTS};
 use wasm_validator_core_resources::{ModuleResources, TypesByIds};
 use wasm_validator_segments::{ExpressionMemory, check_data};
 use wasm_validator_types::{IndexSpaces, TypeList};
@@ -57,71 +64,55 @@ pub fn check_next_data<'a, A: Allocator + Copy>(
     Ok(())
 }
 
-/// Reads and types so many data segments, behind which nothing is left.
-fn check_each_data<'a, A: Allocator + Copy>(
-    features: WasmFeatures,
-    list: &TypeList<A>,
-    types: &TypesByIds<A>,
-    memory: &mut ExpressionMemory<A>,
-    spaces: &IndexSpaces<A>,
-    count: u32,
-    reader: BinaryReader<'a>,
-) -> Result<(), Error<A>>
-    requires held { AreHeld list.now spaces.now.types }
-    requires types { AreByIds list.now.groups types.now }
-    ensures added { Adds result (items_from (data_step (features_of features)
-        (list_declares id_of list.now.groups)) count (rest reader.entry) spaces.now) spaces.now }
-    ensures place { IfErr result (StandsBehind reader.entry) }
-{
-    let mut reader = reader;
-    let mut left = count;
-    'segments: while left > 0 {
-        check_next_data(features, list, types, memory, spaces, &mut reader)?;
-        left -= 1;
-    }
-    if reader.is_empty() {
-        return Ok(());
-    }
-    let fault = Fault::Malformed(Malformed::SectionSize);
-    let offset = reader.original_position();
-    Err(Error::Refused(Refusal::new(fault, offset)))
+/// Data segments, which add nothing to a module.
+#[derive(Drop)]
+pub struct DataItems<'s, A: Allocator> {
+    pub features: WasmFeatures,
+    pub list: &'s TypeList<A>,
+    pub types: &'s TypesByIds<A>,
+    pub memory: &'s mut ExpressionMemory<A>,
+    pub spaces: &'s IndexSpaces<A>,
 }
 
-/// Reads the data segments of a data section, whose offsets may read the immutable globals, without
-/// `GC` only imported ones. They add nothing to the module. `reader` is the section's, behind its
-/// count; and the offsets are typed in memory that is used again.
-///
-/// The list must have the types of the module; and `types` are all that it has, with ids in the
-/// place of positions in their groups.
-///
-/// # Errors
-///
-/// Refused where there are too many data segments, at the section's start; where the bytes aren't
-/// so many valid data segments (Core Specification 3.0, Validation, Modules, Data Segments), behind
-/// where the segment begins; and where memory is.
-pub fn add_data_segments<'a, A: Allocator + Copy>(
-    features: WasmFeatures,
-    list: &TypeList<A>,
-    types: &TypesByIds<A>,
-    memory: &mut ExpressionMemory<A>,
-    spaces: &IndexSpaces<A>,
-    count: u32,
-    reader: BinaryReader<'a>,
-) -> Result<(), Error<A>>
-    requires held { AreHeld list.now spaces.now.types }
-    requires types { AreByIds list.now.groups types.now }
-    ensures added { Adds result (data_items (features_of features)
-        (list_declares id_of list.now.groups) count (rest reader.entry) spaces.now) spaces.now }
-    ensures place { IfErr result (StandsBetween (original reader.entry)
-        (original reader.entry + length (input reader.entry))) }
-{
-    let more = count as usize;
-    check_max(
-        0,
-        more,
-        MAX_DATA_SEGMENTS,
-        Counted::DataSegments,
-        reader.range().start,
-    )?;
-    check_each_data(features, list, types, memory, spaces, count, reader)
+impl<A: Allocator + Copy> SectionItem<A> for DataItems<'_, A> {
+    ghost State = { Spaces };
+
+    ghost Kept = { WasmFeatures × Listing A × List (SubType A) × ℕ × Spaces };
+
+    ghost state = { λ a. a.spaces.now };
+
+    ghost kept = { λ a. (a.features, a.list.now, a.types.now, a.memory.ghost_name, a.spaces.now) };
+
+    ghost step = { λ k s bytes. data_step (features_of k.0) (list_declares id_of k.1.groups) s bytes };
+
+    ghost accepts = { λ k s. ⊤ };
+
+    ghost tells = { λ k stop s bytes e. ⊤ };
+
+    ghost ready = { λ a. AreHeld a.list.now a.spaces.now.types × AreByIds a.list.now.groups a.types.now };
+
+    ghost what = { counted.DataSegments };
+
+    ghost there = { λ s. 0 };
+
+    ghost most = { λ k. MAX_DATA_SEGMENTS };
+
+    fn limit(&self) -> ItemLimit {
+        ItemLimit {
+            what: Counted::DataSegments,
+            there: 0,
+            most: MAX_DATA_SEGMENTS,
+        }
+    }
+
+    fn add_next<'a>(&mut self, reader: &mut BinaryReader<'a>) -> Result<(), Error<A>> {
+        check_next_data(
+            self.features,
+            self.list,
+            self.types,
+            self.memory,
+            self.spaces,
+            reader,
+        )
+    }
 }

@@ -1,13 +1,8 @@
 //! The element segments of an element section.
 
-ghost use Rattle.std.specs.Prelude.{◌≡◌, ◌≤◌, ◌+◌, ◌<◌, ◌^◌, length, IfOk, OnOk, IfErr};
+ghost use Rattle.std.specs.Prelude.{◌≡◌, ◌≤◌, ◌+◌, ◌<◌, ◌^◌, ℕ, List, Bool, length, ⊤, IfOk, OnOk, IfErr};
 ghost use Rattle.std.specs.declared.option.Option.TheVariants.{Some};
-ghost use Rattle.wasm_spec.specs.BinarySections.{Element, element_at};
 ghost use Rattle.wasm_spec_rules.specs.FeatureFlags.{features_of};
-ghost use Rattle.wasm_spec_rules.specs.Parts.{Expression};
-ghost use Rattle.wasm_readers.specs.Written.{written};
-ghost use Rattle.wasm_readers_types.specs.WasmReadersValues.declared.indices.UnpackedIndex.{UnpackedIndex};
-ghost use Rattle.wasm_validator_segments.specs.WasmValidatorReferences.WasmSpecValidity.Expressions.{expression_at};
 ghost use Rattle.wasm_readers.specs.WasmReadersBytes.Reader.{SameInput, position_in, rest};
 ghost use Rattle.wasm_readers_types.specs.WasmReadersValues.SeenValues.{val_of};
 ghost use Rattle.wasm_validator_core.specs.Answers.{Adds};
@@ -17,18 +12,24 @@ ghost use Rattle.wasm_validator_core_resources.specs.IndexContexts.{id_of};
 ghost use Rattle.wasm_validator_core_resources.specs.ListContexts.{list_declares};
 ghost use Rattle.wasm_validator_core_resources.specs.ModuleContexts.{AreByIds};
 ghost use Rattle.wasm_validator_segments.specs.Elements.{typed_element_at};
-ghost use Rattle.wasm_validator_segments.specs.WasmValidatorReferences.References.{marked, element_names, names_of_element};
+ghost use Rattle.wasm_validator_segments.specs.WasmValidatorReferences.References.{marked, names_of_element};
 ghost use Rattle.wasm_validator_core.specs.declared.limits.TheConstants.{MAX_ELEMENT_SEGMENTS};
 ghost use Rattle.wasm_validator_items.specs.Answers.{Refuses, StandsBehind};
-ghost use Rattle.wasm_validator_items.specs.Entries.{add_element};
 ghost use Rattle.wasm_validator_items.specs.Machine.{context_of, with_items, element_step};
+ghost use Rattle.wasm_readers_errors.specs.WasmReadersFeatures.declared.features.WasmFeatures.{WasmFeatures};
+ghost use Rattle.wasm_readers_errors.specs.declared.error.Counted.TheVariants as counted;
+ghost use Rattle.wasm_readers_types.specs.declared.types.SubType.{SubType};
+ghost use Rattle.wasm_validator_types.specs.WasmValidatorTypeList.Listing.{Listing};
+ghost use Rattle.wasm_validator_types.specs.Spaces.{Spaces};
+ghost use Rattle.wasm_validator_types.specs.WasmValidatorTypeList.DefTypes.{types_of_list};
+ghost use Rattle.wasm_validator_items.specs.Adding.{naming_step};
 
-use crate::section_items::SectionItem;
+use crate::section_items::{ItemLimit, SectionItem};
 use std::alloc::Allocator;
 use wasm_readers::BinaryReader;
-use wasm_readers_errors::WasmFeatures;
+use wasm_readers_errors::{Counted, WasmFeatures};
 use wasm_readers_types::ValType;
-use wasm_validator_core::{Error, Module};
+use wasm_validator_core::{Error, MAX_ELEMENT_SEGMENTS, Module};
 use wasm_validator_core_resources::{ModuleResources, TypesByIds};
 use wasm_validator_segments::references::ReferencedFunctions;
 use wasm_validator_segments::{ExpressionMemory, check_element};
@@ -131,28 +132,67 @@ pub fn add_next_element<'a, A: Allocator + Copy>(
 }
 
 /// Element segments.
-pub struct ElementItem {}
+#[derive(Drop)]
+pub struct ElementItems<'s, A: Allocator> {
+    pub features: WasmFeatures,
+    pub list: &'s TypeList<A>,
+    pub types: &'s TypesByIds<A>,
+    pub memory: &'s mut ExpressionMemory<A>,
+    pub opened: &'s mut Module<A>,
+    pub referenced: &'s mut ReferencedFunctions<A>,
+}
 
-impl<A: Allocator + Copy> SectionItem<A> for ElementItem {
-    ghost Entry = { Element Expression UnpackedIndex };
+impl<A: Allocator + Copy> SectionItem<A> for ElementItems<'_, A> {
+    ghost State = { Spaces × List Bool };
 
-    ghost reads = { element_at expression_at written };
+    ghost Kept = { WasmFeatures × Listing A × List (SubType A) × ℕ × ℕ × ℕ × List ℕ };
 
-    ghost names = { element_names };
+    ghost state = { λ a. (a.opened.now, a.referenced.now) };
 
-    ghost adds = { λ F declares us. add_element F declares };
+    ghost kept = { λ a. (
+      a.features,
+      a.list.now,
+      a.types.now,
+      a.memory.ghost_name,
+      a.opened.ghost_name,
+      a.referenced.ghost_name,
+      a.opened.now.types,
+    ) };
 
-    ghost room = { λ s n. length s.elements + n ≤ MAX_ELEMENT_SEGMENTS };
+    ghost step = { λ k p bytes. naming_step (element_step (features_of k.0) (list_declares id_of k.1.groups))
+        names_of_element p bytes };
 
-    fn add_next<'a>(
-        features: WasmFeatures,
-        list: &TypeList<A>,
-        types: &TypesByIds<A>,
-        memory: &mut ExpressionMemory<A>,
-        opened: &mut Module<A>,
-        referenced: &mut ReferencedFunctions<A>,
-        reader: &mut BinaryReader<'a>,
-    ) -> Result<(), Error<A>> {
-        add_next_element(features, list, types, memory, opened, referenced, reader)
+    ghost accepts = { λ k s. ⊤ };
+
+    ghost tells = { λ k stop s bytes e. ⊤ };
+
+    ghost ready = { λ a. AreHeld a.list.now a.opened.now.types × AreByIds a.list.now.groups a.types.now };
+
+    ghost room = { λ a n. length a.opened.now.elements + n ≤ MAX_ELEMENT_SEGMENTS };
+
+    ghost what = { counted.ElementSegments };
+
+    ghost there = { λ p. length p.0.elements };
+
+    ghost most = { λ k. MAX_ELEMENT_SEGMENTS };
+
+    fn limit(&self) -> ItemLimit {
+        ItemLimit {
+            what: Counted::ElementSegments,
+            there: self.opened.spaces().element_count() as usize,
+            most: MAX_ELEMENT_SEGMENTS,
+        }
+    }
+
+    fn add_next<'a>(&mut self, reader: &mut BinaryReader<'a>) -> Result<(), Error<A>> {
+        add_next_element(
+            self.features,
+            self.list,
+            self.types,
+            self.memory,
+            self.opened,
+            self.referenced,
+            reader,
+        )
     }
 }

@@ -21,11 +21,11 @@ mod section_items;
 mod tables;
 
 pub use constants::{Constants, tells_types_apart};
-pub use data::{add_data_segments, check_next_data};
-pub use elements::{ElementItem, add_next_element};
-pub use globals::{GlobalItem, add_next_global};
-pub use section_items::{SectionItem, add_items};
-pub use tables::{TableItem, add_next_table};
+pub use data::{DataItems, check_next_data};
+pub use elements::{ElementItems, add_next_element};
+pub use globals::{GlobalItems, add_next_global};
+pub use section_items::{ItemLimit, SectionItem, add_items, read_item};
+pub use tables::{TableItems, add_next_table};
 pub use wasm_validator_segments::ExpressionMemory;
 
 /// Reading and typing expressions, globals and data segments in one pass accepts exactly those of the

@@ -1,132 +1,144 @@
-//! The items of a section that hold constant expressions, added one after another.
+//! The one loop over the items of a section: its count is tested against the limit of its kind of
+//! items, and then each item is read and added.
 
-ghost use Rattle.std.specs.Prelude.{◌≡◌, ◌≤◌, ◌+◌, suc, ℕ, List, length, Option, IfOk, OnOk, IfErr};
+ghost use Rattle.std.specs.Prelude.{◌≡◌, ◌≤◌, ◌+◌, nat_le, true, suc, ℕ, List, length, Option, OnOk, IfOk, IfErr, ⊤};
 ghost use Rattle.std.specs.declared.option.Option.TheVariants.{Some};
-ghost use Rattle.wasm_spec.specs.Features.{Features};
-ghost use Rattle.wasm_spec_rules.specs.FeatureFlags.{features_of};
 ghost use Rattle.wasm_readers.specs.WasmReadersBytes.Reader.{SameInput, input, original, position_in, rest};
-ghost use Rattle.wasm_validator_types.specs.Spaces.{Spaces};
-ghost use Rattle.wasm_validator_types.specs.WasmValidatorTypeList.DefTypes.{types_of_list};
-ghost use Rattle.wasm_validator_core.specs.Answers.{Adds, TypesSoFar};
-ghost use Rattle.wasm_validator_core.specs.Ready.{AreHeld};
-ghost use Rattle.wasm_validator_core_resources.specs.IndexContexts.{id_of};
-ghost use Rattle.wasm_validator_core_resources.specs.ListContexts.{list_declares};
-ghost use Rattle.wasm_validator_core_resources.specs.ModuleContexts.{AreByIds};
-ghost use Rattle.wasm_validator_segments.specs.WasmValidatorReferences.References.{marked, names_at, names_in};
+ghost use Rattle.wasm_readers_errors.specs.declared.error.Counted.{Counted};
+ghost use Rattle.wasm_readers.specs.SectionsSeen.{count_of, bytes_of, section_start, section_end};
 ghost use Rattle.wasm_validator_items.specs.Answers.{Refuses, StandsBetween, StandsBehind};
-ghost use Rattle.wasm_validator_items.specs.Reading.{Declared};
-ghost use Rattle.wasm_validator_items.specs.Sections.{read_one, read_each};
+ghost use Rattle.wasm_validator_core.specs.Answers.{AddsWhere};
+ghost use Rattle.wasm_validator_core.specs.declared.error.Error.{Error};
+ghost use Rattle.wasm_validator_items.specs.Telling.{OfContent, TellsFormat, TellsCount};
+ghost use Rattle.wasm_validator_items.specs.Adding.{steps_of, TellsSteps};
 
 use std::alloc::Allocator;
-use wasm_readers::BinaryReader;
-use wasm_readers_errors::{Fault, Malformed, Refusal, WasmFeatures};
-use wasm_validator_core::{Error, Module};
-use wasm_validator_core_resources::TypesByIds;
-use wasm_validator_segments::ExpressionMemory;
-use wasm_validator_segments::references::ReferencedFunctions;
-use wasm_validator_types::TypeList;
+use wasm_readers::{BinaryReader, Counted, Fault, FromReader, Malformed, Refusal, SectionLimited};
+use wasm_validator_core::{Error, check_max};
 
-/// A kind of items of sections: how one is read, what it adds to a module, and which functions it
-/// names.
+/// How many items of a kind a module has, and may have.
+#[derive(Clone, Copy)]
+pub struct ItemLimit {
+    /// What is counted.
+    pub what: Counted,
+    /// How many are there.
+    pub there: usize,
+    /// The most that there may be.
+    pub most: u32,
+}
+
+/// A kind of items of sections, with what they are added to and what that takes.
 pub trait SectionItem<A: Allocator + Copy> {
-    /// What an item is read as.
-    ghost Entry: { Type 0 };
+    /// What contracts see of what items are added to.
+    ghost State: { Type 0 };
 
-    /// The item that these bytes begin with, and the bytes behind it.
-    ghost reads: { List ℕ → Option (Entry × List ℕ) };
+    /// What no item changes.
+    ghost Kept: { Type 0 };
 
-    /// The functions that an item names.
-    ghost names: { Entry → List ℕ };
+    ghost state: { Self → State };
 
-    /// What it adds to a module that has been read so far, where its constant expressions are typed
-    /// in that module.
-    ghost adds: { Features → Declared → TypesSoFar → Spaces → Entry → Option Spaces };
+    ghost kept: { Self → Kept };
 
-    /// There is room for so many in a module.
-    ghost room: { Spaces → ℕ → Type 0 };
+    /// What reading and adding the item that these bytes begin with leads to, and the bytes behind
+    /// it.
+    ghost step: { Kept → State → List ℕ → Option (State × List ℕ) };
 
-    /// Reads the item that the bytes begin with, in the module as far as it has been read, adds it,
-    /// and notes the functions that it names. The reader goes behind it.
-    ///
-    /// The list must have the types of the module; and `types` are all that it has, with ids in the
-    /// place of positions in their groups. There must be room for an item more.
+    /// An item is accepted only where this then holds.
+    ghost accepts: { Kept → State → Type 0 };
+
+    /// What is told of an item that is refused, in a part of the input that ends at this offset.
+    ghost tells: { Kept → ℕ → State → List ℕ → Error A → Type 0 };
+
+    /// What an item needs.
+    ghost ready: { Self → Type 0 } = { λ a. ⊤ };
+
+    /// What holds behind a refused item too.
+    ghost stands: { Self → Type 0 } = { λ a. ⊤ };
+
+    /// There is room for so many more.
+    ghost room: { Self → ℕ → Type 0 } = { λ a n. ⊤ };
+
+    /// What is counted, how many are there, and the most that there may be.
+    ghost what: { Counted };
+
+    ghost there: { State → ℕ };
+
+    ghost most: { Kept → ℕ };
+
+    /// How many there are, and may be.
+    fn limit(&self) -> ItemLimit
+        ensures what { result.what ≡ what }
+        ensures there { result.there ≡ there (state self.now) }
+        ensures most { result.most ≡ most (kept self.now) };
+
+    /// Reads the item that the bytes begin with, and adds it. The reader goes behind it. There must
+    /// be room for it.
     ///
     /// # Errors
     ///
-    /// Refused where the bytes don't begin with such an item that is valid, and where memory is. The
-    /// module is then only to be dropped.
-    fn add_next<'a>(
-        features: WasmFeatures,
-        list: &TypeList<A>,
-        types: &TypesByIds<A>,
-        memory: &mut ExpressionMemory<A>,
-        opened: &mut Module<A>,
-        referenced: &mut ReferencedFunctions<A>,
-        reader: &mut BinaryReader<'a>,
-    ) -> Result<(), Error<A>>
-        requires held { AreHeld list.now opened.old.types }
-        requires types { AreByIds list.now.groups types.now }
-        requires room { (n : ℕ) × room opened.old (suc n) }
-        ensures ok { IfOk result (λ _. read_one reads (adds (features_of features)
-            (list_declares id_of list.now.groups) (types_of_list list.now)) opened.old
-            (rest reader.old) ≡ Some (opened.new, rest reader.new)) }
-        ensures err { IfErr result (λ e. Refuses e (read_one reads (adds (features_of features)
-            (list_declares id_of list.now.groups) (types_of_list list.now)) opened.old
-            (rest reader.old))) }
-        ensures noted { OnOk result (referenced.new
-            ≡ marked (names_at reads names (rest reader.old)) referenced.old) }
-        ensures types { opened.new.types ≡ opened.old.types }
-        ensures room { OnOk result ((n : ℕ) → room opened.old (suc n) → room opened.new n) }
+    /// Refused where the bytes don't begin with such an item that may be added, and where memory is.
+    /// What it was to be added to is then only to be dropped.
+    fn add_next<'a>(&mut self, reader: &mut BinaryReader<'a>) -> Result<(), Error<A>>
+        requires ready { ready self.old }
+        requires stands { stands self.old }
+        requires room { (n : ℕ) × room self.old (suc n) }
+        ensures added { AddsWhere (λ x. accepts (kept self.old) x.0) result
+            (step (kept self.old) (state self.old) (rest reader.old))
+            (state self.new, rest reader.new) }
+        ensures kept { kept self.new ≡ kept self.old }
+        ensures ready { OnOk result (ready self.new) }
+        ensures stands { stands self.new }
+        ensures room { OnOk result ((n : ℕ) → room self.old (suc n) → room self.new n) }
         ensures input { SameInput reader.old reader.new }
         ensures onward { position_in reader.old ≤ position_in reader.new }
-        ensures place { IfErr result (StandsBehind reader.old) };
+        ensures place { IfErr result (StandsBehind reader.old) }
+        ensures told { IfErr result (OfContent (tells (kept self.old)
+            (original reader.old + length (input reader.old)) (state self.old)
+            (rest reader.old))) };
 }
 
-/// Adds so many items of a kind, behind which nothing is left, and notes the functions that they
-/// name. `reader` is that of their section, behind its count; and their constant expressions are
-/// typed in memory that is used again.
-///
-/// The list must have the types of the module; and `types` are all that it has, with ids in the
-/// place of positions in their groups. There must be room for the items.
+/// Adds the items of a section, and refuses one whose count passes the limit of its kind. An item that
+/// is accepted must lead back to what is; and what keeps to the limit must have room.
 ///
 /// # Errors
 ///
-/// Refused where the bytes aren't so many valid items, behind where the refused one begins; and
-/// where memory is. The module is then only to be dropped.
-pub fn add_items<'a, A: Allocator + Copy, I: SectionItem<A>>(
-    features: WasmFeatures,
-    list: &TypeList<A>,
-    types: &TypesByIds<A>,
-    memory: &mut ExpressionMemory<A>,
-    opened: &mut Module<A>,
-    referenced: &mut ReferencedFunctions<A>,
-    count: u32,
-    reader: BinaryReader<'a>,
+/// Refused at the section's start where its count passes the limit; at the first item that is
+/// refused; where bytes are left behind the last one; and where memory is. What the items were to be
+/// added to is then only to be dropped.
+pub fn add_items<'a, A: Allocator + Copy, T, I: SectionItem<A>>(
+    kind: &mut I,
+    section: &SectionLimited<'a, T, A>,
 ) -> Result<(), Error<A>>
-    requires held { AreHeld list.now opened.old.types }
-    requires types { AreByIds list.now.groups types.now }
-    requires room { I.room opened.old count }
-    ensures added { Adds result (read_each I.reads (I.adds (features_of features)
-        (list_declares id_of list.now.groups) (types_of_list list.now)) count
-        (rest reader.entry) opened.old) opened.new }
-    ensures noted { OnOk result (referenced.new
-        ≡ marked (names_in I.reads I.names count (rest reader.entry)) referenced.old) }
-    ensures types { opened.new.types ≡ opened.old.types }
-    ensures place { IfErr result (StandsBetween (original reader.entry)
-        (original reader.entry + length (input reader.entry))) }
+    requires ready { I.ready kind.old }
+    requires stands { I.stands kind.old }
+    requires room { nat_le (I.there (I.state kind.old) + count_of section.now)
+        (I.most (I.kept kind.old)) ≡ true → I.room kind.old (count_of section.now) }
+    requires back { (s t : I.State) (bytes more : List ℕ)
+        → I.step (I.kept kind.old) s bytes ≡ Some (t, more)
+        → I.accepts (I.kept kind.old) t → I.accepts (I.kept kind.old) s }
+    ensures added { AddsWhere (I.accepts (I.kept kind.old)) result
+        (steps_of (I.step (I.kept kind.old)) (I.there (I.state kind.old))
+        (I.most (I.kept kind.old)) (count_of section.now) (bytes_of section.now)
+        (I.state kind.old)) (I.state kind.new) }
+    ensures kept { I.kept kind.new ≡ I.kept kind.old }
+    ensures ready { OnOk result (I.ready kind.new) }
+    ensures stands { I.stands kind.new }
+    ensures place { IfErr result (StandsBetween (section_start section.now)
+        (section_end section.now)) }
+    ensures told { IfErr result (OfContent (λ e. TellsCount I.what (I.there (I.state kind.old))
+        (I.most (I.kept kind.old)) (section_start section.now) (count_of section.now) e
+        (TellsSteps (I.step (I.kept kind.old)) (I.tells (I.kept kind.old))
+        (section_end section.now) e (count_of section.now) (bytes_of section.now)
+        (I.state kind.old)))) }
 {
-    let mut reader = reader;
+    let limit = kind.limit();
+    let count = section.count();
+    let start = section.range().start;
+    check_max(limit.there, count as usize, limit.most, limit.what, start)?;
+    let mut reader = section.reader();
     let mut left = count;
     'items: while left > 0 {
-        I::add_next(
-            features,
-            list,
-            types,
-            memory,
-            opened,
-            referenced,
-            &mut reader,
-        )?;
+        kind.add_next(&mut reader)?;
         left -= 1;
     }
     if reader.is_empty() {
@@ -135,4 +147,24 @@ pub fn add_items<'a, A: Allocator + Copy, I: SectionItem<A>>(
     let fault = Fault::Malformed(Malformed::SectionSize);
     let offset = reader.original_position();
     Err(Error::Refused(Refusal::new(fault, offset)))
+}
+
+/// Reads an item that is added once it has been read. The reader goes behind it.
+///
+/// # Errors
+///
+/// Refused where the bytes don't begin with such an item, and where memory is.
+pub fn read_item<'a, T: FromReader<'a, A>, A: Allocator + Copy>(
+    alloc: A,
+    reader: &mut BinaryReader<'a>,
+) -> Result<T, Error<A>>
+    ensures ok { IfOk result (λ x. T.encoded (rest reader.old)
+        ≡ Some (T.value x, rest reader.new)) }
+    ensures err { IfErr result (λ e. Refuses e (T.encoded (rest reader.old))) }
+    ensures told { IfErr result (TellsFormat (original reader.old + position_in reader.old)
+        (original reader.old + length (input reader.old))) }
+    ensures input { SameInput reader.old reader.new }
+    ensures onward { position_in reader.old ≤ position_in reader.new }
+{
+    Ok(T::from_reader(alloc, reader)?)
 }

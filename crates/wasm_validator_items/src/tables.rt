@@ -1,13 +1,8 @@
 //! The tables of a table section, with what their entries begin with.
 
-ghost use Rattle.std.specs.Prelude.{◌≡◌, ◌≤◌, IfOk, OnOk, IfErr, ⊤};
+ghost use Rattle.std.specs.Prelude.{◌≡◌, ◌≤◌, ℕ, List, Bool, length, ⊤, IfOk, OnOk, IfErr};
 ghost use Rattle.std.specs.declared.option.Option.TheVariants.{Some};
-ghost use Rattle.wasm_spec.specs.BinarySections.{TableEntry, table_entry_at};
 ghost use Rattle.wasm_spec_rules.specs.FeatureFlags.{features_of};
-ghost use Rattle.wasm_spec_rules.specs.Parts.{Expression};
-ghost use Rattle.wasm_readers.specs.Written.{written};
-ghost use Rattle.wasm_readers_types.specs.WasmReadersValues.declared.indices.UnpackedIndex.{UnpackedIndex};
-ghost use Rattle.wasm_validator_segments.specs.WasmValidatorReferences.WasmSpecValidity.Expressions.{expression_at};
 ghost use Rattle.wasm_readers.specs.WasmReadersBytes.Reader.{SameInput, position_in, rest};
 ghost use Rattle.wasm_readers_types.specs.SeenExterns.{table_of};
 ghost use Rattle.wasm_validator_types.specs.WasmValidatorTypeList.DefTypes.{types_of_list};
@@ -15,17 +10,24 @@ ghost use Rattle.wasm_validator_core.specs.Ready.{AreHeld};
 ghost use Rattle.wasm_validator_core_resources.specs.IndexContexts.{id_of};
 ghost use Rattle.wasm_validator_core_resources.specs.ListContexts.{list_declares};
 ghost use Rattle.wasm_validator_core_resources.specs.ModuleContexts.{AreByIds};
-ghost use Rattle.wasm_validator_segments.specs.WasmValidatorReferences.References.{marked, table_names, names_of_table};
+ghost use Rattle.wasm_validator_segments.specs.WasmValidatorReferences.References.{marked, names_of_table};
 ghost use Rattle.wasm_validator_items.specs.Answers.{Refuses, StandsBehind};
-ghost use Rattle.wasm_validator_items.specs.Entries.{names_of_init, add_table_entry};
+ghost use Rattle.wasm_validator_items.specs.Entries.{names_of_init};
 ghost use Rattle.wasm_validator_items.specs.Machine.{behind_init, table_step};
+ghost use Rattle.wasm_readers_errors.specs.WasmReadersFeatures.declared.features.WasmFeatures.{WasmFeatures};
+ghost use Rattle.wasm_readers_errors.specs.declared.error.Counted.TheVariants as counted;
+ghost use Rattle.wasm_readers_types.specs.declared.types.SubType.{SubType};
+ghost use Rattle.wasm_validator_types.specs.WasmValidatorTypeList.Listing.{Listing};
+ghost use Rattle.wasm_validator_types.specs.Spaces.{Spaces};
+ghost use Rattle.wasm_spec_rules.specs.Limits.{most_tables};
+ghost use Rattle.wasm_validator_items.specs.Adding.{naming_step};
 
 use crate::initializers::check_initializer;
-use crate::section_items::SectionItem;
+use crate::section_items::{ItemLimit, SectionItem};
 use std::alloc::Allocator;
 use wasm_readers::BinaryReader;
 use wasm_readers::externs::read_table_head;
-use wasm_readers_errors::WasmFeatures;
+use wasm_readers_errors::{Counted, WasmFeatures};
 use wasm_readers_types::{TableType, ValType};
 use wasm_validator_core::{Error, Module};
 use wasm_validator_core_resources::TypesByIds;
@@ -119,28 +121,65 @@ pub fn add_next_table<'a, A: Allocator + Copy>(
 }
 
 /// Tables, with what their entries begin with.
-pub struct TableItem {}
+#[derive(Drop)]
+pub struct TableItems<'s, A: Allocator> {
+    pub features: WasmFeatures,
+    pub list: &'s TypeList<A>,
+    pub types: &'s TypesByIds<A>,
+    pub memory: &'s mut ExpressionMemory<A>,
+    pub opened: &'s mut Module<A>,
+    pub referenced: &'s mut ReferencedFunctions<A>,
+}
 
-impl<A: Allocator + Copy> SectionItem<A> for TableItem {
-    ghost Entry = { TableEntry Expression UnpackedIndex };
+impl<A: Allocator + Copy> SectionItem<A> for TableItems<'_, A> {
+    ghost State = { Spaces × List Bool };
 
-    ghost reads = { table_entry_at expression_at written };
+    ghost Kept = { WasmFeatures × Listing A × List (SubType A) × ℕ × ℕ × ℕ × List ℕ };
 
-    ghost names = { table_names };
+    ghost state = { λ a. (a.opened.now, a.referenced.now) };
 
-    ghost adds = { add_table_entry };
+    ghost kept = { λ a. (
+      a.features,
+      a.list.now,
+      a.types.now,
+      a.memory.ghost_name,
+      a.opened.ghost_name,
+      a.referenced.ghost_name,
+      a.opened.now.types,
+    ) };
 
-    ghost room = { λ s n. ⊤ };
+    ghost step = { λ k p bytes. naming_step (table_step (features_of k.0) (list_declares id_of k.1.groups)
+        (types_of_list k.1)) names_of_table p bytes };
 
-    fn add_next<'a>(
-        features: WasmFeatures,
-        list: &TypeList<A>,
-        types: &TypesByIds<A>,
-        memory: &mut ExpressionMemory<A>,
-        opened: &mut Module<A>,
-        referenced: &mut ReferencedFunctions<A>,
-        reader: &mut BinaryReader<'a>,
-    ) -> Result<(), Error<A>> {
-        add_next_table(features, list, types, memory, opened, referenced, reader)
+    ghost accepts = { λ k s. ⊤ };
+
+    ghost tells = { λ k stop s bytes e. ⊤ };
+
+    ghost ready = { λ a. AreHeld a.list.now a.opened.now.types × AreByIds a.list.now.groups a.types.now };
+
+    ghost what = { counted.Tables };
+
+    ghost there = { λ p. length p.0.tables };
+
+    ghost most = { λ k. most_tables (features_of k.0) };
+
+    fn limit(&self) -> ItemLimit {
+        ItemLimit {
+            what: Counted::Tables,
+            there: self.opened.spaces().table_count() as usize,
+            most: self.opened.max_tables(self.features),
+        }
+    }
+
+    fn add_next<'a>(&mut self, reader: &mut BinaryReader<'a>) -> Result<(), Error<A>> {
+        add_next_table(
+            self.features,
+            self.list,
+            self.types,
+            self.memory,
+            self.opened,
+            self.referenced,
+            reader,
+        )
     }
 }

@@ -24,10 +24,9 @@ use wasm_readers::{
 };
 use wasm_validator_items::references::ReferencedFunctions;
 use wasm_validator_items::validator_core::{
-    Error, MAX_DATA_SEGMENTS, MAX_ELEMENT_SEGMENTS, MAX_EXPORTS, MAX_FUNCTIONS, MAX_GLOBALS,
-    MAX_IMPORTS, MAX_TAGS, MAX_TYPES, Module, check_max,
+    Error, MAX_EXPORTS, MAX_FUNCTIONS, MAX_IMPORTS, MAX_TAGS, MAX_TYPES, Module, check_max,
 };
-use wasm_validator_items::{ElementItem, GlobalItem, TableItem, add_items};
+use wasm_validator_items::{DataItems, ElementItems, GlobalItems, TableItems, add_items};
 use wasm_validator_types::{IndexSpaces, TypeList};
 
 /// Adds the types of a type section.
@@ -203,24 +202,16 @@ pub fn check_data_segments<'a, A: Allocator + Copy>(
         (section_end section.now)) }
     ensures told { IfErr result (OfContent (TellsData section.now)) }
 {
-    check_max(
-        0,
-        section.count() as usize,
-        MAX_DATA_SEGMENTS,
-        Counted::DataSegments,
-        section.range().start,
-    )?;
     tells_types_apart(list);
     constants.update(list)?;
-    wasm_validator_items::add_data_segments(
+    let mut kind = DataItems {
         features,
         list,
-        &constants.types,
-        &mut constants.memory,
+        types: &constants.types,
+        memory: &mut constants.memory,
         spaces,
-        section.count(),
-        section.reader(),
-    )
+    };
+    add_items(&mut kind, section)
 }
 
 /// Adds the tables of a table section, and notes the functions that they name.
@@ -244,25 +235,17 @@ pub fn take_tables<'a, A: Allocator + Copy>(
         (section_end section.now)) }
     ensures told { IfErr result (OfContent (TellsTables section.now features state.old.«module»)) }
 {
-    check_max(
-        state.module.spaces().table_count() as usize,
-        section.count() as usize,
-        state.module.max_tables(features),
-        Counted::Tables,
-        section.range().start,
-    )?;
     tells_types_apart(list);
     constants.update(list)?;
-    add_items::<A, TableItem>(
+    let mut kind = TableItems {
         features,
         list,
-        &constants.types,
-        &mut constants.memory,
-        &mut state.module,
-        &mut state.referenced,
-        section.count(),
-        section.reader(),
-    )
+        types: &constants.types,
+        memory: &mut constants.memory,
+        opened: &mut state.module,
+        referenced: &mut state.referenced,
+    };
+    add_items(&mut kind, section)
 }
 
 /// Adds the globals of a global section, and notes the functions that they name.
@@ -286,25 +269,17 @@ pub fn take_globals<'a, A: Allocator + Copy>(
         (section_end section.now)) }
     ensures told { IfErr result (OfContent (TellsGlobals section.now state.old.«module»)) }
 {
-    check_max(
-        state.module.spaces().global_count() as usize,
-        section.count() as usize,
-        MAX_GLOBALS,
-        Counted::Globals,
-        section.range().start,
-    )?;
     tells_types_apart(list);
     constants.update(list)?;
-    add_items::<A, GlobalItem>(
+    let mut kind = GlobalItems {
         features,
         list,
-        &constants.types,
-        &mut constants.memory,
-        &mut state.module,
-        &mut state.referenced,
-        section.count(),
-        section.reader(),
-    )
+        types: &constants.types,
+        memory: &mut constants.memory,
+        opened: &mut state.module,
+        referenced: &mut state.referenced,
+    };
+    add_items(&mut kind, section)
 }
 
 /// Adds the element segments of an element section, and notes the functions that they name.
@@ -328,25 +303,17 @@ pub fn take_elements<'a, A: Allocator + Copy>(
         (section_end section.now)) }
     ensures told { IfErr result (OfContent (TellsElements section.now state.old.«module»)) }
 {
-    check_max(
-        state.module.spaces().element_count() as usize,
-        section.count() as usize,
-        MAX_ELEMENT_SEGMENTS,
-        Counted::ElementSegments,
-        section.range().start,
-    )?;
     tells_types_apart(list);
     constants.update(list)?;
-    add_items::<A, ElementItem>(
+    let mut kind = ElementItems {
         features,
         list,
-        &constants.types,
-        &mut constants.memory,
-        &mut state.module,
-        &mut state.referenced,
-        section.count(),
-        section.reader(),
-    )
+        types: &constants.types,
+        memory: &mut constants.memory,
+        opened: &mut state.module,
+        referenced: &mut state.referenced,
+    };
+    add_items(&mut kind, section)
 }
 
 /// Notes the function that is exported, if it is a function.

@@ -1,27 +1,22 @@
-use Rattle.std.proofs.Common.{◌≡◌, ◌≤◌}
-use Rattle.wasm_spec_rules.specs.FeatureFlags.{features_of}
-use Rattle.wasm_readers.specs.WasmReadersBytes.Reader.{SameInput, position_in, rest}
-use Rattle.wasm_validator_types.specs.WasmValidatorTypeList.DefTypes.{types_of_list}
-use Rattle.wasm_validator_core.specs.Ready.{AreHeld}
-use Rattle.wasm_validator_core_resources.specs.IndexContexts.{id_of}
-use Rattle.wasm_validator_core_resources.specs.ListContexts.{list_declares}
-use Rattle.wasm_validator_segments.specs.WasmValidatorReferences.Notes.{names_along}
-use Rattle.wasm_validator_segments.specs.WasmValidatorReferences.References.{marked}
+use Rattle.std.proofs.Common.{◌≡◌, ◌+◌, ◌≤◌, length}
+use Rattle.wasm_readers.specs.SectionsSeen.{count_of, bytes_of, section_start, section_end}
+use Rattle.wasm_readers.specs.WasmReadersBytes.Reader.{input, original, position_in, rest}
 use Rattle.wasm_validator_items.specs.Machine.{items_from}
-use Rattle.wasm_validator_items.specs.Sections.{read_one, read_each}
+use Rattle.wasm_validator_items.proofs.Adding.{ToldOfAll}
 use Rattle.wasm_validator_items.proofs.section_items.add_items.Given as goal
 
 abbrev pub invariant-items : goal.invariant-items
 invariant-items g l = record {
-  held : AreHeld l.list l.opened.types;
-  kept : l.opened.types ≡ l.fn.opened.types;
-  room : g.I.SectionItem.room l.opened l.left;
-  same : SameInput l.fn.reader l.reader;
-  onward : position_in l.fn.reader ≤ position_in l.reader;
-  so_far : items_from (read_one g.I.SectionItem.reads (g.I.SectionItem.adds (features_of l.features) (list_declares id_of l.list.groups) (types_of_list l.list))) l.left (rest l.reader) l.opened
-      ≡ read_each g.I.SectionItem.reads (g.I.SectionItem.adds (features_of l.features) (list_declares id_of l.list.groups) (types_of_list l.list)) l.count (rest l.fn.reader) l.fn.opened;
-  noted : marked (names_along g.I.SectionItem.reads g.I.SectionItem.names l.left (rest l.reader)) l.referenced
-      ≡ marked (names_along g.I.SectionItem.reads g.I.SectionItem.names l.count (rest l.fn.reader)) l.fn.referenced;
+  is_ready : g.I.SectionItem.ready l.kind;
+  standing : g.I.SectionItem.stands l.kind;
+  kept : g.I.SectionItem.kept l.kind ≡ g.I.SectionItem.kept l.fn.kind;
+  has_room : g.I.SectionItem.room l.kind l.left;
+  stop : original l.reader + length (input l.reader) ≡ section_end l.section;
+  onward : section_start l.section ≤ original l.reader + position_in l.reader;
+  so_far : items_from (g.I.SectionItem.step (g.I.SectionItem.kept l.fn.kind)) l.left (rest l.reader) (g.I.SectionItem.state l.kind)
+      ≡ items_from (g.I.SectionItem.step (g.I.SectionItem.kept l.fn.kind)) (count_of l.section) (bytes_of l.section) (g.I.SectionItem.state l.fn.kind);
+  told : ToldOfAll (g.I.SectionItem.step (g.I.SectionItem.kept l.fn.kind)) (g.I.SectionItem.tells (g.I.SectionItem.kept l.fn.kind)) (section_end l.section)
+      l.left (rest l.reader) (g.I.SectionItem.state l.kind) (count_of l.section) (bytes_of l.section) (g.I.SectionItem.state l.fn.kind);
 }
 
 abbrev pub decreases-items : goal.decreases-items
