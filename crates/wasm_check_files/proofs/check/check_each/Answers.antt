@@ -17,7 +17,7 @@ names-preserved g c =
     record {
       told = told;
       silent = λ other.
-        here.silent (λ e. other (is_two c.in_ok-found.found c.worse-status.result e larger.other told.tells.known))
-        ∙ before.silent (λ e. other (is_two c.names.status c.worse-status.result e larger.one told.tells.known));
+          here.silent (λ e. other (is_two c.in_ok-found.found c.worse-status.result e larger.other told.tells.known))
+          ∙ before.silent (λ e. other (is_two c.names.status c.worse-status.result e larger.one told.tells.known));
       quiet = λ q. here.quiet q ∙ before.quiet q;
     }
