@@ -1,11 +1,14 @@
-use Rattle.std.proofs.Common.{ℕ, ◌≡◌, ◌+◌, ◌≤◌, length, ◌∙◌, arith}
+use Rattle.std.proofs.Common.{ℕ, ◌≡◌, ◌+◌, ◌≤◌, length, refl, ◌∙◌, arith}
 use Rattle.std.specs.Prelude.{⊤}
 use Rattle.wasm_check_files.specs.Checked.{WereChecked}
-use Rattle.wasm_check_files.proofs.Told.{one_more}
+use Rattle.wasm_check_files.proofs.Told.{none_checked, one_more}
 use Rattle.wasm_check_files.proofs.check.check_each.Goals as goal
 
 is_two : (s r : ℕ) → s ≡ 2 → s ≤ r → r ≤ 2 → r ≡ 2
 is_two s r e a b = omega (arith, e, a, b)
+
+pub names-init : goal.names-init
+names-init g c = record { told = none_checked c.args.settings.now.features (λ _. ⊤); silent = λ _. refl; quiet = λ _. refl; }
 
 pub names-preserved : goal.names-preserved
 names-preserved g c =
