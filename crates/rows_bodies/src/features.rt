@@ -3,8 +3,7 @@ use bitflags::Flags;
 use wasm_readers_errors::WasmFeatures;
 
 /// The features that this text names: `default`, `all` or `none`, and then names behind `+` and
-/// `-`, which are put in and taken out in turn. `all` is without those that have to be asked for by
-/// their names.
+/// `-`, which are put in and taken out in turn.
 pub fn parse_features(text: &str) -> Result<WasmFeatures, Trouble> {
     let mut features: Option<WasmFeatures> = None;
     for part in text.split('+') {
@@ -29,15 +28,6 @@ fn with_part(before: Option<WasmFeatures>, part: &str) -> Result<WasmFeatures, T
     Ok(features)
 }
 
-/// All features but those that are no flags of the Rust crate.
-fn all_but_asked_for() -> WasmFeatures {
-    let mut features = WasmFeatures::all();
-    features.remove(WasmFeatures::VECTOR_OPERATORS);
-    features.remove(WasmFeatures::ATOMIC_OPERATORS);
-    features.remove(WasmFeatures::LEGACY_EXCEPTIONS);
-    features
-}
-
 /// With this name put in, or as the start.
 fn with_name(before: Option<WasmFeatures>, name: &str) -> Result<WasmFeatures, Trouble> {
     match before {
@@ -47,7 +37,7 @@ fn with_name(before: Option<WasmFeatures>, name: &str) -> Result<WasmFeatures, T
         }
         None => match name {
             "default" => Ok(WasmFeatures::default()),
-            "all" => Ok(all_but_asked_for()),
+            "all" => Ok(WasmFeatures::all()),
             "none" => Ok(WasmFeatures::empty()),
             _ => Err(Trouble::Malformed("features that begin with no known set")),
         },

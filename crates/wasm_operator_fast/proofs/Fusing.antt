@@ -58,7 +58,12 @@ no_plain : (b : ℕ) (bytes : List ℕ) → 0xfb ≤ b → plain_from written b 
 unfolding plain_from reference_from
 no_plain b bytes h =
     rw (
+      not_below b 0x06 (omega arith),
+      not_below b 0x08 (omega arith),
+      not_below b 0x09 (omega arith),
+      not_below b 0x0a (omega arith),
       not_below b 0x10 (omega arith),
+      not_below b 0x18 (omega arith),
       not_below b 0x1a (omega arith),
       not_below b 0x1f (omega arith),
       not_below b 0x20 (omega arith),
@@ -96,11 +101,11 @@ again (Some number.F64) = refl
 -- reading, by opcodes
 read_numeric : (b : ℕ) (op : NumericOperator) (bytes : List ℕ) → 0x45 ≤ b → b < 0xd0 → numeric_from b ≡ Some op → plain_from written b bytes ≡ Some (numeric op, bytes)
 unfolding plain_from
-read_numeric b op bytes l h f = rw (not_below b 0x10 (omega arith), not_below b 0x1a (omega arith), not_below b 0x1f (omega arith), not_below b 0x20 (omega arith), not_below b 0x25 (omega arith), not_below b 0x28 (omega arith), not_below b 0x3f (omega arith), not_below b 0x41 (omega arith), not_below b 0x45 l, below b 0xd0 h, f) refl
+read_numeric b op bytes l h f = rw (not_below b 0x06 (omega arith), not_below b 0x08 (omega arith), not_below b 0x09 (omega arith), not_below b 0x0a (omega arith), not_below b 0x10 (omega arith), not_below b 0x18 (omega arith), not_below b 0x1a (omega arith), not_below b 0x1f (omega arith), not_below b 0x20 (omega arith), not_below b 0x25 (omega arith), not_below b 0x28 (omega arith), not_below b 0x3f (omega arith), not_below b 0x41 (omega arith), not_below b 0x45 l, below b 0xd0 h, f) refl
 
 read_access : (b : ℕ) (op : MemoryOperator) (m : MemArg) (bytes rest : List ℕ) → 0x28 ≤ b → b < 0x3f → access_from b ≡ Some op → memarg_at bytes ≡ Some (m, rest) → plain_from written b bytes ≡ Some (access op m, rest)
 unfolding plain_from
-read_access b op m bytes rest l h f g = rw (not_below b 0x10 (omega arith), not_below b 0x1a (omega arith), not_below b 0x1f (omega arith), not_below b 0x20 (omega arith), not_below b 0x25 (omega arith), not_below b 0x28 l, below b 0x3f h, f, g) refl
+read_access b op m bytes rest l h f g = rw (not_below b 0x06 (omega arith), not_below b 0x08 (omega arith), not_below b 0x09 (omega arith), not_below b 0x0a (omega arith), not_below b 0x10 (omega arith), not_below b 0x18 (omega arith), not_below b 0x1a (omega arith), not_below b 0x1f (omega arith), not_below b 0x20 (omega arith), not_below b 0x25 (omega arith), not_below b 0x28 l, below b 0x3f h, f, g) refl
 
 module _ {A : Type 0} (v : Stacks A) (C : Context UnpackedIndex) (r : Result (Unit {0}) NotTaken) (b : ℕ) (bytes rest : List ℕ) (old new : State UnpackedIndex) where
   abbrev Steps : Shape → Type 0
