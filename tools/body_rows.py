@@ -399,7 +399,7 @@ def control():
     case('a body without bytes', '', raw=b'', wanted='refused')
     case('an unknown opcode', '', raw=b'\0\xff\x0b', wanted='refused 1 illegal opcode 0xff')
     case('an unknown opcode behind a prefix', '', raw=b'\0\xfc\x13\x0b', wanted='refused 1 illegal opcode 0xfc 19')
-    case('an opcode that was removed, 06', '', raw=b'\0\x06\x40\x0b\x0b', wanted='refused 1 illegal opcode 0x06')
+    case('an opcode that was removed, 06', '', features='default', raw=b'\0\x06\x40\x0b\x0b', wanted='refused 1 illegal opcode 0x06')
     case('an immediate that is cut off', '', raw=b'\0\x41')
     case('a body that leaves a value', 'i32.const 1')
     case('a body that gives too little', 'nop', ty=9)

@@ -20,6 +20,9 @@ same_kind frame.If = refl
 same_kind frame.Else = refl
 same_kind frame.Loop = refl
 same_kind frame.TryTable = refl
+same_kind frame.LegacyTry = refl
+same_kind frame.LegacyCatch = refl
+same_kind frame.LegacyCatchAll = refl
 
 -- kept items, and the first one behind them
 slice_get-take : {X : Type 0} (n k : ℕ) (xs : List X) → k < n → slice_get (take n xs) k ≡ slice_get xs k
