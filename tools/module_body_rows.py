@@ -471,6 +471,8 @@ def numbers():
                           ('an opcode behind fc that none has', 'fc 7f')]:
         # operators on vectors and atomic ones have to be asked for
         missing = 'vector_operators' if ', fd ' in title else 'atomic_operators' if ', fe ' in title else 'nothing'
+        if 'first exceptions' in title:
+            missing = 'legacy_exceptions'
         case(title, with_body(b'\0' + bytes.fromhex(digits) + b'\x0b', mems=['1']), wanted='refused; missing %s; ' % missing + IN_BODY, own=True)
 
 
