@@ -19,7 +19,7 @@ use Rattle.wasm_operator_steps.specs.Steps.{start}
 use Rattle.wasm_validator_resources.specs.Answers.{world, sub_in}
 use Rattle.wasm_operator_stacks.specs.Seen.{surroundings}
 use Rattle.wasm_operator_validator.specs.WasmOperatorControl.Blocks.{function_in}
-use Rattle.wasm_operator_validator.specs.Typed.{typed_state, locals_in, parameter, BeginsBody}
+use Rattle.wasm_operator_validator.specs.Typed.{typed_state, locals_in, parameter, BeginsBody, HasMany}
 use Rattle.wasm_operator_validator.specs.declared.validator.OperatorValidator.{OperatorValidator}
 use Rattle.wasm_operator_validator.specs.WasmOperatorChecks.Told.{TellsError}
 use Rattle.wasm_operator_validator.specs.WasmOperatorChecks.declared.faults.OperatorError.{OperatorError}
@@ -108,6 +108,22 @@ pub none_there : (X : Type 0) (e : Error) (o : Option (Signature UnpackedIndex))
 none_there X (Refused r) None h = tt
 none_there X (Refused r) (Some g) h = absurd (true≢false (sym h))
 none_there X OutOfMemory o h = tt
+
+-- a function type has more parameters than a body may have locals: so operators refuse, or so the locals are counted
+pub many_told : (X Y : Type 0) (f : OperatorError) (e : Error) (o : Option (Signature UnpackedIndex)) → HasMany {X = X} (Err f) o → TellsError f 0 e → HasMore {X = Y} (Err e) o
+many_told X Y (operator_error.Refused f) (Refused r) None h t = tt
+many_told X Y (operator_error.Refused f) (Refused r) (Some g) h t = h
+many_told X Y (operator_error.Refused f) OutOfMemory o h t = tt
+many_told X Y operator_error.OutOfMemory (Refused r) o h t = absurd t
+many_told X Y operator_error.OutOfMemory OutOfMemory o h t = tt
+
+pub many_counted : (Y : Type 0) (e : Error) (ls : List (Local UnpackedIndex)) (o : Option (Signature UnpackedIndex)) (k : ℕ) → Some ls ≡ option_map parameters o → k ≡ length ls → 50000 < k → HasMore {X = Y} (Err e) o
+many_counted Y (Refused r) ls None k d h l = tt
+many_counted Y (Refused r) ls (Some g) k d h l =
+    let same : length ls ≡ length (parameters g) = ap (λ o. length (value_or ls o)) d in
+    let mapped : length (parameters g) ≡ length g.takes = length-map g.takes parameter in
+    omega (arith, h, same, mapped, l)
+many_counted Y OutOfMemory ls o k d h l = tt
 
 -- a refusal of operators that is told at 0, and one at 0
 pub first_told : (f : OperatorError) (e : Error) → TellsError f 0 e → StandsFirst e
