@@ -90,11 +90,7 @@ fn answer_given(answers: &[Answer], query: Query) -> u32
     say_given(first, second, list)
 }
 
-fn say_below(
-    first: Option<CoreTypeId>,
-    second: Option<CoreTypeId>,
-    list: Option<&TypeList>,
-) -> u32
+fn say_below(first: Option<CoreTypeId>, second: Option<CoreTypeId>, list: Option<&TypeList>) -> u32
     ensures { Says IsBelow (option_map (λ id. id.index) first) (option_map (λ id. id.index) second)
         (option_map (λ list. list.now) list.entry) result }
 {
@@ -110,11 +106,7 @@ fn say_below(
     }
 }
 
-fn say_given(
-    first: Option<EntityType>,
-    second: Option<EntityType>,
-    list: Option<&TypeList>,
-) -> u32
+fn say_given(first: Option<EntityType>, second: Option<EntityType>, list: Option<&TypeList>) -> u32
     ensures { Says MayBeGiven (option_map entity_of first) (option_map entity_of second)
         (option_map (λ list. list.now) list.entry) result }
 {
