@@ -20,12 +20,12 @@ mod queries;
 mod report;
 
 use answers::{answer_alone, answer_list, write_ids};
-use arrays::{write_numbers, write_text};
+use arrays::write_numbers;
 pub use externs::{EXACT_FUNCTION, Extern, FUNCTION, GLOBAL, MEMORY, NO_ID, TABLE, TAG};
 use externs::{gather_externs, write_all};
 pub use lists::Bytes;
 use lists::{gather_functions, gather_types, write_reports};
-use names::{all_features, find_feature, find_name};
+use names::{all_features, find_feature, find_name, write_name};
 use queries::answer_queries;
 pub use queries::{IS_SUBTYPE, MAY_BE_GIVEN, NO, Query, UNKNOWN, YES};
 use report::{report_no_memory, report_of, report_with_names, write_message};
@@ -63,7 +63,7 @@ pub extern "C" fn ruthvelka_proved_feature(name: &[u8]) -> u64
 pub extern "C" fn ruthvelka_proved_feature_name(bits: u64, name: &mut [u8]) -> u64
     ensures { HasName ⟦<WasmFeatures as Flags>⟧.table bits result name.old name.new }
 {
-    write_text(name, find_name(bits).as_bytes())
+    write_name(name, find_name(bits))
 }
 
 /// Validates one module with these proposals, writes the message of a refusal as far as there is

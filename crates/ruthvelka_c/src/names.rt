@@ -1,9 +1,11 @@
 //! The proposals by their names.
 
-ghost use Rattle.std.specs.Prelude.{◌≡◌};
+ghost use Rattle.std.specs.Prelude.{◌≡◌, length};
 ghost use Rattle.bitflags.specs.Sets.{known_bits};
+ghost use Rattle.ruthvelka_c.specs.Arrays.{AreWritten};
 ghost use Rattle.ruthvelka_c.specs.Names.{bits_named, name_in};
 
+use crate::arrays::write_bytes;
 use wasm_validator::{Flags, WasmFeatures};
 
 /// The bits of the proposal with this name, or none.
@@ -37,4 +39,13 @@ pub fn all_features() -> u64
     ensures { result ≡ known_bits ⟦<WasmFeatures as Flags>⟧.table }
 {
     <WasmFeatures as Flags>::all().bits()
+}
+
+/// Writes as much of a name as there is room for, and gives the length of the whole.
+pub fn write_name(to: &mut [u8], name: &str) -> u64
+    ensures told { result ≡ length name.now }
+    ensures written { AreWritten name.now to.old to.new }
+{
+    write_bytes(to, name.as_bytes());
+    name.len() as u64
 }
