@@ -1,4 +1,5 @@
 use Rattle.std.proofs.Common.{ℕ, ◌≡◌, Bool, true, false, List, Option, Some, ap, ◌∙◌, refl}
+use Rattle.std.proofs.lemmas.Str.{IsUtf8-from_is_utf8, is_utf8-from_IsUtf8}
 use Rattle.std.specs.Option.{unwrap_or}
 use Rattle.std.specs.Str.{is_utf8}
 use Rattle.bitflags.specs.Sets.{Row, find_name}
@@ -17,7 +18,8 @@ unnamed table name n = let no = no_text (is_utf8 name) n in rw no refl
 
 pub returns-in-Some : goal.returns-in-Some
 returns-in-Some c =
-    named _ c.args.name.now c.in-Ok.text.now c.bits.result c.in-Some.feature.0 c.in-Ok.ensures.cases.1 c.in-Ok.ensures.cases.0 (c.in-Some.ensures tt) (c.bits.ensures tt)
+    named _ c.args.name.now c.in-Ok.text.now c.bits.result c.in-Some.feature.0 (is_utf8-from_IsUtf8 c.args.name.now c.in-Ok.ensures.cases.1)
+    c.in-Ok.ensures.cases.0 (c.in-Some.ensures tt) (c.bits.ensures tt)
 
 pub returns-in-Err : goal.returns-in-Err
-returns-in-Err c = unnamed _ c.args.name.now c.in-Err.ensures.cases.0
+returns-in-Err c = unnamed _ c.args.name.now (λ t. c.in-Err.ensures.cases.0 (IsUtf8-from_is_utf8 c.args.name.now t))
