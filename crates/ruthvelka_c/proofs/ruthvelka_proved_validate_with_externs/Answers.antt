@@ -29,16 +29,16 @@ returns-in-Ok-clause-refused c =
 pub returns-in-Ok-clause-message : goal.returns-in-Ok-clause-message
 returns-in-Ok-clause-message c = rw c.report_with_names.ensures.message c.write_message-message_length.ensures
 
-pub returns-in-Err-clause-told : goal.returns-in-Err-clause-told
-returns-in-Err-clause-told c = record {
+pub returns-clause-told : goal.returns-clause-told
+returns-clause-told c = record {
   answer = Err OutOfMemory;
   decided = tt;
   tells = c.report_no_memory.ensures.tells;
   externs = stays c.args.imports.now c.args.exports.now c.args.names.now;
 }
 
-pub returns-in-Err-clause-verdict : goal.returns-in-Err-clause-verdict
-returns-in-Err-clause-verdict c = sym c.report_no_memory.ensures.tells.verdict
+pub returns-clause-verdict : goal.returns-clause-verdict
+returns-clause-verdict c = sym c.report_no_memory.ensures.tells.verdict
 
-pub returns-in-Err-clause-message : goal.returns-in-Err-clause-message
-returns-in-Err-clause-message c = no_text c.report_no_memory.result.message_length c.args.message.now c.report_no_memory.ensures.message
+pub returns-clause-message : goal.returns-clause-message
+returns-clause-message c = no_text c.report_no_memory.result.message_length c.args.message.now c.report_no_memory.ensures.message
