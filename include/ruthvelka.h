@@ -1,9 +1,14 @@
 /* ruthvelka.h: validation of WebAssembly modules, for C and C++.
 
    A module is accepted exactly where it is valid under the WebAssembly Core Specification 3.0 and the enabled proposals, within fixed limits;
-   vector operators other than v128.const, atomic operators, the operators of stack switching, and components are refused.
-   docs/THEOREM.md of the repository has the exact statement; docs/PROVED.md says which part of this library is proved: all but c/, some sixty lines
-   of C that pass these calls on and take memory.
+   the operators of stack switching and components are refused, and without their features vector operators other than v128.const, atomic operators and
+   the operators of legacy exceptions.
+   docs/THEOREM.md of the repository has the exact statement; docs/PROVED.md says which part of this library is proved: all but c/, some 190 lines of C
+   that test the arguments, pass these calls on and take memory.
+
+   Trust. The library trusts its caller for what C can't test: that each pointer is of as many items as its count says, that what a call writes overlaps
+   nothing else that it is given, and that nothing changes the bytes while it runs. Besides it trusts the Rattle toolchain, the C compiler, and malloc
+   or the functions that ruthvelka_set_allocator was given. It trusts nothing in the bytes of a module.
 
    Memory. Nothing is kept between calls, so there is nothing to be freed. While a call runs, memory comes from malloc, realloc and free, or from
    what ruthvelka_set_allocator was given. Where a request is refused the verdict is RUTHVELKA_NO_MEMORY, and all that was taken is given back.
@@ -11,8 +16,12 @@
    Threads. Calls may run side by side, in any number of threads. What a call is given belongs to it until it returns; bytes and lists of modules
    are only read, so calls may share them. What it writes may overlap nothing else that it is given. Make no call in a signal handler.
 
-   Pointers. A pointer may be null where its count is 0; a report may always be null. Any other null pointer makes the verdict
-   RUTHVELKA_BAD_CALL, and nothing is written but a report. Arrays need not be initialized.
+   Wrong calls. A pointer may be null where its count is 0; a report may always be null. Any other null pointer, a count of items that no object can
+   have (more than PTRDIFF_MAX bytes), and a bit of `features` that no proposal has make the result RUTHVELKA_BAD_CALL, and nothing is written but
+   a report. Arrays that are written need not be initialized.
+
+   Room. Each array that is written has a room: a count of items. As many are written as there is room for, what is behind them stays as it was, and
+   the report tells how many there are: so a room that was too small is seen, and the call can be made again with more.
 
    Build with `pkg-config --cflags --libs ruthvelka`, or with include/ in the path and libruthvelka.a. It is for x86-64 Linux (x86-64-v2). */
 #ifndef RUTHVELKA_H
@@ -33,12 +42,12 @@ extern "C" {
 #define RUTHVELKA_REFUSED 1      /* the bytes are no valid module */
 #define RUTHVELKA_NO_MEMORY 2    /* memory was refused: nothing is said of the bytes */
 #define RUTHVELKA_NOT_CHECKED 3  /* in a list: the module stands behind one that ended the list, and was not looked at */
-#define RUTHVELKA_BAD_CALL 4     /* a pointer is null and its count isn't 0 */
+#define RUTHVELKA_BAD_CALL 4     /* the call is wrong: see "Wrong calls" above */
 
 /* In place of a function's index, where it is no body that is refused. */
 #define RUTHVELKA_NO_FUNCTION UINT32_MAX
 
-/* The proposals, as bits of a set. Other bits mean nothing. */
+/* The proposals, as bits of a set. ruthvelka_feature and ruthvelka_feature_name have them by name. */
 #define RUTHVELKA_MUTABLE_GLOBAL (UINT64_C(1) << 0)            /* mutable globals are imported and exported */
 #define RUTHVELKA_REFERENCE_TYPES (UINT64_C(1) << 1)           /* values that are references, and more than one table */
 #define RUTHVELKA_MULTI_VALUE (UINT64_C(1) << 2)               /* more than one result */
@@ -70,9 +79,12 @@ struct ruthvelka_report {
     uint64_t offset;           /* refused: of the byte that is wrong, from the first byte; else 0 */
     uint64_t missing_features; /* refused: the proposal without which it is, as a bit; 0 where there is none that would lift it */
     uint64_t message_length;   /* refused: how many bytes the whole message has, also where the room was less; else 0 */
+    uint64_t imports;          /* valid: how many imports the module has; of any other module this and all further counts are 0 */
+    uint64_t exports;          /* how many exports */
+    uint64_t names_length;     /* ruthvelka_validate_with_externs: how many bytes all names have; of any other call 0 */
     uint32_t verdict;          /* the same as the call's result */
     uint32_t function;         /* refused for a function's body: the function's index, imported ones counted; else RUTHVELKA_NO_FUNCTION */
-    uint32_t types;            /* valid: how many types the module has; of any other module this and the following are 0 */
+    uint32_t types;            /* how many types */
     uint32_t functions;        /* functions, imported ones among them; and so on */
     uint32_t tables;
     uint32_t memories;
@@ -80,13 +92,32 @@ struct ruthvelka_report {
     uint32_t tags;
 };
 
-/* ruthvelka_version: the version of the library that is linked, as RUTHVELKA_VERSION is that of the header. */
+/* ruthvelka_version: the version of the library that is linked, as RUTHVELKA_VERSION is that of the header. It may be called at any time, in any
+   thread.
+
+       if (ruthvelka_version() / 1000 != RUTHVELKA_VERSION / 1000) return wrong_library(); */
 uint32_t ruthvelka_version(void);
+
+/* ruthvelka_feature: the bit of the proposal with this name, of `length` bytes: the name of the macro above without RUTHVELKA_, in capitals. It is 0
+   where there is no proposal of the name, or the name is null. It may be called at any time, in any thread.
+
+       uint64_t features = RUTHVELKA_STANDARD | ruthvelka_feature("CUSTOM_PAGE_SIZES", 17); */
+uint64_t ruthvelka_feature(const char *name, size_t length);
+
+/* ruthvelka_feature_name: writes the name of the proposal with this bit, as far as there is room, without a zero behind it, and gives the length of the
+   whole name. That is 0, and nothing is written, where no proposal has just this bit, or `name` is null and `room` isn't 0. It may be called at any
+   time, in any thread.
+
+       char name[32];
+       size_t length = ruthvelka_feature_name(report.missing_features, name, sizeof name);
+       if (length) printf("it wants %.*s\n", (int)length, name); */
+size_t ruthvelka_feature_name(uint64_t feature, char *name, size_t room);
 
 /* ruthvelka_validate: whether `length` bytes are a valid module under these features.
 
    It writes the message of a refusal into `message`, as far as there is room: UTF-8, without a zero behind it, and nothing behind it changes. The
-   message is empty where memory for it is refused. It gives the verdict and writes it into the report, with all else that it tells.
+   message is empty where memory for it is refused. It gives the verdict and writes it into the report, with all else that it tells: VALID, REFUSED,
+   NO_MEMORY or BAD_CALL.
 
        struct ruthvelka_report report;
        char text[200];
@@ -108,7 +139,48 @@ uint32_t ruthvelka_validate(const uint8_t *bytes, size_t length, uint64_t featur
 uint32_t ruthvelka_validate_with_ids(const uint8_t *bytes, size_t length, uint64_t features, char *message, size_t message_room,
     struct ruthvelka_report *report, uint32_t *type_ids, size_t type_room, uint32_t *function_ids, size_t function_room);
 
-/* The bytes of one module of a list. The pointer is never null, also where the length is 0. */
+/* The kinds of what is imported and exported, by their numbers in the binary format. */
+#define RUTHVELKA_FUNCTION 0
+#define RUTHVELKA_TABLE 1
+#define RUTHVELKA_MEMORY 2
+#define RUTHVELKA_GLOBAL 3
+#define RUTHVELKA_TAG 4
+#define RUTHVELKA_EXACT_FUNCTION 32 /* with CUSTOM_DESCRIPTORS: a function that has exactly its type, and not one below it */
+
+/* In place of the id of a type, where it is neither a function nor a tag. */
+#define RUTHVELKA_NO_ID UINT32_MAX
+
+/* An import or an export. Its names are parts of the text of all names: so many bytes from that start on. */
+struct ruthvelka_extern {
+    uint64_t module_start;  /* an import: the name of the module that it is from; an export: the empty name */
+    uint64_t module_length;
+    uint64_t name_start;    /* its own name */
+    uint64_t name_length;
+    uint32_t kind;          /* RUTHVELKA_FUNCTION and so on */
+    uint32_t type_id;       /* a function or a tag: the id of its type; else RUTHVELKA_NO_ID */
+};
+
+/* ruthvelka_validate_with_externs: as ruthvelka_validate, and of a valid module also its imports, its exports and their names, as far as there is room
+   for each. How many there are, and the length of all names, stand in the report, and nothing behind them changes. Where the module isn't valid none
+   of the arrays changes.
+
+   The exports come in their order. The imports come by their pairs of names (of the module, and their own), in the order in which the pairs first
+   come, and those of one pair in their order: so in the order of the module, unless a pair comes again behind another one. This is how
+   RUTHVELKA_MAY_BE_GIVEN numbers them too. The names stand in `names` one after another, those of imports first: UTF-8, without a zero behind
+   them. It takes memory for what it writes: where that is refused, the verdict is RUTHVELKA_NO_MEMORY and none of the arrays changes. The room for
+   names that is always enough is `length`.
+
+       struct ruthvelka_extern imports[64];
+       char names[4096];
+       if (ruthvelka_validate_with_externs(bytes, length, RUTHVELKA_STANDARD, NULL, 0, &report, imports, 64, NULL, 0, names, sizeof names)
+               == RUTHVELKA_VALID && report.names_length <= sizeof names)
+           for (uint64_t i = 0; i < report.imports && i < 64; i++)
+               printf("%.*s\n", (int)imports[i].name_length, names + imports[i].name_start); */
+uint32_t ruthvelka_validate_with_externs(const uint8_t *bytes, size_t length, uint64_t features, char *message, size_t message_room,
+    struct ruthvelka_report *report, struct ruthvelka_extern *imports, size_t import_room, struct ruthvelka_extern *exports, size_t export_room,
+    char *names, size_t name_room);
+
+/* The bytes of one module of a list. */
 struct ruthvelka_bytes {
     const uint8_t *bytes;
     size_t length;
@@ -122,7 +194,8 @@ struct ruthvelka_bytes {
    types of the functions, of all valid modules, one module after another, as far as there is room: how many each has stands in its report.
 
    It gives RUTHVELKA_VALID where it did so, whatever the verdicts are; RUTHVELKA_NO_MEMORY where memory for the list itself was refused, and then
-   nothing is written; or RUTHVELKA_BAD_CALL. Together the modules may have at most 1,048,576 different types: one that has more is refused.
+   nothing is written; or RUTHVELKA_BAD_CALL, also where the pointer of one of the modules is null and its length isn't 0. Together the modules may
+   have at most 1,048,576 different types: one that has more is refused.
 
        struct ruthvelka_bytes modules[2] = {{exporter, sizeof exporter}, {importer, sizeof importer}};
        struct ruthvelka_report reports[2];
@@ -133,9 +206,47 @@ struct ruthvelka_bytes {
 uint32_t ruthvelka_validate_list(const struct ruthvelka_bytes *modules, size_t module_count, uint64_t features, struct ruthvelka_report *reports,
     size_t report_room, uint32_t *type_ids, size_t type_room, uint32_t *function_ids, size_t function_room);
 
+/* The kinds of questions. */
+#define RUTHVELKA_IS_SUBTYPE 0   /* is the first type the second one, or declared to be below it? */
+#define RUTHVELKA_MAY_BE_GIVEN 1 /* may the export be given where the import asks for something? */
+
+/* The answers. */
+#define RUTHVELKA_NO 0
+#define RUTHVELKA_YES 1
+#define RUTHVELKA_UNKNOWN 2 /* one of the two isn't there, its module isn't valid or wasn't checked, or there is no such kind of question */
+
+/* A question about two types, or about an export and an import, of modules of one list. A module is named by its place in the list, from 0 on. */
+struct ruthvelka_query {
+    uint32_t kind;          /* RUTHVELKA_IS_SUBTYPE or RUTHVELKA_MAY_BE_GIVEN */
+    uint32_t first_module;
+    uint32_t first;         /* a type index of the first module; or the number of one of its exports, as ruthvelka_validate_with_externs has them */
+    uint32_t second_module;
+    uint32_t second;        /* a type index of the second module; or the number of one of its imports */
+    uint32_t answer;        /* written: RUTHVELKA_YES, RUTHVELKA_NO or RUTHVELKA_UNKNOWN; nothing else of a question changes */
+};
+
+/* ruthvelka_validate_list_with_queries: as ruthvelka_validate_list, but it writes no ids, and answers questions about the valid modules of the list:
+
+   - RUTHVELKA_IS_SUBTYPE: whether the first type is equal to the second one or to one above that is reached by declared supertypes. Types match so
+     in the standard (Validation, Matching, Defined Types).
+   - RUTHVELKA_MAY_BE_GIVEN: whether the export's external type matches that of the import (Validation, Matching, External Types): functions by
+     declared supertypes, tags by equal types, globals, tables and memories by what they hold, their limits and their flags. Names aren't compared.
+
+   It gives RUTHVELKA_VALID where it did so, whatever the verdicts and the answers are; RUTHVELKA_NO_MEMORY where memory for the list was refused, and
+   then nothing is written; or RUTHVELKA_BAD_CALL. A question about an export or an import takes time that grows with its number.
+
+       struct ruthvelka_query query = {.kind = RUTHVELKA_MAY_BE_GIVEN, .first_module = 0, .first = 0, .second_module = 1, .second = 0};
+       if (ruthvelka_validate_list_with_queries(modules, 2, RUTHVELKA_STANDARD, reports, 2, &query, 1) == RUTHVELKA_VALID
+           && query.answer == RUTHVELKA_YES)
+           link(0, 1); */
+uint32_t ruthvelka_validate_list_with_queries(const struct ruthvelka_bytes *modules, size_t module_count, uint64_t features,
+    struct ruthvelka_report *reports, size_t report_room, struct ruthvelka_query *queries, size_t query_count);
+
 /* ruthvelka_set_allocator: from now on memory comes from these three functions, which have to do what malloc, realloc and free do: a block for any
    size, aligned to each power of two up to 16 that divides the size, or null. Any null argument sets malloc, realloc and free again. It isn't
-   safe beside other calls: call it first, before any thread makes one. */
+   safe beside other calls: call it first, before any thread makes one.
+
+       ruthvelka_set_allocator(arena_allocate, arena_resize, arena_release); */
 void ruthvelka_set_allocator(void *(*allocate)(size_t size), void *(*resize)(void *block, size_t size), void (*release)(void *block));
 
 #ifdef __cplusplus

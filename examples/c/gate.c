@@ -1,22 +1,7 @@
-/* An admission gate: each file that is named is let in exactly where it is a valid module. */
+/* gate FILE..: an admission gate. Each file is let in exactly where it is a valid module. */
 #include <ruthvelka.h>
-#include <stdio.h>
-#include <stdlib.h>
 
-/* The bytes of a file, or null. */
-static uint8_t *read_file(const char *name, size_t *length) {
-    FILE *file = fopen(name, "rb");
-    uint8_t *bytes = NULL;
-    if (!file) return NULL;
-    if (!fseek(file, 0, SEEK_END)) {
-        const long size = ftell(file);
-        rewind(file);
-        bytes = size < 0 ? NULL : malloc(size ? (size_t)size : 1);
-        *length = bytes ? fread(bytes, 1, (size_t)size, file) : 0;
-    }
-    fclose(file);
-    return bytes;
-}
+#include "files.h"
 
 /* Prints the line of a file, and says whether it is let in. */
 static int is_let_in(const char *name, const uint8_t *bytes, size_t length) {
@@ -24,7 +9,8 @@ static int is_let_in(const char *name, const uint8_t *bytes, size_t length) {
     char text[256];
     switch (ruthvelka_validate(bytes, length, RUTHVELKA_STANDARD, text, sizeof text, &report)) {
     case RUTHVELKA_VALID:
-        printf("%s: ok types %u functions %u\n", name, report.types, report.functions);
+        printf("%s: ok types %u functions %u imports %llu exports %llu\n", name, report.types, report.functions,
+            (unsigned long long)report.imports, (unsigned long long)report.exports);
         return 1;
     case RUTHVELKA_REFUSED:
         printf("%s: refused at %llu: %.*s\n", name, (unsigned long long)report.offset,

@@ -1,20 +1,74 @@
-/* A linker of functions: one of the first module may be given for one that the second imports, where both have one type, and so one id. */
+/* linker EXPORTER IMPORTER: each import of the second module is looked up among the exports of the first by its own name, and linked where what is
+   found may be given for it. */
 #include <ruthvelka.h>
-#include <stdio.h>
+#include <string.h>
 
-/* A module that imports and exports the function `f`, of type [i32] -> []. */
-static const uint8_t exporter[] = {0, 'a', 's', 'm', 1, 0, 0, 0, 1, 5, 1, 0x60, 1, 0x7f, 0, 2, 7, 1, 1, 'x', 1, 'f', 0, 0, 7, 5, 1, 1, 'f', 0, 0};
-/* One that imports two functions: of type [] -> [], and of type [i32] -> []. */
-static const uint8_t importer[] = {0, 'a', 's', 'm', 1, 0, 0, 0, 1, 8, 2, 0x60, 0, 0, 0x60, 1, 0x7f, 0, 2, 13, 2,
-    1, 'm', 1, 'f', 0, 0, 1, 'm', 1, 'g', 0, 1};
+#include "files.h"
 
-int main(void) {
-    const struct ruthvelka_bytes modules[] = {{exporter, sizeof exporter}, {importer, sizeof importer}};
-    struct ruthvelka_report reports[2];
-    uint32_t ids[4] = {0};
-    if (ruthvelka_validate_list(modules, 2, RUTHVELKA_STANDARD, reports, 2, NULL, 0, ids, 4) != RUTHVELKA_VALID) return 2;
-    if (reports[0].verdict != RUTHVELKA_VALID || reports[1].verdict != RUTHVELKA_VALID) return 2;
-    for (uint32_t wanted = 0; wanted < reports[1].functions; wanted++)
-        printf("import %u: %s\n", wanted, ids[0] == ids[reports[0].functions + wanted] ? "may be given" : "has another type");
+/* The imports or the exports of a module, with all its names. */
+struct side {
+    struct ruthvelka_extern *externs;
+    uint64_t count;
+    char *names;
+};
+
+/* Those of a module: first how many there are, and then they. What it returns is null in a side where the module isn't valid. */
+static struct side read_side(const uint8_t *bytes, size_t length, int wants_imports) {
+    struct ruthvelka_report report;
+    struct side side = {NULL, 0, NULL};
+    if (ruthvelka_validate_with_externs(bytes, length, RUTHVELKA_STANDARD, NULL, 0, &report, NULL, 0, NULL, 0, NULL, 0) != RUTHVELKA_VALID)
+        return side;
+    side.count = wants_imports ? report.imports : report.exports;
+    side.externs = calloc(side.count + 1, sizeof *side.externs);
+    side.names = malloc(report.names_length + 1);
+    if (!side.externs || !side.names) exit(2);
+    if (ruthvelka_validate_with_externs(bytes, length, RUTHVELKA_STANDARD, NULL, 0, &report, wants_imports ? side.externs : NULL,
+            wants_imports ? side.count : 0, wants_imports ? NULL : side.externs, wants_imports ? 0 : side.count, side.names, report.names_length)
+        != RUTHVELKA_VALID)
+        exit(2);
+    return side;
+}
+
+/* The number of the export with the name of this import, or the count of exports. */
+static uint32_t find_export(const struct side *exports, const struct side *imports, uint32_t wanted) {
+    const struct ruthvelka_extern *import = &imports->externs[wanted];
+    uint32_t found = 0;
+    while (found < exports->count
+        && (exports->externs[found].name_length != import->name_length
+            || memcmp(exports->names + exports->externs[found].name_start, imports->names + import->name_start, import->name_length)))
+        found++;
+    return found;
+}
+
+/* Links all imports by one call, and prints a line of each. */
+static int link_all(const struct ruthvelka_bytes *modules, const struct side *exports, const struct side *imports) {
+    static const char *const words[] = {"not linked", "linked", "not exported"};
+    struct ruthvelka_query *queries = calloc(imports->count + 1, sizeof *queries);
+    if (!queries) return 2;
+    for (uint32_t i = 0; i < imports->count; i++)
+        queries[i] = (struct ruthvelka_query){.kind = RUTHVELKA_MAY_BE_GIVEN, .first_module = 0, .first = find_export(exports, imports, i),
+            .second_module = 1, .second = i, .answer = 0};
+    if (ruthvelka_validate_list_with_queries(modules, 2, RUTHVELKA_STANDARD, NULL, 0, queries, imports->count) != RUTHVELKA_VALID) return 2;
+    for (uint32_t i = 0; i < imports->count; i++) {
+        const struct ruthvelka_extern *it = &imports->externs[i];
+        printf("%.*s.%.*s: %s\n", (int)it->module_length, imports->names + it->module_start, (int)it->name_length,
+            imports->names + it->name_start, words[queries[i].answer]);
+    }
+    free(queries);
     return 0;
+}
+
+int main(int count, char **names) {
+    struct ruthvelka_bytes modules[2];
+    uint8_t *read[2];
+    if (count != 3) return 2;
+    for (int i = 0; i < 2; i++) {
+        if (!(read[i] = read_file(names[i + 1], &modules[i].length))) return 2;
+        modules[i].bytes = read[i];
+    }
+    struct side exports = read_side(modules[0].bytes, modules[0].length, 0);
+    struct side imports = read_side(modules[1].bytes, modules[1].length, 1);
+    const int status = exports.externs && imports.externs ? link_all(modules, &exports, &imports) : 1;
+    free(exports.externs), free(exports.names), free(imports.externs), free(imports.names), free(read[0]), free(read[1]);
+    return status;
 }

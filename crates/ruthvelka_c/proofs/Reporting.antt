@@ -1,15 +1,15 @@
--- Writing reports one after another.
+-- Writing items of any kind one after another, each told by its place.
 use Rattle.std.proofs.Common.{ℕ, zero, suc, ◌≡◌, ◌≢◌, ◌+◌, ◌<◌, ◌≤◌, List, [], ◌∷◌, length, slice_get, Option, Some, None, below_more, refl, sym, ap, subst, ◌∙◌, arith}
 use Rattle.std.proofs.Math.ListN.{set}
 use Rattle.std.proofs.lemmas.List.{length-set}
-use Rattle.ruthvelka_c.specs.declared.report.Report.{Report}
-use Rattle.ruthvelka_c.specs.Answers.{Answer}
-use Rattle.ruthvelka_c.specs.Lists.{answered_on}
+use Rattle.std.proofs.lemmas.Option.{slice_get_within}
+use Rattle.std.specs.Prelude.{min}
+use Rattle.ruthvelka_c.specs.Arrays.{AreTold}
 
--- reports stand in the array up to this place
-pub record ReportsUpto (answers : List Answer) (i : ℕ) (old new : List Report) : Type 0 where
+-- items are told by their places up to this one, and all from it on are as they were
+pub record ToldUpto {X : Type 0} (P : ℕ → X → Type 0) (i : ℕ) (old new : List X) : Type 0 where
   pub room : length new ≡ length old
-  pub told : (k : ℕ) → k < i → (r : Report) → slice_get new k ≡ Some r → answered_on answers k r
+  pub told : (k : ℕ) → k < i → (x : X) → slice_get new k ≡ Some x → P k x
   pub others : (k : ℕ) → i ≤ k → slice_get new k ≡ slice_get old k
 
 get_set_same : {X : Type 0} (xs : List X) (i : ℕ) (v : X) → i < length xs → slice_get (set xs i v) i ≡ Some v
@@ -24,15 +24,23 @@ get_set_other (x ∷ xs) zero (suc k) v n = refl
 get_set_other (x ∷ xs) (suc i) zero v n = refl
 get_set_other (x ∷ xs) (suc i) (suc k) v n = get_set_other xs i k v (λ e. n (ap suc e))
 
-pub no_reports_yet : (answers : List Answer) (old : List Report) → ReportsUpto answers 0 old old
-no_reports_yet answers old = record { room = refl; told = λ k l. absurd (omega (arith, l)); others = λ k l. refl }
+module _ {X : Type 0} (P : ℕ → X → Type 0) where
+  pub none_told : (old : List X) → ToldUpto P 0 old old
+  none_told old = record { room = refl; told = λ k l. absurd (omega (arith, l)); others = λ k l. refl }
 
-pub one_more_report : (answers : List Answer) (old new : List Report) (i : ℕ) (v : Report) → i < length new → answered_on answers i v → ReportsUpto answers i old new
-    → ReportsUpto answers (i + 1) old (set new i v)
-one_more_report answers old new i v fits a u = record {
-  room = length-set new i v ∙ u.room;
-  told = below_more (λ k. (r : Report) → slice_get (set new i v) k ≡ Some r → answered_on answers k r) i
-      (λ k l r e. u.told k l r (sym (get_set_other new i k v (omega (arith, l))) ∙ e))
-      (λ r e. let same : v ≡ r = cc (get_set_same new i v fits, e) in subst (answered_on answers i) same a);
-  others = λ k l. get_set_other new i k v (omega (arith, l)) ∙ u.others k (omega (arith, l));
-}
+  pub one_more_told : (old new : List X) (i : ℕ) (v : X) → i < length new → P i v → ToldUpto P i old new → ToldUpto P (i + 1) old (set new i v)
+  one_more_told old new i v fits a u = record {
+    room = length-set new i v ∙ u.room;
+    told = below_more (λ k. (x : X) → slice_get (set new i v) k ≡ Some x → P k x) i
+        (λ k l x e. u.told k l x (sym (get_set_other new i k v (omega (arith, l))) ∙ e))
+        (λ x e. let same : v ≡ x = cc (get_set_same new i v fits, e) in subst (P i) same a);
+    others = λ k l. get_set_other new i k v (omega (arith, l)) ∙ u.others k (omega (arith, l));
+  }
+
+  -- all of them are told, or all that there is room for
+  pub all_told : (count : ℕ) (old new : List X) (i : ℕ) → i ≡ min (length new) count → ToldUpto P i old new → AreTold P count old new
+  all_told count old new i e u = record {
+    room = u.room;
+    told = λ k x l g. let w = slice_get_within new k x g in u.told k (omega (arith, l, w, e)) x g;
+    others = λ k l. u.others k (omega (arith, l, e));
+  }

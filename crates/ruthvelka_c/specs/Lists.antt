@@ -1,5 +1,5 @@
 -- What is told of a list of modules.
-use Rattle.std.specs.Prelude.{ℕ, ◌≡◌, ◌<◌, ◌≤◌, List, [], length, map, slice_get, Option, Some, None}
+use Rattle.std.specs.Prelude.{ℕ, ◌≡◌, List, [], length, map, slice_get, Option, Some, None}
 use Rattle.std.specs.List.{flat_map}
 use Rattle.std.specs.declared.result.Result.TheVariants.{Ok, Err}
 use Rattle.wasm_spec_rules.specs.FeatureFlags.{features_of}
@@ -9,7 +9,9 @@ use Rattle.ruthvelka_c.specs.declared.report.Report.{Report}
 use Rattle.ruthvelka_c.specs.declared.report.TheConstants.{NOT_CHECKED}
 use Rattle.ruthvelka_c.specs.declared.lists.Bytes.{Bytes}
 use Rattle.ruthvelka_c.specs.Answers.{Answer}
-use Rattle.ruthvelka_c.specs.Arrays.{AreWritten}
+use Rattle.ruthvelka_c.specs.Arrays.{AreTold, AreWritten}
+use Rattle.ruthvelka_c.specs.declared.queries.Query.{Query}
+use Rattle.ruthvelka_c.specs.Queries.{QueriesTell}
 use Rattle.ruthvelka_c.specs.Reports.{Tells, flags, function_ids}
 
 abbrev pub bytes_of : Bytes → List ℕ
@@ -33,10 +35,8 @@ abbrev pub answered_on : List Answer → ℕ → Report → Type 0
 answered_on answers k r = TellsMaybe (slice_get answers k) r
 
 -- A report on each of so many modules stands in the array, as far as there is room, and what is behind them is as it was.
-pub record ReportsTell (answers : List Answer) (count : ℕ) (old new : List Report) : Type 0 where
-  pub room : length new ≡ length old
-  pub told : (k : ℕ) (r : Report) → k < count → slice_get new k ≡ Some r → answered_on answers k r
-  pub others : (k : ℕ) → count ≤ k → slice_get new k ≡ slice_get old k
+abbrev pub ReportsTell : List Answer → ℕ → List Report → List Report → Type 0
+ReportsTell answers count old new = AreTold (answered_on answers) count old new
 
 -- What is told of a list of modules by a new validator with these proposals: as `validate_list` answers.
 pub record ToldList
@@ -46,3 +46,11 @@ pub record ToldList
   pub reports : ReportsTell answers (length modules) reports_old reports_new
   pub types : AreWritten (flat_map types_of answers) types_old types_new
   pub functions : AreWritten (flat_map functions_of answers) functions_old functions_new
+
+-- The same with questions in place of ids.
+pub record ToldQueries
+    (modules : List (List ℕ)) (features : ℕ) (reports_old reports_new : List Report) (queries_old queries_new : List Query) : Type 0 where
+  pub answers : List Answer
+  pub headline : Headline (features_of (flags features)) modules answers []
+  pub reports : ReportsTell answers (length modules) reports_old reports_new
+  pub queries : QueriesTell answers queries_old queries_new

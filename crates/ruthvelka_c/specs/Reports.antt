@@ -1,8 +1,9 @@
 -- What a report tells of an answer.
-use Rattle.std.specs.Prelude.{ℕ, ◌≡◌, List, length, map, slice_index, Option, Some, None}
+use Rattle.std.specs.Prelude.{ℕ, ◌≡◌, ◌-◌, ◌^◌, List, length, map, min, slice_index, Option, Some, None}
 use Rattle.std.specs.Option.{unwrap_or}
 use Rattle.std.specs.declared.result.Result.TheVariants.{Ok, Err}
 use Rattle.wasm_readers_errors.specs.WasmReadersFeatures.declared.features.WasmFeatures.{WasmFeatures}
+use Rattle.wasm_validator.specs.WasmValidatorTypes.Rows.{all_imports}
 use Rattle.wasm_validator.specs.WasmValidatorTypes.Spaces.{Spaces}
 use Rattle.wasm_validator.specs.WasmValidatorTypes.Shown.{shown_of}
 use Rattle.wasm_validator.specs.WasmValidatorTypes.declared.shown.Types as shown
@@ -38,7 +39,11 @@ module _ {A : Type 0} where
     pub missing : r.missing_features ≡ bits_of (missing_of e)
     pub function : r.function ≡ unwrap_or (function_of e) NO_FUNCTION
 
--- an accepted module: how many items each of its index spaces has
+-- a count, as far as 64 bits count
+abbrev pub counted : ℕ → ℕ
+counted n = min n (2 ^ 64 - 1)
+
+-- an accepted module: how many items each of its index spaces has, and how many imports and exports there are
 pub record TellsCounts (spaces : Spaces) (r : Report) : Type 0 where
   pub verdict : r.verdict ≡ VALID
   pub types : r.types ≡ length spaces.types
@@ -47,6 +52,8 @@ pub record TellsCounts (spaces : Spaces) (r : Report) : Type 0 where
   pub memories : r.memories ≡ length spaces.memories
   pub globals : r.globals ≡ length spaces.globals
   pub tags : r.tags ≡ length spaces.tags
+  pub imports : r.imports ≡ counted (length (all_imports spaces.imports))
+  pub exports : r.exports ≡ counted (length spaces.exports)
 
 abbrev pub Tells : Answer → Report → Type 0
 Tells (Ok t) r = TellsCounts (shown_of t).spaces r

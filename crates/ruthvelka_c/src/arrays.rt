@@ -15,7 +15,8 @@ pub fn write_text(to: &mut [u8], text: &[u8]) -> u64
     text.len() as u64
 }
 
-fn write_bytes(to: &mut [u8], given: &[u8])
+/// Writes as much of these bytes as there is room for.
+pub fn write_bytes(to: &mut [u8], given: &[u8])
     ensures { AreWritten given.now to.old to.new }
 {
     let most = to.len().min(given.len());

@@ -3,23 +3,35 @@
 #![tactic(auto)]
 
 ghost use Rattle.std.specs.Prelude.{◌≡◌, ◌≤◌, map};
+ghost use Rattle.bitflags.specs.Sets.{known_bits};
 ghost use Rattle.wasm_validator.specs.Verdict.{AreModule, AreNoModule};
 ghost use Rattle.ruthvelka_c.specs.Arrays.{HasText};
+ghost use Rattle.ruthvelka_c.specs.Externs.{ToldWithExterns};
+ghost use Rattle.ruthvelka_c.specs.Lists.{ToldList, ToldQueries, bytes_of};
+ghost use Rattle.ruthvelka_c.specs.Names.{HasName, bits_named};
 ghost use Rattle.ruthvelka_c.specs.Reports.{Told, ToldWithIds, flags};
-ghost use Rattle.ruthvelka_c.specs.Lists.{ToldList, bytes_of};
 
 mod answers;
 mod arrays;
+mod externs;
 mod lists;
+mod names;
+mod queries;
 mod report;
 
 use answers::{answer_alone, answer_list, write_ids};
 use arrays::write_numbers;
+pub use externs::{EXACT_FUNCTION, Extern, FUNCTION, GLOBAL, MEMORY, NO_ID, TABLE, TAG};
+use externs::{gather_externs, write_all};
 pub use lists::Bytes;
 use lists::{gather_functions, gather_types, write_reports};
-use report::{report_of, write_message};
+use names::{all_features, find_feature, find_name, write_name};
+use queries::answer_queries;
+pub use queries::{IS_SUBTYPE, MAY_BE_GIVEN, NO, Query, UNKNOWN, YES};
+use report::{report_no_memory, report_of, report_with_names, write_message};
 pub use report::{NO_FUNCTION, NO_MEMORY, NOT_CHECKED, REFUSED, Report, VALID};
 use std::alloc::Global;
+use wasm_validator::{Flags, WasmFeatures};
 
 /// The version of the library, as major · 1,000,000 + minor · 1,000 + patch.
 #[unsafe(no_mangle)]
@@ -27,6 +39,31 @@ pub extern "C" fn ruthvelka_proved_version() -> u32
     ensures { result ≡ 1000 }
 {
     1000
+}
+
+/// The bits of all proposals.
+#[unsafe(no_mangle)]
+pub extern "C" fn ruthvelka_proved_features() -> u64
+    ensures { result ≡ known_bits ⟦<WasmFeatures as Flags>⟧.table }
+{
+    all_features()
+}
+
+/// The bits of the proposal with this name, or none.
+#[unsafe(no_mangle)]
+pub extern "C" fn ruthvelka_proved_feature(name: &[u8]) -> u64
+    ensures { result ≡ bits_named ⟦<WasmFeatures as Flags>⟧.table name.now }
+{
+    find_feature(name)
+}
+
+/// Writes the name of the proposal with these bits, as far as there is room, and gives its length,
+/// which is 0 where there is no such proposal.
+#[unsafe(no_mangle)]
+pub extern "C" fn ruthvelka_proved_feature_name(bits: u64, name: &mut [u8]) -> u64
+    ensures { HasName ⟦<WasmFeatures as Flags>⟧.table bits result name.old name.new }
+{
+    write_name(name, find_name(bits))
 }
 
 /// Validates one module with these proposals, writes the message of a refusal as far as there is
@@ -79,6 +116,43 @@ pub extern "C" fn ruthvelka_proved_validate_with_ids(
     report.verdict
 }
 
+/// The same, and writes the imports and the exports of the module, in their order, and all their
+/// names, as far as there is room. Nothing is written there where the module is not valid, or where
+/// memory to gather them is refused, which is then the verdict.
+#[unsafe(no_mangle)]
+pub extern "C" fn ruthvelka_proved_validate_with_externs(
+    alloc: Global,
+    bytes: &[u8],
+    features: u64,
+    message: &mut [u8],
+    report: &mut Report,
+    imports: &mut [Extern],
+    exports: &mut [Extern],
+    names: &mut [u8],
+) -> u32
+    ensures told { ToldWithExterns bytes.now features report.new imports.old imports.new
+        exports.old exports.new names.old names.new }
+    ensures verdict { result ≡ report.new.verdict }
+    ensures known { result ≤ 2 }
+    ensures valid { result ≡ VALID → AreModule (flags features) bytes.now }
+    ensures refused { result ≡ REFUSED → AreNoModule (flags features) bytes.now }
+    ensures message { HasText report.new.message_length message.old message.new }
+{
+    let answer = answer_alone(alloc, bytes, features);
+    match gather_externs(alloc, &answer) {
+        Ok(externs) => {
+            let message_length = write_message(alloc, &answer, message);
+            let names_length = write_all(&externs, imports, exports, names);
+            *report = report_with_names(&answer, message_length, names_length);
+            report.verdict
+        }
+        Err(_) => {
+            *report = report_no_memory();
+            NO_MEMORY
+        }
+    }
+}
+
 /// Validates modules one after another by one validator with these proposals, as far as it goes, and
 /// reports on each, as far as there is room. The ids of the types, and of the types of the
 /// functions, of all accepted modules come one module after another, as far as there is room. The
@@ -109,5 +183,27 @@ pub extern "C" fn ruthvelka_proved_validate_list(
     write_reports(answers.as_slice(), modules.len(), reports);
     write_numbers(type_ids, types.as_slice());
     write_numbers(function_ids, functions.as_slice());
+    VALID
+}
+
+/// The same, but writes no ids: instead it answers questions about the types, the exports and the
+/// imports of accepted modules, each in its place.
+#[unsafe(no_mangle)]
+pub extern "C" fn ruthvelka_proved_validate_list_with_queries(
+    alloc: Global,
+    modules: &[Bytes],
+    features: u64,
+    reports: &mut [Report],
+    queries: &mut [Query],
+) -> u32
+    ensures told { result ≡ VALID → ToldQueries (map bytes_of modules.now) features reports.old
+        reports.new queries.old queries.new }
+    ensures known { result ≤ 2 }
+{
+    let Ok(answers) = answer_list(alloc, modules, features) else {
+        return NO_MEMORY;
+    };
+    write_reports(answers.as_slice(), modules.len(), reports);
+    answer_queries(answers.as_slice(), queries);
     VALID
 }

@@ -1,8 +1,11 @@
 //! What is told of one module.
 
-ghost use Rattle.std.specs.Prelude.{◌≡◌};
+ghost use Rattle.std.specs.Prelude.{◌≡◌, length};
+ghost use Rattle.std.specs.declared.result.Result.TheVariants.{Err};
+ghost use Rattle.wasm_validator.specs.WasmValidatorCore.declared.error.Error.TheVariants.{OutOfMemory};
 ghost use Rattle.ruthvelka_c.specs.Arrays.{HasText};
-ghost use Rattle.ruthvelka_c.specs.Reports.{Tells, TellsCounts, TellsRefusal, bits_of, verdict_of};
+ghost use Rattle.ruthvelka_c.specs.Reports.{Tells, TellsCounts, TellsRefusal, bits_of, counted, verdict_of};
+ghost use Rattle.wasm_validator.specs.WasmValidatorTypes.Rows.{all_imports};
 ghost use Rattle.wasm_validator.specs.WasmValidatorTypes.Shown.{shown_by};
 
 use crate::arrays::write_text;
@@ -30,6 +33,9 @@ pub struct Report {
     pub offset: u64,
     pub missing_features: u64,
     pub message_length: u64,
+    pub imports: u64,
+    pub exports: u64,
+    pub names_length: u64,
     pub verdict: u32,
     pub function: u32,
     pub types: u32,
@@ -40,10 +46,11 @@ pub struct Report {
     pub tags: u32,
 }
 
-/// The report on an answer whose message has this length.
+/// The report on an answer whose message has this length, and no names.
 pub fn report_of(answer: &Answer, message_length: u64) -> Report
     ensures tells { Tells answer.now result }
     ensures message { result.message_length ≡ message_length }
+    ensures names { result.names_length ≡ 0 }
 {
     match answer {
         Ok(types) => report_counts(&types.as_ref(), message_length),
@@ -51,14 +58,65 @@ pub fn report_of(answer: &Answer, message_length: u64) -> Report
     }
 }
 
+/// The same, with the length of all names.
+pub fn report_with_names(answer: &Answer, message_length: u64, names_length: u64) -> Report
+    ensures tells { Tells answer.now result }
+    ensures message { result.message_length ≡ message_length }
+    ensures names { result.names_length ≡ names_length }
+{
+    let mut report = report_of(answer, message_length);
+    report.names_length = names_length;
+    report
+}
+
+/// The report that memory was refused.
+pub fn report_no_memory() -> Report
+    ensures tells { Tells (Err OutOfMemory) result }
+    ensures message { result.message_length ≡ 0 }
+{
+    report_refusal(&Error::OutOfMemory, 0)
+}
+
+/// How many imports the module has, as far as 64 bits count.
+fn count_imports(types: &TypesRef<'_>) -> u64
+    ensures { result ≡ counted (length (all_imports (shown_by types.now).spaces.imports)) }
+{
+    let mut count = 0u64;
+    let Some(mut imports) = types.core_imports() else {
+        return count;
+    };
+    'imports: while let Some(_) = imports.next() {
+        count = count.saturating_add(1);
+    }
+    count
+}
+
+/// How many exports the module has, as far as 64 bits count.
+fn count_exports(types: &TypesRef<'_>) -> u64
+    ensures { result ≡ counted (length (shown_by types.now).spaces.exports) }
+{
+    let mut count = 0u64;
+    let Some(mut exports) = types.core_exports() else {
+        return count;
+    };
+    'exports: while let Some(_) = exports.next() {
+        count = count.saturating_add(1);
+    }
+    count
+}
+
 fn report_counts(types: &TypesRef<'_>, message_length: u64) -> Report
     ensures tells { TellsCounts (shown_by types.now).spaces result }
     ensures message { result.message_length ≡ message_length }
+    ensures names { result.names_length ≡ 0 }
 {
     Report {
         offset: 0,
         missing_features: 0,
         message_length,
+        imports: count_imports(types),
+        exports: count_exports(types),
+        names_length: 0,
         verdict: VALID,
         function: NO_FUNCTION,
         types: types.core_type_count_in_module(),
@@ -73,11 +131,15 @@ fn report_counts(types: &TypesRef<'_>, message_length: u64) -> Report
 fn report_refusal(error: &Error, message_length: u64) -> Report
     ensures tells { TellsRefusal error.now result }
     ensures message { result.message_length ≡ message_length }
+    ensures names { result.names_length ≡ 0 }
 {
     Report {
         offset: error.offset(),
         missing_features: bits(error.missing_features()),
         message_length,
+        imports: 0,
+        exports: 0,
+        names_length: 0,
         verdict: refusal_verdict(error),
         function: error.function().unwrap_or(NO_FUNCTION),
         types: 0,
@@ -114,12 +176,12 @@ fn bits(missing: Option<WasmFeatures>) -> u64
 }
 
 /// Writes why a module is refused, as far as there is room, and gives the length of the whole text.
-/// It is empty where the module is accepted, and where memory for it is refused.
+/// It is empty where the module is accepted, and where memory is refused, for the module or for it.
 pub fn write_message(alloc: Global, answer: &Answer, to: &mut [u8]) -> u64
     ensures { HasText result to.old to.new }
 {
     match answer {
-        Ok(_) => write_text(to, b""),
+        Ok(_) | Err(Error::OutOfMemory) => write_text(to, b""),
         Err(error) => match format!(in alloc; "{error}") {
             Ok(text) => write_text(to, text.as_str().as_bytes()),
             Err(_) => write_text(to, b""),

@@ -1,5 +1,6 @@
-use Rattle.ruthvelka_c.proofs.Reporting.{ReportsUpto}
+use Rattle.ruthvelka_c.specs.Lists.{answered_on}
+use Rattle.ruthvelka_c.proofs.Reporting.{ToldUpto}
 use Rattle.ruthvelka_c.proofs.lists.write_reports.Given as goal
 
 abbrev pub invariant-places : goal.invariant-places
-invariant-places l = ReportsUpto l.answers l.place l.initial.to l.to
+invariant-places l = ToldUpto (answered_on l.answers) l.place l.initial.to l.to

@@ -1,0 +1,51 @@
+//! The proposals by their names.
+
+ghost use Rattle.std.specs.Prelude.{◌≡◌, length};
+ghost use Rattle.bitflags.specs.Sets.{known_bits};
+ghost use Rattle.ruthvelka_c.specs.Arrays.{AreWritten};
+ghost use Rattle.ruthvelka_c.specs.Names.{bits_named, name_in};
+
+use crate::arrays::write_bytes;
+use wasm_validator::{Flags, WasmFeatures};
+
+/// The bits of the proposal with this name, or none.
+pub fn find_feature(name: &[u8]) -> u64
+    ensures { result ≡ bits_named ⟦<WasmFeatures as Flags>⟧.table name.now }
+{
+    match std::str::from_utf8(name) {
+        Ok(text) => match WasmFeatures::from_name(text) {
+            Some(feature) => feature.bits(),
+            None => 0,
+        },
+        Err(_) => 0,
+    }
+}
+
+/// The name of the proposal with these bits, or the empty one.
+pub fn find_name(bits: u64) -> &'static str
+    ensures { result.now ≡ name_in ⟦<WasmFeatures as Flags>⟧.table bits }
+{
+    let flags = WasmFeatures::flags();
+    'flags: for k in 0..flags.len() {
+        if flags[k].value().bits() == bits {
+            return flags[k].name();
+        }
+    }
+    ""
+}
+
+/// The bits of all proposals.
+pub fn all_features() -> u64
+    ensures { result ≡ known_bits ⟦<WasmFeatures as Flags>⟧.table }
+{
+    <WasmFeatures as Flags>::all().bits()
+}
+
+/// Writes as much of a name as there is room for, and gives the length of the whole.
+pub fn write_name(to: &mut [u8], name: &str) -> u64
+    ensures told { result ≡ length name.now }
+    ensures written { AreWritten name.now to.old to.new }
+{
+    write_bytes(to, name.as_bytes());
+    name.len() as u64
+}

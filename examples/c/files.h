@@ -1,0 +1,19 @@
+/* Reading a file, for the examples. */
+#include <stdint.h>
+#include <stdio.h>
+#include <stdlib.h>
+
+/* The bytes of a file, or null. */
+static uint8_t *read_file(const char *name, size_t *length) {
+    FILE *file = fopen(name, "rb");
+    uint8_t *bytes = NULL;
+    if (!file) return NULL;
+    if (!fseek(file, 0, SEEK_END)) {
+        const long size = ftell(file);
+        rewind(file);
+        bytes = size < 0 ? NULL : malloc(size ? (size_t)size : 1);
+        *length = bytes ? fread(bytes, 1, (size_t)size, file) : 0;
+    }
+    fclose(file);
+    return bytes;
+}

@@ -1,0 +1,3 @@
+module ruthvelka.example
+
+go 1.19

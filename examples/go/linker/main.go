@@ -1,0 +1,42 @@
+// linker EXPORTER IMPORTER: each import of the second module is looked up among the exports of the first by its own name, and linked where what is
+// found may be given for it.
+package main
+
+import (
+	"fmt"
+	"os"
+
+	"ruthvelka.example/ruthvelka"
+)
+
+func must[T any](it T, err error) T {
+	if err != nil {
+		fmt.Fprintln(os.Stderr, "linker:", err)
+		os.Exit(2)
+	}
+	return it
+}
+
+func main() {
+	modules := [][]byte{must(os.ReadFile(os.Args[1])), must(os.ReadFile(os.Args[2]))}
+	_, exports, err := ruthvelka.Externs(modules[0], ruthvelka.Standard)
+	must(exports, err)
+	imports, _, err := ruthvelka.Externs(modules[1], ruthvelka.Standard)
+	must(imports, err)
+	places := map[string]uint32{}
+	for place, it := range exports {
+		places[it.Name] = uint32(place)
+	}
+	questions := []ruthvelka.Question{}
+	for wanted, it := range imports {
+		place, found := places[it.Name]
+		if !found {
+			place = uint32(len(exports))
+		}
+		questions = append(questions, ruthvelka.Question{ExportModule: 0, Export: place, ImportModule: 1, Import: uint32(wanted)})
+	}
+	words := map[ruthvelka.Answer]string{ruthvelka.No: "not linked", ruthvelka.Yes: "linked", ruthvelka.Unknown: "not exported"}
+	for i, answer := range must(ruthvelka.MayBeGiven(modules, ruthvelka.Standard, questions)) {
+		fmt.Printf("%s.%s: %s\n", imports[i].Module, imports[i].Name, words[answer])
+	}
+}
