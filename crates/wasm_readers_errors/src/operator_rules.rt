@@ -309,8 +309,7 @@ impl OperatorRule {
             OperatorRule::CatchOutsideTry => "catch found outside of a `try` block",
             OperatorRule::CatchAllOutsideTry => "catch_all found outside of a `try` block",
             OperatorRule::DelegateOutsideTry => "delegate found outside of a `try` block",
-            OperatorRule::RethrowLabel =>
-                "invalid rethrow label: target was not a `catch` block",
+            OperatorRule::RethrowLabel => "invalid rethrow label: target was not a `catch` block",
             _ => "invalid operator",
         }
     }

@@ -24,7 +24,8 @@ pub mod operators {
         ConstantOperator, ControlOperator, ConversionOperator, FrameKind, Ieee32, Ieee64,
         Immediate, LegacyOperator, Listed, ListedItems, MemArg, MemoryOperator, NumericOperator,
         Operator, ParametricOperator, ReferenceOperator, SaturatingOperator, StructOperator,
-        TableOperator, TryTable, V128, VariableOperator, max_align, read_block_type, read_expression, read_memarg,
+        TableOperator, TryTable, V128, VariableOperator, max_align, read_block_type,
+        read_expression, read_memarg,
     };
 }
 

@@ -8,7 +8,7 @@ is_two : (s r : ℕ) → s ≡ 2 → s ≤ r → r ≤ 2 → r ≡ 2
 is_two s r e a b = omega (arith, e, a, b)
 
 pub names-init : goal.names-init
-names-init g c = record { told = none_checked c.args.settings.now.features (λ _. ⊤); silent = λ _. refl; quiet = λ _. refl; }
+names-init g c = record { told = none_checked c.args.settings.now.features (λ _. ⊤); silent = λ _. refl; quiet = λ _. refl }
 
 pub names-preserved : goal.names-preserved
 names-preserved g c =
