@@ -11,7 +11,6 @@ use wasm_readers::{
     TagType, TypeRef, ValType, WasmFeatures,
 };
 use wasm_validate_files::validator::{EntityType, Error, Module, TypeList};
-use wasm_validator_canonical::needs_type_canonicalization;
 
 /// A module, and a list of types, with the function type that takes two integers and gives one.
 fn module_of(alloc: Global) -> Result<(TypeList, Module), Error>
@@ -22,7 +21,7 @@ fn module_of(alloc: Global) -> Result<(TypeList, Module), Error>
     let ty = SubType::func(alloc, FuncType::new(params, results), false);
     let group = RecGroup::implicit(alloc, ty)?;
     let all = WasmFeatures::all();
-    let mut list = TypeList::new(alloc, needs_type_canonicalization(all));
+    let mut list = TypeList::new(alloc, true);
     let mut module = Module::new(alloc);
     module.add_types(all, alloc, &mut list, group, 0)?;
     Ok((list, module))

@@ -15,7 +15,6 @@ use wasm_readers::{BinaryReader, FromReader};
 use wasm_validate_files::validator::{
     Error, TypeList, Types, ValidatorId, WasmFeatures, canonicalize_and_intern_rec_group, validate,
 };
-use wasm_validator_canonical::needs_type_canonicalization;
 use wasm_validator_type_list::LinkCount;
 
 /// Two structures and two functions, the second of each below the first.
@@ -73,7 +72,7 @@ fn long_group(alloc: Global) -> Result<Vec<u8>, AllocError> {
 fn more_than_63_ancestors_are_found_by_links(rt: HostRuntime) -> Result<(), Fail> {
     let alloc = rt.alloc();
     let features = WasmFeatures::default();
-    let mut list = TypeList::new(alloc, needs_type_canonicalization(features));
+    let mut list = TypeList::new(alloc, true);
     let bytes = long_group(alloc)?;
     let group: RecGroup = RecGroup::from_reader(alloc, &mut BinaryReader::new(&bytes, 0))?;
     if group.is_explicit_rec_group() {

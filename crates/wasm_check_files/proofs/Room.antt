@@ -4,7 +4,7 @@ use Rattle.std.specs.declared.alloc.Global.{Global}
 use Rattle.wasm_readers_errors.specs.WasmSpec.Features.{canonical}
 use Rattle.wasm_readers_errors.specs.WasmReadersFeatures.declared.features.WasmFeatures.{WasmFeatures}
 use Rattle.wasm_spec_rules.specs.FeatureFlags.{features_of}
-use Rattle.wasm_validator_canonical.proofs.Counted.{with_at_most}
+use Rattle.wasm_validate_files.proofs.WasmValidatorCanonical.Counted.{with_at_most}
 use Rattle.wasm_validate_files.specs.declared.files.Input.{Input}
 use Rattle.wasm_validate_files.specs.Files.{HasRoomForAll}
 

@@ -1,1 +1,2 @@
+pub use Rattle.wasm_validator.proofs.WasmValidatorCanonical as WasmValidatorCanonical
 pub mod Told

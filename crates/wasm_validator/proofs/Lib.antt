@@ -1,4 +1,5 @@
 pub use Rattle.wasm_validator_modules.proofs.WasmLawsCore as WasmLawsCore
+pub use Rattle.wasm_validator_modules.proofs.WasmValidatorCanonical as WasmValidatorCanonical
 pub mod Lists
 pub mod Ordered
 pub mod Headline
