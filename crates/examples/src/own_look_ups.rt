@@ -1,6 +1,6 @@
 //! An engine that keeps modules in a form of its own validates a body over its own look-ups.
 
-use examples_own_module::OwnModule;
+use examples_own_module::{OwnFunction, OwnModule, OwnParts};
 use std::alloc::{AllocError, Allocator};
 use std::io;
 use wasm_validator::{
@@ -41,24 +41,47 @@ fn validate_body<A: Allocator + Copy>(
     Ok(())
 }
 
-/// Validates the body of function 0 in a module of two functions of one type.
-fn validate_in_module<A: Allocator + Copy>(alloc: A, bytes: &[u8]) -> Result<(), BodyError> {
-    let ty = SubType::func(alloc, signature(alloc)?, false);
-    let module = OwnModule {
-        ty: &ty,
-        functions: &[0, 0],
+/// A function that is defined in the module, of its first type.
+const FUNCTION: OwnFunction = OwnFunction {
+    type_index: 0,
+    is_exact: true,
+};
+
+/// A module of these types, with two functions of the first.
+fn module_of<A: Allocator>(types: &[SubType<A>]) -> Option<OwnModule<'_, A>> {
+    OwnModule::new(OwnParts {
+        types,
+        functions: &[FUNCTION, FUNCTION],
         tables: &[],
         memories: &[],
         globals: &[],
-    };
-    validate_body(alloc, &module, bytes)
+        tags: &[],
+        elements: &[],
+        data_count: None,
+        references: &[],
+    })
+}
+
+/// Validates the body of function 0 in a module of two functions of one type. There is no answer
+/// where a module can't have so many types.
+fn validate_in_module<A: Allocator + Copy>(
+    alloc: A,
+    bytes: &[u8],
+) -> Result<Option<()>, BodyError> {
+    let mut types = Vec::new(alloc);
+    types.push(SubType::func(alloc, signature(alloc)?, false))?;
+    match module_of(types.as_slice()) {
+        Some(module) => Ok(Some(validate_body(alloc, &module, bytes)?)),
+        None => Ok(None),
+    }
 }
 
 /// Prints whether each body is valid.
 pub fn run<R: Print + AllocGlobal>(rt: &R) -> io::Result<()> {
     for bytes in [DOUBLE, UNBALANCED] {
         match validate_in_module(rt.alloc(), bytes) {
-            Ok(()) => println!(rt; "the body is valid")?,
+            Ok(Some(())) => println!(rt; "the body is valid")?,
+            Ok(None) => println!(rt; "the module has too many types")?,
             Err(error) => println!(rt; "the body is refused at byte {}: {error}", error.offset())?,
         }
     }

@@ -1,1 +1,1 @@
-pub mod Exact
+pub mod Types

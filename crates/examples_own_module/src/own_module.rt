@@ -1,107 +1,112 @@
-//! A module in a form of its own, with what is looked up of it.
+//! The look-ups.
 
-ghost use Rattle.std.specs.Prelude.{◌≡◌, ◌<◌, false, slice_get, IfOk, OnErr};
+ghost use Rattle.std.specs.Prelude.{◌≡◌, ◌<◌, ◌≤◌, ◌^◌, length, slice_get, IfSome, IsSome, IfOk, OnErr, ◌↔◌};
 ghost use Rattle.std.specs.Option.{option_map};
 ghost use Rattle.std.specs.declared.option.Option.TheVariants.{None, Some};
-ghost use Rattle.wasm_spec.specs.Syntax.{abstract_heap, concrete, exact, func_heap, nofunc_heap};
-ghost use Rattle.wasm_spec.specs.Declared.{supertype};
-ghost use Rattle.wasm_spec.specs.Matching.{kind_of, bottom_of};
-ghost use Rattle.wasm_spec.specs.MatchingTests.{is_above_bottom, matches_abstract, matches_heap, matches_kind, matches_ref, same_abstract};
-ghost use Rattle.wasm_readers_types.specs.WasmReadersValues.declared.indices.TheConstants.{MAX_IDS};
-ghost use Rattle.wasm_readers_types.specs.WasmReadersValues.declared.indices.UnpackedIndex.TheVariants.{Id};
+ghost use Rattle.wasm_spec.specs.MatchingTests.{matches_heap, matches_ref};
+ghost use Rattle.wasm_spec.specs.Syntax.{abstract_heap, concrete, exact};
+ghost use Rattle.wasm_spec_rules.specs.Worlds.{is_below};
 ghost use Rattle.wasm_readers_types.specs.SeenTypes.{sub_of};
 ghost use Rattle.wasm_readers_types.specs.WasmReadersValues.SeenValues.{abstract_heap_of, heap_of, ref_of};
+ghost use Rattle.wasm_readers_types.specs.WasmReadersValues.declared.indices.TheConstants.{MAX_IDS};
+ghost use Rattle.wasm_readers_types.specs.WasmReadersValues.declared.indices.UnpackedIndex.TheVariants.{Id};
 ghost use Rattle.wasm_validator_resources.specs.Answers.{world, same_index, written_index, IsWritten};
-ghost use Rattle.examples_own_module.specs.Contexts.{only_id};
+ghost use Rattle.examples_own_module.specs.OwnContexts.{own_context, supertype_in};
 
+use crate::parts::OwnParts;
 use std::alloc::Allocator;
 use wasm_readers_errors::{Fault, Refusal};
 use wasm_readers_types::{
-    AbstractHeapType, CoreTypeId, FuncType, GlobalType, HeapType, MemoryType, RefType, SubType,
-    TableType, UnpackedIndex, ValType, same_flag,
+    AbstractHeapType, CompositeInnerType, CoreTypeId, FuncType, GlobalType, HeapType, MAX_IDS,
+    MemoryType, RefType, SubType, TableType, UnpackedIndex, ValType, same_flag,
 };
-use wasm_validator_resources::{WasmModuleResources, same_index};
+use wasm_validator_resources::{
+    WasmModuleResources, is_above_bottom, is_shared, matches_kind, same_index,
+};
 
-/// A module whose one type is a function's, with these functions, tables, memories and globals.
+/// A module in a user's own form, with what is looked up of it. Its types are identities by their
+/// indices.
 #[derive(Drop)]
 pub struct OwnModule<'a, A: Allocator> {
-    /// The type.
-    pub ty: &'a SubType<A>,
-    /// The type index of each function.
-    pub functions: &'a [u32],
-    /// The types of the tables.
-    pub tables: &'a [TableType],
-    /// The types of the memories.
-    pub memories: &'a [MemoryType],
-    /// The types of the globals.
-    pub globals: &'a [GlobalType],
-    ghost first: { supertype (sub_of ty.now) ≡ None },
-    ghost unshared: { (sub_of ty.now).shared ≡ false },
-    ghost function: { kind_of (sub_of ty.now).comp ≡ func_heap },
-    ghost bottom: { bottom_of (sub_of ty.now).comp ≡ nofunc_heap },
-}
-
-/// Whether this is the identity of the one type.
-fn is_only(index: UnpackedIndex) -> bool
-    ensures { result ≡ same_index only_id index }
-{
-    match index {
-        UnpackedIndex::Id(id) => id.index() == 0,
-        UnpackedIndex::Module(_) | UnpackedIndex::RecGroup(_) => false,
-    }
-}
-
-/// Whether this is the abstract heap type of all functions.
-fn is_func(ty: AbstractHeapType) -> bool
-    ensures { result ≡ matches_abstract func_heap (abstract_heap_of ty) }
-{
-    matches!(ty, AbstractHeapType::Func)
-}
-
-/// Whether this is the abstract heap type below those of functions.
-fn is_nofunc(ty: AbstractHeapType) -> bool
-    ensures { result ≡ same_abstract nofunc_heap (abstract_heap_of ty) }
-{
-    matches!(ty, AbstractHeapType::NoFunc)
+    parts: OwnParts<'a, A>,
+    ghost few_types: { length parts.types.now ≤ MAX_IDS },
+    ghost few_elements: { length parts.elements.now < 2 ^ 32 },
 }
 
 impl<'a, A: Allocator> OwnModule<'a, A> {
-    ghost use Rattle.examples_own_module.specs.Seen.{seen};
+    /// The module with these parts: none where it has more types than there are ids,
+    /// or more element segments than an index can name.
+    pub fn new(parts: OwnParts<'a, A>) -> Option<OwnModule<'a, A>>
+        ensures parts { IfSome result (λ r. r.parts ≡ parts.entry) }
+        ensures fits { IsSome result ↔ (length parts.entry.types.now ≤ MAX_IDS)
+            × (length parts.entry.elements.now < 2 ^ 32) }
+    {
+        if parts.types.len() > MAX_IDS as usize || parts.elements.len() > u32::MAX as usize {
+            return None;
+        }
+        Some(OwnModule { parts })
+    }
 
-    /// What the identity declares, if it does.
+    /// The id of the type with this index, if there is one.
+    fn type_id_at(&self, type_index: u32) -> Option<CoreTypeId>
+        ensures value { option_map Id result
+            ≡ slice_get (own_context self.now.parts).types type_index }
+        ensures small { IfSome result (λ id. id.index < MAX_IDS) }
+    {
+        if (type_index as usize) < self.parts.types.len() {
+            Some(CoreTypeId::from_index(type_index))
+        } else {
+            None
+        }
+    }
+
+    /// What the type is that this stands for, if it stands for one.
     fn type_for(&self, index: UnpackedIndex) -> Option<&SubType<A>>
-        ensures { option_map (λ t. sub_of t.now) result ≡ (world (seen self.now)).declared index }
+        ensures { option_map (λ t. sub_of t.now) result
+            ≡ (world (own_context self.now.parts)).declared index }
     {
-        if is_only(index) { Some(self.ty) } else { None }
+        match index {
+            UnpackedIndex::Id(id) => self.parts.types.get(id.index()),
+            UnpackedIndex::Module(_) | UnpackedIndex::RecGroup(_) => None,
+        }
     }
 
-    /// Whether the abstract heap type matches what the identity declares.
-    fn is_bottom(&self, shared: bool, ty: AbstractHeapType, index: UnpackedIndex) -> bool
-        ensures { result ≡ is_above_bottom shared (abstract_heap_of ty)
-            ((world (seen self.now)).declared index) }
+    /// The supertype that the type declares which this stands for, if it declares one.
+    fn supertype(&self, index: UnpackedIndex) -> Option<UnpackedIndex>
+        ensures { result ≡ supertype_in (own_context self.now.parts) index }
     {
-        is_only(index) && !shared && is_nofunc(ty)
+        let sub = self.type_for(index)?;
+        let first = sub.supertype_idxs.as_slice().first()?;
+        Some(first.unpack())
     }
 
-    /// Whether what the identity declares matches the abstract heap type.
-    fn is_function(&self, index: UnpackedIndex, shared: bool, ty: AbstractHeapType) -> bool
-        ensures { result ≡ matches_kind shared (abstract_heap_of ty)
-            ((world (seen self.now)).declared index) }
+    /// Whether the second is the first, or an ancestor of it at so many steps at the most.
+    fn is_below_within(&self, steps: usize, a: UnpackedIndex, b: UnpackedIndex) -> bool
+        ensures { result
+            ≡ is_below same_index (own_context self.now.parts).declares steps a b }
     {
-        is_only(index) && !shared && is_func(ty)
+        if same_index(a, b) {
+            return true;
+        }
+        if steps == 0 {
+            return false;
+        }
+        match self.supertype(a) {
+            Some(above) => self.is_below_within(steps - 1, above, b),
+            None => false,
+        }
     }
 
-    /// Whether the second is the first, as the one type has no supertype.
+    /// Whether the second is the first or stands for one of its ancestors.
     fn is_below(&self, a: UnpackedIndex, b: UnpackedIndex) -> bool
-        ensures { result ≡ (world (seen self.now)).below a b }
+        ensures { result ≡ (world (own_context self.now.parts)).below a b }
     {
-        let _ty = self.ty;
-        same_index(a, b)
+        self.is_below_within(self.parts.types.len(), a, b)
     }
 
     /// Whether the abstract heap type matches the heap type.
     fn abstract_matches(&self, shared: bool, ty: AbstractHeapType, b: HeapType) -> bool
-        ensures { result ≡ matches_heap (world (seen self.now))
+        ensures { result ≡ matches_heap (world (own_context self.now.parts))
             (abstract_heap shared (abstract_heap_of ty)) (heap_of b) }
     {
         match b {
@@ -109,16 +114,19 @@ impl<'a, A: Allocator> OwnModule<'a, A> {
                 shared: other_shared,
                 ty: other,
             } => same_flag(shared, other_shared) && ty.is_subtype_of(other),
-            HeapType::Concrete(index) | HeapType::Exact(index) => self.is_bottom(shared, ty, index),
+            HeapType::Concrete(index) | HeapType::Exact(index) => {
+                is_above_bottom(self.type_for(index), shared, ty)
+            }
         }
     }
 
     /// Whether what the type or a subtype of it describes matches the heap type.
     fn concrete_matches(&self, a: UnpackedIndex, b: HeapType) -> bool
-        ensures { result ≡ matches_heap (world (seen self.now)) (concrete a) (heap_of b) }
+        ensures { result ≡ matches_heap (world (own_context self.now.parts)) (concrete a)
+            (heap_of b) }
     {
         match b {
-            HeapType::Abstract { shared, ty } => self.is_function(a, shared, ty),
+            HeapType::Abstract { shared, ty } => matches_kind(self.type_for(a), shared, ty),
             HeapType::Concrete(index) => self.is_below(a, index),
             HeapType::Exact(_) => false,
         }
@@ -126,10 +134,11 @@ impl<'a, A: Allocator> OwnModule<'a, A> {
 
     /// Whether what exactly the type describes matches the heap type.
     fn exact_matches(&self, a: UnpackedIndex, b: HeapType) -> bool
-        ensures { result ≡ matches_heap (world (seen self.now)) (exact a) (heap_of b) }
+        ensures { result ≡ matches_heap (world (own_context self.now.parts)) (exact a)
+            (heap_of b) }
     {
         match b {
-            HeapType::Abstract { shared, ty } => self.is_function(a, shared, ty),
+            HeapType::Abstract { shared, ty } => matches_kind(self.type_for(a), shared, ty),
             HeapType::Concrete(index) => self.is_below(a, index),
             HeapType::Exact(index) => same_index(a, index),
         }
@@ -137,7 +146,8 @@ impl<'a, A: Allocator> OwnModule<'a, A> {
 
     /// Whether the first heap type matches the second.
     fn heap_matches(&self, a: HeapType, b: HeapType) -> bool
-        ensures { result ≡ matches_heap (world (seen self.now)) (heap_of a) (heap_of b) }
+        ensures { result ≡ matches_heap (world (own_context self.now.parts)) (heap_of a)
+            (heap_of b) }
     {
         match a {
             HeapType::Abstract { shared, ty } => self.abstract_matches(shared, ty, b),
@@ -148,28 +158,28 @@ impl<'a, A: Allocator> OwnModule<'a, A> {
 
     /// Whether the first reference type matches the second.
     fn ref_matches(&self, a: RefType, b: RefType) -> bool
-        ensures { result ≡ matches_ref (world (seen self.now)) (ref_of a) (ref_of b) }
+        ensures { result ≡ matches_ref (world (own_context self.now.parts)) (ref_of a)
+            (ref_of b) }
     {
         (!a.is_nullable() || b.is_nullable()) && self.heap_matches(a.heap_type(), b.heap_type())
     }
 
-    /// The identity of the type that is written so.
+    /// The id of the type that is written so in the module.
     fn resolve(&self, written: UnpackedIndex, offset: u64) -> Result<CoreTypeId, Refusal>
         requires { IsWritten written }
-        ensures ok { IfOk result (λ id. slice_get (seen self.now).types (written_index written)
-            ≡ Some (Id id)) }
+        ensures ok { IfOk result (λ id. slice_get (own_context self.now.parts).types
+            (written_index written) ≡ Some (Id id)) }
         ensures small { IfOk result (λ id. id.index < MAX_IDS) }
-        ensures err { OnErr result (slice_get (seen self.now).types (written_index written)
-            ≡ None) }
+        ensures err { OnErr result (slice_get (own_context self.now.parts).types
+            (written_index written) ≡ None) }
     {
         let type_index = match written {
             UnpackedIndex::Module(type_index) => type_index,
             UnpackedIndex::RecGroup(_) | UnpackedIndex::Id(_) => unreachable!(),
         };
-        if type_index == 0 {
-            Ok(CoreTypeId::from_index(0))
-        } else {
-            Err(Refusal::new(Fault::UnknownType(type_index), offset))
+        match self.type_id_at(type_index) {
+            Some(id) => Ok(id),
+            None => Err(Refusal::new(Fault::UnknownType(type_index), offset)),
         }
     }
 }
@@ -177,59 +187,70 @@ impl<'a, A: Allocator> OwnModule<'a, A> {
 impl<'a, A: Allocator> WasmModuleResources for OwnModule<'a, A> {
     type A = A;
 
-    ghost use Rattle.examples_own_module.specs.Seen.{seen};
-
-    ghost context = { seen };
+    ghost context = { λ r. own_context r.parts };
 
     fn table_at(&self, at: u32) -> Option<TableType> {
-        match self.tables.get(at as usize) {
+        match self.parts.tables.get(at as usize) {
             Some(ty) => Some(*ty),
             None => None,
         }
     }
 
     fn memory_at(&self, at: u32) -> Option<MemoryType> {
-        match self.memories.get(at as usize) {
+        match self.parts.memories.get(at as usize) {
             Some(ty) => Some(*ty),
             None => None,
         }
     }
 
-    fn tag_at(&self, _at: u32) -> Option<&FuncType<A>> {
-        None
+    fn tag_at(&self, at: u32) -> Option<&FuncType<A>> {
+        let type_index = self.parts.tags.get(at as usize)?;
+        match &self.sub_type_at(*type_index)?.composite_type.inner {
+            CompositeInnerType::Func(signature) => Some(signature),
+            _ => None,
+        }
     }
 
     fn global_at(&self, at: u32) -> Option<GlobalType> {
-        match self.globals.get(at as usize) {
+        match self.parts.globals.get(at as usize) {
             Some(ty) => Some(*ty),
             None => None,
         }
     }
 
     fn sub_type_at(&self, type_index: u32) -> Option<&SubType<A>> {
-        if type_index == 0 { Some(self.ty) } else { None }
-    }
-
-    fn sub_type_at_id(&self, _id: CoreTypeId) -> &SubType<A> {
-        self.ty
-    }
-
-    fn type_id_of_function(&self, function_index: u32) -> Option<CoreTypeId> {
-        match self.functions.get(function_index as usize) {
-            Some(0) => Some(CoreTypeId::from_index(0)),
-            Some(_) | None => None,
-        }
-    }
-
-    fn type_index_of_function(&self, function_index: u32) -> Option<u32> {
-        match self.functions.get(function_index as usize) {
-            Some(type_index) => Some(*type_index),
+        match self.type_id_at(type_index) {
+            Some(id) => self.type_for(UnpackedIndex::Id(id)),
             None => None,
         }
     }
 
-    fn element_type_at(&self, _at: u32) -> Option<RefType> {
-        None
+    fn sub_type_at_id(&self, id: CoreTypeId) -> &SubType<A> {
+        match self.type_for(UnpackedIndex::Id(id)) {
+            Some(ty) => ty,
+            None => unreachable!(),
+        }
+    }
+
+    fn type_id_of_function(&self, function_index: u32) -> Option<CoreTypeId> {
+        match self.type_index_of_function(function_index) {
+            Some(type_index) => self.type_id_at(type_index),
+            None => None,
+        }
+    }
+
+    fn type_index_of_function(&self, function_index: u32) -> Option<u32> {
+        match self.parts.functions.get(function_index as usize) {
+            Some(function) => Some(function.type_index),
+            None => None,
+        }
+    }
+
+    fn element_type_at(&self, at: u32) -> Option<RefType> {
+        match self.parts.elements.get(at as usize) {
+            Some(ty) => Some(*ty),
+            None => None,
+        }
     }
 
     fn is_subtype(&self, a: ValType, b: ValType) -> bool {
@@ -247,10 +268,7 @@ impl<'a, A: Allocator> WasmModuleResources for OwnModule<'a, A> {
     fn is_shared(&self, ty: RefType) -> bool {
         match ty.heap_type() {
             HeapType::Abstract { shared, .. } => shared,
-            HeapType::Concrete(index) | HeapType::Exact(index) => match self.type_for(index) {
-                Some(sub) => sub.composite_type.shared,
-                None => false,
-            },
+            HeapType::Concrete(index) | HeapType::Exact(index) => is_shared(self.type_for(index)),
         }
     }
 
@@ -275,29 +293,31 @@ impl<'a, A: Allocator> WasmModuleResources for OwnModule<'a, A> {
                 shared,
                 ty: ty.top(),
             },
-            HeapType::Concrete(_) | HeapType::Exact(_) => HeapType::Abstract {
-                shared: false,
-                ty: AbstractHeapType::Func,
+            HeapType::Concrete(index) | HeapType::Exact(index) => match self.type_for(index) {
+                Some(sub) => HeapType::Abstract {
+                    shared: sub.composite_type.shared,
+                    ty: sub.composite_type.inner.kind().top(),
+                },
+                None => unreachable!(),
             },
         }
     }
 
     fn element_count(&self) -> u32 {
-        0
+        self.parts.elements.len() as u32
     }
 
     fn data_count(&self) -> Option<u32> {
-        None
+        self.parts.data_count
     }
 
-    fn is_function_referenced(&self, _function_index: u32) -> bool {
-        false
+    fn is_function_referenced(&self, function_index: u32) -> bool {
+        self.parts.references.contains(&function_index)
     }
 
-    #[tactic(auto, using(crate::proofs::Exact::flags))]
     fn has_function_exact_type(&self, function_index: u32) -> bool {
-        match self.type_index_of_function(function_index) {
-            Some(_) => true,
+        match self.parts.functions.get(function_index as usize) {
+            Some(function) => function.is_exact,
             None => false,
         }
     }

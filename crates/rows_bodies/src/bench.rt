@@ -1,6 +1,7 @@
 //! A body that is measured.
 
-use examples_own_module::OwnModule;
+use crate::row::validate;
+use examples_own_module::{OwnFunction, OwnModule, OwnParts};
 use std::alloc::{AllocError, Global};
 use std::env::{self, Env};
 use std::fs;
@@ -8,11 +9,9 @@ use std::io::{self, Write};
 use std::rt::Files;
 use std::time::{Clock, Instant};
 use wasm_operators::read_operator;
-use wasm_parser::FunctionBody;
 use wasm_readers::BinaryReader;
-use wasm_readers_errors::{Error, WasmFeatures};
+use wasm_readers_errors::WasmFeatures;
 use wasm_readers_types::{FuncType, GlobalType, MemoryType, RefType, SubType, TableType, ValType};
-use wasm_validator_func::{FuncToValidate, FuncValidatorAllocations};
 
 /// The argument behind which the files of operators stand.
 pub const BODY: &str = "--body";
@@ -32,57 +31,61 @@ fn signature(alloc: Global) -> Result<FuncType, AllocError> {
     Ok(FuncType::new(params, results))
 }
 
-/// A global of this type, which can be written.
-fn global(content_type: ValType) -> GlobalType {
-    GlobalType {
-        content_type,
-        mutable: true,
-        shared: false,
+/// Globals that can be written.
+const I32: GlobalType = GlobalType {
+    content_type: ValType::I32,
+    mutable: true,
+    shared: false,
+};
+
+const I64: GlobalType = GlobalType {
+    content_type: ValType::I64,
+    mutable: true,
+    shared: false,
+};
+
+/// A function of the first type.
+const FUNCTION: OwnFunction = OwnFunction {
+    type_index: 0,
+    is_exact: true,
+};
+
+const TABLE: TableType = TableType {
+    element_type: RefType::FUNCREF,
+    table64: false,
+    initial: 4,
+    maximum: None,
+    shared: false,
+};
+
+const MEMORY: MemoryType = MemoryType {
+    memory64: false,
+    shared: false,
+    initial: 1,
+    maximum: None,
+    page_size_log2: None,
+};
+
+/// Whether the body of function 0 is valid in a module of four functions, a table, a memory and three
+/// globals.
+fn is_valid(alloc: Global, bytes: &[u8]) -> Result<bool, AllocError> {
+    let mut types = Vec::new(alloc);
+    types.push(SubType::func(alloc, signature(alloc)?, false))?;
+    let parts = OwnParts {
+        types: types.as_slice(),
+        functions: &[FUNCTION, FUNCTION, FUNCTION, FUNCTION],
+        tables: &[TABLE],
+        memories: &[MEMORY],
+        globals: &[I32, I64, I32],
+        tags: &[],
+        elements: &[],
+        data_count: None,
+        references: &[],
+    };
+    match OwnModule::new(parts) {
+        Some(module) => Ok(validate(alloc, &module, WasmFeatures::STANDARD, (0, 0), bytes).is_ok()),
+        None => Ok(false),
     }
-}
-
-/// Validates the body of function 0 in this module.
-fn validate_body(alloc: Global, module: &OwnModule<'_, Global>, bytes: &[u8]) -> Result<(), Error> {
-    let function = FuncToValidate {
-        resources: module,
-        index: 0,
-        ty: 0,
-        features: WasmFeatures::STANDARD,
-    };
-    let body = FunctionBody::new(BinaryReader::new(bytes, 0));
-    let _memory = function.validate(&body, FuncValidatorAllocations::new(alloc))?;
-    Ok(())
-}
-
-/// Validates the body in a module of four functions, a table, a memory and three globals.
-fn validate_in_module(alloc: Global, bytes: &[u8]) -> Result<(), Error> {
-    let ty = SubType::func(alloc, signature(alloc)?, false);
-    let table = TableType {
-        element_type: RefType::FUNCREF,
-        table64: false,
-        initial: 4,
-        maximum: None,
-        shared: false,
-    };
-    let memory = MemoryType {
-        memory64: false,
-        shared: false,
-        initial: 1,
-        maximum: None,
-        page_size_log2: None,
-    };
-    let module = OwnModule {
-        ty: &ty,
-        functions: &[0, 0, 0, 0],
-        tables: &[table],
-        memories: &[memory],
-        globals: &[
-            global(ValType::I32),
-            global(ValType::I64),
-            global(ValType::I32),
-        ],
-    };
-    validate_body(alloc, &module, bytes)
 }
 
 /// How many operators can be read behind the declarations of locals.
@@ -145,9 +148,9 @@ fn time_body<R: Clock + AllocGlobal, W: Write, E: Write>(
     err: &mut E,
 ) -> io::Result<()> {
     let start = Instant::now(rt)?;
-    let verdict = match validate_in_module(rt.alloc(), body) {
-        Ok(()) => "ok",
-        Err(_) => "not valid",
+    let verdict = match is_valid(rt.alloc(), body) {
+        Ok(true) => "ok",
+        _ => "not valid",
     };
     let time = start.elapsed(rt)?;
     let count = count_operators(body);

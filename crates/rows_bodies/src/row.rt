@@ -1,7 +1,7 @@
 use crate::features::{name_of, parse_features};
 use crate::sample::Sample;
+use examples_own_module::OwnModule;
 use std::alloc::{AllocError, AllocFailed, Global};
-use test_resources::SampleResources;
 use wasm_parser::FunctionBody;
 use wasm_readers::{BinaryReader, Error};
 use wasm_readers_errors::WasmFeatures;
@@ -98,7 +98,7 @@ pub fn judge<'a>(
         Some(unwanted) => (false, unwanted),
         None => (true, row.wanted),
     };
-    let answer = validate(alloc, sample, features, type_index, bytes.as_slice())?;
+    let answer = validate_in_sample(alloc, sample, features, type_index, bytes.as_slice())?;
     let mut given = String::new(alloc);
     push_answer(&mut given, &answer, named)?;
     if (given.as_str() == named) == is_wanted {
@@ -126,26 +126,37 @@ pub fn parse_bytes(alloc: Global, text: &str) -> Result<Vec<u8>, Trouble> {
 const VALIDATED: u32 = 8;
 
 /// What is said of the body of a function of this type.
-fn validate(
+fn validate_in_sample(
     alloc: Global,
     sample: &Sample,
     features: WasmFeatures,
     type_index: u32,
     bytes: &[u8],
 ) -> Result<Result<(), Error>, Trouble> {
-    let Some(resources) = SampleResources::new(sample.parts()) else {
-        return Err(Trouble::Malformed("a sample with too many types"));
-    };
+    match OwnModule::new(sample.parts()) {
+        Some(module) => Ok(validate(alloc, &module, features, (VALIDATED, type_index), bytes)),
+        None => Err(Trouble::Malformed("a sample with too many types")),
+    }
+}
+
+/// What is said of the body of the function with the first index, whose type has the second.
+pub fn validate(
+    alloc: Global,
+    module: &OwnModule<'_, Global>,
+    features: WasmFeatures,
+    (index, ty): (u32, u32),
+    bytes: &[u8],
+) -> Result<(), Error> {
     let body = FunctionBody::new(BinaryReader::new(bytes, 0));
     let function = FuncToValidate {
-        resources: &resources,
-        index: VALIDATED,
-        ty: type_index,
+        resources: module,
+        index,
+        ty,
         features,
     };
     match function.validate(&body, FuncValidatorAllocations::new(alloc)) {
-        Ok(_) => Ok(Ok(())),
-        Err(error) => Ok(Err(error)),
+        Ok(_) => Ok(()),
+        Err(error) => Err(error),
     }
 }
 

@@ -2,15 +2,15 @@
 
 use crate::row::Trouble;
 use crate::types::{reference, sample_types};
+use examples_own_module::{OwnFunction, OwnParts};
 use std::alloc::Global;
-use test_resources::{SampleFunction, SampleParts};
 use wasm_readers_types::{GlobalType, MemoryType, RefType, SubType, TableType, ValType};
 
 /// What the rows' bodies stand in.
 #[derive(Drop)]
 pub struct Sample {
     types: Vec<SubType>,
-    functions: [SampleFunction; 8],
+    functions: [OwnFunction; 8],
     tables: [TableType; 4],
     memories: [MemoryType; 2],
     globals: [GlobalType; 7],
@@ -23,8 +23,8 @@ pub struct Sample {
 }
 
 /// A function that is defined in the module, by the index of its type.
-fn defined(type_index: u32) -> SampleFunction {
-    SampleFunction {
+fn defined(type_index: u32) -> OwnFunction {
+    OwnFunction {
         type_index,
         is_exact: true,
     }
@@ -60,7 +60,7 @@ fn global(content_type: ValType, mutable: bool) -> GlobalType {
     }
 }
 
-fn functions() -> [SampleFunction; 8] {
+fn functions() -> [OwnFunction; 8] {
     [
         defined(0),
         defined(1),
@@ -117,8 +117,8 @@ impl Sample {
     }
 
     /// All that the sample has.
-    pub fn parts(&self) -> SampleParts<'_, Global> {
-        SampleParts {
+    pub fn parts(&self) -> OwnParts<'_, Global> {
+        OwnParts {
             types: self.types.as_slice(),
             functions: &self.functions,
             tables: &self.tables,

@@ -1,7 +1,7 @@
 //! A module by plain lists, and the validator of a body in it.
 
+use examples_own_module::{OwnFunction, OwnModule, OwnParts};
 use std::alloc::{AllocError, Global};
-use test_resources::{SampleFunction, SampleParts, SampleResources};
 use wasm_readers_errors::WasmFeatures;
 use wasm_readers_types::{
     CompositeInnerType, CompositeType, FieldType, FuncType, Items, StorageType, StructType,
@@ -51,14 +51,14 @@ pub(crate) fn types(alloc: Global) -> Result<[SubType; 2], AllocError> {
     ])
 }
 
-const FUNCTION: SampleFunction = SampleFunction {
+const FUNCTION: OwnFunction = OwnFunction {
     type_index: 0,
     is_exact: true,
 };
 
 /// What is looked up of a module of these types, where two functions and a tag have the first.
-pub(crate) fn look_ups(types: &[SubType]) -> Option<SampleResources<'_, Global>> {
-    SampleResources::new(SampleParts {
+pub(crate) fn look_ups(types: &[SubType]) -> Option<OwnModule<'_, Global>> {
+    OwnModule::new(OwnParts {
         types,
         functions: &[FUNCTION, FUNCTION],
         tables: &[],
@@ -72,13 +72,10 @@ pub(crate) fn look_ups(types: &[SubType]) -> Option<SampleResources<'_, Global>>
 }
 
 /// The validator of a body.
-pub(crate) type Body<'a> = FuncValidator<&'a SampleResources<'a, Global>>;
+pub(crate) type Body<'a> = FuncValidator<&'a OwnModule<'a, Global>>;
 
 /// The validator of a body of the first type, at its start.
-pub(crate) fn begun<'a>(
-    alloc: Global,
-    resources: &'a SampleResources<'a, Global>,
-) -> Option<Body<'a>> {
+pub(crate) fn begun<'a>(alloc: Global, resources: &'a OwnModule<'a, Global>) -> Option<Body<'a>> {
     let function = FuncToValidate {
         resources,
         index: 0,

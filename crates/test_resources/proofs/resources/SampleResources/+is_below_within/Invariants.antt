@@ -1,4 +1,0 @@
-use Rattle.test_resources.proofs.resources.SampleResources.+is_below_within.Given as goal
-
-abbrev pub decreases-is_below_within : goal.decreases-is_below_within
-decreases-is_below_within g l = l.steps
