@@ -10,17 +10,17 @@
 #![tactic(auto)]
 
 mod bench;
-mod features;
 mod items;
 mod operators;
 mod row;
-mod run;
 mod sample;
 mod types;
 
 use bench::{BODY, bench};
 use items::print_items;
-use run::{Input, STATUS_RIGHT, print_error, run};
+use row::{BodyRows, NAME};
+use rows_files::{Input, STATUS_RIGHT, print_error, run};
+use sample::Sample;
 use std::alloc::Global;
 use std::env::{self, Env};
 use std::fs;
@@ -41,7 +41,11 @@ fn run_arguments<R: Env + Files + Clock + AllocGlobal, W: Write, E: Write>(
 ) -> u8 {
     match run_files(rt, out, err) {
         Ok(status) => status,
-        Err(_) => print_error(err, "a file can't be read, or a stream can't be written"),
+        Err(_) => print_error(
+            err,
+            NAME,
+            "a file can't be read, or a stream can't be written",
+        ),
     }
 }
 
@@ -78,7 +82,10 @@ fn run_rows<R: Env + Files + AllocGlobal, W: Write, E: Write>(
     if files.is_empty() {
         return Ok(STATUS_RIGHT);
     }
-    Ok(run(rt.alloc(), &files, out, err))
+    match Sample::new(rt.alloc()) {
+        Ok(sample) => Ok(run(rt.alloc(), &BodyRows { sample }, &files, out, err)),
+        Err(trouble) => Ok(print_error(err, NAME, trouble.text())),
+    }
 }
 
 /// The arguments before `--body` besides the program's name, each with what the file at that path

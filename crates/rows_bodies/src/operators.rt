@@ -1,4 +1,5 @@
-use crate::row::{Difference, Trouble, parse_bytes};
+use crate::row::parse_bytes;
+use rows_files::{Difference, Trouble};
 use std::alloc::Global;
 use std::fmt::Write;
 use wasm_operators::{Operator, read_operator};

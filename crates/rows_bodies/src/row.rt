@@ -1,37 +1,31 @@
-use crate::features::{name_of, parse_features};
+use crate::operators::{OPERATOR, judge_operator};
 use crate::sample::Sample;
 use examples_own_module::OwnModule;
-use std::alloc::{AllocError, AllocFailed, Global};
+use rows_files::{Difference, Judge, NOT, Trouble, name_of, parse_features};
+use std::alloc::{AllocError, Global};
 use wasm_parser::FunctionBody;
 use wasm_readers::{BinaryReader, Error};
 use wasm_readers_errors::WasmFeatures;
 use wasm_validator_func::{FuncToValidate, FuncValidatorAllocations};
 
-/// Why nothing can be said of a row.
-#[derive(Clone, Copy)]
-pub enum Trouble {
-    OutOfMemory,
-    /// The row isn't one, for this reason.
-    Malformed(&'static str),
+/// The name of the program of rows of bodies and operators.
+pub const NAME: &str = "wasm-body-rows";
+
+/// The program of rows of bodies and operators, with its sample.
+#[derive(Drop)]
+pub struct BodyRows {
+    pub sample: Sample,
 }
 
-impl From<AllocError> for Trouble {
-    fn from(_: AllocError) -> Trouble {
-        Trouble::OutOfMemory
+impl Judge for BodyRows {
+    fn name(&self) -> &'static str {
+        NAME
     }
-}
 
-impl<T: Drop> From<AllocFailed<T>> for Trouble {
-    fn from(_: AllocFailed<T>) -> Trouble {
-        Trouble::OutOfMemory
-    }
-}
-
-impl Trouble {
-    pub fn text(self) -> &'static str {
-        match self {
-            Trouble::OutOfMemory => "out of memory",
-            Trouble::Malformed(text) => text,
+    fn judge<'a>(&self, alloc: Global, line: &'a str) -> Result<Option<Difference<'a>>, Trouble> {
+        match line.strip_prefix(OPERATOR) {
+            Some(row) => judge_operator(alloc, row),
+            None => judge(alloc, &self.sample, line),
         }
     }
 }
@@ -69,21 +63,11 @@ impl<'a> Row<'a> {
     }
 }
 
-/// An answer that isn't right: not the wanted one, or the one that must not be given.
-#[derive(Drop)]
-pub struct Difference<'a> {
-    pub wanted: &'a str,
-    pub given: String,
-}
-
-/// What stands before an answer that must not be given.
-const NOT: &str = "not ";
-
 /// What stands before the feature that a refusal says is missing.
 const MISSING: &str = "; missing ";
 
 /// The answer to the row that this line is, where it isn't right.
-pub fn judge<'a>(
+fn judge<'a>(
     alloc: Global,
     sample: &Sample,
     line: &'a str,

@@ -1,8 +1,8 @@
 //! The sample: one context for all rows, which `tools/body_rows.py` has too.
 
-use crate::row::Trouble;
 use crate::types::{reference, sample_types};
 use examples_own_module::{OwnFunction, OwnParts};
+use rows_files::Trouble;
 use std::alloc::Global;
 use wasm_readers_types::{GlobalType, MemoryType, RefType, SubType, TableType, ValType};
 

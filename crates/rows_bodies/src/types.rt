@@ -1,6 +1,6 @@
 //! The types of the sample.
 
-use crate::row::Trouble;
+use rows_files::Trouble;
 use std::alloc::Global;
 use wasm_readers_types::{
     ArrayType, CompositeInnerType, CompositeType, CoreTypeId, FieldType, FuncType, Items,

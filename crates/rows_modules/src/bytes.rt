@@ -1,5 +1,5 @@
-use crate::row::Trouble;
 use crate::text::split_word;
+use rows_files::Trouble;
 use std::alloc::{AllocError, Global};
 
 /// The bytes that this text stands for: hexadecimal digits, `H` for the header of a module,

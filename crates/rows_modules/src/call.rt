@@ -1,7 +1,7 @@
 use crate::answer::{Answer, HandedOut};
 use crate::bytes::parse_bytes;
-use crate::row::Trouble;
 use crate::text::split_word;
+use rows_files::Trouble;
 use std::alloc::{Allocator, Global};
 use std::ops::Range;
 use wasm_validator::{

@@ -1,8 +1,7 @@
 use crate::answer::{Answer, HandedOut};
-use crate::features::name_of;
-use crate::row::Trouble;
 use crate::shown::push_shown;
 use crate::text::{push_behind, split_word};
+use rows_files::{Trouble, name_of};
 use std::alloc::AllocError;
 use wasm_validator::{Error, Validator};
 

@@ -1,5 +1,5 @@
-use crate::row::Trouble;
 use crate::text::split_word;
+use rows_files::Trouble;
 
 /// What the parts of a row are, each of which comes before what is wanted of it.
 #[derive(Clone, Copy)]

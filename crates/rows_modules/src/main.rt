@@ -6,14 +6,13 @@ mod answer;
 mod bytes;
 mod call;
 mod facts;
-mod features;
 mod form;
 mod row;
-mod run;
 mod shown;
 mod text;
 
-use run::{Input, print_error, run};
+use row::ModuleRows;
+use rows_files::{Input, Judge, print_error, run};
 use std::alloc::Global;
 use std::env::{self, Env};
 use std::fs;
@@ -32,8 +31,8 @@ fn run_arguments<R: Env + Files + AllocGlobal, W: Write, E: Write>(
     err: &mut E,
 ) -> u8 {
     match read_arguments(rt) {
-        Ok(files) => run(rt.alloc(), &files, out, err),
-        Err(_) => print_error(err, "the arguments can't be read"),
+        Ok(files) => run(rt.alloc(), &ModuleRows, &files, out, err),
+        Err(_) => print_error(err, ModuleRows.name(), "the arguments can't be read"),
     }
 }
 

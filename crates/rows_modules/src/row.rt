@@ -2,32 +2,22 @@ use crate::answer::Answer;
 use crate::bytes::parse_bytes;
 use crate::call::answer_call;
 use crate::facts::push_answer;
-use crate::features::parse_features;
 use crate::form::{Form, Forms, forms_of};
 use crate::text::push_behind;
+use rows_files::{Difference, Judge, NOT, Trouble, parse_features};
 use std::alloc::{AllocError, Global};
 use wasm_validator::{Types, Validator, ValidatorId};
 
-/// Why nothing can be said of a row.
-#[derive(Clone, Copy)]
-pub enum Trouble {
-    OutOfMemory,
-    /// The row isn't one, for this reason.
-    Malformed(&'static str),
-}
+/// The program of rows of modules.
+pub struct ModuleRows;
 
-impl From<AllocError> for Trouble {
-    fn from(_: AllocError) -> Trouble {
-        Trouble::OutOfMemory
+impl Judge for ModuleRows {
+    fn name(&self) -> &'static str {
+        "wasm-rows"
     }
-}
 
-impl Trouble {
-    pub fn text(self) -> &'static str {
-        match self {
-            Trouble::OutOfMemory => "out of memory",
-            Trouble::Malformed(text) => text,
-        }
+    fn judge<'a>(&self, alloc: Global, line: &'a str) -> Result<Option<Difference<'a>>, Trouble> {
+        judge(alloc, line)
     }
 }
 
@@ -63,22 +53,12 @@ impl<'a> Row<'a> {
     }
 }
 
-/// An answer that isn't right: not the wanted one, or the one that must not be given.
-#[derive(Drop)]
-pub struct Difference<'a> {
-    pub wanted: &'a str,
-    pub given: String,
-}
-
 /// What stands before a line that must not be a row.
 const NO_ROW: &str = "no row | ";
 
-/// What stands before an answer that must not be given.
-const NOT: &str = "not ";
-
 /// The first answer of the row that this line is, where one isn't right. Of a line that must not be
 /// a row: why it is none, where that isn't the wanted reason.
-pub fn judge<'a>(alloc: Global, line: &'a str) -> Result<Option<Difference<'a>>, Trouble> {
+fn judge<'a>(alloc: Global, line: &'a str) -> Result<Option<Difference<'a>>, Trouble> {
     match line.strip_prefix(NO_ROW) {
         Some(rest) => judge_no_row(alloc, rest),
         None => row_difference(alloc, Row::of(line)?),

@@ -1,5 +1,5 @@
-use crate::row::Trouble;
 use crate::text::push_behind;
+use rows_files::Trouble;
 use std::alloc::AllocError;
 use wasm_validator::{CoreTypeId, TypesRef};
 

@@ -1,6 +1,8 @@
+//! Runs the rows of files, and counts them.
+
 ghost use Rattle.std.specs.Prelude.{◌≡◌, ◌<◌, ◌≤◌, ◌↔◌, true, false};
 
-use crate::row::{Difference, judge};
+use crate::judge::{Difference, Judge};
 use std::alloc::Global;
 use std::io::{self, Write};
 
@@ -86,22 +88,28 @@ impl Tally {
     }
 }
 
-/// Prints what the program could not do, and answers the status that says so.
-pub fn print_error<E: Write>(err: &mut E, message: &str) -> u8
+/// Prints what the program of this name could not do, and answers the status that says so.
+pub fn print_error<E: Write>(err: &mut E, name: &str, message: &str) -> u8
     ensures { result ≡ 2 }
 {
-    let _printed = writeln!(err, "wasm-rows: {message}");
+    let _printed = writeln!(err, "{name}: {message}");
     STATUS_TROUBLE
 }
 
-/// Runs the rows of these files, prints those that are wrong and last how many there were, and
+/// Judges the rows of these files, prints those that are wrong and last how many there were, and
 /// answers the exit status.
-pub fn run<W: Write, E: Write>(alloc: Global, files: &[Input], out: &mut W, err: &mut E) -> u8
+pub fn run<J: Judge, W: Write, E: Write>(
+    alloc: Global,
+    judge: &J,
+    files: &[Input],
+    out: &mut W,
+    err: &mut E,
+) -> u8
     ensures { result ≤ 2 }
 {
     let mut tally = Tally::new();
     for file in files {
-        tally = run_file(alloc, tally, file, out, err);
+        tally = run_file(alloc, judge, tally, file, out, err);
     }
     let rows = tally.rows;
     let wrong = tally.wrong;
@@ -111,8 +119,9 @@ pub fn run<W: Write, E: Write>(alloc: Global, files: &[Input], out: &mut W, err:
     }
 }
 
-fn run_file<W: Write, E: Write>(
+fn run_file<J: Judge, W: Write, E: Write>(
     alloc: Global,
+    judge: &J,
     tally: Tally,
     file: &Input,
     out: &mut W,
@@ -120,9 +129,10 @@ fn run_file<W: Write, E: Write>(
 ) -> Tally {
     let name = file.name.as_str();
     match &file.text {
-        Some(text) => run_lines(alloc, tally, text.as_str(), out, err),
+        Some(text) => run_lines(alloc, judge, tally, text.as_str(), out, err),
         None => {
-            let _printed = writeln!(err, "wasm-rows: cannot read {name}");
+            let program = judge.name();
+            let _printed = writeln!(err, "{program}: cannot read {name}");
             Tally {
                 has_trouble: true,
                 ..tally
@@ -131,9 +141,10 @@ fn run_file<W: Write, E: Write>(
     }
 }
 
-/// Runs the rows among the lines of this text.
-fn run_lines<W: Write, E: Write>(
+/// Judges the rows among the lines of this text.
+fn run_lines<J: Judge, W: Write, E: Write>(
     alloc: Global,
+    judge: &J,
     before: Tally,
     text: &str,
     out: &mut W,
@@ -142,7 +153,7 @@ fn run_lines<W: Write, E: Write>(
     let mut tally = before;
     for line in text.lines() {
         if is_row(line) {
-            tally = tally.with(run_line(alloc, line, out, err));
+            tally = tally.with(run_line(alloc, judge, line, out, err));
         }
     }
     tally
@@ -154,17 +165,24 @@ fn is_row(line: &str) -> bool {
     !line.is_empty() && !line.starts_with('#')
 }
 
-/// Runs one row, and prints it where it is wrong or can't be read.
-fn run_line<W: Write, E: Write>(alloc: Global, line: &str, out: &mut W, err: &mut E) -> Outcome {
-    match judge(alloc, line) {
+/// Judges one row, and prints it where it is wrong or can't be read.
+fn run_line<J: Judge, W: Write, E: Write>(
+    alloc: Global,
+    judge: &J,
+    line: &str,
+    out: &mut W,
+    err: &mut E,
+) -> Outcome {
+    match judge.judge(alloc, line) {
         Ok(None) => Outcome::Right,
         Ok(Some(difference)) => match print_difference(line, &difference, out) {
             Ok(()) => Outcome::Wrong,
             Err(_) => Outcome::Trouble,
         },
         Err(trouble) => {
+            let program = judge.name();
             let what = trouble.text();
-            let _printed = writeln!(err, "wasm-rows: {what}: {line}");
+            let _printed = writeln!(err, "{program}: {what}: {line}");
             Outcome::Trouble
         }
     }

@@ -1,4 +1,6 @@
-use crate::row::Trouble;
+//! Features by name, as rows have them.
+
+use crate::judge::Trouble;
 use bitflags::Flags;
 use wasm_readers_errors::WasmFeatures;
 

@@ -1,0 +1,51 @@
+//! What judges a row, and what it can say.
+
+use std::alloc::{AllocError, AllocFailed, Global};
+
+/// Why nothing can be said of a row.
+#[derive(Clone, Copy)]
+pub enum Trouble {
+    OutOfMemory,
+    /// The row isn't one, for this reason.
+    Malformed(&'static str),
+}
+
+impl From<AllocError> for Trouble {
+    fn from(_: AllocError) -> Trouble {
+        Trouble::OutOfMemory
+    }
+}
+
+impl<T: Drop> From<AllocFailed<T>> for Trouble {
+    fn from(_: AllocFailed<T>) -> Trouble {
+        Trouble::OutOfMemory
+    }
+}
+
+impl Trouble {
+    pub fn text(self) -> &'static str {
+        match self {
+            Trouble::OutOfMemory => "out of memory",
+            Trouble::Malformed(text) => text,
+        }
+    }
+}
+
+/// An answer that isn't right: not the wanted one, or the one that must not be given.
+#[derive(Drop)]
+pub struct Difference<'a> {
+    pub wanted: &'a str,
+    pub given: String,
+}
+
+/// What stands before an answer that must not be given.
+pub const NOT: &str = "not ";
+
+/// A program that judges rows.
+pub trait Judge {
+    /// The program's name.
+    fn name(&self) -> &'static str;
+
+    /// The answer to the row that this line is, where it isn't right.
+    fn judge<'a>(&self, alloc: Global, line: &'a str) -> Result<Option<Difference<'a>>, Trouble>;
+}
