@@ -14,7 +14,7 @@ use Rattle.wasm_operator_steps.specs.Shapes.{Shape, one, legacy_checks, shape_of
 use Rattle.wasm_operator_steps.specs.Meanings.{label_by, resolve_block, block_signature, is_below_either, agree, may_end}
 use Rattle.wasm_operator_steps.specs.Meanings as meaning
 use Rattle.wasm_operator_steps.specs.Steps.{actions_of, checked}
-use Rattle.wasm_spec_instructions.specs.Code.{Opening, a_block, a_loop, an_if, a_try, a_try_table, Handler, a_catch, a_catch_all, Code, done, simply, enclosing, choosing_between, handling, delegating_to, Handlers, last_handler, catch_before, and_then, kind_of, block_of, checks_of, condition_of, handler_kind, handler_checks, handler_operands}
+use Rattle.wasm_spec_instructions.specs.Code.{Opening, a_block, a_loop, an_if, a_try, a_try_table, Handler, a_catch, a_catch_all, Code, done, simply, enclosing, choosing_between, handling, delegating_to, Handlers, last_handler, catch_before, and_then, kind_of, block_of, checks_of, condition_of, handler_checks, handler_operands}
 use Rattle.wasm_spec_instructions.specs.ValueTypes.{ValueType, val, reference_at, reference_type, vals, matches_type, Match, none, each, IsInOrder}
 use Rattle.wasm_spec_instructions.specs.Scopes.{Scope, labelled, inside, in_handler, is_set, types_in, holds_in, AllHold}
 use Rattle.wasm_spec_instructions.specs.Rules.{MatchLabels, Rule, plain_rule, ending_rule, dropping_rule, choosing_rule, testing_null_rule, asserting_non_null_rule, branching_on_null_rule, branching_on_non_null_rule, branching_by_table_rule, setting_rule, giving_back_rule, measuring_rule, comparing_rule, converting_rule, rethrowing_rule}

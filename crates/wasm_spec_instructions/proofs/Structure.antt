@@ -6,7 +6,7 @@ use Rattle.wasm_operator_steps.specs.WasmSpecRules.Attempts.{◌>>=◌, guard}
 use Rattle.wasm_operators.specs.Control.{Block}
 use Rattle.wasm_operators.specs.Instructions.{Instruction}
 use Rattle.wasm_operator_steps.specs.Bodies.{Surroundings}
-use Rattle.wasm_operator_steps.specs.Machine.{Kind, if_kind, else_kind, legacy_try_kind, legacy_catch_kind, is_try, may_catch, State, delegates}
+use Rattle.wasm_operator_steps.specs.Machine.{Kind, if_kind, else_kind, legacy_try_kind, legacy_catch_kind, is_try, may_catch, State}
 use Rattle.wasm_operator_steps.specs.Actions.{OperandTypes, Check, Action, need, take, give, take_reference, take_comparable, make_non_null, stop, leave, take_below, convert, enter, turn_to_catch, find_outside, find_caught, branch_on_null}
 use Rattle.wasm_operator_steps.specs.Shapes.{Shape, plain, ending, opening, closing, turning, dropping, choosing, never, testing_null, asserting_non_null, branching_on_null, branching_on_non_null, branching_by_table, setting, giving_back, measuring, comparing, converting, shape_of, catching, delegating, rethrowing, legacy_checks}
 use Rattle.wasm_operator_steps.specs.Meanings.{label_by, act, run}

@@ -1,5 +1,5 @@
 -- A flat list is written for one structured code at most: the code is read back from it.
-use Rattle.std.proofs.Common.{◌≡◌, refl, sym, ap, ◌∙◌, ℕ, true, false, List, [], ◌∷◌, ◌++◌, append_assoc}
+use Rattle.std.proofs.Common.{◌≡◌, refl, sym, ap, ◌∙◌, ℕ, true, List, [], ◌∷◌, ◌++◌, append_assoc}
 use Rattle.wasm_operators.specs.Control as control
 use Rattle.wasm_operators.specs.Control.{Block, Control}
 use Rattle.wasm_operators.specs.Legacy as legacy
