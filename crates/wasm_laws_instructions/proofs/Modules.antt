@@ -9,11 +9,6 @@ use Rattle.wasm_spec_validity.specs.Expressions.{expression_at}
 use Rattle.wasm_spec_validity.specs.Modules.{Numbering, number_at, context_of, imported_globals, IsValidModule}
 use Rattle.wasm_spec_instructions.specs.ValueTypes.{IsInOrder}
 use Rattle.wasm_spec_instructions.specs.Laws.{HasNoSharing}
-use Rattle.wasm_operators.specs.Control.{func_block}
-use Rattle.wasm_operator_steps.specs.WasmSpecRules.Contexts.{Context}
-use Rattle.wasm_operator_steps.specs.FunctionBodies.{IsBodyOfFunction}
-use Rattle.wasm_operator_steps.specs.Steps.{start}
-use Rattle.wasm_laws_instructions.specs.Bodies.{body_in}
 use Rattle.wasm_laws_instructions.specs.Modules.{IsValidByRules}
 use Rattle.wasm_laws_instructions.specs.Laws.{ModulesAreTyped}
 use Rattle.wasm_laws_instructions.proofs.Bodies.{bodies_are_typed}
