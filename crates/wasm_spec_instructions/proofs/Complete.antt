@@ -356,11 +356,11 @@ module _ {R : Type 0} (W : World R) (o : IsInOrder W) (B : Surroundings R) where
       }
 
   -- handlers
-  handler-holds : (D E : Scope R) (x : Handler) → AllHold W B D (handler_checks x) → AllHold W B E (handler_checks x)
+  pub handler-holds : (D E : Scope R) (x : Handler) → AllHold W B D (handler_checks x) → AllHold W B E (handler_checks x)
   handler-holds D E (a_catch x) h = h
   handler-holds D E a_catch_all h = h
 
-  handler-finds : (D E : Scope R) (x : Handler) (ts : List (Val R)) → types_in W B D.labels D.returns (handler_operands x) ≡ Some ts → types_in W B E.labels E.returns (handler_operands x) ≡ Some ts
+  pub handler-finds : (D E : Scope R) (x : Handler) (ts : List (Val R)) → types_in W B D.labels D.returns (handler_operands x) ≡ Some ts → types_in W B E.labels E.returns (handler_operands x) ≡ Some ts
   handler-finds D E (a_catch x) ts e = e
   handler-finds D E a_catch_all ts e = e
 

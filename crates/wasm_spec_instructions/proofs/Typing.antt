@@ -25,7 +25,7 @@ use Rattle.wasm_spec_instructions.proofs.Fits.{onto, rev, onto-append, rev-onto,
 use Rattle.wasm_spec_instructions.proofs.Sets.{pops-sets, Covers, covered-behind, taken-same}
 use Rattle.wasm_spec_instructions.proofs.Tables.{AreShut, AllUnshared, by_operands, by_labels}
 use Rattle.wasm_spec_instructions.proofs.Shut.{push-shut, pops-shut, simple-shut, taken-shut}
-use Rattle.wasm_spec_instructions.proofs.Complete.{over, condition, condition_types}
+use Rattle.wasm_spec_instructions.proofs.Complete.{over, condition, condition_types, handler-holds, handler-finds}
 use Rattle.wasm_spec_instructions.proofs.Sound.{Ruled, IsReady, rule-sound, passed, took}
 
 -- why tables can be typed: nothing converts references, or nothing branches by a table, or nothing is shared
@@ -264,19 +264,11 @@ module _ {R : Type 0} (W : World R) (o : IsInOrder W) (B : Surroundings R) where
   deeper-plain (without b) C D x k e u h n = tt
   deeper-plain unshared C D x k e u h n = (label-unshared W B u k e.signature (opened-unshared W B u D x e.signature h), n)
 
-  -- a handler, behind code that ends
-  handler-holds : (D E : Scope R) (x : Handler) → AllHold W B D (handler_checks x) → AllHold W B E (handler_checks x)
-  handler-holds D E (a_catch x) h = h
-  handler-holds D E a_catch_all h = h
-
-  handler-finds : (D E : Scope R) (x : Handler) (ts : List (Val R)) → types_in W B D.labels D.returns (handler_operands x) ≡ Some ts → types_in W B E.labels E.returns (handler_operands x) ≡ Some ts
-  handler-finds D E (a_catch x) ts e = e
-  handler-finds D E a_catch_all ts e = e
-
   -- checks alone
   only_checks : (E : Scope R) (cs : List Check) (r q : Stack R) → lrun W B E (checked cs []) r ≡ Some q → AllHold W B (over (r.sets ++ E.sets) E) cs × (r ≡ q)
   only_checks E cs r q e = let k = passed W o B E (r.sets ++ E.sets) cs [] r q (λ m h. h) e in (k.0, the_same r q k.1)
 
+  -- a handler, behind code that ends
   record Caught (D : Scope R) (x : Handler) (e : Entered R) (r : Stack R) (vs : List (Val R)) : Type 0 where
     catches : Catches W B D x vs
     end : Stack R
@@ -290,8 +282,8 @@ module _ {R : Type 0} (W : World R) (o : IsInOrder W) (B : Surroundings R) where
       let d = bind-gives (lend W e.signature.gives a.0) (λ z. Some b.0) vs b.2 in
       record {
         catches = record {
-          holds = handler-holds (over (r.sets ++ E.sets) E) D x k.0;
-          found = handler-finds E D x vs (b.1 ∙ d.2);
+          holds = handler-holds W o B (over (r.sets ++ E.sets) E) D x k.0;
+          found = handler-finds W o B E D x vs (b.1 ∙ d.2);
         };
         end = d.0;
         ends = ap (lend W e.signature.gives) k.1 ∙ d.1;
