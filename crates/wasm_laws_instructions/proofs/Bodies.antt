@@ -11,7 +11,7 @@ use Rattle.wasm_operator_steps.specs.Bodies.{Local}
 use Rattle.wasm_operator_steps.specs.FunctionBodies.{local_taken, declared_at, IsBodyOfFunction}
 use Rattle.wasm_operator_steps.specs.Steps.{is_finished, start, steps_in}
 use Rattle.wasm_spec_instructions.specs.ValueTypes.{IsInOrder, AreUnshared}
-use Rattle.wasm_spec_instructions.specs.Laws.{HasNoSharing, AreWithoutLegacy}
+use Rattle.wasm_spec_instructions.specs.Laws.{HasNoSharing}
 use Rattle.wasm_spec_instructions.specs.Expressions.{IsTypedExpression}
 use Rattle.wasm_spec_instructions.proofs.Attempts.{the_same, absent, bind-gives, passes-gives}
 use Rattle.wasm_spec_instructions.proofs.Main.{completeness, soundness_without_sharing}
@@ -57,11 +57,11 @@ module _ {R : Type 0} (W : World R) (o : IsInOrder W) (F : Features) (C : Contex
       mapped None c f = absurd (absent c f)
       mapped (Some d) c f = (d, refl, the_same d.comp c f)
 
-  sound : HasNoSharing W F → (h : IsBodyOfFunction W F C n bytes) → AreWithoutLegacy h.body.instructions → IsTypedBody W F C n bytes
-  sound u h l =
+  sound : HasNoSharing W F → IsBodyOfFunction W F C n bytes → IsTypedBody W F C n bytes
+  sound u h =
       let e : passes is_finished (steps_in W (body_in F C h.shared h.locals) h.body.instructions (start (func_block n))) ≡ true = ap (passes is_finished) h.body.typed ∙ h.body.finished in
       let t : IsTypedExpression W (body_in F C h.shared h.locals) h.signature.gives h.body.instructions =
-      soundness_without_sharing R W (body_in F C h.shared h.locals) (func_block n) h.signature h.body.instructions o u (results-unshared h.signature u h.is_function) l h.is_function e in
+      soundness_without_sharing R W (body_in F C h.shared h.locals) (func_block n) h.signature h.body.instructions o u (results-unshared h.signature u h.is_function) h.is_function e in
       record {
         signature = h.signature;
         shared = h.shared;

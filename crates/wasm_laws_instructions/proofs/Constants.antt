@@ -29,7 +29,7 @@ use Rattle.wasm_operator_steps.specs.Machine.{State}
 use Rattle.wasm_operator_steps.specs.Steps.{is_finished, start, steps_in}
 use Rattle.wasm_operator_steps.specs.Shapes.{variable_shape, computing, reference_shape, conversion_shape, struct_shape, array_shape, shape_of}
 use Rattle.wasm_spec_instructions.specs.ValueTypes.{IsInOrder}
-use Rattle.wasm_spec_instructions.specs.Laws.{is_served, AreServedAs, is_legacy, AreWithoutLegacy}
+use Rattle.wasm_spec_instructions.specs.Laws.{is_served, AreServedAs}
 use Rattle.wasm_spec_instructions.proofs.Attempts.{no, and-both, passes-gives}
 use Rattle.wasm_spec_instructions.proofs.Main.{completeness, soundness}
 use Rattle.wasm_laws_instructions.specs.Bodies.{IsTypedConstant}
@@ -122,20 +122,7 @@ constant-served F (instruction.array op) e = array-served op
 constant-served F (instruction.vector op values) e = no e
 constant-served F (instruction.atomic op values) e = no e
 
--- nor has one operators of legacy exceptions
-constant-without : (F : Features) (op : Instruction ℕ) → is_constant F op ≡ true → is_legacy op ≡ false
-constant-without F (instruction.legacy op) e = no e
-constant-without F _ e = refl
-
 module _ {R : Type 0} (W : World R) (o : IsInOrder W) (B : Surroundings R) (imported : ℕ) where
-  all-without : (ops : List (Instruction ℕ)) → All (λ op. is_allowed B imported op ≡ true) ops → AreWithoutLegacy ops
-  all-without [] h = tt
-  all-without (i ∷ ops) h =
-      let e : is_allowed B imported i ≡ true = h 0 i (omega arith) in (
-        constant-without B.features i (and-both (is_constant B.features i) (is_readable B.features imported B.context.globals i) e).0,
-        all-without ops (λ k d l. h (suc k) d (omega (arith, l))),
-      )
-
   all-served : (ops : List (Instruction ℕ)) → All (λ op. is_allowed B imported op ≡ true) ops → AreServedAs false ops
   all-served [] h = tt
   all-served (i ∷ ops) h =
@@ -150,7 +137,7 @@ module _ {R : Type 0} (W : World R) (o : IsInOrder W) (B : Surroundings R) (impo
     written = h.written;
     allowed = h.allowed;
     typed =
-        soundness R W B (value_block v) (record { takes = []; gives = v ∷ [] }) h.instructions o refl (false, all-served h.instructions h.allowed) (all-without h.instructions h.allowed)
+        soundness R W B (value_block v) (record { takes = []; gives = v ∷ [] }) h.instructions o refl (false, all-served h.instructions h.allowed)
         (ap (passes is_finished) h.typed ∙ h.finished);
   }
 

@@ -8,13 +8,7 @@ use Rattle.wasm_operator_steps.specs.WasmSpecRules.Worlds.{world_of}
 use Rattle.wasm_spec_validity.specs.Expressions.{expression_at}
 use Rattle.wasm_spec_validity.specs.Modules.{Numbering, number_at, context_of, imported_globals, IsValidModule}
 use Rattle.wasm_spec_instructions.specs.ValueTypes.{IsInOrder}
-use Rattle.wasm_spec_instructions.specs.Laws.{HasNoSharing, AreWithoutLegacy}
-use Rattle.wasm_operators.specs.Control.{func_block}
-use Rattle.wasm_operator_steps.specs.WasmSpecRules.Contexts.{Context}
-use Rattle.wasm_operator_steps.specs.FunctionBodies.{IsBodyOfFunction}
-use Rattle.wasm_operator_steps.specs.Steps.{start}
-use Rattle.wasm_spec_instructions.proofs.Main.{accepted_code_is_without_legacy}
-use Rattle.wasm_laws_instructions.specs.Bodies.{body_in}
+use Rattle.wasm_spec_instructions.specs.Laws.{HasNoSharing}
 use Rattle.wasm_laws_instructions.specs.Modules.{IsValidByRules}
 use Rattle.wasm_laws_instructions.specs.Laws.{ModulesAreTyped}
 use Rattle.wasm_laws_instructions.proofs.Bodies.{bodies_are_typed}
@@ -30,12 +24,8 @@ module _ (F : Features) (bytes : List ℕ) where
   unshared off m n =
       has_no_sharing F m.types.types n.distinct n.number (valid_type_section_is_accepted F m.parts.groups m.types) n.first n.numbers (context_of (index_spaces m.types.types m.parts) n m.parts) refl off
 
-  without_legacy : F.legacy_exceptions ≡ false → (C : Context ℕ) (x : ℕ) (b : List ℕ) (h : IsBodyOfFunction (world_of nat_eq C) F C x b) → AreWithoutLegacy h.body.instructions
-  without_legacy off C x b h =
-      accepted_code_is_without_legacy ℕ (world_of nat_eq C) (body_in F C h.shared h.locals) h.body.instructions (start (func_block x)) h.last off h.body.typed
-
-  by_rules : F.shared_everything_threads ≡ false → F.legacy_exceptions ≡ false → IsValidModule F bytes → IsValidByRules F bytes
-  by_rules off no_legacy m =
+  by_rules : F.shared_everything_threads ≡ false → IsValidModule F bytes → IsValidByRules F bytes
+  by_rules off m =
       let C = context_of (index_spaces m.well_formed.types.types m.well_formed.parts) m.typed.numbering m.well_formed.parts in
       let o = ordered m.well_formed m.typed.numbering in
       let u = unshared off m.well_formed m.typed.numbering in
@@ -43,7 +33,7 @@ module _ (F : Features) (bytes : List ℕ) where
         well_formed = m.well_formed;
         numbering = m.typed.numbering;
         constants = constants-sound nat_eq F C (imported_globals m.well_formed.parts) (number_at m.typed.numbering) o m.well_formed.parts m.typed.constants;
-        bodies = λ i x b e f. (bodies_are_typed ℕ (world_of nat_eq C) F C x b o).sound u (m.typed.bodies i x b e f) (without_legacy no_legacy C x b (m.typed.bodies i x b e f));
+        bodies = λ i x b e f. (bodies_are_typed ℕ (world_of nat_eq C) F C x b o).sound u (m.typed.bodies i x b e f);
       }
 
   by_machine : IsValidByRules F bytes → IsValidModule F bytes

@@ -12,15 +12,14 @@ use Rattle.wasm_operator_steps.specs.Machine.{State}
 use Rattle.wasm_operator_steps.specs.Steps.{start}
 use Rattle.wasm_spec_validity.specs.Modules.{IsValidModule}
 use Rattle.wasm_spec_instructions.specs.ValueTypes.{IsInOrder}
-use Rattle.wasm_spec_instructions.specs.Laws.{HasNoSharing, AreWithoutLegacy}
+use Rattle.wasm_spec_instructions.specs.Laws.{HasNoSharing}
 use Rattle.wasm_laws_instructions.specs.Bodies.{IsTypedBody, IsTypedConstant}
 use Rattle.wasm_laws_instructions.specs.Modules.{IsValidByRules}
 
--- A body that the rules type is one that the machine accepts; and where nothing is shared, the other way round, if there is no operator
--- of the legacy exception-handling proposal in it, for which there are no rules.
+-- A body that the rules type is one that the machine accepts; and where nothing is shared, the other way round.
 pub record BodyIsTyped {R : Type 0} (W : World R) (F : Features) (C : Context R) (n : ℕ) (bytes : List ℕ) : Type 0 where
   pub complete : IsTypedBody W F C n bytes → IsBodyOfFunction W F C n bytes
-  pub sound : HasNoSharing W F → (b : IsBodyOfFunction W F C n bytes) → AreWithoutLegacy b.body.instructions → IsTypedBody W F C n bytes
+  pub sound : HasNoSharing W F → IsBodyOfFunction W F C n bytes → IsTypedBody W F C n bytes
 
 abbrev pub BodiesAreTyped : (R : Type 0) → Type 0
 BodiesAreTyped R = (W : World R) (F : Features) (C : Context R) (n : ℕ) (bytes : List ℕ) → IsInOrder W → BodyIsTyped W F C n bytes
@@ -31,11 +30,10 @@ ConstantsAreTyped R =
     (W : World R) (B : Surroundings R) (imported : ℕ) (v : Val R) (bytes : List ℕ) → IsInOrder W
     → ((last : State R) × IsConstantExpression W B imported (start (value_block v)) bytes last []) ↔ IsTypedConstant W B imported v bytes
 
--- A module whose constant expressions and bodies the rules type is valid; and where shared types and legacy exceptions are off, the other
--- way round.
+-- A module whose constant expressions and bodies the rules type is valid; and where shared types are off, the other way round.
 pub record ModuleIsTyped (F : Features) (bytes : List ℕ) : Type 0 where
   pub complete : IsValidByRules F bytes → IsValidModule F bytes
-  pub sound : F.shared_everything_threads ≡ false → F.legacy_exceptions ≡ false → IsValidModule F bytes → IsValidByRules F bytes
+  pub sound : F.shared_everything_threads ≡ false → IsValidModule F bytes → IsValidByRules F bytes
 
 abbrev pub ModulesAreTyped : Type 0
 ModulesAreTyped = (F : Features) (bytes : List ℕ) → ModuleIsTyped F bytes

@@ -5,7 +5,7 @@
 ghost use Rattle.wasm_laws_instructions.specs.Laws.{BodiesAreTyped, ConstantsAreTyped, ModulesAreTyped};
 
 /// A body that the rules type is accepted, and where nothing is shared the rules type each body that
-/// is and that has no operator of legacy exceptions.
+/// is.
 #[tactic(auto, using(crate::proofs::Bodies::bodies_are_typed))]
 pub fn bodies_are_typed<R>()
     ensures { BodiesAreTyped R }
@@ -17,7 +17,7 @@ pub fn constants_are_typed<R>()
 {}
 
 /// A module whose constant expressions and bodies the rules type is valid, and without shared types
-/// and legacy exceptions the other way round.
+/// the other way round.
 pub fn modules_are_typed()
     ensures { ModulesAreTyped }
 {}

@@ -9,12 +9,13 @@ use Rattle.wasm_operator_steps.specs.WasmSpecRules.Signatures.{Signature}
 use Rattle.wasm_operator_steps.specs.Matching.{matches_vals}
 use Rattle.wasm_operators.specs.Control.{Block}
 use Rattle.wasm_operator_steps.specs.Bodies.{Surroundings}
-use Rattle.wasm_operator_steps.specs.Machine.{Operand, known, Kind, else_kind, is_if, Frame, State, pushed_onto, push_vals, push_operand, popped, pop_any, as_reference, pop_reference, non_null, chosen, matches_operand, pop_val, pop_vals, become_unreachable, push_frame, set_local}
+use Rattle.wasm_operator_steps.specs.Machine.{Operand, known, Kind, else_kind, is_if, may_catch, Frame, State, pushed_onto, push_vals, push_operand, popped, pop_any, as_reference, pop_reference, non_null, chosen, matches_operand, pop_val, pop_vals, become_unreachable, has_caught, rethrows, push_frame, set_local}
 use Rattle.wasm_operator_steps.specs.Actions.{OperandTypes, these, params, results, label, returned, local, global, function_reference, new_reference, descriptor_of, fields, element, field, table_address, memory_address, table_element, segment, lesser_table_address, lesser_memory_address, top, repeated, front, last, joined, Check, has, allows, global_is_mutable, local_is_set, function_is_referenced, is_exception, each_matches, may_be_cast, can_be_tested, is_aligned, suits, fields_have_defaults, has_no_descriptor, field_is_mutable, field_is_packed, element_is_mutable, element_has_default, element_is_number, element_is_packed, element_is_storable, data_is_there, segment_is_there, reaches_global, reaches_table, reaches_type, reaches_function, Action, need, refuse, take, give, take_any, take_reference, take_comparable, make_non_null, choose, stop, turn_to_else, leave, take_below, convert, enter, set, branch_on_null, branch_to_one_of, turn_to_catch, find_outside, find_caught}
 use Rattle.wasm_operator_steps.specs.Meanings.{one, copies, label_by, resolve_block, block_signature, frame_signature, label_at, is_below_either, agree, converted, may_end, labels_fit, types_at, holds, pop_frame, act, run}
+use Rattle.wasm_operator_steps.specs.Steps.{checked}
 use Rattle.wasm_spec_instructions.specs.Scopes.{Scope, is_set, types_in, holds_in}
 use Rattle.wasm_spec_instructions.proofs.Attempts.{the_same, bind-bind, bind-gives, some-some, not_true}
-use Rattle.wasm_spec_instructions.proofs.Within.{Stack, stack, Entered, lpop_in, lpop, lpush, referring, referred, lpop_reference, lput, stopped, is_empty, without, entered, and_choose, choose_of, put_non_null, given_back, matched, lpop_val, lpops, lfit, emptied, lend, below, compared, compare_of, converting_to, null_for, null_at, in_table, table_for, IsWithin, lact, lrun, taking, signed, lenter_block, lshut}
+use Rattle.wasm_spec_instructions.proofs.Within.{Stack, stack, Entered, lpop_in, lpop, lpush, referring, referred, lpop_reference, lput, stopped, is_empty, without, entered, and_choose, choose_of, put_non_null, given_back, matched, lpop_val, lpops, lfit, emptied, lend, below, compared, compare_of, converting_to, null_for, null_at, in_table, table_for, IsWithin, lact, lrun, taking, signed, lenter_block, lshut, is_caught}
 
 -- an attempt that is another one, seen otherwise, and what follows it
 pub chain :
@@ -69,9 +70,12 @@ pub record Place {R : Type 0} (W : World R) (B : Surroundings R) : Type 0 where
   pub below : List (Frame R)
   pub inits : List ℕ
   pub labels : List (List (Val R))
+  pub caught : List Bool
   pub returns : Option (List (Val R))
   pub is_signed : block_signature W B block ≡ Some signature
   pub is_labelled : (u : Bool) (n : ℕ) → labels_of W B (frame_of kind block base inits u ∷ below) n ≡ slice_get labels n
+  pub is_there : (u : Bool) (n : ℕ) → is_some (slice_get (frame_of kind block base inits u ∷ below) n) ≡ is_some (slice_get labels n)
+  pub is_handler : (u : Bool) (n : ℕ) → rethrows (frame_of kind block base inits u ∷ below) n ≡ passes (λ b. b) (slice_get caught n)
   pub is_returned : (u : Bool) → returns_of W B (frame_of kind block base inits u ∷ below) ≡ returns
 
 module _ {R : Type 0} {W : World R} {B : Surroundings R} where
@@ -85,7 +89,7 @@ module _ {R : Type 0} {W : World R} {B : Surroundings R} where
   with_at P q = (q.0, at P q.1)
 
   abbrev pub scope : Place W B → Scope R
-  scope P = record { labels = P.labels; returns = P.returns; sets = P.inits }
+  scope P = record { labels = P.labels; caught = P.caught; returns = P.returns; sets = P.inits }
 
 module _ {R : Type 0} {W : World R} {B : Surroundings R} (P : Place W B) where
   pop_any-in : (is : List ℕ) (u : Bool) (xs : List (Operand R)) → pop_any (at P (stack is u xs)) ≡ (lpop_in is u xs >>= λ q. Some (with_at P q))
@@ -247,11 +251,20 @@ module _ {R : Type 0} {W : World R} {B : Surroundings R} (P : Place W B) where
   act-at (enter k b) p w = absurd w
   act-at (turn_to_catch t k) p w = absurd w
   act-at (find_outside n) p w = absurd w
-  act-at (find_caught n) p w = absurd w
+  act-at (find_caught n) p w = ap (λ (b : Bool). guard b (at P p)) (P.is_handler p.unreached n) ∙ guarded (is_caught W B P.caught n) p (at P)
 
   abbrev pub AllWithin : List Action → Type 0
   AllWithin [] = Unit {0}
   AllWithin (a ∷ as_) = IsWithin W B a × AllWithin as_
+
+  -- what follows checks
+  pub checked-at : (cs : List Check) (as_ : List Action) (p : Stack R) → run W B (checked cs as_) (at P p) ≡ (lrun W B (scope P) (checked cs []) p >>= λ q. run W B as_ (at P q))
+  checked-at [] as_ p = refl
+  checked-at (c ∷ cs) as_ p =
+      (λ i. act-at (need c) p tt i >>= run W B (checked cs as_))
+      ∙ bind-bind (lact W B (scope P) (need c) p) (λ q. Some (at P q)) (run W B (checked cs as_))
+      ∙ (λ i. lact W B (scope P) (need c) p >>= λ q. checked-at cs as_ q i)
+      ∙ sym (bind-bind (lact W B (scope P) (need c) p) (lrun W B (scope P) (checked cs [])) (λ q. run W B as_ (at P q)))
 
   pub run-at : (as_ : List Action) (p : Stack R) → AllWithin as_ → run W B as_ (at P p) ≡ (lrun W B (scope P) as_ p >>= λ q. Some (at P q))
   run-at [] p w = refl
@@ -280,19 +293,34 @@ ended-over is u (x ∷ xs) b fs ns = ap (λ (c : Bool). guard c (record_of ((x �
 
 -- frames that are entered, turned and left
 module _ {R : Type 0} {W : World R} {B : Surroundings R} where
-  -- the state in a block that was entered
-  abbrev pub opened : Place W B → Kind → Entered R → State R
-  opened P k e = record {
-    operands = pushed_onto e.signature.takes [] ++ (e.left.items ++ P.base);
+  -- the state in a block that was entered, over these operands
+  abbrev pub opened_over : Place W B → Kind → Entered R → List (Val R) → State R
+  opened_over P k e vs = record {
+    operands = pushed_onto vs [] ++ (e.left.items ++ P.base);
     frames = frame_of k e.block (e.left.items ++ P.base) (e.left.sets ++ P.inits) false ∷ frame P e.left.unreached ∷ P.below;
     inits = e.left.sets ++ P.inits;
   }
+
+  abbrev pub opened : Place W B → Kind → Entered R → State R
+  opened P k e = opened_over P k e e.signature.takes
 
   pub inside-labelled :
       (P : Place W B) (k : Kind) (e : Entered R) → IsSigned W B e → (u : Bool) (n : ℕ)
       → labels_of W B (frame_of k e.block (e.left.items ++ P.base) (e.left.sets ++ P.inits) u ∷ frame P e.left.unreached ∷ P.below) n ≡ slice_get (label_by k e.signature ∷ P.labels) n
   inside-labelled P k e h u zero = λ i. option_map (label_by k) (h i)
   inside-labelled P k e h u (suc n) = P.is_labelled e.left.unreached n
+
+  pub inside-there :
+      (P : Place W B) (k : Kind) (e : Entered R) (u : Bool) (n : ℕ)
+      → is_some (slice_get (frame_of k e.block (e.left.items ++ P.base) (e.left.sets ++ P.inits) u ∷ frame P e.left.unreached ∷ P.below) n) ≡ is_some (slice_get (label_by k e.signature ∷ P.labels) n)
+  inside-there P k e u zero = refl
+  inside-there P k e u (suc n) = P.is_there e.left.unreached n
+
+  pub inside-handler :
+      (P : Place W B) (k : Kind) (e : Entered R) (u : Bool) (n : ℕ)
+      → rethrows (frame_of k e.block (e.left.items ++ P.base) (e.left.sets ++ P.inits) u ∷ frame P e.left.unreached ∷ P.below) n ≡ passes (λ b. b) (slice_get (has_caught k ∷ P.caught) n)
+  inside-handler P k e u zero = refl
+  inside-handler P k e u (suc n) = P.is_handler e.left.unreached n
 
   abbrev pub inside : (P : Place W B) (k : Kind) (e : Entered R) → IsSigned W B e → Place W B
   inside P k e h = record {
@@ -303,18 +331,25 @@ module _ {R : Type 0} {W : World R} {B : Surroundings R} where
     below = frame P e.left.unreached ∷ P.below;
     inits = e.left.sets ++ P.inits;
     labels = label_by k e.signature ∷ P.labels;
+    caught = has_caught k ∷ P.caught;
     returns = P.returns;
     is_signed = h;
     is_labelled = inside-labelled P k e h;
+    is_there = inside-there P k e;
+    is_handler = inside-handler P k e;
     is_returned = λ u. P.is_returned e.left.unreached;
   }
 
-  entered-at : (P : Place W B) (k : Kind) (c : Block R) (g : Signature R) (q : Stack R) → push_frame k c g.takes (at P q) ≡ opened P k (record { block = c; signature = g; left = q })
-  entered-at P k c g q = λ i. record {
-    operands = pushed_onto-above g.takes [] (q.items ++ P.base) i;
+  pub entered-over :
+      (P : Place W B) (k : Kind) (c : Block R) (g : Signature R) (q : Stack R) (vs : List (Val R)) → push_frame k c vs (at P q) ≡ opened_over P k (record { block = c; signature = g; left = q }) vs
+  entered-over P k c g q vs = λ i. record {
+    operands = pushed_onto-above vs [] (q.items ++ P.base) i;
     frames = frame_of k c (q.items ++ P.base) (q.sets ++ P.inits) false ∷ frame P q.unreached ∷ P.below;
     inits = q.sets ++ P.inits;
   }
+
+  entered-at : (P : Place W B) (k : Kind) (c : Block R) (g : Signature R) (q : Stack R) → push_frame k c g.takes (at P q) ≡ opened P k (record { block = c; signature = g; left = q })
+  entered-at P k c g q = entered-over P k c g q g.takes
 
   pub enter-at : (P : Place W B) (k : Kind) (b : Block ℕ) (p : Stack R) → act W B (enter k b) (at P p) ≡ (lenter_block W B b p >>= λ e. Some (opened P k e))
   enter-at P k b p =
@@ -367,3 +402,23 @@ module _ {R : Type 0} {W : World R} {B : Surroundings R} where
       (P : Place W B) (k : Kind) (e : Entered R) (h : IsSigned W B e) (r : Stack R)
       → act W B turn_to_else (at (inside P k e h) r) ≡ (lend W e.signature.gives r >>= λ z. guard (is_if k) (opened P else_kind e))
   turn-at P k e h r = turn-any (inside P k e h) r ∙ (λ i. lend W e.signature.gives r >>= λ z. guard (is_if k) (entered-at P else_kind e.block e.signature e.left i))
+
+  -- a handler, behind the code of a `try` or another handler
+  abbrev pub caught_by : Place W B → Kind → List (Val R) → State R → Option (State R)
+  caught_by P k vs t = guard (may_catch P.kind) (push_frame k P.block vs t)
+
+  pub catch-any :
+      (P : Place W B) (t : OperandTypes) (k : Kind) (r : Stack R)
+      → act W B (turn_to_catch t k) (at P r) ≡ (types_in W B P.labels P.returns t >>= λ vs. lend W P.signature.gives r >>= λ z. caught_by P k vs (over P))
+  catch-any P t k r =
+      (λ i. types_at-at P r t i >>= λ vs. P.is_signed i >>= λ g. pop_frame W B (frame P r.unreached) P.below g (at P r) >>= caught_by P k vs)
+      ∙ (λ i. types_in W B P.labels P.returns t >>= λ vs. pop_frame-at P r i >>= caught_by P k vs)
+      ∙ (λ i. types_in W B P.labels P.returns t >>= λ vs. bind-bind (lend W P.signature.gives r) (λ z. Some (over P)) (caught_by P k vs) i)
+
+  pub catch-at :
+      (P : Place W B) (k : Kind) (e : Entered R) (h : IsSigned W B e) (t : OperandTypes) (j : Kind) (r : Stack R)
+      → act W B (turn_to_catch t j) (at (inside P k e h) r)
+      ≡ (types_in W B (label_by k e.signature ∷ P.labels) P.returns t >>= λ vs. lend W e.signature.gives r >>= λ z. guard (may_catch k) (opened_over P j e vs))
+  catch-at P k e h t j r =
+      catch-any (inside P k e h) t j r
+      ∙ (λ i. types_in W B (label_by k e.signature ∷ P.labels) P.returns t >>= λ vs. lend W e.signature.gives r >>= λ z. guard (may_catch k) (entered-over P j e.block e.signature e.left vs i))

@@ -8,19 +8,19 @@ use Rattle.wasm_operator_steps.specs.WasmSpecRules.Signatures.{Signature}
 use Rattle.wasm_operator_steps.specs.Matching.{matches_vals}
 use Rattle.wasm_operators.specs.Control.{Block}
 use Rattle.wasm_operator_steps.specs.Bodies.{Local, Surroundings}
-use Rattle.wasm_operator_steps.specs.Machine.{if_kind, else_kind, non_null, same_number}
-use Rattle.wasm_operator_steps.specs.Actions.{OperandTypes, label, local, last, front, Check, Action, take, give, take_any, take_reference, take_below, take_comparable, make_non_null, convert, choose, stop, set, branch_on_null, branch_to_one_of}
-use Rattle.wasm_operator_steps.specs.Shapes.{Shape, one, shape_of}
+use Rattle.wasm_operator_steps.specs.Machine.{Kind, if_kind, else_kind, legacy_try_kind, legacy_catch_kind, legacy_catch_all_kind, has_caught, non_null, same_number}
+use Rattle.wasm_operator_steps.specs.Actions.{OperandTypes, label, local, last, front, Check, Action, take, give, take_any, take_reference, take_below, take_comparable, make_non_null, convert, choose, stop, set, branch_on_null, branch_to_one_of, find_caught}
+use Rattle.wasm_operator_steps.specs.Shapes.{Shape, one, legacy_checks, shape_of}
 use Rattle.wasm_operator_steps.specs.Meanings.{label_by, resolve_block, block_signature, is_below_either, agree, may_end}
 use Rattle.wasm_operator_steps.specs.Meanings as meaning
 use Rattle.wasm_operator_steps.specs.Steps.{actions_of, checked}
-use Rattle.wasm_spec_instructions.specs.Code.{Opening, a_block, a_loop, an_if, a_try_table, Code, done, simply, enclosing, choosing_between, and_then, kind_of, block_of, checks_of, condition_of}
+use Rattle.wasm_spec_instructions.specs.Code.{Opening, a_block, a_loop, an_if, a_try, a_try_table, Handler, a_catch, a_catch_all, Code, done, simply, enclosing, choosing_between, handling, delegating_to, Handlers, last_handler, catch_before, and_then, kind_of, block_of, checks_of, condition_of, handler_checks, handler_operands}
 use Rattle.wasm_spec_instructions.specs.ValueTypes.{ValueType, val, reference_at, reference_type, vals, matches_type, Match, none, each, IsInOrder}
-use Rattle.wasm_spec_instructions.specs.Scopes.{Scope, inside, is_set, types_in, holds_in, AllHold}
-use Rattle.wasm_spec_instructions.specs.Rules.{MatchLabels, Rule, plain_rule, ending_rule, dropping_rule, choosing_rule, testing_null_rule, asserting_non_null_rule, branching_on_null_rule, branching_on_non_null_rule, branching_by_table_rule, setting_rule, giving_back_rule, measuring_rule, comparing_rule, converting_rule}
-use Rattle.wasm_spec_instructions.specs.Sequences.{Opens, Typed, empty_rule, instruction_rule, block_rule, loop_rule, if_rule, if_else_rule, try_table_rule, sequence_rule, frame_rule, subsumption_rule}
+use Rattle.wasm_spec_instructions.specs.Scopes.{Scope, labelled, inside, in_handler, is_set, types_in, holds_in, AllHold}
+use Rattle.wasm_spec_instructions.specs.Rules.{MatchLabels, Rule, plain_rule, ending_rule, dropping_rule, choosing_rule, testing_null_rule, asserting_non_null_rule, branching_on_null_rule, branching_on_non_null_rule, branching_by_table_rule, setting_rule, giving_back_rule, measuring_rule, comparing_rule, converting_rule, rethrowing_rule}
+use Rattle.wasm_spec_instructions.specs.Sequences.{Opens, Catches, Typed, empty_rule, instruction_rule, block_rule, loop_rule, if_rule, if_else_rule, try_table_rule, try_rule, handling_rule, delegating_rule, sequence_rule, frame_rule, subsumption_rule, Handle, last_rule, before_rule}
 use Rattle.wasm_spec_instructions.proofs.Attempts.{the_same, bind-bind, bind-at, guard-at, last-of_last, front-of_last}
-use Rattle.wasm_spec_instructions.proofs.Within.{Stack, Entered, lpops, lpush, lput, stopped, fresh, without, deeper, choose_of, and_choose, put_non_null, given_back, null_for, null_at, in_table, table_for, lfit, lend, below, compared, compare_of, converting_to, lgrown, lrun, entered, taking, signed, lenter_block, lenter, lshut, check}
+use Rattle.wasm_spec_instructions.proofs.Within.{Stack, Entered, lpops, lpush, lput, stopped, starting, fresh, without, deeper, choose_of, and_choose, put_non_null, given_back, null_for, null_at, in_table, table_for, lfit, lend, below, compared, compare_of, converting_to, lgrown, is_caught, lrun, entered, taking, signed, lenter_block, lenter, lshut, lcatch, ldelegate, check, handle}
 use Rattle.wasm_spec_instructions.proofs.Fits.{onto, onto-append, rev-rev, FitsStack, fits-any, fits-sub, match-onto, match-itself, match-true, pop_any-complete, pops-complete, push-complete, end-complete, fresh-sound}
 use Rattle.wasm_spec_instructions.proofs.References.{pop_reference-complete, pop_fitting-complete, below-complete, agree-both, converted-complete, chosen-complete}
 use Rattle.wasm_spec_instructions.proofs.Sets.{pops-sets, Covers, covers-more, set-covered, holds-more, taken-same, covering-behind}
@@ -31,7 +31,7 @@ length-vals (v ∷ vs) = let h : length (vals vs) ≡ length vs = length-vals vs
 
 -- a scope with other locals set
 abbrev pub over : {R : Type 0} → List ℕ → Scope R → Scope R
-over base D = record { labels = D.labels; returns = D.returns; sets = base }
+over base D = record { labels = D.labels; caught = D.caught; returns = D.returns; sets = base }
 
 module _ {R : Type 0} (W : World R) (o : IsInOrder W) (B : Surroundings R) where
   match-length : {ts us : List (ValueType R)} → Match W ts us → length ts ≡ length us
@@ -86,6 +86,9 @@ module _ {R : Type 0} (W : World R) (o : IsInOrder W) (B : Surroundings R) where
 
     stop-complete : (p : Stack R) (zs : List (ValueType R)) → Leads (lrun W B C (stop ∷ []) p) zs
     stop-complete p zs = (stopped p, refl, fits-any W zs)
+
+    rethrowing-complete : (l : ℕ) (zs : List (ValueType R)) (p : Stack R) → slice_get D.caught l ≡ Some true → Leads (lrun W B C (find_caught l ∷ stop ∷ []) p) zs
+    rethrowing-complete l zs p e = (stopped p, bind-at (lrun W B C (stop ∷ [])) (guard-at (is_caught W B D.caught l) p (ap (passes (λ (b : Bool). b)) e)) refl, fits-any W zs)
 
     dropping-complete : (v : ValueType R) (ws : List (ValueType R)) (p : Stack R) → FitsStack W p (v ∷ ws) → Leads (lrun W B C (take_any ∷ []) p) ws
     dropping-complete v ws p h =
@@ -198,6 +201,7 @@ module _ {R : Type 0} (W : World R) (o : IsInOrder W) (B : Surroundings R) where
     rule-complete s ts us ws p v (ending_rule {cs = cs} {t = t} {ts = as_} bs after h e) k =
         behind_checks cs (take t ∷ stop ∷ []) p (onto after ws) h v
         (take-complete t as_ (stop ∷ []) (onto bs ws) (onto after ws) p e (as_stack p (onto-append bs (vals as_) ws) k) (λ q g. stop-complete q (onto after ws)))
+    rule-complete s ts us ws p v (rethrowing_rule {cs = cs} {l = l} bs after h e) k = behind_checks cs (find_caught l ∷ stop ∷ []) p (onto after ws) h v (rethrowing-complete l (onto after ws) p e)
     rule-complete s ts us ws p v (dropping_rule t) k = dropping-complete t ws p k
     rule-complete s ts us ws p v (choosing_rule t w n m) k = take-complete (one i32) (i32 ∷ []) (choose ∷ []) (t ∷ t ∷ ws) (t ∷ ws) p refl k (λ q g. choosing-complete t w ws q n m g)
     rule-complete s ts us ws p v (testing_null_rule {cs = cs} x h) k = behind_checks cs (take_reference ∷ give (one i32) ∷ []) p (val i32 ∷ ws) h v (testing-complete x ws p k)
@@ -253,6 +257,14 @@ module _ {R : Type 0} (W : World R) (o : IsInOrder W) (B : Surroundings R) where
       (λ z. (check W B (deeper else_kind e D) f (fresh e.signature) >>= lshut W B else_kind e) >>= check W B D c) (check W B D d)) j)
       ∙ sym (bind-bind (lenter W B D (an_if g) p) (λ e. (check W B (deeper if_kind e D) b (fresh e.signature) >>= lend W e.signature.gives)
       >>= λ z. (check W B (deeper else_kind e D) f (fresh e.signature) >>= lshut W B else_kind e) >>= check W B D c) (check W B D d))
+  check-both D (handling g b hs c) d p =
+      (λ j. lenter W B D (a_try g) p >>= λ e. (check W B (deeper legacy_try_kind e D) b (fresh e.signature) >>= handle W B D legacy_try_kind e hs) >>= λ q. check-both D c d q j)
+      ∙ (λ j. lenter W B D (a_try g) p >>= λ e. sym (bind-bind (check W B (deeper legacy_try_kind e D) b (fresh e.signature) >>= handle W B D legacy_try_kind e hs) (check W B D c) (check W B D d)) j)
+      ∙ sym (bind-bind (lenter W B D (a_try g) p) (λ e. (check W B (deeper legacy_try_kind e D) b (fresh e.signature) >>= handle W B D legacy_try_kind e hs) >>= check W B D c) (check W B D d))
+  check-both D (delegating_to l g b c) d p =
+      (λ j. lenter W B D (a_try g) p >>= λ e. (check W B (deeper legacy_try_kind e D) b (fresh e.signature) >>= ldelegate W B D l e) >>= λ q. check-both D c d q j)
+      ∙ (λ j. lenter W B D (a_try g) p >>= λ e. sym (bind-bind (check W B (deeper legacy_try_kind e D) b (fresh e.signature) >>= ldelegate W B D l e) (check W B D c) (check W B D d)) j)
+      ∙ sym (bind-bind (lenter W B D (a_try g) p) (λ e. (check W B (deeper legacy_try_kind e D) b (fresh e.signature) >>= ldelegate W B D l e) >>= check W B D c) (check W B D d))
 
   -- the code leads from what stands for these types to what stands for those
   pub record Led (D : Scope R) (base : List ℕ) (c : Code) (p : Stack R) (zs : List (ValueType R)) (xs : List ℕ) : Type 0 where
@@ -273,6 +285,7 @@ module _ {R : Type 0} (W : World R) (o : IsInOrder W) (B : Surroundings R) where
   condition_types (a_block b) ls rs = refl
   condition_types (a_loop b) ls rs = refl
   condition_types (an_if b) ls rs = refl
+  condition_types (a_try b) ls rs = refl
   condition_types (a_try_table b cs) ls rs = refl
 
   record Open (D : Scope R) (base : List ℕ) (x : Opening) (g : Signature R) (p : Stack R) (ws : List (ValueType R)) : Type 0 where
@@ -300,7 +313,7 @@ module _ {R : Type 0} (W : World R) (o : IsInOrder W) (B : Surroundings R) where
       }
 
   block-complete :
-      (D : Scope R) (x : Opening) (g : Signature R) (c : Code) (xs : List ℕ) → Opens W B D x g → Accepts (inside (label_by (kind_of x) g) D) c (vals g.takes) xs (vals g.gives)
+      (D : Scope R) (x : Opening) (g : Signature R) (c : Code) (xs : List ℕ) → Opens W B D x g → Accepts (labelled (has_caught (kind_of x)) (label_by (kind_of x) g) D) c (vals g.takes) xs (vals g.gives)
       → may_end W B (kind_of x) g ≡ true → (base : List ℕ) (p : Stack R) (ws : List (ValueType R)) → Covers W B D.sets (p.sets ++ base)
       → FitsStack W p (onto (vals (condition x)) (onto (vals g.takes) ws)) → Led D base (enclosing x c done) p (onto (vals g.gives) ws) []
   block-complete D x g c xs h a m base p ws v k =
@@ -342,6 +355,109 @@ module _ {R : Type 0} (W : World R) (o : IsInOrder W) (B : Surroundings R) where
         covers = e.covers;
       }
 
+  -- handlers
+  pub handler-holds : (D E : Scope R) (x : Handler) → AllHold W B D (handler_checks x) → AllHold W B E (handler_checks x)
+  handler-holds D E (a_catch x) h = h
+  handler-holds D E a_catch_all h = h
+
+  pub handler-finds : (D E : Scope R) (x : Handler) (ts : List (Val R)) → types_in W B D.labels D.returns (handler_operands x) ≡ Some ts → types_in W B E.labels E.returns (handler_operands x) ≡ Some ts
+  handler-finds D E (a_catch x) ts e = e
+  handler-finds D E a_catch_all ts e = e
+
+  catch-complete :
+      (D E : Scope R) (x : Handler) (ts : List (Val R)) (e : Entered R) (r : Stack R) → Catches W B D x ts → FitsStack W r (onto (vals e.signature.gives) []) → lcatch W B E x e r ≡ Some ts
+  catch-complete D E x ts e r c h =
+      let z = end-complete W e.signature.gives r h in
+      bind-at (λ q. types_in W B E.labels E.returns (handler_operands x) >>= λ vs. lend W e.signature.gives q >>= λ z. Some vs)
+      (checks-run E E.sets (handler_checks x) [] r (handler-holds D E x c.holds) (λ m k. covers-more W B r.sets E.sets m k))
+      (bind-at (λ vs. lend W e.signature.gives r >>= λ z. Some vs) (handler-finds D E x ts c.found) (bind-at (λ z. Some ts) z.1 refl))
+
+  -- the code of a handler, which leads to its end
+  record Ends (E : Scope R) (base : List ℕ) (c : Code) (ts us : List (Val R)) : Type 0 where
+    end : Stack R
+    leads : check W B (over base E) c (starting ts) ≡ Some end
+    fits : FitsStack W end (onto (vals us) [])
+
+  ends : (E : Scope R) (base : List ℕ) (c : Code) (ts us : List (Val R)) (xs : List ℕ) → Accepts E c (vals ts) xs (vals us) → Covers W B E.sets base → Ends E base c ts us
+  ends E base c ts us xs a v = let f = a base (starting ts) [] v (push-complete W o false ts [] [] tt) in record { end = f.end; leads = f.leads; fits = f.fits }
+
+  -- what handlers lead to
+  HandledBy : Scope R → Handlers → List (Val R) → Type 0
+  HandledBy D hs us =
+      (base : List ℕ) (k : Kind) (b : Block R) (ts : List (Val R)) (left r : Stack R) → Covers W B D.sets (left.sets ++ base) → FitsStack W r (onto (vals us) [])
+      → handle W B (over base D) k (record { block = b; signature = record { takes = ts; gives = us }; left = left }) hs r ≡ Some (lpush us left)
+
+  last-complete :
+      (D : Scope R) (x : Handler) (c : Code) (vs us : List (Val R)) (xs : List ℕ) → Catches W B D x vs → Accepts (in_handler us D) c (vals vs) xs (vals us) → HandledBy D (last_handler x c) us
+  unfolding HandledBy
+  last-complete D (a_catch n) c vs us xs h a base k b ts left r v f =
+      let e : Entered R = record { block = b; signature = record { takes = ts; gives = us }; left = left } in
+      let d = ends (in_handler us D) (left.sets ++ base) c vs us xs a v in
+      let z = end-complete W us d.end d.fits in
+      bind-at (λ ws. check W B (deeper legacy_catch_kind e (over base D)) c (starting ws) >>= lshut W B legacy_catch_kind e) (catch-complete D (deeper k e (over base D)) (a_catch n) vs e r h f)
+      (bind-at (lshut W B legacy_catch_kind e) d.leads (bind-at (λ y. Some (lpush us left)) z.1 refl))
+  last-complete D a_catch_all c vs us xs h a base k b ts left r v f =
+      let e : Entered R = record { block = b; signature = record { takes = ts; gives = us }; left = left } in
+      let d = ends (in_handler us D) (left.sets ++ base) c vs us xs a v in
+      let z = end-complete W us d.end d.fits in
+      bind-at (λ ws. check W B (deeper legacy_catch_all_kind e (over base D)) c (starting ws) >>= lshut W B legacy_catch_all_kind e) (catch-complete D (deeper k e (over base D)) a_catch_all vs e r h f)
+      (bind-at (lshut W B legacy_catch_all_kind e) d.leads (bind-at (λ y. Some (lpush us left)) z.1 refl))
+
+  before-complete :
+      (D : Scope R) (n : ℕ) (c : Code) (hs : Handlers) (vs us : List (Val R)) (xs : List ℕ) → Catches W B D (a_catch n) vs → Accepts (in_handler us D) c (vals vs) xs (vals us) → HandledBy D hs us
+      → HandledBy D (catch_before n c hs) us
+  unfolding HandledBy
+  before-complete D n c hs vs us xs h a i base k b ts left r v f =
+      let e : Entered R = record { block = b; signature = record { takes = ts; gives = us }; left = left } in
+      let d = ends (in_handler us D) (left.sets ++ base) c vs us xs a v in
+      bind-at (λ ws. check W B (deeper legacy_catch_kind e (over base D)) c (starting ws) >>= handle W B (over base D) legacy_catch_kind e hs)
+      (catch-complete D (deeper k e (over base D)) (a_catch n) vs e r h f)
+      (bind-at (handle W B (over base D) legacy_catch_kind e hs) d.leads (i base legacy_catch_kind b ts left d.end v d.fits))
+
+  handling-complete :
+      (D : Scope R) (y : Block ℕ) (g : Signature R) (c : Code) (hs : Handlers) (xs : List ℕ) → Opens W B D (a_try y) g
+      → Accepts (inside g.gives D) c (vals g.takes) xs (vals g.gives) → HandledBy D hs g.gives
+      → (base : List ℕ) (p : Stack R) (ws : List (ValueType R)) → Covers W B D.sets (p.sets ++ base)
+      → FitsStack W p (onto (vals g.takes) ws) → Led D base (handling y c hs done) p (onto (vals g.gives) ws) []
+  unfolding HandledBy
+  handling-complete D y g c hs xs h a i base p ws v k =
+      let e : Open D base (a_try y) g p ws = opens-complete D (a_try y) g h base p ws v k in
+      let b : Entered R = record { block = e.block; signature = g; left = e.left } in
+      let f = a (e.left.sets ++ base) (fresh g) [] e.covers (push-complete W o false g.takes [] [] tt) in
+      record {
+        end = lpush g.gives e.left;
+        leads =
+            bind-at (λ y. (check W B (deeper legacy_try_kind y (over base D)) c (fresh y.signature) >>= handle W B (over base D) legacy_try_kind y hs) >>= check W B (over base D) done) e.leads
+            (bind-at (λ q. Some q) (bind-at (handle W B (over base D) legacy_try_kind b hs) f.leads (i base legacy_try_kind e.block g.takes e.left f.end e.covers f.fits)) refl);
+        fits = push-complete W o e.left.unreached g.gives e.left.items ws e.fits;
+        covers = e.covers;
+      }
+
+  delegating-complete :
+      (D : Scope R) (l : ℕ) (ls : List (Val R)) (y : Block ℕ) (g : Signature R) (c : Code) (xs : List ℕ) → Opens W B D (a_try y) g
+      → Accepts (inside g.gives D) c (vals g.takes) xs (vals g.gives) → slice_get D.labels l ≡ Some ls
+      → (base : List ℕ) (p : Stack R) (ws : List (ValueType R)) → Covers W B D.sets (p.sets ++ base)
+      → FitsStack W p (onto (vals g.takes) ws) → Led D base (delegating_to l y c done) p (onto (vals g.gives) ws) []
+  delegating-complete D l ls y g c xs h a t base p ws v k =
+      let e : Open D base (a_try y) g p ws = opens-complete D (a_try y) g h base p ws v k in
+      let b : Entered R = record { block = e.block; signature = g; left = e.left } in
+      let f = a (e.left.sets ++ base) (fresh g) [] e.covers (push-complete W o false g.takes [] [] tt) in
+      let z = end-complete W g.gives f.end f.fits in
+      let E : Scope R = deeper legacy_try_kind b (over base D) in
+      record {
+        end = lpush g.gives e.left;
+        leads =
+            bind-at (λ y. (check W B (deeper legacy_try_kind y (over base D)) c (fresh y.signature) >>= ldelegate W B (over base D) l y) >>= check W B (over base D) done) e.leads
+            (bind-at (λ q. Some q)
+            (bind-at (ldelegate W B (over base D) l b) f.leads
+            (bind-at (λ q. guard (is_some (slice_get D.labels l)) q >>= lshut W B legacy_try_kind b)
+            (checks-run E E.sets (legacy_checks []) [] f.end (h.holds.0, (h.holds.1.0, tt)) (λ m j. covers-more W B f.end.sets E.sets m j))
+            (bind-at (lshut W B legacy_try_kind b) (guard-at (is_some (slice_get D.labels l)) f.end (ap is_some t)) (bind-at (λ y. Some (lpush g.gives e.left)) z.1 refl))))
+            refl);
+        fits = push-complete W o e.left.unreached g.gives e.left.items ws e.fits;
+        covers = e.covers;
+      }
+
   -- an empty `else`
   empty-matches : (D : Scope R) (g : Signature R) (ys : List ℕ) → Accepts D done (vals g.takes) ys (vals g.gives) → matches_vals W g.takes g.gives ≡ true
   empty-matches D g ys a =
@@ -353,40 +469,48 @@ module _ {R : Type 0} (W : World R) (o : IsInOrder W) (B : Surroundings R) where
   tested : (p : Stack R) (g : Signature R) (ws : List (ValueType R)) → FitsStack W p (onto (vals g.takes ++ val i32 ∷ []) ws) → FitsStack W p (val i32 ∷ onto (vals g.takes) ws)
   tested p g ws h = subst (λ (z : List (ValueType R)). FitsStack W p z) (onto-append (vals g.takes) (val i32 ∷ []) ws) h
 
-  pub check-complete : {D : Scope R} {c : Code} {ts us : List (ValueType R)} {xs : List ℕ} → Typed W B D c ts xs us → Accepts D c ts xs us
-  check-complete (empty_rule) base p ws v h = record { end = p; leads = refl; fits = h; covers = v }
-  check-complete (instruction_rule {C = D} {i = i} {ts = ts} {us = us} r) base p ws v h =
-      let f = rule-complete D base (shape_of i) ts us ws p v r h in
-      record {
-        end = f.0;
-        leads = bind-at (λ q. Some q) f.1 refl;
-        fits = f.2;
-        covers = covering-behind W B (over base D) (shape_of i) D.sets p f.0 f.1 v;
-      }
-  check-complete (block_rule {C = D} {c = c} {xs = xs} b g h t) base p ws v k = block-complete D (a_block b) g c xs h (check-complete t) refl base p ws v k
-  check-complete (loop_rule {C = D} {c = c} {xs = xs} b g h t) base p ws v k = block-complete D (a_loop b) g c xs h (check-complete t) refl base p ws v k
-  check-complete (try_table_rule {C = D} {c = c} {xs = xs} b cs g h t) base p ws v k = block-complete D (a_try_table b cs) g c xs h (check-complete t) refl base p ws v k
-  check-complete (if_rule {C = D} {c = c} {xs = xs} {ys = ys} b g h t d) base p ws v k =
-      block-complete D (an_if b) g c xs h (check-complete t) (empty-matches (inside g.gives D) g ys (check-complete d)) base p ws v (tested p g ws k)
-  check-complete (if_else_rule {C = D} {c = c} {d = d} {xs = xs} {ys = ys} b g h t s) base p ws v k =
-      halves-complete D b g c d xs ys h (check-complete t) (check-complete s) base p ws v (tested p g ws k)
-  check-complete (sequence_rule {C = D} {c = c} {d = d} {us = us} {xs = xs} {ys = ys} i t s) base p ws v h =
-      let f = check-complete t base p ws v h in
-      let g = check-complete s base f.end ws f.covers f.fits in
-      record {
-        end = g.end;
-        leads = check-both (over base D) c d p ∙ bind-at (check W B (over base D) d) f.leads g.leads;
-        fits = g.fits;
-        covers = λ m e. g.covers m (subst (λ (is : List ℕ). is_set W B m is ≡ true) (append_assoc ys xs D.sets) e);
-      }
-  check-complete (frame_rule {ts = ts} {us = us} below t) base p ws v h =
-      let f = check-complete t base p (onto below ws) v (subst (λ (z : List (ValueType R)). FitsStack W p z) (onto-append below ts ws) h) in
-      record { end = f.end; leads = f.leads; fits = subst (λ (z : List (ValueType R)). FitsStack W f.end z) (sym (onto-append below us ws)) f.fits; covers = f.covers }
-  check-complete (subsumption_rule {C = D} {xs = xs} {ys = ys} m n a t) base p ws v h =
-      let f = check-complete t base p ws v (fits-sub W o p.unreached p.items (match-onto W m (match-itself W o ws)) h) in
-      record {
-        end = f.end;
-        leads = f.leads;
-        fits = fits-sub W o f.end.unreached f.end.items (match-onto W n (match-itself W o ws)) f.fits;
-        covers = set-covered W B ys (xs ++ D.sets) D.sets (f.end.sets ++ base) a f.covers (λ k e. f.covers k (covers-more W B xs D.sets k e));
-      }
+  mutual
+    pub check-complete : {D : Scope R} {c : Code} {ts us : List (ValueType R)} {xs : List ℕ} → Typed W B D c ts xs us → Accepts D c ts xs us
+    check-complete (empty_rule) base p ws v h = record { end = p; leads = refl; fits = h; covers = v }
+    check-complete (instruction_rule {C = D} {i = i} {ts = ts} {us = us} r) base p ws v h =
+        let f = rule-complete D base (shape_of i) ts us ws p v r h in
+        record {
+          end = f.0;
+          leads = bind-at (λ q. Some q) f.1 refl;
+          fits = f.2;
+          covers = covering-behind W B (over base D) (shape_of i) D.sets p f.0 f.1 v;
+        }
+    check-complete (block_rule {C = D} {c = c} {xs = xs} b g h t) base p ws v k = block-complete D (a_block b) g c xs h (check-complete t) refl base p ws v k
+    check-complete (loop_rule {C = D} {c = c} {xs = xs} b g h t) base p ws v k = block-complete D (a_loop b) g c xs h (check-complete t) refl base p ws v k
+    check-complete (try_table_rule {C = D} {c = c} {xs = xs} b cs g h t) base p ws v k = block-complete D (a_try_table b cs) g c xs h (check-complete t) refl base p ws v k
+    check-complete (try_rule {C = D} {c = c} {xs = xs} b g h t) base p ws v k = block-complete D (a_try b) g c xs h (check-complete t) refl base p ws v k
+    check-complete (handling_rule {C = D} {c = c} {hs = hs} {xs = xs} b g h t i) base p ws v k = handling-complete D b g c hs xs h (check-complete t) (handle-complete i) base p ws v k
+    check-complete (delegating_rule {C = D} {c = c} {xs = xs} {l = l} {ls = ls} b g h t e) base p ws v k = delegating-complete D l ls b g c xs h (check-complete t) e base p ws v k
+    check-complete (if_rule {C = D} {c = c} {xs = xs} {ys = ys} b g h t d) base p ws v k =
+        block-complete D (an_if b) g c xs h (check-complete t) (empty-matches (inside g.gives D) g ys (check-complete d)) base p ws v (tested p g ws k)
+    check-complete (if_else_rule {C = D} {c = c} {d = d} {xs = xs} {ys = ys} b g h t s) base p ws v k =
+        halves-complete D b g c d xs ys h (check-complete t) (check-complete s) base p ws v (tested p g ws k)
+    check-complete (sequence_rule {C = D} {c = c} {d = d} {us = us} {xs = xs} {ys = ys} i t s) base p ws v h =
+        let f = check-complete t base p ws v h in
+        let g = check-complete s base f.end ws f.covers f.fits in
+        record {
+          end = g.end;
+          leads = check-both (over base D) c d p ∙ bind-at (check W B (over base D) d) f.leads g.leads;
+          fits = g.fits;
+          covers = λ m e. g.covers m (subst (λ (is : List ℕ). is_set W B m is ≡ true) (append_assoc ys xs D.sets) e);
+        }
+    check-complete (frame_rule {ts = ts} {us = us} below t) base p ws v h =
+        let f = check-complete t base p (onto below ws) v (subst (λ (z : List (ValueType R)). FitsStack W p z) (onto-append below ts ws) h) in
+        record { end = f.end; leads = f.leads; fits = subst (λ (z : List (ValueType R)). FitsStack W f.end z) (sym (onto-append below us ws)) f.fits; covers = f.covers }
+    check-complete (subsumption_rule {C = D} {xs = xs} {ys = ys} m n a t) base p ws v h =
+        let f = check-complete t base p ws v (fits-sub W o p.unreached p.items (match-onto W m (match-itself W o ws)) h) in
+        record {
+          end = f.end;
+          leads = f.leads;
+          fits = fits-sub W o f.end.unreached f.end.items (match-onto W n (match-itself W o ws)) f.fits;
+          covers = set-covered W B ys (xs ++ D.sets) D.sets (f.end.sets ++ base) a f.covers (λ k e. f.covers k (covers-more W B xs D.sets k e));
+        }
+
+    handle-complete : {D : Scope R} {hs : Handlers} {us : List (Val R)} → Handle W B D hs us → HandledBy D hs us
+    handle-complete (last_rule {C = D} {h = x} {c = c} {ts = vs} {us = us} {xs = xs} h t) = last-complete D x c vs us xs h (check-complete t)
+    handle-complete (before_rule {C = D} {x = n} {c = c} {hs = hs} {ts = vs} {us = us} {xs = xs} h t i) = before-complete D n c hs vs us xs h (check-complete t) (handle-complete i)

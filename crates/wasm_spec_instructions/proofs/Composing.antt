@@ -4,10 +4,10 @@ use Rattle.std.proofs.lemmas.Bool.Decides.{Decides-eqb}
 use Rattle.wasm_operator_steps.specs.WasmSpecRules.WasmSpec.MatchingTests.{World}
 use Rattle.wasm_operator_steps.specs.WasmSpecRules.Attempts.{passes, among}
 use Rattle.wasm_operator_steps.specs.Bodies.{Surroundings}
-use Rattle.wasm_spec_instructions.specs.Code.{Code, done, simply, enclosing, choosing_between, and_then, is_one}
+use Rattle.wasm_spec_instructions.specs.Code.{Code, done, simply, enclosing, choosing_between, handling, delegating_to, and_then, is_one}
 use Rattle.wasm_spec_instructions.specs.ValueTypes.{ValueType, IsInOrder}
 use Rattle.wasm_spec_instructions.specs.Scopes.{Scope, behind, is_set, AreSet}
-use Rattle.wasm_spec_instructions.specs.Sequences.{Typed, empty_rule, instruction_rule, block_rule, loop_rule, if_rule, if_else_rule, try_table_rule, sequence_rule, frame_rule, subsumption_rule}
+use Rattle.wasm_spec_instructions.specs.Sequences.{Typed, empty_rule, instruction_rule, block_rule, loop_rule, if_rule, if_else_rule, try_table_rule, try_rule, handling_rule, delegating_rule, sequence_rule, frame_rule, subsumption_rule}
 use Rattle.wasm_spec_instructions.specs.Consequences.{SequencesCompose}
 use Rattle.wasm_spec_instructions.proofs.Attempts.{no}
 use Rattle.wasm_spec_instructions.proofs.Fits.{match-append, match-itself}
@@ -19,6 +19,8 @@ then-assoc done b d = refl
 then-assoc (simply i c) b d = ap (simply i) (then-assoc c b d)
 then-assoc (enclosing o e c) b d = ap (enclosing o e) (then-assoc c b d)
 then-assoc (choosing_between g e f c) b d = ap (choosing_between g e f) (then-assoc c b d)
+then-assoc (handling g e hs c) b d = ap (handling g e hs) (then-assoc c b d)
+then-assoc (delegating_to l g e c) b d = ap (delegating_to l g e) (then-assoc c b d)
 
 or-second : (f c a : Bool) → c ≡ true → (f || (c || a)) ≡ true
 or-second true c a e = refl
@@ -60,9 +62,12 @@ module _ {R : Type 0} (W : World R) (B : Surroundings R) where
     compose d (if_rule b g h t e) low vs ys s = alone d refl (if_rule b g h t e) low vs ys s
     compose d (if_else_rule b g h t e) low vs ys s = alone d refl (if_else_rule b g h t e) low vs ys s
     compose d (try_table_rule b cs g h t) low vs ys s = alone d refl (try_table_rule b cs g h t) low vs ys s
+    compose d (try_rule b g h t) low vs ys s = alone d refl (try_rule b g h t) low vs ys s
+    compose d (handling_rule b g h t i) low vs ys s = alone d refl (handling_rule b g h t i) low vs ys s
+    compose d (delegating_rule b g h t e) low vs ys s = alone d refl (delegating_rule b g h t e) low vs ys s
     compose d (sequence_rule {C = C} {c = a} {d = b} {ts = ts} {us = ms} {vs = us} {xs = xs} {ys = zs} i t u) low vs ys s =
         let k : Typed W B (behind xs C) (and_then b d) (low ++ ms) (ys ++ zs) vs =
-        compose d u low vs ys (subst (λ (z : List ℕ). Typed W B (record { labels = C.labels; returns = C.returns; sets = z }) d (low ++ us) ys vs) (append_assoc zs xs C.sets) s) in
+        compose d u low vs ys (subst (λ (z : List ℕ). Typed W B (record { labels = C.labels; caught = C.caught; returns = C.returns; sets = z }) d (low ++ us) ys vs) (append_assoc zs xs C.sets) s) in
         subst (λ (z : List ℕ). Typed W B C (and_then (and_then a b) d) (low ++ ts) z vs) (append_assoc ys zs xs)
         (subst (λ (z : Code). Typed W B C z (low ++ ts) ((ys ++ zs) ++ xs) vs) (sym (then-assoc a b d)) (sequence_rule i (frame_rule low t) k))
     compose d (frame_rule {C = C} {c = c} {ts = ts} {us = us} {xs = xs} below t) low vs ys s =
@@ -70,7 +75,7 @@ module _ {R : Type 0} (W : World R) (B : Surroundings R) where
         (compose d t (low ++ below) vs ys (subst (λ (z : List (ValueType R)). Typed W B (behind xs C) d z ys vs) (sym (append_assoc low below us)) s))
     compose d (subsumption_rule {C = C} {c = c} {ts = ts} {us = us} {vs = fs} {ws = gs} {xs = xs} {ys = zs} m n a t) low vs ys s =
         let v : Covers W B (zs ++ C.sets) (xs ++ C.sets) = set-covered W B zs (xs ++ C.sets) C.sets (xs ++ C.sets) a (λ k e. e) (covers-more W B xs C.sets) in
-        let r : Typed W B (behind xs C) d (low ++ gs) ys vs = typed-grows W B (behind xs C) (record { labels = λ k ls e. e; returns = λ rs e. e; sets = v }) s in
+        let r : Typed W B (behind xs C) d (low ++ gs) ys vs = typed-grows W B (behind xs C) (record { labels = λ k ls e. e; caught = λ k e. e; returns = λ rs e. e; sets = v }) s in
         let q : Typed W B (behind xs C) d (low ++ us) ys vs =
         subsumption_rule (match-append W (match-itself W o low) n) (match-itself W o vs) (front-set ys (xs ++ C.sets)) r in
         let e : AreSet W B (ys ++ (xs ++ C.sets)) (ys ++ zs) =

@@ -1,5 +1,5 @@
 -- What is typed in a scope is typed in each that has more; and code that is typed is proper.
-use Rattle.std.proofs.Common.{◌≡◌, refl, ap, ◌∙◌, ℕ, zero, suc, true, List, [], ◌∷◌, ◌++◌, Option, Some, None, option_map, slice_get}
+use Rattle.std.proofs.Common.{◌≡◌, refl, ap, ◌∙◌, ℕ, zero, suc, Bool, true, false, List, [], ◌∷◌, ◌++◌, Option, Some, None, option_map, slice_get}
 use Rattle.wasm_operator_steps.specs.WasmSpecRules.WasmSpec.Syntax.{Val}
 use Rattle.wasm_operator_steps.specs.WasmSpecRules.WasmSpec.MatchingTests.{World}
 use Rattle.wasm_operator_steps.specs.WasmSpecRules.Attempts.{◌>>=◌, passes, front_of, last_of, list_of}
@@ -8,11 +8,11 @@ use Rattle.wasm_operator_steps.specs.Bodies.{Surroundings}
 use Rattle.wasm_operator_steps.specs.Actions.{OperandTypes, these, params, results, label, returned, local, global, function_reference, new_reference, fields, element, field, table_address, memory_address, table_element, segment, lesser_table_address, lesser_memory_address, top, descriptor_of, repeated, front, last, joined, Check, has, allows, global_is_mutable, local_is_set, function_is_referenced, is_exception, each_matches, may_be_cast, can_be_tested, is_aligned, suits, fields_have_defaults, has_no_descriptor, field_is_mutable, field_is_packed, element_is_mutable, element_has_default, element_is_number, element_is_packed, element_is_storable, data_is_there, segment_is_there, reaches_global, reaches_table, reaches_type, reaches_function}
 use Rattle.wasm_operator_steps.specs.Shapes.{Shape, shape_of}
 use Rattle.wasm_operator_steps.specs.Meanings.{copies}
-use Rattle.wasm_spec_instructions.specs.Code.{Opening, Code, done, simply, enclosing, choosing_between, and_then, checks_of, is_simple, IsProper}
+use Rattle.wasm_spec_instructions.specs.Code.{Opening, Handler, Code, done, simply, enclosing, choosing_between, handling, delegating_to, Handlers, and_then, checks_of, handler_checks, handler_operands, is_simple, IsProper, AreProper}
 use Rattle.wasm_spec_instructions.specs.ValueTypes.{ValueType}
-use Rattle.wasm_spec_instructions.specs.Scopes.{Scope, inside, behind, types_in, holds_in, AllHold, AreSet}
-use Rattle.wasm_spec_instructions.specs.Rules.{MatchLabels, Rule, plain_rule, ending_rule, dropping_rule, choosing_rule, testing_null_rule, asserting_non_null_rule, branching_on_null_rule, branching_on_non_null_rule, branching_by_table_rule, setting_rule, giving_back_rule, measuring_rule, comparing_rule, converting_rule}
-use Rattle.wasm_spec_instructions.specs.Sequences.{Opens, Typed, empty_rule, instruction_rule, block_rule, loop_rule, if_rule, if_else_rule, try_table_rule, sequence_rule, frame_rule, subsumption_rule}
+use Rattle.wasm_spec_instructions.specs.Scopes.{Scope, labelled, inside, in_handler, behind, types_in, holds_in, AllHold, AreSet}
+use Rattle.wasm_spec_instructions.specs.Rules.{MatchLabels, Rule, plain_rule, ending_rule, dropping_rule, choosing_rule, testing_null_rule, asserting_non_null_rule, branching_on_null_rule, branching_on_non_null_rule, branching_by_table_rule, setting_rule, giving_back_rule, measuring_rule, comparing_rule, converting_rule, rethrowing_rule}
+use Rattle.wasm_spec_instructions.specs.Sequences.{Opens, Catches, Typed, empty_rule, instruction_rule, block_rule, loop_rule, if_rule, if_else_rule, try_table_rule, try_rule, handling_rule, delegating_rule, sequence_rule, frame_rule, subsumption_rule, Handle, last_rule, before_rule}
 use Rattle.wasm_spec_instructions.specs.Consequences.{Extends, ScopesMayGrow, TypedCodeIsProper}
 use Rattle.wasm_operator_steps.specs.WasmSpecRules.Signatures.{Signature}
 use Rattle.wasm_spec_instructions.proofs.Attempts.{absent, passes-gives}
@@ -121,6 +121,7 @@ module _ {R : Type 0} (W : World R) (B : Surroundings R) where
     rule-grows : (s : Shape) (ts us : List (ValueType R)) → Rule W B C s ts us → Rule W B D s ts us
     rule-grows s ts us (plain_rule {cs = cs} {t = t} {u = u} {ts = vs} {us = ws} h e f) = plain_rule (all-grow cs h) (found t vs e) (found u ws f)
     rule-grows s ts us (ending_rule {cs = cs} {t = t} {ts = vs} low after h e) = ending_rule low after (all-grow cs h) (found t vs e)
+    rule-grows s ts us (rethrowing_rule {cs = cs} {l = l} low after h e) = rethrowing_rule low after (all-grow cs h) (x.caught l e)
     rule-grows s ts us (dropping_rule t) = dropping_rule t
     rule-grows s ts us (choosing_rule t v e f) = choosing_rule t v e f
     rule-grows s ts us (testing_null_rule {cs = cs} a h) = testing_null_rule a (all-grow cs h)
@@ -137,6 +138,9 @@ module _ {R : Type 0} (W : World R) (B : Surroundings R) where
     opens-grow : (y : Opening) (g : Signature R) → Opens W B C y g → Opens W B D y g
     opens-grow y g h = record { block = h.block; holds = all-grow (checks_of y) h.holds; resolves = h.resolves; signed = h.signed }
 
+    catches-grow : (y : Handler) (ts : List (Val R)) → Catches W B C y ts → Catches W B D y ts
+    catches-grow y ts h = record { holds = all-grow (handler_checks y) h.holds; found = found (handler_operands y) ts h.found }
+
     set-grow : (ys X Y : List ℕ) → Covers W B X Y → AreSet W B X ys → AreSet W B Y ys
     set-grow [] X Y v a = tt
     set-grow (y ∷ ys) X Y v a = (v y a.0, set-grow ys X Y v a.1)
@@ -145,26 +149,41 @@ module _ {R : Type 0} (W : World R) (B : Surroundings R) where
     deeper ls zero ks e = e
     deeper ls (suc n) ks e = x.labels n ks e
 
+    deeper-caught : (b : Bool) (n : ℕ) → slice_get (b ∷ C.caught) n ≡ Some true → slice_get (b ∷ D.caught) n ≡ Some true
+    deeper-caught b zero e = e
+    deeper-caught b (suc n) e = x.caught n e
+
+    label-extends : (b : Bool) (ls : List (Val R)) → Extends W B (labelled b ls C) (labelled b ls D)
+    label-extends b ls = record { labels = deeper ls; caught = deeper-caught b; returns = x.returns; sets = x.sets }
+
     inside-extends : (ls : List (Val R)) → Extends W B (inside ls C) (inside ls D)
-    inside-extends ls = record { labels = deeper ls; returns = x.returns; sets = x.sets }
+    inside-extends ls = label-extends false ls
 
     behind-extends : (xs : List ℕ) → Extends W B (behind xs C) (behind xs D)
-    behind-extends xs = record { labels = x.labels; returns = x.returns; sets = covers-behind W B xs C.sets D.sets x.sets }
+    behind-extends xs = record { labels = x.labels; caught = x.caught; returns = x.returns; sets = covers-behind W B xs C.sets D.sets x.sets }
 
-  pub typed-grows : {C : Scope R} {c : Code} {ts us : List (ValueType R)} {xs : List ℕ} (D : Scope R) → Extends W B C D → Typed W B C c ts xs us → Typed W B D c ts xs us
-  typed-grows D x empty_rule = empty_rule
-  typed-grows D x (instruction_rule {C = C} {i = i} {ts = ts} {us = us} r) = instruction_rule (rule-grows C D x (shape_of i) ts us r)
-  typed-grows D x (block_rule {C = C} b g h t) = block_rule b g (opens-grow C D x _ g h) (typed-grows (inside g.gives D) (inside-extends C D x g.gives) t)
-  typed-grows D x (loop_rule {C = C} b g h t) = loop_rule b g (opens-grow C D x _ g h) (typed-grows (inside g.takes D) (inside-extends C D x g.takes) t)
-  typed-grows D x (if_rule {C = C} b g h t s) =
-      if_rule b g (opens-grow C D x _ g h) (typed-grows (inside g.gives D) (inside-extends C D x g.gives) t) (typed-grows (inside g.gives D) (inside-extends C D x g.gives) s)
-  typed-grows D x (if_else_rule {C = C} b g h t s) =
-      if_else_rule b g (opens-grow C D x _ g h) (typed-grows (inside g.gives D) (inside-extends C D x g.gives) t) (typed-grows (inside g.gives D) (inside-extends C D x g.gives) s)
-  typed-grows D x (try_table_rule {C = C} b cs g h t) = try_table_rule b cs g (opens-grow C D x _ g h) (typed-grows (inside g.gives D) (inside-extends C D x g.gives) t)
-  typed-grows D x (sequence_rule {C = C} {xs = xs} i t s) = sequence_rule i (typed-grows D x t) (typed-grows (behind xs D) (behind-extends C D x xs) s)
-  typed-grows D x (frame_rule low t) = frame_rule low (typed-grows D x t)
-  typed-grows D x (subsumption_rule {C = C} {xs = xs} {ys = ys} m n a t) =
-      subsumption_rule m n (set-grow C D x ys (xs ++ C.sets) (xs ++ D.sets) (covers-behind W B xs C.sets D.sets x.sets) a) (typed-grows D x t)
+  mutual
+    pub typed-grows : {C : Scope R} {c : Code} {ts us : List (ValueType R)} {xs : List ℕ} (D : Scope R) → Extends W B C D → Typed W B C c ts xs us → Typed W B D c ts xs us
+    typed-grows D x empty_rule = empty_rule
+    typed-grows D x (instruction_rule {C = C} {i = i} {ts = ts} {us = us} r) = instruction_rule (rule-grows C D x (shape_of i) ts us r)
+    typed-grows D x (block_rule {C = C} b g h t) = block_rule b g (opens-grow C D x _ g h) (typed-grows (inside g.gives D) (inside-extends C D x g.gives) t)
+    typed-grows D x (loop_rule {C = C} b g h t) = loop_rule b g (opens-grow C D x _ g h) (typed-grows (inside g.takes D) (inside-extends C D x g.takes) t)
+    typed-grows D x (if_rule {C = C} b g h t s) =
+        if_rule b g (opens-grow C D x _ g h) (typed-grows (inside g.gives D) (inside-extends C D x g.gives) t) (typed-grows (inside g.gives D) (inside-extends C D x g.gives) s)
+    typed-grows D x (if_else_rule {C = C} b g h t s) =
+        if_else_rule b g (opens-grow C D x _ g h) (typed-grows (inside g.gives D) (inside-extends C D x g.gives) t) (typed-grows (inside g.gives D) (inside-extends C D x g.gives) s)
+    typed-grows D x (try_table_rule {C = C} b cs g h t) = try_table_rule b cs g (opens-grow C D x _ g h) (typed-grows (inside g.gives D) (inside-extends C D x g.gives) t)
+    typed-grows D x (try_rule {C = C} b g h t) = try_rule b g (opens-grow C D x _ g h) (typed-grows (inside g.gives D) (inside-extends C D x g.gives) t)
+    typed-grows D x (handling_rule {C = C} b g h t i) = handling_rule b g (opens-grow C D x _ g h) (typed-grows (inside g.gives D) (inside-extends C D x g.gives) t) (handlers-grow D x i)
+    typed-grows D x (delegating_rule {C = C} {l = l} {ls = ls} b g h t e) = delegating_rule b g (opens-grow C D x _ g h) (typed-grows (inside g.gives D) (inside-extends C D x g.gives) t) (x.labels l ls e)
+    typed-grows D x (sequence_rule {C = C} {xs = xs} i t s) = sequence_rule i (typed-grows D x t) (typed-grows (behind xs D) (behind-extends C D x xs) s)
+    typed-grows D x (frame_rule low t) = frame_rule low (typed-grows D x t)
+    typed-grows D x (subsumption_rule {C = C} {xs = xs} {ys = ys} m n a t) =
+        subsumption_rule m n (set-grow C D x ys (xs ++ C.sets) (xs ++ D.sets) (covers-behind W B xs C.sets D.sets x.sets) a) (typed-grows D x t)
+
+    handlers-grow : {C : Scope R} {hs : Handlers} {us : List (Val R)} (D : Scope R) → Extends W B C D → Handle W B C hs us → Handle W B D hs us
+    handlers-grow D x (last_rule {C = C} {h = y} {ts = ts} {us = us} h t) = last_rule (catches-grow C D x y ts h) (typed-grows (in_handler us D) (label-extends C D x true us) t)
+    handlers-grow D x (before_rule {C = C} {ts = ts} {us = us} h t i) = before_rule (catches-grow C D x _ ts h) (typed-grows (in_handler us D) (label-extends C D x true us) t) (handlers-grow D x i)
 
 pub scopes_may_grow : (R : Type 0) → ScopesMayGrow R
 scopes_may_grow R W B C D c ts us xs x t = typed-grows W B D x t
@@ -173,6 +192,7 @@ scopes_may_grow R W B C D c ts us xs x t = typed-grows W B D x t
 ruled-simple : {R : Type 0} (W : World R) (B : Surroundings R) (C : Scope R) (s : Shape) (ts us : List (ValueType R)) → Rule W B C s ts us → is_simple s ≡ true
 ruled-simple W B C s ts us (plain_rule h e f) = refl
 ruled-simple W B C s ts us (ending_rule low after h e) = refl
+ruled-simple W B C s ts us (rethrowing_rule low after h e) = refl
 ruled-simple W B C s ts us (dropping_rule t) = refl
 ruled-simple W B C s ts us (choosing_rule t v e f) = refl
 ruled-simple W B C s ts us (testing_null_rule a h) = refl
@@ -191,18 +211,28 @@ both-proper done d h k = k
 both-proper (simply i c) d h k = (h.0, both-proper c d h.1 k)
 both-proper (enclosing o b c) d h k = (h.0, both-proper c d h.1 k)
 both-proper (choosing_between g b e c) d h k = (h.0, h.1, both-proper c d h.2 k)
+both-proper (handling g b hs c) d h k = (h.0, h.1, both-proper c d h.2 k)
+both-proper (delegating_to l g b c) d h k = (h.0, both-proper c d h.1 k)
 
-pub proper : {R : Type 0} (W : World R) (B : Surroundings R) {C : Scope R} {c : Code} {ts us : List (ValueType R)} {xs : List ℕ} → Typed W B C c ts xs us → IsProper c
-proper W B empty_rule = tt
-proper W B (instruction_rule {C = C} {i = i} {ts = ts} {us = us} r) = (ruled-simple W B C (shape_of i) ts us r, tt)
-proper W B (block_rule b g h t) = (proper W B t, tt)
-proper W B (loop_rule b g h t) = (proper W B t, tt)
-proper W B (if_rule b g h t s) = (proper W B t, tt)
-proper W B (if_else_rule b g h t s) = (proper W B t, proper W B s, tt)
-proper W B (try_table_rule b cs g h t) = (proper W B t, tt)
-proper W B (sequence_rule {c = c} {d = d} i t s) = both-proper c d (proper W B t) (proper W B s)
-proper W B (frame_rule low t) = proper W B t
-proper W B (subsumption_rule m n a t) = proper W B t
+mutual
+  pub proper : {R : Type 0} (W : World R) (B : Surroundings R) {C : Scope R} {c : Code} {ts us : List (ValueType R)} {xs : List ℕ} → Typed W B C c ts xs us → IsProper c
+  proper W B empty_rule = tt
+  proper W B (instruction_rule {C = C} {i = i} {ts = ts} {us = us} r) = (ruled-simple W B C (shape_of i) ts us r, tt)
+  proper W B (block_rule b g h t) = (proper W B t, tt)
+  proper W B (loop_rule b g h t) = (proper W B t, tt)
+  proper W B (if_rule b g h t s) = (proper W B t, tt)
+  proper W B (if_else_rule b g h t s) = (proper W B t, proper W B s, tt)
+  proper W B (try_table_rule b cs g h t) = (proper W B t, tt)
+  proper W B (try_rule b g h t) = (proper W B t, tt)
+  proper W B (handling_rule b g h t i) = (proper W B t, all-proper W B i, tt)
+  proper W B (delegating_rule b g h t e) = (proper W B t, tt)
+  proper W B (sequence_rule {c = c} {d = d} i t s) = both-proper c d (proper W B t) (proper W B s)
+  proper W B (frame_rule low t) = proper W B t
+  proper W B (subsumption_rule m n a t) = proper W B t
+
+  all-proper : {R : Type 0} (W : World R) (B : Surroundings R) {C : Scope R} {hs : Handlers} {us : List (Val R)} → Handle W B C hs us → AreProper hs
+  all-proper W B (last_rule h t) = proper W B t
+  all-proper W B (before_rule h t i) = (proper W B t, all-proper W B i)
 
 pub typed_code_is_proper : (R : Type 0) → TypedCodeIsProper R
 typed_code_is_proper R W B C c ts us xs t = proper W B t

@@ -13,7 +13,7 @@ use Rattle.wasm_operator_steps.specs.Shapes.{shape_of}
 use Rattle.wasm_operator_steps.specs.Steps.{is_finished, start, step_in, steps_in}
 use Rattle.wasm_operator_steps.specs.Machine.{State}
 use Rattle.wasm_operator_steps.proofs.LegacyRuns.{legacy_needs_features}
-use Rattle.wasm_spec_instructions.specs.Code.{Code, else_, done, simply, enclosing, choosing_between, end_, flatten, IsProper}
+use Rattle.wasm_spec_instructions.specs.Code.{Code, delegate_, else_, done, simply, enclosing, choosing_between, handling, delegating_to, Handlers, last_handler, catch_before, end_, flatten, flatten_handlers, IsProper, AreProper}
 use Rattle.wasm_spec_instructions.specs.ValueTypes.{ValueType, vals, IsInOrder}
 use Rattle.wasm_spec_instructions.specs.Expressions.{body_scope, IsTypedExpression}
 use Rattle.wasm_spec_instructions.specs.Sequences.{Typed}
@@ -23,7 +23,7 @@ use Rattle.wasm_spec_instructions.proofs.Within.{stack, lend, check}
 use Rattle.wasm_spec_instructions.proofs.Outer.{left, whole}
 use Rattle.wasm_spec_instructions.proofs.Fits.{onto, rev, rev-rev, empty-fits, end-complete, end-sound}
 use Rattle.wasm_spec_instructions.proofs.Complete.{check-complete}
-use Rattle.wasm_spec_instructions.proofs.Typing.{Mode, without, unshared, serves, Fine, IsSafe, IsPlain, Allows, Found, Sound, check-sound}
+use Rattle.wasm_spec_instructions.proofs.Typing.{Mode, without, unshared, serves, Fine, AllFine, IsSafe, IsPlain, Allows, Found, Sound, check-sound}
 use Rattle.wasm_spec_instructions.proofs.Parse.{parsed}
 
 pub completeness : (R : Type 0) → Completeness R
@@ -43,14 +43,24 @@ module _ (m : Mode) where
   served-behind [] ys h = (tt, h)
   served-behind (x ∷ xs) ys h = let f = served-behind xs ys h.1 in ((h.0, f.0), f.1)
 
-  fine : (c : Code) → IsProper c → AllServed (flatten c) → Fine m c
-  fine done w s = tt
-  fine (simply i c) w s = (w.0, s.0, fine c w.1 s.1)
-  fine (enclosing o b c) w s = let f = served-behind (flatten b) (end_ ∷ flatten c) s.1 in (fine b w.0 f.0, fine c w.1 f.1.1)
-  fine (choosing_between g b d c) w s =
-      let f = served-behind (flatten b) (else_ ∷ (flatten d ++ (end_ ∷ flatten c))) s.1 in
-      let k = served-behind (flatten d) (end_ ∷ flatten c) f.1.1 in
-      (fine b w.0 f.0, fine d w.1 k.0, fine c w.2 k.1.1)
+  mutual
+    fine : (c : Code) → IsProper c → AllServed (flatten c) → Fine m c
+    fine done w s = tt
+    fine (simply i c) w s = (w.0, s.0, fine c w.1 s.1)
+    fine (enclosing o b c) w s = let f = served-behind (flatten b) (end_ ∷ flatten c) s.1 in (fine b w.0 f.0, fine c w.1 f.1.1)
+    fine (choosing_between g b d c) w s =
+        let f = served-behind (flatten b) (else_ ∷ (flatten d ++ (end_ ∷ flatten c))) s.1 in
+        let k = served-behind (flatten d) (end_ ∷ flatten c) f.1.1 in
+        (fine b w.0 f.0, fine d w.1 k.0, fine c w.2 k.1.1)
+    fine (handling g b hs c) w s =
+        let f = served-behind (flatten b) (flatten_handlers hs ++ (end_ ∷ flatten c)) s.1 in
+        let k = served-behind (flatten_handlers hs) (end_ ∷ flatten c) f.1 in
+        (fine b w.0 f.0, all-fine hs w.1 k.0, fine c w.2 k.1.1)
+    fine (delegating_to l g b c) w s = let f = served-behind (flatten b) (delegate_ l ∷ flatten c) s.1 in (fine b w.0 f.0, fine c w.1 f.1.1)
+
+    all-fine : (hs : Handlers) → AreProper hs → AllServed (flatten_handlers hs) → AllFine m hs
+    all-fine (last_handler x b) w s = fine b w s.1
+    all-fine (catch_before x b hs) w s = let f = served-behind (flatten b) (flatten_handlers hs) s.1 in (fine b w.0 f.0, all-fine hs w.1 f.1)
 
 served-without : (b : Bool) (ops : List (Instruction ℕ)) → AreServedAs b ops → AllServed (without b) ops
 served-without b [] h = tt
@@ -72,11 +82,11 @@ from_nothing {R} W o B rs c f =
 
 typed :
     {R : Type 0} (m : Mode) (W : World R) (B : Surroundings R) (b : Block R) (g : Signature R) (ops : List (Instruction ℕ)) → IsInOrder W → Allows W B m → IsPlain W m (body_scope g.gives)
-    → block_signature W B b ≡ Some g → AllServed m ops → AreWithoutLegacy ops → passes is_finished (steps_in W B ops (start b)) ≡ true → IsTypedExpression W B g.gives ops
+    → block_signature W B b ≡ Some g → AllServed m ops → passes is_finished (steps_in W B ops (start b)) ≡ true → IsTypedExpression W B g.gives ops
 unfolding Sound
-typed {R} m W B b g ops o u n e s l h =
+typed {R} m W B b g ops o u n e s h =
     let a = passes-gives is_finished (steps_in W B ops (start b)) h in
-    let p = parsed W B b g e ops a.0 l a.1 a.2 in
+    let p = parsed W B b g e ops a.0 a.1 a.2 in
     let d : (check W B (body_scope g.gives) p.0 (stack [] false []) >>= λ q. lend W g.gives q >>= λ z. Some (left W B b g e)) ≡ Some a.0 =
     sym (whole W B b g e p.0 p.1) ∙ ap (λ (xs : List (Instruction ℕ)). steps_in W B xs (start b)) (sym p.2) ∙ a.1 in
     let f = bind-gives (check W B (body_scope g.gives) p.0 (stack [] false [])) (λ q. lend W g.gives q >>= λ z. Some (left W B b g e)) a.0 d in
@@ -92,10 +102,10 @@ typed {R} m W B b g ops o u n e s l h =
     }
 
 pub soundness : (R : Type 0) → Soundness R
-soundness R W B b g ops o e m l h = typed (without m.0) W B b g ops o tt tt e (served-without m.0 ops m.1) l h
+soundness R W B b g ops o e m h = typed (without m.0) W B b g ops o tt tt e (served-without m.0 ops m.1) h
 
 pub soundness_without_sharing : (R : Type 0) → SoundnessWithoutSharing R
-soundness_without_sharing R W B b g ops o u n l e h = typed unshared W B b g ops o u (n, tt) e (served-unshared ops) l h
+soundness_without_sharing R W B b g ops o u n e h = typed unshared W B b g ops o u (n, tt) e (served-unshared ops) h
 
 -- without their feature no operator of legacy exceptions is accepted
 module _ {R : Type 0} (W : World R) (B : Surroundings R) (off : B.features.legacy_exceptions ≡ false) where

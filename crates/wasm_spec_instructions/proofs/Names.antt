@@ -9,13 +9,13 @@ use Rattle.wasm_operators.specs.Instructions.{control}
 use Rattle.wasm_operator_steps.specs.Matching.{matches_vals}
 use Rattle.wasm_operator_steps.specs.Bodies.{Local, Surroundings}
 use Rattle.wasm_operator_steps.specs.Actions.{label, returned, local, params, results, of_function, joined, has, reference_types, function_references, each_matches, reaches_function, local_is_set}
-use Rattle.wasm_operator_steps.specs.Shapes.{Shape, plain, ending, dropping, choosing, testing_null, asserting_non_null, branching_on_null, branching_on_non_null, branching_by_table, setting, giving_back, nothing, one}
+use Rattle.wasm_operator_steps.specs.Shapes.{Shape, plain, ending, dropping, choosing, testing_null, asserting_non_null, branching_on_null, branching_on_non_null, branching_by_table, setting, giving_back, nothing, one, rethrowing, legacy_checks}
 use Rattle.wasm_operator_steps.specs.Meanings.{signature_at}
 use Rattle.wasm_operator_steps.specs.Meanings as meaning
 use Rattle.wasm_spec_instructions.specs.ValueTypes.{ValueType, val, vals, reference_at, reference_type}
 use Rattle.wasm_spec_instructions.specs.Scopes.{Scope}
-use Rattle.wasm_spec_instructions.specs.Rules.{Rule, plain_rule, ending_rule, dropping_rule, choosing_rule, testing_null_rule, asserting_non_null_rule, branching_on_null_rule, branching_on_non_null_rule, branching_by_table_rule, setting_rule, giving_back_rule}
-use Rattle.wasm_spec_instructions.specs.Names.{Goes, Branches, BranchesIf, BranchesByTable, Returns, Gets, Drops, Selects, Sets, Tees, TestsNull, AssertsNonNull, BranchesOnNull, BranchesOnNonNull, CallsInPlace, InstructionsHaveTheirRules}
+use Rattle.wasm_spec_instructions.specs.Rules.{Rule, plain_rule, ending_rule, dropping_rule, choosing_rule, testing_null_rule, asserting_non_null_rule, branching_on_null_rule, branching_on_non_null_rule, branching_by_table_rule, setting_rule, giving_back_rule, rethrowing_rule}
+use Rattle.wasm_spec_instructions.specs.Names.{Goes, Branches, BranchesIf, BranchesByTable, Returns, Rethrows, Gets, Drops, Selects, Sets, Tees, TestsNull, AssertsNonNull, BranchesOnNull, BranchesOnNonNull, CallsInPlace, InstructionsHaveTheirRules}
 use Rattle.wasm_spec_instructions.proofs.Attempts.{the_same, absent, bind-at, passes-gives}
 use Rattle.wasm_spec_instructions.proofs.Fits.{vals-append}
 
@@ -34,6 +34,12 @@ module _ {R : Type 0} (W : World R) (B : Surroundings R) (C : Scope R) where
 
   by_return : (ts us : List (ValueType R)) → Returns W B C ts → Rule W B C (ending [] returned) ts us
   by_return ts us b = subst (λ (z : List (ValueType R)). Rule W B C (ending [] returned) z us) (sym b.takes) (ending_rule b.below us tt b.there)
+
+  rethrows : (l : ℕ) (ts us : List (ValueType R)) → Rule W B C (rethrowing (legacy_checks []) l) ts us → Rethrows W B C l
+  rethrows l ts us (rethrowing_rule below after h e) = record { legacy_on = h.0; on = h.1.0; there = e }
+
+  by_rethrow : (l : ℕ) (ts us : List (ValueType R)) → Rethrows W B C l → Rule W B C (rethrowing (legacy_checks []) l) ts us
+  by_rethrow l ts us b = rethrowing_rule ts us (b.legacy_on, (b.on, tt)) b.there
 
   tables : (ls : List ℕ) (l : ℕ) (ts us : List (ValueType R)) → Rule W B C (branching_by_table ls l) ts us → BranchesByTable W B C ls l ts
   tables ls l ts us (branching_by_table_rule below sent after m) = record { sent = sent; below = below; there = m; takes = refl }
@@ -165,6 +171,7 @@ instructions_have_their_rules R W B C = record {
   br_if = λ l ts us. (sends W B C l ts us, by_sending W B C l ts us);
   br_table = λ ls l ts us. (tables W B C ls l ts us, by_table W B C ls l ts us);
   return_ = λ ts us. (returns W B C ts us, by_return W B C ts us);
+  rethrow = λ l ts us. (rethrows W B C l ts us, by_rethrow W B C l ts us);
   return_call = λ x ts us. (calls W B C x ts us, by_calling W B C x ts us);
   br_on_null = λ l ts us. (branches_on_null W B C l ts us, by_null W B C l ts us);
   br_on_non_null = λ l ts us. (branches_on_non_null W B C l ts us, by_non_null W B C l ts us);

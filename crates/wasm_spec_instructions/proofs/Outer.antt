@@ -1,11 +1,11 @@
 -- The outermost frame: of a body, or of a constant expression.
-use Rattle.std.proofs.Common.{◌≡◌, refl, ◌∙◌, ℕ, zero, suc, Bool, false, [], ◌∷◌, ◌++◌, Option, Some, None, option_map, slice_get}
+use Rattle.std.proofs.Common.{◌≡◌, refl, ◌∙◌, ℕ, zero, suc, Bool, false, [], ◌∷◌, ◌++◌, Option, Some, None, option_map, is_some, slice_get}
 use Rattle.wasm_operator_steps.specs.WasmSpecRules.WasmSpec.MatchingTests.{World}
-use Rattle.wasm_operator_steps.specs.WasmSpecRules.Attempts.{◌>>=◌}
+use Rattle.wasm_operator_steps.specs.WasmSpecRules.Attempts.{◌>>=◌, passes}
 use Rattle.wasm_operator_steps.specs.WasmSpecRules.Signatures.{Signature}
 use Rattle.wasm_operators.specs.Control.{Block}
 use Rattle.wasm_operator_steps.specs.Bodies.{Surroundings}
-use Rattle.wasm_operator_steps.specs.Machine.{block_kind, State, push_vals}
+use Rattle.wasm_operator_steps.specs.Machine.{block_kind, State, push_vals, rethrows}
 use Rattle.wasm_operator_steps.specs.Meanings.{label_by, block_signature}
 use Rattle.wasm_operator_steps.specs.Steps.{start, steps_in}
 use Rattle.wasm_spec_instructions.specs.Code.{Code, end_, flatten, IsProper}
@@ -19,6 +19,14 @@ module _ {R : Type 0} (W : World R) (B : Surroundings R) (b : Block R) (g : Sign
   outer-labelled u zero = λ i. option_map (label_by block_kind) (e i)
   outer-labelled u (suc n) = refl
 
+  pub outer-there : (u : Bool) (n : ℕ) → is_some (slice_get (frame_of block_kind b [] [] u ∷ []) n) ≡ is_some (slice_get (g.gives ∷ []) n)
+  outer-there u zero = refl
+  outer-there u (suc n) = refl
+
+  pub outer-handler : (u : Bool) (n : ℕ) → rethrows (frame_of block_kind b [] [] u ∷ []) n ≡ passes (λ b. b) (slice_get (false ∷ []) n)
+  outer-handler u zero = refl
+  outer-handler u (suc n) = refl
+
   abbrev pub outer : Place W B
   outer = record {
     kind = block_kind;
@@ -28,9 +36,12 @@ module _ {R : Type 0} (W : World R) (B : Surroundings R) (b : Block R) (g : Sign
     below = [];
     inits = [];
     labels = g.gives ∷ [];
+    caught = false ∷ [];
     returns = Some g.gives;
     is_signed = e;
     is_labelled = outer-labelled;
+    is_there = outer-there;
+    is_handler = outer-handler;
     is_returned = λ u i. option_map (λ (x : Signature R). x.gives) (e i);
   }
 

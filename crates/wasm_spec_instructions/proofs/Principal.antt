@@ -4,7 +4,7 @@ use Rattle.wasm_operator_steps.specs.WasmSpecRules.WasmSpec.Syntax.{Val}
 use Rattle.wasm_operator_steps.specs.WasmSpecRules.WasmSpec.MatchingTests.{World}
 use Rattle.wasm_operator_steps.specs.WasmSpecRules.Signatures.{Signature}
 use Rattle.wasm_operator_steps.specs.Bodies.{Surroundings}
-use Rattle.wasm_spec_instructions.specs.Code.{Code, done, simply, enclosing, choosing_between, IsProper}
+use Rattle.wasm_spec_instructions.specs.Code.{Code, done, simply, enclosing, choosing_between, handling, delegating_to, Handlers, last_handler, catch_before, IsProper, AreProper}
 use Rattle.wasm_spec_instructions.specs.ValueTypes.{ValueType, vals, Match, none, IsInOrder, AreUnshared}
 use Rattle.wasm_spec_instructions.specs.Scopes.{Scope}
 use Rattle.wasm_spec_instructions.specs.Sequences.{Typed, subsumption_rule}
@@ -15,14 +15,21 @@ use Rattle.wasm_spec_instructions.proofs.Within.{Stack, fresh, check}
 use Rattle.wasm_spec_instructions.proofs.Fits.{onto, rev, rev-rev, Fits, FitsStack, match-onto, match-itself, push-complete, fresh-sound}
 use Rattle.wasm_spec_instructions.proofs.Tables.{top, length-rev, least-stand, top-unshared, unshared-onto, AllUnshared}
 use Rattle.wasm_spec_instructions.proofs.Complete.{over, Led, check-complete}
-use Rattle.wasm_spec_instructions.proofs.Typing.{unshared, Fine, Found, Sound, check-sound}
+use Rattle.wasm_spec_instructions.proofs.Typing.{unshared, Fine, AllFine, Found, Sound, check-sound}
 use Rattle.wasm_spec_instructions.proofs.Growing.{proper}
 
-fine : (c : Code) → IsProper c → Fine unshared c
-fine done w = tt
-fine (simply i c) w = (w.0, refl, fine c w.1)
-fine (enclosing o b c) w = (fine b w.0, fine c w.1)
-fine (choosing_between g b d c) w = (fine b w.0, fine d w.1, fine c w.2)
+mutual
+  fine : (c : Code) → IsProper c → Fine unshared c
+  fine done w = tt
+  fine (simply i c) w = (w.0, refl, fine c w.1)
+  fine (enclosing o b c) w = (fine b w.0, fine c w.1)
+  fine (choosing_between g b d c) w = (fine b w.0, fine d w.1, fine c w.2)
+  fine (handling g b hs c) w = (fine b w.0, all-fine hs w.1, fine c w.2)
+  fine (delegating_to l g b c) w = (fine b w.0, fine c w.1)
+
+  all-fine : (hs : Handlers) → AreProper hs → AllFine unshared hs
+  all-fine (last_handler x b) w = fine b w
+  all-fine (catch_before x b hs) w = (fine b w.0, all-fine hs w.1)
 
 module _ {R : Type 0} (W : World R) where
   all-unshared : (labels : List (List (Val R))) → HaveNoSharing W labels → AllUnshared W labels

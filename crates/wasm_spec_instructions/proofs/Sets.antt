@@ -13,7 +13,7 @@ use Rattle.wasm_operator_steps.specs.Steps.{actions_of, checked}
 use Rattle.wasm_spec_instructions.specs.Scopes.{Scope, is_set, types_in, holds_in, AreSet}
 use Rattle.wasm_spec_instructions.specs.Rules.{sets_of}
 use Rattle.wasm_spec_instructions.proofs.Attempts.{absent, the_same, bind-gives, guard-gives}
-use Rattle.wasm_spec_instructions.proofs.Within.{Stack, lpop_in, lpop, lpop_val, matched, lpops, referring, referred, lpop_reference, lpush, lput, lfit, without, below, compared, compare_of, put_non_null, converting_to, and_choose, choose_of, null_for, null_at, given_back, in_table, table_for, stopped, lgrown, lact, lrun}
+use Rattle.wasm_spec_instructions.proofs.Within.{Stack, lpop_in, lpop, lpop_val, matched, lpops, referring, referred, lpop_reference, lpush, lput, lfit, without, below, compared, compare_of, put_non_null, converting_to, and_choose, choose_of, null_for, null_at, given_back, in_table, table_for, stopped, lgrown, is_caught, lact, lrun}
 
 or-mid : (f c a b : Bool) → (f || a) ≡ (f || b) → (f || (c || a)) ≡ (f || (c || b))
 or-mid true c a b e = refl
@@ -154,7 +154,7 @@ module _ {R : Type 0} (W : World R) (B : Surroundings R) where
     act-same (enter k b) p q e = absurd (absent q e)
     act-same (turn_to_catch t k) p q e = absurd (absent q e)
     act-same (find_outside n) p q e = absurd (absent q e)
-    act-same (find_caught n) p q e = absurd (absent q e)
+    act-same (find_caught n) p q e = let g = guard-gives (is_caught W B C.caught n) p q e in kept p q (same_sets p q g.1)
     act-same (take t) p q e = let f = bind-gives (types_in W B C.labels C.returns t) (λ (vs : List (Val R)). lpops W vs p) q e in kept p q (pops-sets W f.0 p q f.2)
     act-same (give t) p q e = let f = bind-gives (types_in W B C.labels C.returns t) (λ (vs : List (Val R)). Some (lpush vs p)) q e in kept p q (same_sets (lpush f.0 p) q (the_same (lpush f.0 p) q f.2))
     act-same take_any p q e =

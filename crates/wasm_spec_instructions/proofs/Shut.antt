@@ -11,7 +11,7 @@ use Rattle.wasm_operator_steps.specs.Steps.{actions_of, checked}
 use Rattle.wasm_spec_instructions.specs.Scopes.{Scope, types_in, holds_in}
 use Rattle.wasm_spec_instructions.specs.Laws.{is_served}
 use Rattle.wasm_spec_instructions.proofs.Attempts.{no, absent, the_same, bind-gives, guard-gives}
-use Rattle.wasm_spec_instructions.proofs.Within.{Stack, stack, lpop_in, lpop, lpop_val, matched, lpops, referring, referred, lpop_reference, lpush, lput, lfit, without, below, compared, compare_of, put_non_null, and_choose, choose_of, null_for, null_at, given_back, in_table, table_for, stopped, lgrown, lact, lrun}
+use Rattle.wasm_spec_instructions.proofs.Within.{Stack, stack, lpop_in, lpop, lpop_val, matched, lpops, referring, referred, lpop_reference, lpush, lput, lfit, without, below, compared, compare_of, put_non_null, and_choose, choose_of, null_for, null_at, given_back, in_table, table_for, stopped, lgrown, is_caught, lact, lrun}
 use Rattle.wasm_spec_instructions.proofs.Tables.{is_shut, AreShut}
 
 module _ {R : Type 0} where
@@ -101,7 +101,7 @@ module _ {R : Type 0} (W : World R) (B : Surroundings R) (C : Scope R) where
   act-shut (enter k b) p q w e h = absurd (absent q e)
   act-shut (turn_to_catch t k) p q w e h = absurd (absent q e)
   act-shut (find_outside n) p q w e h = absurd (absent q e)
-  act-shut (find_caught n) p q w e h = absurd (absent q e)
+  act-shut (find_caught n) p q w e h = shut_as p q (guard-gives (is_caught W B C.caught n) p q e).1 h
   act-shut (convert j k) p q w e h = absurd w
   act-shut (take t) p q w e h = let f = bind-gives (types_in W B C.labels C.returns t) (λ (vs : List (Val R)). lpops W vs p) q e in pops-shut W f.0 p q f.2 h
   act-shut (give t) p q w e h =

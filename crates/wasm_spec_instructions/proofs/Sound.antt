@@ -6,7 +6,7 @@ use Rattle.wasm_operator_steps.specs.WasmSpecRules.WasmSpec.MatchingTests.{World
 use Rattle.wasm_operator_steps.specs.WasmSpecRules.Attempts.{◌>>=◌, guard, last_of, front_of}
 use Rattle.wasm_operator_steps.specs.Bodies.{Local, Surroundings}
 use Rattle.wasm_operator_steps.specs.Machine.{Operand, non_null, chosen, pushed_onto}
-use Rattle.wasm_operator_steps.specs.Actions.{OperandTypes, label, local, last, front, Check, Action, take, give, take_any, take_reference, take_below, take_comparable, make_non_null, convert, choose, stop, set, branch_on_null, branch_to_one_of}
+use Rattle.wasm_operator_steps.specs.Actions.{OperandTypes, label, local, last, front, Check, Action, take, give, take_any, take_reference, take_below, take_comparable, make_non_null, convert, choose, stop, set, branch_on_null, branch_to_one_of, find_caught}
 use Rattle.wasm_operator_steps.specs.Shapes.{Shape, plain, ending, opening, closing, turning, dropping, choosing, never, testing_null, asserting_non_null, branching_on_null, branching_on_non_null, branching_by_table, setting, giving_back, measuring, comparing, converting, one, catching, delegating, rethrowing}
 use Rattle.wasm_operator_steps.specs.Meanings.{is_below_either, agree, converted}
 use Rattle.wasm_operator_steps.specs.Meanings as meaning
@@ -14,9 +14,9 @@ use Rattle.wasm_operator_steps.specs.Steps.{actions_of, checked}
 use Rattle.wasm_spec_instructions.specs.Code.{is_simple}
 use Rattle.wasm_spec_instructions.specs.ValueTypes.{ValueType, val, reference_at, reference_type, vals, matches_type, Match, none, each, IsInOrder}
 use Rattle.wasm_spec_instructions.specs.Scopes.{Scope, types_in, holds_in, AllHold}
-use Rattle.wasm_spec_instructions.specs.Rules.{Rule, plain_rule, ending_rule, dropping_rule, choosing_rule, testing_null_rule, asserting_non_null_rule, branching_on_null_rule, branching_on_non_null_rule, branching_by_table_rule, setting_rule, giving_back_rule, measuring_rule, comparing_rule, converting_rule}
-use Rattle.wasm_spec_instructions.proofs.Attempts.{no, the_same, absent, bind-gives, guard-gives, and-both, with_last}
-use Rattle.wasm_spec_instructions.proofs.Within.{Stack, lpop, lpops, lpush, lput, lpop_reference, stopped, without, choose_of, and_choose, put_non_null, given_back, null_for, null_at, in_table, table_for, lfit, below, compared, compare_of, converting_to, lgrown, lact, lrun}
+use Rattle.wasm_spec_instructions.specs.Rules.{Rule, plain_rule, ending_rule, dropping_rule, choosing_rule, testing_null_rule, asserting_non_null_rule, branching_on_null_rule, branching_on_non_null_rule, branching_by_table_rule, setting_rule, giving_back_rule, measuring_rule, comparing_rule, converting_rule, rethrowing_rule}
+use Rattle.wasm_spec_instructions.proofs.Attempts.{no, the_same, absent, bind-gives, guard-gives, passes-gives, and-both, with_last}
+use Rattle.wasm_spec_instructions.proofs.Within.{Stack, lpop, lpops, lpush, lput, lpop_reference, stopped, without, choose_of, and_choose, put_non_null, given_back, null_for, null_at, in_table, table_for, lfit, below, compared, compare_of, converting_to, lgrown, is_caught, lact, lrun}
 use Rattle.wasm_spec_instructions.proofs.Fits.{onto, rev, onto-append, rev-rev, fits_type, Fits, FitsStack, fits-through, match-append, match-itself, pop_any-sound, pops-sound, Split, push-sound, some_type, some_types}
 use Rattle.wasm_spec_instructions.proofs.References.{Referred, pop_reference-sound, pop_fitting-sound, raised, is_reference, Chosen, chosen-sound, below-with, shared_by, shared_by_both, converted-sound}
 use Rattle.wasm_spec_instructions.proofs.Sets.{Covers, holds-more}
@@ -103,6 +103,15 @@ module _ {R : Type 0} (W : World R) (o : IsInOrder W) (B : Surroundings R) (C : 
     match = match-itself W o (rev zs);
     fits = subst (λ (z : List (ValueType R)). FitsStack W p z) (sym (onto-append (rev back) ts [] ∙ ap (onto ts) (rev-rev back))) h;
   }
+
+  -- a label of a handler
+  rethrowing-sound : (cs : List Check) (l : ℕ) (p q : Stack R) (zs : List (ValueType R)) → AllHold W B D cs → Ran (find_caught l ∷ stop ∷ []) p q → Ruled W B D (rethrowing cs l) p zs
+  rethrowing-sound cs l p q zs h e =
+      let a = bind-gives (guard (is_caught W B C.caught l) p) (lrun W B C (stop ∷ [])) q e in
+      let b = passes-gives (λ x. x) (slice_get C.caught l) (guard-gives (is_caught W B C.caught l) p a.0 a.1).0 in
+      let ws = some_types W o p.unreached p.items in
+      no_return (rethrowing cs l) p zs [] ws.0 ws.1
+      (λ as_ us. rethrowing_rule (as_ ++ []) us h (b.1 ∙ ap (λ (x : Bool). Some x) b.2))
 
   -- one operand put on others: a greater type, over what stands for them
   with_top : {X : Type 0} (x : Operand R) (u : Bool) (xs : List (Operand R)) (zs : List (ValueType R)) → Fits W u (x ∷ xs) zs →
@@ -425,7 +434,7 @@ module _ {R : Type 0} (W : World R) (o : IsInOrder W) (B : Surroundings R) (C : 
   rule-sound turning p q zs i t₀ v e h = no i
   rule-sound (catching cs t k) p q zs i t₀ v e h = no i
   rule-sound (delegating cs l) p q zs i t₀ v e h = no i
-  rule-sound (rethrowing cs l) p q zs i t₀ v e h = no i
+  rule-sound (rethrowing cs l) p q zs i t₀ v e h = let c = passed cs (find_caught l ∷ stop ∷ []) p q v e in rethrowing-sound cs l p q zs c.0 c.1
   rule-sound dropping p q zs i t₀ v e h = dropping-sound p q zs e h
   rule-sound choosing p q zs i t₀ v e h = choosing-sound p q zs e h
   rule-sound never p q zs i t₀ v e h = absurd (absent q e)

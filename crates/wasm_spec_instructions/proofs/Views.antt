@@ -7,6 +7,7 @@ use Rattle.wasm_operators.specs.Control as control
 use Rattle.wasm_operators.specs.Control.{Block, empty_block, value_block, func_block, Control, Parametric}
 use Rattle.wasm_operators.specs.References as references
 use Rattle.wasm_operators.specs.References.{Reference, Cast}
+use Rattle.wasm_operators.specs.Legacy as legacy
 use Rattle.wasm_operators.specs.Legacy.{Legacy}
 use Rattle.wasm_operators.specs.Instructions as instruction
 use Rattle.wasm_operators.specs.Instructions.{Instruction}
@@ -28,7 +29,7 @@ use Rattle.wasm_operators.specs.WasmOperatorsPlain.declared.structs.StructOperat
 use Rattle.wasm_operators.specs.WasmOperatorsPlain.declared.arrays.ArrayOperator.{ArrayOperator}
 use Rattle.wasm_operators.specs.WasmOperatorsPlain.declared.arrays.ArrayOperator.TheVariants.{ArrayNew, ArrayNewDefault, ArrayNewFixed, ArrayNewData, ArrayNewElem, ArrayGet, ArrayGetS, ArrayGetU, ArraySet, ArrayLen, ArrayFill, ArrayCopy, ArrayInitData, ArrayInitElem}
 use Rattle.wasm_operator_steps.specs.Shapes.{call_shape, parametric_shape, variable_shape, table_shape, access_shape, memory_shape, computing, reference_shape, cast_shape, conversion_shape, struct_shape, array_shape, shape_of}
-use Rattle.wasm_spec_instructions.specs.Code.{Opening, a_block, a_loop, an_if, a_try_table, written, else_, end_, is_simple}
+use Rattle.wasm_spec_instructions.specs.Code.{Opening, a_block, a_loop, an_if, a_try, a_try_table, Handler, a_catch, a_catch_all, written, handler_written, delegate_, else_, end_, is_simple}
 
 call-simple : (op : CallOperator) → is_simple (call_shape op) ≡ true
 call-simple (Call x) = refl
@@ -154,7 +155,8 @@ pub data View : Instruction ℕ → Type 0 where
   is_opening : (o : Opening) → View (written o)
   is_else : View else_
   is_end : View end_
-  is_of_legacy : (op : Legacy ℕ) → View (instruction.legacy op)
+  is_handler : (x : Handler) → View (handler_written x)
+  is_delegate : (l : ℕ) → View (delegate_ l)
 
 control-view : (op : Control ℕ) → View (instruction.control op)
 control-view (control.block b) = is_opening (a_block b)
@@ -172,9 +174,16 @@ control-view (control.br_if l) = is_plain refl
 control-view (control.br_table ls l) = is_plain refl
 control-view control.return_ = is_plain refl
 
+legacy-view : (op : Legacy ℕ) → View (instruction.legacy op)
+legacy-view (legacy.try_ b) = is_opening (a_try b)
+legacy-view (legacy.catch_ x) = is_handler (a_catch x)
+legacy-view legacy.catch_all = is_handler a_catch_all
+legacy-view (legacy.delegate l) = is_delegate l
+legacy-view (legacy.rethrow l) = is_plain refl
+
 pub view : (i : Instruction ℕ) → View i
 view (instruction.control op) = control-view op
-view (instruction.legacy op) = is_of_legacy op
+view (instruction.legacy op) = legacy-view op
 view (instruction.call op) = is_plain (call-simple op)
 view (instruction.parametric op) = is_plain (parametric-simple op)
 view (instruction.variable op) = is_plain (variable-simple op)

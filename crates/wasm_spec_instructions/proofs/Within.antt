@@ -6,12 +6,12 @@ use Rattle.wasm_operator_steps.specs.WasmSpecRules.Attempts.{◌>>=◌, guard, p
 use Rattle.wasm_operator_steps.specs.WasmSpecRules.Signatures.{Signature}
 use Rattle.wasm_operators.specs.Control.{Block}
 use Rattle.wasm_operator_steps.specs.Bodies.{Surroundings}
-use Rattle.wasm_operator_steps.specs.Machine.{Operand, bottom, Kind, if_kind, else_kind, pushed_onto, as_reference, non_null, chosen, matches_operand}
+use Rattle.wasm_operator_steps.specs.Machine.{Operand, bottom, Kind, if_kind, else_kind, legacy_try_kind, legacy_catch_kind, has_caught, pushed_onto, as_reference, non_null, chosen, matches_operand}
 use Rattle.wasm_operator_steps.specs.Actions.{Action, need, refuse, take, give, take_any, take_reference, take_comparable, make_non_null, choose, stop, turn_to_else, leave, take_below, convert, enter, set, branch_on_null, branch_to_one_of, turn_to_catch, find_outside, find_caught}
-use Rattle.wasm_operator_steps.specs.Shapes.{shape_of}
+use Rattle.wasm_operator_steps.specs.Shapes.{legacy_checks, shape_of}
 use Rattle.wasm_operator_steps.specs.Meanings.{label_by, resolve_block, block_signature, is_below_either, agree, converted, may_end}
 use Rattle.wasm_operator_steps.specs.Steps.{actions_of, checked}
-use Rattle.wasm_spec_instructions.specs.Code.{Opening, an_if, Code, done, simply, enclosing, choosing_between, kind_of, block_of, checks_of, condition_of}
+use Rattle.wasm_spec_instructions.specs.Code.{Opening, an_if, a_try, Handler, a_catch, Code, done, simply, enclosing, choosing_between, handling, delegating_to, Handlers, last_handler, catch_before, kind_of, block_of, checks_of, condition_of, handler_kind, handler_checks, handler_operands}
 use Rattle.wasm_spec_instructions.specs.Scopes.{Scope, is_set, types_in, holds_in}
 
 -- operands above the height, whether the code isn't reached, and the locals that were set in the frame
@@ -60,8 +60,12 @@ module _ {R : Type 0} where
   is_empty [] = true
   is_empty (x ∷ xs) = false
 
+  -- a frame that is entered over these operands
+  abbrev pub starting : List (Val R) → Stack R
+  starting vs = stack [] false (pushed_onto vs [])
+
   abbrev pub fresh : Signature R → Stack R
-  fresh g = stack [] false (pushed_onto g.takes [])
+  fresh g = starting g.takes
 
   abbrev pub without : Operand R × Stack R → Option (Stack R)
   without q = Some q.1
@@ -71,7 +75,7 @@ module _ {R : Type 0} where
 
   -- the scope in a block that is entered here
   abbrev pub deeper : Kind → Entered R → Scope R → Scope R
-  deeper k e C = record { labels = label_by k e.signature ∷ C.labels; returns = C.returns; sets = e.left.sets ++ C.sets }
+  deeper k e C = record { labels = label_by k e.signature ∷ C.labels; caught = has_caught k ∷ C.caught; returns = C.returns; sets = e.left.sets ++ C.sets }
 
   abbrev pub and_choose : Operand R → Operand R × Stack R → Option (Stack R)
   and_choose x q = chosen x q.0 >>= λ y. Some (lput y q.1)
@@ -143,8 +147,11 @@ module _ {R : Type 0} (W : World R) (B : Surroundings R) where
   IsWithin (enter k b) = ⊥
   IsWithin (turn_to_catch t k) = ⊥
   IsWithin (find_outside n) = ⊥
-  IsWithin (find_caught n) = ⊥
   IsWithin _ = Unit {0}
+
+  -- the label is that of a handler
+  abbrev pub is_caught : List Bool → ℕ → Bool
+  is_caught bs n = passes (λ b. b) (slice_get bs n)
 
   abbrev pub lact : Scope R → Action → Stack R → Option (Stack R)
   lact C (need c) p = guard (holds_in W B C.labels C.returns (p.sets ++ C.sets) c) p
@@ -167,7 +174,7 @@ module _ {R : Type 0} (W : World R) (B : Surroundings R) where
   lact C (enter k b) p = None
   lact C (turn_to_catch t k) p = None
   lact C (find_outside n) p = None
-  lact C (find_caught n) p = None
+  lact C (find_caught n) p = guard (is_caught C.caught n) p
 
   abbrev pub lrun : Scope R → List Action → Stack R → Option (Stack R)
   lrun C [] p = Some p
@@ -190,10 +197,26 @@ module _ {R : Type 0} (W : World R) (B : Surroundings R) where
   abbrev pub lshut : Kind → Entered R → Stack R → Option (Stack R)
   lshut k e r = lend W e.signature.gives r >>= λ z. guard (may_end W B k e.signature) (lpush e.signature.gives e.left)
 
-  abbrev pub check : Scope R → Code → Stack R → Option (Stack R)
-  check C done p = Some p
-  check C (simply i c) p = lrun C (actions_of (shape_of i)) p >>= check C c
-  check C (enclosing o b c) p = lenter C o p >>= λ e. (check (deeper (kind_of o) e C) b (fresh e.signature) >>= lshut (kind_of o) e) >>= check C c
-  check C (choosing_between g b d c) p =
-      lenter C (an_if g) p >>= λ e. (check (deeper if_kind e C) b (fresh e.signature) >>= lend W e.signature.gives)
-      >>= λ z. (check (deeper else_kind e C) d (fresh e.signature) >>= lshut else_kind e) >>= check C c
+  -- what a handler finds, where the code before it ends
+  abbrev pub lcatch : Scope R → Handler → Entered R → Stack R → Option (List (Val R))
+  lcatch C h e r = lrun C (checked (handler_checks h) []) r >>= λ q. types_in W B C.labels C.returns (handler_operands h) >>= λ vs. lend W e.signature.gives q >>= λ z. Some vs
+
+  -- what is left where a `try` ends with a `delegate`
+  abbrev pub ldelegate : Scope R → ℕ → Entered R → Stack R → Option (Stack R)
+  ldelegate C l e r = lrun (deeper legacy_try_kind e C) (checked (legacy_checks []) []) r >>= λ q. guard (is_some (slice_get C.labels l)) q >>= lshut legacy_try_kind e
+
+  abbrev mutual
+    pub check : Scope R → Code → Stack R → Option (Stack R)
+    check C done p = Some p
+    check C (simply i c) p = lrun C (actions_of (shape_of i)) p >>= check C c
+    check C (enclosing o b c) p = lenter C o p >>= λ e. (check (deeper (kind_of o) e C) b (fresh e.signature) >>= lshut (kind_of o) e) >>= check C c
+    check C (choosing_between g b d c) p =
+        lenter C (an_if g) p >>= λ e. (check (deeper if_kind e C) b (fresh e.signature) >>= lend W e.signature.gives)
+        >>= λ z. (check (deeper else_kind e C) d (fresh e.signature) >>= lshut else_kind e) >>= check C c
+    check C (handling g b hs c) p = lenter C (a_try g) p >>= λ e. (check (deeper legacy_try_kind e C) b (fresh e.signature) >>= handle C legacy_try_kind e hs) >>= check C c
+    check C (delegating_to l g b c) p = lenter C (a_try g) p >>= λ e. (check (deeper legacy_try_kind e C) b (fresh e.signature) >>= ldelegate C l e) >>= check C c
+
+    -- the handlers behind code in a frame of this kind
+    pub handle : Scope R → Kind → Entered R → Handlers → Stack R → Option (Stack R)
+    handle C k e (last_handler h b) r = lcatch (deeper k e C) h e r >>= λ vs. check (deeper (handler_kind h) e C) b (starting vs) >>= lshut (handler_kind h) e
+    handle C k e (catch_before x b hs) r = lcatch (deeper k e C) (a_catch x) e r >>= λ vs. check (deeper legacy_catch_kind e C) b (starting vs) >>= handle C legacy_catch_kind e hs

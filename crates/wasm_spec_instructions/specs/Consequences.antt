@@ -11,9 +11,10 @@ use Rattle.wasm_spec_instructions.specs.Sequences.{Typed}
 use Rattle.wasm_spec_instructions.specs.Laws.{HasNoSharing}
 
 module _ {R : Type 0} (W : World R) (B : Surroundings R) where
-  -- The second scope has what the first one has, at the same places, and maybe more: labels outside, results, and locals that are set.
+  -- The second scope has what the first one has, at the same places, and maybe more: labels outside, of handlers or not, results, and locals that are set.
   pub record Extends (C D : Scope R) : Type 0 where
     pub labels : (n : ℕ) (ls : List (Val R)) → slice_get C.labels n ≡ Some ls → slice_get D.labels n ≡ Some ls
+    pub caught : (n : ℕ) → slice_get C.caught n ≡ Some true → slice_get D.caught n ≡ Some true
     pub returns : (rs : List (Val R)) → C.returns ≡ Some rs → D.returns ≡ Some rs
     pub sets : (x : ℕ) → is_set W B x C.sets ≡ true → is_set W B x D.sets ≡ true
 

@@ -1,6 +1,6 @@
 -- Expressions: a sequence of instructions and an `end`, which gives these types from none.
 -- Core Specification 3.0, Validation, Instructions (Expressions), and Modules (Functions).
-use Rattle.std.specs.Prelude.{ℕ, List, [], ◌∷◌, Some}
+use Rattle.std.specs.Prelude.{ℕ, false, List, [], ◌∷◌, Some}
 use Rattle.wasm_operator_steps.specs.WasmSpecRules.WasmSpec.Syntax.{Val}
 use Rattle.wasm_operator_steps.specs.WasmSpecRules.WasmSpec.MatchingTests.{World}
 use Rattle.wasm_operators.specs.Instructions.{Instruction}
@@ -12,7 +12,7 @@ use Rattle.wasm_spec_instructions.specs.Sequences.{Typed}
 
 -- At the label of a body, and where it returns, are its results; and no local was set.
 abbrev pub body_scope : {R : Type 0} → List (Val R) → Scope R
-body_scope rs = record { labels = rs ∷ []; returns = Some rs; sets = [] }
+body_scope rs = record { labels = rs ∷ []; caught = false ∷ []; returns = Some rs; sets = [] }
 
 module _ {R : Type 0} (W : World R) (B : Surroundings R) where
   -- The instructions are structured code and an `end`, and from no operands the code gives these results.

@@ -40,7 +40,7 @@ pub record HasNoSharing {R : Type 0} (W : World R) (F : Features) : Type 0 where
   pub types : (a : R) → shared_flag (W.declared a) ≡ false
   pub signatures : (a : R) (s : Sub R) (g : Signature R) → W.declared a ≡ Some s → signature_of s.comp ≡ Some g → AreUnshared W g.takes × AreUnshared W g.gives
 
--- No operator of the legacy exception-handling proposal, for which structured code has no place and the rules no rule.
+-- no operator of the legacy exception-handling proposal
 abbrev pub is_legacy : Instruction ℕ → Bool
 is_legacy (instruction.legacy op) = true
 is_legacy _ = false
@@ -57,13 +57,13 @@ AcceptedCodeIsWithoutLegacy R =
 -- What the machine accepts, the rules type, where nothing is shared: so in Core Specification 3.0.
 abbrev pub SoundnessWithoutSharing : (R : Type 0) → Type 0
 SoundnessWithoutSharing R =
-    (W : World R) (B : Surroundings R) (b : Block R) (g : Signature R) (ops : List (Instruction ℕ)) → IsInOrder W → HasNoSharing W B.features → AreUnshared W g.gives → AreWithoutLegacy ops
+    (W : World R) (B : Surroundings R) (b : Block R) (g : Signature R) (ops : List (Instruction ℕ)) → IsInOrder W → HasNoSharing W B.features → AreUnshared W g.gives
     → block_signature W B b ≡ Some g → passes is_finished (steps_in W B ops (start b)) ≡ true → IsTypedExpression W B g.gives ops
 
 -- The same with shared types, of code that is served.
 abbrev pub Soundness : (R : Type 0) → Type 0
 Soundness R =
-    (W : World R) (B : Surroundings R) (b : Block R) (g : Signature R) (ops : List (Instruction ℕ)) → IsInOrder W → block_signature W B b ≡ Some g → AreServed ops → AreWithoutLegacy ops
+    (W : World R) (B : Surroundings R) (b : Block R) (g : Signature R) (ops : List (Instruction ℕ)) → IsInOrder W → block_signature W B b ≡ Some g → AreServed ops
     → passes is_finished (steps_in W B ops (start b)) ≡ true → IsTypedExpression W B g.gives ops
 
 -- What the rules type, the machine accepts.

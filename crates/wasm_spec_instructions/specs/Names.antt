@@ -5,6 +5,7 @@ use Rattle.wasm_operator_steps.specs.WasmSpecRules.WasmSpec.Syntax.{Heap, Ref, V
 use Rattle.wasm_operator_steps.specs.WasmSpecRules.WasmSpec.MatchingTests.{World}
 use Rattle.wasm_operator_steps.specs.WasmSpecRules.Signatures.{Signature}
 use Rattle.wasm_operators.specs.Control as control
+use Rattle.wasm_operators.specs.Legacy as legacy
 use Rattle.wasm_operators.specs.References as references
 use Rattle.wasm_operators.specs.Instructions as instruction
 use Rattle.wasm_operators.specs.Instructions.{Instruction}
@@ -52,6 +53,12 @@ module _ {R : Type 0} (W : World R) (B : Surroundings R) (C : Scope R) where
     pub below : List (ValueType R)
     pub there : C.returns ≡ Some sent
     pub takes : ts ≡ below ++ vals sent
+
+  -- `rethrow l : t1* -> t2*`, where C.labels[l] = catch t*
+  pub record Rethrows (l : ℕ) : Type 0 where
+    pub legacy_on : B.features.legacy_exceptions ≡ true
+    pub on : B.features.exceptions ≡ true
+    pub there : slice_get C.caught l ≡ Some true
 
   -- `local.get x : eps -> t`, where C.locals[x] = set t
   pub record Gets (x : ℕ) (ts us : List (ValueType R)) : Type 0 where
@@ -137,6 +144,7 @@ module _ {R : Type 0} (W : World R) (B : Surroundings R) (C : Scope R) where
     pub br_if : (l : ℕ) (ts us : List (ValueType R)) → Goes (instruction.control (control.br_if l)) ts us ↔ BranchesIf l ts us
     pub br_table : (ls : List ℕ) (l : ℕ) (ts us : List (ValueType R)) → Goes (instruction.control (control.br_table ls l)) ts us ↔ BranchesByTable ls l ts
     pub return_ : (ts us : List (ValueType R)) → Goes (instruction.control control.return_) ts us ↔ Returns ts
+    pub rethrow : (l : ℕ) (ts us : List (ValueType R)) → Goes (instruction.legacy (legacy.rethrow l)) ts us ↔ Rethrows l
     pub return_call : (x : ℕ) (ts us : List (ValueType R)) → Goes (instruction.call (ReturnCall x)) ts us ↔ CallsInPlace x ts
     pub br_on_null : (l : ℕ) (ts us : List (ValueType R)) → Goes (instruction.reference (references.br_on_null l)) ts us ↔ BranchesOnNull l ts us
     pub br_on_non_null : (l : ℕ) (ts us : List (ValueType R)) → Goes (instruction.reference (references.br_on_non_null l)) ts us ↔ BranchesOnNonNull l ts us

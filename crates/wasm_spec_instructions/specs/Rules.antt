@@ -7,7 +7,7 @@ use Rattle.wasm_operator_steps.specs.WasmSpecRules.WasmSpec.MatchingTests.{World
 use Rattle.wasm_operator_steps.specs.Bodies.{Local, Surroundings}
 use Rattle.wasm_operator_steps.specs.Machine.{same_number}
 use Rattle.wasm_operator_steps.specs.Actions.{OperandTypes, Check}
-use Rattle.wasm_operator_steps.specs.Shapes.{Shape, plain, ending, dropping, choosing, testing_null, asserting_non_null, branching_on_null, branching_on_non_null, branching_by_table, setting, giving_back, measuring, comparing, converting}
+use Rattle.wasm_operator_steps.specs.Shapes.{Shape, plain, ending, dropping, choosing, testing_null, asserting_non_null, branching_on_null, branching_on_non_null, branching_by_table, setting, giving_back, measuring, comparing, converting, rethrowing}
 use Rattle.wasm_spec_instructions.specs.ValueTypes.{ValueType, val, reference_at, reference_type, vals, matches_type, Match}
 use Rattle.wasm_spec_instructions.specs.Scopes.{Scope, types_in, AllHold}
 
@@ -34,6 +34,9 @@ module _ {R : Type 0} (W : World R) (B : Surroundings R) (C : Scope R) where
     ending_rule :
         {cs : List Check} {t : OperandTypes} {ts : List (Val R)} (below after : List (ValueType R))
         → AllHold W B C cs → types_in W B C.labels C.returns t ≡ Some ts → Rule (ending cs t) (below ++ vals ts) after
+    -- `rethrow`, also stack-polymorphic: the label is that of a handler
+    rethrowing_rule :
+        {cs : List Check} {l : ℕ} (below after : List (ValueType R)) → AllHold W B C cs → slice_get C.caught l ≡ Some true → Rule (rethrowing cs l) below after
     -- `drop`
     dropping_rule : (t : ValueType R) → Rule dropping (t ∷ []) []
     -- `select` without a type: of a type that matches that of numbers or vectors

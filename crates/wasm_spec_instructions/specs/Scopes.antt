@@ -1,6 +1,7 @@
 -- What code is typed in beside the module and the locals: the part of a context that blocks and instructions change.
--- Core Specification 3.0, Validation, Conventions (Contexts: labels, return, and the locals that are set).
-use Rattle.std.specs.Prelude.{◌≡◌, ℕ, Bool, true, ◌||◌, List, [], ◌∷◌, ◌++◌, Option, Some, slice_get}
+-- Core Specification 3.0, Validation, Conventions (Contexts: labels, return, and the locals that are set); and the legacy exception-handling
+-- proposal (labels of handlers).
+use Rattle.std.specs.Prelude.{◌≡◌, ℕ, Bool, true, false, ◌||◌, List, [], ◌∷◌, ◌++◌, Option, Some, slice_get}
 use Rattle.std.specs.Option.{option_map}
 use Rattle.wasm_operator_steps.specs.WasmSpecRules.WasmSpec.Syntax.{Val}
 use Rattle.wasm_operator_steps.specs.WasmSpecRules.WasmSpec.MatchingTests.{World}
@@ -11,20 +12,29 @@ use Rattle.wasm_operator_steps.specs.Machine.{State}
 use Rattle.wasm_operator_steps.specs.Actions.{OperandTypes, label, returned, repeated, front, last, joined, Check, local_is_set, each_matches}
 use Rattle.wasm_operator_steps.specs.Meanings.{copies, one, types_at, holds}
 
--- the types at the labels, the innermost first; the results of the function; and the locals that were set
+-- the types at the labels, the innermost first; which of the labels are of handlers, where an exception is caught; the results of the
+-- function; and the locals that were set
 pub record Scope (R : Type 0) : Type 0 where
   pub labels : List (List (Val R))
+  pub caught : List Bool
   pub returns : Option (List (Val R))
   pub sets : List ℕ
 
 module _ {R : Type 0} where
-  -- in a block whose label has these types
+  -- one more label, of a handler or not
+  abbrev pub labelled : Bool → List (Val R) → Scope R → Scope R
+  labelled b ls C = record { labels = ls ∷ C.labels; caught = b ∷ C.caught; returns = C.returns; sets = C.sets }
+
+  -- in a block whose label has these types, and in a handler
   abbrev pub inside : List (Val R) → Scope R → Scope R
-  inside ls C = record { labels = ls ∷ C.labels; returns = C.returns; sets = C.sets }
+  inside ls C = labelled false ls C
+
+  abbrev pub in_handler : List (Val R) → Scope R → Scope R
+  in_handler ls C = labelled true ls C
 
   -- behind code that sets these locals
   abbrev pub behind : List ℕ → Scope R → Scope R
-  behind xs C = record { labels = C.labels; returns = C.returns; sets = xs ++ C.sets }
+  behind xs C = record { labels = C.labels; caught = C.caught; returns = C.returns; sets = xs ++ C.sets }
 
 module _ {R : Type 0} (W : World R) (B : Surroundings R) where
   abbrev pub nowhere : State R

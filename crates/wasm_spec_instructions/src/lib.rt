@@ -19,14 +19,13 @@ pub fn accepted_code_is_without_legacy<R>()
 {}
 
 /// What the machine accepts, the rules type: code without conversions of references, or else
-/// without branches by a table. Of operators of legacy exceptions there is none in it.
+/// without branches by a table.
 #[tactic(auto, using(crate::proofs::Main::soundness))]
 pub fn algorithm_is_sound<R>()
     ensures { Soundness R }
 {}
 
-/// Where nothing is shared, whatever the machine accepts, the rules type, if there is no operator of
-/// legacy exceptions in it.
+/// Where nothing is shared, whatever the machine accepts, the rules type.
 #[tactic(auto, using(crate::proofs::Main::soundness_without_sharing))]
 pub fn algorithm_is_sound_without_sharing<R>()
     ensures { SoundnessWithoutSharing R }
