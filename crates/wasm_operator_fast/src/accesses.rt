@@ -4,15 +4,14 @@ ghost use Rattle.std.specs.Prelude.{◌≡◌, ◌&&◌, ◌||◌, ◌^◌, nat_
 ghost use Rattle.wasm_operators_plain.specs.Memories.{max_align_of};
 ghost use Rattle.wasm_operator_control.specs.WasmOperatorChecks.WasmOperatorSteps.Shapes.{access_shape, loading, storing, number_type};
 ghost use Rattle.wasm_operator_control.specs.WasmOperatorChecks.WasmOperatorStacks.Seen.{Kept};
-ghost use Rattle.wasm_operator_fast.specs.Fast.{Performs};
+ghost use Rattle.wasm_operator_control.specs.Fast.{Performs};
 
-use crate::not_taken::NotTaken;
-use crate::plain::plain;
 use std::alloc::Allocator;
 use wasm_operator_control::operator_checks::{Takes, ValTypes, address};
 use wasm_operator_control::operator_numbers::allows_number;
 use wasm_operator_control::operator_stacks::{Stacks, TypeWord};
 use wasm_operator_control::validator_resources::WasmModuleResources;
+use wasm_operator_control::{NotTaken, exchange_known};
 use wasm_operators_plain::{MemArg, MemoryOperator, NumberType, max_align};
 use wasm_readers_types::MemoryType;
 
@@ -47,7 +46,7 @@ fn load<A: Allocator, T: WasmModuleResources>(
             if !fits(memory, op, arg) {
                 return Err(NotTaken::Left);
             }
-            plain(
+            exchange_known(
                 stacks,
                 resources,
                 Takes::One(address(memory.memory64)),
@@ -80,7 +79,7 @@ fn store<A: Allocator, T: WasmModuleResources>(
             if !fits(memory, op, arg) {
                 return Err(NotTaken::Left);
             }
-            plain(
+            exchange_known(
                 stacks,
                 resources,
                 Takes::Two(address(memory.memory64), TypeWord::number(ty)),
