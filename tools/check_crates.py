@@ -9,7 +9,7 @@ import re
 import sys
 
 ROOT = os.path.dirname(os.path.dirname(os.path.abspath(__file__)))
-MOST_WALKS, MOST_CRATES, MOST_LINES, MOST_FUNCTIONS = 3_000, 70, 1_650, 110
+MOST_WALKS, MOST_CRATES, MOST_LINES, MOST_FUNCTIONS = 3_000, 70, 1_500, 110
 LAYERS = ("wasm_spec", "wasm_readers", "wasm_operator", "wasm_items", "wasm_parser", "wasm_validat", "wasm_check", "wasm_laws_", "rows_", "test_", "examples", "ruthvelka_c")
 
 

@@ -1,25 +1,47 @@
 -- Branches by a table.
 use Rattle.std.proofs.Common.{◌≡◌, ◌≢◌, ℕ, Bool, true, false, ◌&&◌, ◌==◌, List, [], ◌∷◌, length, refl, sym, ◌∙◌, ap}
-use Rattle.std.specs.Prelude.{Option, Some, None}
+use Rattle.std.specs.Option.{option_map}
+use Rattle.std.specs.Prelude.{Option, Some, None, slice_get}
 use Rattle.std.proofs.lemmas.List.{length-map}
 use Rattle.wasm_spec.specs.Syntax.{Val, i32}
 use Rattle.wasm_spec_rules.specs.Contexts.{Context}
 use Rattle.wasm_readers_types.specs.WasmReadersValues.declared.indices.UnpackedIndex.{UnpackedIndex}
+use Rattle.wasm_operators.specs.Control.{empty_block}
 use Rattle.wasm_operators.specs.SeenLists.{GivesFront}
 use Rattle.wasm_operator_control.specs.WasmOperatorChecks.WasmOperatorSteps.Actions.{label, Action, take, branch_to_one_of}
 use Rattle.wasm_spec_rules.specs.Attempts.{◌>>=◌, guard}
-use Rattle.wasm_operator_control.specs.WasmOperatorChecks.WasmOperatorSteps.Machine.{State, become_unreachable, pop_val, pop_vals}
-use Rattle.wasm_operator_control.specs.WasmOperatorChecks.WasmOperatorSteps.Meanings.{label_at, labels_fit, run}
+use Rattle.wasm_operator_control.specs.WasmOperatorChecks.WasmOperatorSteps.Machine.{Kind, block_kind, loop_kind, if_kind, else_kind, try_table_kind, legacy_try_kind, legacy_catch_kind, legacy_catch_all_kind, State, become_unreachable, pop_val, pop_vals}
+use Rattle.wasm_operator_control.specs.WasmOperatorChecks.WasmOperatorSteps.Meanings.{label_at, label_by, labels_fit, run}
 use Rattle.wasm_operator_control.specs.WasmOperatorChecks.WasmOperatorSteps.Shapes.{one}
 use Rattle.wasm_operator_control.specs.WasmOperatorChecks.WasmValidatorResources.Answers.{world}
 use Rattle.wasm_operator_control.specs.WasmOperatorChecks.WasmOperatorStacks.Seen.{state_of, around, below}
+use Rattle.wasm_operator_control.specs.WasmOperatorChecks.WasmOperatorStacks.SeenBlocks.{block_in, kind_of, frame_of}
+use Rattle.wasm_operator_control.specs.WasmOperatorChecks.WasmOperatorStacks.declared.stacks.Frame.{Frame}
 use Rattle.wasm_operator_control.specs.WasmOperatorChecks.WasmOperatorStacks.declared.stacks.Stacks.{Stacks}
 use Rattle.wasm_operator_control.specs.WasmOperatorChecks.Steps.{acted, typed}
 use Rattle.wasm_operator_blocks.specs.Fitting.{fits, all_fit, LastPasses}
 use Rattle.wasm_operator_blocks.proofs.Given.{front_given, none_left, fewer}
+use Rattle.wasm_operator_control.specs.WasmOperatorChecks.declared.types.ValTypes.TheVariants as listed
 use Rattle.wasm_operator_control.proofs.WasmOperatorChecks.Looking.{same, differ}
+use Rattle.wasm_operator_control.proofs.Labelled.{of_empty, label_found}
 
 pub ruleset counts = (length-map)
+
+-- a branch to a block without types takes nothing, whatever its kind
+nothing_taken : (k : Kind) → label_by {R = UnpackedIndex} k (record { takes = []; gives = [] }) ≡ []
+nothing_taken block_kind = refl
+nothing_taken loop_kind = refl
+nothing_taken if_kind = refl
+nothing_taken else_kind = refl
+nothing_taken try_table_kind = refl
+nothing_taken legacy_try_kind = refl
+nothing_taken legacy_catch_kind = refl
+nothing_taken legacy_catch_all_kind = refl
+
+pub takes_none : {A : Type 0} (v : Stacks A) (C : Context UnpackedIndex) (n : ℕ) (x : Frame) → option_map frame_of (Some x) ≡ slice_get (state_of v).frames n → empty_block ≡ block_in x.block → typed v C (label n) ≡ Some []
+takes_none v C n x e f = label_found v C n x (Some listed.None) e (sym (ap (option_map (label_by (kind_of x.kind))) (of_empty C (block_in x.block) f) ∙ ap Some (nothing_taken (kind_of x.kind))))
+
+pub ruleset empties = (takes_none)
 
 module _ {A : Type 0} (v : Stacks A) (C : Context UnpackedIndex) (first wanted : ℕ) where
   -- one target
@@ -38,6 +60,10 @@ module _ {A : Type 0} (v : Stacks A) (C : Context UnpackedIndex) (first wanted :
   pub fits_there : (n : ℕ) (vs : List (Val UnpackedIndex)) (t : State UnpackedIndex) → typed v C (label n) ≡ Some vs → length vs ≡ wanted → pop_vals (world C) vs (below first (state_of v)) ≡ Some t → true ≡ fits v C first wanted n
   unfolding fits typed
   fits_there n vs t e h f = rw (e, same (length vs) wanted h, f) refl
+
+  -- one that takes nothing, where nothing is wanted
+  pub fits_empty : (n : ℕ) (b : Bool) → (b ≡ true → typed v C (label n) ≡ Some []) → b ≡ true → wanted ≡ 0 → true ≡ fits v C first wanted n
+  fits_empty n b e h w = fits_there n [] (below first (state_of v)) (e h) (sym w) refl
 
   -- the label that was checked last
   pub known_fits : (n : ℕ) (b : Bool) (last : Option ℕ) → LastPasses (fits v C first wanted) last → (b ≡ true → last ≡ Some n) → b ≡ true → true ≡ fits v C first wanted n
@@ -64,7 +90,7 @@ module _ {A : Type 0} (v : Stacks A) (C : Context UnpackedIndex) (first wanted :
   unfolding all_fit
   all_passed all xs after e h = sym (e ∙ ap (labels_fit (world C) (around v C) (below first (state_of v)) wanted) (none_left xs after h))
 
-pub ruleset targets = (fits_nowhere, fits_otherwise, fits_missing, fits_there, known_fits, starts_fitting, now_fitting)
+pub ruleset targets = (fits_nowhere, fits_otherwise, fits_missing, fits_there, fits_empty, known_fits, starts_fitting, now_fitting)
 
 pub ruleset lists = (fewer, passed_on, stopped_at, all_passed, starts_fitting, now_fitting)
 

@@ -1,22 +1,23 @@
 //! `br_table`.
 
-ghost use Rattle.std.specs.Prelude.{◌≡◌, ◌≤◌, true, Some, is_ok, length};
+ghost use Rattle.std.specs.Prelude.{◌≡◌, ◌≤◌, [], true, Some, is_ok, length};
 ghost use Rattle.wasm_spec.specs.Values.{u32_at};
 ghost use Rattle.wasm_operators.specs.Control.{br_table};
 ghost use Rattle.wasm_operators.specs.SeenLists.{listed};
+ghost use Rattle.wasm_operator_control.specs.WasmOperatorChecks.WasmOperatorSteps.Actions.{label};
 ghost use Rattle.wasm_operator_control.specs.WasmOperatorChecks.WasmOperatorSteps.Shapes.{control_shape};
 ghost use Rattle.wasm_operator_control.specs.WasmOperatorChecks.WasmOperatorStacks.Seen.{state_of, Kept};
-ghost use Rattle.wasm_operator_control.specs.WasmOperatorChecks.Steps.{Performs};
+ghost use Rattle.wasm_operator_control.specs.WasmOperatorChecks.Steps.{Performs, typed};
 ghost use Rattle.wasm_operator_control.specs.WasmOperatorChecks.SeenTypes.{types_seen};
 ghost use Rattle.wasm_operator_blocks.specs.Fitting.{fits, all_fit, LastPasses};
 
 use std::alloc::Allocator;
-use wasm_operator_control::label_types;
 use wasm_operator_control::operator_checks::{
     OperatorError, OperatorFault, OperatorRule, ValTypes, check_type, check_types,
 };
-use wasm_operator_control::operator_stacks::{Stacks, TypeWord};
+use wasm_operator_control::operator_stacks::{Block, Stacks, TypeWord};
 use wasm_operator_control::validator_resources::WasmModuleResources;
+use wasm_operator_control::{frame_at, label_types};
 use wasm_operators::operators_plain::NumberType;
 use wasm_operators::{BrTable, Listed};
 
@@ -33,6 +34,7 @@ fn count<'a>(types: ValTypes<'a>) -> usize
 }
 
 /// Whether a target takes so many operands, and finds its types below those that are taken already.
+#[inline(never)]
 #[tactic(auto, using(crate::proofs::Tabled::targets))]
 fn check_target<A: Allocator, T: WasmModuleResources>(
     stacks: &Stacks<A>,
@@ -57,6 +59,26 @@ fn check_target<A: Allocator, T: WasmModuleResources>(
     }
 }
 
+/// Whether a label is that of a block without types, to which a branch takes nothing.
+#[inline(always)]
+#[tactic(auto, using(crate::proofs::Tabled::empties))]
+fn takes_nothing<A: Allocator, T: WasmModuleResources>(
+    stacks: &Stacks<A>,
+    _resources: &T,
+    depth: u32,
+) -> bool
+    ensures { result ≡ true → typed stacks.now (T.context _resources.now) (label depth) ≡ Some [] }
+{
+    match frame_at(stacks, depth as usize) {
+        Some(frame) => match frame.block.seen() {
+            Block::Empty => true,
+            Block::Value(_) => false,
+            Block::Func(_) => false,
+        },
+        None => false,
+    }
+}
+
 /// Whether it is the label that was checked last.
 #[inline(always)]
 fn is_last(last: Option<u32>, label: u32) -> bool
@@ -68,7 +90,8 @@ fn is_last(last: Option<u32>, label: u32) -> bool
     }
 }
 
-/// The same, where the label that was checked last isn't checked again.
+/// The same, where a label without types and the one that was checked last aren't checked again.
+#[inline(always)]
 #[tactic(auto, using(crate::proofs::Tabled::targets))]
 fn check_once<A: Allocator, T: WasmModuleResources>(
     stacks: &Stacks<A>,
@@ -82,6 +105,11 @@ fn check_once<A: Allocator, T: WasmModuleResources>(
     requires known { LastPasses (fits stacks.now (T.context resources.now) first wanted) last }
     ensures { is_ok result ≡ fits stacks.now (T.context resources.now) first wanted label }
 {
+    if wanted == 0 {
+        if takes_nothing(stacks, resources, label) {
+            return Ok(());
+        }
+    }
     if is_last(last, label) {
         Ok(())
     } else {

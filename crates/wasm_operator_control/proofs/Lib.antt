@@ -7,4 +7,5 @@ pub mod Opened
 pub mod Returned
 pub mod Halted
 pub mod Called
+pub mod Peeking
 pub mod Cited

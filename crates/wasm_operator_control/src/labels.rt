@@ -12,6 +12,7 @@ ghost use Rattle.wasm_operator_numbers.specs.WasmOperatorChecks.Steps.{typed};
 ghost use Rattle.wasm_operator_numbers.specs.WasmOperatorChecks.SeenTypes.{types_seen};
 ghost use Rattle.wasm_operator_control.specs.Blocks.{function_in, signature_in};
 
+use crate::results::val_types_of;
 use std::alloc::Allocator;
 use wasm_operator_numbers::operator_checks::ValTypes;
 use wasm_operator_numbers::operator_stacks::{Block, BlockWord, Frame, Stacks};
@@ -51,7 +52,7 @@ pub fn block_takes<'a, T: WasmModuleResources>(
         Block::Empty => Some(ValTypes::None),
         Block::Value(_) => Some(ValTypes::None),
         Block::Func(type_index) => match function_type(resources, type_index) {
-            Some(signature) => Some(ValTypes::Many(signature.params())),
+            Some(signature) => Some(val_types_of(signature.params())),
             None => None,
         },
     }
@@ -71,7 +72,7 @@ pub fn block_gives<'a, T: WasmModuleResources>(
         Block::Empty => Some(ValTypes::None),
         Block::Value(ty) => Some(ValTypes::One(ty)),
         Block::Func(type_index) => match function_type(resources, type_index) {
-            Some(signature) => Some(ValTypes::Many(signature.results())),
+            Some(signature) => Some(val_types_of(signature.results())),
             None => None,
         },
     }

@@ -1,4 +1,5 @@
-//! Operators on locals and globals, blocks, branches, calls and tail calls.
+//! Operators on locals and globals, blocks, branches, calls and tail calls, and looks at operands whose
+//! types are known.
 #![tactic(auto)]
 
 mod branches;
@@ -7,8 +8,11 @@ mod ends;
 mod frames;
 mod globals;
 mod halts;
+mod known;
 mod labels;
 mod locals;
+mod not_taken;
+mod peeks;
 mod reach;
 mod results;
 mod step;
@@ -20,8 +24,11 @@ pub use ends::end;
 pub use frames::open_frame;
 pub use globals::{global_get, global_set};
 pub use halts::halt_with;
+pub use known::{as_fast, exchange_known};
 pub use labels::{block_gives, block_takes, frame_at, function_type, label_types, returned_types};
 pub use locals::{drop_any, local_get, local_set, local_tee};
+pub use not_taken::NotTaken;
+pub use peeks::{peek, peek_takes, peek_types};
 pub use reach::{function_reached, null_or, type_reached};
 pub use results::{match_types, returns, val_types_of};
 pub use step::step_call;

@@ -14,8 +14,8 @@ use Rattle.wasm_operator_control.specs.WasmOperatorChecks.WasmOperatorStacks.dec
 use Rattle.wasm_operator_control.specs.WasmOperatorChecks.Steps.{Took, acted, typed, held}
 use Rattle.wasm_operator_control.specs.WasmOperatorChecks.SeenTypes.{exchanged}
 use Rattle.wasm_operator_control.proofs.WasmOperatorChecks.Acting as acting
-use Rattle.wasm_operator_fast.specs.Fast.{Fast}
-use Rattle.wasm_operator_fast.specs.declared.not_taken.NotTaken.{NotTaken}
+use Rattle.wasm_operator_control.specs.Fast.{Fast}
+use Rattle.wasm_operator_control.specs.declared.not_taken.NotTaken.{NotTaken}
 
 pub fast_ok : (x : Unit {0}) (o : Option (State UnpackedIndex)) (old new : State UnpackedIndex) → o ≡ Some new → Fast (Ok x) o old new
 unfolding Fast

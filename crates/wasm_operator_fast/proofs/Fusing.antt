@@ -36,10 +36,10 @@ use Rattle.wasm_operator_control.specs.WasmOperatorChecks.WasmOperatorStacks.See
 use Rattle.wasm_operator_control.specs.WasmOperatorChecks.WasmOperatorStacks.declared.stacks.Stacks.{Stacks}
 use Rattle.wasm_operator_control.specs.WasmOperatorChecks.Steps.{acted}
 use Rattle.wasm_operator_fast.specs.Blocks.{block_giving, block_named}
-use Rattle.wasm_operator_fast.specs.Fast.{Fast}
+use Rattle.wasm_operator_control.specs.Fast.{Fast}
 use Rattle.wasm_operator_fast.specs.Fused.{Fused, performed, performed_from, step_at}
 use Rattle.wasm_operator_fast.specs.Passed.{behind_signed}
-use Rattle.wasm_operator_fast.specs.declared.not_taken.NotTaken.{NotTaken}
+use Rattle.wasm_operator_control.specs.declared.not_taken.NotTaken.{NotTaken}
 
 below : (b m : ℕ) → b < m → nat_lt b m ≡ true
 below b m h = grind (arith, nat_tests)

@@ -1,5 +1,4 @@
 pub mod Fasting
-pub mod Peeking
 pub mod Locally
 pub mod Ended
 pub mod Fusing

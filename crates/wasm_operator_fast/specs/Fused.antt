@@ -17,7 +17,7 @@ use Rattle.wasm_operator_control.specs.WasmOperatorChecks.WasmValidatorResources
 use Rattle.wasm_operator_control.specs.WasmOperatorChecks.WasmOperatorStacks.Seen.{state_of}
 use Rattle.wasm_operator_control.specs.WasmOperatorChecks.WasmOperatorStacks.declared.stacks.Stacks.{Stacks}
 use Rattle.wasm_operator_control.specs.WasmOperatorChecks.Steps.{acted}
-use Rattle.wasm_operator_fast.specs.declared.not_taken.NotTaken.{NotTaken}
+use Rattle.wasm_operator_control.specs.declared.not_taken.NotTaken.{NotTaken}
 
 -- the step of an instruction that was read, and the bytes behind it
 abbrev pub step_read : World UnpackedIndex → Surroundings UnpackedIndex → State UnpackedIndex → Option (Instruction UnpackedIndex × List ℕ) → Option (State UnpackedIndex × List ℕ)

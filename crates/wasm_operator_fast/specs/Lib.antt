@@ -1,5 +1,4 @@
 pub use Rattle.wasm_operator_control.specs as WasmOperatorControl
-pub mod Fast
 pub mod Fused
 pub mod Blocks
 pub mod Passed

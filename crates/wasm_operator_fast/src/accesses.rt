@@ -4,17 +4,48 @@ ghost use Rattle.std.specs.Prelude.{◌≡◌, ◌&&◌, ◌||◌, ◌^◌, nat_
 ghost use Rattle.wasm_operators_plain.specs.Memories.{max_align_of};
 ghost use Rattle.wasm_operator_control.specs.WasmOperatorChecks.WasmOperatorSteps.Shapes.{access_shape, loading, storing, number_type};
 ghost use Rattle.wasm_operator_control.specs.WasmOperatorChecks.WasmOperatorStacks.Seen.{Kept};
-ghost use Rattle.wasm_operator_fast.specs.Fast.{Performs};
+ghost use Rattle.wasm_operator_control.specs.Fast.{Performs};
 
-use crate::not_taken::NotTaken;
-use crate::plain::plain;
 use std::alloc::Allocator;
 use wasm_operator_control::operator_checks::{Takes, ValTypes, address};
 use wasm_operator_control::operator_numbers::allows_number;
 use wasm_operator_control::operator_stacks::{Stacks, TypeWord};
 use wasm_operator_control::validator_resources::WasmModuleResources;
-use wasm_operators_plain::{MemArg, MemoryOperator, NumberType, max_align};
+use wasm_operator_control::{NotTaken, exchange_known};
+use wasm_operators_plain::{MemArg, MemoryOperator, NumberType};
 use wasm_readers_types::MemoryType;
+
+/// The greatest alignment that an access may have. It is `max_align` again, in place.
+#[inline(always)]
+fn align_in_place(op: MemoryOperator) -> u8
+    ensures { result ≡ max_align_of op }
+{
+    match op {
+        MemoryOperator::I32Load8S
+        | MemoryOperator::I32Load8U
+        | MemoryOperator::I64Load8S
+        | MemoryOperator::I64Load8U
+        | MemoryOperator::I32Store8
+        | MemoryOperator::I64Store8 => 0,
+        MemoryOperator::I32Load16S
+        | MemoryOperator::I32Load16U
+        | MemoryOperator::I64Load16S
+        | MemoryOperator::I64Load16U
+        | MemoryOperator::I32Store16
+        | MemoryOperator::I64Store16 => 1,
+        MemoryOperator::I32Load
+        | MemoryOperator::F32Load
+        | MemoryOperator::I64Load32S
+        | MemoryOperator::I64Load32U
+        | MemoryOperator::I32Store
+        | MemoryOperator::F32Store
+        | MemoryOperator::I64Store32 => 2,
+        MemoryOperator::I64Load
+        | MemoryOperator::F64Load
+        | MemoryOperator::I64Store
+        | MemoryOperator::F64Store => 3,
+    }
+}
 
 /// Whether a memory has 32-bit addresses and may be accessed so.
 #[inline(always)]
@@ -22,7 +53,7 @@ fn fits(memory: MemoryType, op: MemoryOperator, arg: MemArg) -> bool
     ensures { result ≡ true → (nat_le arg.align (max_align_of op)
         && (memory.memory64 || nat_lt arg.offset (2 ^ 32))) ≡ true }
 {
-    !memory.memory64 && arg.align <= max_align(op) && arg.offset < 4_294_967_296
+    !memory.memory64 && arg.align <= align_in_place(op) && arg.offset < 4_294_967_296
 }
 
 /// A load of a number of this type.
@@ -47,7 +78,7 @@ fn load<A: Allocator, T: WasmModuleResources>(
             if !fits(memory, op, arg) {
                 return Err(NotTaken::Left);
             }
-            plain(
+            exchange_known(
                 stacks,
                 resources,
                 Takes::One(address(memory.memory64)),
@@ -80,7 +111,7 @@ fn store<A: Allocator, T: WasmModuleResources>(
             if !fits(memory, op, arg) {
                 return Err(NotTaken::Left);
             }
-            plain(
+            exchange_known(
                 stacks,
                 resources,
                 Takes::Two(address(memory.memory64), TypeWord::number(ty)),

@@ -11,14 +11,13 @@ ghost use Rattle.wasm_operator_control.specs.WasmOperatorChecks.WasmOperatorStep
 ghost use Rattle.wasm_operator_control.specs.WasmOperatorChecks.WasmOperatorStacks.Seen.{state_of, below, Kept};
 ghost use Rattle.wasm_operator_control.specs.WasmOperatorChecks.WasmOperatorStacks.SeenBlocks.{block_in, kind_of};
 ghost use Rattle.wasm_operator_fast.specs.Blocks.{block_giving, block_named, allows_giving};
-ghost use Rattle.wasm_operator_fast.specs.Fast.{Performs};
+ghost use Rattle.wasm_operator_control.specs.Fast.{Performs};
 
-use crate::not_taken::NotTaken;
-use crate::peeks::peek;
 use std::alloc::Allocator;
 use wasm_operator_control::operator_numbers::allows_number;
 use wasm_operator_control::operator_stacks::{BlockWord, Stacks, TypeWord};
 use wasm_operator_control::validator_resources::WasmModuleResources;
+use wasm_operator_control::{NotTaken, peek};
 use wasm_operators::FrameKind;
 use wasm_operators_plain::NumberType;
 

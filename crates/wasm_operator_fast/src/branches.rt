@@ -3,16 +3,14 @@
 ghost use Rattle.wasm_operators.specs.Control.{br, br_if, return_, nop, unreachable};
 ghost use Rattle.wasm_operator_control.specs.WasmOperatorChecks.WasmOperatorSteps.Shapes.{control_shape};
 ghost use Rattle.wasm_operator_control.specs.WasmOperatorChecks.WasmOperatorStacks.Seen.{Kept};
-ghost use Rattle.wasm_operator_fast.specs.Fast.{Performs};
+ghost use Rattle.wasm_operator_control.specs.Fast.{Performs};
 
 use crate::general::{branch_generally, branch_if_generally, return_generally};
-use crate::not_taken::NotTaken;
-use crate::peeks::{peek, peek_types};
 use std::alloc::Allocator;
 use wasm_operator_control::operator_checks::exchange_types;
 use wasm_operator_control::operator_stacks::{Stacks, TypeWord};
 use wasm_operator_control::validator_resources::WasmModuleResources;
-use wasm_operator_control::{label_types, returned_types};
+use wasm_operator_control::{NotTaken, label_types, peek, peek_types, returned_types};
 use wasm_operators_plain::NumberType;
 
 /// `nop`.

@@ -3,16 +3,14 @@
 ghost use Rattle.wasm_operators_plain.specs.declared.calls.CallOperator.TheVariants.{Call};
 ghost use Rattle.wasm_operator_control.specs.WasmOperatorChecks.WasmOperatorSteps.Shapes.{call_shape};
 ghost use Rattle.wasm_operator_control.specs.WasmOperatorChecks.WasmOperatorStacks.Seen.{Kept};
-ghost use Rattle.wasm_operator_fast.specs.Fast.{Performs};
+ghost use Rattle.wasm_operator_control.specs.Fast.{Performs};
 
 use crate::general::call_generally;
-use crate::not_taken::NotTaken;
-use crate::peeks::peek_takes;
 use std::alloc::Allocator;
 use wasm_operator_control::operator_checks::{Takes, exchange_types};
 use wasm_operator_control::operator_stacks::Stacks;
 use wasm_operator_control::validator_resources::WasmModuleResources;
-use wasm_operator_control::{function_reached, val_types_of};
+use wasm_operator_control::{NotTaken, function_reached, peek_takes, val_types_of};
 
 /// `call`. Where it isn't seen at once that the operands are of the function's types, the general
 /// way decides.

@@ -2,14 +2,13 @@
 
 ghost use Rattle.wasm_operator_control.specs.WasmOperatorChecks.WasmOperatorSteps.Shapes.{choosing, dropping};
 ghost use Rattle.wasm_operator_control.specs.WasmOperatorChecks.WasmOperatorStacks.Seen.{Kept};
-ghost use Rattle.wasm_operator_fast.specs.Fast.{Performs};
+ghost use Rattle.wasm_operator_control.specs.Fast.{Performs};
 
-use crate::not_taken::NotTaken;
-use crate::peeks::peek;
 use std::alloc::Allocator;
 use wasm_operator_control::operator_checks::look;
 use wasm_operator_control::operator_stacks::{Stacks, TypeWord};
 use wasm_operator_control::validator_resources::WasmModuleResources;
+use wasm_operator_control::{NotTaken, peek};
 use wasm_operators_plain::NumberType;
 
 /// `select` between two numbers of this type, of which the lower one stays.

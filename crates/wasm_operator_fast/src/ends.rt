@@ -5,14 +5,13 @@ ghost use Rattle.wasm_operator_control.specs.WasmOperatorChecks.WasmOperatorStep
 ghost use Rattle.wasm_operator_control.specs.WasmOperatorChecks.WasmOperatorSteps.Shapes.{closing};
 ghost use Rattle.wasm_operator_control.specs.WasmOperatorChecks.WasmOperatorStacks.Seen.{Kept};
 ghost use Rattle.wasm_operator_control.specs.WasmOperatorChecks.WasmOperatorStacks.SeenBlocks.{kind_of};
-ghost use Rattle.wasm_operator_fast.specs.Fast.{Performs};
+ghost use Rattle.wasm_operator_control.specs.Fast.{Performs};
 
 use crate::general::end_generally;
-use crate::not_taken::NotTaken;
-use crate::peeks::peek;
 use std::alloc::Allocator;
 use wasm_operator_control::operator_stacks::{Block, Stacks};
 use wasm_operator_control::validator_resources::WasmModuleResources;
+use wasm_operator_control::{NotTaken, peek};
 use wasm_operators::FrameKind;
 
 /// Whether a frame is that of an `if` before its `else`.

@@ -4,14 +4,14 @@ ghost use Rattle.wasm_operators_plain.specs.declared.calls.CallOperator.TheVaria
 ghost use Rattle.wasm_operators.specs.Control.{br, br_if, return_};
 ghost use Rattle.wasm_operator_control.specs.WasmOperatorChecks.WasmOperatorSteps.Shapes.{call_shape, control_shape, closing};
 ghost use Rattle.wasm_operator_control.specs.WasmOperatorChecks.WasmOperatorStacks.Seen.{Kept};
-ghost use Rattle.wasm_operator_fast.specs.Fast.{Performs};
+ghost use Rattle.wasm_operator_control.specs.Fast.{Performs};
 
-use crate::not_taken::NotTaken;
-use crate::plain::as_fast;
 use std::alloc::Allocator;
 use wasm_operator_control::operator_stacks::Stacks;
 use wasm_operator_control::validator_resources::WasmModuleResources;
-use wasm_operator_control::{branch, branch_if, call, call_indirect, end, give_back};
+use wasm_operator_control::{
+    NotTaken, as_fast, branch, branch_if, call, call_indirect, end, give_back,
+};
 
 /// `call`.
 #[inline(never)]

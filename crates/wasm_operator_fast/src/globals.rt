@@ -3,14 +3,13 @@
 ghost use Rattle.wasm_operators_plain.specs.declared.variables.VariableOperator.TheVariants.{GlobalGet, GlobalSet};
 ghost use Rattle.wasm_operator_control.specs.WasmOperatorChecks.WasmOperatorSteps.Shapes.{variable_shape};
 ghost use Rattle.wasm_operator_control.specs.WasmOperatorChecks.WasmOperatorStacks.Seen.{Kept};
-ghost use Rattle.wasm_operator_fast.specs.Fast.{Performs};
+ghost use Rattle.wasm_operator_control.specs.Fast.{Performs};
 
-use crate::not_taken::NotTaken;
-use crate::plain::plain;
 use std::alloc::Allocator;
 use wasm_operator_control::operator_checks::{Takes, ValTypes, reaches};
 use wasm_operator_control::operator_stacks::{Stacks, TypeWord};
 use wasm_operator_control::validator_resources::WasmModuleResources;
+use wasm_operator_control::{NotTaken, exchange_known};
 
 /// `global.get`.
 #[inline(always)]
@@ -29,7 +28,7 @@ pub(crate) fn get_global<A: Allocator, T: WasmModuleResources>(
             if !reaches(stacks, ty.shared) {
                 return Err(NotTaken::Left);
             }
-            plain(
+            exchange_known(
                 stacks,
                 resources,
                 Takes::None,
@@ -60,7 +59,7 @@ pub(crate) fn set_global<A: Allocator, T: WasmModuleResources>(
             if !ty.mutable {
                 return Err(NotTaken::Left);
             }
-            plain(
+            exchange_known(
                 stacks,
                 resources,
                 Takes::One(TypeWord::new(ty.content_type)),

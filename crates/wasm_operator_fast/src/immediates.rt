@@ -9,7 +9,7 @@ ghost use Rattle.wasm_operators.specs.Control.{block_at};
 ghost use Rattle.wasm_operator_fast.specs.Blocks.{block_named};
 ghost use Rattle.wasm_operator_fast.specs.Passed.{behind_signed, Passed};
 
-use crate::not_taken::NotTaken;
+use wasm_operator_control::NotTaken;
 use wasm_operators_plain::readers::BinaryReader;
 use wasm_operators_plain::{MemArg, NumberType};
 

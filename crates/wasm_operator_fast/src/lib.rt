@@ -11,14 +11,11 @@ mod general;
 mod globals;
 mod immediates;
 mod locals;
-mod not_taken;
 mod numbers;
-mod peeks;
-mod plain;
 mod steps;
 
-pub use not_taken::NotTaken;
 pub use steps::fast_step;
+pub use wasm_operator_control::NotTaken;
 
 /// Passed on from `wasm_operator_numbers`.
 pub mod operator_numbers {

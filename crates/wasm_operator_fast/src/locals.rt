@@ -6,15 +6,13 @@ ghost use Rattle.wasm_operators_plain.specs.declared.variables.VariableOperator.
 ghost use Rattle.wasm_operator_control.specs.WasmOperatorChecks.WasmOperatorSteps.Shapes.{variable_shape};
 ghost use Rattle.wasm_operator_control.specs.WasmOperatorChecks.WasmOperatorStacks.Locals.{local_of};
 ghost use Rattle.wasm_operator_control.specs.WasmOperatorChecks.WasmOperatorStacks.Seen.{Kept};
-ghost use Rattle.wasm_operator_fast.specs.Fast.{Performs};
+ghost use Rattle.wasm_operator_control.specs.Fast.{Performs};
 
-use crate::not_taken::NotTaken;
-use crate::peeks::peek;
-use crate::plain::plain;
 use std::alloc::Allocator;
 use wasm_operator_control::operator_checks::{Takes, ValTypes};
 use wasm_operator_control::operator_stacks::{LocalWord, Stacks};
 use wasm_operator_control::validator_resources::WasmModuleResources;
+use wasm_operator_control::{NotTaken, exchange_known, peek};
 
 /// The local of this index, where it is set from the start.
 #[inline(always)]
@@ -48,7 +46,7 @@ pub(crate) fn local_get<A: Allocator, T: WasmModuleResources>(
     ensures same { Kept stacks.old stacks.new }
 {
     let local = set_local(stacks, index)?;
-    plain(stacks, resources, Takes::None, ValTypes::One(local.ty()))
+    exchange_known(stacks, resources, Takes::None, ValTypes::One(local.ty()))
 }
 
 /// `local.set`.

@@ -5,15 +5,14 @@ ghost use Rattle.wasm_operators_plain.specs.declared.signatures.Signature.TheVar
 ghost use Rattle.wasm_operator_control.specs.WasmOperatorChecks.WasmOperatorSteps.Actions.{allows};
 ghost use Rattle.wasm_operator_control.specs.WasmOperatorChecks.WasmOperatorSteps.Shapes.{computing, number_type, nothing, one, plain as plain_shape};
 ghost use Rattle.wasm_operator_control.specs.WasmOperatorChecks.WasmOperatorStacks.Seen.{Kept};
-ghost use Rattle.wasm_operator_fast.specs.Fast.{Performs};
+ghost use Rattle.wasm_operator_control.specs.Fast.{Performs};
 
-use crate::not_taken::NotTaken;
-use crate::plain::plain;
 use std::alloc::Allocator;
 use wasm_operator_control::operator_checks::{Takes, ValTypes};
 use wasm_operator_control::operator_numbers::allows_number;
 use wasm_operator_control::operator_stacks::{Stacks, TypeWord};
 use wasm_operator_control::validator_resources::WasmModuleResources;
+use wasm_operator_control::{NotTaken, exchange_known};
 use wasm_operators_plain::{NumberType, Signature};
 
 /// An operator that takes a number and gives one.
@@ -35,7 +34,7 @@ fn unary<A: Allocator, T: WasmModuleResources>(
     if !allows_number(stacks, to) {
         return Err(NotTaken::Left);
     }
-    plain(
+    exchange_known(
         stacks,
         resources,
         Takes::One(TypeWord::number(from)),
@@ -62,7 +61,7 @@ fn binary<A: Allocator, T: WasmModuleResources>(
     if !allows_number(stacks, to) {
         return Err(NotTaken::Left);
     }
-    plain(
+    exchange_known(
         stacks,
         resources,
         Takes::Two(TypeWord::number(from), TypeWord::number(from)),
@@ -103,7 +102,7 @@ pub(crate) fn constant<A: Allocator, T: WasmModuleResources>(
     if !allows_number(stacks, ty) {
         return Err(NotTaken::Left);
     }
-    plain(
+    exchange_known(
         stacks,
         resources,
         Takes::None,

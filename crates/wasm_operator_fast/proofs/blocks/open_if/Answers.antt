@@ -2,7 +2,7 @@ use Rattle.std.proofs.Common.{refl, ◌∙◌, ap}
 use Rattle.wasm_operator_control.specs.WasmOperatorChecks.WasmOperatorSteps.Machine.{if_kind}
 use Rattle.wasm_operator_control.specs.WasmOperatorChecks.WasmOperatorStacks.SeenBlocks.{block_in}
 use Rattle.wasm_operator_control.specs.WasmOperatorChecks.WasmOperatorStacks.Seen.{state_of, below}
-use Rattle.wasm_operator_fast.specs.Fast.{Fast}
+use Rattle.wasm_operator_control.specs.Fast.{Fast}
 use Rattle.wasm_operator_fast.proofs.Fasting.{fast_left}
 use Rattle.wasm_operator_fast.proofs.Entered.{enters_conditioned}
 use Rattle.wasm_operator_fast.proofs.blocks.open_if.Goals as goal

@@ -1,7 +1,7 @@
 use Rattle.std.proofs.Common.{refl}
 use Rattle.wasm_operator_control.specs.WasmOperatorChecks.WasmOperatorStacks.SeenBlocks.{block_in, kind_of}
 use Rattle.wasm_operator_control.specs.WasmOperatorChecks.WasmOperatorStacks.Seen.{state_of}
-use Rattle.wasm_operator_fast.specs.Fast.{Fast}
+use Rattle.wasm_operator_control.specs.Fast.{Fast}
 use Rattle.wasm_operator_fast.proofs.Fasting.{fast_left}
 use Rattle.wasm_operator_fast.proofs.Entered.{enters_plainly}
 use Rattle.wasm_operator_fast.proofs.blocks.open_plain.Goals as goal

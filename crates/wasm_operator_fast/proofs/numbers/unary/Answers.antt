@@ -7,4 +7,4 @@ pub returns-clause-took : goal.returns-clause-took
 returns-clause-took g c =
     needed _ _ _ _ _ _ _ (allows_held _ _ _ _ (search rules))
     (needed _ _ _ _ _ _ _ (allows_held _ _ _ _ (search rules))
-    (plainly _ _ _ _ _ _ _ _ _ c.plain.ensures.took (number_typed _ _ _ _ c.number.ensures) (number_typed _ _ _ _ c.number-2.ensures)))
+    (plainly _ _ _ _ _ _ _ _ _ c.exchange_known.ensures.took (number_typed _ _ _ _ c.number.ensures) (number_typed _ _ _ _ c.number-2.ensures)))

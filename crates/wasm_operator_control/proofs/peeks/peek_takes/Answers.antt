@@ -1,8 +1,8 @@
-use Rattle.wasm_operator_control.specs.WasmOperatorChecks.WasmOperatorStacks.SeenTypeWords.{val_in}
-use Rattle.wasm_operator_control.specs.WasmOperatorChecks.WasmValidatorResources.Answers.{world}
-use Rattle.wasm_operator_control.specs.WasmOperatorChecks.WasmOperatorStacks.Seen.{state_of, below}
-use Rattle.wasm_operator_fast.proofs.Peeking.{three_there}
-use Rattle.wasm_operator_fast.proofs.peeks.peek_takes.Goals as goal
+use Rattle.wasm_operator_numbers.specs.WasmOperatorChecks.WasmOperatorStacks.SeenTypeWords.{val_in}
+use Rattle.wasm_operator_numbers.specs.WasmOperatorChecks.WasmValidatorResources.Answers.{world}
+use Rattle.wasm_operator_numbers.specs.WasmOperatorChecks.WasmOperatorStacks.Seen.{state_of, below}
+use Rattle.wasm_operator_control.proofs.Peeking.{three_there}
+use Rattle.wasm_operator_control.proofs.peeks.peek_takes.Goals as goal
 
 pub returns-in_ok-peek-in-Three-3 : goal.returns-in_ok-peek-in-Three-3
 returns-in_ok-peek-in-Three-3 g c =

@@ -3,18 +3,18 @@ use Rattle.std.proofs.Common.{◌≡◌, ◌≢◌, ℕ, ◌-◌, ◌+◌, ◌<�
 use Rattle.std.specs.Option.{option_map}
 use Rattle.std.specs.Prelude.{Some, slice_get}
 use Rattle.std.proofs.lemmas.Option.{slice_get-map}
-use Rattle.wasm_spec.specs.MatchingTests.{World}
-use Rattle.wasm_spec.specs.Syntax.{Val}
-use Rattle.wasm_operator_control.specs.WasmOperatorChecks.WasmSpecRules.Contexts.{Context}
+use Rattle.wasm_readers_types.specs.WasmSpec.MatchingTests.{World}
+use Rattle.wasm_readers_types.specs.WasmSpec.Syntax.{Val}
+use Rattle.wasm_operator_numbers.specs.WasmOperatorChecks.WasmSpecRules.Contexts.{Context}
 use Rattle.wasm_readers_types.specs.WasmReadersValues.declared.indices.UnpackedIndex.{UnpackedIndex}
-use Rattle.wasm_operator_control.specs.WasmOperatorChecks.WasmOperatorSteps.Machine.{State, known, pop_any, pop_val, pop_vals, push_operand}
-use Rattle.wasm_operator_control.specs.WasmOperatorChecks.WasmValidatorResources.Answers.{world}
-use Rattle.wasm_operator_control.specs.WasmOperatorChecks.WasmOperatorStacks.Seen.{state_of, below}
-use Rattle.wasm_operator_control.specs.WasmOperatorChecks.WasmOperatorStacks.SeenOperands.{operand_of}
-use Rattle.wasm_operator_control.specs.WasmOperatorChecks.WasmOperatorStacks.declared.word.Word.{Word}
-use Rattle.wasm_operator_control.specs.WasmOperatorChecks.WasmOperatorStacks.declared.stacks.Stacks.{Stacks}
-use Rattle.wasm_operator_control.proofs.WasmOperatorChecks.Agreeing.{known_matches}
-use Rattle.wasm_operator_control.proofs.WasmOperatorChecks.Looking.{look_within, one_popped, one_more, from_on}
+use Rattle.wasm_operator_numbers.specs.WasmOperatorChecks.WasmOperatorSteps.Machine.{State, known, pop_any, pop_val, pop_vals, push_operand}
+use Rattle.wasm_operator_numbers.specs.WasmOperatorChecks.WasmValidatorResources.Answers.{world}
+use Rattle.wasm_operator_numbers.specs.WasmOperatorChecks.WasmOperatorStacks.Seen.{state_of, below}
+use Rattle.wasm_operator_numbers.specs.WasmOperatorChecks.WasmOperatorStacks.SeenOperands.{operand_of}
+use Rattle.wasm_operator_numbers.specs.WasmOperatorChecks.WasmOperatorStacks.declared.word.Word.{Word}
+use Rattle.wasm_operator_numbers.specs.WasmOperatorChecks.WasmOperatorStacks.declared.stacks.Stacks.{Stacks}
+use Rattle.wasm_operator_numbers.proofs.WasmOperatorChecks.Agreeing.{known_matches}
+use Rattle.wasm_operator_numbers.proofs.WasmOperatorChecks.Looking.{look_within, one_popped, one_more, from_on}
 
 higher : (a b : ℕ) → b < a → a ≢ b
 higher a b h e = absurd (omega (arith, h, e))

@@ -1,26 +1,26 @@
 //! Looks at operands whose types are known.
 
 ghost use Rattle.std.specs.Prelude.{◌≡◌, ◌≤◌, ◌+◌, Some, length, map, OnOk};
-ghost use Rattle.wasm_operator_control.specs.WasmOperatorChecks.WasmOperatorStacks.SeenTypeWords.{val_in};
-ghost use Rattle.wasm_operator_control.specs.WasmOperatorChecks.WasmOperatorSteps.Machine.{known, pop_any, pop_val, pop_vals, push_operand};
-ghost use Rattle.wasm_operator_control.specs.WasmOperatorChecks.WasmValidatorResources.Answers.{world};
-ghost use Rattle.wasm_operator_control.specs.WasmOperatorChecks.WasmOperatorStacks.Seen.{state_of, below};
-ghost use Rattle.wasm_operator_control.specs.WasmOperatorChecks.SeenTypes.{types_seen, takes_seen};
+ghost use Rattle.wasm_operator_numbers.specs.WasmOperatorChecks.WasmOperatorStacks.SeenTypeWords.{val_in};
+ghost use Rattle.wasm_operator_numbers.specs.WasmOperatorChecks.WasmOperatorSteps.Machine.{known, pop_any, pop_val, pop_vals, push_operand};
+ghost use Rattle.wasm_operator_numbers.specs.WasmOperatorChecks.WasmValidatorResources.Answers.{world};
+ghost use Rattle.wasm_operator_numbers.specs.WasmOperatorChecks.WasmOperatorStacks.Seen.{state_of, below};
+ghost use Rattle.wasm_operator_numbers.specs.WasmOperatorChecks.SeenTypes.{types_seen, takes_seen};
 ghost use Rattle.wasm_readers_types.specs.WasmReadersValues.SeenValues.{val_of};
-ghost use Rattle.wasm_operator_fast.specs.Fast.{Peeked};
+ghost use Rattle.wasm_operator_control.specs.Fast.{Peeked};
 
 use crate::not_taken::NotTaken;
 use std::alloc::Allocator;
-use wasm_operator_control::operator_checks::{Takes, ValTypes};
-use wasm_operator_control::operator_stacks::{Stacks, TypeWord};
-use wasm_operator_control::validator_resources::WasmModuleResources;
+use wasm_operator_numbers::operator_checks::{Takes, ValTypes};
+use wasm_operator_numbers::operator_stacks::{Stacks, TypeWord};
+use wasm_operator_numbers::validator_resources::WasmModuleResources;
 use wasm_readers_types::ValType;
 
 /// Looks whether an operand that is known to be of this type is in the innermost frame, below so
 /// many others.
 #[inline(always)]
 #[tactic(auto, using(crate::proofs::Peeking::peeks))]
-pub(crate) fn peek<A: Allocator, T: WasmModuleResources>(
+pub fn peek<A: Allocator, T: WasmModuleResources>(
     stacks: &Stacks<A>,
     _resources: &T,
     depth: usize,
@@ -104,7 +104,7 @@ fn peek_many<A: Allocator, T: WasmModuleResources>(
 /// many others, and how many are taken with them.
 #[inline(always)]
 #[tactic(auto, using(crate::proofs::Cited::two))]
-pub(crate) fn peek_types<'a, A: Allocator, T: WasmModuleResources>(
+pub fn peek_types<'a, A: Allocator, T: WasmModuleResources>(
     stacks: &Stacks<A>,
     resources: &T,
     first: usize,
@@ -124,7 +124,7 @@ pub(crate) fn peek_types<'a, A: Allocator, T: WasmModuleResources>(
 /// Looks whether the operands are on top that an operator takes, and how many they are.
 #[inline(always)]
 #[tactic(auto, using(crate::proofs::Cited::two, crate::proofs::Peeking::three))]
-pub(crate) fn peek_takes<'a, A: Allocator, T: WasmModuleResources>(
+pub fn peek_takes<'a, A: Allocator, T: WasmModuleResources>(
     stacks: &Stacks<A>,
     resources: &T,
     takes: Takes<'a>,

@@ -1,25 +1,26 @@
-//! Operators that take some operands and give others.
+//! Operators that take some operands, whose types are known, and give others.
 
 ghost use Rattle.std.specs.Prelude.{◌≡◌, Option};
 ghost use Rattle.wasm_readers_types.specs.WasmReadersValues.declared.indices.UnpackedIndex.{UnpackedIndex};
-ghost use Rattle.wasm_operator_control.specs.WasmOperatorChecks.WasmOperatorSteps.Machine.{State};
-ghost use Rattle.wasm_operator_control.specs.WasmOperatorChecks.WasmValidatorResources.Answers.{world};
-ghost use Rattle.wasm_operator_control.specs.WasmOperatorChecks.WasmOperatorStacks.Seen.{state_of, Kept};
-ghost use Rattle.wasm_operator_control.specs.WasmOperatorChecks.Steps.{Took};
-ghost use Rattle.wasm_operator_control.specs.WasmOperatorChecks.SeenTypes.{types_seen, takes_seen, exchanged};
-ghost use Rattle.wasm_operator_fast.specs.Fast.{Fast};
+ghost use Rattle.wasm_operator_numbers.specs.WasmOperatorChecks.WasmOperatorSteps.Machine.{State};
+ghost use Rattle.wasm_operator_numbers.specs.WasmOperatorChecks.WasmValidatorResources.Answers.{world};
+ghost use Rattle.wasm_operator_numbers.specs.WasmOperatorChecks.WasmOperatorStacks.Seen.{state_of, Kept};
+ghost use Rattle.wasm_operator_numbers.specs.WasmOperatorChecks.Steps.{Took};
+ghost use Rattle.wasm_operator_numbers.specs.WasmOperatorChecks.SeenTypes.{types_seen, takes_seen, exchanged};
+ghost use Rattle.wasm_operator_control.specs.Fast.{Fast};
 
 use crate::not_taken::NotTaken;
 use crate::peeks::peek_takes;
 use std::alloc::Allocator;
-use wasm_operator_control::operator_checks::{OperatorError, Takes, ValTypes, exchange_types};
-use wasm_operator_control::operator_stacks::Stacks;
-use wasm_operator_control::validator_resources::WasmModuleResources;
+use wasm_operator_numbers::operator_checks::{OperatorError, Takes, ValTypes, exchange_types};
+use wasm_operator_numbers::operator_stacks::Stacks;
+use wasm_operator_numbers::validator_resources::WasmModuleResources;
 
-/// Takes operands of some types, and gives others.
+/// Takes operands that are known to be of some types, and gives others. Where they aren't known to be,
+/// all stays.
 #[inline(always)]
 #[tactic(auto, using(crate::proofs::Cited::exchanges), unfolding(crate::specs::Fast::Fast))]
-pub(crate) fn plain<'a, A: Allocator, T: WasmModuleResources>(
+pub fn exchange_known<'a, A: Allocator, T: WasmModuleResources>(
     stacks: &mut Stacks<A>,
     resources: &T,
     takes: Takes<'a>,
@@ -40,7 +41,7 @@ pub(crate) fn plain<'a, A: Allocator, T: WasmModuleResources>(
 /// A step of the general way as a fast one: where the operator is refused it is left to that way.
 #[inline(always)]
 #[tactic(auto, unfolding(crate::specs::Fast::Fast, crate::proofs::Cited::Took))]
-pub(crate) fn as_fast(step: Result<(), OperatorError>) -> Result<(), NotTaken>
+pub fn as_fast(step: Result<(), OperatorError>) -> Result<(), NotTaken>
     ensures { (o : Option (State UnpackedIndex)) (old new : State UnpackedIndex)
         → Took step o old new → Fast result o old new }
 {

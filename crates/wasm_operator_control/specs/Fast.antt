@@ -1,14 +1,14 @@
 -- The words for fast steps.
 use Rattle.std.specs.Prelude.{◌≡◌, ◌≤◌, ℕ, length, Option, Some, Result, Ok, Err, ⊤}
-use Rattle.wasm_operator_control.specs.WasmOperatorChecks.WasmSpecRules.Contexts.{Context}
+use Rattle.wasm_operator_numbers.specs.WasmOperatorChecks.WasmSpecRules.Contexts.{Context}
 use Rattle.wasm_readers_types.specs.WasmReadersValues.declared.indices.UnpackedIndex.{UnpackedIndex}
-use Rattle.wasm_operator_control.specs.WasmOperatorChecks.WasmOperatorSteps.Machine.{State}
-use Rattle.wasm_operator_control.specs.WasmOperatorChecks.WasmOperatorSteps.Shapes.{Shape}
-use Rattle.wasm_operator_control.specs.WasmOperatorChecks.WasmOperatorSteps.Steps.{actions_of}
-use Rattle.wasm_operator_control.specs.WasmOperatorChecks.WasmOperatorStacks.Seen.{state_of, below}
-use Rattle.wasm_operator_control.specs.WasmOperatorChecks.WasmOperatorStacks.declared.stacks.Stacks.{Stacks}
-use Rattle.wasm_operator_control.specs.WasmOperatorChecks.Steps.{acted}
-use Rattle.wasm_operator_fast.specs.declared.not_taken.NotTaken.{NotTaken}
+use Rattle.wasm_operator_numbers.specs.WasmOperatorChecks.WasmOperatorSteps.Machine.{State}
+use Rattle.wasm_operator_numbers.specs.WasmOperatorChecks.WasmOperatorSteps.Shapes.{Shape}
+use Rattle.wasm_operator_numbers.specs.WasmOperatorChecks.WasmOperatorSteps.Steps.{actions_of}
+use Rattle.wasm_operator_numbers.specs.WasmOperatorChecks.WasmOperatorStacks.Seen.{state_of, below}
+use Rattle.wasm_operator_numbers.specs.WasmOperatorChecks.WasmOperatorStacks.declared.stacks.Stacks.{Stacks}
+use Rattle.wasm_operator_numbers.specs.WasmOperatorChecks.Steps.{acted}
+use Rattle.wasm_operator_control.specs.declared.not_taken.NotTaken.{NotTaken}
 
 -- operands that were looked for, and how many they are
 abbrev pub Peeked : Result ℕ NotTaken → Option (State UnpackedIndex) → State UnpackedIndex → Type 0

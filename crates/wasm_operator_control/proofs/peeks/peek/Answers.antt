@@ -1,7 +1,7 @@
 use Rattle.std.proofs.Common.{arith, refl, sym}
-use Rattle.wasm_operator_control.specs.WasmOperatorChecks.WasmOperatorStacks.SeenTypeWords.{val_in}
-use Rattle.wasm_operator_fast.proofs.Peeking.{peeked, found_there}
-use Rattle.wasm_operator_fast.proofs.peeks.peek.Goals as goal
+use Rattle.wasm_operator_numbers.specs.WasmOperatorChecks.WasmOperatorStacks.SeenTypeWords.{val_in}
+use Rattle.wasm_operator_control.proofs.Peeking.{peeked, found_there}
+use Rattle.wasm_operator_control.proofs.peeks.peek.Goals as goal
 
 pub returns-clause-popped : goal.returns-clause-popped
 returns-clause-popped g c =
