@@ -10,8 +10,8 @@ pub use validator::Validator;
 pub use wasm_validator_states::sections::validator_core::{Error, Module};
 pub use wasm_validator_states::sections::validator_core_resources::ValidatorResources;
 pub use wasm_validator_states::sections::{
-    CodeState, Constants, MAX_FUNCTION_SIZE, MaybeOwned, ModuleState, operator_validator,
-    operators, validator_core, validator_func,
+    CodeState, Constants, MAX_FUNCTION_SIZE, ModuleState, operator_validator, operators,
+    validator_core, validator_func,
 };
 pub use wasm_validator_states::types::{
     CoreExports, CoreImports, EntityType, IndexSpaces, InternRecGroup, LinkCount,
@@ -21,8 +21,8 @@ pub use wasm_validator_states::types::{
     check_descriptors, check_subtype, func_signature_matches, intern_rec_group_of,
 };
 pub use wasm_validator_states::{
-    one_id_for_one_type, own_id_for_each_type, payloads_decide, refused_modules_keep_types,
-    sections_add_their_items, state_table,
+    MaybeOwned, one_id_for_one_type, own_id_for_each_type, payloads_decide,
+    refused_modules_keep_types, sections_add_their_items, state_table,
 };
 
 /// Passed on from `wasm_readers`, `wasm_items` and `wasm_parser`.

@@ -7,10 +7,6 @@ pub use Rattle.wasm_validator_func.specs as WasmValidatorFunc
 pub use Rattle.wasm_laws_modules.specs as WasmLawsModules
 pub use Rattle.wasm_validator_items.specs.Entries
 pub use Rattle.wasm_validator_items.specs.Sections
-pub mod Held
-pub mod Seen
-pub mod LendsHeld
-pub mod LendsInner
 pub mod Bodies
 pub mod Singles
 pub mod Machine

@@ -4,7 +4,6 @@
 
 mod code;
 pub mod code_state;
-mod maybe_owned;
 mod module_sections;
 pub mod module_state;
 mod plain_items;
@@ -12,7 +11,6 @@ mod single_items;
 
 pub use code::{handed_out, started};
 pub use code_state::{CodeState, MAX_FUNCTION_SIZE};
-pub use maybe_owned::MaybeOwned;
 pub use module_sections::{
     add_functions, add_imports, add_memories, add_tags, add_types, check_data_segments,
     take_elements, take_exports, take_globals, take_tables,

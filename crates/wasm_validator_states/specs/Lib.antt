@@ -5,6 +5,10 @@ pub use Rattle.wasm_validator_types.specs as WasmValidatorTypes
 pub use Rattle.wasm_validator_canonical.specs as WasmValidatorCanonical
 pub use Rattle.wasm_validator_sections.specs as WasmValidatorSections
 pub use Rattle.wasm_validator_sections.specs.WasmValidatorCore as WasmValidatorCore
+pub mod Held
+pub mod Seen
+pub mod LendsHeld
+pub mod LendsInner
 pub mod Standing
 pub mod States
 pub mod Shows

@@ -7,10 +7,14 @@
 //! (Core Specification 3.0, Validation, Modules).
 #![tactic(auto)]
 
+mod maybe_owned;
+
 ghost use Rattle.wasm_validator_states.specs.Driven.{PayloadsDecide};
 ghost use Rattle.wasm_validator_states.specs.Sequences.{OneIdForOneType, OwnIdForEachType, RefusedKeepTypes};
 ghost use Rattle.wasm_validator_states.specs.SectionLaws.{TypesAdd, ImportsAdd, FunctionsAdd, TablesAdd, MemoriesAdd, TagsAdd, GlobalsAdd, ExportsAdd, ElementsAdd, SegmentsAdd};
 ghost use Rattle.wasm_validator_states.specs.Table.{AcceptedByTable, RefusedByTable};
+
+pub use maybe_owned::MaybeOwned;
 
 /// A payload that is accepted leads a validator where the state table says, and one that is
 /// refused, for its content or for want of memory, leaves it where the table says.
@@ -74,10 +78,10 @@ pub mod parser {
 /// Passed on from `wasm_validator_sections`.
 pub mod sections {
     pub use wasm_validator_sections::{
-        CodeState, Constants, MAX_FUNCTION_SIZE, MaybeOwned, ModuleState, add_functions,
-        add_imports, add_memories, add_tags, add_types, check_data_segments, handed_out,
-        operator_validator, operators, started, take_elements, take_exports, take_globals,
-        take_tables, tells_types_apart, validator_core, validator_core_resources, validator_func,
+        CodeState, Constants, MAX_FUNCTION_SIZE, ModuleState, add_functions, add_imports,
+        add_memories, add_tags, add_types, check_data_segments, handed_out, operator_validator,
+        operators, started, take_elements, take_exports, take_globals, take_tables,
+        tells_types_apart, validator_core, validator_core_resources, validator_func,
     };
 }
 

@@ -3,8 +3,8 @@ use Rattle.std.specs.Prelude.{◌≡◌, Option, Result, MatchResult, ⊤}
 use Rattle.std.specs.Borrow.{Lends, LendsIf, MutBor, Fml, RattleType, follows_so}
 use Rattle.std.specs.declared.alloc.Allocator.{Ghosts}
 use mathlib.Core.Option.{none}
-use Rattle.wasm_validator_sections.specs.Held.{Held, owned, shared, value_of}
-use Rattle.wasm_validator_sections.specs.contracts.maybe_owned.MaybeOwned.{the_row}
+use Rattle.wasm_validator_states.specs.Held.{Held, owned, shared, value_of}
+use Rattle.wasm_validator_states.specs.contracts.maybe_owned.MaybeOwned.{the_row}
 
 module _ (T A : RattleType) (alloc : Ghosts A.Denot) (s : MutBor (Held T.Denot)) where
   -- once the borrow r ends, the value is owned and the last one written through r

@@ -2,9 +2,9 @@
 use Rattle.std.specs.Prelude.{Option}
 use Rattle.std.specs.Borrow.{Lends, LendsIf, MutBor, Fml, RattleType}
 use Rattle.std.specs.declared.alloc.Allocator.{Ghosts}
-use Rattle.wasm_validator_sections.specs.declared.maybe_owned.Inner.{Inner}
-use Rattle.wasm_validator_sections.specs.declared.maybe_owned.Inner.TheVariants.{Owned}
-use Rattle.wasm_validator_sections.specs.contracts.maybe_owned.Inner.{the_row}
+use Rattle.wasm_validator_states.specs.declared.maybe_owned.Inner.{Inner}
+use Rattle.wasm_validator_states.specs.declared.maybe_owned.Inner.TheVariants.{Owned}
+use Rattle.wasm_validator_states.specs.contracts.maybe_owned.Inner.{the_row}
 
 module _ (T A : RattleType) (alloc : Ghosts A.Denot) (s : MutBor (Inner T.Denot A.Denot)) where
   -- once the borrow r ends, it owns the last value written through r
