@@ -5,9 +5,7 @@ use Rattle.wasm_spec.specs.Syntax.{Sub, Rec}
 use Rattle.wasm_spec.specs.BinaryTypes.{sub_at, rec_from, rec_at}
 use Rattle.wasm_spec.specs.Values.{byte_at, list_at}
 use Rattle.wasm_spec_rules.proofs.Tests.{map_some, then_some}
-use Rattle.wasm_readers.specs.Sections.{next_item}
 use Rattle.wasm_validator_items.specs.WasmValidatorCore.WasmValidatorCanonical.Groups.{has_form}
-use Rattle.wasm_validator_sections.proofs.ItemSteps.{item_read}
 
 module _ {R : Type 0} where
   -- a group of many types, or of one
@@ -28,5 +26,5 @@ module _ {R : Type 0} where
         let a = then_some (λ (b : ℕ × List ℕ). rec_from index b.0 b.1 bytes) (byte_at bytes) x e in
         formed_in (eqb a.0.0 0x4e) (list_at (sub_at index) a.0.1) (sub_at index bytes) x a.2
 
-    pub item_formed : (left n : ℕ) (bytes after : List ℕ) (g : Rec R) → next_item (rec_at index) left bytes ≡ Some (Some (g, (n, after))) → has_form g ≡ true
-    item_formed left n bytes after g e = formed bytes (g, after) (item_read (rec_at index) left n bytes after g e)
+    pub is_formed : (bytes after : List ℕ) (g : Rec R) → rec_at index bytes ≡ Some (g, after) → has_form g ≡ true
+    is_formed bytes after g e = formed bytes (g, after) e

@@ -4,10 +4,11 @@ pub use Rattle.wasm_validator_items.proofs.WasmValidatorCore.WasmValidatorChecks
 pub use Rattle.wasm_laws_modules.proofs.WasmLawsCore as WasmLawsCore
 pub use Rattle.wasm_laws_modules.proofs.WasmLawsContexts as WasmLawsContexts
 pub use Rattle.wasm_laws_modules.proofs as WasmLawsModules
+pub mod Cited
 pub mod Singles
 pub mod ItemSteps
-pub mod SectionsTold
 pub mod ConstantSections
+pub mod PlainSections
 pub mod Forms
 pub mod Reading
 pub mod SectionEntries

@@ -7,6 +7,7 @@ pub mod code_state;
 mod maybe_owned;
 mod module_sections;
 pub mod module_state;
+mod plain_items;
 mod single_items;
 
 pub use code::{handed_out, started};

@@ -3,9 +3,7 @@
 ghost use Rattle.std.specs.Prelude.{◌≡◌, OnOk, IfErr, IsTrue};
 ghost use Rattle.wasm_spec_rules.specs.FeatureFlags.{features_of};
 ghost use Rattle.wasm_readers.specs.SectionsSeen.{count_of, bytes_of, section_start, section_end};
-ghost use Rattle.wasm_spec_rules.specs.LinkRules.{exported_functions};
-ghost use Rattle.wasm_readers.specs.Items.{export_of};
-ghost use Rattle.wasm_validator_items.specs.WasmValidatorReferences.References.{marked, names_of_tables, names_of_globals, names_of_exports, names_of_elements};
+ghost use Rattle.wasm_validator_items.specs.WasmValidatorReferences.References.{names_of_tables, names_of_globals, names_of_exports, names_of_elements};
 ghost use Rattle.wasm_validator_sections.specs.Noted.{naming, noted_of};
 ghost use Rattle.wasm_validator_type_list.specs.DefTypes.{types_of_list};
 ghost use Rattle.wasm_validator_items.specs.WasmValidatorCore.WasmValidatorCanonical.Groups.{AreValid};
@@ -15,21 +13,19 @@ ghost use Rattle.wasm_validator_items.specs.WasmValidatorCoreResources.ById.{Are
 ghost use Rattle.wasm_validator_sections.specs.Machine.{type_items, import_items, function_items, table_items, memory_items, tag_items, global_items, export_items, element_items, data_items};
 ghost use Rattle.wasm_validator_sections.specs.SectionsTold.{OfContent, StandsBetween, TellsTypes, TellsImports, TellsFunctions, TellsTables, TellsMemories, TellsTags, TellsGlobals, TellsExports, TellsElements, TellsData};
 
+use crate::plain_items::{
+    ExportItems, FunctionItems, GroupItems, ImportItems, MemoryItems, TagItems,
+};
 use crate::{Constants, ModuleState, tells_types_apart};
-use std::alloc::{AllocError, Allocator};
+use std::alloc::Allocator;
 use wasm_parser::items::{Data, Element, Global, Table};
-use wasm_readers::{
-    Counted, Export, ExternalKind, Import, MemoryType, RecGroup, SectionLimited, TagType,
-    WasmFeatures,
-};
-use wasm_validator_items::references::ReferencedFunctions;
-use wasm_validator_items::validator_core::{
-    Error, MAX_EXPORTS, MAX_FUNCTIONS, MAX_IMPORTS, MAX_TAGS, MAX_TYPES, Module, check_max,
-};
+use wasm_readers::{Export, Import, MemoryType, RecGroup, SectionLimited, TagType, WasmFeatures};
+use wasm_validator_items::validator_core::{Error, Module};
 use wasm_validator_items::{DataItems, ElementItems, GlobalItems, TableItems, add_items};
 use wasm_validator_types::{IndexSpaces, TypeList};
 
 /// Adds the types of a type section.
+#[tactic(auto, using(crate::proofs::PlainSections::added_where))]
 pub fn add_types<'a, A: Allocator + Copy>(
     features: WasmFeatures,
     alloc: A,
@@ -51,24 +47,17 @@ pub fn add_types<'a, A: Allocator + Copy>(
     ensures told { IfErr result (OfContent (TellsTypes features section.now
         (types_of_list list.old) opened.old)) }
 {
-    check_max(
-        opened.spaces().type_count() as usize,
-        section.count() as usize,
-        MAX_TYPES,
-        Counted::Types,
-        section.range().start,
-    )?;
-    let mut groups = section.items();
-    'groups: while let Some((offset, group)) = groups.read_next()? {
-        match opened.add_types(features, alloc, list, group, offset) {
-            Ok(()) => {}
-            Err(error) => return Err(error),
-        }
-    }
-    Ok(())
+    let mut kind = GroupItems {
+        features,
+        alloc: &alloc,
+        list,
+        opened,
+    };
+    add_items(&mut kind, section)
 }
 
 /// Adds the imports of an import section.
+#[tactic(auto, using(crate::proofs::Cited::adds_items))]
 pub fn add_imports<'a, A: Allocator + Copy>(
     features: WasmFeatures,
     list: &TypeList<A>,
@@ -84,21 +73,16 @@ pub fn add_imports<'a, A: Allocator + Copy>(
     ensures told { IfErr result (OfContent (TellsImports features section.now
         (types_of_list list.now) opened.old)) }
 {
-    check_max(
-        opened.spaces().import_count(),
-        section.count() as usize,
-        MAX_IMPORTS,
-        Counted::Imports,
-        section.range().start,
-    )?;
-    let mut imports = section.items();
-    'imports: while let Some((offset, import)) = imports.read_next()? {
-        opened.add_import(features, list, &import, offset)?;
-    }
-    Ok(())
+    let mut kind = ImportItems {
+        features,
+        list,
+        opened,
+    };
+    add_items(&mut kind, section)
 }
 
 /// Adds the functions of a function section.
+#[tactic(auto, using(crate::proofs::Cited::adds_items))]
 pub fn add_functions<A: Allocator + Copy>(
     list: &TypeList<A>,
     opened: &mut Module<A>,
@@ -113,21 +97,12 @@ pub fn add_functions<A: Allocator + Copy>(
     ensures told { IfErr result (OfContent (TellsFunctions section.now
         (types_of_list list.now) opened.old)) }
 {
-    check_max(
-        opened.spaces().function_count() as usize,
-        section.count() as usize,
-        MAX_FUNCTIONS,
-        Counted::Functions,
-        section.range().start,
-    )?;
-    let mut functions = section.items();
-    'functions: while let Some((offset, type_index)) = functions.read_next()? {
-        opened.add_function(list, type_index, offset)?;
-    }
-    Ok(())
+    let mut kind = FunctionItems { list, opened };
+    add_items(&mut kind, section)
 }
 
 /// Adds the memories of a memory section.
+#[tactic(auto, using(crate::proofs::Cited::adds_items))]
 pub fn add_memories<A: Allocator + Copy>(
     features: WasmFeatures,
     opened: &mut Module<A>,
@@ -140,21 +115,12 @@ pub fn add_memories<A: Allocator + Copy>(
         (section_end section.now)) }
     ensures told { IfErr result (OfContent (TellsMemories section.now features opened.old)) }
 {
-    check_max(
-        opened.spaces().memory_count() as usize,
-        section.count() as usize,
-        opened.max_memories(features),
-        Counted::Memories,
-        section.range().start,
-    )?;
-    let mut memories = section.items();
-    'memories: while let Some((offset, ty)) = memories.read_next()? {
-        opened.add_memory(features, ty, offset)?;
-    }
-    Ok(())
+    let mut kind = MemoryItems { features, opened };
+    add_items(&mut kind, section)
 }
 
 /// Adds the tags of a tag section, where the exceptions proposal is on.
+#[tactic(auto, using(crate::proofs::PlainSections::added_if))]
 pub fn add_tags<A: Allocator + Copy>(
     features: WasmFeatures,
     list: &TypeList<A>,
@@ -171,18 +137,12 @@ pub fn add_tags<A: Allocator + Copy>(
     ensures told { IfErr result (OfContent (TellsTags features section.now
         (types_of_list list.now) opened.old)) }
 {
-    check_max(
-        opened.spaces().tag_count() as usize,
-        section.count() as usize,
-        MAX_TAGS,
-        Counted::Tags,
-        section.range().start,
-    )?;
-    let mut tags = section.items();
-    'tags: while let Some((offset, ty)) = tags.read_next()? {
-        opened.add_tag(features, list, ty, offset)?;
-    }
-    Ok(())
+    let mut kind = TagItems {
+        features,
+        list,
+        opened,
+    };
+    add_items(&mut kind, section)
 }
 
 /// Checks the data segments of a data section, which change nothing in the module.
@@ -316,20 +276,6 @@ pub fn take_elements<'a, A: Allocator + Copy>(
     add_items(&mut kind, section)
 }
 
-/// Notes the function that is exported, if it is a function.
-fn note_export<A: Allocator + Copy>(
-    referenced: &mut ReferencedFunctions<A>,
-    export: &Export<'_>,
-) -> Result<(), AllocError>
-    ensures { OnOk result (referenced.new
-        ≡ marked (exported_functions (export_of export.now)) referenced.old) }
-{
-    match export.kind {
-        ExternalKind::Func => referenced.mark(export.index),
-        _ => Ok(()),
-    }
-}
-
 /// Adds the exports of an export section, and notes the functions that they name.
 pub fn take_exports<'a, A: Allocator + Copy>(
     features: WasmFeatures,
@@ -349,19 +295,12 @@ pub fn take_exports<'a, A: Allocator + Copy>(
     ensures told { IfErr result (OfContent (TellsExports features section.now
         (types_of_list list.now) state.old.«module»)) }
 {
-    check_max(
-        state.module.spaces().export_count(),
-        section.count() as usize,
-        MAX_EXPORTS,
-        Counted::Exports,
-        section.range().start,
-    )?;
-    let mut exports = section.items();
-    'exports: while let Some((offset, export)) = exports.read_next()? {
-        state
-            .module
-            .add_export(features, alloc, list, &export, offset)?;
-        note_export(&mut state.referenced, &export)?;
-    }
-    Ok(())
+    let mut kind = ExportItems {
+        features,
+        alloc: &alloc,
+        list,
+        opened: &mut state.module,
+        referenced: &mut state.referenced,
+    };
+    add_items(&mut kind, section)
 }

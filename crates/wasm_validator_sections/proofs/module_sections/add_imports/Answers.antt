@@ -1,89 +1,19 @@
-use Rattle.std.proofs.Common.{◌≡◌, sym, subst, ◌∙◌, ℕ, ◌+◌, ◌≤◌, true, false, leb, length, arith}
-use Rattle.wasm_readers_bytes.specs.Reader.{input, position_in}
-use Rattle.wasm_spec.specs.BinaryModules.{Import, import_at}
-use Rattle.wasm_readers.specs.Written.{written}
-use Rattle.wasm_readers_types.specs.WasmReadersValues.declared.indices.UnpackedIndex.{UnpackedIndex}
+use Rattle.std.proofs.Common.{length}
+use Rattle.wasm_spec.specs.BinaryModules.{import_at}
 use Rattle.wasm_spec_rules.specs.FeatureFlags.{features_of}
-use Rattle.wasm_validator_items.specs.WasmValidatorCore.declared.limits.TheConstants.{MAX_IMPORTS}
-use Rattle.wasm_readers.specs.SectionsSeen.{count_of, bytes_of, section_start, section_end, items_left, items_rest}
-use Rattle.wasm_readers.specs.Items.{import_of}
-use Rattle.wasm_validator_items.specs.WasmValidatorCore.Items.{add_import}
-use Rattle.wasm_validator_items.specs.WasmValidatorCore.Told.{told_of_import}
+use Rattle.wasm_readers.specs.Written.{written}
+use Rattle.wasm_readers.specs.SectionsSeen.{count_of, bytes_of, section_start, section_end}
 use Rattle.wasm_readers_errors.specs.declared.error.Counted.TheVariants as counted
 use Rattle.wasm_validator_type_list.specs.DefTypes.{types_of_list}
-use Rattle.wasm_validator_types.specs.Spaces.{Spaces}
-use Rattle.wasm_validator_items.specs.WasmValidatorCore.declared.error.Error.{Error}
-use Rattle.wasm_validator_items.specs.WasmValidatorCore.declared.error.Error.TheVariants.{Refused}
-use Rattle.wasm_validator_items.specs.WasmValidatorCore.Errors.{lifted}
-use Rattle.wasm_validator_items.specs.WasmValidatorCore.Ready.{AreHeld}
-use Rattle.wasm_validator_sections.specs.SectionsTold.{TellsEach, TellsCount, IsNone, OfContent, tells_import}
-use Rattle.wasm_validator_sections.proofs.ItemSteps.{read_each-step}
-use Rattle.wasm_validator_sections.proofs.SectionsTold.{told_onward, unread_told, refused_told, over_told, err_as, items_here, same_end, item_told}
+use Rattle.wasm_validator_items.specs.WasmValidatorCore.Items.{add_import}
+use Rattle.wasm_validator_items.specs.WasmValidatorCore.declared.limits.TheConstants.{MAX_IMPORTS}
+use Rattle.wasm_validator_items.proofs.Adding.{section_told}
+use Rattle.wasm_validator_sections.specs.SectionsTold.{IsNone, tells_import}
 use Rattle.wasm_validator_sections.proofs.module_sections.add_imports.Goals as goal
 
-pub returns-in_err-check_max-clause-told : goal.returns-in_err-check_max-clause-told
-returns-in_err-check_max-clause-told g c =
-    let over : leb (length c.args.opened.now.imports + count_of c.args.section.now) MAX_IMPORTS ≡ false = cc (c.in_err-check_max.ensures.fits, c.import_count.ensures, c.count.ensures, c.spaces.ensures) in
-    err_as c.from_residual.result (Refused c.in_err-check_max.field-0.0) (OfContent (λ (w : Error g.row.A.Denot). TellsCount counted.Imports (length c.args.opened.now.imports) MAX_IMPORTS (section_start c.args.section.now) (count_of c.args.section.now) w ((λ (w : Error g.row.A.Denot). TellsEach (import_at written) (add_import (features_of c.args.features) (types_of_list c.args.list.now)) IsNone (tells_import c.args.features (types_of_list c.args.list.now)) (section_end c.args.section.now) w (count_of c.args.section.now) (bytes_of c.args.section.now) c.args.opened.now) w))) c.from_residual.ensures.1
-    (over_told counted.Imports (length c.args.opened.now.imports) MAX_IMPORTS (section_start c.args.section.now) (count_of c.args.section.now) (λ (w : Error g.row.A.Denot). TellsEach (import_at written) (add_import (features_of c.args.features) (types_of_list c.args.list.now)) IsNone (tells_import c.args.features (types_of_list c.args.list.now)) (section_end c.args.section.now) w (count_of c.args.section.now) (bytes_of c.args.section.now) c.args.opened.now) c.in_err-check_max.field-0.0 over (cc (c.in_err-check_max.ensures.refusal, c.range.ensures.start)))
-
-pub returns-in_err-offset-clause-told : goal.returns-in_err-offset-clause-told
-returns-in_err-offset-clause-told g c =
-    let encoded = (import_at written) in
-    let add = (add_import (features_of c.args.features) (types_of_list c.args.list.now)) in
-    let tells : ℕ → Spaces → Import UnpackedIndex → Error g.row.A.Denot → Type 0 = (tells_import c.args.features (types_of_list c.args.list.now)) in
-    let stop = section_end c.args.section.now in
-    let left = items_left c.imports.imports in
-    let rest = items_rest c.imports.imports in
-    let n = items_left c.read_next.new.self in
-    let after = items_rest c.read_next.new.self in
-    let few : leb (length c.args.opened.now.imports + count_of c.args.section.now) MAX_IMPORTS ≡ true = cc (c.in_ok-check_max.ensures.fits, c.import_count.ensures, c.count.ensures, c.spaces.ensures) in
-    let within : position_in c.imports.imports.reader ≤ length (input c.imports.imports.reader) = omega arith in
-    let here = items_here c.imports.imports within in
-    let end = c.imports.invariant.3 in
-    err_as c.from_residual-in_err-offset.result (lifted c.in_err-offset.field-0.0) (OfContent (λ (w : Error g.row.A.Denot). TellsCount counted.Imports (length c.args.opened.now.imports) MAX_IMPORTS (section_start c.args.section.now) (count_of c.args.section.now) w ((λ (w : Error g.row.A.Denot). TellsEach (import_at written) (add_import (features_of c.args.features) (types_of_list c.args.list.now)) IsNone (tells_import c.args.features (types_of_list c.args.list.now)) (section_end c.args.section.now) w (count_of c.args.section.now) (bytes_of c.args.section.now) c.args.opened.now) w))) c.from_residual-in_err-offset.ensures.1
-    (unread_told encoded add IsNone tells stop counted.Imports (length c.args.opened.now.imports) MAX_IMPORTS (section_start c.args.section.now) (count_of c.args.section.now) (bytes_of c.args.section.now) c.args.opened.now few left n rest after c.imports.opened import_of c.imports.imports.reader c.in_err-offset.field-0.0
-    c.imports.invariant.5 c.in_err-offset.ensures.reads c.in_err-offset.ensures.failure (here ∙ end) end)
-
-pub imports-preserved : goal.imports-preserved
-imports-preserved g c =
-    let encoded = (import_at written) in
-    let add = (add_import (features_of c.args.features) (types_of_list c.args.list.now)) in
-    let tells : ℕ → Spaces → Import UnpackedIndex → Error g.row.A.Denot → Type 0 = (tells_import c.args.features (types_of_list c.args.list.now)) in
-    let stop = section_end c.args.section.now in
-    let left = items_left c.imports.imports in
-    let rest = items_rest c.imports.imports in
-    let n = items_left c.read_next.new.self in
-    let after = items_rest c.read_next.new.self in
-    let value = import_of c.in-Some.import in
-    let reads = rw c.in-Some.is at c.in_ok-offset.ensures.reads in
-    let same = c.in_ok-offset.ensures.same in
-    let start = c.imports.invariant.4 in (
-      read_each-step encoded add left n rest after value c.imports.opened c.add_import.new.self reads c.in_ok-add_import.ensures.added ∙ c.imports.invariant.0,
-      c.add_import.ensures.types ∙ c.imports.invariant.1,
-      subst (AreHeld c.args.list.now) (sym c.add_import.ensures.types) c.imports.invariant.2,
-      same_end c.imports.imports c.read_next.new.self same ∙ c.imports.invariant.3,
-      omega (arith, start, same.1),
-      told_onward encoded add IsNone tells stop left n rest after value c.imports.opened c.add_import.new.self (count_of c.args.section.now) (bytes_of c.args.section.now) c.args.opened.now reads c.in_ok-add_import.ensures.added c.imports.invariant.5,
-    )
-
-pub returns-in_err-add_import-clause-told : goal.returns-in_err-add_import-clause-told
-returns-in_err-add_import-clause-told g c =
-    let encoded = (import_at written) in
-    let add = (add_import (features_of c.args.features) (types_of_list c.args.list.now)) in
-    let tells : ℕ → Spaces → Import UnpackedIndex → Error g.row.A.Denot → Type 0 = (tells_import c.args.features (types_of_list c.args.list.now)) in
-    let stop = section_end c.args.section.now in
-    let left = items_left c.imports.imports in
-    let rest = items_rest c.imports.imports in
-    let n = items_left c.read_next.new.self in
-    let after = items_rest c.read_next.new.self in
-    let value = import_of c.in-Some.import in
-    let reads = rw c.in-Some.is at c.in_ok-offset.ensures.reads in
-    let at = rw c.in-Some.is at c.in_ok-offset.ensures.position in
-    let few : leb (length c.args.opened.now.imports + count_of c.args.section.now) MAX_IMPORTS ≡ true = cc (c.in_ok-check_max.ensures.fits, c.import_count.ensures, c.count.ensures, c.spaces.ensures) in
-    let within : position_in c.imports.imports.reader ≤ length (input c.imports.imports.reader) = omega arith in
-    let here = items_here c.imports.imports within in
-    let end = c.imports.invariant.3 in
-    err_as c.from_residual-in_err-add_import.result c.in_err-add_import.field-0.0 (OfContent (λ (w : Error g.row.A.Denot). TellsCount counted.Imports (length c.args.opened.now.imports) MAX_IMPORTS (section_start c.args.section.now) (count_of c.args.section.now) w ((λ (w : Error g.row.A.Denot). TellsEach (import_at written) (add_import (features_of c.args.features) (types_of_list c.args.list.now)) IsNone (tells_import c.args.features (types_of_list c.args.list.now)) (section_end c.args.section.now) w (count_of c.args.section.now) (bytes_of c.args.section.now) c.args.opened.now) w))) c.from_residual-in_err-add_import.ensures.1
-    (refused_told encoded add IsNone tells stop counted.Imports (length c.args.opened.now.imports) MAX_IMPORTS (section_start c.args.section.now) (count_of c.args.section.now) (bytes_of c.args.section.now) c.args.opened.now few left n rest after value c.imports.opened c.in-Some.offset c.in_err-add_import.field-0.0
-    c.imports.invariant.5 reads (omega (arith, at, here, end)) (item_told c.in_err-add_import.field-0.0 (add c.imports.opened value) c.add_import.new.self c.in-Some.offset (told_of_import c.args.features c.in-Some.offset (types_of_list c.args.list.now) c.imports.opened value) c.in_err-add_import.ensures.added c.in_err-add_import.ensures.told c.in_err-add_import.ensures.place))
+pub returns-clause-told : goal.returns-clause-told
+returns-clause-told g c =
+    let section = c.args.section.now in
+    let s = c.args.opened.now in
+    section_told c.add_items.result counted.Imports (length s.imports) MAX_IMPORTS (section_start section) (section_end section) (count_of section) (bytes_of section)
+    (import_at written) (add_import (features_of c.args.features) (types_of_list c.args.list.now)) IsNone (tells_import c.args.features (types_of_list c.args.list.now)) s c.add_items.ensures.told
