@@ -19,9 +19,9 @@ ghost use Rattle.wasm_validator_sections.specs.Singles.{next_table, next_global,
 use crate::single_items;
 use std::alloc::{Allocator, Global};
 use wasm_readers::{BinaryReader, TableType, WasmFeatures};
-use wasm_validator_items::Constants;
 use wasm_validator_items::references::ReferencedFunctions;
 use wasm_validator_items::validator_core::{Error, Module};
+use wasm_validator_items::{Constants, check_next_data, tells_types_apart};
 use wasm_validator_types::TypeList;
 
 /// A module while its sections are read.
@@ -237,6 +237,16 @@ impl<A: Allocator + Copy> ModuleState<A> {
         ensures onward { position_in reader.old ≤ position_in reader.new }
         ensures place { IfErr result (StandsBehind reader.old) }
     {
-        single_items::check_data(features, list, constants, &self.module, reader)
+        tells_types_apart(list);
+        constants.update(list)?;
+        let spaces = self.module.spaces();
+        check_next_data(
+            features,
+            list,
+            &constants.types,
+            &mut constants.memory,
+            spaces,
+            reader,
+        )
     }
 }

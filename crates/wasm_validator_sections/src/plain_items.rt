@@ -93,11 +93,7 @@ impl<A: Allocator + Copy> SectionItem<A> for GroupItems<'_, A> {
 }
 
 /// An import, as it is written (Core Specification 3.0, Binary Format, Modules, Import Section). Its
-/// names are borrowed, so that it takes no memory.
-///
-/// # Errors
-///
-/// Refused where the bytes encode none, at a byte offset from the start of the input.
+/// names are borrowed, so that it takes no memory. Refused where the bytes encode none.
 #[tactic(auto, unfolding(crate::proofs::Cited::import_at))]
 fn read_import<'a>(reader: &mut BinaryReader<'a>) -> Result<Import<'a>, Refusal>
     ensures same { SameInput reader.old reader.new }

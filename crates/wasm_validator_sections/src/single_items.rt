@@ -10,15 +10,14 @@ ghost use Rattle.wasm_validator_items.specs.WasmValidatorCore.Ready.{AreHeld};
 ghost use Rattle.wasm_validator_items.specs.WasmValidatorCoreResources.ById.{AreFirstByIds};
 ghost use Rattle.wasm_validator_items.specs.WasmValidatorReferences.References.{marked, names_of_table, names_of_global, names_of_element};
 ghost use Rattle.wasm_validator_items.specs.Answers.{StandsBehind};
-ghost use Rattle.wasm_validator_sections.specs.Singles.{next_table, next_global, next_element, next_data};
+ghost use Rattle.wasm_validator_sections.specs.Singles.{next_table, next_global, next_element};
 
 use std::alloc::Allocator;
 use wasm_readers::{BinaryReader, Counted, Refusal, WasmFeatures};
 use wasm_validator_items::references::ReferencedFunctions;
 use wasm_validator_items::validator_core::{Error, MAX_ELEMENT_SEGMENTS, Module, check_max};
 use wasm_validator_items::{
-    Constants, add_next_element, add_next_global, add_next_table, check_next_data,
-    tells_types_apart,
+    Constants, add_next_element, add_next_global, add_next_table, tells_types_apart,
 };
 use wasm_validator_types::TypeList;
 
@@ -137,36 +136,6 @@ pub(crate) fn add_element<'a, A: Allocator + Copy>(
         &mut constants.memory,
         opened,
         referenced,
-        reader,
-    )
-}
-
-/// Checks the data segment that the bytes begin with.
-pub(crate) fn check_data<'a, A: Allocator + Copy>(
-    features: WasmFeatures,
-    list: &TypeList<A>,
-    constants: &mut Constants<A>,
-    opened: &Module<A>,
-    reader: &mut BinaryReader<'a>,
-) -> Result<(), Error<A>>
-    requires held { AreHeld list.now opened.now.types }
-    requires first { AreFirstByIds list.now.groups constants.old.types }
-    ensures added { Adds result (next_data (features_of features) (types_of_list list.now)
-        opened.now (rest reader.old)) (opened.now, rest reader.new) }
-    ensures first { AreFirstByIds list.now.groups constants.new.types }
-    ensures input { SameInput reader.old reader.new }
-    ensures onward { position_in reader.old ≤ position_in reader.new }
-    ensures place { IfErr result (StandsBehind reader.old) }
-{
-    tells_types_apart(list);
-    constants.update(list)?;
-    let spaces = opened.spaces();
-    check_next_data(
-        features,
-        list,
-        &constants.types,
-        &mut constants.memory,
-        spaces,
         reader,
     )
 }
