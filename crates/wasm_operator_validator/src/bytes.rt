@@ -16,6 +16,31 @@ use wasm_readers::BinaryReader;
 use wasm_readers::readers_errors::Error;
 
 impl<A: Allocator> OperatorValidator<A> {
+    /// As [`OperatorValidator::frequent_op`], where nothing was refused.
+    ///
+    /// # Errors
+    ///
+    /// As [`OperatorValidator::frequent_op`].
+    #[inline(always)]
+    pub fn fast_op<'a, T: WasmModuleResources>(
+        &mut self,
+        resources: &T,
+        reader: &mut BinaryReader<'a>,
+    ) -> Result<(), NotTaken>
+        requires { self.old.failed ≡ false }
+        ensures took { OnOk result (stepped (T.context resources.now) self.old.stacks reader.old
+            ≡ Some (typed_state self.new, rest reader.new)) }
+        ensures unread { OnErr result (reader.new ≡ reader.old) }
+        ensures left { OnErr result (typed_state self.new ≡ typed_state self.old) }
+        ensures input { SameInput reader.old reader.new }
+        ensures further { OnOk result (position_in reader.old < position_in reader.new) }
+        ensures same { Kept self.old.stacks self.new.stacks }
+        ensures failed { self.new.failed ≡ false }
+    {
+        fast_step(reader, &mut self.stacks, resources)?;
+        Ok(())
+    }
+
     /// Reads the next operator and takes its step, where it is a frequent one, its operands are of
     /// known types and nothing was refused.
     ///
@@ -42,8 +67,7 @@ impl<A: Allocator> OperatorValidator<A> {
         if self.has_failed() {
             return Err(NotTaken::Left);
         }
-        fast_step(reader, &mut self.stacks, resources)?;
-        Ok(())
+        self.fast_op(resources, reader)
     }
 
     /// Reads the next operator, and takes its step: [`wasm_operators::read_operator`] and then

@@ -1,6 +1,7 @@
 //! The validator of operators.
 
 ghost use Rattle.std.specs.Prelude.{◌≡◌, ◌≤◌, ◌+◌, ◌++◌, [], true, false, not, ◌||◌, length, map, is_ok, IfErr, IfOk, OnOk, IsSome};
+ghost use Rattle.std.specs.Option.{option_map};
 ghost use Rattle.wasm_operator_blocks.specs.WasmOperatorChecks.WasmSpecRules.FeatureFlags.{features_of};
 ghost use Rattle.wasm_readers_types.specs.WasmReadersValues.SeenValues.{val_of};
 ghost use Rattle.wasm_operators.specs.SeenOperators.{operator_of};
@@ -36,7 +37,8 @@ pub struct OperatorValidator<A: Allocator = Global> {
 /// The memory of a validator of operators, to be handed on from one body to the next.
 #[derive(Drop)]
 pub struct OperatorValidatorAllocations<A: Allocator = Global> {
-    stacks: Stacks<A>,
+    /// The validator that had it last, whose state says nothing.
+    pub validator: OperatorValidator<A>,
 }
 
 /// The refusal by a rule.
@@ -51,7 +53,10 @@ impl<A: Allocator + Copy> OperatorValidatorAllocations<A> {
     /// No memory yet.
     pub fn new(alloc: A) -> OperatorValidatorAllocations<A> {
         OperatorValidatorAllocations {
-            stacks: Stacks::new(alloc, WasmFeatures::STANDARD, false),
+            validator: OperatorValidator {
+                stacks: Stacks::new(alloc, WasmFeatures::STANDARD, false),
+                failed: true,
+            },
         }
     }
 }
@@ -63,6 +68,30 @@ fn has_default_value(ty: ValType) -> bool
     match ty {
         ValType::Ref(ty) => ty.is_nullable(),
         ValType::I32 | ValType::I64 | ValType::F32 | ValType::F64 | ValType::V128 => true,
+    }
+}
+
+/// A type as it is written, by the identities that the module gives its types, if the features allow
+/// it and the module has it. An integer needs no look-up.
+#[inline(always)]
+fn resolve_type<T: WasmModuleResources>(
+    resources: &T,
+    features: WasmFeatures,
+    ty: ValType,
+) -> Option<ValType>
+    requires { IsWrittenVal (val_of ty) }
+    ensures { option_map val_of result ≡ val_in (T.context resources.now) (features_of features)
+        (val_of ty) }
+{
+    match ty {
+        ValType::I32 | ValType::I64 => Some(ty),
+        ValType::F32 | ValType::F64 | ValType::V128 | ValType::Ref(_) => {
+            let mut resolved = ty;
+            match resources.check_value_type(&mut resolved, &features, 0) {
+                Ok(()) => Some(resolved),
+                Err(_) => None,
+            }
+        }
     }
 }
 
@@ -98,12 +127,51 @@ impl<A: Allocator + Copy> OperatorValidator<A> {
 }
 
 impl<A: Allocator> OperatorValidator<A> {
+    /// Begins the body of a function of this type in place of what was validated before, in the same
+    /// memory.
+    ///
+    /// # Errors
+    ///
+    /// Refuses more than 50,000 parameters, and answers want of memory. The validator has then
+    /// failed.
+    #[tactic(auto, using(crate::proofs::Beginning::begins))]
+    pub fn begin_func<T: WasmModuleResources>(
+        &mut self,
+        type_index: u32,
+        features: WasmFeatures,
+        resources: &T,
+    ) -> Result<(), OperatorError>
+        requires { IsSome (function_in (T.context resources.now) type_index) }
+        ensures begins { OnOk result (BeginsBody self.new (T.context resources.now) type_index) }
+        ensures features { OnOk result (self.new.stacks.features ≡ features) }
+        ensures many { HasMany result (function_in (T.context resources.now) type_index) }
+        ensures failed { self.new.failed ≡ not (is_ok result) }
+    {
+        self.failed = true;
+        let sub = match resources.sub_type_at(type_index) {
+            Some(sub) => sub,
+            None => return Err(refuse(OperatorRule::UnknownType)),
+        };
+        let params = match &sub.composite_type.inner {
+            CompositeInnerType::Func(signature) => signature.params(),
+            _ => return Err(refuse(OperatorRule::NotAFunction)),
+        };
+        self.stacks.clear(features, sub.composite_type.shared);
+        if params.len() > MAX_LOCALS as usize {
+            return Err(refuse(OperatorRule::TooManyLocals));
+        }
+        define_parameters(&mut self.stacks.locals, params)?;
+        self.stacks
+            .open(FrameKind::Block, BlockWord::func(type_index))?;
+        self.failed = false;
+        Ok(())
+    }
+
     /// The start of the body of a function of this type, in memory that was used before.
     ///
     /// # Errors
     ///
     /// Refuses more than 50,000 parameters, and answers want of memory.
-    #[tactic(auto, using(crate::proofs::Beginning::begins))]
     pub fn new_func<T: WasmModuleResources>(
         type_index: u32,
         features: WasmFeatures,
@@ -115,25 +183,11 @@ impl<A: Allocator> OperatorValidator<A> {
         ensures features { IfOk result (λ v. v.stacks.features ≡ features) }
         ensures many { HasMany result (function_in (T.context resources.now) type_index) }
     {
-        let mut stacks = allocations.stacks;
-        let sub = match resources.sub_type_at(type_index) {
-            Some(sub) => sub,
-            None => return Err(refuse(OperatorRule::UnknownType)),
-        };
-        let params = match &sub.composite_type.inner {
-            CompositeInnerType::Func(signature) => signature.params(),
-            _ => return Err(refuse(OperatorRule::NotAFunction)),
-        };
-        stacks.clear(features, sub.composite_type.shared);
-        if params.len() > MAX_LOCALS as usize {
-            return Err(refuse(OperatorRule::TooManyLocals));
+        let mut validator = allocations.validator;
+        match validator.begin_func(type_index, features, resources) {
+            Ok(()) => Ok(validator),
+            Err(error) => Err(error),
         }
-        define_parameters(&mut stacks.locals, params)?;
-        stacks.open(FrameKind::Block, BlockWord::func(type_index))?;
-        Ok(OperatorValidator {
-            stacks,
-            failed: false,
-        })
     }
 
     /// The start of a constant expression of this type, whose types are identities, in memory that
@@ -151,7 +205,7 @@ impl<A: Allocator> OperatorValidator<A> {
         ensures begins { IfOk result (λ v. BeginsConstant v (val_of ty)) }
         ensures features { IfOk result (λ v. v.stacks.features ≡ features) }
     {
-        let mut stacks = allocations.stacks;
+        let mut stacks = allocations.validator.stacks;
         stacks.clear(features, false);
         stacks.open(FrameKind::Block, BlockWord::value(TypeWord::new(ty)))?;
         Ok(OperatorValidator {
@@ -186,13 +240,10 @@ impl<A: Allocator> OperatorValidator<A> {
             return Err(refuse(OperatorRule::Failed));
         }
         self.failed = true;
-        let mut resolved = ty;
-        if resources
-            .check_value_type(&mut resolved, &self.stacks.features, 0)
-            .is_err()
-        {
-            return Err(refuse(OperatorRule::ValueType));
-        }
+        let resolved = match resolve_type(resources, self.stacks.features, ty) {
+            Some(resolved) => resolved,
+            None => return Err(refuse(OperatorRule::ValueType)),
+        };
         if !self.stacks.locals.has_room(count) {
             return Err(refuse(OperatorRule::TooManyLocals));
         }
@@ -313,8 +364,6 @@ impl<A: Allocator> OperatorValidator<A> {
 
     /// The memory, for the next body.
     pub fn into_allocations(self) -> OperatorValidatorAllocations<A> {
-        OperatorValidatorAllocations {
-            stacks: self.stacks,
-        }
+        OperatorValidatorAllocations { validator: self }
     }
 }
