@@ -1,5 +1,5 @@
 -- The loop over the items of a section, one step at a time.
-use Rattle.std.proofs.Common.{◌≡◌, refl, sym, ap, subst, ◌∙◌, inl, inr, ℕ, zero, suc, ◌+◌, ◌-◌, ◌<◌, ◌≤◌, ◌⊎◌, ◌==◌, Bool, true, false, if◌then◌else◌, List, [], ◌∷◌, ◌++◌, length, leb, eqb, nat_le, Option, Some, None, arith}
+use Rattle.std.proofs.Common.{◌≡◌, refl, sym, ap, subst, ◌∙◌, inl, inr, ℕ, zero, suc, ◌+◌, ◌-◌, ◌<◌, ◌⊎◌, ◌==◌, Bool, true, false, if◌then◌else◌, List, [], ◌∷◌, length, leb, eqb, nat_le, Option, Some, None, arith}
 use Rattle.std.specs.Prelude.{IfErr, OnOk, ⊤}
 use Rattle.std.specs.List.{flat_map}
 use Rattle.std.specs.Option.{option_map, option_and_then}
@@ -13,7 +13,6 @@ use Rattle.wasm_readers_errors.specs.Refusals.{plain}
 use Rattle.wasm_readers_errors.specs.declared.error.Counted.{Counted}
 use Rattle.wasm_readers_errors.specs.declared.error.Fault.TheVariants as fault
 use Rattle.wasm_readers_errors.specs.declared.error.Refusal.{Refusal}
-use Rattle.wasm_validator_items.specs.Answers.{Refuses}
 use Rattle.wasm_validator_items.specs.Machine.{items_from}
 use Rattle.wasm_validator_items.specs.Sections.{read_one, read_each, read_section}
 use Rattle.wasm_validator_core.specs.Answers.{Adds, AddsWhere, IsNowhere}
@@ -76,11 +75,6 @@ module _ (T U : Type 0) {A S X : Type 0} (P : S → Type 0) (Q : X → Type 0) (
   pub where_handed : (r : Result T (Error A)) (e : Error A) → IsErrAnd r (λ w. w ≡ e) → AddsWhere {T = U} Q (results.Err e) part x → AddsWhere P r whole there
   where_handed (results.Ok t) e h a = absurd h
   where_handed (results.Err w) e h a = handed w (subst (λ v. AddsWhere {T = U} Q (results.Err v) part x) (sym h) a)
-
--- and one of the content
-pub where_refused : {T A S : Type 0} (P : S → Type 0) (whole : Option S) (there : S) (r : Result T (Error A)) (q : Refusal) → IsErrAnd r (λ w. w ≡ Refused q) → whole ≡ None → AddsWhere P r whole there
-where_refused P whole there (results.Ok t) q h n = absurd h
-where_refused {T} P whole there (results.Err w) q h n = subst (λ v. AddsWhere {T = T} P (results.Err v) whole there) (sym h) (none_nowhere P whole n)
 
 -- what is told of steps that are refused
 module _ {A S : Type 0} (step : S → List ℕ → Option (S × List ℕ)) (tells : ℕ → S → List ℕ → Error A → Type 0) (stop : ℕ) where
@@ -293,38 +287,13 @@ module _ {S V : Type 0} (reads : List ℕ → Option (V × List ℕ)) (adds : S 
         apart r (read_section reads adds there most count bytes s) flags p
         (subst (λ o. Adds r o p) (steps_note s flags) (adds_anyway r (steps_of one there most count bytes (s, flags)) p h))
 
--- an item that is read and then added, in a part of the input that ends at this offset
+-- an item that is read, and this is added, in a part of the input that ends at this offset
 module _ {A S V : Type 0} (encoded : List ℕ → Option (V × List ℕ)) (add : S → V → Option S) (nowhere : Option S → Type 0) (tells : ℕ → S → V → Error A → Type 0) (P : S → Type 0) (stop : ℕ) (s : S) (bytes : List ℕ) where
   abbrev step : Option (S × List ℕ)
   step = read_one encoded add s bytes
 
   abbrev Told : Error A → Type 0
   Told e = tells_read encoded add nowhere tells stop s bytes e
-
-  -- it can't be read
-  not_read : encoded bytes ≡ None → step ≡ None
-  not_read n = ap (option_and_then (λ (x : V × List ℕ). option_map {U = S × List ℕ} (λ t. (t, x.1)) (add s x.0))) n
-
-  unread : (T : Type 0) (e : Error A) (there : S × List ℕ) → Refuses e (encoded bytes) → AddsWhere {T = T} (λ x. P x.0) (results.Err e) step there
-  unread T (Refused r) there h = none_nowhere (λ (x : S × List ℕ). P x.0) step (not_read h)
-  unread T (DuplicateExport name offset) there h = none_nowhere (λ (x : S × List ℕ). P x.0) step (not_read h)
-  unread T (InFunction index r) there h = h
-  unread T OutOfMemory there h = tt
-
-  pub unread_adds : {T : Type 0} (r : Result T (Error A)) (e : Error A) (there : S × List ℕ) → IsErrAnd r (λ w. w ≡ e) → Refuses e (encoded bytes) → AddsWhere (λ x. P x.0) r step there
-  unread_adds (results.Ok x) e there h n = absurd h
-  unread_adds {T} (results.Err w) e there h n = unread T w there (subst (λ v. Refuses v (encoded bytes)) (sym h) n)
-
-  told_unread : (e : Error A) → Refuses e (encoded bytes) → TellsFormat (stop - length bytes) stop e → OfContent Told e
-  told_unread (Refused r) n h = subst (Read (TellsFormat {A = A} (stop - length bytes) stop (Refused r)) (λ x. nowhere (add s x.0) × tells (stop - length bytes) s x.0 (Refused r))) (sym n) h
-  told_unread (DuplicateExport name offset) n h = absurd h
-  told_unread (InFunction index r) n h = absurd h
-  told_unread OutOfMemory n h = tt
-
-  pub unread_told : {T : Type 0} (r : Result T (Error A)) (e : Error A) (from : ℕ) → IsErrAnd r (λ w. w ≡ e) → Refuses e (encoded bytes) → TellsFormat from stop e → from ≡ stop - length bytes → IfErr r (OfContent Told)
-  unread_told (results.Ok x) e from h n t at = tt
-  unread_told (results.Err w) e from h n t at =
-      told_unread w (subst (λ v. Refuses v (encoded bytes)) (sym h) n) (subst (λ v. TellsFormat (stop - length bytes) stop v) (sym h) (subst (λ k. TellsFormat k stop e) at t))
 
   -- it is read, and this is added
   module _ (v : V) (more : List ℕ) (read : encoded bytes ≡ Some (v, more)) where
@@ -347,16 +316,6 @@ module _ {A S V : Type 0} (encoded : List ℕ → Option (V × List ℕ)) (add :
 
     pub adds_where : {T : Type 0} (r : Result T (Error A)) (t : S) → AddsWhere P r (add s v) t → AddsWhere (λ x. P x.0) r step (t, more)
     adds_where r t h = subst (λ o. AddsWhere (λ (x : S × List ℕ). P x.0) r o (there t)) (sym item_read) (where_added r (add s v) t h)
-
-    plainly : {T : Type 0} (r : Result T (Error A)) (o : Option S) (t : S) → Adds r o t → AddsWhere P r o t
-    plainly (results.Ok x) o t h = h
-    plainly (results.Err (Refused r)) o t h = none_nowhere P o h
-    plainly (results.Err (DuplicateExport name offset)) o t h = none_nowhere P o h
-    plainly (results.Err (InFunction index r)) o t h = h
-    plainly (results.Err OutOfMemory) o t h = tt
-
-    pub adds_one : {T : Type 0} (r : Result T (Error A)) (t : S) → Adds r (add s v) t → AddsWhere (λ x. P x.0) r step (t, more)
-    adds_one r t h = adds_where r t (plainly r (add s v) t h)
 
     at_item : (e : Error A) (place : ℕ) → place ≡ stop - length bytes → nowhere (add s v) × tells place s v e → Told e
     at_item e place at h =

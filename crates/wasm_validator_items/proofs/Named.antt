@@ -1,8 +1,7 @@
 -- The functions that an item names are those that were noted of its parts; and those of a section are those of its items.
-use Rattle.std.proofs.Common.{◌≡◌, refl, sym, ap, subst, ◌∙◌, ℕ, zero, suc, ◌+◌, ◌-◌, ◌<◌, ◌≤◌, ◌==◌, Bool, true, false, if◌then◌else◌, List, [], ◌∷◌, length, Option, Some, None, option_map, arith}
+use Rattle.std.proofs.Common.{◌≡◌, refl, sym, ap, subst, ◌∙◌, ℕ, zero, suc, ◌+◌, ◌≤◌, ◌==◌, Bool, true, false, if◌then◌else◌, List, [], ◌∷◌, length, Option, Some, None, option_map, arith}
 use Rattle.std.specs.Prelude.{IfOk, OnOk, IfErr, Result, Ok, Err}
 use Rattle.std.specs.Option.{option_and_then}
-use Rattle.std.proofs.lemmas.Option.{same_Some}
 use Rattle.wasm_spec.specs.Syntax.{Global}
 use Rattle.wasm_spec.specs.Values.{items_at}
 use Rattle.wasm_spec.specs.BinaryTypes.{global_at}
@@ -14,12 +13,10 @@ use Rattle.wasm_readers.proofs.Tables.{heads_begin_tables}
 use Rattle.wasm_readers_types.specs.WasmReadersValues.declared.indices.UnpackedIndex.{UnpackedIndex}
 use Rattle.wasm_validator_segments.specs.WasmValidatorReferences.WasmSpecValidity.Expressions.{expression_at, named}
 use Rattle.wasm_validator_core.specs.declared.error.Error.{Error}
-use Rattle.wasm_validator_segments.specs.WasmValidatorReferences.Notes.{names_along}
-use Rattle.wasm_validator_segments.specs.WasmValidatorReferences.References.{mark, marked, names_if, names_at, names_in, names_or_none, table_names, global_names, names_of_table, names_of_global, names_of_expression}
-use Rattle.wasm_validator_segments.proofs.WasmValidatorReferences.Noting.{item_noted, items_named}
+use Rattle.wasm_validator_segments.specs.WasmValidatorReferences.References.{names_if, table_names, global_names, names_of_table, names_of_global, names_of_expression}
 use Rattle.wasm_validator_items.specs.Answers.{Refuses}
 use Rattle.wasm_validator_items.specs.Entries.{names_of_init}
-use Rattle.wasm_validator_items.specs.Sections.{read_one, read_each}
+use Rattle.wasm_validator_items.specs.Sections.{read_each}
 
 -- a global names what its initializer names
 module _ (g : Global UnpackedIndex) where
@@ -70,21 +67,7 @@ room_left most (Err e) old new h = tt
 
 -- the items of a section
 module _ {S V : Type 0} (reads : List ℕ → Option (V × List ℕ)) (adds : S → V → Option S) where
-  -- an item that is added can be read, and so can all
-  item_then : (s : S) (x : V × List ℕ) (o : Option S) (t : S) (more : List ℕ) → option_map {U = S × List ℕ} (λ u. (u, x.1)) o ≡ Some (t, more) → (y : V) × (Some x ≡ Some (y, more))
-  item_then s x None t more e = absurd cc
-  item_then s x (Some u) t more e =
-      let here : S × List ℕ = (u, x.1) in
-      let same : x.1 ≡ more = ap (λ (p : S × List ℕ). p.1) (same_Some here (t, more) e) in
-      (x.0, ap (λ (r : List ℕ). Some (x.0, r)) same)
-
-  item_by : (s : S) (o : Option (V × List ℕ)) (t : S) (more : List ℕ) → option_and_then (λ x. option_map {U = S × List ℕ} (λ u. (u, x.1)) (adds s x.0)) o ≡ Some (t, more) → (x : V) × (o ≡ Some (x, more))
-  item_by s None t more e = absurd cc
-  item_by s (Some x) t more e = item_then s x (adds s x.0) t more e
-
-  pub item_read : (s t : S) (bytes more : List ℕ) → read_one reads adds s bytes ≡ Some (t, more) → (x : V) × (reads bytes ≡ Some (x, more))
-  item_read s t bytes more e = item_by s (reads bytes) t more e
-
+  -- items that are added can all be read
   abbrev AllRead : ℕ → Type 0
   AllRead n = (bytes : List ℕ) (s t : S) → read_each reads adds n bytes s ≡ Some t → (xs : List V) × (items_at reads n bytes ≡ Some xs)
 
@@ -104,17 +87,3 @@ module _ {S V : Type 0} (reads : List ℕ → Option (V × List ℕ)) (adds : S 
   pub all_read : (n : ℕ) (bytes : List ℕ) (s t : S) → read_each reads adds n bytes s ≡ Some t → (xs : List V) × (items_at reads n bytes ≡ Some xs)
   all_read zero bytes s t e = none_read (length bytes == 0) s t e
   all_read (suc n) bytes s t e = more_read n (λ b u w f. all_read n b u w f) s t (reads bytes) e
-
-  module _ (names : V → List ℕ) where
-    -- one more is noted
-    pub one_noted : (n : ℕ) (bytes more : List ℕ) (s t : S) (old new : List Bool) → 0 < n → read_one reads adds s bytes ≡ Some (t, more) → new ≡ marked (names_at reads names bytes) old
-        → marked (names_along reads names (n - 1) more) new ≡ marked (names_along reads names n bytes) old
-    one_noted n bytes more s t old new some e f = let x = item_read s t bytes more e in item_noted mark reads names n bytes more x.0 old new some x.1 f
-
-    -- and all are
-    pub all_noted : (left n : ℕ) (rest bytes : List ℕ) (s t : S) (old new : List Bool) → left ≡ 0 → marked (names_along reads names left rest) new ≡ marked (names_along reads names n bytes) old
-        → read_each reads adds n bytes s ≡ Some t → new ≡ marked (names_in reads names n bytes) old
-    all_noted left n rest bytes s t old new z e f =
-        let xs = all_read n bytes s t f in
-        sym (ap (λ (k : ℕ). marked (names_along reads names k rest) new) z) ∙ e
-        ∙ ap (λ (ns : List ℕ). marked ns old) (items_named reads names n bytes xs.0 xs.1 ∙ sym (ap (names_or_none names) xs.1))

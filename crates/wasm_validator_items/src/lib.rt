@@ -24,7 +24,7 @@ pub use constants::{Constants, tells_types_apart};
 pub use data::{DataItems, check_next_data};
 pub use elements::{ElementItems, add_next_element};
 pub use globals::{GlobalItems, add_next_global};
-pub use section_items::{ItemLimit, SectionItem, add_items, read_item};
+pub use section_items::{ItemLimit, SectionItem, add_items};
 pub use tables::{TableItems, add_next_table};
 pub use wasm_validator_segments::ExpressionMemory;
 

@@ -1,19 +1,19 @@
 //! The one loop over the items of a section: its count is tested against the limit of its kind of
 //! items, and then each item is read and added.
 
-ghost use Rattle.std.specs.Prelude.{◌≡◌, ◌≤◌, ◌+◌, nat_le, true, suc, ℕ, List, length, Option, OnOk, IfOk, IfErr, ⊤};
+ghost use Rattle.std.specs.Prelude.{◌≡◌, ◌≤◌, ◌+◌, nat_le, true, suc, ℕ, List, length, Option, OnOk, IfErr, ⊤};
 ghost use Rattle.std.specs.declared.option.Option.TheVariants.{Some};
 ghost use Rattle.wasm_readers.specs.WasmReadersBytes.Reader.{SameInput, input, original, position_in, rest};
 ghost use Rattle.wasm_readers_errors.specs.declared.error.Counted.{Counted};
 ghost use Rattle.wasm_readers.specs.SectionsSeen.{count_of, bytes_of, section_start, section_end};
-ghost use Rattle.wasm_validator_items.specs.Answers.{Refuses, StandsBetween, StandsBehind};
+ghost use Rattle.wasm_validator_items.specs.Answers.{StandsBetween, StandsBehind};
 ghost use Rattle.wasm_validator_core.specs.Answers.{AddsWhere};
 ghost use Rattle.wasm_validator_core.specs.declared.error.Error.{Error};
-ghost use Rattle.wasm_validator_items.specs.Telling.{OfContent, TellsFormat, TellsCount};
+ghost use Rattle.wasm_validator_items.specs.Telling.{OfContent, TellsCount};
 ghost use Rattle.wasm_validator_items.specs.Adding.{steps_of, TellsSteps};
 
 use std::alloc::Allocator;
-use wasm_readers::{BinaryReader, Counted, Fault, FromReader, Malformed, Refusal, SectionLimited};
+use wasm_readers::{BinaryReader, Counted, Fault, Malformed, Refusal, SectionLimited};
 use wasm_validator_core::{Error, check_max};
 
 /// How many items of a kind a module has, and may have.
@@ -147,24 +147,4 @@ pub fn add_items<'a, A: Allocator + Copy, T, I: SectionItem<A>>(
     let fault = Fault::Malformed(Malformed::SectionSize);
     let offset = reader.original_position();
     Err(Error::Refused(Refusal::new(fault, offset)))
-}
-
-/// Reads an item that is added once it has been read. The reader goes behind it.
-///
-/// # Errors
-///
-/// Refused where the bytes don't begin with such an item, and where memory is.
-pub fn read_item<'a, T: FromReader<'a, A>, A: Allocator + Copy>(
-    alloc: A,
-    reader: &mut BinaryReader<'a>,
-) -> Result<T, Error<A>>
-    ensures ok { IfOk result (λ x. T.encoded (rest reader.old)
-        ≡ Some (T.value x, rest reader.new)) }
-    ensures err { IfErr result (λ e. Refuses e (T.encoded (rest reader.old))) }
-    ensures told { IfErr result (TellsFormat (original reader.old + position_in reader.old)
-        (original reader.old + length (input reader.old))) }
-    ensures input { SameInput reader.old reader.new }
-    ensures onward { position_in reader.old ≤ position_in reader.new }
-{
-    Ok(T::from_reader(alloc, reader)?)
 }
