@@ -51,6 +51,10 @@ both_more xs (y ∷ ys) k j x h =
     let q : 0 + j ≡ j = omega arith in
     rw (e, q, append-nil xs) (sym (append_assoc (map local_of xs) (y ∷ ys) (replicate j (local_of x))))
 
+-- none in runs
+pub none_behind : (ys : List (Local UnpackedIndex)) (j : ℕ) (x : Local UnpackedIndex) → j ≡ 0 → ys ≡ ys ++ replicate j x
+none_behind ys j x e = rw e (sym (append-nil ys))
+
 pub defined : (xs zs : List LocalWord) (ys ws : List (Local UnpackedIndex)) (n m wanted count : ℕ) (x : LocalWord) → n ≡ m → m ≡ length xs → n ≤ wanted → wanted ≤ n + count → (0 < length ys → wanted ≡ n)
     → zs ≡ take wanted xs ++ replicate (wanted - m) x → ws ≡ ys ++ replicate (count - (wanted - n)) (local_of x)
     → map local_of zs ++ ws ≡ map local_of xs ++ ys ++ replicate count (local_of x)

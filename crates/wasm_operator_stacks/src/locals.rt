@@ -142,7 +142,11 @@ impl<A: Allocator> Locals<A> {
         let len = self.front.len();
         let wanted = front_after(len, self.behind.len(), count);
         self.front.resize(wanted, local)?;
-        self.behind.extend(count - (wanted - len) as u32, local)
+        let left = count - (wanted - len) as u32;
+        if left == 0 {
+            return Ok(());
+        }
+        self.behind.extend(left, local)
     }
 
     /// Whether a local was set since its function began.
