@@ -22,7 +22,8 @@ use Rattle.wasm_validator_states.specs.WasmValidatorSections.Started.{starting}
 use Rattle.wasm_validator_states.specs.Standing.{Stage, unparsed, in_module, in_code, ended, failed, Standing, at_stage, HoldsValid, Leaves, IsEnded, HasNotEnded}
 use Rattle.wasm_validator_states.specs.States.{after_piece, BodyToValidate, code_started, body_taken, body_at, handed, IsBeforeEnd, left_by, takes_memory, code_count}
 use Rattle.wasm_validator_states.specs.Payloads.{Show, after_all, handed_behind, all_handed, Runs, Rejects, HasTaken, IsToldOfFormat, IsLeft, IsBehindCode, IsOutOfMemory, Validates}
-use Rattle.wasm_validator_modules.specs.Given.{ShowsModule, IsFunction, KeepsBodies, body_seen, bodies_given, latest_of, TellsFormat}
+use Rattle.wasm_validator_modules.specs.Given.{ShowsModule, IsFunction, KeepsBodies, bodies_given, latest_of, TellsFormat}
+use Rattle.wasm_validator_states.specs.Taken.{body_seen}
 use Rattle.wasm_validator_states.specs.WasmValidatorSections.SectionsTold.{StandsBetween}
 use Rattle.wasm_validator_states.proofs.Growing.{body_some}
 use Rattle.wasm_readers_errors.specs.WasmReadersFeatures.declared.features.WasmFeatures.{WasmFeatures}
