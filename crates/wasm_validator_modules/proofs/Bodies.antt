@@ -17,7 +17,8 @@ use Rattle.wasm_validator_states.specs.WasmValidatorSections.SectionsTold.{Stand
 use Rattle.wasm_readers_errors.specs.WasmReadersFeatures.declared.features.WasmFeatures.{WasmFeatures}
 use Rattle.wasm_validator_states.specs.States.{BodyToValidate}
 use Rattle.wasm_validator_states.specs.Payloads.{IsBodyOfIts, DecidesBodies}
-use Rattle.wasm_validator_modules.specs.Given.{body_seen, bodies_seen, pending_seen, pending_in, EndsBy, AllEndBy, GivenEndBy, StandsBy}
+use Rattle.wasm_validator_states.specs.Taken.{body_seen}
+use Rattle.wasm_validator_modules.specs.Given.{bodies_seen, pending_seen, pending_in, EndsBy, AllEndBy, GivenEndBy, StandsBy}
 use Rattle.wasm_validator_modules.specs.declared.payload.PendingBody.{PendingBody}
 use Rattle.wasm_validator_modules.specs.declared.payload.Bodies.{Bodies}
 use Rattle.wasm_validator_modules.specs.declared.payload.ValidPayload.{ValidPayload}

@@ -7,10 +7,10 @@ use Rattle.wasm_validator_states.specs.WasmValidatorTypeList.DefTypes.{types_of_
 use Rattle.wasm_validator_states.specs.WasmValidatorTypeList.Listing.{Listing}
 use Rattle.wasm_validator_states.specs.WasmValidatorCanonical.Apart.{AreApart}
 use Rattle.wasm_validator_states.specs.WasmValidatorSections.WasmValidatorCore.Answers.{TypesSoFar}
-use Rattle.wasm_validator_modules.specs.declared.validator.State.{State}
-use Rattle.wasm_validator_modules.specs.declared.validator.State.TheVariants.{Unparsed, Module, Code, End, Failed}
+use Rattle.wasm_validator_states.specs.declared.state.State.{State}
+use Rattle.wasm_validator_states.specs.declared.state.State.TheVariants.{Unparsed, Module, Code, End, Failed}
 use Rattle.wasm_validator_states.specs.Standing.{Standing, HoldsAt}
-use Rattle.wasm_validator_modules.specs.Views.{stage_of}
+use Rattle.wasm_validator_states.specs.Views.{stage_of}
 use Rattle.wasm_validator_states.specs.Verdict.{StandsApart}
 
 module _ {A : Type 0} where

@@ -18,7 +18,8 @@ use Rattle.wasm_validator_states.specs.WasmValidatorSections.Machine.{section_it
 use Rattle.wasm_validator_states.specs.WasmValidatorSections.Noted.{Noted, naming, counting, noting_nothing}
 use Rattle.wasm_validator_states.specs.Standing.{Stage, unparsed, in_module, in_code, ended, failed, Standing, within, within_all, at_stage}
 use Rattle.wasm_validator_states.specs.States.{BodyToValidate, begun, code_started, body_taken, module_ended, after_piece, next_function, body_with, body_at, handed}
-use Rattle.wasm_validator_modules.specs.Given.{body_seen, bodies_given, IsKept, IsGivenIn, kept_behind}
+use Rattle.wasm_validator_states.specs.Taken.{body_seen}
+use Rattle.wasm_validator_modules.specs.Given.{bodies_given, IsKept, IsGivenIn, kept_behind}
 use Rattle.wasm_validator_modules.specs.declared.payload.ValidPayload.{ValidPayload}
 use Rattle.wasm_validator_modules.specs.declared.payload.ValidPayload.TheVariants.{Ok, Func, End}
 use Rattle.wasm_validator_states.proofs.Growing.{body_some}

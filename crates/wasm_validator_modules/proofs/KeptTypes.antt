@@ -16,8 +16,8 @@ use Rattle.wasm_validator_states.specs.WasmValidatorSections.WasmLawsContexts.Wa
 use Rattle.wasm_validator_states.proofs.WasmValidatorSections.WasmLawsContexts.GrownLists.{first_types_stay_first}
 use Rattle.wasm_validator_states.specs.WasmValidatorSections.declared.module_state.ModuleState.{ModuleState}
 use Rattle.wasm_validator_states.specs.WasmValidatorSections.Machine.{type_items}
-use Rattle.wasm_validator_modules.specs.Ready.{AreFirstIn}
-use Rattle.wasm_validator_modules.specs.Views.{state_kept}
+use Rattle.wasm_validator_states.specs.Ready.{AreFirstIn}
+use Rattle.wasm_validator_states.specs.Views.{state_kept}
 use Rattle.wasm_validator_states.proofs.Growing as growing
 
 -- a list of types that ends as this one goes on to it

@@ -11,6 +11,7 @@ pub mod KeptTypes
 pub mod SectionMoves
 pub mod Runs
 pub mod Bodies
+pub mod Gathering
 pub mod KeptContext
 pub mod GoingOn
 pub mod Together

@@ -1,7 +1,7 @@
 -- A validator that goes over the payloads of whole bytes.
 use Rattle.std.proofs.Common.{◌≡◌, refl, sym, ap, subst, ◌∙◌, inl, inr, Bool, true, false, true≢false, ℕ, ◌≤◌, arith, List, [], ◌∷◌, ◌++◌, Option, Some, None, append_assoc, append-nil}
 use Rattle.std.specs.Option.{option_and_then}
-use Rattle.std.specs.Prelude.{IsErrAnd, IsSome}
+use Rattle.std.specs.Prelude.{IsSome}
 use Rattle.wasm_spec.specs.Framing as parts
 use Rattle.wasm_spec.specs.Framing.{Piece, IsFramed, Version, Custom, Counted, Start, DataCount, CodeStart, CodeEntry, Unknown}
 use Rattle.wasm_validator_states.specs.WasmParser.Machine.{State, start, next_of, Run, Given}
@@ -22,7 +22,8 @@ use Rattle.wasm_validator_states.specs.WasmValidatorSections.Started.{starting}
 use Rattle.wasm_validator_states.specs.Standing.{Stage, unparsed, in_module, in_code, ended, failed, Standing, at_stage, HoldsValid, Leaves, IsEnded, HasNotEnded}
 use Rattle.wasm_validator_states.specs.States.{after_piece, BodyToValidate, code_started, body_taken, body_at, handed, IsBeforeEnd, left_by, takes_memory, code_count}
 use Rattle.wasm_validator_states.specs.Payloads.{Show, after_all, handed_behind, all_handed, Runs, Rejects, HasTaken, IsToldOfFormat, IsLeft, IsBehindCode, IsOutOfMemory, Validates}
-use Rattle.wasm_validator_modules.specs.Given.{ShowsModule, IsFunction, KeepsBodies, body_seen, bodies_given, latest_of, TellsFormat}
+use Rattle.wasm_validator_states.specs.Taken.{body_seen}
+use Rattle.wasm_validator_modules.specs.Given.{ShowsModule, IsFunction, KeepsBodies, bodies_given, latest_of, TellsFormat}
 use Rattle.wasm_validator_states.specs.WasmValidatorSections.SectionsTold.{StandsBetween}
 use Rattle.wasm_validator_states.proofs.Growing.{body_some}
 use Rattle.wasm_readers_errors.specs.WasmReadersFeatures.declared.features.WasmFeatures.{WasmFeatures}
@@ -322,11 +323,6 @@ module _ {A : Type 0} where
   refused_format seen bytes old now s latest bodies (DuplicateExport name offset) h g none n = absurd h
   refused_format seen bytes old now s latest bodies (InFunction index r) h g none n = absurd h
   refused_format seen bytes old now s latest bodies OutOfMemory h g none n = absurd h
-
-  -- memory that was refused, as it is handed on
-  pub told_memory : {B : Type 0} (seen : B → List BodyToValidate) (bytes : List ℕ) (old new : Standing) (r : Result (Types A × B) (Error A)) → IsErrAnd r (λ e. e ≡ OutOfMemory) → IsOutOfMemory bytes old new × HasNotEnded old new → Validates seen r bytes old new
-  told_memory seen bytes old new (results.Ok x) told h = absurd told
-  told_memory seen bytes old new (results.Err e) told h = subst (λ (f : Error A). Validates seen (results.Err f) bytes old new) (sym told) h
 
   -- a refusal between two offsets stands between wider ones
   pub between_wider : (a b c d : ℕ) (e : Error A) → c ≤ a → b ≤ d → StandsBetween a b e → StandsBetween c d e

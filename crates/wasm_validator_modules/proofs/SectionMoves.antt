@@ -10,13 +10,13 @@ use Rattle.wasm_validator_states.specs.WasmValidatorTypes.Spaces.{Spaces}
 use Rattle.wasm_validator_states.specs.WasmValidatorSections.WasmValidatorCore.declared.error.Error.{Error}
 use Rattle.wasm_validator_states.specs.WasmValidatorSections.WasmValidatorCore.declared.error.Error.TheVariants.{Refused, DuplicateExport, InFunction, OutOfMemory}
 use Rattle.wasm_validator_states.specs.WasmValidatorSections.WasmValidatorCore.Answers.{TypesSoFar, IsNowhere, Adds, AddsWhere, HasValidTypes}
-use Rattle.wasm_validator_modules.specs.declared.validator.State.{State}
-use Rattle.wasm_validator_modules.specs.declared.validator.State.TheVariants.{Module}
+use Rattle.wasm_validator_states.specs.declared.state.State.{State}
+use Rattle.wasm_validator_states.specs.declared.state.State.TheVariants.{Module}
 use Rattle.wasm_validator_states.specs.WasmValidatorSections.declared.module_state.ModuleState.{ModuleState}
 use Rattle.wasm_validator_states.specs.WasmValidatorSections.Noted.{Noted, noted_of}
 use Rattle.wasm_validator_states.specs.Standing.{Stage, in_module, Standing, HoldsValid, refused_at, read_refused_at, within, at_stage, Moves}
 use Rattle.wasm_validator_states.specs.States.{section_refused_at}
-use Rattle.wasm_validator_modules.specs.Views.{stage_of, state_kept}
+use Rattle.wasm_validator_states.specs.Views.{stage_of, state_kept}
 use Rattle.wasm_validator_states.proofs.WasmValidatorSections.ItemSteps.{none_nowhere}
 use Rattle.wasm_validator_states.proofs.Growing.{within_some}
 

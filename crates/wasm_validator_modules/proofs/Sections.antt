@@ -4,8 +4,8 @@ use Rattle.wasm_readers_errors.specs.WasmReadersFeatures.declared.features.WasmF
 use Rattle.wasm_readers_types.specs.declared.types.SubType.{SubType}
 use Rattle.wasm_validator_states.specs.WasmValidatorSections.WasmLawsContexts.WasmValidatorCoreResources.ById.{AreFirstByIds}
 use Rattle.wasm_validator_states.specs.WasmValidatorTypes.Spaces.{Spaces}
-use Rattle.wasm_validator_modules.specs.declared.validator.State.{State}
-use Rattle.wasm_validator_modules.specs.declared.validator.State.TheVariants.{Unparsed, Module, Code, End, Failed}
+use Rattle.wasm_validator_states.specs.declared.state.State.{State}
+use Rattle.wasm_validator_states.specs.declared.state.State.TheVariants.{Unparsed, Module, Code, End, Failed}
 use Rattle.wasm_validator_states.specs.WasmValidatorSections.WasmValidatorCore.Answers.{TypesSoFar}
 use Rattle.wasm_spec.specs.Features.{Features}
 use Rattle.wasm_spec_rules.specs.FeatureFlags.{features_of}
@@ -18,9 +18,9 @@ use Rattle.wasm_validator_states.specs.WasmValidatorTypeList.Listing as lists
 use Rattle.wasm_validator_states.proofs.WasmValidatorTypeList.DefTypes.{length-def_types}
 use Rattle.wasm_validator_states.specs.WasmValidatorSections.WasmValidatorCore.Ready.{AreIdsOf}
 use Rattle.wasm_validator_states.specs.WasmValidatorSections.declared.module_state.ModuleState.{ModuleState}
-use Rattle.wasm_validator_modules.specs.Ready.{AreIdsIn, AreValidIn, AreFirstIn}
+use Rattle.wasm_validator_states.specs.Ready.{AreIdsIn, AreValidIn, AreFirstIn}
 use Rattle.wasm_validator_states.specs.States.{module_ended, after_end}
-use Rattle.wasm_validator_modules.specs.Views.{open_of, read_of, stage_of, state_kept}
+use Rattle.wasm_validator_states.specs.Views.{open_of, read_of, stage_of, state_kept}
 use Rattle.std.specs.List.{All}
 use Rattle.std.specs.Prelude.{OnOk}
 use Rattle.std.specs.declared.result.Result.{Result}

@@ -11,12 +11,12 @@ use Rattle.wasm_validator_states.specs.WasmValidatorTypes.Spaces.{Spaces}
 use Rattle.wasm_validator_states.specs.WasmValidatorSections.WasmValidatorCore.declared.error.Error.{Error}
 use Rattle.wasm_validator_states.specs.WasmValidatorSections.WasmValidatorCore.declared.error.Error.TheVariants.{Refused}
 use Rattle.wasm_validator_states.specs.WasmValidatorSections.WasmValidatorCore.Answers.{TypesSoFar}
-use Rattle.wasm_validator_modules.specs.declared.validator.State.{State}
-use Rattle.wasm_validator_modules.specs.declared.validator.State.TheVariants.{Unparsed, Module, Code, End, Failed}
+use Rattle.wasm_validator_states.specs.declared.state.State.{State}
+use Rattle.wasm_validator_states.specs.declared.state.State.TheVariants.{Unparsed, Module, Code, End, Failed}
 use Rattle.wasm_validator_states.specs.WasmValidatorSections.Noted.{Noted}
 use Rattle.wasm_validator_states.specs.Standing.{in_module, Standing}
 use Rattle.wasm_validator_states.specs.WasmValidatorSections.Noted.{noted_of}
-use Rattle.wasm_validator_modules.specs.Views.{open_of, stage_of, order_at}
+use Rattle.wasm_validator_states.specs.Views.{open_of, stage_of, order_at}
 use Rattle.wasm_validator_modules.specs.OrderTold.{TellsWithin}
 use Rattle.wasm_validator_states.specs.WasmValidatorSections.SectionsTold.{OfContent, TellsAt}
 

@@ -1,8 +1,7 @@
 -- What a payload that is accepted gives: nothing more, a function whose body is to be validated, or the types of the module that has ended.
-use Rattle.std.specs.Prelude.{ℕ, ◌≡◌, ◌≤◌, ◌⊎◌, ◌+◌, List, [], ◌∷◌, map, Option, Some, None, IsSome, ⊤}
+use Rattle.std.specs.Prelude.{ℕ, ◌≡◌, ◌≤◌, ◌⊎◌, ◌+◌, ◌++◌, false, List, [], ◌∷◌, map, Option, Some, None, IsSome, ⊤}
 use Rattle.wasm_spec_rules.specs.Contexts.{Context}
 use Rattle.wasm_readers_types.specs.WasmReadersValues.declared.indices.UnpackedIndex.{UnpackedIndex}
-use Rattle.std.specs.declared.result.Result.{Result}
 use Rattle.std.specs.declared.result.Result.TheVariants as results
 use Rattle.wasm_spec.specs.Framing as parts
 use Rattle.wasm_spec.specs.Framing.{Piece}
@@ -13,19 +12,21 @@ use Rattle.wasm_validator_states.specs.WasmValidatorSections.WasmValidatorCore.d
 use Rattle.wasm_validator_states.specs.WasmValidatorSections.WasmValidatorCore.declared.error.Error.TheVariants.{Refused, DuplicateExport, InFunction, OutOfMemory}
 use Rattle.wasm_validator_modules.specs.declared.payload.PendingBody.{PendingBody}
 use Rattle.wasm_validator_modules.specs.declared.payload.Bodies.{Bodies}
+use Rattle.wasm_validator_modules.specs.declared.payload.Gathered.{Gathered}
 use Rattle.wasm_validator_modules.specs.declared.payload.ValidPayload.{ValidPayload}
 use Rattle.wasm_validator_modules.specs.declared.payload.ValidPayload.TheVariants.{Ok, Func, End}
 use Rattle.wasm_validator_states.specs.WasmParser.declared.function_body.FunctionBody.{FunctionBody}
 use Rattle.wasm_validator_states.specs.WasmParser.Seen.{body_of, body_reader}
+use Rattle.wasm_validator_states.specs.WasmValidatorSections.WasmValidatorCore.Errors.{IsContent, offset_of}
 use Rattle.wasm_readers.specs.WasmReadersBytes.Reader.{original, position_in}
+use Rattle.wasm_readers.specs.WasmReadersBytes.declared.binary_reader.BinaryReader.{BinaryReader}
 use Rattle.wasm_readers_errors.specs.declared.error.Error as reading
 use Rattle.wasm_readers_errors.specs.declared.error.Error.TheVariants as reading_error
 use Rattle.std.specs.List.{All}
-use Rattle.wasm_readers_errors.specs.Refusals.{plain}
 use Rattle.wasm_validator_states.specs.WasmValidatorSections.WasmValidatorFunc.declared.func_validator.FuncToValidate.{FuncToValidate}
-use Rattle.wasm_validator_states.specs.Standing.{Stage, ended, Standing, shown_at, failed, body_refused_at}
-use Rattle.wasm_validator_states.specs.States.{IsBeforeEnd, body_taken, BodyToValidate, body_at, handed, code_count}
-use Rattle.wasm_validator_modules.specs.OrderTold.{body_told}
+use Rattle.wasm_validator_states.specs.Standing.{Standing, Leaves}
+use Rattle.wasm_validator_states.specs.States.{IsBeforeEnd, BodyToValidate, after_piece, handed, left_by, takes_memory, code_count}
+use Rattle.wasm_validator_states.specs.Taken.{body_seen}
 use Rattle.wasm_readers_errors.specs.WasmReadersFeatures.declared.features.WasmFeatures.{WasmFeatures}
 use Rattle.wasm_validator_states.specs.Payloads.{Show}
 
@@ -41,24 +42,10 @@ HoldsIdsAtEnd Ok = ⊤
 HoldsIdsAtEnd (Func f b) = ⊤
 HoldsIdsAtEnd (End t) = HoldsIds (shown_of t)
 
--- a function and its body, as they are handed out
-abbrev pub body_seen : FuncToValidate (Context UnpackedIndex) → FunctionBody → BodyToValidate
-body_seen f b = record { index = f.index; ty = f.ty; features = f.features; context = f.resources; bytes = body_of b }
-
 abbrev pub bodies_given : {A : Type 0} → ValidPayload A → List BodyToValidate
 bodies_given Ok = []
 bodies_given (Func f b) = body_seen f b ∷ []
 bodies_given (End t) = []
-
--- A body is taken, and handed out with its function; or it is refused, and that is told of it, at its first byte. Memory is refused only while a
--- module is being read, and where it was a body's turn.
-abbrev pub TakesBody : {A : Type 0} → Result (FuncToValidate (Context UnpackedIndex)) (Error A) → WasmFeatures → FunctionBody → Stage → Stage → Type 0
-TakesBody (results.Ok f) features b g h = (body_taken (body_of b) g ≡ Some h) × (body_at features (body_of b) g ≡ body_seen f b ∷ [])
-TakesBody (results.Err (Refused r)) features b g h =
-    (body_taken (body_of b) g ≡ None) × (h ≡ body_refused_at g) × (r ≡ plain (body_told g) (original (body_reader b) + position_in (body_reader b)))
-TakesBody (results.Err (DuplicateExport name offset)) features b g h = ⊥
-TakesBody (results.Err (InFunction index r)) features b g h = ⊥
-TakesBody (results.Err OutOfMemory) features b g h = IsSome (shown_at g) × (body_refused_at g ≡ failed) × (h ≡ failed)
 
 -- a payload gave a function
 abbrev pub IsFunction : {A : Type 0} → ValidPayload A → Type 0
@@ -124,6 +111,44 @@ abbrev pub latest_of : {A : Type 0} → Option (Types A) → ValidPayload A → 
 latest_of before Ok = before
 latest_of before (Func f b) = before
 latest_of before (End t) = Some t
+
+-- A payload was accepted, and memory was refused for what it gave
+pub record HasNoRoom (A : Type 0) (p : Piece) (s t : Standing) : Type 0 where
+  pub valid : ValidPayload A
+  pub moves : after_piece s p ≡ Some t
+  pub shown : ShowsModule s p valid
+  pub given : handed s p ≡ bodies_given valid
+  pub keeps : KeepsBodies p valid
+
+module _ {A : Type 0} where
+  -- what the payload that comes next gives goes with what was given before it
+  abbrev pub GoesWith : Standing → Piece → Bodies A → Type 0
+  GoesWith s p bodies = (v : ValidPayload A) → handed s p ≡ bodies_given v → IsGivenIn bodies.features bodies.resources v
+
+  -- a refusal stands where this reader does
+  abbrev pub StandsAt : BinaryReader → Error A → Type 0
+  StandsAt r e = IsContent e → offset_of e ≡ original r + position_in r
+
+  -- A payload that ends at this offset was accepted, and what it gave was kept.
+  pub record Gathers (p : Piece) (end : ℕ) (s t : Standing) (g h : Gathered A) : Type 0 where
+    pub valid : ValidPayload A
+    pub moves : after_piece s p ≡ Some t
+    pub shown : ShowsModule s p valid
+    pub given : handed s p ≡ bodies_given valid
+    pub within : GivenEndBy end valid
+    pub ended : h.ended ≡ latest_of g.ended valid
+    pub bodies : bodies_seen h.bodies ≡ bodies_seen g.bodies ++ bodies_given valid
+    pub features : h.bodies.features ≡ g.bodies.features
+    pub resources : h.bodies.resources ≡ kept_behind g.bodies.resources valid
+    pub all_within : (n : ℕ) → AllEndBy n g.bodies → GivenEndBy n valid → AllEndBy n h.bodies
+
+  -- it was refused
+  pub record IsRefused (p : Piece) (s t : Standing) (e : Error A) : Type 0 where
+    pub left : Leaves {T = ValidPayload A} (results.Err e) (after_piece s p) (left_by s p) s t
+    pub memory : takes_memory s.features p ≡ false → IsContent e
+
+  abbrev pub GathersNothing : Piece → Standing → Standing → Error A → Type 0
+  GathersNothing p s t e = IsRefused p s t e ⊎ ((e ≡ OutOfMemory) × HasNoRoom A p s t)
 
 -- the parser's refusal, as an error
 abbrev pub TellsFormat : {A : Type 0} → Error A → Type 0

@@ -1,12 +1,10 @@
--- What is told where a section, a body or the end may not come, and of a header. Core Specification 3.0, Binary Format, Modules.
-use Rattle.std.specs.Prelude.{ℕ, ◌≡◌, ◌==◌, if◌then◌else◌, Bool}
+-- What is told where a section or the end may not come, and of a header. Core Specification 3.0, Binary Format, Modules.
+use Rattle.std.specs.Prelude.{ℕ, ◌≡◌, if◌then◌else◌, Bool}
 use Rattle.wasm_spec_rules.specs.FeatureFlags.{features_of}
 use Rattle.wasm_readers_errors.specs.Refusals.{plain, lacking}
-use Rattle.wasm_readers_errors.specs.declared.error.Counted.TheVariants as counted
-use Rattle.wasm_readers_errors.specs.declared.error.Fault.{Fault}
 use Rattle.wasm_readers_errors.specs.declared.error.Fault.TheVariants as fault
 use Rattle.wasm_readers_errors.specs.declared.error.OutOfOrder.{OutOfOrder}
-use Rattle.wasm_readers_errors.specs.declared.error.OutOfOrder.TheVariants.{SectionBeforeHeader, SectionAfterEnd, Header, EndBeforeHeader, EndAfterEnd, SectionAfterFailure, SectionAfterCodeStart, CodeEntryBeforeCodeStart, CodeEntryWithoutFunction}
+use Rattle.wasm_readers_errors.specs.declared.error.OutOfOrder.TheVariants.{SectionBeforeHeader, SectionAfterEnd, Header, EndBeforeHeader, EndAfterEnd, SectionAfterFailure, SectionAfterCodeStart}
 use Rattle.wasm_readers_errors.specs.declared.error.Refusal.{Refusal}
 use Rattle.wasm_readers_errors.specs.declared.error.Rule.TheVariants.{ComponentModelLeftOut, Exceptions}
 use Rattle.wasm_readers_errors.specs.WasmReadersFeatures.declared.features.WasmFeatures.{WasmFeatures}
@@ -18,8 +16,6 @@ use Rattle.wasm_validator_states.specs.WasmValidatorSections.WasmValidatorCore.d
 use Rattle.wasm_validator_states.specs.WasmValidatorSections.WasmValidatorCore.declared.error.Error.TheVariants.{Refused}
 use Rattle.wasm_validator_states.specs.WasmValidatorSections.WasmValidatorCore.Answers.{TypesSoFar}
 use Rattle.wasm_validator_states.specs.WasmValidatorSections.WasmValidatorCore.Told.{told_of_start, told_of_data_count}
-use Rattle.wasm_validator_states.specs.WasmValidatorSections.declared.code_state.TheConstants.{MAX_FUNCTION_SIZE}
-use Rattle.wasm_validator_states.specs.WasmValidatorSections.Started.{bodies_left}
 use Rattle.wasm_validator_states.specs.Standing.{Stage, unparsed, in_module, in_code, ended, failed}
 use Rattle.wasm_validator_states.specs.WasmValidatorSections.SectionsTold.{Either, TellsAt, TellsTags}
 
@@ -48,14 +44,6 @@ header_told features number is_module place (in_module types spaces more) = plai
 header_told features number is_module place (in_code types spaces more) = plain (fault.OutOfOrder Header) place
 header_told features number is_module place (ended types) = plain (fault.OutOfOrder Header) place
 header_told features number is_module place failed = plain (fault.OutOfOrder Header) place
-
--- what is told of a body: where it may come, that it is too long
-abbrev pub body_told : Stage → Fault
-body_told (unparsed types) = fault.OutOfOrder SectionBeforeHeader
-body_told (in_module types spaces more) = fault.OutOfOrder CodeEntryBeforeCodeStart
-body_told (in_code types spaces more) = if bodies_left spaces more == 0 then fault.OutOfOrder CodeEntryWithoutFunction else fault.Limit counted.FunctionBodySize MAX_FUNCTION_SIZE
-body_told (ended types) = fault.OutOfOrder SectionAfterEnd
-body_told failed = fault.OutOfOrder SectionAfterFailure
 
 module _ {A : Type 0} where
   -- where a section may not come its order is told, at this offset

@@ -12,11 +12,12 @@
 //! and Validation, Modules).
 
 ghost use Rattle.wasm_readers_errors.specs.WasmReadersFeatures.declared.features.TheConstants.WasmFeatures.{STANDARD};
-ghost use Rattle.std.specs.Prelude.{ℕ, true, false, ◌≡◌, ◌≤◌, ◌++◌, ◌∷◌, [], IfOk, IfErr, OnOk, OnErr, IfSome, Some, None, length, map};
+ghost use Rattle.std.specs.Prelude.{ℕ, true, false, ◌≡◌, ◌≤◌, ◌++◌, ◌∷◌, [], IfOk, IfErr, OnOk, OnErr, IfSome, IfNone, Some, None, length, map};
 ghost use Rattle.std.specs.Option.{option_map};
 ghost use Rattle.wasm_validator_states.specs.WasmParser.Machine.{next_of};
-ghost use Rattle.wasm_validator_states.specs.WasmParser.Places.{starts_at, ends_at, input_end, refused_with, ReadsInput};
-ghost use Rattle.wasm_validator_states.specs.WasmParser.Seen.{seen, state, body_reader};
+ghost use Rattle.wasm_validator_states.specs.WasmParser.Places.{starts_at, ends_at, reader_end, input_end, refused_with, ReadsInput};
+ghost use Rattle.wasm_validator_states.specs.WasmParser.Seen.{seen, state, body_of, body_reader};
+ghost use Rattle.wasm_spec.specs.Framing.{CodeEntry};
 ghost use Rattle.wasm_validator_states.specs.WasmValidatorSections.SectionsTold.{StandsBetween};
 ghost use Rattle.wasm_validator_states.specs.WasmValidatorSections.WasmValidatorCore.Errors.{IsContent};
 ghost use Rattle.wasm_validator_states.specs.WasmValidatorTypes.Shown.{shown_of, HoldsIds};
@@ -24,7 +25,8 @@ ghost use Rattle.wasm_validator_states.specs.Standing.{Leaves};
 ghost use Rattle.wasm_validator_states.specs.WasmValidatorSections.WasmValidatorFunc.Functions.{Decides, StandsInOrFirst};
 ghost use Rattle.wasm_validator_states.specs.States.{after_piece, handed, left_by, takes_memory, IsSection};
 ghost use Rattle.wasm_validator_states.specs.Payloads.{HoldsTypes, IsBodyOfIts, DecidesBodies, Validates};
-ghost use Rattle.wasm_validator_modules.specs.Given.{ShowsModule, HoldsIdsAtEnd, IsFunction, KeepsBodies, IsKept, IsGivenIn, kept_behind, latest_of, bodies_given, bodies_seen, pending_seen, EndsBy, EachEndsBy, AllEndBy, GivenEndBy, TellsFormat};
+ghost use Rattle.wasm_validator_modules.specs.Given.{ShowsModule, HoldsIdsAtEnd, KeepsBodies, IsKept, IsGivenIn, kept_behind, latest_of, bodies_given, bodies_seen, pending_seen, EndsBy, EachEndsBy, AllEndBy, GivenEndBy, GoesWith, Gathers, GathersNothing, StandsAt, TellsFormat};
+ghost use Rattle.wasm_validator_states.specs.Taken.{body_seen};
 ghost use Rattle.wasm_validator_states.specs.Verdict.{DecidesModule, DecidesAlone, EndsModule, StopsModule};
 
 use crate::validator::Validator;
@@ -46,11 +48,21 @@ pub struct PendingBody<'a> {
 
 /// The functions of a module whose bodies are to be validated. What all of them share is kept once:
 /// the features, and from the first on what bodies look up.
-#[derive(Drop)]
 pub struct Bodies<'a, A: Allocator> {
     features: WasmFeatures,
     resources: Option<ValidatorResources<A>>,
     pending: Vec<PendingBody<'a>, A>,
+}
+
+// By hand, as that of `Gathered`: so each way out takes one call for it, and not a step for each field.
+impl<A: Allocator> Drop for Bodies<'_, A> {
+    fn drop(self) {
+        let Bodies {
+            features: _,
+            resources: _,
+            pending: _,
+        } = self;
+    }
 }
 
 /// What a payload that is accepted gives.
@@ -177,18 +189,84 @@ impl<A: Allocator + Copy> Validator<A> {
         let mut gathered = Gathered::new(alloc, *self.features());
         'payloads: loop {
             match next_of_input(&mut payloads) {
-                Ok(Some(payload)) => match self.payload(&payload) {
-                    Ok(valid) => gathered.take(payload, valid)?,
-                    Err(error) => return Err(error),
+                Ok(Some(payload)) => match self.gather(&payload, &mut gathered) {
+                    Ok(()) => drop(payload),
+                    Err(error) => {
+                        drop(payload);
+                        return Err(error);
+                    }
                 },
                 Ok(None) => break,
                 Err(refused) => return Err(refused),
             }
         }
-        let Gathered { ended, bodies } = gathered;
-        match ended {
-            Some(types) => Ok((types, bodies)),
+        match gathered.finish() {
+            Some(ended) => Ok(ended),
             None => unreachable!(),
+        }
+    }
+
+    /// Checks one payload, and keeps what it gives. Bodies, of which there are many, have a way of
+    /// their own, without the room that types take.
+    fn gather<'a>(
+        &mut self,
+        payload: &Payload<'a, A>,
+        gathered: &mut Gathered<'a, A>,
+    ) -> Result<(), Error<A>>
+        requires { GoesWith self.old (seen payload.now) gathered.old.bodies }
+        ensures taken { OnOk result (Gathers (seen payload.now) (ends_at payload.now)
+            self.old self.new gathered.old gathered.new) }
+        ensures refused { IfErr result (GathersNothing (seen payload.now) self.old self.new) }
+        ensures place { starts_at payload.now ≤ ends_at payload.now
+            → IfErr result (StandsBetween (starts_at payload.now) (ends_at payload.now)) }
+    {
+        match payload {
+            Payload::CodeSectionEntry(body) => self.gather_body(body, gathered),
+            other => self.gather_other(other, gathered),
+        }
+    }
+
+    /// Takes a body.
+    fn gather_body<'a>(
+        &mut self,
+        body: &FunctionBody<'a>,
+        gathered: &mut Gathered<'a, A>,
+    ) -> Result<(), Error<A>>
+        requires { GoesWith self.old (CodeEntry (body_of body.now)) gathered.old.bodies }
+        ensures taken { OnOk result (Gathers (CodeEntry (body_of body.now))
+            (reader_end (body_reader body.now)) self.old self.new gathered.old gathered.new) }
+        ensures refused { IfErr result
+            (GathersNothing (CodeEntry (body_of body.now)) self.old self.new) }
+        ensures place { IfErr result (StandsAt (body_reader body.now)) }
+    {
+        match self.code_section_entry(body) {
+            Ok(function) => match gathered.bodies.take(function, *body) {
+                Ok(()) => Ok(()),
+                Err(_) => Err(Error::OutOfMemory),
+            },
+            Err(error) => Err(error),
+        }
+    }
+
+    /// The same of any payload.
+    fn gather_other<'a>(
+        &mut self,
+        payload: &Payload<'a, A>,
+        gathered: &mut Gathered<'a, A>,
+    ) -> Result<(), Error<A>>
+        requires { GoesWith self.old (seen payload.now) gathered.old.bodies }
+        ensures taken { OnOk result (Gathers (seen payload.now) (ends_at payload.now)
+            self.old self.new gathered.old gathered.new) }
+        ensures refused { IfErr result (GathersNothing (seen payload.now) self.old self.new) }
+        ensures place { starts_at payload.now ≤ ends_at payload.now
+            → IfErr result (StandsBetween (starts_at payload.now) (ends_at payload.now)) }
+    {
+        match self.payload(payload) {
+            Ok(valid) => match gathered.take(payload, valid) {
+                Ok(()) => Ok(()),
+                Err(_) => Err(Error::OutOfMemory),
+            },
+            Err(error) => Err(error),
         }
     }
 }
@@ -225,7 +303,7 @@ pub fn answer_all<A: Allocator + Copy>(validator: &mut Validator<A>, bytes: &[u8
             };
         }
     };
-    match validate_bodies(validator.allocator(), bodies) {
+    match bodies.validate(validator.allocator()) {
         Ok(()) => Answered {
             answer: Ok(types),
             has_ended: true,
@@ -238,7 +316,31 @@ pub fn answer_all<A: Allocator + Copy>(validator: &mut Validator<A>, bytes: &[u8
 }
 
 impl<'a, A: Allocator> Bodies<'a, A> {
-    /// Puts a body behind the others, which are checked by the same look-ups.
+    /// Puts the body of this function behind the others, which are checked by the same look-ups.
+    fn take(
+        &mut self,
+        function: FuncToValidate<ValidatorResources<A>>,
+        body: FunctionBody<'a>,
+    ) -> Result<(), AllocError>
+        requires features { function.features ≡ self.old.features }
+        requires kept { IsKept self.old.resources function.resources }
+        ensures seen { OnOk result (bodies_seen self.new ≡ bodies_seen self.old
+            ++ body_seen function body.entry ∷ []) }
+        ensures features { OnOk result (self.new.features ≡ self.old.features) }
+        ensures resources { OnOk result (self.new.resources ≡ Some function.resources) }
+        ensures within { (end : ℕ) → AllEndBy end self.old → EndsBy end body.entry
+            → OnOk result (AllEndBy end self.new) }
+    {
+        let FuncToValidate {
+            resources,
+            index,
+            ty,
+            features: _,
+        } = function;
+        self.push(resources, PendingBody { index, ty, body })
+    }
+
+    /// Puts a body behind the others.
     fn push(
         &mut self,
         resources: ValidatorResources<A>,
@@ -262,11 +364,37 @@ impl<'a, A: Allocator> Bodies<'a, A> {
     }
 }
 
+impl<'a, A: Allocator + Copy> Bodies<'a, A> {
+    /// Validates the bodies of a module, if its code has some.
+    fn validate(self, alloc: A) -> Result<(), Error<A>>
+        ensures decided { DecidesBodies (bodies_seen self.entry) result }
+        ensures place { (end : ℕ) → AllEndBy end self.entry → IfErr result (StandsBetween 0 end) }
+    {
+        let Bodies {
+            features,
+            resources,
+            pending,
+        } = self;
+        match resources {
+            Some(resources) => validate_each(alloc, features, &resources, pending),
+            None => Ok(()),
+        }
+    }
+}
+
 /// What payloads gave so far.
-#[derive(Drop)]
-struct Gathered<'a, A: Allocator> {
+pub struct Gathered<'a, A: Allocator> {
     ended: Option<Types<A>>,
     bodies: Bodies<'a, A>,
+}
+
+impl<A: Allocator> Drop for Gathered<'_, A> {
+    fn drop(self) {
+        let Gathered {
+            ended: _,
+            bodies: _,
+        } = self;
+    }
 }
 
 impl<'a, A: Allocator + Copy> Gathered<'a, A> {
@@ -287,11 +415,12 @@ impl<'a, A: Allocator + Copy> Gathered<'a, A> {
         }
     }
 
-    /// Keeps what a payload gave. Where a code section starts, memory is taken for all its bodies at
-    /// once: the parser has found as many functions.
+    /// Keeps what a payload gave: the types of the module that has ended last, and each body. Where a
+    /// code section starts, memory is taken for all its bodies at once: the parser has found as many
+    /// functions.
     fn take(
         &mut self,
-        payload: Payload<'a, A>,
+        payload: &Payload<'a, A>,
         valid: ValidPayload<'a, A>,
     ) -> Result<(), AllocError>
         requires given { IsGivenIn self.old.bodies.features self.old.bodies.resources valid }
@@ -303,59 +432,34 @@ impl<'a, A: Allocator + Copy> Gathered<'a, A> {
             ≡ kept_behind self.old.bodies.resources valid.entry) }
         ensures within { (end : ℕ) → AllEndBy end self.old.bodies → GivenEndBy end valid.entry
             → OnOk result (AllEndBy end self.new.bodies) }
-        ensures memory { OnErr result (KeepsBodies (seen payload.entry) valid.entry) }
-    {
-        if let Payload::CodeSectionStart { count, .. } = payload {
-            self.bodies.pending.reserve_exact(count as usize)?;
-        }
-        self.keep(valid)
-    }
-
-    /// Keeps the types of the module that has ended last, and each body.
-    fn keep(&mut self, valid: ValidPayload<'a, A>) -> Result<(), AllocError>
-        requires given { IsGivenIn self.old.bodies.features self.old.bodies.resources valid }
-        ensures ended { OnOk result (self.new.ended ≡ latest_of self.old.ended valid.entry) }
-        ensures bodies { OnOk result (bodies_seen self.new.bodies
-            ≡ bodies_seen self.old.bodies ++ bodies_given valid.entry) }
-        ensures features { OnOk result (self.new.bodies.features ≡ self.old.bodies.features) }
-        ensures resources { OnOk result (self.new.bodies.resources
-            ≡ kept_behind self.old.bodies.resources valid.entry) }
-        ensures within { (end : ℕ) → AllEndBy end self.old.bodies → GivenEndBy end valid.entry
-            → OnOk result (AllEndBy end self.new.bodies) }
-        ensures memory { OnErr result (IsFunction valid.entry) }
+        ensures memory { OnErr result (KeepsBodies (seen payload.now) valid.entry) }
     {
         match valid {
-            ValidPayload::Ok => Ok(()),
-            ValidPayload::Func(function, body) => {
-                let FuncToValidate {
-                    resources,
-                    index,
-                    ty,
-                    features: _,
-                } = function;
-                self.bodies.push(resources, PendingBody { index, ty, body })
+            ValidPayload::Ok => {
+                if let Payload::CodeSectionStart { count, .. } = payload {
+                    self.bodies.pending.reserve_exact(*count as usize)?;
+                }
+                Ok(())
             }
+            ValidPayload::Func(function, body) => self.bodies.take(function, body),
             ValidPayload::End(types) => {
                 self.ended = Some(types);
                 Ok(())
             }
         }
     }
-}
 
-/// Validates the bodies of a module, if its code has some.
-fn validate_bodies<'a, A: Allocator + Copy>(alloc: A, bodies: Bodies<'a, A>) -> Result<(), Error<A>>
-    ensures decided { DecidesBodies (bodies_seen bodies.entry) result }
-    ensures place { (end : ℕ) → AllEndBy end bodies.entry → IfErr result (StandsBetween 0 end) }
-{
-    let Bodies {
-        features,
-        resources,
-        pending,
-    } = bodies;
-    match resources {
-        Some(resources) => validate_each(alloc, features, &resources, pending),
-        None => Ok(()),
+    /// The types of the module that has ended last, if one has, and all bodies.
+    fn finish(self) -> Option<(Types<A>, Bodies<'a, A>)>
+        ensures ended { IfSome result (λ x. self.entry.ended ≡ Some x.0) }
+        ensures bodies { IfSome result (λ x. x.1 ≡ self.entry.bodies) }
+        ensures none { IfNone result (self.entry.ended ≡ None) }
+    {
+        let Gathered { ended, bodies } = self;
+        match ended {
+            Some(types) => Some((types, bodies)),
+            None => None,
+        }
     }
 }
 

@@ -20,11 +20,8 @@
 //! too. An unknown section is refused everywhere. `wasm_spec_rules` has this table as a definition
 //! (`StateTable`), and `state_table` says that the machine keeps it.
 //!
-//! # How a section is added
-//!
-//! Its method takes the module out of the state and leaves `Failed` there (`take_module`), adds the
-//! items to it, and puts it back only if all were added (`put_back`). So what was added in part is
-//! dropped with the module, and no code undoes it.
+//! `wasm_validator_states` has the state itself (`state.rt`), and says how a section is added to the
+//! module in it.
 //!
 //! # Units
 //!
@@ -45,53 +42,44 @@ ghost use Rattle.wasm_validator_states.specs.WasmValidatorSections.declared.code
 ghost use Rattle.wasm_validator_states.specs.WasmValidatorTypeList.Interned.{AreOnce};
 ghost use Rattle.wasm_validator_states.specs.WasmValidatorTypeList.Listing.{Listing, committed};
 ghost use Rattle.wasm_readers_types.specs.declared.types.SubType.{SubType};
-ghost use Rattle.wasm_validator_modules.specs.Ready.{AreIdsIn, AreValidIn, AreFirstIn};
+ghost use Rattle.wasm_validator_states.specs.Ready.{AreIdsIn, AreValidIn, AreFirstIn};
 ghost use Rattle.wasm_validator_states.specs.WasmValidatorTypeList.DefTypes.{types_of_list};
 ghost use Rattle.wasm_validator_states.specs.WasmValidatorTypes.Shown.{shown_of, shown_by, HoldsIds};
 ghost use Rattle.wasm_validator_states.specs.Payloads.{Show};
-ghost use Rattle.wasm_validator_modules.specs.Given.{body_seen, TakesBody};
+ghost use Rattle.wasm_validator_states.specs.Taken.{body_seen};
 ghost use Rattle.wasm_validator_states.specs.Standing.{HoldsValid, Leaves, Moves, read_refused_at, body_refused_at, ended_at, fresh, is_failed, may_reset, after_reset, shown_at};
 ghost use Rattle.wasm_validator_states.specs.Verdict.{StandsApart};
-ghost use Rattle.wasm_validator_modules.specs.OrderTold.{TellsWithin, TellsReading, TellsOrder, TellsTagSection, TellsStart, TellsDataCount, header_told, body_told, end_order_told};
+ghost use Rattle.wasm_validator_states.specs.Taken.{body_told};
+ghost use Rattle.wasm_validator_modules.specs.OrderTold.{TellsWithin, TellsReading, TellsOrder, TellsTagSection, TellsStart, TellsDataCount, header_told, end_order_told};
 ghost use Rattle.wasm_validator_states.specs.WasmValidatorSections.SectionsTold.{OfContent, StandsBetween, TellsTypes, TellsImports, TellsExports, TellsFunctions, TellsTables, TellsMemories, TellsGlobals, TellsElements, TellsData};
 ghost use Rattle.wasm_validator_states.specs.States.{after_version, after_section, section_refused_at, after_start, after_data_count, after_code_start, body_at, after_body, after_end};
-ghost use Rattle.wasm_validator_modules.specs.Views.{open_of, read_of, ended_spaces, stage_of, order_at, end_order_at, body_order_at, state_kept, is_module};
+ghost use Rattle.wasm_validator_states.specs.Views.{open_of, read_of, ended_spaces, stage_of, order_at, end_order_at, body_order_at, state_kept};
+ghost use Rattle.wasm_validator_modules.specs.Views.{is_module};
 
 use bitflags::Flags;
-use std::alloc::{AllocError, Allocator, Global};
+use std::alloc::{Allocator, Global};
 use std::marker::Model;
-use std::mem;
 use std::ops::Range;
-use std::rc::Rc;
 use wasm_readers::{
     Export, Fault, Import, MemoryType, OutOfOrder, RecGroup, Refusal, Rule, SectionLimited,
     TagType, WasmFeatures,
 };
 use wasm_validator_states::parser::items::{Data, Element, Global as GlobalItem, Table};
 use wasm_validator_states::parser::{Encoding, FunctionBody};
-use wasm_validator_states::sections::validator_core::{Error, Module, check_data_count};
+use wasm_validator_states::sections::validator_core::{Error, check_data_count};
 use wasm_validator_states::sections::validator_core_resources::ValidatorResources;
 use wasm_validator_states::sections::validator_func::FuncToValidate;
 use wasm_validator_states::sections::{
-    CodeState, Constants, ModuleState, add_functions, add_imports, add_memories, add_tags,
-    add_types, check_data_segments, handed_out, started, take_elements, take_exports, take_globals,
-    take_tables, tells_types_apart,
+    Constants, ModuleState, add_functions, add_imports, add_memories, add_tags, add_types,
+    check_data_segments, started, take_elements, take_exports, take_globals, take_tables,
+    tells_types_apart,
+};
+use wasm_validator_states::state::{
+    State, close_module, find_spaces, finish_types, out_of_order, put_back, take_body, take_module,
 };
 use wasm_validator_states::types::{
-    IndexSpaces, TypeList, Types, TypesRef, ValidatorId, needs_type_canonicalization,
-    types_are_apart,
+    TypeList, Types, TypesRef, ValidatorId, needs_type_canonicalization, types_are_apart,
 };
-
-/// What a validator is doing.
-#[derive(Drop)]
-pub enum State<A: Allocator> {
-    Unparsed,
-    Module(ModuleState<A>),
-    /// The code section has started.
-    Code(CodeState<A>),
-    End,
-    Failed,
-}
 
 /// Checks modules, section by section, and keeps the types of all that it has seen.
 pub struct Validator<A: Allocator = Global> {
@@ -135,158 +123,6 @@ impl<A: Allocator> Model for Validator<A> {
     ghost invariant = { IsSound };
 }
 
-/// Why a section may not come now, where it may not.
-fn out_of_order<A: Allocator>(state: &State<A>) -> OutOfOrder
-    ensures { result ≡ order_at state.now }
-{
-    match state {
-        State::Unparsed => OutOfOrder::SectionBeforeHeader,
-        State::Code(_) => OutOfOrder::SectionAfterCodeStart,
-        State::End => OutOfOrder::SectionAfterEnd,
-        State::Module(_) | State::Failed => OutOfOrder::SectionAfterFailure,
-    }
-}
-
-/// Why `end` may not come now, where it may not.
-fn end_out_of_order<A: Allocator>(state: &State<A>) -> OutOfOrder
-    ensures { result ≡ end_order_at state.now }
-{
-    match state {
-        State::Unparsed => OutOfOrder::EndBeforeHeader,
-        State::End => OutOfOrder::EndAfterEnd,
-        State::Module(_) | State::Code(_) | State::Failed => OutOfOrder::SectionAfterFailure,
-    }
-}
-
-/// Takes the module out, where one is being read whose code has not started, and leaves `Failed` in
-/// its place.
-fn take_module<A: Allocator>(state: &mut State<A>, offset: u64) -> Result<ModuleState<A>, Refusal>
-    ensures ok { IfOk result (λ m. open_of state.old ≡ Some m.«module») }
-    ensures was { IfOk result (λ m. state.old ≡ State.Module m) }
-    ensures left { OnOk result (state.new ≡ State.Failed) }
-    ensures none { OnErr result (open_of state.old ≡ None) }
-    ensures place { IfErr result (λ r. r.offset ≡ offset) }
-    ensures refusal { IfErr result (λ r. r ≡ record
-        { fault = Fault.OutOfOrder (order_at state.old); offset = offset; missing = None }) }
-    ensures unchanged { OnErr result (state.new ≡ state.old) }
-{
-    match mem::replace(state, State::Failed) {
-        State::Module(module) => Ok(module),
-        other => {
-            let order = out_of_order(&other);
-            *state = other;
-            Err(Refusal::new(Fault::OutOfOrder(order), offset))
-        }
-    }
-}
-
-/// The index spaces of a module that ends.
-#[derive(Drop)]
-enum EndedSpaces<A: Allocator> {
-    Owned(Module<A>),
-    Shared(Rc<IndexSpaces<A>, A>),
-}
-
-/// Takes the module out, where one is being read, and leaves `Failed` in its place.
-fn close_module<A: Allocator>(state: &mut State<A>) -> Result<EndedSpaces<A>, OutOfOrder>
-    ensures ok { IfOk result (λ m. read_of state.old ≡ Some (ended_spaces m)) }
-    ensures left { OnOk result (state.new ≡ State.Failed) }
-    ensures none { OnErr result (read_of state.old ≡ None) }
-    ensures order { IfErr result (λ order. order ≡ end_order_at state.old) }
-    ensures unchanged { OnErr result (state.new ≡ state.old) }
-{
-    match mem::replace(state, State::Failed) {
-        State::Module(state) => Ok(EndedSpaces::Owned(state.module)),
-        State::Code(state) => Ok(EndedSpaces::Shared(state.spaces)),
-        other => {
-            let order = end_out_of_order(&other);
-            *state = other;
-            Err(order)
-        }
-    }
-}
-
-/// The index spaces of the module that is being read, where one is.
-fn find_spaces<A: Allocator + Copy>(state: &State<A>) -> Option<&IndexSpaces<A>>
-    ensures some { IfSome result (λ m. read_of state.now ≡ Some m.now) }
-    ensures none { IfNone result (read_of state.now ≡ None) }
-{
-    match state {
-        State::Module(state) => Some(state.module.spaces()),
-        State::Code(state) => Some(state.spaces.as_ref()),
-        _ => None,
-    }
-}
-
-/// Why a body may not come now.
-fn body_out_of_order<A: Allocator>(state: &State<A>) -> OutOfOrder
-    ensures { result ≡ body_order_at state.now }
-{
-    match state {
-        State::Unparsed => OutOfOrder::SectionBeforeHeader,
-        State::Module(_) => OutOfOrder::CodeEntryBeforeCodeStart,
-        State::Code(_) => OutOfOrder::CodeEntryWithoutFunction,
-        State::End => OutOfOrder::SectionAfterEnd,
-        State::Failed => OutOfOrder::SectionAfterFailure,
-    }
-}
-
-/// Takes one body more, where one is to come. Where it is too long, or memory is refused, the
-/// validator has failed.
-fn take_body<A: Allocator + Copy>(
-    state: &mut State<A>,
-    features: WasmFeatures,
-    body: &FunctionBody<'_>,
-) -> Result<FuncToValidate<ValidatorResources<A>>, Error<A>>
-    ensures takes { (types : TypesSoFar) → TakesBody result features body.now
-        (stage_of types state.old) (stage_of types state.new) }
-    ensures ids { (list : Listing A) → AreIdsIn list state.old → AreIdsIn list state.new }
-    ensures valid { (list : Listing A) → AreValidIn features list state.old
-        → AreValidIn features list state.new }
-    ensures first { (list : Listing A) (types : List (SubType A)) → AreFirstIn list types state.old
-        → AreFirstIn list types state.new }
-{
-    match mem::replace(state, State::Failed) {
-        State::Code(code) => match code.next_function() {
-            Some((index, ty)) => {
-                let (code, function) = handed_out(code, index, ty, features, body)?;
-                *state = State::Code(code);
-                Ok(function)
-            }
-            None => {
-                *state = State::Code(code);
-                let fault = Fault::OutOfOrder(OutOfOrder::CodeEntryWithoutFunction);
-                Err(Error::Refused(Refusal::new(fault, body.range().start)))
-            }
-        },
-        other => {
-            let fault = Fault::OutOfOrder(body_out_of_order(&other));
-            *state = other;
-            Err(Error::Refused(Refusal::new(fault, body.range().start)))
-        }
-    }
-}
-
-/// Puts the module back where a section was added to it. Where one was refused, the validator has
-/// failed.
-fn put_back<A: Allocator>(
-    state: &mut State<A>,
-    read: ModuleState<A>,
-    added: Result<(), Error<A>>,
-) -> Result<(), Error<A>>
-    requires { state.old ≡ State.Failed }
-    ensures same { result ≡ added }
-    ensures kept { state.new ≡ state_kept added read }
-{
-    match added {
-        Ok(()) => {
-            *state = State::Module(read);
-            Ok(())
-        }
-        Err(error) => Err(error),
-    }
-}
-
 /// What a check of a module says, as the answer of a section.
 fn lift_refusal<A: Allocator>(answer: Result<(), Refusal>) -> Result<(), Error<A>>
     ensures same { is_ok result ≡ is_ok answer }
@@ -296,43 +132,6 @@ fn lift_refusal<A: Allocator>(answer: Result<(), Refusal>) -> Result<(), Error<A
         Ok(()) => Ok(()),
         Err(refusal) => Err(Error::Refused(refusal)),
     }
-}
-
-/// The index spaces of a module that has ended, to be shared.
-fn share_spaces<A: Allocator + Copy>(
-    alloc: A,
-    ended: EndedSpaces<A>,
-) -> Result<Rc<IndexSpaces<A>, A>, AllocError>
-    ensures { IfOk result (λ spaces. spaces.value ≡ ended_spaces ended) }
-{
-    match ended {
-        EndedSpaces::Owned(module) => Ok(Rc::new(alloc, module.into_spaces())?),
-        EndedSpaces::Shared(spaces) => Ok(spaces),
-    }
-}
-
-/// The types of a module that has ended.
-fn finish_types<A: Allocator + Copy>(
-    id: ValidatorId,
-    features: WasmFeatures,
-    alloc: A,
-    types: &mut TypeList<A>,
-    ended: EndedSpaces<A>,
-) -> Result<Types<A>, AllocError>
-    ensures same { types.new ≡ types.old }
-    ensures shown { IfOk result (λ t. shown_of t ≡ record {
-      id = id;
-      features = features_of features;
-      list = committed types.old;
-      spaces = ended_spaces ended;
-    }) }
-    ensures once { types.old.is_canonical ≡ true → AreOnce types.old.groups }
-{
-    // Asked for what it promises: where equal types are one, no type has two ids.
-    let _is_canonical = types.is_canonical();
-    let list = types.commit()?;
-    let spaces = share_spaces(alloc, ended)?;
-    Ok(Types::new(id, features, list, spaces))
 }
 
 impl<A: Allocator + Copy> Validator<A> {

@@ -18,3 +18,6 @@ pub mod Driven
 pub mod Sequences
 pub mod Table
 pub mod SectionLaws
+pub mod Views
+pub mod Ready
+pub mod Taken

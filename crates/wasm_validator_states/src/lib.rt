@@ -1,13 +1,14 @@
 //! The states of a validator, what each payload does to them, and the laws on whole runs.
 //!
 //! A validator stands at a stage: before a header, in a module, behind the start of its code, at
-//! its end, or failed (`Standing`). The machine says for each payload where it leads, or that it is
-//! refused (`States`); `wasm_validator_modules` has the code that does as it says. The laws here
+//! its end, or failed (`Standing`; in code, `state`). The machine says for each payload where it
+//! leads, or that it is refused (`States`); `wasm_validator_modules` has the code that does as it says. The laws here
 //! join runs of the machine over the payloads of whole bytes to the definition of valid modules
 //! (Core Specification 3.0, Validation, Modules).
 #![tactic(auto)]
 
 mod maybe_owned;
+pub mod state;
 
 ghost use Rattle.wasm_validator_states.specs.Driven.{PayloadsDecide};
 ghost use Rattle.wasm_validator_states.specs.Sequences.{OneIdForOneType, OwnIdForEachType, RefusedKeepTypes};
@@ -79,9 +80,9 @@ pub mod parser {
 pub mod sections {
     pub use wasm_validator_sections::{
         CodeState, Constants, MAX_FUNCTION_SIZE, ModuleState, add_functions, add_imports,
-        add_memories, add_tags, add_types, check_data_segments, handed_out, operator_validator,
-        operators, started, take_elements, take_exports, take_globals, take_tables,
-        tells_types_apart, validator_core, validator_core_resources, validator_func,
+        add_memories, add_tags, add_types, check_data_segments, operator_validator, operators,
+        started, take_elements, take_exports, take_globals, take_tables, tells_types_apart,
+        validator_core, validator_core_resources, validator_func,
     };
 }
 

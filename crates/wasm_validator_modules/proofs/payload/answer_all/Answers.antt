@@ -11,28 +11,28 @@ returns-in-Err-clause-decided g c =
     let gives : Bodies g.row.A.Denot → List BodyToValidate = λ b. bodies_seen b in
     decides_refusal gives used_laws c.args.bytes.now c.args.validator.now c.run.new.self c.in-Err.error c.has_failed-has_failed.ensures.valid c.types_stand_apart.ensures c.in-Err.ensures.validates
 
-pub returns-in-Ok-validate_bodies-clause-decided : goal.returns-in-Ok-validate_bodies-clause-decided
-returns-in-Ok-validate_bodies-clause-decided g c =
+pub returns-in-Ok-validate-clause-decided : goal.returns-in-Ok-validate-clause-decided
+returns-in-Ok-validate-clause-decided g c =
     decides_whole used_laws c.args.bytes.now c.args.validator.now c.run.new.self c.in-Ok.ended.0 (bodies_seen c.in-Ok.ended.1)
-    c.types_stand_apart.ensures c.in-Ok.ensures.validates c.in-Ok-validate_bodies.ensures.decided
+    c.types_stand_apart.ensures c.in-Ok.ensures.validates c.in-Ok-validate.ensures.decided
 
-pub returns-in-Err-validate_bodies-clause-decided : goal.returns-in-Err-validate_bodies-clause-decided
-returns-in-Err-validate_bodies-clause-decided g c =
-    decides_body used_laws c.args.bytes.now c.args.validator.now c.run.new.self c.in-Ok.ended.0 (bodies_seen c.in-Ok.ended.1) c.in-Err-validate_bodies.error
-    c.has_failed-has_failed.ensures.valid c.types_stand_apart.ensures c.in-Ok.ensures.validates c.in-Err-validate_bodies.ensures.decided
+pub returns-in-Err-validate-clause-decided : goal.returns-in-Err-validate-clause-decided
+returns-in-Err-validate-clause-decided g c =
+    decides_body used_laws c.args.bytes.now c.args.validator.now c.run.new.self c.in-Ok.ended.0 (bodies_seen c.in-Ok.ended.1) c.in-Err-validate.error
+    c.has_failed-has_failed.ensures.valid c.types_stand_apart.ensures c.in-Ok.ensures.validates c.in-Err-validate.ensures.decided
 
-pub returns-in-Err-validate_bodies-clause-place : goal.returns-in-Err-validate_bodies-clause-place
-returns-in-Err-validate_bodies-clause-place g c = c.in-Err-validate_bodies.ensures.place (length c.args.bytes.now) c.in-Ok.ensures.within
+pub returns-in-Err-validate-clause-place : goal.returns-in-Err-validate-clause-place
+returns-in-Err-validate-clause-place g c = c.in-Err-validate.ensures.place (length c.args.bytes.now) c.in-Ok.ensures.within
 
 pub returns-in-Err-clause-stopped : goal.returns-in-Err-clause-stopped
 returns-in-Err-clause-stopped g c =
     let gives : Bodies g.row.A.Denot → List BodyToValidate = λ b. bodies_seen b in
     λ e. stops gives used_laws c.args.bytes.now c.args.validator.now c.run.new.self c.in-Err.error c.has_failed-has_failed.ensures.valid c.types_stand_apart.ensures c.in-Err.ensures.validates
 
-pub returns-in-Ok-validate_bodies-clause-ended : goal.returns-in-Ok-validate_bodies-clause-ended
-returns-in-Ok-validate_bodies-clause-ended g c =
+pub returns-in-Ok-validate-clause-ended : goal.returns-in-Ok-validate-clause-ended
+returns-in-Ok-validate-clause-ended g c =
     λ e. ends used_laws c.args.bytes.now c.args.validator.now c.run.new.self c.in-Ok.ended.0 (bodies_seen c.in-Ok.ended.1) c.types_stand_apart.ensures c.in-Ok.ensures.validates
 
-pub returns-in-Err-validate_bodies-clause-ended : goal.returns-in-Err-validate_bodies-clause-ended
-returns-in-Err-validate_bodies-clause-ended g c =
+pub returns-in-Err-validate-clause-ended : goal.returns-in-Err-validate-clause-ended
+returns-in-Err-validate-clause-ended g c =
     λ e. ends used_laws c.args.bytes.now c.args.validator.now c.run.new.self c.in-Ok.ended.0 (bodies_seen c.in-Ok.ended.1) c.types_stand_apart.ensures c.in-Ok.ensures.validates

@@ -8,7 +8,7 @@ use Rattle.wasm_validator_states.specs.WasmValidatorSections.WasmValidatorCore.T
 use Rattle.wasm_validator_modules.specs.OrderTold.{TellsDataCount}
 use Rattle.wasm_validator_modules.proofs.ToldMoves.{all_told_within, checked_told}
 use Rattle.wasm_validator_states.specs.WasmValidatorSections.declared.module_state.ModuleState.{ModuleState}
-use Rattle.wasm_validator_modules.specs.Ready.{AreIdsIn, AreValidIn, AreFirstIn}
+use Rattle.wasm_validator_states.specs.Ready.{AreIdsIn, AreValidIn, AreFirstIn}
 use Rattle.wasm_validator_modules.proofs.Sections.{open-ids, open-valid, open-first, kept-ids, kept-valid, kept-first}
 use Rattle.wasm_validator_modules.proofs.validator.Validator.data_count_section.Goals as goal
 

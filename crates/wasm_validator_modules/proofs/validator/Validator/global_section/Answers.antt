@@ -10,13 +10,13 @@ use Rattle.wasm_validator_states.specs.WasmValidatorSections.WasmValidatorCore.d
 use Rattle.wasm_validator_states.specs.WasmValidatorSections.WasmValidatorCore.Answers.{TypesSoFar, HasValidTypes}
 use Rattle.wasm_validator_states.specs.WasmValidatorSections.WasmValidatorCore.Ready.{AreIdsOf}
 use Rattle.wasm_validator_states.specs.WasmValidatorSections.Machine.{other_items, section_items}
-use Rattle.wasm_validator_modules.specs.Ready.{AreIdsIn, AreValidIn, AreFirstIn}
+use Rattle.wasm_validator_states.specs.Ready.{AreIdsIn, AreValidIn, AreFirstIn}
 use Rattle.wasm_validator_states.specs.WasmValidatorSections.SectionsTold.{TellsGlobals}
 use Rattle.wasm_validator_states.specs.WasmValidatorSections.WasmValidatorReferences.References.{section_names}
 use Rattle.wasm_validator_states.specs.WasmValidatorSections.Noted.{naming}
 use Rattle.wasm_validator_states.specs.Standing.{Standing, Moves}
 use Rattle.wasm_validator_states.specs.States.{after_section}
-use Rattle.wasm_validator_modules.specs.Views.{stage_of, order_at}
+use Rattle.wasm_validator_states.specs.Views.{stage_of, order_at}
 use Rattle.wasm_validator_modules.proofs.SectionMoves.{adds_beside, section_moves}
 use Rattle.wasm_validator_modules.proofs.Sections.{open-ids, open-valid, open-first, kept-ids, kept-valid, kept-first}
 use Rattle.wasm_validator_modules.proofs.ToldMoves.{told_within, order_within}

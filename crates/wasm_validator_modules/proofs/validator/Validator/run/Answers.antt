@@ -1,19 +1,20 @@
-use Rattle.std.proofs.Common.{◌≡◌, refl, sym, subst, ◌∙◌, ◌≤◌, arith, Option, None, List, [], ◌++◌, length}
+use Rattle.std.proofs.Common.{◌≡◌, refl, sym, ap, subst, ◌∙◌, ◌≤◌, arith, Option, None, List, [], ◌++◌, length}
 use Rattle.wasm_validator_states.specs.WasmParser.Places.{starts_at, ends_at, input_end}
 use Rattle.wasm_validator_states.specs.WasmParser.Seen.{seen, state}
 use Rattle.wasm_validator_states.proofs.WasmParser.Falls.{falls}
 use Rattle.wasm_validator_states.specs.WasmValidatorTypes.declared.shown.Types.{Types}
-use Rattle.wasm_validator_modules.specs.declared.payload.ValidPayload.{ValidPayload}
 use Rattle.wasm_validator_modules.specs.declared.payload.Bodies.{Bodies}
 use Rattle.wasm_validator_states.specs.States.{BodyToValidate}
-use Rattle.wasm_validator_modules.specs.Given.{bodies_seen, bodies_given, latest_of, IsGivenIn}
+use Rattle.wasm_validator_states.specs.Payloads.{Runs}
+use Rattle.wasm_validator_modules.specs.Given.{bodies_seen, bodies_given, latest_of, IsGivenIn, AllEndBy}
 use Rattle.wasm_validator_states.specs.WasmParser.Machine.{State}
 use Rattle.wasm_validator_modules.proofs.GoingOn.{refused_nothing}
 use Rattle.wasm_validator_modules.proofs.Together.{Together, is_on, together_step, refused_together, stuck_together}
 use Rattle.wasm_validator_modules.proofs.Bodies.{none_ends_by, given_wider, nothing_seen}
 use Rattle.wasm_validator_modules.proofs.KeptContext.{IsInKept, given_in, kept_in}
 use Rattle.wasm_validator_states.proofs.Growing.{same_features}
-use Rattle.wasm_validator_modules.proofs.Runs.{Progress, begun, progress-step, accepted, has_ended, no_memory, refused_format, rejected_payload, refused_whole, told_memory, between_wider}
+use Rattle.wasm_validator_modules.proofs.Runs.{Progress, begun, progress-step, accepted, has_ended, refused_format, rejected_payload, between_wider}
+use Rattle.wasm_validator_modules.proofs.Gathering.{refused_gathering}
 use Rattle.wasm_validator_modules.proofs.validator.Validator.run.Goals as goal
 
 pub payloads-init : goal.payloads-init
@@ -41,54 +42,46 @@ payloads-preserved g c =
     let given = rw c.in-Ok-Some.field-0-is at c.in-Ok-Some.ensures.ok in
     let within = rw c.in-Ok-Some.field-0-is at (c.in-Ok-Some.ensures.within c.payloads.invariant.1) in
     let before = bodies_seen c.payloads.gathered.bodies in
-    let P : Option (Types g.row.A.Denot) → List BodyToValidate → Type 0 = λ o bs. Progress c.args.bytes.now c.args.self.now c.payload.new.self (state c.next_of_input.new.payloads) o bs in
-    let went : P (latest_of c.payloads.gathered.ended c.in-Ok.valid) (before ++ bodies_given c.in-Ok.valid) =
-    progress-step c.args.bytes.now c.args.self.now c.payloads.self c.payload.new.self (state c.payloads.payloads) (state c.next_of_input.new.payloads) (seen c.in-Ok-Some.payload) c.payloads.gathered.ended before c.in-Ok.valid
-    c.payloads.invariant.0 given c.in-Ok.ensures.moves c.in-Ok.ensures.shown c.in-Ok.ensures.given in
+    let took = c.in-Ok.ensures.taken in
+    let P : Option (Types g.row.A.Denot) → List BodyToValidate → Type 0 = λ o bs. Progress c.args.bytes.now c.args.self.now c.gather.new.self (state c.next_of_input.new.payloads) o bs in
+    let went : P (latest_of c.payloads.gathered.ended took.valid) (before ++ bodies_given took.valid) =
+    progress-step c.args.bytes.now c.args.self.now c.payloads.self c.gather.new.self (state c.payloads.payloads) (state c.next_of_input.new.payloads) (seen c.in-Ok-Some.payload) c.payloads.gathered.ended before took.valid
+    c.payloads.invariant.0 given took.moves took.shown took.given in
     let last : ends_at c.in-Ok-Some.payload ≤ length c.args.bytes.now = omega (arith, within, c.payloads.invariant.2) in (
-      subst (λ bs. P c.take.new.self.ended bs) (sym c.in_ok-take-in-Ok.ensures.bodies)
-          (subst (λ o. P o (before ++ bodies_given c.in-Ok.valid)) (sym c.in_ok-take-in-Ok.ensures.ended) went),
+      subst (λ bs. P c.gather.new.gathered.ended bs) (sym took.bodies)
+          (subst (λ o. P o (before ++ bodies_given took.valid)) (sym took.ended) went),
       c.next_of_input.ensures.reads c.payloads.invariant.1,
       c.next_of_input.ensures.whole ∙ c.payloads.invariant.2,
-      together_step (state c.payloads.payloads) (state c.next_of_input.new.payloads) (seen c.in-Ok-Some.payload) c.args.self.now c.payloads.self c.payload.new.self given c.in-Ok.ensures.moves c.payloads.invariant.3,
-      c.in_ok-take-in-Ok.ensures.within (length c.args.bytes.now) c.payloads.invariant.4 (given_wider (ends_at c.in-Ok-Some.payload) (length c.args.bytes.now) c.in-Ok.valid last c.in-Ok.ensures.within),
-      same_features c.payloads.self c.payload.new.self (seen c.in-Ok-Some.payload) c.in-Ok.ensures.moves ∙ c.payloads.invariant.5 ∙ sym c.in_ok-take-in-Ok.ensures.features,
-      subst (λ kept. IsInKept kept c.payload.new.self.stage) (sym c.in_ok-take-in-Ok.ensures.resources)
-          (kept_in c.payloads.gathered.bodies.resources c.payloads.self c.payload.new.self (seen c.in-Ok-Some.payload) c.in-Ok.valid c.in-Ok.ensures.moves c.in-Ok.ensures.given c.payloads.invariant.6),
+      together_step (state c.payloads.payloads) (state c.next_of_input.new.payloads) (seen c.in-Ok-Some.payload) c.args.self.now c.payloads.self c.gather.new.self given took.moves c.payloads.invariant.3,
+      took.all_within (length c.args.bytes.now) c.payloads.invariant.4 (given_wider (ends_at c.in-Ok-Some.payload) (length c.args.bytes.now) took.valid last took.within),
+      same_features c.payloads.self c.gather.new.self (seen c.in-Ok-Some.payload) took.moves ∙ c.payloads.invariant.5 ∙ sym took.features,
+      subst (λ kept. IsInKept kept c.gather.new.self.stage) (sym took.resources)
+          (kept_in c.payloads.gathered.bodies.resources c.payloads.self c.gather.new.self (seen c.in-Ok-Some.payload) took.valid took.moves took.given c.payloads.invariant.6),
     )
 
-pub take-requires : goal.take-requires
-take-requires g c = record {
-  given = subst (λ features. IsGivenIn features c.payloads.gathered.bodies.resources c.in-Ok.valid) c.payloads.invariant.5
-      (given_in c.payloads.gathered.bodies.resources c.payloads.self (seen c.in-Ok-Some.payload) c.in-Ok.valid c.in-Ok.ensures.given c.payloads.invariant.6);
-}
+pub gather-requires : goal.gather-requires
+gather-requires g c = λ v given.
+    subst (λ features. IsGivenIn features c.payloads.gathered.bodies.resources v) c.payloads.invariant.5
+    (given_in c.payloads.gathered.bodies.resources c.payloads.self (seen c.in-Ok-Some.payload) v given c.payloads.invariant.6)
 
-pub returns-in_err-take-in-Ok-clause-validates : goal.returns-in_err-take-in-Ok-clause-validates
-returns-in_err-take-in-Ok-clause-validates g c =
-    let given = rw c.in-Ok-Some.field-0-is at c.in-Ok-Some.ensures.ok in
-    let before = bodies_seen c.payloads.gathered.bodies in
-    told_memory (λ (b : Bodies g.row.A.Denot). bodies_seen b) c.args.bytes.now c.args.self.now c.payload.new.self c.from_residual.result c.from_residual.ensures.1
-    (no_memory c.args.bytes.now c.args.self.now c.payloads.self c.payload.new.self (state c.payloads.payloads) (state c.next_of_input.new.payloads) (seen c.in-Ok-Some.payload) c.payloads.gathered.ended before c.in-Ok.valid
-    c.payloads.invariant.0 given c.in-Ok.ensures.moves c.in-Ok.ensures.shown c.in-Ok.ensures.given c.in_err-take-in-Ok.ensures.memory)
-
-pub returns-in-Err-payload-clause-place : goal.returns-in-Err-payload-clause-place
-returns-in-Err-payload-clause-place g c =
+pub returns-in-Err-gather-clause-place : goal.returns-in-Err-gather-clause-place
+returns-in-Err-gather-clause-place g c =
     let order = rw c.in-Ok-Some.field-0-is at c.in-Ok-Some.ensures.order in
     let within = rw c.in-Ok-Some.field-0-is at (c.in-Ok-Some.ensures.within c.payloads.invariant.1) in
-    between_wider (starts_at c.in-Ok-Some.payload) (ends_at c.in-Ok-Some.payload) 0 (length c.args.bytes.now) c.in-Err-payload.error (omega arith) (omega (arith, within, c.payloads.invariant.2)) (c.in-Err-payload.ensures.place order)
+    between_wider (starts_at c.in-Ok-Some.payload) (ends_at c.in-Ok-Some.payload) 0 (length c.args.bytes.now) c.in-Err-gather.error (omega arith) (omega (arith, within, c.payloads.invariant.2)) (c.in-Err-gather.ensures.place order)
 
 pub returns-in-Err-clause-place : goal.returns-in-Err-clause-place
 returns-in-Err-clause-place g c =
     between_wider 0 (input_end c.payloads.payloads) 0 (length c.args.bytes.now) c.in-Err.refused (omega arith) (omega (arith, c.payloads.invariant.2)) (c.in-Err.ensures.place c.payloads.invariant.1)
 
-pub returns-in-Err-payload-clause-validates : goal.returns-in-Err-payload-clause-validates
-returns-in-Err-payload-clause-validates g c =
+pub returns-in-Err-gather-clause-validates : goal.returns-in-Err-gather-clause-validates
+returns-in-Err-gather-clause-validates g c =
     let given = rw c.in-Ok-Some.field-0-is at c.in-Ok-Some.ensures.ok in
     let before = bodies_seen c.payloads.gathered.bodies in
     let gives : Bodies g.row.A.Denot → List BodyToValidate = λ b. bodies_seen b in
-    refused_whole (ValidPayload g.row.A.Denot) gives c.args.bytes.now c.args.self.now c.payloads.self c.payload.new.self (state c.payloads.payloads) (state c.next_of_input.new.payloads) c.payloads.gathered.ended before (seen c.in-Ok-Some.payload) c.in-Err-payload.error
-    c.payloads.invariant.0 given c.in-Err-payload.ensures.moves c.in-Err-payload.ensures.memory
-    (refused_together (state c.payloads.payloads) (state c.next_of_input.new.payloads) (seen c.in-Ok-Some.payload) c.args.self.now c.payloads.self c.payload.new.self given c.payloads.invariant.3)
+    refused_gathering gives c.args.bytes.now c.args.self.now c.payloads.self c.gather.new.self (state c.payloads.payloads) (state c.next_of_input.new.payloads) c.payloads.gathered.ended before (seen c.in-Ok-Some.payload) c.in-Err-gather.error
+    c.payloads.invariant.0 given c.in-Err-gather.ensures.refused
+    (refused_together (state c.payloads.payloads) (state c.next_of_input.new.payloads) (seen c.in-Ok-Some.payload) c.args.self.now c.payloads.self c.gather.new.self given c.payloads.invariant.3)
     (rejected_payload c.args.bytes.now c.args.self.now c.payloads.self (state c.payloads.payloads) (state c.next_of_input.new.payloads) (seen c.in-Ok-Some.payload) c.payloads.gathered.ended before c.payloads.invariant.0 given)
 
 pub returns-in-Err-clause-validates : goal.returns-in-Err-clause-validates
@@ -103,14 +96,16 @@ unreachable-requires g c =
     let bodies = bodies_seen c.payloads.gathered.bodies in
     let P : Option (Types g.row.A.Denot) → Type 0 = λ o. Progress c.args.bytes.now c.args.self.now c.payloads.self (state c.payloads.payloads) o bodies in
     let over = rw c.in-Ok-None.field-0-is at c.in-Ok-None.ensures.ok in
-    has_ended c.args.bytes.now c.args.self.now c.payloads.self (state c.payloads.payloads) bodies (subst P c.in-None.is c.payloads.invariant.0) over
+    has_ended c.args.bytes.now c.args.self.now c.payloads.self (state c.payloads.payloads) bodies (subst P c.in-None.ensures.none c.payloads.invariant.0) over
 
 pub returns-clause-validates : goal.returns-clause-validates
 returns-clause-validates g c =
     let bodies = bodies_seen c.payloads.gathered.bodies in
     let P : Option (Types g.row.A.Denot) → Type 0 = λ o. Progress c.args.bytes.now c.args.self.now c.payloads.self (state c.payloads.payloads) o bodies in
     let over = rw c.in-Ok-None.field-0-is at c.in-Ok-None.ensures.ok in
-    accepted c.args.bytes.now c.args.self.now c.payloads.self (state c.payloads.payloads) c.in-Some.types bodies (subst P c.in-Some.is c.payloads.invariant.0) over
+    let kept : bodies ≡ bodies_seen c.in-Some.ended.1 = ap (λ (b : Bodies g.row.A.Denot). bodies_seen b) (sym c.in-Some.ensures.bodies) in
+    subst (λ bs. Runs c.args.bytes.now c.args.self.now c.payloads.self c.in-Some.ended.0 bs) kept
+    (accepted c.args.bytes.now c.args.self.now c.payloads.self (state c.payloads.payloads) c.in-Some.ended.0 bodies (subst P c.in-Some.ensures.ended c.payloads.invariant.0) over)
 
 pub returns-clause-within : goal.returns-clause-within
-returns-clause-within g c = c.payloads.invariant.4
+returns-clause-within g c = subst (λ (b : Bodies g.row.A.Denot). AllEndBy (length c.args.bytes.now) b) (sym c.in-Some.ensures.bodies) c.payloads.invariant.4

@@ -11,7 +11,7 @@ use Rattle.wasm_validator_states.specs.WasmValidatorSections.WasmValidatorCore.d
 use Rattle.wasm_validator_states.specs.WasmValidatorSections.WasmValidatorCore.declared.error.Error.TheVariants.{Refused}
 use Rattle.wasm_validator_states.specs.WasmValidatorSections.WasmValidatorCore.Answers.{TypesSoFar, HasValidTypes}
 use Rattle.wasm_validator_states.specs.States.{after_section}
-use Rattle.wasm_validator_modules.specs.Views.{order_at, stage_of}
+use Rattle.wasm_validator_states.specs.Views.{order_at, stage_of}
 use Rattle.wasm_validator_modules.specs.OrderTold.{TellsWithin}
 use Rattle.wasm_validator_states.specs.WasmValidatorSections.SectionsTold.{OfContent, Either, TellsTags}
 use Rattle.wasm_validator_modules.proofs.ToldMoves.{told_within, order_within}
@@ -19,7 +19,7 @@ use Rattle.wasm_validator_states.specs.WasmValidatorTypeList.DefTypes.{types_of_
 use Rattle.wasm_validator_states.specs.WasmValidatorSections.WasmValidatorCore.Ready.{AreIdsOf}
 use Rattle.wasm_spec_rules.specs.FeatureFlags.{features_of}
 use Rattle.wasm_validator_states.specs.WasmValidatorSections.Machine.{other_items, section_items}
-use Rattle.wasm_validator_modules.specs.Ready.{AreIdsIn, AreValidIn, AreFirstIn}
+use Rattle.wasm_validator_states.specs.Ready.{AreIdsIn, AreValidIn, AreFirstIn}
 use Rattle.wasm_validator_states.specs.WasmValidatorSections.WasmValidatorReferences.References.{section_names}
 use Rattle.wasm_validator_states.specs.WasmValidatorSections.Noted.{naming}
 use Rattle.wasm_validator_states.specs.Standing.{Standing, Leaves, Moves}

@@ -6,12 +6,12 @@ use Rattle.wasm_validator_states.specs.WasmValidatorSections.WasmValidatorRefere
 use Rattle.wasm_validator_states.specs.WasmValidatorSections.Noted.{naming}
 use Rattle.wasm_validator_states.specs.Standing.{Standing, Moves}
 use Rattle.wasm_validator_states.specs.States.{after_section}
-use Rattle.wasm_validator_modules.specs.Views.{stage_of, order_at}
+use Rattle.wasm_validator_states.specs.Views.{stage_of, order_at}
 use Rattle.wasm_validator_modules.proofs.Sections.{open-ids, open-valid, open-first, added-ids, added-valid}
 use Rattle.wasm_validator_modules.proofs.SectionMoves.{section_moves, nothing_more}
 use Rattle.std.specs.Prelude.{IfErr}
 use Rattle.wasm_validator_states.specs.WasmValidatorSections.declared.module_state.ModuleState.{ModuleState}
-use Rattle.wasm_validator_modules.specs.Ready.{AreIdsIn, AreValidIn, AreFirstIn}
+use Rattle.wasm_validator_states.specs.Ready.{AreIdsIn, AreValidIn, AreFirstIn}
 use Rattle.wasm_validator_modules.proofs.KeptTypes.{grown-first}
 use Rattle.wasm_readers_errors.specs.WasmReadersFeatures.declared.features.WasmFeatures.{WasmFeatures}
 use Rattle.wasm_validator_states.specs.WasmValidatorTypes.Spaces.{Spaces}
