@@ -2,9 +2,9 @@
 //!
 //! A validator stands at a stage: before a header, in a module, behind the start of its code, at
 //! its end, or failed (`Standing`; in code, `state`). The machine says for each payload where it
-//! leads, or that it is refused (`States`); `wasm_validator_modules` has the code that does as it says. The laws here
-//! join runs of the machine over the payloads of whole bytes to the definition of valid modules
-//! (Core Specification 3.0, Validation, Modules).
+//! leads, or that it is refused (`States`); `wasm_validator_modules` has the code that does as it
+//! says. The laws here join runs of the machine over the payloads of whole bytes to the definition
+//! of valid modules (Core Specification 3.0, Validation, Modules).
 #![tactic(auto)]
 
 mod maybe_owned;
