@@ -9,7 +9,7 @@ pub mod module_state;
 mod plain_items;
 mod single_items;
 
-pub use code::{handed_out, started};
+pub use code::started;
 pub use code_state::{CodeState, MAX_FUNCTION_SIZE};
 pub use module_sections::{
     add_functions, add_imports, add_memories, add_tags, add_types, check_data_segments,
