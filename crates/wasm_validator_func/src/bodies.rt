@@ -80,7 +80,7 @@ fn read_instructions<'a, A: Allocator, T: WasmModuleResources>(
 {
     let mut ahead = *reader;
     'operators: while !validator.is_finished() {
-        match validator.frequent_op(resources, &mut ahead) {
+        match validator.fast_op(resources, &mut ahead) {
             Ok(()) => continue,
             Err(NotTaken::Left) => {}
             Err(NotTaken::OutOfMemory) => return Err(out_of_memory(validator)),

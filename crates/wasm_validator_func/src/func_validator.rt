@@ -1,6 +1,6 @@
 //! The validator of one function body.
 
-ghost use Rattle.std.specs.Prelude.{◌≡◌, ◌≤◌, ◌<◌, ◌^◌, ◌-◌, ◌||◌, true, false, not, is_ok, is_some, length, slice_get, IfOk, IfErr, OnErr};
+ghost use Rattle.std.specs.Prelude.{◌≡◌, ◌≤◌, ◌<◌, ◌^◌, ◌-◌, ◌||◌, true, false, not, is_ok, is_some, length, slice_get, IfOk, IfErr, OnOk, OnErr};
 ghost use Rattle.std.specs.Option.{option_map};
 ghost use Rattle.wasm_readers_bytes.specs.Reader.{SameInput, position_in, rest};
 ghost use Rattle.wasm_spec_rules.specs.FeatureFlags.{features_of};
@@ -91,6 +91,40 @@ fn check_function_type<T: WasmModuleResources>(resources: &T, ty: u32) -> Result
     }
 }
 
+/// Begins the body of a function of this type in place of what was validated before.
+///
+/// # Errors
+///
+/// Refuses, at 0, a type's index that names no function type, and more than 50,000 parameters;
+/// answers want of memory.
+#[tactic(auto, using(crate::proofs::Functions::starts))]
+fn begin<A: Allocator, T: WasmModuleResources>(
+    validator: &mut OperatorValidator<A>,
+    resources: &T,
+    ty: u32,
+    features: WasmFeatures,
+) -> Result<(), Error>
+    ensures begins { OnOk result (BeginsBody validator.new (T.context resources.now) ty) }
+    ensures few { OnOk result (length (locals_in validator.new) ≤ 50000) }
+    ensures features { OnOk result (validator.new.stacks.features ≡ features) }
+    ensures many { HasMore result (function_in (T.context resources.now) ty) }
+    ensures first { IfErr result StandsFirst }
+{
+    match check_function_type(resources, ty) {
+        Ok(()) => {}
+        Err(error) => return Err(error),
+    }
+    let begun = validator.begin_func(ty, features, resources);
+    match begun {
+        Ok(()) => {}
+        Err(error) => return Err(error.at(0)),
+    }
+    if validator.len_locals() > MAX_LOCALS {
+        return Err(refused(OperatorRule::TooManyLocals, 0));
+    }
+    Ok(())
+}
+
 impl<T: WasmModuleResources + Drop> FuncToValidate<T> {
     /// The validator of the function's body, at its start, in memory that was used before.
     ///
@@ -98,7 +132,6 @@ impl<T: WasmModuleResources + Drop> FuncToValidate<T> {
     ///
     /// Refuses, at 0, a type's index that names no function type, and more than 50,000 parameters;
     /// answers want of memory.
-    #[tactic(auto, using(crate::proofs::Functions::starts))]
     pub fn into_validator<A: Allocator>(
         self,
         allocations: FuncValidatorAllocations<A>,
@@ -118,23 +151,15 @@ impl<T: WasmModuleResources + Drop> FuncToValidate<T> {
             ty,
             features,
         } = self;
-        match check_function_type(&resources, ty) {
-            Ok(()) => {}
-            Err(error) => return Err(error),
+        let mut validator = allocations.0.validator;
+        match begin(&mut validator, &resources, ty, features) {
+            Ok(()) => Ok(FuncValidator {
+                validator,
+                resources,
+                index,
+            }),
+            Err(error) => Err(error),
         }
-        let begun = OperatorValidator::new_func(ty, features, &resources, allocations.0);
-        let validator = match begun {
-            Ok(validator) => validator,
-            Err(error) => return Err(error.at(0)),
-        };
-        if validator.len_locals() > MAX_LOCALS {
-            return Err(refused(OperatorRule::TooManyLocals, 0));
-        }
-        Ok(FuncValidator {
-            validator,
-            resources,
-            index,
-        })
     }
 
     /// Validates the function's body, in memory that was used before, and gives the memory back.
@@ -144,7 +169,6 @@ impl<T: WasmModuleResources + Drop> FuncToValidate<T> {
     /// Refused exactly where it isn't the body of a function of this type (Core Specification 3.0,
     /// Validation, Modules, Functions), and where memory is. Where the type's index names no
     /// function type, nothing is.
-    #[tactic(auto, using(crate::proofs::Functions::functions))]
     pub fn validate<A: Allocator>(
         self,
         body: &FunctionBody<'_>,
@@ -154,12 +178,35 @@ impl<T: WasmModuleResources + Drop> FuncToValidate<T> {
             (T.context self.resources) self.ty (body_of body.now)) result }
         ensures place { IfErr result (StandsInOrFirst (body_reader body.now)) }
     {
-        let mut validator = match self.into_validator(allocations) {
-            Ok(validator) => validator,
+        let mut allocations = allocations;
+        match self.validate_in(body, &mut allocations) {
+            Ok(()) => Ok(allocations),
+            Err(error) => Err(error),
+        }
+    }
+
+    /// As [`FuncToValidate::validate`], in memory that is lent for it.
+    ///
+    /// # Errors
+    ///
+    /// As [`FuncToValidate::validate`]. The memory is there for the next body all the same.
+    #[tactic(auto, using(crate::proofs::Functions::functions))]
+    pub fn validate_in<A: Allocator>(
+        self,
+        body: &FunctionBody<'_>,
+        allocations: &mut FuncValidatorAllocations<A>,
+    ) -> Result<(), Error>
+        ensures decides { Decides (IsFunctionBody (features_of self.features)
+            (T.context self.resources) self.ty (body_of body.now)) result }
+        ensures place { IfErr result (StandsInOrFirst (body_reader body.now)) }
+    {
+        let validator = &mut allocations.0.validator;
+        match begin(validator, &self.resources, self.ty, self.features) {
+            Ok(()) => {}
             Err(error) => return Err(error),
-        };
-        match validator.validate(body) {
-            Ok(()) => Ok(validator.into_allocations()),
+        }
+        match check_body(validator, &self.resources, body) {
+            Ok(()) => Ok(()),
             Err(error) => Err(error),
         }
     }

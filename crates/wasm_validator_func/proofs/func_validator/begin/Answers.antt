@@ -1,6 +1,6 @@
 use Rattle.std.proofs.Common.{ℕ}
 use Rattle.wasm_validator_func.proofs.Functions.{many_told, many_counted}
-use Rattle.wasm_validator_func.proofs.func_validator.FuncToValidate.into_validator.Goals as goal
+use Rattle.wasm_validator_func.proofs.func_validator.begin.Goals as goal
 
 pub returns-in-Err-begun-clause-many : goal.returns-in-Err-begun-clause-many
 returns-in-Err-begun-clause-many g c = many_told ℕ ℕ _ _ _ c.in-Err-begun.ensures.many c.at.ensures
