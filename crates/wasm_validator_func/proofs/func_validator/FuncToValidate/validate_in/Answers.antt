@@ -15,8 +15,8 @@ returns-in-Ok-check_body-clause-decides g c =
     let took : body_in v C bytes ≡ Some (locals_in w, typed_state w) = c.in-Ok-check_body.ensures.took in
     accepted v (features_of c.args.self.features) C c.args.self.ty bytes (locals_in w) (typed_state w) (ap features_of c.in-Ok.ensures.features) c.in-Ok.ensures.few c.in-Ok.ensures.begins took
 
-pub returns-in-Err-check_body-clause-decides : goal.returns-in-Err-check_body-clause-decides
-returns-in-Err-check_body-clause-decides g c =
+pub returns-clause-decides : goal.returns-clause-decides
+returns-clause-decides g c =
     let C = g.T.WasmModuleResources.context c.args.self.resources in
     let v = c.begin.new.validator in
     let w = c.check_body.new.validator in
