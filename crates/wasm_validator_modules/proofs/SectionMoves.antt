@@ -1,5 +1,6 @@
 -- How the items of a section that are added where types are valid move a validator.
-use Rattle.std.proofs.Common.{◌≡◌, refl, sym, ap, subst, ◌∙◌, ℕ, true, not, cond, Option, Some}
+use Rattle.std.proofs.Common.{◌≡◌, refl, sym, ap, subst, ◌∙◌, ℕ, true, not, cond, Option, Some, None}
+use Rattle.std.proofs.lemmas.Option.{none-some}
 use Rattle.wasm_spec_rules.specs.FeatureFlags.{features_of}
 use Rattle.std.specs.Option.{option_and_then}
 use Rattle.std.specs.Prelude.{OnOk}
@@ -17,7 +18,6 @@ use Rattle.wasm_validator_states.specs.WasmValidatorSections.Noted.{Noted, noted
 use Rattle.wasm_validator_states.specs.Standing.{Stage, in_module, Standing, HoldsValid, refused_at, read_refused_at, within, at_stage, Moves}
 use Rattle.wasm_validator_states.specs.States.{section_refused_at}
 use Rattle.wasm_validator_states.specs.Views.{stage_of, state_kept}
-use Rattle.wasm_validator_states.proofs.WasmValidatorSections.ItemSteps.{none_nowhere}
 use Rattle.wasm_validator_states.proofs.Growing.{within_some}
 
 module _ (id : ℕ) (features : WasmFeatures) (types : TypesSoFar) (m : Spaces) (k : Noted) (note : Noted → Noted) where
@@ -55,6 +55,10 @@ module _ {T A : Type 0} (id : ℕ) (features : WasmFeatures) (types : TypesSoFar
 pub nothing_more : {T A : Type 0} (r : Result T (Error A)) (m n : ModuleState A) → noted_of m ≡ noted_of n → OnOk r (noted_of m ≡ noted_of n)
 nothing_more (results.Ok x) m n e = e
 nothing_more (results.Err w) m n e = tt
+
+-- what is nothing satisfies nothing
+none_nowhere : {S : Type 0} (P : S → Type 0) (o : Option S) → o ≡ None → IsNowhere P o
+none_nowhere P o n = λ s e p. none-some s (sym n ∙ e)
 
 -- a section that leaves the list of types
 pub adds_beside : {T A : Type 0} (P : TypesSoFar × Spaces → Type 0) (types : TypesSoFar) (r : Result T (Error A)) (o : Option Spaces) (m : Spaces) → Adds r o m → AddsWhere P r (option_and_then (λ s. Some (types, s)) o) (types, m)
