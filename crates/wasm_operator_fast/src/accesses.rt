@@ -16,7 +16,7 @@ use wasm_operators_plain::{MemArg, MemoryOperator, NumberType};
 use wasm_readers_types::MemoryType;
 
 /// The greatest alignment that an access may have. It is `max_align` again, in place.
-#[inline(always)]
+#[inline]
 fn align_in_place(op: MemoryOperator) -> u8
     ensures { result ≡ max_align_of op }
 {
