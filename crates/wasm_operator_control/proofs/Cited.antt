@@ -2,6 +2,5 @@
 pub use Rattle.wasm_operator_numbers.proofs.WasmOperatorChecks.Acting.{acts}
 pub use Rattle.wasm_operator_numbers.proofs.WasmOperatorChecks.Typing.{types}
 unfoldable pub use Rattle.wasm_operator_numbers.specs.WasmOperatorChecks.Steps.{Took}
-pub use Rattle.wasm_operator_numbers.proofs.WasmOperatorChecks.Taking.{exchanges}
 pub use Rattle.wasm_operator_numbers.proofs.WasmOperatorChecks.Taking.{two}
 pub use Rattle.wasm_operator_numbers.proofs.WasmOperatorChecks.Listing.{list_checks}

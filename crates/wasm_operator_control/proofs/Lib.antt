@@ -8,4 +8,5 @@ pub mod Returned
 pub mod Halted
 pub mod Called
 pub mod Peeking
+pub mod Knowing
 pub mod Cited

@@ -38,9 +38,3 @@ module _ {A : Type 0} (v : Stacks A) (C : Context UnpackedIndex) (k : ℕ) (o : 
   is_within u = one_more v.operands k o u
 
 pub ruleset peeks = (peeked, given_again, is_within)
-
-module _ (W : World UnpackedIndex) where
-  pub three_there : (u v w : Val UnpackedIndex) (s t x y : State UnpackedIndex) → pop_val W w s ≡ Some t → pop_val W v t ≡ Some x → pop_val W u x ≡ Some y → pop_vals W (u ∷ v ∷ w ∷ []) s ≡ Some y
-  three_there u v w s t x y e f g = rw (e, f, g) refl
-
-pub ruleset three = (three_there)

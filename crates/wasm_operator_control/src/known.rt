@@ -1,38 +1,120 @@
 //! Operators that take some operands, whose types are known, and give others.
 
-ghost use Rattle.std.specs.Prelude.{◌≡◌, Option};
+ghost use Rattle.std.specs.Prelude.{◌≡◌, ◌∷◌, [], Option};
 ghost use Rattle.wasm_readers_types.specs.WasmReadersValues.declared.indices.UnpackedIndex.{UnpackedIndex};
 ghost use Rattle.wasm_operator_numbers.specs.WasmOperatorChecks.WasmOperatorSteps.Machine.{State};
 ghost use Rattle.wasm_operator_numbers.specs.WasmOperatorChecks.WasmValidatorResources.Answers.{world};
 ghost use Rattle.wasm_operator_numbers.specs.WasmOperatorChecks.WasmOperatorStacks.Seen.{state_of, Kept};
 ghost use Rattle.wasm_operator_numbers.specs.WasmOperatorChecks.Steps.{Took};
-ghost use Rattle.wasm_operator_numbers.specs.WasmOperatorChecks.SeenTypes.{types_seen, takes_seen, exchanged};
+ghost use Rattle.wasm_operator_numbers.specs.WasmOperatorChecks.WasmOperatorStacks.SeenTypeWords.{val_in};
+ghost use Rattle.wasm_operator_numbers.specs.WasmOperatorChecks.SeenTypes.{exchanged};
 ghost use Rattle.wasm_operator_control.specs.Fast.{Fast};
 
 use crate::not_taken::NotTaken;
-use crate::peeks::peek_takes;
+use crate::peeks::peek;
 use std::alloc::Allocator;
-use wasm_operator_numbers::operator_checks::{OperatorError, Takes, ValTypes, exchange_types};
-use wasm_operator_numbers::operator_stacks::Stacks;
+use wasm_operator_numbers::operator_checks::OperatorError;
+use wasm_operator_numbers::operator_stacks::{Stacks, TypeWord, Word};
 use wasm_operator_numbers::validator_resources::WasmModuleResources;
 
-/// Takes operands that are known to be of some types, and gives others. Where they aren't known to be,
-/// all stays.
+/// Gives an operand of this type.
 #[inline(always)]
-#[tactic(auto, using(crate::proofs::Cited::exchanges), unfolding(crate::specs::Fast::Fast))]
-pub fn exchange_known<'a, A: Allocator, T: WasmModuleResources>(
+#[tactic(auto, using(crate::proofs::Knowing::gives), unfolding(crate::specs::Fast::Fast))]
+pub fn give_known<A: Allocator, T: WasmModuleResources>(
+    stacks: &mut Stacks<A>,
+    _resources: &T,
+    gives: TypeWord,
+) -> Result<(), NotTaken>
+    ensures took { Fast result (exchanged (world (T.context _resources.now)) []
+        (val_in gives ∷ []) (state_of stacks.old)) (state_of stacks.old) (state_of stacks.new) }
+    ensures same { Kept stacks.old stacks.new }
+{
+    match stacks.push(Word::known(gives)) {
+        Ok(()) => Ok(()),
+        Err(_) => Err(NotTaken::OutOfMemory),
+    }
+}
+
+/// Takes an operand that is known to be of a type. Where it isn't known to be, all stays.
+#[inline(always)]
+#[tactic(auto, using(crate::proofs::Knowing::takes), unfolding(crate::specs::Fast::Fast))]
+pub fn take_known<A: Allocator, T: WasmModuleResources>(
     stacks: &mut Stacks<A>,
     resources: &T,
-    takes: Takes<'a>,
-    gives: ValTypes<'a>,
+    takes: TypeWord,
 ) -> Result<(), NotTaken>
     ensures took { Fast result (exchanged (world (T.context resources.now))
-        (takes_seen takes.entry) (types_seen gives.entry) (state_of stacks.old))
+        (val_in takes ∷ []) [] (state_of stacks.old)) (state_of stacks.old)
+        (state_of stacks.new) }
+    ensures same { Kept stacks.old stacks.new }
+{
+    peek(stacks, resources, 0, takes)?;
+    stacks.take(1);
+    Ok(())
+}
+
+/// Takes two operands that are known to be of these types, the second one on top. Where they
+/// aren't known to be, all stays.
+#[inline(always)]
+#[tactic(auto, using(crate::proofs::Knowing::takes), unfolding(crate::specs::Fast::Fast))]
+pub fn take_two_known<A: Allocator, T: WasmModuleResources>(
+    stacks: &mut Stacks<A>,
+    resources: &T,
+    first: TypeWord,
+    second: TypeWord,
+) -> Result<(), NotTaken>
+    ensures took { Fast result (exchanged (world (T.context resources.now))
+        (val_in first ∷ val_in second ∷ []) [] (state_of stacks.old)) (state_of stacks.old)
+        (state_of stacks.new) }
+    ensures same { Kept stacks.old stacks.new }
+{
+    peek(stacks, resources, 1, first)?;
+    peek(stacks, resources, 0, second)?;
+    stacks.take(2);
+    Ok(())
+}
+
+/// Takes an operand that is known to be of a type, and gives one. Where it isn't known to be, all
+/// stays.
+#[inline(always)]
+#[tactic(auto, using(crate::proofs::Knowing::takes), unfolding(crate::specs::Fast::Fast))]
+pub fn exchange_known<A: Allocator, T: WasmModuleResources>(
+    stacks: &mut Stacks<A>,
+    resources: &T,
+    takes: TypeWord,
+    gives: TypeWord,
+) -> Result<(), NotTaken>
+    ensures took { Fast result (exchanged (world (T.context resources.now))
+        (val_in takes ∷ []) (val_in gives ∷ []) (state_of stacks.old)) (state_of stacks.old)
+        (state_of stacks.new) }
+    ensures same { Kept stacks.old stacks.new }
+{
+    peek(stacks, resources, 0, takes)?;
+    match stacks.exchange(1, Word::known(gives)) {
+        Ok(()) => Ok(()),
+        Err(_) => Err(NotTaken::OutOfMemory),
+    }
+}
+
+/// Takes two operands that are known to be of these types, the second one on top, and gives one.
+/// Where they aren't known to be, all stays.
+#[inline(always)]
+#[tactic(auto, using(crate::proofs::Knowing::takes), unfolding(crate::specs::Fast::Fast))]
+pub fn exchange_two_known<A: Allocator, T: WasmModuleResources>(
+    stacks: &mut Stacks<A>,
+    resources: &T,
+    first: TypeWord,
+    second: TypeWord,
+    gives: TypeWord,
+) -> Result<(), NotTaken>
+    ensures took { Fast result (exchanged (world (T.context resources.now))
+        (val_in first ∷ val_in second ∷ []) (val_in gives ∷ []) (state_of stacks.old))
         (state_of stacks.old) (state_of stacks.new) }
     ensures same { Kept stacks.old stacks.new }
 {
-    let taken = peek_takes(stacks, resources, takes)?;
-    match exchange_types(stacks, taken, gives) {
+    peek(stacks, resources, 1, first)?;
+    peek(stacks, resources, 0, second)?;
+    match stacks.exchange(2, Word::known(gives)) {
         Ok(()) => Ok(()),
         Err(_) => Err(NotTaken::OutOfMemory),
     }

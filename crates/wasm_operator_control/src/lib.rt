@@ -24,11 +24,13 @@ pub use ends::end;
 pub use frames::open_frame;
 pub use globals::{global_get, global_set};
 pub use halts::halt_with;
-pub use known::{as_fast, exchange_known};
+pub use known::{
+    as_fast, exchange_known, exchange_two_known, give_known, take_known, take_two_known,
+};
 pub use labels::{block_gives, block_takes, frame_at, function_type, label_types, returned_types};
 pub use locals::{drop_any, local_get, local_set, local_tee};
 pub use not_taken::NotTaken;
-pub use peeks::{peek, peek_takes, peek_types};
+pub use peeks::{peek, peek_types};
 pub use reach::{function_reached, null_or, type_reached};
 pub use results::{match_types, returns, val_types_of};
 pub use step::step_call;

@@ -5,13 +5,13 @@ ghost use Rattle.wasm_operator_numbers.specs.WasmOperatorChecks.WasmOperatorStac
 ghost use Rattle.wasm_operator_numbers.specs.WasmOperatorChecks.WasmOperatorSteps.Machine.{known, pop_any, pop_val, pop_vals, push_operand};
 ghost use Rattle.wasm_operator_numbers.specs.WasmOperatorChecks.WasmValidatorResources.Answers.{world};
 ghost use Rattle.wasm_operator_numbers.specs.WasmOperatorChecks.WasmOperatorStacks.Seen.{state_of, below};
-ghost use Rattle.wasm_operator_numbers.specs.WasmOperatorChecks.SeenTypes.{types_seen, takes_seen};
+ghost use Rattle.wasm_operator_numbers.specs.WasmOperatorChecks.SeenTypes.{types_seen};
 ghost use Rattle.wasm_readers_types.specs.WasmReadersValues.SeenValues.{val_of};
 ghost use Rattle.wasm_operator_control.specs.Fast.{Peeked};
 
 use crate::not_taken::NotTaken;
 use std::alloc::Allocator;
-use wasm_operator_numbers::operator_checks::{Takes, ValTypes};
+use wasm_operator_numbers::operator_checks::ValTypes;
 use wasm_operator_numbers::operator_stacks::{Stacks, TypeWord};
 use wasm_operator_numbers::validator_resources::WasmModuleResources;
 use wasm_readers_types::ValType;
@@ -118,37 +118,5 @@ pub fn peek_types<'a, A: Allocator, T: WasmModuleResources>(
         ValTypes::None => Ok(first),
         ValTypes::One(ty) => peek_next(stacks, resources, first, ty),
         ValTypes::Many(types) => peek_many(stacks, resources, first, types),
-    }
-}
-
-/// Looks whether the operands are on top that an operator takes, and how many they are.
-#[inline(always)]
-#[tactic(auto, using(crate::proofs::Cited::two, crate::proofs::Peeking::three))]
-pub fn peek_takes<'a, A: Allocator, T: WasmModuleResources>(
-    stacks: &Stacks<A>,
-    resources: &T,
-    takes: Takes<'a>,
-) -> Result<usize, NotTaken>
-    ensures { Peeked result (pop_vals (world (T.context resources.now)) (takes_seen takes.entry)
-        (state_of stacks.now)) (state_of stacks.now) }
-{
-    match takes {
-        Takes::None => Ok(0),
-        Takes::One(ty) => {
-            peek(stacks, resources, 0, ty)?;
-            Ok(1)
-        }
-        Takes::Two(first, second) => {
-            peek(stacks, resources, 1, first)?;
-            peek(stacks, resources, 0, second)?;
-            Ok(2)
-        }
-        Takes::Three(first, second, third) => {
-            peek(stacks, resources, 2, first)?;
-            peek(stacks, resources, 1, second)?;
-            peek(stacks, resources, 0, third)?;
-            Ok(3)
-        }
-        Takes::Many(types) => peek_many(stacks, resources, 0, types),
     }
 }

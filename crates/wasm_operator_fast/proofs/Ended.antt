@@ -1,5 +1,6 @@
--- The end of a frame that gives nothing or one value.
-use Rattle.std.proofs.Common.{◌≡◌, ◌-◌, true, false, [], ◌∷◌, length, drop, refl, sym, ◌∙◌, ap, arith}
+-- The end of a frame whose operands are known to be of its type.
+use Rattle.std.proofs.Common.{◌≡◌, ℕ, ◌-◌, true, false, List, [], ◌∷◌, length, drop, refl, sym, ◌∙◌, ap, arith}
+use Rattle.std.specs.Option.{option_map}
 use Rattle.std.specs.Prelude.{Some}
 use Rattle.std.proofs.lemmas.Option.{same_Some}
 use Rattle.wasm_spec.specs.MatchingTests.{World}
@@ -8,7 +9,7 @@ use Rattle.wasm_operator_control.specs.WasmOperatorChecks.WasmSpecRules.Contexts
 use Rattle.wasm_readers_types.specs.WasmReadersValues.declared.indices.UnpackedIndex.{UnpackedIndex}
 use Rattle.wasm_operators.specs.Control.{empty_block, value_block}
 use Rattle.wasm_operator_control.specs.WasmOperatorChecks.WasmOperatorSteps.Actions.{leave}
-use Rattle.wasm_operator_control.specs.WasmOperatorChecks.WasmOperatorSteps.Machine.{Kind, block_kind, loop_kind, if_kind, else_kind, try_table_kind, legacy_try_kind, legacy_catch_kind, legacy_catch_all_kind, is_if, State, known, pop_val, push_operand}
+use Rattle.wasm_operator_control.specs.WasmOperatorChecks.WasmOperatorSteps.Machine.{Kind, block_kind, loop_kind, if_kind, else_kind, try_table_kind, legacy_try_kind, legacy_catch_kind, legacy_catch_all_kind, is_if, State, known, pop_val, pop_vals, push_operand, push_vals}
 use Rattle.wasm_operator_control.specs.WasmOperatorChecks.WasmSpecRules.Signatures.{Signature}
 use Rattle.wasm_operator_control.specs.WasmOperatorChecks.WasmValidatorResources.Answers.{world}
 use Rattle.wasm_operator_control.specs.WasmOperatorChecks.WasmOperatorStacks.Seen.{state_of, below}
@@ -16,6 +17,7 @@ use Rattle.wasm_operator_control.specs.WasmOperatorChecks.WasmOperatorStacks.See
 use Rattle.wasm_operator_control.specs.WasmOperatorChecks.WasmOperatorStacks.declared.stacks.Stacks.{Stacks}
 use Rattle.wasm_operator_control.specs.WasmOperatorChecks.Steps.{acted}
 use Rattle.wasm_operator_control.specs.Blocks.{signature_in, ends_in}
+use Rattle.wasm_operator_control.proofs.WasmOperatorChecks.Looking.{look_bottom}
 use Rattle.wasm_operator_control.proofs.Ended.{end_is}
 
 nothing_ends : (W : World UnpackedIndex) (k : Kind) → true ≡ ends_in W k (record { takes = []; gives = [] })
@@ -55,4 +57,18 @@ module _ {A : Type 0} (v : Stacks A) (C : Context UnpackedIndex) (new : State Un
       end_is v C (x ∷ []) 1 v.frame.init_height true (state_of v) new e (rw f refl) p h
       (λ g j. other_ends (world C) (kind_of v.frame.kind) g i) refl (sym q) refl n
 
-pub ruleset ends = (end_empty, end_value)
+  pub end_types : (vs : List (Val UnpackedIndex)) (k h : ℕ) (mid : State UnpackedIndex) → v.is_open ≡ true → Some vs ≡ option_map (λ g. g.gives) (signature_in C (block_in v.frame.block)) → is_if (kind_of v.frame.kind) ≡ false → pop_vals (world C) vs (state_of v) ≡ Some (below k (state_of v))
+      → length v.operands - k ≡ v.frame.height → mid ≡ push_vals vs (below k (state_of v)) → h ≡ v.frame.init_height → new ≡ record mid { frames = drop 1 mid.frames; inits = drop (length mid.inits - h) mid.inits } → acted v C (leave ∷ []) ≡ Some new
+  end_types vs k h mid e f i p d q j n =
+      end_is v C vs k h true mid new e f p d (λ g l. other_ends (world C) (kind_of v.frame.kind) g i) refl q j n
+
+-- where code isn't reached and no operand is left, operands of any types
+module _ {A : Type 0} (v : Stacks A) (W : World UnpackedIndex) where
+  pub unreached_pops : (vs : List (Val UnpackedIndex)) → v.is_open ≡ true → v.frame.unreachable ≡ true → length v.operands ≡ v.frame.height → pop_vals W vs (state_of v) ≡ Some (state_of v)
+  unreached_pops [] e u h = refl
+  unreached_pops (x ∷ xs) e u h =
+      rw (unreached_pops xs e u h, look_bottom v.operands v.is_open v.frame v.outer v.locals.inits 0 e h u) refl
+
+pub ruleset unreached = (unreached_pops)
+
+pub ruleset ends = (end_empty, end_value, end_types)

@@ -7,16 +7,16 @@ ghost use Rattle.wasm_operator_control.specs.WasmOperatorChecks.WasmOperatorStac
 ghost use Rattle.wasm_operator_control.specs.Fast.{Performs};
 
 use std::alloc::Allocator;
-use wasm_operator_control::operator_checks::{Takes, ValTypes, address};
+use wasm_operator_control::operator_checks::address;
 use wasm_operator_control::operator_numbers::allows_number;
 use wasm_operator_control::operator_stacks::{Stacks, TypeWord};
 use wasm_operator_control::validator_resources::WasmModuleResources;
-use wasm_operator_control::{NotTaken, exchange_known};
+use wasm_operator_control::{NotTaken, exchange_known, take_two_known};
 use wasm_operators_plain::{MemArg, MemoryOperator, NumberType};
 use wasm_readers_types::MemoryType;
 
 /// The greatest alignment that an access may have. It is `max_align` again, in place.
-#[inline]
+#[inline(always)]
 fn align_in_place(op: MemoryOperator) -> u8
     ensures { result ≡ max_align_of op }
 {
@@ -81,8 +81,8 @@ fn load<A: Allocator, T: WasmModuleResources>(
             exchange_known(
                 stacks,
                 resources,
-                Takes::One(address(memory.memory64)),
-                ValTypes::One(TypeWord::number(ty)),
+                address(memory.memory64),
+                TypeWord::number(ty),
             )
         }
         None => Err(NotTaken::Left),
@@ -111,11 +111,11 @@ fn store<A: Allocator, T: WasmModuleResources>(
             if !fits(memory, op, arg) {
                 return Err(NotTaken::Left);
             }
-            exchange_known(
+            take_two_known(
                 stacks,
                 resources,
-                Takes::Two(address(memory.memory64), TypeWord::number(ty)),
-                ValTypes::None,
+                address(memory.memory64),
+                TypeWord::number(ty),
             )
         }
         None => Err(NotTaken::Left),

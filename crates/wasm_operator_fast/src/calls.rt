@@ -7,10 +7,10 @@ ghost use Rattle.wasm_operator_control.specs.Fast.{Performs};
 
 use crate::general::call_generally;
 use std::alloc::Allocator;
-use wasm_operator_control::operator_checks::{Takes, exchange_types};
+use wasm_operator_control::operator_checks::{ValTypes, exchange_types};
 use wasm_operator_control::operator_stacks::Stacks;
 use wasm_operator_control::validator_resources::WasmModuleResources;
-use wasm_operator_control::{NotTaken, function_reached, peek_takes, val_types_of};
+use wasm_operator_control::{NotTaken, function_reached, peek_types, val_types_of};
 
 /// `call`. Where it isn't seen at once that the operands are of the function's types, the general
 /// way decides.
@@ -29,7 +29,7 @@ pub(crate) fn call_function<A: Allocator, T: WasmModuleResources>(
         Ok(signature) => signature,
         Err(_) => return Err(NotTaken::Left),
     };
-    match peek_takes(stacks, resources, Takes::Many(signature.params())) {
+    match peek_types(stacks, resources, 0, ValTypes::Many(signature.params())) {
         Ok(taken) => match exchange_types(stacks, taken, val_types_of(signature.results())) {
             Ok(()) => Ok(()),
             Err(_) => Err(NotTaken::OutOfMemory),

@@ -1,17 +1,20 @@
 //! The end of a frame.
 
 ghost use Rattle.std.specs.Prelude.{◌≡◌};
-ghost use Rattle.wasm_operator_control.specs.WasmOperatorChecks.WasmOperatorSteps.Machine.{is_if};
+ghost use Rattle.wasm_operator_control.specs.WasmOperatorChecks.WasmOperatorSteps.Machine.{is_if, pop_vals};
 ghost use Rattle.wasm_operator_control.specs.WasmOperatorChecks.WasmOperatorSteps.Shapes.{closing};
-ghost use Rattle.wasm_operator_control.specs.WasmOperatorChecks.WasmOperatorStacks.Seen.{Kept};
+ghost use Rattle.wasm_operator_control.specs.WasmOperatorChecks.WasmValidatorResources.Answers.{world};
+ghost use Rattle.wasm_operator_control.specs.WasmOperatorChecks.WasmOperatorStacks.Seen.{state_of, Kept};
+ghost use Rattle.wasm_operator_control.specs.WasmOperatorChecks.SeenTypes.{types_seen};
 ghost use Rattle.wasm_operator_control.specs.WasmOperatorChecks.WasmOperatorStacks.SeenBlocks.{kind_of};
-ghost use Rattle.wasm_operator_control.specs.Fast.{Performs};
+ghost use Rattle.wasm_operator_control.specs.Fast.{Peeked, Performs};
 
 use crate::general::end_generally;
 use std::alloc::Allocator;
+use wasm_operator_control::operator_checks::{ValTypes, exchange_types};
 use wasm_operator_control::operator_stacks::{Block, Stacks};
 use wasm_operator_control::validator_resources::WasmModuleResources;
-use wasm_operator_control::{NotTaken, peek};
+use wasm_operator_control::{NotTaken, block_gives, peek, peek_types};
 use wasm_operators::FrameKind;
 
 /// Whether a frame is that of an `if` before its `else`.
@@ -31,7 +34,67 @@ fn is_if(kind: FrameKind) -> bool
     }
 }
 
-/// `end`. What a frame of a function type gives is looked for by the general way.
+/// Looks whether operands of these types are on top: such that are known to be of them, or any where
+/// code isn't reached and none is left.
+#[inline(always)]
+#[tactic(auto, using(crate::proofs::Ended::unreached))]
+fn peek_results<'a, A: Allocator, T: WasmModuleResources>(
+    stacks: &Stacks<A>,
+    resources: &T,
+    types: ValTypes<'a>,
+) -> Result<usize, NotTaken>
+    ensures { Peeked result (pop_vals (world (T.context resources.now)) (types_seen types.entry)
+        (state_of stacks.now)) (state_of stacks.now) }
+{
+    if stacks.is_open
+        && stacks.frame.unreachable
+        && stacks.operands.len() == stacks.frame.height
+    {
+        return Ok(0);
+    }
+    peek_types(stacks, resources, 0, types)
+}
+
+/// The end of a frame of a function type. That of an `if` is left to the general way, and so is one
+/// where it isn't seen at once that the operands are of the type.
+#[inline(never)]
+#[tactic(auto, using(crate::proofs::Fasting::acts, crate::proofs::Ended::ends))]
+fn end_typed<A: Allocator, T: WasmModuleResources>(
+    stacks: &mut Stacks<A>,
+    resources: &T,
+) -> Result<(), NotTaken>
+    ensures took { Performs result (T.context resources.now) closing
+        stacks.old stacks.new }
+    ensures same { Kept stacks.old stacks.new }
+{
+    if !stacks.is_open {
+        return Err(NotTaken::Left);
+    }
+    let frame = stacks.frame;
+    if is_if(frame.kind) {
+        return end_generally(stacks, resources);
+    }
+    let types = match block_gives(resources, frame.block) {
+        Some(types) => types,
+        None => return Err(NotTaken::Left),
+    };
+    let taken = match peek_results(stacks, resources, types) {
+        Ok(taken) => taken,
+        Err(_) => return end_generally(stacks, resources),
+    };
+    if stacks.operands.len() - taken != frame.height {
+        return Err(NotTaken::Left);
+    }
+    match exchange_types(stacks, taken, types) {
+        Ok(()) => {
+            stacks.close();
+            Ok(())
+        }
+        Err(_) => Err(NotTaken::OutOfMemory),
+    }
+}
+
+/// `end`.
 #[inline(always)]
 #[tactic(auto, using(crate::proofs::Fasting::acts, crate::proofs::Ended::ends))]
 pub(crate) fn end<A: Allocator, T: WasmModuleResources>(
@@ -64,6 +127,6 @@ pub(crate) fn end<A: Allocator, T: WasmModuleResources>(
             stacks.close();
             Ok(())
         }
-        Block::Func(_) => end_generally(stacks, resources),
+        Block::Func(_) => end_typed(stacks, resources),
     }
 }

@@ -6,10 +6,10 @@ ghost use Rattle.wasm_operator_control.specs.WasmOperatorChecks.WasmOperatorStac
 ghost use Rattle.wasm_operator_control.specs.Fast.{Performs};
 
 use std::alloc::Allocator;
-use wasm_operator_control::operator_checks::{Takes, ValTypes, reaches};
+use wasm_operator_control::operator_checks::reaches;
 use wasm_operator_control::operator_stacks::{Stacks, TypeWord};
 use wasm_operator_control::validator_resources::WasmModuleResources;
-use wasm_operator_control::{NotTaken, exchange_known};
+use wasm_operator_control::{NotTaken, give_known, take_known};
 
 /// `global.get`.
 #[inline(always)]
@@ -28,12 +28,7 @@ pub(crate) fn get_global<A: Allocator, T: WasmModuleResources>(
             if !reaches(stacks, ty.shared) {
                 return Err(NotTaken::Left);
             }
-            exchange_known(
-                stacks,
-                resources,
-                Takes::None,
-                ValTypes::One(TypeWord::new(ty.content_type)),
-            )
+            give_known(stacks, resources, TypeWord::new(ty.content_type))
         }
         None => Err(NotTaken::Left),
     }
@@ -59,12 +54,7 @@ pub(crate) fn set_global<A: Allocator, T: WasmModuleResources>(
             if !ty.mutable {
                 return Err(NotTaken::Left);
             }
-            exchange_known(
-                stacks,
-                resources,
-                Takes::One(TypeWord::new(ty.content_type)),
-                ValTypes::None,
-            )
+            take_known(stacks, resources, TypeWord::new(ty.content_type))
         }
         None => Err(NotTaken::Left),
     }

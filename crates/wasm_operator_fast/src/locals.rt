@@ -9,10 +9,9 @@ ghost use Rattle.wasm_operator_control.specs.WasmOperatorChecks.WasmOperatorStac
 ghost use Rattle.wasm_operator_control.specs.Fast.{Performs};
 
 use std::alloc::Allocator;
-use wasm_operator_control::operator_checks::{Takes, ValTypes};
 use wasm_operator_control::operator_stacks::{LocalWord, Stacks};
 use wasm_operator_control::validator_resources::WasmModuleResources;
-use wasm_operator_control::{NotTaken, exchange_known, peek};
+use wasm_operator_control::{NotTaken, give_known, peek};
 
 /// The local of this index, where it is set from the start.
 #[inline(always)]
@@ -46,7 +45,7 @@ pub(crate) fn local_get<A: Allocator, T: WasmModuleResources>(
     ensures same { Kept stacks.old stacks.new }
 {
     let local = set_local(stacks, index)?;
-    exchange_known(stacks, resources, Takes::None, ValTypes::One(local.ty()))
+    give_known(stacks, resources, local.ty())
 }
 
 /// `local.set`.

@@ -8,11 +8,10 @@ ghost use Rattle.wasm_operator_control.specs.WasmOperatorChecks.WasmOperatorStac
 ghost use Rattle.wasm_operator_control.specs.Fast.{Performs};
 
 use std::alloc::Allocator;
-use wasm_operator_control::operator_checks::{Takes, ValTypes};
 use wasm_operator_control::operator_numbers::allows_number;
 use wasm_operator_control::operator_stacks::{Stacks, TypeWord};
 use wasm_operator_control::validator_resources::WasmModuleResources;
-use wasm_operator_control::{NotTaken, exchange_known};
+use wasm_operator_control::{NotTaken, exchange_known, exchange_two_known, give_known};
 use wasm_operators_plain::{NumberType, Signature};
 
 /// An operator that takes a number and gives one.
@@ -37,8 +36,8 @@ fn unary<A: Allocator, T: WasmModuleResources>(
     exchange_known(
         stacks,
         resources,
-        Takes::One(TypeWord::number(from)),
-        ValTypes::One(TypeWord::number(to)),
+        TypeWord::number(from),
+        TypeWord::number(to),
     )
 }
 
@@ -61,11 +60,12 @@ fn binary<A: Allocator, T: WasmModuleResources>(
     if !allows_number(stacks, to) {
         return Err(NotTaken::Left);
     }
-    exchange_known(
+    exchange_two_known(
         stacks,
         resources,
-        Takes::Two(TypeWord::number(from), TypeWord::number(from)),
-        ValTypes::One(TypeWord::number(to)),
+        TypeWord::number(from),
+        TypeWord::number(from),
+        TypeWord::number(to),
     )
 }
 
@@ -102,10 +102,5 @@ pub(crate) fn constant<A: Allocator, T: WasmModuleResources>(
     if !allows_number(stacks, ty) {
         return Err(NotTaken::Left);
     }
-    exchange_known(
-        stacks,
-        resources,
-        Takes::None,
-        ValTypes::One(TypeWord::number(ty)),
-    )
+    give_known(stacks, resources, TypeWord::number(ty))
 }

@@ -7,5 +7,5 @@ pub returns-else-not-fits-clause-took : goal.returns-else-not-fits-clause-took
 returns-else-not-fits-clause-took g c =
     needed _ _ _ _ _ _ _ (allows_held _ _ _ _ (search rules))
     (needed _ _ _ _ _ _ _ (aligned_held _ _ _ _ _ _ c.in-Some.ensures (c.fits.ensures c.if-not-fits.false))
-    (plainly _ _ _ _ _ _ _ _ _ c.exchange_known.ensures.took
+    (plainly _ _ _ _ _ _ _ _ _ c.take_two_known.ensures.took
     (joined_typed _ _ _ _ _ _ (memory_typed _ _ _ _ _ c.in-Some.ensures c.address.ensures) (number_typed _ _ _ _ c.number.ensures)) (nothing_typed _ _)))

@@ -8,5 +8,5 @@ use Rattle.wasm_operator_fast.proofs.calls.call_function.Goals as goal
 pub returns-in-Ok-exchange_types-clause-took : goal.returns-in-Ok-exchange_types-clause-took
 returns-in-Ok-exchange_types-clause-took g c =
     needed _ _ _ _ _ _ _ (function_held _ _ _ _ c.in-Ok.ensures.ok)
-    (fast_ok _ _ _ _ (exchanged_by _ _ _ _ _ _ c.in-Ok-peek_takes.taken _ (function_params _ _ _ _ _ c.in-Ok.ensures.ok (ap (map val_of) c.params.ensures))
-    (function_results _ _ _ _ _ c.in-Ok.ensures.ok (c.val_types_of.ensures ∙ ap (map val_of) c.results.ensures)) c.in-Ok-peek_takes.ensures.0 c.in-Ok-exchange_types.ensures.ok))
+    (fast_ok _ _ _ _ (exchanged_by _ _ _ _ _ _ c.in-Ok-peek_types.taken _ (function_params _ _ _ _ _ c.in-Ok.ensures.ok (ap (map val_of) c.params.ensures))
+    (function_results _ _ _ _ _ c.in-Ok.ensures.ok (c.val_types_of.ensures ∙ ap (map val_of) c.results.ensures)) c.in-Ok-peek_types.ensures.0 c.in-Ok-exchange_types.ensures.ok))

@@ -7,4 +7,4 @@ pub returns-clause-took : goal.returns-clause-took
 returns-clause-took g c =
     needed _ _ _ _ _ _ _ (allows_held _ _ _ _ (search rules))
     (needed _ _ _ _ _ _ _ (allows_held _ _ _ _ (search rules))
-    (plainly _ _ _ _ _ _ _ _ _ c.exchange_known.ensures.took (two_numbers_typed _ _ _ _ _ c.number.ensures c.number-2.ensures) (number_typed _ _ _ _ c.number-3.ensures)))
+    (plainly _ _ _ _ _ _ _ _ _ c.exchange_two_known.ensures.took (two_numbers_typed _ _ _ _ _ c.number.ensures c.number-2.ensures) (number_typed _ _ _ _ c.number-3.ensures)))
