@@ -29,5 +29,3 @@ module _ (W : World UnpackedIndex) where
   two_exchanged u v w s t x new e f g = rw (e, f, g) refl
 
 pub ruleset gives = (given)
-
-pub ruleset takes = (one_taken, one_exchanged, two_taken, two_exchanged)

@@ -37,7 +37,7 @@ pub fn give_known<A: Allocator, T: WasmModuleResources>(
 
 /// Takes an operand that is known to be of a type. Where it isn't known to be, all stays.
 #[inline(always)]
-#[tactic(auto, using(crate::proofs::Knowing::takes), unfolding(crate::specs::Fast::Fast))]
+#[tactic(auto, unfolding(crate::specs::Fast::Fast))]
 pub fn take_known<A: Allocator, T: WasmModuleResources>(
     stacks: &mut Stacks<A>,
     resources: &T,
@@ -56,7 +56,7 @@ pub fn take_known<A: Allocator, T: WasmModuleResources>(
 /// Takes two operands that are known to be of these types, the second one on top. Where they
 /// aren't known to be, all stays.
 #[inline(always)]
-#[tactic(auto, using(crate::proofs::Knowing::takes), unfolding(crate::specs::Fast::Fast))]
+#[tactic(auto, unfolding(crate::specs::Fast::Fast))]
 pub fn take_two_known<A: Allocator, T: WasmModuleResources>(
     stacks: &mut Stacks<A>,
     resources: &T,
@@ -77,7 +77,7 @@ pub fn take_two_known<A: Allocator, T: WasmModuleResources>(
 /// Takes an operand that is known to be of a type, and gives one. Where it isn't known to be, all
 /// stays.
 #[inline(always)]
-#[tactic(auto, using(crate::proofs::Knowing::takes), unfolding(crate::specs::Fast::Fast))]
+#[tactic(auto, unfolding(crate::specs::Fast::Fast))]
 pub fn exchange_known<A: Allocator, T: WasmModuleResources>(
     stacks: &mut Stacks<A>,
     resources: &T,
@@ -99,7 +99,7 @@ pub fn exchange_known<A: Allocator, T: WasmModuleResources>(
 /// Takes two operands that are known to be of these types, the second one on top, and gives one.
 /// Where they aren't known to be, all stays.
 #[inline(always)]
-#[tactic(auto, using(crate::proofs::Knowing::takes), unfolding(crate::specs::Fast::Fast))]
+#[tactic(auto, unfolding(crate::specs::Fast::Fast))]
 pub fn exchange_two_known<A: Allocator, T: WasmModuleResources>(
     stacks: &mut Stacks<A>,
     resources: &T,

@@ -67,7 +67,7 @@ module _ {A : Type 0} (v : Stacks A) (W : World UnpackedIndex) where
   pub unreached_pops : (vs : List (Val UnpackedIndex)) → v.is_open ≡ true → v.frame.unreachable ≡ true → length v.operands ≡ v.frame.height → pop_vals W vs (state_of v) ≡ Some (state_of v)
   unreached_pops [] e u h = refl
   unreached_pops (x ∷ xs) e u h =
-      rw (unreached_pops xs e u h, look_bottom v.operands v.is_open v.frame v.outer v.locals.inits 0 e h u) refl
+      rw (unreached_pops xs e u h, look_bottom v.operands v.is_open v.frame v.outer v.locals.inits 0 e (omega (arith, h)) u) refl
 
 pub ruleset unreached = (unreached_pops)
 

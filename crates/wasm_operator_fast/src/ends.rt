@@ -46,10 +46,7 @@ fn peek_results<'a, A: Allocator, T: WasmModuleResources>(
     ensures { Peeked result (pop_vals (world (T.context resources.now)) (types_seen types.entry)
         (state_of stacks.now)) (state_of stacks.now) }
 {
-    if stacks.is_open
-        && stacks.frame.unreachable
-        && stacks.operands.len() == stacks.frame.height
-    {
+    if stacks.is_open && stacks.frame.unreachable && stacks.operands.len() == stacks.frame.height {
         return Ok(0);
     }
     peek_types(stacks, resources, 0, types)
