@@ -179,36 +179,45 @@ impl<T: WasmModuleResources + Drop> FuncToValidate<T> {
         ensures place { IfErr result (StandsInOrFirst (body_reader body.now)) }
     {
         let mut allocations = allocations;
-        match self.validate_in(body, &mut allocations) {
+        match validate_body(
+            &self.resources,
+            self.ty,
+            self.features,
+            body,
+            &mut allocations,
+        ) {
             Ok(()) => Ok(allocations),
             Err(error) => Err(error),
         }
     }
+}
 
-    /// As [`FuncToValidate::validate`], in memory that is lent for it.
-    ///
-    /// # Errors
-    ///
-    /// As [`FuncToValidate::validate`]. The memory is there for the next body all the same.
-    #[tactic(auto, using(crate::proofs::Functions::functions))]
-    pub fn validate_in<A: Allocator>(
-        self,
-        body: &FunctionBody<'_>,
-        allocations: &mut FuncValidatorAllocations<A>,
-    ) -> Result<(), Error>
-        ensures decides { Decides (IsFunctionBody (features_of self.features)
-            (T.context self.resources) self.ty (body_of body.now)) result }
-        ensures place { IfErr result (StandsInOrFirst (body_reader body.now)) }
-    {
-        let validator = &mut allocations.0.validator;
-        match begin(validator, &self.resources, self.ty, self.features) {
-            Ok(()) => {}
-            Err(error) => return Err(error),
-        }
-        match check_body(validator, &self.resources, body) {
-            Ok(()) => Ok(()),
-            Err(error) => Err(error),
-        }
+/// Validates the body of a function of this type by these look-ups, as [`FuncToValidate::validate`]
+/// does, in memory that is lent for it.
+///
+/// # Errors
+///
+/// As [`FuncToValidate::validate`]. The memory is there for the next body all the same.
+#[tactic(auto, using(crate::proofs::Functions::functions))]
+pub fn validate_body<T: WasmModuleResources, A: Allocator>(
+    resources: &T,
+    ty: u32,
+    features: WasmFeatures,
+    body: &FunctionBody<'_>,
+    allocations: &mut FuncValidatorAllocations<A>,
+) -> Result<(), Error>
+    ensures decides { Decides (IsFunctionBody (features_of features) (T.context resources.now) ty
+        (body_of body.now)) result }
+    ensures place { IfErr result (StandsInOrFirst (body_reader body.now)) }
+{
+    let validator = &mut allocations.0.validator;
+    match begin(validator, resources, ty, features) {
+        Ok(()) => {}
+        Err(error) => return Err(error),
+    }
+    match check_body(validator, resources, body) {
+        Ok(()) => Ok(()),
+        Err(error) => Err(error),
     }
 }
 

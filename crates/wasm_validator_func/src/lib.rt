@@ -13,7 +13,7 @@ mod locals;
 mod next_operator;
 mod visitors;
 
-pub use func_validator::{FuncToValidate, FuncValidator, FuncValidatorAllocations};
+pub use func_validator::{FuncToValidate, FuncValidator, FuncValidatorAllocations, validate_body};
 pub use laws::bodies_are_declarations_and_instructions;
 pub use next_operator::read_operator;
 

@@ -35,7 +35,9 @@ use wasm_readers::WasmFeatures;
 use wasm_validator_states::parser::{FunctionBody, ParseAll, Parser, Payload};
 use wasm_validator_states::sections::validator_core::Error;
 use wasm_validator_states::sections::validator_core_resources::ValidatorResources;
-use wasm_validator_states::sections::validator_func::{FuncToValidate, FuncValidatorAllocations};
+use wasm_validator_states::sections::validator_func::{
+    FuncToValidate, FuncValidatorAllocations, validate_body,
+};
 use wasm_validator_states::types::{Types, ValidatorId};
 
 /// A function whose body is to be validated.
@@ -478,8 +480,8 @@ fn validate_each<'a, A: Allocator + Copy>(
     let mut allocations = FuncValidatorAllocations::new(alloc);
     'bodies: for waiting in pending {
         let index = waiting.index;
-        match validate_pending(features, resources, waiting, allocations) {
-            Ok(more) => allocations = more,
+        match validate_pending(features, resources, waiting, &mut allocations) {
+            Ok(()) => {}
             Err(error) => return Err(Error::in_function(index, error)),
         }
     }
@@ -491,20 +493,13 @@ fn validate_pending<'a, A: Allocator + Copy>(
     features: WasmFeatures,
     resources: &ValidatorResources<A>,
     waiting: PendingBody<'a>,
-    allocations: FuncValidatorAllocations<A>,
-) -> Result<FuncValidatorAllocations<A>, wasm_readers::Error>
+    allocations: &mut FuncValidatorAllocations<A>,
+) -> Result<(), wasm_readers::Error>
     ensures decides { Decides
         (IsBodyOfIts (pending_seen features resources.now waiting.entry)) result }
     ensures place { IfErr result (StandsInOrFirst (body_reader waiting.entry.body)) }
 {
-    let PendingBody { index, ty, body } = waiting;
-    let function = FuncToValidate {
-        resources: resources.clone()?,
-        index,
-        ty,
-        features,
-    };
-    function.validate(&body, allocations)
+    validate_body(resources, waiting.ty, features, &waiting.body, allocations)
 }
 
 /// The next payload of the input. What the parser refuses is handed on as it is.

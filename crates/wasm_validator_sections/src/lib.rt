@@ -28,7 +28,9 @@ pub mod validator_core {
 
 /// Passed on from `wasm_validator_func`.
 pub mod validator_func {
-    pub use wasm_validator_func::{FuncToValidate, FuncValidator, FuncValidatorAllocations};
+    pub use wasm_validator_func::{
+        FuncToValidate, FuncValidator, FuncValidatorAllocations, validate_body,
+    };
 }
 
 /// Passed on from `wasm_operators`.
