@@ -15,7 +15,7 @@ use std::marker::Model;
 pub const MAX_LOCALS: u32 = 50_000;
 
 /// How many locals stand one by one in front, before those in runs.
-const FRONT: usize = 64;
+const FRONT: usize = 1024;
 
 /// How many places of the front so many locals more take up.
 fn front_after(len: usize, behind: u32, count: u32) -> usize
