@@ -4,7 +4,9 @@ ghost use Rattle.std.specs.Prelude.{◌≡◌, ◌≤◌, ◌<◌, ◌+◌, Some
 ghost use Rattle.wasm_operators_plain.specs.WasmReaders.WasmReadersBytes.Reader.{SameInput, position_in, original, rest, RefusedFrom};
 ghost use Rattle.wasm_operators_plain.specs.WasmReaders.Written.{written};
 ghost use Rattle.wasm_operators_plain.specs.Refusals.{RefusedBetween};
-ghost use Rattle.wasm_operators.specs.Instructions.{aggregate_from, bulk_from, vectors_from, atomics_from, prefixed_from, plain_from, instruction_at};
+ghost use Rattle.wasm_operators.specs.Control.{control_from};
+ghost use Rattle.wasm_operators.specs.Legacy.{legacy_from};
+ghost use Rattle.wasm_operators.specs.Instructions.{control, legacy, of_family, aggregate_from, bulk_from, vectors_from, atomics_from, prefixed_from, plain_from, instruction_at};
 ghost use Rattle.wasm_operators.specs.SeenOperators.{operator_of};
 
 use crate::control::{ControlOperator, ParametricOperator, read_control, read_parametric};
@@ -185,9 +187,9 @@ fn read_prefixed<'a>(
     }
 }
 
-/// The operator of this opcode, which is below `0xfb` and stood at this offset.
-#[tactic(auto, unfolding(crate::specs::Instructions::plain_from))]
-fn read_plain<'a>(
+/// The control operator of this opcode, as an operator.
+#[inline(always)]
+fn read_as_control<'a>(
     reader: &mut BinaryReader<'a>,
     opcode: u8,
     offset: u64,
@@ -196,29 +198,50 @@ fn read_plain<'a>(
     ensures same { SameInput reader.old reader.new }
     ensures onward { position_in reader.old ≤ position_in reader.new }
     ensures refusal { IfErr result (RefusedBetween offset reader.old) }
+    ensures ok { IfOk result (λ op. of_family control (control_from written opcode (rest reader.old))
+        ≡ Some (operator_of op, rest reader.new)) }
+    ensures err { OnErr result (of_family control (control_from written opcode (rest reader.old))
+        ≡ None) }
+{
+    Ok(Operator::Control(read_control(reader, opcode, offset)?))
+}
+
+/// The operator of legacy exceptions of this opcode, as an operator.
+#[inline(always)]
+fn read_as_legacy<'a>(
+    reader: &mut BinaryReader<'a>,
+    opcode: u8,
+    offset: u64,
+) -> Result<Operator<'a>, Refusal>
+    requires { offset ≤ original reader.old + position_in reader.old }
+    ensures same { SameInput reader.old reader.new }
+    ensures onward { position_in reader.old ≤ position_in reader.new }
+    ensures refusal { IfErr result (RefusedBetween offset reader.old) }
+    ensures ok { IfOk result (λ op. of_family legacy (legacy_from written opcode (rest reader.old))
+        ≡ Some (operator_of op, rest reader.new)) }
+    ensures err { OnErr result (of_family legacy (legacy_from written opcode (rest reader.old))
+        ≡ None) }
+{
+    Ok(Operator::Legacy(read_legacy(reader, opcode, offset)?))
+}
+
+/// The operator of this opcode, which is from `0x20` on and below `0xfb` and stood at this offset.
+#[tactic(auto, unfolding(crate::specs::Instructions::plain_from))]
+fn read_on_values<'a>(
+    reader: &mut BinaryReader<'a>,
+    opcode: u8,
+    offset: u64,
+) -> Result<Operator<'a>, Refusal>
+    requires place { offset ≤ original reader.old + position_in reader.old }
+    requires values { 0x20 ≤ opcode }
+    ensures same { SameInput reader.old reader.new }
+    ensures onward { position_in reader.old ≤ position_in reader.new }
+    ensures refusal { IfErr result (RefusedBetween offset reader.old) }
     ensures ok { IfOk result (λ op. plain_from written opcode (rest reader.old)
         ≡ Some (operator_of op, rest reader.new)) }
     ensures err { OnErr result (plain_from written opcode (rest reader.old) ≡ None) }
 {
-    if opcode < 0x06 {
-        Ok(Operator::Control(read_control(reader, opcode, offset)?))
-    } else if opcode < 0x08 {
-        Ok(Operator::Legacy(read_legacy(reader, opcode, offset)?))
-    } else if opcode < 0x09 {
-        Ok(Operator::Control(read_control(reader, opcode, offset)?))
-    } else if opcode < 0x0a {
-        Ok(Operator::Legacy(read_legacy(reader, opcode, offset)?))
-    } else if opcode < 0x10 {
-        Ok(Operator::Control(read_control(reader, opcode, offset)?))
-    } else if opcode < 0x18 {
-        Ok(Operator::Call(read_call(reader, opcode, offset)?))
-    } else if opcode < 0x1a {
-        Ok(Operator::Legacy(read_legacy(reader, opcode, offset)?))
-    } else if opcode < 0x1f {
-        Ok(Operator::Parametric(read_parametric(reader, opcode, offset)?))
-    } else if opcode < 0x20 {
-        Ok(Operator::Control(read_control(reader, opcode, offset)?))
-    } else if opcode < 0x25 {
+    if opcode < 0x25 {
         Ok(Operator::Variable(read_variable(reader, opcode, offset)?))
     } else if opcode < 0x28 {
         Ok(Operator::Table(read_table_access(reader, opcode, offset)?))
@@ -238,6 +261,44 @@ fn read_plain<'a>(
         }
     } else {
         Ok(Operator::Reference(read_reference(reader, opcode, offset)?))
+    }
+}
+
+/// The operator of this opcode, which is below `0xfb` and stood at this offset.
+#[tactic(auto, unfolding(crate::specs::Instructions::plain_from))]
+fn read_plain<'a>(
+    reader: &mut BinaryReader<'a>,
+    opcode: u8,
+    offset: u64,
+) -> Result<Operator<'a>, Refusal>
+    requires { offset ≤ original reader.old + position_in reader.old }
+    ensures same { SameInput reader.old reader.new }
+    ensures onward { position_in reader.old ≤ position_in reader.new }
+    ensures refusal { IfErr result (RefusedBetween offset reader.old) }
+    ensures ok { IfOk result (λ op. plain_from written opcode (rest reader.old)
+        ≡ Some (operator_of op, rest reader.new)) }
+    ensures err { OnErr result (plain_from written opcode (rest reader.old) ≡ None) }
+{
+    if opcode < 0x06 {
+        read_as_control(reader, opcode, offset)
+    } else if opcode < 0x08 {
+        read_as_legacy(reader, opcode, offset)
+    } else if opcode < 0x09 {
+        read_as_control(reader, opcode, offset)
+    } else if opcode < 0x0a {
+        read_as_legacy(reader, opcode, offset)
+    } else if opcode < 0x10 {
+        read_as_control(reader, opcode, offset)
+    } else if opcode < 0x18 {
+        Ok(Operator::Call(read_call(reader, opcode, offset)?))
+    } else if opcode < 0x1a {
+        read_as_legacy(reader, opcode, offset)
+    } else if opcode < 0x1f {
+        Ok(Operator::Parametric(read_parametric(reader, opcode, offset)?))
+    } else if opcode < 0x20 {
+        read_as_control(reader, opcode, offset)
+    } else {
+        read_on_values(reader, opcode, offset)
     }
 }
 
