@@ -61,7 +61,6 @@ fn next_by_table<'a>(reader: &mut BinaryReader<'a>, opcode: u8) -> Option<Operat
 
 /// The block type that is next, if it is there and has no value or one of a number.
 #[inline(always)]
-#[tactic(auto, unfolding(crate::specs::Control::block_at, crate::proofs::Cited::val_at))]
 fn next_block_type(reader: &mut BinaryReader) -> Option<BlockType>
     ensures same { SameInput reader.old reader.new }
     ensures onward { position_in reader.old ≤ position_in reader.new }
