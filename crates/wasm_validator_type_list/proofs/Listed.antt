@@ -1,5 +1,5 @@
 -- Sub types as the list's definitions write them.
-use Rattle.std.proofs.Common.{◌≡◌, refl, sym, ap, subst, ◌∙◌, ℕ, ◌≤◌, List, [], ◌∷◌, ◌++◌, map, length, All, arith}
+use Rattle.std.proofs.Common.{◌≡◌, refl, sym, ap, subst, ◌∙◌, ℕ, ◌≤◌, List, [], ◌∷◌, map, length, All, arith}
 use Rattle.std.proofs.lemmas.List.Elements.{recursion_from_All, All-from_recursion}
 use Rattle.wasm_readers_errors.specs.WasmSpec.Syntax.{map_sub}
 use Rattle.wasm_readers_errors.specs.WasmSpec.References.{refs_sub}
