@@ -4,6 +4,7 @@ pub mod DefTypes
 pub mod Once
 pub mod Placed
 pub mod Few
+pub mod Full
 pub mod Ancestors
 pub mod Sound
 pub mod Lookups
