@@ -54,6 +54,7 @@ fn peek_results<'a, A: Allocator, T: WasmModuleResources>(
 
 /// The end of a frame of a function type. That of an `if` is left to the general way, and so is one
 /// where it isn't seen at once that the operands are of the type.
+#[cold]
 #[inline(never)]
 #[tactic(auto, using(crate::proofs::Fasting::acts, crate::proofs::Ended::ends))]
 fn end_typed<A: Allocator, T: WasmModuleResources>(

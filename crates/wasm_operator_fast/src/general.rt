@@ -14,6 +14,7 @@ use wasm_operator_control::{
 };
 
 /// `call`.
+#[cold]
 #[inline(never)]
 pub(crate) fn call_generally<A: Allocator, T: WasmModuleResources>(
     stacks: &mut Stacks<A>,
@@ -28,6 +29,7 @@ pub(crate) fn call_generally<A: Allocator, T: WasmModuleResources>(
 }
 
 /// `call_indirect`.
+#[cold]
 #[inline(never)]
 pub(crate) fn call_in_table<A: Allocator, T: WasmModuleResources>(
     stacks: &mut Stacks<A>,
@@ -43,6 +45,7 @@ pub(crate) fn call_in_table<A: Allocator, T: WasmModuleResources>(
 }
 
 /// `br`.
+#[cold]
 #[inline(never)]
 pub(crate) fn branch_generally<A: Allocator, T: WasmModuleResources>(
     stacks: &mut Stacks<A>,
@@ -57,6 +60,7 @@ pub(crate) fn branch_generally<A: Allocator, T: WasmModuleResources>(
 }
 
 /// `br_if`.
+#[cold]
 #[inline(never)]
 pub(crate) fn branch_if_generally<A: Allocator, T: WasmModuleResources>(
     stacks: &mut Stacks<A>,
@@ -71,6 +75,7 @@ pub(crate) fn branch_if_generally<A: Allocator, T: WasmModuleResources>(
 }
 
 /// `return`.
+#[cold]
 #[inline(never)]
 pub(crate) fn return_generally<A: Allocator, T: WasmModuleResources>(
     stacks: &mut Stacks<A>,
@@ -84,6 +89,7 @@ pub(crate) fn return_generally<A: Allocator, T: WasmModuleResources>(
 }
 
 /// `end`.
+#[cold]
 #[inline(never)]
 pub(crate) fn end_generally<A: Allocator, T: WasmModuleResources>(
     stacks: &mut Stacks<A>,

@@ -77,6 +77,7 @@ impl<A: Allocator> OperatorValidator<A> {
     ///
     /// Refuses bytes that aren't an operator, and at its offset an operator that isn't valid here;
     /// and all once something was refused. Answers want of memory.
+    #[cold]
     #[inline(never)]
     pub fn read_op<'a, T: WasmModuleResources>(
         &mut self,

@@ -28,6 +28,7 @@ pub(crate) fn refused(rule: OperatorRule, offset: u64) -> Error
 }
 
 /// Want of memory, after which the validator has failed.
+#[cold]
 #[inline(never)]
 fn out_of_memory<A: Allocator>(validator: &mut OperatorValidator<A>) -> Error
     ensures error { result ≡ Error.OutOfMemory }
