@@ -11,16 +11,16 @@ ghost use Rattle.wasm_operators.specs.SeenOperators.{operator_of};
 ghost use Rattle.wasm_validator_func.specs.Stepped.{IsWrittenInstruction};
 
 use crate::bytes::{decoded, parts};
-use crate::sample::{Body, begun, look_ups, types};
+use crate::sample::{begun, look_ups, types};
 use std::alloc::{AllocError, Global};
 use std::fmt::Write;
-use std::test::Fail;
 use wasm_operator_validator::{FrameStack, operator_arity};
 use wasm_operators::Operator;
 use wasm_readers::BinaryReader;
 use wasm_readers_errors::Error;
 use wasm_readers_types::SubType;
-use wasm_validator_func::read_operator;
+use wasm_validator_func::{FuncValidator, read_operator};
+use wasm_validator_resources::WasmModuleResources;
 
 /// In the body itself.
 const ARITIES: &str = "\
@@ -124,7 +124,11 @@ visit 4101|1 1 Some(Some(I32)) Some(Block) false
 simd 6a|7 type mismatch: expected i32 but nothing on stack 1 1 Some(Some(I32)) Some(Block) true";
 
 /// The answer to an operator that is given so.
-fn give(body: &mut Body<'_>, how: &str, op: &Operator<'_>) -> Result<(), Error>
+fn give<T: WasmModuleResources>(
+    body: &mut FuncValidator<T>,
+    how: &str,
+    op: &Operator<'_>,
+) -> Result<(), Error>
     requires { IsWrittenInstruction (operator_of op.now) }
 {
     match how {
@@ -137,7 +141,10 @@ fn give(body: &mut Body<'_>, how: &str, op: &Operator<'_>) -> Result<(), Error>
 
 /// Adds how many operands there are and how many frames, the operand on top, the innermost frame,
 /// and whether something was refused.
-fn push_state(text: &mut String, body: &Body<'_>) -> Result<(), AllocError> {
+fn push_state<T: WasmModuleResources>(
+    text: &mut String,
+    body: &FuncValidator<T>,
+) -> Result<(), AllocError> {
     let (operands, frames) = (body.operand_stack_height(), body.control_stack_height());
     let (top, frame) = (body.get_operand_type(0), body.current_frame());
     let has_failed = body.has_failed();
@@ -151,15 +158,19 @@ fn push_refusal(text: &mut String, error: Error) -> Result<(), AllocError> {
 }
 
 /// Adds how many operands the operator takes and gives.
-fn push_arity(text: &mut String, body: &Body<'_>, op: &Operator<'_>) -> Result<(), AllocError> {
+fn push_arity<T: WasmModuleResources>(
+    text: &mut String,
+    body: &FuncValidator<T>,
+    op: &Operator<'_>,
+) -> Result<(), AllocError> {
     let arity = operator_arity(op, body);
     write!(text, "{arity:?}")
 }
 
 /// Adds what is answered to this call.
-fn push_answer(
+fn push_answer<T: WasmModuleResources>(
     text: &mut String,
-    body: &mut Body<'_>,
+    body: &mut FuncValidator<T>,
     how: &str,
     op: &Operator<'_>,
 ) -> Result<(), AllocError>
@@ -175,52 +186,82 @@ fn push_answer(
     push_state(text, body)
 }
 
-/// Whether this line of a table is right.
-fn is_right(alloc: Global, body: &mut Body<'_>, line: &str) -> Result<bool, Fail> {
-    let (call, wanted) = parts(line)?;
-    let (how, digits) = call.split_once(' ').ok_or("a call")?;
+/// The answer to this call of a line, where there is memory for it and the line is well formed.
+fn answer<T: WasmModuleResources>(
+    alloc: Global,
+    body: &mut FuncValidator<T>,
+    call: &str,
+) -> Option<String> {
+    let (how, digits) = call.split_once(' ')?;
     let bytes = decoded(alloc, digits)?;
-    let op = read_operator(&mut BinaryReader::new(&bytes, 0))
-        .ok()
-        .ok_or("an operator")?;
+    let op = read_operator(&mut BinaryReader::new(&bytes, 0)).ok()?;
     let mut text = String::new(alloc);
-    push_answer(&mut text, body, how, &op)?;
-    Ok(text.as_str() == wanted)
+    push_answer(&mut text, body, how, &op).ok()?;
+    Some(text)
+}
+
+/// Whether this line of a table is right.
+fn is_right<T: WasmModuleResources>(
+    alloc: Global,
+    body: &mut FuncValidator<T>,
+    line: &str,
+) -> bool {
+    match parts(line) {
+        Some((call, wanted)) => match answer(alloc, body, call) {
+            Some(text) => text.as_str() == wanted,
+            None => false,
+        },
+        None => false,
+    }
 }
 
 /// The first line of this table that isn't right.
-fn wrong_line<'a>(
+fn wrong_line<'a, T: WasmModuleResources>(
     alloc: Global,
-    body: &mut Body<'_>,
+    body: &mut FuncValidator<T>,
     table: &'a str,
-) -> Result<Option<&'a str>, Fail> {
+) -> Option<&'a str> {
     for line in table.lines() {
-        if !is_right(alloc, body, line)? {
-            return Ok(Some(line));
+        if !is_right(alloc, body, line) {
+            return Some(line);
         }
     }
-    Ok(None)
+    None
+}
+
+/// The first line of this table that isn't right in a body of its own, or what else there isn't.
+fn wrong_alone<'a, T: WasmModuleResources + Drop>(
+    alloc: Global,
+    resources: T,
+    table: &'a str,
+) -> Option<&'a str> {
+    match begun(alloc, resources) {
+        Some(mut body) => wrong_line(alloc, &mut body, table),
+        None => Some("a body"),
+    }
 }
 
 /// The first line that isn't right, in a body of its own for each table.
-fn wrong_in(alloc: Global, types: &[SubType]) -> Result<Option<&'static str>, Fail> {
-    let resources = look_ups(types).ok_or("few types")?;
+fn wrong_in(alloc: Global, types: &[SubType]) -> Option<&'static str> {
+    let Some(resources) = look_ups(types) else {
+        return Some("few types");
+    };
     for table in [
         ARITIES, IN_LOOP, IN_IF, IN_BLOCK, WHOLE, TRIED, REFUSED, VISITED,
     ] {
-        let mut body = begun(alloc, &resources).ok_or("a body")?;
-        let wrong = wrong_line(alloc, &mut body, table)?;
+        let wrong = wrong_alone(alloc, &resources, table);
         if wrong.is_some() {
-            return Ok(wrong);
+            return wrong;
         }
     }
-    Ok(None)
+    None
 }
 
 #[test]
-fn operators_in_bodies(rt: HostRuntime) -> Result<(), Fail> {
-    let types = types(rt.alloc())?;
-    let wrong = wrong_in(rt.alloc(), &types)?;
-    assert!(rt; wrong.is_none(), "{wrong:?}");
-    Ok(())
+fn operators_in_bodies(rt: HostRuntime) {
+    let wrong = match types(rt.alloc()) {
+        Ok(types) => wrong_in(rt.alloc(), &types),
+        Err(_) => Some("memory for types"),
+    };
+    assert!(rt; wrong.is_none(), "{}", wrong.unwrap_or(""));
 }

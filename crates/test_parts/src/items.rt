@@ -2,7 +2,6 @@
 
 use bitflags::Flags;
 use std::alloc::{AllocError, Global};
-use std::test::Fail;
 use wasm_readers_errors::{Refusal, WasmFeatures};
 use wasm_readers_types::{MemoryType, RefType, TableType, TypeRef};
 use wasm_validator_checks::check_type_ref;
@@ -56,15 +55,17 @@ const LARGE_TABLE: &str = "7 false table size must be at most 0xffffffff entries
 const LARGE_MEMORY: &str = "7 false memory size must be at most 0x100000000 1-byte pages";
 
 #[test]
-fn narrow_sizes_past_those_that_are_written(rt: HostRuntime) -> Result<(), Fail> {
+fn narrow_sizes_past_those_that_are_written(rt: HostRuntime) {
     for (ty, wanted) in [
         (table(0x1_0000_0000, None), LARGE_TABLE),
         (table(0, Some(0x1_0000_0000)), LARGE_TABLE),
         (memory(0x1_0000_0000), "ok"),
         (memory(0x1_0000_0001), LARGE_MEMORY),
     ] {
-        let told = told(rt.alloc(), ty)?;
-        assert!(rt; told.as_str() == wanted, "{told}");
+        let is_told = match told(rt.alloc(), ty) {
+            Ok(told) => told.as_str() == wanted,
+            Err(_) => false,
+        };
+        assert!(rt; is_told, "{wanted}");
     }
-    Ok(())
 }

@@ -4,7 +4,6 @@
 use crate::bytes::{decoded, parts};
 use std::alloc::{AllocError, Global};
 use std::fmt::{Debug, Write};
-use std::test::Fail;
 use wasm_operators::{
     ControlOperator, Immediate, Listed, Operator, ParametricOperator, read_expression,
     read_operator,
@@ -81,27 +80,26 @@ fn push_length(text: &mut String, bytes: &[u8]) -> Result<(), AllocError> {
 }
 
 /// Whether this line of a table of lists, or else of expressions, is right.
-fn is_right(alloc: Global, line: &str, is_list: bool) -> Result<bool, Fail> {
+fn is_right(alloc: Global, line: &str, is_list: bool) -> Option<bool> {
     let (digits, wanted) = parts(line)?;
     let bytes = decoded(alloc, digits)?;
     let mut text = String::new(alloc);
     if is_list {
-        push_first(&mut text, &bytes)?;
+        push_first(&mut text, &bytes).ok()?;
     } else {
-        push_length(&mut text, &bytes)?;
+        push_length(&mut text, &bytes).ok()?;
     }
-    Ok(text.as_str() == wanted)
+    Some(text.as_str() == wanted)
 }
 
 #[test]
-fn lists_and_expressions(rt: HostRuntime) -> Result<(), Fail> {
+fn lists_and_expressions(rt: HostRuntime) {
     for (is_list, table) in [(true, LISTS), (false, EXPRESSIONS)] {
         for line in table.lines() {
-            let is_right = is_right(rt.alloc(), line, is_list)?;
+            let is_right = is_right(rt.alloc(), line, is_list).unwrap_or(false);
             assert!(rt; is_right, "{line}");
         }
     }
-    Ok(())
 }
 
 #[test]

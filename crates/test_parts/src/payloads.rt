@@ -3,7 +3,6 @@
 
 use crate::bytes::{decoded, parts};
 use std::alloc::{AllocError, Global};
-use std::test::Fail;
 use wasm_parser::{Encoding, Parser, Payload};
 use wasm_readers_errors::{Fault, Malformed, Refusal};
 
@@ -47,21 +46,20 @@ fn outcome(alloc: Global, bytes: &[u8]) -> (u64, Option<(Malformed, u64)>) {
 }
 
 /// Whether this line is right.
-fn is_right(alloc: Global, line: &str) -> Result<bool, Fail> {
+fn is_right(alloc: Global, line: &str) -> Option<bool> {
     let (digits, wanted) = parts(line)?;
     let bytes = decoded(alloc, digits)?;
     let outcome = outcome(alloc, &bytes);
-    let given = format!(in alloc; "{outcome:?}")?;
-    Ok(given.as_str() == wanted)
+    let given = format!(in alloc; "{outcome:?}").ok()?;
+    Some(given.as_str() == wanted)
 }
 
 #[test]
-fn inputs_are_parsed_to_their_ends(rt: HostRuntime) -> Result<(), Fail> {
+fn inputs_are_parsed_to_their_ends(rt: HostRuntime) {
     for line in INPUTS.lines() {
-        let is_right = is_right(rt.alloc(), line)?;
+        let is_right = is_right(rt.alloc(), line).unwrap_or(false);
         assert!(rt; is_right, "{line}");
     }
-    Ok(())
 }
 
 /// A module with a payload of each of these kinds.
@@ -137,13 +135,15 @@ fn tells(alloc: Global, line: &str, payload: &Payload<'_>) -> Result<bool, Alloc
 }
 
 #[test]
-fn payloads_hold_their_parts(rt: HostRuntime) -> Result<(), Fail> {
+fn payloads_hold_their_parts(rt: HostRuntime) {
     let mut lines = PAYLOADS.lines();
     for payload in Parser::new(rt.alloc(), 100).parse_all(MODULE) {
         let line = lines.next().unwrap_or("none");
-        let is_right = tells(rt.alloc(), line, &payload?)?;
+        let is_right = match payload {
+            Ok(payload) => tells(rt.alloc(), line, &payload).unwrap_or(false),
+            Err(_) => false,
+        };
         assert!(rt; is_right, "{line}");
     }
     assert!(rt; lines.next().is_none());
-    Ok(())
 }

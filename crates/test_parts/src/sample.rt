@@ -8,6 +8,7 @@ use wasm_readers_types::{
     SubType, ValType,
 };
 use wasm_validator_func::{FuncToValidate, FuncValidator, FuncValidatorAllocations};
+use wasm_validator_resources::WasmModuleResources;
 
 /// From two integers to one.
 fn signature(alloc: Global) -> Result<FuncType, AllocError> {
@@ -71,11 +72,11 @@ pub(crate) fn look_ups(types: &[SubType]) -> Option<OwnModule<'_, Global>> {
     })
 }
 
-/// The validator of a body.
-pub(crate) type Body<'a> = FuncValidator<&'a OwnModule<'a, Global>>;
-
 /// The validator of a body of the first type, at its start.
-pub(crate) fn begun<'a>(alloc: Global, resources: &'a OwnModule<'a, Global>) -> Option<Body<'a>> {
+pub(crate) fn begun<T: WasmModuleResources + Drop>(
+    alloc: Global,
+    resources: T,
+) -> Option<FuncValidator<T>> {
     let function = FuncToValidate {
         resources,
         index: 0,
