@@ -82,22 +82,34 @@ fn check_failed<T: WasmModuleResources, A: Allocator>(
     settle(are_refused, After::Failed, Wrong::AnotherState)
 }
 
+/// Reads the next operator of a body and takes or tries it.
+fn take_next<T: WasmModuleResources, A: Allocator>(
+    validator: &mut FuncValidator<T, A>,
+    reader: &mut BinaryReader<'_>,
+    tries: bool,
+) -> Result<(), BodyError> {
+    let offset = reader.original_position();
+    match read_operator(reader) {
+        Ok(operator) if tries => validator.try_op(offset, &operator),
+        Ok(operator) => validator.op(offset, &operator),
+        Err(refusal) => Err(BodyError::Refused(refusal)),
+    }
+}
+
 /// Declares locals of a body and takes each of its operators.
 fn give_operators<T: WasmModuleResources, A: Allocator>(
     validator: &mut FuncValidator<T, A>,
     body: &FunctionBody<'_>,
 ) -> Result<(), BodyError> {
     let mut reader = body.get_binary_reader();
-    validator.read_locals(&mut reader)?;
+    let mut answer = validator.read_locals(&mut reader);
     for _ in 0..reader.bytes_remaining() {
-        if reader.eof() {
+        if reader.eof() || answer.is_err() {
             break;
         }
-        let offset = reader.original_position();
-        let operator = read_operator(&mut reader)?;
-        validator.op(offset, &operator)?;
+        answer = take_next(validator, &mut reader, false);
     }
-    Ok(())
+    answer
 }
 
 /// Declares locals one by one.
@@ -229,19 +241,15 @@ fn try_operator<T: WasmModuleResources, A: Allocator>(
     validator: &mut FuncValidator<T, A>,
     reader: &mut BinaryReader<'_>,
 ) -> Checked {
-    let offset = reader.original_position();
-    let Ok(operator) = read_operator(reader) else {
-        return Err(Wrong::AnotherVerdict);
-    };
     write_state(&mut states.before, validator)?;
-    let refused = count_refused(plan);
-    let tried = validator.try_op(offset, &operator);
+    let (mut same, refused) = (*reader, count_refused(plan));
+    let tried = take_next(validator, reader, true);
     if count_refused(plan) == refused {
         return accept(tried.is_ok(), Wrong::AnotherVerdict);
     }
     grant_all(plan);
     check_kept(states, validator, tried)?;
-    let again = validator.try_op(offset, &operator);
+    let again = take_next(validator, &mut same, true);
     accept(again.is_ok(), Wrong::RefusedAgain)
 }
 

@@ -26,18 +26,11 @@ pub const WRONG_BODY: &[u8] =
 pub const WRONG_BODY_VERDICT: &str =
     "refused at 24: type mismatch: expected i32 but nothing on stack";
 
-/// A list of modules: one function type, a body that is refused, and two types of which the second is
-/// that of the first module; and the verdicts.
+/// One function type; a body that is refused; and two types, of which the second is the first module's.
 const LIST: [&[u8]; 3] = [
     b"\0asm\x01\0\0\0\x01\x06\x01\x60\x01\x7f\x01\x7c",
     WRONG_BODY,
     b"\0asm\x01\0\0\0\x01\x09\x02\x60\0\0\x60\x01\x7f\x01\x7c",
-];
-
-const LIST_WANTED: [&str; 3] = [
-    "types 0, functions, tags (0, 0, 0, 0)",
-    WRONG_BODY_VERDICT,
-    "types 2 0, functions, tags (0, 0, 0, 0)",
 ];
 
 /// Accepts that memory is refused.
@@ -75,14 +68,12 @@ fn check_failed<A: Allocator + Copy>(
     if !validator.has_failed() || validator.can_reset() || validator.types(0).is_some() {
         return Err(Wrong::AnotherState);
     }
+    let mut wanted = OutOfOrder::Header;
     for given in Parser::new(alloc, 0).parse_all(bytes) {
-        let wanted = match &given {
-            Ok(Payload::Version { .. }) => OutOfOrder::Header,
-            _ => OutOfOrder::SectionAfterFailure,
-        };
         if !is_out_of_order(&give(validator, given), wanted) {
             return Err(Wrong::AnotherState);
         }
+        wanted = OutOfOrder::SectionAfterFailure;
     }
     Ok(())
 }
@@ -232,9 +223,11 @@ fn count_out_of_memory<A: Allocator + Copy>(
 
 /// The verdict on the module at this place of the list.
 fn wanted_at(place: usize) -> &'static str {
-    match LIST_WANTED.get(place) {
-        Some(wanted) => *wanted,
-        None => "",
+    match place {
+        0 => "types 0, functions, tags (0, 0, 0, 0)",
+        1 => WRONG_BODY_VERDICT,
+        2 => "types 2 0, functions, tags (0, 0, 0, 0)",
+        _ => "",
     }
 }
 
