@@ -6,8 +6,8 @@ usage: tools/bench_items.py [VALIDATOR [READER]]
 It makes modules of 10,000 and of 100,000 globals, active element segments and active data segments, each with an `i32.const`, and of one
 element segment of 1,000,000 and of 10,000,000 functions. Of each it prints the instructions that an item takes, by valgrind's callgrind,
 without what an empty module takes: where it is validated whole (`wasm-validate FILE`), where its items are read and no more
-(`rows_bodies --items FILE`), and how much the first is of the second. The programs are those that `bin/prove` has built, and
-`rt run` in crates/rows_bodies, where no others are named.
+(`test-all --items FILE`), and how much the first is of the second. The programs are those that `bin/prove` has built, and
+`rt run` in crates/test_all, where no others are named.
 """
 import os
 import sys
@@ -17,7 +17,7 @@ sys.dont_write_bytecode = True
 from wasm_bytes import HEAD, instructions, section, unsigned
 
 ROOT = os.path.dirname(os.path.dirname(os.path.realpath(__file__)))
-BUILT = [os.path.join(ROOT, *path) for path in (("out", "wasm-validate", "proved"), ("crates", "rows_bodies", "out", "rows_bodies"))]
+BUILT = [os.path.join(ROOT, *path) for path in (("out", "wasm-validate", "proved"), ("crates", "test_all", "out", "test_all"))]
 VALIDATOR, READER = [*sys.argv[1:3], *BUILT[len(sys.argv) - 1:]][:2]
 TYPE = b"\1\4\1\x60\0\0"
 

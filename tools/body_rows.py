@@ -1,5 +1,5 @@
 #!/usr/bin/env python3
-"""body_rows.py FOLDER: writes the rows of crates/rows_bodies/data.
+"""body_rows.py FOLDER: writes the rows of crates/test_all/data/bodies.
 
 Each case is a function's body by its operators, over the context that crates/rows_bodies/src/sample.rt has too. FOLDER holds two
 modules that aren't part of this repository: `wasmgen`, which assembles a module, and `oracle`, whose `WP().check(BYTES)` runs the Rust
@@ -17,7 +17,7 @@ import oracle
 import wasmgen as W
 
 HERE = os.path.dirname(os.path.abspath(__file__))
-DATA = os.path.join(HERE, '..', 'crates', 'rows_bodies', 'data')
+DATA = os.path.join(HERE, '..', 'crates', 'test_all', 'data', 'bodies')
 
 # ------------------------------------------------------------------------------------------------- the context
 TYPES = [

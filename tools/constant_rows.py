@@ -1,5 +1,5 @@
 #!/usr/bin/env python3
-"""constant_rows.py FOLDER: writes crates/rows_modules/data/constants.rows, modules whose sections hold constant expressions.
+"""constant_rows.py FOLDER: writes crates/test_all/data/modules/constants.rows, modules whose sections hold constant expressions.
 
 FOLDER holds two modules that aren't part of this repository: `wasmgen`, which assembles a module, and `oracle`, whose
 `WP().check(BYTES)` runs the Rust crate on it, all its features on. What it answers is what a row wants, its texts put as
@@ -15,7 +15,7 @@ import oracle
 import wasmgen as W
 from body_rows import shown
 
-ROWS = os.path.join(HERE, '..', 'crates', 'rows_modules', 'data')
+ROWS = os.path.join(HERE, '..', 'crates', 'test_all', 'data', 'modules')
 CASES = []
 # what stands before a module's globals: a function that is imported and two that are defined would need bodies, so all are imported
 TYPES = ['func ->', 'func i32 -> i64', 'struct i32 mut:i64', 'array mut:i32', 'struct ?2', 'array !0']

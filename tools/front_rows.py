@@ -1,5 +1,5 @@
 #!/usr/bin/env python3
-"""front_rows.py FOLDER: writes crates/rows_modules/data/fronts.rows, the fronts of some modules, and the modules with one byte replaced.
+"""front_rows.py FOLDER: writes crates/test_all/data/modules/fronts.rows, the fronts of some modules, and the modules with one byte replaced.
 
 FOLDER holds a module that isn't part of this repository, `oracle`, whose `WP().check(BYTES)` runs the Rust crate on a module, all its features on.
 The verdict on a front that ends with a section, and on a module with a byte replaced, is what it answers. The rest is by the binary format (Core
@@ -14,7 +14,7 @@ import os, sys
 sys.path.insert(0, sys.argv[1])
 import oracle
 
-ROWS = os.path.join(os.path.dirname(os.path.abspath(__file__)), '..', 'crates', 'rows_modules', 'data')
+ROWS = os.path.join(os.path.dirname(os.path.abspath(__file__)), '..', 'crates', 'test_all', 'data', 'modules')
 HEADER = bytes.fromhex('0061736d01000000')
 CHAIN = '50 00 60 00 00' + ''.join(' 50 01 %02x 60 00 00' % before for before in range(64))
 

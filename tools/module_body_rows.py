@@ -1,5 +1,5 @@
 #!/usr/bin/env python3
-"""module_body_rows.py FOLDER: writes crates/rows_modules/data/bodies.rows, whole modules whose functions have bodies.
+"""module_body_rows.py FOLDER: writes crates/test_all/data/modules/bodies.rows, whole modules whose functions have bodies.
 
 FOLDER holds two modules that aren't part of this repository: `wasmgen`, which assembles a module, and `oracle`, whose
 `WP().check(BYTES)` runs the Rust crate on it, all its features on. Where a case doesn't name what it wants, that is what the Rust crate
@@ -21,7 +21,7 @@ import oracle
 import wasmgen as W
 import body_rows as B
 
-ROWS = os.path.join(HERE, '..', 'crates', 'rows_modules', 'data')
+ROWS = os.path.join(HERE, '..', 'crates', 'test_all', 'data', 'modules')
 PROGRAMS = os.path.join(HERE, 'programs')
 CASES = []          # a heading, or (name, features, [Part])
 HEADER = 'H '

@@ -2,7 +2,7 @@
 """shape_mutations.py FOLDER: runs the table of shapes over the rows of bodies, and then with one change of it at a time.
 
 The table is crates/wasm_operator_steps/specs/Shapes.antt, read as it stands; what its words mean (Actions, Meanings, Machine and Steps
-there) is written again here, over modules that are taken from crates/rows_modules/data/bodies.rows. First every row whose
+there) is written again here, over modules that are taken from crates/test_all/data/modules/bodies.rows. First every row whose
 answer is a body's is compared with what the table says: whether the body is accepted. Then single changes of the table are made:
 a check is left out; a value type, a list of operands or a flag is another one; two lists change places. A change that leaves every
 answer as it was is printed: no row tells it from the table.
@@ -16,7 +16,7 @@ import wasmgen as W
 
 ROOT = os.path.join(HERE, '..', 'crates')
 SHAPES = os.path.join(ROOT, 'wasm_operator_steps', 'specs', 'Shapes.antt')
-ROWS = os.path.join(ROOT, 'rows_modules', 'data', 'bodies.rows')
+ROWS = os.path.join(ROOT, 'test_all', 'data', 'modules', 'bodies.rows')
 LARGEST = 20000
 sys.setrecursionlimit(5000)
 

@@ -1,5 +1,5 @@
 #!/usr/bin/env python3
-"""state_rows.py: writes crates/rows_modules/data/states.rows, each call of a validator after each call, in each of its states.
+"""state_rows.py: writes crates/test_all/data/modules/states.rows, each call of a validator after each call, in each of its states.
 
 A validator is in one of five states: before a header, in a module whose code section has not started, in one whose code section has
 started, after the end, and failed. There are eighteen calls. `answer` says what a call answers in each state, and in which state it leaves the
@@ -11,7 +11,7 @@ changes the state is made on a validator that is brought back to the state for e
 """
 import os
 
-ROWS = os.path.join(os.path.dirname(os.path.abspath(__file__)), '..', 'crates', 'rows_modules', 'data')
+ROWS = os.path.join(os.path.dirname(os.path.abspath(__file__)), '..', 'crates', 'test_all', 'data', 'modules')
 
 # a call's name, what it is called in the name of a row, and what it takes: of a section so much that it has an item
 CALLS = [

@@ -1,5 +1,5 @@
 #!/usr/bin/env python3
-"""vector_rows.py FOLDER: writes vectors.rows and atomics.rows of crates/rows_bodies/data from the table tools/vector_table.txt.
+"""vector_rows.py FOLDER: writes vectors.rows and atomics.rows of crates/test_all/data/bodies from the table tools/vector_table.txt.
 
 FOLDER is that of body_rows.py, whose context these rows have too. The verdict, the offset and the text of a row of a body are the Rust
 crate's, all its features on. By hand are the refusals for want of a feature: the Rust crate has no flags for these operators alone.

@@ -2,8 +2,9 @@
 
 use crate::row::validate;
 use examples_own_module::{OwnFunction, OwnModule, OwnParts};
+use rows_files::words_behind;
 use std::alloc::{AllocError, Global};
-use std::env::{self, Env};
+use std::env::Env;
 use std::fs;
 use std::io::{self, Write};
 use std::rt::Files;
@@ -12,9 +13,6 @@ use wasm_operators::read_operator;
 use wasm_readers::BinaryReader;
 use wasm_readers_errors::WasmFeatures;
 use wasm_readers_types::{FuncType, GlobalType, MemoryType, RefType, SubType, TableType, ValType};
-
-/// The argument behind which the files of operators stand.
-pub const BODY: &str = "--body";
 
 /// The declarations of locals that the operators count on: 150 of type i32 and 150 of type i64.
 const FRONT: [u8; 7] = [2, 0x96, 1, 0x7f, 0x96, 1, 0x7e];
@@ -103,45 +101,37 @@ fn count_operators(bytes: &[u8]) -> usize {
     operators.len()
 }
 
-/// The body of the operators in the files behind `--body`, if that is among the arguments: its
-/// locals, what the files hold, and its end.
-fn read_body<R: Env + Files + AllocGlobal>(rt: &R) -> io::Result<Option<Vec<u8>>> {
-    let mut is_named = false;
+/// The body of the operators in these files: its locals, what the files hold, and its end.
+fn read_body<R: Files + AllocGlobal>(rt: &R, paths: &[String]) -> io::Result<Vec<u8>> {
     let mut body = Vec::new(rt.alloc());
     body.extend_from_slice(&FRONT)?;
-    for name in env::args(rt)?.skip(1) {
-        if is_named {
-            add_part(rt, &mut body, name.as_str())?;
-        } else {
-            is_named = name.as_str() == BODY;
-        }
+    for path in paths {
+        let part = fs::read(rt, path.as_str())?;
+        body.extend_from_slice(part.as_slice())?;
     }
     body.extend_from_slice(&END)?;
-    Ok(if is_named { Some(body) } else { None })
+    Ok(body)
 }
 
-/// Adds what the file at this path holds.
-fn add_part<R: Files + AllocGlobal>(rt: &R, body: &mut Vec<u8>, path: &str) -> io::Result<()> {
-    let part = fs::read(rt, path)?;
-    body.extend_from_slice(part.as_slice())?;
-    Ok(())
-}
-
-/// Validates the body of the operators in the files, if there are such, and prints what was found.
-pub fn bench<R: Env + Files + Clock + AllocGlobal, W: Write, E: Write>(
+/// Validates the body of the operators in the files behind `--body`, one file behind the other, if
+/// there are any, and prints how many operators it has, whether it is valid, and to `err` how long
+/// that took.
+pub fn time_body<R: Env + Files + Clock + AllocGlobal, W: Write, E: Write>(
     rt: &R,
     out: &mut W,
     err: &mut E,
 ) -> io::Result<()> {
-    match read_body(rt)? {
-        Some(body) => time_body(rt, body.as_slice(), out, err),
-        None => Ok(()),
+    let paths = words_behind(rt, "--body")?;
+    if paths.is_empty() {
+        return Ok(());
     }
+    let body = read_body(rt, &paths)?;
+    print_time(rt, &body, out, err)
 }
 
 /// Validates this body, and prints how many operators it has, whether it is valid, and how long that
 /// took.
-fn time_body<R: Clock + AllocGlobal, W: Write, E: Write>(
+fn print_time<R: Clock + AllocGlobal, W: Write, E: Write>(
     rt: &R,
     body: &[u8],
     out: &mut W,

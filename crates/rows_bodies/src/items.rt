@@ -1,8 +1,9 @@
 //! The items of a module, read and no more: globals, element segments of functions, and data
 //! segments of the first memory.
 
+use rows_files::words_behind;
 use std::alloc::Global;
-use std::env::{self, Env};
+use std::env::Env;
 use std::fs;
 use std::io::{self, Write};
 use std::rt::Files;
@@ -83,21 +84,12 @@ fn count_items(alloc: Global, bytes: &[u8]) -> u64 {
     count
 }
 
-/// Prints how many items each of the modules in the files has.
+/// Prints how many items each of the modules in the files behind `--items` has.
 pub fn print_items<R: Env + Files + AllocGlobal, W: Write>(rt: &R, out: &mut W) -> io::Result<()> {
-    for name in env::args(rt)?.skip(2) {
-        print_count(rt, name.as_str(), out)?;
+    for path in words_behind(rt, "--items")? {
+        let module = fs::read(rt, path.as_str())?;
+        let count = count_items(rt.alloc(), module.as_slice());
+        writeln!(out, "{count} items")?;
     }
     Ok(())
-}
-
-/// Prints how many items the module in the file at this path has.
-fn print_count<R: Files + AllocGlobal, W: Write>(
-    rt: &R,
-    path: &str,
-    out: &mut W,
-) -> io::Result<()> {
-    let module = fs::read(rt, path)?;
-    let count = count_items(rt.alloc(), module.as_slice());
-    writeln!(out, "{count} items")
 }

@@ -1,17 +1,17 @@
 use crate::operators::{OPERATOR, judge_operator};
 use crate::sample::Sample;
 use examples_own_module::OwnModule;
-use rows_files::{Difference, Judge, NOT, Trouble, name_of, parse_features};
+use rows_files::{Difference, Judge, NOT, Trouble, name_of, parse_features, take_part};
 use std::alloc::{AllocError, Global};
 use wasm_parser::FunctionBody;
 use wasm_readers::{BinaryReader, Error};
 use wasm_readers_errors::WasmFeatures;
 use wasm_validator_func::{FuncToValidate, FuncValidatorAllocations};
 
-/// The name of the program of rows of bodies and operators.
-pub const NAME: &str = "wasm-body-rows";
+/// What messages about rows of bodies and operators begin with.
+pub const NAME: &str = "rows of bodies";
 
-/// The program of rows of bodies and operators, with its sample.
+/// What judges rows of bodies and operators, with its sample.
 #[derive(Drop)]
 pub struct BodyRows {
     pub sample: Sample,
@@ -42,23 +42,16 @@ struct Row<'a> {
 impl<'a> Row<'a> {
     /// The row that this line is.
     fn of(line: &'a str) -> Result<Row<'a>, Trouble> {
-        let Some((_name, rest)) = line.split_once(" | ") else {
-            return Err(Trouble::Malformed("a row without features"));
-        };
-        let Some((features, rest)) = rest.split_once(" | ") else {
-            return Err(Trouble::Malformed("a row without a type"));
-        };
-        let Some((type_index, rest)) = rest.split_once(" | ") else {
-            return Err(Trouble::Malformed("a row without a body"));
-        };
-        let Some((body, wanted)) = rest.split_once(" | ") else {
-            return Err(Trouble::Malformed("a body without a wanted answer"));
-        };
+        let mut rest = line;
+        take_part(&mut rest, "a row without features")?;
+        let features = take_part(&mut rest, "a row without a type")?;
+        let type_index = take_part(&mut rest, "a row without a body")?;
+        let body = take_part(&mut rest, "a body without a wanted answer")?;
         Ok(Row {
             features: features.trim(),
             type_index: type_index.trim(),
             body: body.trim(),
-            wanted: wanted.trim(),
+            wanted: rest.trim(),
         })
     }
 }

@@ -41,9 +41,21 @@ pub struct Difference<'a> {
 /// What stands before an answer that must not be given.
 pub const NOT: &str = "not ";
 
-/// A program that judges rows.
+/// Takes what stands before the next bar from the rest of a row. Without a bar the row isn't one, for
+/// this reason.
+pub fn take_part<'a>(rest: &mut &'a str, why: &'static str) -> Result<&'a str, Trouble> {
+    match rest.split_once(" | ") {
+        Some((part, behind)) => {
+            *rest = behind;
+            Ok(part)
+        }
+        None => Err(Trouble::Malformed(why)),
+    }
+}
+
+/// What judges rows.
 pub trait Judge {
-    /// The program's name.
+    /// What messages about its rows begin with.
     fn name(&self) -> &'static str;
 
     /// The answer to the row that this line is, where it isn't right.

@@ -8,12 +8,12 @@ use rows_files::{Difference, Judge, NOT, Trouble, parse_features};
 use std::alloc::{AllocError, Global};
 use wasm_validator::{Types, Validator, ValidatorId};
 
-/// The program of rows of modules.
+/// What judges rows of modules.
 pub struct ModuleRows;
 
 impl Judge for ModuleRows {
     fn name(&self) -> &'static str {
-        "wasm-rows"
+        "rows of modules"
     }
 
     fn judge<'a>(&self, alloc: Global, line: &'a str) -> Result<Option<Difference<'a>>, Trouble> {

@@ -215,53 +215,45 @@ fn is_right<T: WasmModuleResources>(
     }
 }
 
-/// The first line of this table that isn't right.
-fn wrong_line<'a, T: WasmModuleResources>(
+/// Whether each line of this table is right.
+fn lines_are_right<T: WasmModuleResources>(
     alloc: Global,
     body: &mut FuncValidator<T>,
-    table: &'a str,
-) -> Option<&'a str> {
+    table: &str,
+) -> bool {
     for line in table.lines() {
         if !is_right(alloc, body, line) {
-            return Some(line);
+            return false;
         }
     }
-    None
+    true
 }
 
-/// The first line of this table that isn't right in a body of its own, or what else there isn't.
-fn wrong_alone<'a, T: WasmModuleResources + Drop>(
-    alloc: Global,
-    resources: T,
-    table: &'a str,
-) -> Option<&'a str> {
+/// Whether this table is right in a body of its own.
+fn table_is_right<T: WasmModuleResources + Drop>(alloc: Global, resources: T, table: &str) -> bool {
     match begun(alloc, resources) {
-        Some(mut body) => wrong_line(alloc, &mut body, table),
-        None => Some("a body"),
+        Some(mut body) => lines_are_right(alloc, &mut body, table),
+        None => false,
     }
 }
 
-/// The first line that isn't right, in a body of its own for each table.
-fn wrong_in(alloc: Global, types: &[SubType]) -> Option<&'static str> {
+/// Whether each table is right in a body of its own, in the module of these types.
+fn are_right(alloc: Global, types: &[SubType]) -> bool {
     let Some(resources) = look_ups(types) else {
-        return Some("few types");
+        return false;
     };
     for table in [
         ARITIES, IN_LOOP, IN_IF, IN_BLOCK, WHOLE, TRIED, REFUSED, VISITED,
     ] {
-        let wrong = wrong_alone(alloc, &resources, table);
-        if wrong.is_some() {
-            return wrong;
+        if !table_is_right(alloc, &resources, table) {
+            return false;
         }
     }
-    None
+    true
 }
 
-#[test]
-fn operators_in_bodies(rt: HostRuntime) {
-    let wrong = match types(rt.alloc()) {
-        Ok(types) => wrong_in(rt.alloc(), &types),
-        Err(_) => Some("memory for types"),
-    };
-    assert!(rt; wrong.is_none(), "{}", wrong.unwrap_or(""));
+/// Whether each line of each table is right.
+pub fn operators_in_bodies(alloc: Global) -> Result<bool, AllocError> {
+    let types = types(alloc)?;
+    Ok(are_right(alloc, &types))
 }

@@ -69,10 +69,10 @@ fn equal_types_are_one(list: &mut TypeList, alloc: Global) -> Result<bool, Error
     )
 }
 
-#[test]
-fn an_equal_type_gets_its_id_again(rt: HostRuntime) {
-    let mut list = TypeList::new(rt.alloc(), true);
-    assert!(rt; equal_types_are_one(&mut list, rt.alloc()).unwrap_or(false));
+/// Whether that is so in a new list.
+pub fn an_equal_type_gets_its_id_again(alloc: Global) -> Result<bool, Error> {
+    let mut list = TypeList::new(alloc, true);
+    equal_types_are_one(&mut list, alloc)
 }
 
 /// Whether this type is in the first group, alone: position 0 of it is there, and position 1 is not.
@@ -89,15 +89,10 @@ fn is_first_alone(list: &TypeList, id: CoreTypeId) -> bool {
 }
 
 /// Whether the first type of a list is found so.
-fn first_is_alone(alloc: Global) -> Result<bool, Error> {
+pub fn a_group_is_found_by_its_type(alloc: Global) -> Result<bool, Error> {
     let mut list = TypeAlloc::new(alloc, true);
     let id = list.intern_func_type(signature(alloc), 0)?;
     Ok(is_first_alone(&list, id))
-}
-
-#[test]
-fn a_group_is_found_by_its_type(rt: HostRuntime) {
-    assert!(rt; first_is_alone(rt.alloc()).unwrap_or(false));
 }
 
 /// Whether this is a copy of a list with one type, which has this id, to which none may be added.
@@ -109,16 +104,11 @@ fn is_closed(list: &TypeList, id: CoreTypeId) -> bool {
 }
 
 /// Whether a copy that is kept of a list is closed, and the list open.
-fn kept_is_closed(alloc: Global) -> Result<bool, Error> {
+pub fn a_kept_list_is_closed(alloc: Global) -> Result<bool, Error> {
     let mut list = TypeAlloc::new(alloc, true);
     let id = list.intern_func_type(signature(alloc), 0)?;
     let kept = list.commit()?;
     Ok(list.is_open() && is_closed(&kept, id))
-}
-
-#[test]
-fn a_kept_list_is_closed(rt: HostRuntime) {
-    assert!(rt; kept_is_closed(rt.alloc()).unwrap_or(false));
 }
 
 /// Keeps the depth of a type that extends nothing and of which none is kept, and answers whether it
@@ -154,10 +144,10 @@ fn depth_is_kept(list: &mut TypeList, alloc: Global) -> Result<bool, Error>
     )
 }
 
-#[test]
-fn a_depth_is_kept(rt: HostRuntime) {
-    let mut list = TypeList::new(rt.alloc(), true);
-    assert!(rt; depth_is_kept(&mut list, rt.alloc()).unwrap_or(false));
+/// Whether that is so in a new list.
+pub fn a_depth_is_kept(alloc: Global) -> Result<bool, Error> {
+    let mut list = TypeList::new(alloc, true);
+    depth_is_kept(&mut list, alloc)
 }
 
 /// Whether value types match as they do, in the group of this type.
@@ -174,15 +164,10 @@ fn values_match(list: &TypeList, id: CoreTypeId) -> bool {
 }
 
 /// Whether value types match so in the group of the first type of a list.
-fn values_match_in_first(alloc: Global) -> Result<bool, Error> {
+pub fn value_types_match_in_their_groups(alloc: Global) -> Result<bool, Error> {
     let mut list = TypeList::new(alloc, true);
     let id = list.intern_func_type(signature(alloc), 0)?;
     Ok(values_match(&list, id))
-}
-
-#[test]
-fn value_types_match_in_their_groups(rt: HostRuntime) {
-    assert!(rt; values_match_in_first(rt.alloc()).unwrap_or(false));
 }
 
 /// A group of this many structure types without fields.
@@ -266,16 +251,12 @@ fn ends(list: &mut TypeList, is_canonical: bool, alloc: Global) -> Result<bool, 
     )
 }
 
-/// Whether a list has an id for each of its types, and for no more.
-fn has_all_ids(alloc: Global, is_canonical: bool) -> Result<bool, Error> {
+/// Whether a list, whose equal groups are kept once or not, has an id for each of its types, and for
+/// no more.
+pub fn a_list_has_an_id_for_each_of_its_types(
+    alloc: Global,
+    is_canonical: bool,
+) -> Result<bool, Error> {
     let mut list = TypeList::new(alloc, is_canonical);
     Ok(fill(&mut list, alloc)? && ends(&mut list, is_canonical, alloc)?)
-}
-
-#[test]
-fn a_list_has_an_id_for_each_of_its_types(rt: HostRuntime) {
-    for is_canonical in [false, true] {
-        let is_right = has_all_ids(rt.alloc(), is_canonical).unwrap_or(false);
-        assert!(rt; is_right, "{is_canonical}");
-    }
 }

@@ -7,8 +7,8 @@ use wasm_readers_types::{
     RefType, SubType, UnpackedIndex, ValType, copied, same, same_group, same_sub, same_val,
 };
 
-#[test]
-fn constants_are_the_types_of_their_names(rt: HostRuntime) {
+/// Whether each constant is the reference type of its name.
+pub fn constants_are_the_types_of_their_names() -> bool {
     for (nullable, ty, constant) in [
         (true, AbstractHeapType::Func, RefType::FUNCREF),
         (false, AbstractHeapType::Func, RefType::FUNC),
@@ -22,9 +22,11 @@ fn constants_are_the_types_of_their_names(rt: HostRuntime) {
         (true, AbstractHeapType::Cont, RefType::CONTREF),
     ] {
         let heap = HeapType::Abstract { shared: false, ty };
-        assert!(rt; RefType::new(nullable, heap) == Some(constant));
+        if RefType::new(nullable, heap) != Some(constant) {
+            return false;
+        }
     }
-    assert!(rt; same_val(&ValType::FUNCREF, &ValType::Ref(RefType::FUNCREF)));
+    same_val(&ValType::FUNCREF, &ValType::Ref(RefType::FUNCREF))
 }
 
 /// What the index of the type with id 7 prints.
@@ -33,19 +35,18 @@ fn printed_seven(alloc: Global) -> Option<String> {
     format!(in alloc; "{:?}", id.unpack()).ok()
 }
 
-#[test]
-fn indices_print_what_they_are(rt: HostRuntime) {
-    let is_right = match printed_seven(rt.alloc()) {
+/// Whether an index prints what it is.
+pub fn indices_print_what_they_are(alloc: Global) -> bool {
+    match printed_seven(alloc) {
         Some(text) => text.as_str() == "Id(CoreTypeId { index: 7 })",
         None => false,
-    };
-    assert!(rt; is_right);
+    }
 }
 
-#[test]
-fn indices_are_packed_below_their_bound(rt: HostRuntime) {
-    assert!(rt; UnpackedIndex::RecGroup(MAX_IDS).pack().is_none());
-    assert!(rt; UnpackedIndex::Module(MAX_IDS).pack().is_some());
+/// Whether an index is packed exactly where it is below the bound of its kind.
+pub fn indices_are_packed_below_their_bound() -> bool {
+    UnpackedIndex::RecGroup(MAX_IDS).pack().is_none()
+        && UnpackedIndex::Module(MAX_IDS).pack().is_some()
 }
 
 /// Whether the list prints so, and is the same as its copy.
@@ -59,15 +60,10 @@ fn prints_and_is_copied(
     Ok(printed.as_str() == text && same(&copy, items))
 }
 
-/// Whether a list of two types prints so.
-fn two_print(alloc: Global, text: &str) -> Result<bool, AllocError> {
+/// Whether a list of two types prints what it is.
+pub fn lists_print_what_they_are(alloc: Global) -> Result<bool, AllocError> {
     let items = Items::from_vec([ValType::I32, ValType::F64].to_vec(alloc)?);
-    prints_and_is_copied(alloc, &items, text)
-}
-
-#[test]
-fn lists_print_what_they_are(rt: HostRuntime) {
-    assert!(rt; two_print(rt.alloc(), "[I32, F64]").unwrap_or(false));
+    prints_and_is_copied(alloc, &items, "[I32, F64]")
 }
 
 /// The final function type that swaps two numbers.
@@ -84,15 +80,10 @@ fn is_same_alone(ty: &SubType, other: &SubType) -> Result<bool, AllocError> {
 }
 
 /// Whether the type that swaps two numbers is the same as its copy, and not as the shared one.
-fn swap_is_same_alone(alloc: Global) -> Result<bool, AllocError> {
+pub fn a_type_is_the_same_as_its_copy(alloc: Global) -> Result<bool, AllocError> {
     let ty = swap(alloc, false)?;
     let shared = swap(alloc, true)?;
     is_same_alone(&ty, &shared)
-}
-
-#[test]
-fn a_type_is_the_same_as_its_copy(rt: HostRuntime) {
-    assert!(rt; swap_is_same_alone(rt.alloc()).unwrap_or(false));
 }
 
 /// The group that is written with `rec`, of this type alone.
@@ -111,14 +102,9 @@ fn is_found(alloc: Global, kept: RecGroup, group: &RecGroup) -> Result<bool, All
 
 /// Whether the group with `rec` is the same as the one without, and what is kept under it is found
 /// under the other.
-fn explicit_is_implicit(alloc: Global) -> Result<bool, AllocError> {
+pub fn a_group_is_found_however_it_is_written(alloc: Global) -> Result<bool, AllocError> {
     let explicit = rec_of(alloc, swap(alloc, false)?)?;
     let implicit = RecGroup::implicit(alloc, swap(alloc, false)?)?;
     let is_same = same_group(&explicit, &implicit);
     Ok(is_found(alloc, explicit, &implicit)? && is_same)
-}
-
-#[test]
-fn a_group_is_found_however_it_is_written(rt: HostRuntime) {
-    assert!(rt; explicit_is_implicit(rt.alloc()).unwrap_or(false));
 }

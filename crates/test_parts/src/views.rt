@@ -36,17 +36,12 @@ fn add(list: &mut SnapshotList<Single>, number: u32) -> Result<SnapshotList<Sing
 }
 
 /// Whether each copy of a list holds what the list had then, and the list all.
-fn copies_hold_what_was(alloc: Global) -> Result<bool, AllocError> {
+pub fn snapshots_share_what_they_hold(alloc: Global) -> Result<bool, AllocError> {
     let mut list = SnapshotList::new(alloc);
     let first = add(&mut list, 3)?;
     let second = add(&mut list, 7)?;
     list.push(Single { number: 9 })?;
     Ok(holds(&first, &[3]) && holds(&second, &[3, 7]) && holds(&list, &[3, 7, 9]))
-}
-
-#[test]
-fn snapshots_share_what_they_hold(rt: HostRuntime) {
-    assert!(rt; copies_hold_what_was(rt.alloc()).unwrap_or(false));
 }
 
 /// A module of the type with id 4, and a function of it.
@@ -93,11 +88,8 @@ fn entities_are_right(types: &Types) -> bool {
         && imported(types, TypeRef::Func(1)).is_none()
 }
 
-#[test]
-fn imports_and_exports_are_entities(rt: HostRuntime) {
-    let is_right = match built(rt.alloc()) {
-        Ok(types) => entities_are_right(&types),
-        Err(_) => false,
-    };
-    assert!(rt; is_right);
+/// Whether they are so in a module that was built by hand.
+pub fn imports_and_exports_are_entities(alloc: Global) -> Result<bool, AllocError> {
+    let types = built(alloc)?;
+    Ok(entities_are_right(&types))
 }

@@ -2,7 +2,6 @@
 
 use std::alloc::{AllocError, Global};
 use std::io::Cursor;
-use std::test::Fail;
 use wasm_validate_files::{Input, run};
 
 fn file(alloc: Global, name: &str, bytes: &[u8]) -> Result<Input, AllocError> {
@@ -35,45 +34,37 @@ fn ends_with(alloc: Global, files: &[Input], status: u8, out: &str, err: &str) -
         && complained.as_slice() == err.as_bytes()
 }
 
-#[test]
-fn files_up_to_a_refused_one_and_behind(rt: HostRuntime) -> Result<(), Fail> {
-    let files = three_files(rt.alloc())?;
+/// Whether the lines tell the files up to the refused one, and that the one behind isn't checked.
+pub fn files_up_to_a_refused_one_and_behind(alloc: Global) -> Result<bool, AllocError> {
+    let files = three_files(alloc)?;
     let lines = "a.wasm: ok types 1 functions 0 imports 0 exports 0\n\
                  b.wasm: refused at 11: size minimum must not be greater than maximum\n\
                  c.wasm: not checked\n";
-    let printed = ends_with(rt.alloc(), &files, 1, lines, "");
-    assert!(rt; printed);
-    Ok(())
+    Ok(ends_with(alloc, &files, 1, lines, ""))
 }
 
-#[test]
-fn a_stream_that_is_full(rt: HostRuntime) -> Result<(), Fail> {
-    let files = three_files(rt.alloc())?;
-    // There is room for the first line alone.
+/// Whether the status says so of a stream with room for the first line alone.
+pub fn a_stream_that_is_full(alloc: Global) -> Result<bool, AllocError> {
+    let files = three_files(alloc)?;
     let mut written = Cursor::new([0u8; 51]);
-    let mut complained = Vec::new(rt.alloc());
-    let status = run(rt.alloc(), &files, &mut written, &mut complained);
-    assert!(rt; status == 2 && complained.is_empty());
+    let mut complained = Vec::new(alloc);
+    let status = run(alloc, &files, &mut written, &mut complained);
     let line = b"a.wasm: ok types 1 functions 0 imports 0 exports 0\n";
-    assert!(rt; written.get_ref().as_slice() == line.as_slice());
-    Ok(())
+    Ok(status == 2 && complained.is_empty() && written.get_ref().as_slice() == line.as_slice())
 }
 
-#[test]
-fn a_file_that_is_not_there(rt: HostRuntime) -> Result<(), Fail> {
-    let there = file(rt.alloc(), "a.wasm", b"\0asm\x01\0\0\0")?;
+/// Whether a file that can't be read is named, and the one before it isn't validated.
+pub fn a_file_that_is_not_there(alloc: Global) -> Result<bool, AllocError> {
+    let there = file(alloc, "a.wasm", b"\0asm\x01\0\0\0")?;
     let missing = Input {
-        name: String::from_str(rt.alloc(), "b.wasm")?,
+        name: String::from_str(alloc, "b.wasm")?,
         bytes: None,
     };
     let line = "wasm-validate: cannot read b.wasm\n";
-    let printed = ends_with(rt.alloc(), &[there, missing], 2, "", line);
-    assert!(rt; printed);
-    Ok(())
+    Ok(ends_with(alloc, &[there, missing], 2, "", line))
 }
 
-#[test]
-fn no_file(rt: HostRuntime) {
-    let printed = ends_with(rt.alloc(), &[], 2, "", "usage: wasm-validate FILE...\n");
-    assert!(rt; printed);
+/// Whether the usage is printed where no file is named.
+pub fn no_file(alloc: Global) -> bool {
+    ends_with(alloc, &[], 2, "", "usage: wasm-validate FILE...\n")
 }

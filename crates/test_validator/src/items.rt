@@ -5,7 +5,6 @@ ghost use Rattle.wasm_validate_files.specs.WasmValidatorCore.Ready.{AreHeld};
 
 use bitflags::Flags;
 use std::alloc::Global;
-use std::test::Fail;
 use wasm_readers::{
     FuncType, GlobalType, Import, MemoryType, RecGroup, RefType, SubType, TableType, TagKind,
     TagType, TypeRef, ValType, WasmFeatures,
@@ -136,28 +135,30 @@ fn counts(module: &Module) -> [u32; 7] {
     ]
 }
 
-#[test]
-fn items_are_imported_and_defined(rt: HostRuntime) -> Result<(), Fail> {
-    let (list, mut module) = module_of(rt.alloc())?;
+/// Whether all are there when an item of each kind was imported, and one of each kind defined.
+pub fn items_are_imported_and_defined(alloc: Global) -> Result<bool, Error> {
+    let (list, mut module) = module_of(alloc)?;
     imports_each_kind(&list, &mut module)?;
     defines_each_kind(&list, &mut module)?;
     // The size: one, three times two with two parameters and a result, and three of one.
-    assert!(rt; counts(&module) == [3, 2, 2, 1, 1, 2, 19]);
-    assert!(rt; allows_table(&list, &module, 0xffff_ffff));
-    assert!(rt; !allows_table(&list, &module, 0x1_0000_0000));
-    Ok(())
+    Ok(
+        counts(&module) == [3, 2, 2, 1, 1, 2, 19]
+            && allows_table(&list, &module, 0xffff_ffff)
+            && !allows_table(&list, &module, 0x1_0000_0000),
+    )
 }
 
-#[test]
-fn functions_are_found_by_their_indices(rt: HostRuntime) -> Result<(), Fail> {
+/// Whether functions are found by their indices, with their types.
+pub fn functions_are_found_by_their_indices(alloc: Global) -> Result<bool, Error> {
     let all = WasmFeatures::all();
-    let (list, mut module) = module_of(rt.alloc())?;
+    let (list, mut module) = module_of(alloc)?;
     imports(&list, &mut module, TypeRef::Func(0))?;
     module.add_function(&list, 0, 7)?;
-    assert!(rt; is_exact(all, &module, 0) == Some(false));
-    assert!(rt; is_exact(all, &module, 1) == Some(true));
-    assert!(rt; is_exact(all, &module, 2).is_none());
-    assert!(rt; takes_two(&list, &module, 1));
-    assert!(rt; !takes_two(&list, &module, 2));
-    Ok(())
+    Ok(
+        is_exact(all, &module, 0) == Some(false)
+            && is_exact(all, &module, 1) == Some(true)
+            && is_exact(all, &module, 2).is_none()
+            && takes_two(&list, &module, 1)
+            && !takes_two(&list, &module, 2),
+    )
 }

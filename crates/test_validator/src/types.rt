@@ -7,7 +7,6 @@ ghost use Rattle.wasm_validator_type_list.specs.Listing.{types_in};
 ghost use Rattle.wasm_validator_type_list.specs.Subtyping.{IsRefOver};
 
 use std::alloc::{AllocError, Global};
-use std::test::Fail;
 use wasm_readers::readers_types::{
     AbstractHeapType, CoreTypeId, HeapType, RecGroup, RefType, UnpackedIndex,
 };
@@ -48,14 +47,15 @@ fn links(list: &TypeList, a: u32, b: u32) -> Option<(bool, u64)> {
     Some((is_subtype, count.read()))
 }
 
-#[test]
-fn links_are_counted(rt: HostRuntime) -> Result<(), Fail> {
-    let types = check(rt.alloc(), &chain(rt.alloc())?)?;
+/// Whether the links that are read are counted, in a chain of 64 types.
+pub fn links_are_counted(alloc: Global) -> Result<bool, Error> {
+    let types = check(alloc, &chain(alloc)?)?;
     let list = types.as_ref().type_list();
-    assert!(rt; links(list, 63, 0) == Some((true, 1)));
-    assert!(rt; links(list, 62, 63) == Some((false, 0)));
-    assert!(rt; links(list, 63, 63) == Some((true, 0)));
-    Ok(())
+    Ok(
+        links(list, 63, 0) == Some((true, 1))
+            && links(list, 62, 63) == Some((false, 0))
+            && links(list, 63, 63) == Some((true, 0)),
+    )
 }
 
 /// A group of 65 function types, each but the first extending the one before.
@@ -68,31 +68,31 @@ fn long_group(alloc: Global) -> Result<Vec<u8>, AllocError> {
     Ok(bytes)
 }
 
-#[test]
-fn more_than_63_ancestors_are_found_by_links(rt: HostRuntime) -> Result<(), Fail> {
-    let alloc = rt.alloc();
+/// Whether a type with more than 63 ancestors, which is refused, is found below them by links.
+pub fn more_than_63_ancestors_are_found_by_links(alloc: Global) -> Result<bool, Error> {
     let features = WasmFeatures::default();
     let mut list = TypeList::new(alloc, true);
     let bytes = long_group(alloc)?;
     let group: RecGroup = RecGroup::from_reader(alloc, &mut BinaryReader::new(&bytes, 0))?;
     if group.is_explicit_rec_group() {
         let added = canonicalize_and_intern_rec_group(features, alloc, &mut list, &[], group, 0);
-        assert!(rt; added.is_err());
+        if added.is_ok() {
+            return Ok(false);
+        }
     }
-    assert!(rt; list.len() == 65);
-    assert!(rt; links(&list, 64, 0) == Some((true, 2)));
-    assert!(rt; links(&list, 63, 0) == Some((true, 1)));
-    assert!(rt; links(&list, 0, 64) == Some((false, 0)));
-    Ok(())
+    Ok(
+        list.len() == 65
+            && links(&list, 64, 0) == Some((true, 2))
+            && links(&list, 63, 0) == Some((true, 1))
+            && links(&list, 0, 64) == Some((false, 0)),
+    )
 }
 
-#[test]
-fn links_to_another_type_are_counted(rt: HostRuntime) -> Result<(), Fail> {
-    let types = check(rt.alloc(), FOUR)?;
+/// Whether the links to a type of another kind are counted.
+pub fn links_to_another_type_are_counted(alloc: Global) -> Result<bool, Error> {
+    let types = check(alloc, FOUR)?;
     let list = types.as_ref().type_list();
-    assert!(rt; links(list, 3, 0) == Some((false, 1)));
-    assert!(rt; links(list, 3, 2) == Some((true, 1)));
-    Ok(())
+    Ok(links(list, 3, 0) == Some((false, 1)) && links(list, 3, 2) == Some((true, 1)))
 }
 
 /// The reference type that is not null to what this type describes, exactly or not, if the list has
@@ -127,16 +127,17 @@ fn is_below(list: &TypeList, a: (u32, bool), b: (u32, bool)) -> Option<bool> {
     Some(list.reftype_is_subtype(a, b))
 }
 
-#[test]
-fn references_are_ordered_as_declared(rt: HostRuntime) -> Result<(), Fail> {
-    let types = check(rt.alloc(), FOUR)?;
+/// Whether reference types are ordered as their types are declared.
+pub fn references_are_ordered_as_declared(alloc: Global) -> Result<bool, Error> {
+    let types = check(alloc, FOUR)?;
     let list = types.as_ref().type_list();
-    assert!(rt; is_below(list, (1, false), (0, false)) == Some(true));
-    assert!(rt; is_below(list, (0, false), (1, false)) == Some(false));
-    assert!(rt; is_below(list, (1, true), (0, false)) == Some(true));
-    assert!(rt; is_below(list, (1, false), (1, true)) == Some(false));
-    assert!(rt; is_below(list, (1, true), (0, true)) == Some(false));
-    Ok(())
+    Ok(
+        is_below(list, (1, false), (0, false)) == Some(true)
+            && is_below(list, (0, false), (1, false)) == Some(false)
+            && is_below(list, (1, true), (0, false)) == Some(true)
+            && is_below(list, (1, false), (1, true)) == Some(false)
+            && is_below(list, (1, true), (0, true)) == Some(false),
+    )
 }
 
 /// Whether the reference to the type, or null, is below that to the abstract heap type, or null, if
@@ -154,20 +155,21 @@ fn plain_is_below(list: &TypeList, ty: AbstractHeapType, id: u32) -> Option<bool
     Some(list.reftype_is_subtype(a, b))
 }
 
-#[test]
-fn types_are_below_abstract_ones(rt: HostRuntime) -> Result<(), Fail> {
-    let types = check(rt.alloc(), FOUR)?;
+/// Whether types are below the abstract ones of their kind, and above the bottom of it.
+pub fn types_are_below_abstract_ones(alloc: Global) -> Result<bool, Error> {
+    let types = check(alloc, FOUR)?;
     let list = types.as_ref().type_list();
-    assert!(rt; is_below_plain(list, 0, AbstractHeapType::Struct, false) == Some(true));
-    assert!(rt; is_below_plain(list, 0, AbstractHeapType::Eq, false) == Some(true));
-    assert!(rt; is_below_plain(list, 0, AbstractHeapType::Any, false) == Some(true));
-    assert!(rt; is_below_plain(list, 0, AbstractHeapType::Array, false) == Some(false));
-    assert!(rt; is_below_plain(list, 0, AbstractHeapType::Func, false) == Some(false));
-    assert!(rt; is_below_plain(list, 1, AbstractHeapType::Any, true) == Some(false));
-    assert!(rt; is_below_plain(list, 3, AbstractHeapType::Func, false) == Some(true));
-    assert!(rt; plain_is_below(list, AbstractHeapType::None, 1) == Some(true));
-    assert!(rt; plain_is_below(list, AbstractHeapType::NoFunc, 1) == Some(false));
-    Ok(())
+    Ok(
+        is_below_plain(list, 0, AbstractHeapType::Struct, false) == Some(true)
+            && is_below_plain(list, 0, AbstractHeapType::Eq, false) == Some(true)
+            && is_below_plain(list, 0, AbstractHeapType::Any, false) == Some(true)
+            && is_below_plain(list, 0, AbstractHeapType::Array, false) == Some(false)
+            && is_below_plain(list, 0, AbstractHeapType::Func, false) == Some(false)
+            && is_below_plain(list, 1, AbstractHeapType::Any, true) == Some(false)
+            && is_below_plain(list, 3, AbstractHeapType::Func, false) == Some(true)
+            && plain_is_below(list, AbstractHeapType::None, 1) == Some(true)
+            && plain_is_below(list, AbstractHeapType::NoFunc, 1) == Some(false),
+    )
 }
 
 /// Whether what the first type declares matches what the second one does, if the list has both.
@@ -179,15 +181,16 @@ fn matches(list: &TypeList, a: u32, b: u32) -> Option<bool> {
     Some(list.matches(a, b))
 }
 
-#[test]
-fn types_match_by_their_structure(rt: HostRuntime) -> Result<(), Fail> {
-    let types = check(rt.alloc(), FOUR)?;
+/// Whether types match by their structure.
+pub fn types_match_by_their_structure(alloc: Global) -> Result<bool, Error> {
+    let types = check(alloc, FOUR)?;
     let list = types.as_ref().type_list();
-    assert!(rt; matches(list, 1, 0) == Some(true));
-    assert!(rt; matches(list, 0, 1) == Some(false));
-    assert!(rt; matches(list, 1, 1) == Some(true));
-    assert!(rt; matches(list, 3, 2) == Some(true));
-    assert!(rt; matches(list, 2, 3) == Some(false));
-    assert!(rt; matches(list, 2, 0) == Some(false));
-    Ok(())
+    Ok(
+        matches(list, 1, 0) == Some(true)
+            && matches(list, 0, 1) == Some(false)
+            && matches(list, 1, 1) == Some(true)
+            && matches(list, 3, 2) == Some(true)
+            && matches(list, 2, 3) == Some(false)
+            && matches(list, 2, 0) == Some(false),
+    )
 }

@@ -12,10 +12,11 @@ use std::io;
 use wasm_parser::{FunctionBody, Parser, Payload};
 use wasm_readers::{Error, FromReader, SectionLimited};
 
-fn main(rt: HostRuntime) -> io::Result<()> {
-    dump(&rt, MODULE)?;
+/// Prints a module, and some that are malformed.
+pub fn run<R: Print + AllocGlobal>(rt: &R) -> io::Result<()> {
+    dump(rt, MODULE)?;
     for module in MALFORMED {
-        dump(&rt, module)?;
+        dump(rt, module)?;
     }
     Ok(())
 }

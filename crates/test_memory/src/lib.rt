@@ -43,8 +43,7 @@ const REFUSED_BODY: Sample<'static> = Sample {
     has_body: true,
 };
 
-/// What is called: a module payload by payload or at once, a list of modules, single calls, or the
-/// program that validates files.
+/// What is called: a module by hand or at once, a list of modules, single calls, or the program.
 #[derive(Clone, Copy)]
 enum Subject {
     ByHand(Sample<'static>),
@@ -154,10 +153,11 @@ fn count_right<R: Print + AllocGlobal>(
     Ok(right)
 }
 
-fn main(rt: HostRuntime) -> io::Result<()> {
+/// Refuses each request alone and with all from it on, and prints how many subjects are right.
+pub fn check_refusals<R: Print + AllocGlobal>(rt: &R) -> io::Result<()> {
     let heap = Refusing::new(rt.alloc());
-    let alone = count_right(&rt, &heap, 1)?;
-    let onwards = count_right(&rt, &heap, u64::MAX)?;
+    let alone = count_right(rt, &heap, 1)?;
+    let onwards = count_right(rt, &heap, u64::MAX)?;
     let without = check_without_memory(&heap, heap.plan(), rt.alloc());
     println!(rt;
         "of 15 subjects {alone} are right with each request refused alone, and {onwards} with all from it on"

@@ -1,0 +1,38 @@
+//! Rows, each a function's body with the answer that is wanted of it, over one sample of types,
+//! functions, tables and the like, or a single operator with what it is. A long body and the items of
+//! modules are measured here too.
+#![tactic(auto)]
+
+mod bench;
+mod items;
+mod operators;
+mod row;
+mod sample;
+mod types;
+
+pub use bench::time_body;
+pub use items::print_items;
+use row::{BodyRows, NAME};
+use rows_files::{STATUS_RIGHT, files_behind, print_error, run};
+use sample::Sample;
+use std::alloc::Global;
+use std::env::Env;
+use std::io::{self, Write};
+use std::rt::Files;
+
+/// Runs the rows of the files that stand behind `--bodies`, if there are any, and tells the wrong
+/// ones. The answer is the exit status.
+pub fn run_rows<R: Env + Files + AllocGlobal, W: Write, E: Write>(
+    rt: &R,
+    out: &mut W,
+    err: &mut E,
+) -> io::Result<u8> {
+    let files = files_behind(rt, "--bodies")?;
+    if files.is_empty() {
+        return Ok(STATUS_RIGHT);
+    }
+    match Sample::new(rt.alloc()) {
+        Ok(sample) => Ok(run(rt.alloc(), &BodyRows { sample }, &files, out, err)),
+        Err(trouble) => Ok(print_error(err, NAME, trouble.text())),
+    }
+}
