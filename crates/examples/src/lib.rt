@@ -1,6 +1,7 @@
 //! How the validator is used, a file for each kind of user.
 #![tactic(auto)]
 
+mod dump;
 mod gate;
 mod heights;
 mod inspection;
@@ -24,5 +25,6 @@ pub fn run<R: Print + AllocGlobal>(rt: &R) -> io::Result<()> {
     heights::run(rt)?;
     heights::print_refused_body(rt)?;
     own_look_ups::run(rt)?;
-    interning::run(rt)
+    interning::run(rt)?;
+    dump::run(rt)
 }

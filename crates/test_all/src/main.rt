@@ -10,7 +10,7 @@
 //!   globals, element and data segments are;
 //! - `--memory`: refuses each request for memory;
 //! - `--calls`: tests of what rows can't show;
-//! - `--examples`, `--dump`: the examples.
+//! - `--examples`: the examples.
 #![tactic(auto)]
 
 use rows_bodies::{print_items, time_body};
@@ -69,9 +69,6 @@ fn run_calls<R: Env + Print + AllocGlobal, W: Write>(rt: &R, out: &mut W) -> io:
 fn print_examples<R: Env + Print + AllocGlobal>(rt: &R) -> io::Result<()> {
     if has_option(rt, "--examples")? {
         examples::run(rt)?;
-    }
-    if has_option(rt, "--dump")? {
-        examples_dump::run(rt)?;
     }
     Ok(())
 }

@@ -1,12 +1,12 @@
-//! Dumps modules from their bytes alone: each section with its items, and each expression and body
-//! with its operators. Nothing is validated.
-#![tactic(auto)]
+//! A tool that only parses: it dumps modules from their bytes, each section with its items, and each
+//! expression and body with its operators. Nothing is validated, so only the crates of reading are
+//! used.
 
 mod items;
 mod modules;
 
-use items::{Dump, print_operators};
-use modules::{MALFORMED, MODULE};
+use crate::dump::items::{Dump, print_operators};
+use crate::dump::modules::{MALFORMED, MODULE};
 use std::alloc::Allocator;
 use std::io;
 use wasm_parser::{FunctionBody, Parser, Payload};

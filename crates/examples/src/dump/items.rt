@@ -1,6 +1,6 @@
 //! What is printed of each kind of item.
 
-use crate::print_error;
+use crate::dump::print_error;
 use std::alloc::Allocator;
 use std::io;
 use wasm_parser::items::{
