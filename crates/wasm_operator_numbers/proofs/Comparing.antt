@@ -5,7 +5,7 @@ use Rattle.std.proofs.Math.Bool.{and-true}
 use Rattle.wasm_readers_errors.specs.WasmSpec.Syntax.{Val}
 use Rattle.wasm_readers_errors.specs.WasmSpec.MatchingTests.{matches_val}
 use Rattle.wasm_operator_checks.specs.WasmSpecRules.Contexts.{Context}
-use Rattle.wasm_readers_errors.specs.WasmReadersTypes.WasmReadersValues.declared.indices.UnpackedIndex.{UnpackedIndex}
+use Rattle.wasm_readers_types.specs.WasmReadersValues.declared.indices.UnpackedIndex.{UnpackedIndex}
 use Rattle.wasm_operator_checks.specs.WasmOperatorSteps.Actions.{OperandTypes, each_matches}
 use Rattle.wasm_operator_checks.specs.WasmSpecRules.Attempts.{passes}
 use Rattle.wasm_operator_checks.specs.WasmOperatorSteps.Matching.{matches_vals}

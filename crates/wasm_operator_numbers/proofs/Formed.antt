@@ -4,9 +4,9 @@ use Rattle.std.specs.Option.{option_map}
 use Rattle.std.specs.Prelude.{Option, Some, None, Result, Err, slice_get, nat_lt}
 use Rattle.wasm_readers_errors.specs.WasmSpec.Syntax.{Val}
 use Rattle.wasm_readers_errors.specs.WasmSpec.ValueTypes.{allows_val}
-use Rattle.wasm_readers_errors.specs.WasmReadersTypes.SeenExterns.{memory_of}
-use Rattle.wasm_readers_errors.specs.WasmReadersTypes.declared.externs.MemoryType.{MemoryType}
-use Rattle.wasm_readers_errors.specs.WasmReadersTypes.WasmReadersValues.declared.indices.UnpackedIndex.{UnpackedIndex}
+use Rattle.wasm_readers_types.specs.SeenExterns.{memory_of}
+use Rattle.wasm_readers_types.specs.declared.externs.MemoryType.{MemoryType}
+use Rattle.wasm_readers_types.specs.WasmReadersValues.declared.indices.UnpackedIndex.{UnpackedIndex}
 use Rattle.wasm_operators.specs.WasmOperatorsPlain.declared.memories.MemArg.{MemArg}
 use Rattle.wasm_operators.specs.WasmOperatorsAtomic.WasmOperatorsVector.declared.forms.ValueType.{ValueType}
 use Rattle.wasm_operators.specs.WasmOperatorsAtomic.WasmOperatorsVector.declared.forms.ValueType.TheVariants as number

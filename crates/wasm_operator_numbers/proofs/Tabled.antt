@@ -5,11 +5,11 @@ use Rattle.std.specs.Prelude.{Option, Some, None, Err, slice_get}
 use Rattle.wasm_readers_errors.specs.WasmSpec.Syntax.{Val, reference, Table}
 use Rattle.wasm_readers_errors.specs.WasmSpec.ValueTypes.{implies}
 use Rattle.wasm_operator_checks.specs.WasmSpecRules.Contexts.{Context}
-use Rattle.wasm_readers_errors.specs.WasmReadersTypes.SeenExterns.{table_of}
-use Rattle.wasm_readers_errors.specs.WasmReadersTypes.WasmReadersValues.SeenValues.{ref_of}
-use Rattle.wasm_readers_errors.specs.WasmReadersTypes.declared.externs.TableType.{TableType}
-use Rattle.wasm_readers_errors.specs.WasmReadersTypes.WasmReadersValues.declared.values.RefType.{RefType}
-use Rattle.wasm_readers_errors.specs.WasmReadersTypes.WasmReadersValues.declared.indices.UnpackedIndex.{UnpackedIndex}
+use Rattle.wasm_readers_types.specs.SeenExterns.{table_of}
+use Rattle.wasm_readers_types.specs.WasmReadersValues.SeenValues.{ref_of}
+use Rattle.wasm_readers_types.specs.declared.externs.TableType.{TableType}
+use Rattle.wasm_readers_types.specs.WasmReadersValues.declared.values.RefType.{RefType}
+use Rattle.wasm_readers_types.specs.WasmReadersValues.declared.indices.UnpackedIndex.{UnpackedIndex}
 use Rattle.wasm_operator_checks.specs.WasmOperatorSteps.Actions.{Action, need, table_address, lesser_table_address, table_element, segment, segment_is_there, reaches_table}
 use Rattle.wasm_operator_checks.specs.WasmSpecRules.Attempts.{◌>>=◌, guard, passes}
 use Rattle.wasm_operator_checks.specs.WasmOperatorSteps.Machine.{State}

@@ -1,7 +1,7 @@
 -- Parts of the forms of operators on vectors and of atomic ones.
 use Rattle.std.specs.Prelude.{List, [], ◌∷◌, Option}
 use Rattle.wasm_readers_errors.specs.WasmSpec.Syntax.{Val}
-use Rattle.wasm_readers_errors.specs.WasmReadersTypes.WasmReadersValues.declared.indices.UnpackedIndex.{UnpackedIndex}
+use Rattle.wasm_readers_types.specs.WasmReadersValues.declared.indices.UnpackedIndex.{UnpackedIndex}
 use Rattle.wasm_operator_checks.specs.WasmOperatorSteps.Forms.{value_type}
 use Rattle.wasm_operators.specs.WasmOperatorsAtomic.WasmOperatorsVector.declared.forms.ValueType.{ValueType}
 use Rattle.wasm_operators.specs.WasmOperatorsAtomic.WasmOperatorsVector.declared.forms.Operands.{Operands}

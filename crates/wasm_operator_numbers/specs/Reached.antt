@@ -3,7 +3,7 @@ use Rattle.std.specs.Prelude.{ℕ, Bool, Option, slice_get}
 use Rattle.wasm_readers_errors.specs.WasmSpec.Syntax.{Table}
 use Rattle.wasm_readers_errors.specs.WasmSpec.ValueTypes.{implies}
 use Rattle.wasm_operator_checks.specs.WasmSpecRules.Contexts.{Context}
-use Rattle.wasm_readers_errors.specs.WasmReadersTypes.WasmReadersValues.declared.indices.UnpackedIndex.{UnpackedIndex}
+use Rattle.wasm_readers_types.specs.WasmReadersValues.declared.indices.UnpackedIndex.{UnpackedIndex}
 use Rattle.wasm_operator_checks.specs.WasmSpecRules.Attempts.{◌>>=◌, guard}
 
 -- the table of an index, from a shared function or from another

@@ -17,7 +17,7 @@ use wasm_operator_checks::{
 };
 use wasm_operators::operators_plain::{NumberType, max_align};
 use wasm_operators::{MemArg, MemoryOperator};
-use wasm_readers_errors::readers_types::MemoryType;
+use wasm_readers_types::MemoryType;
 
 /// Whether it is a load or a store, and of what.
 #[derive(Clone, Copy)]

@@ -2,7 +2,7 @@
 
 ghost use Rattle.std.specs.Prelude.{◌≡◌, ◌&&◌, is_some, slice_get};
 ghost use Rattle.wasm_operators.specs.WasmOperatorsPlain.declared.tables.TableOperator.TheVariants.{TableCopy, TableInit, ElemDrop};
-ghost use Rattle.wasm_readers_errors.specs.WasmReadersTypes.WasmReadersValues.declared.indices.UnpackedIndex.{UnpackedIndex};
+ghost use Rattle.wasm_readers_types.specs.WasmReadersValues.declared.indices.UnpackedIndex.{UnpackedIndex};
 ghost use Rattle.wasm_operator_checks.specs.WasmOperatorStacks.SeenTypeWords.{val_in};
 ghost use Rattle.wasm_operator_checks.specs.WasmOperatorSteps.Meanings.{address as address_by};
 ghost use Rattle.wasm_operator_checks.specs.WasmOperatorSteps.Shapes.{table_shape};
@@ -18,7 +18,7 @@ use wasm_operator_checks::{
 };
 use wasm_operators::operators_plain::NumberType;
 use wasm_readers_errors::WasmFeatures;
-use wasm_readers_errors::readers_types::ValType;
+use wasm_readers_types::ValType;
 
 /// `table.copy`: takes an address in each of two tables, the one that is read on top, and a number
 /// of elements above them (Core Specification 3.0, Validation, Table Instructions).

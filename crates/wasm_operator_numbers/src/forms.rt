@@ -2,7 +2,7 @@
 
 ghost use Rattle.std.specs.Prelude.{◌≡◌, ◌∷◌, [], ◌++◌, ◌||◌, ◌^◌, nat_lt, ℕ};
 ghost use Rattle.wasm_readers_errors.specs.WasmSpec.ValueTypes.{allows_val};
-ghost use Rattle.wasm_readers_errors.specs.WasmReadersTypes.WasmReadersValues.declared.indices.UnpackedIndex.{UnpackedIndex};
+ghost use Rattle.wasm_readers_types.specs.WasmReadersValues.declared.indices.UnpackedIndex.{UnpackedIndex};
 ghost use Rattle.wasm_operator_checks.specs.WasmSpecRules.FeatureFlags.{features_of};
 ghost use Rattle.wasm_operator_checks.specs.WasmOperatorSteps.Forms.{value_type, operand_types, types_taken, types_given, result_types, allows_each, allows_alignment, is_lane_of_two, are_lanes_of_two, all_lanes_of_two, suits_immediates, suits_access, suits_form, memarg_of};
 ghost use Rattle.wasm_operator_checks.specs.WasmOperatorSteps.Shapes.{form_shape, vector_shape, atomic_shape};
@@ -25,7 +25,7 @@ use wasm_operators::operators_atomic::{
 };
 use wasm_operators::{ImmediateValues, MemArg, V128};
 use wasm_readers_errors::WasmFeatures;
-use wasm_readers_errors::readers_types::{MemoryType, ValType};
+use wasm_readers_types::{MemoryType, ValType};
 
 /// The type as it stands on the stack.
 fn word(ty: ValueType) -> TypeWord

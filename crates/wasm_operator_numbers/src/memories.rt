@@ -2,7 +2,7 @@
 
 ghost use Rattle.std.specs.Prelude.{◌≡◌, ◌&&◌, nat_lt};
 ghost use Rattle.wasm_operators.specs.WasmOperatorsPlain.declared.memories.BulkMemoryOperator.TheVariants.{MemorySize, MemoryGrow, MemoryFill, MemoryCopy, MemoryInit, DataDrop};
-ghost use Rattle.wasm_readers_errors.specs.WasmReadersTypes.WasmReadersValues.declared.indices.UnpackedIndex.{UnpackedIndex};
+ghost use Rattle.wasm_readers_types.specs.WasmReadersValues.declared.indices.UnpackedIndex.{UnpackedIndex};
 ghost use Rattle.wasm_operator_checks.specs.WasmOperatorStacks.SeenTypeWords.{val_in};
 ghost use Rattle.wasm_operator_checks.specs.WasmSpecRules.Attempts.{passes};
 ghost use Rattle.wasm_operator_checks.specs.WasmOperatorSteps.Meanings.{address as address_by};

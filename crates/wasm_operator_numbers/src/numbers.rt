@@ -18,7 +18,7 @@ use wasm_operator_checks::{
 use wasm_operators::ConstantOperator;
 use wasm_operators::operators_plain::{NumberType, Signature};
 use wasm_readers_errors::WasmFeatures;
-use wasm_readers_errors::readers_types::ValType;
+use wasm_readers_types::ValType;
 
 /// An operator that takes a number and gives one.
 #[tactic(auto, using(wasm_operator_checks::proofs::Acting::acts, wasm_operator_checks::proofs::Typing::types))]

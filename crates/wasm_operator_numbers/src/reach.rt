@@ -1,14 +1,14 @@
 //! What a body may reach.
 
 ghost use Rattle.std.specs.Prelude.{◌≡◌, Some, None, IfOk, OnErr};
-ghost use Rattle.wasm_readers_errors.specs.WasmReadersTypes.SeenExterns.{table_of};
+ghost use Rattle.wasm_readers_types.specs.SeenExterns.{table_of};
 ghost use Rattle.wasm_operator_numbers.specs.Reached.{table_in};
 
 use std::alloc::Allocator;
 use wasm_operator_checks::operator_stacks::Stacks;
 use wasm_operator_checks::validator_resources::WasmModuleResources;
 use wasm_operator_checks::{OperatorFault, OperatorRule, reaches};
-use wasm_readers_errors::readers_types::TableType;
+use wasm_readers_types::TableType;
 
 /// The type of the table of this index.
 ///

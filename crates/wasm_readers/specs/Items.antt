@@ -1,7 +1,7 @@
 -- What contracts see of the items of sections.
 use Rattle.wasm_readers_bytes.specs.WasmSpec.BinaryModules as binary
-use Rattle.wasm_readers_bytes.specs.WasmReadersTypes.SeenExterns.{extern_of, kind_of}
-use Rattle.wasm_readers_bytes.specs.WasmReadersTypes.WasmReadersValues.declared.indices.UnpackedIndex.{UnpackedIndex}
+use Rattle.wasm_readers_types.specs.SeenExterns.{extern_of, kind_of}
+use Rattle.wasm_readers_types.specs.WasmReadersValues.declared.indices.UnpackedIndex.{UnpackedIndex}
 use Rattle.wasm_readers.specs.declared.items.Import.{Import}
 use Rattle.wasm_readers.specs.declared.items.Export.{Export}
 

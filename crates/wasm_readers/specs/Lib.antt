@@ -1,5 +1,5 @@
 pub use Rattle.wasm_readers_bytes.specs.WasmSpec as WasmSpec
-pub use Rattle.wasm_readers_bytes.specs.WasmReadersTypes as WasmReadersTypes
+pub use Rattle.wasm_readers_types.specs as WasmReadersTypes
 pub use Rattle.wasm_readers_bytes.specs.WasmReadersErrors as WasmReadersErrors
 pub use Rattle.wasm_readers_bytes.specs as WasmReadersBytes
 pub mod Refusals

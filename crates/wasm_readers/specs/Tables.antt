@@ -6,8 +6,8 @@ use Rattle.wasm_readers_bytes.specs.WasmSpec.Syntax.{Table}
 use Rattle.wasm_readers_bytes.specs.WasmSpec.Values.{byte_at}
 use Rattle.wasm_readers_bytes.specs.WasmSpec.BinaryTypes.{flags_at, table_at}
 use Rattle.wasm_readers_bytes.specs.WasmSpec.BinarySections.{TableEntry, table_entry_at}
-use Rattle.wasm_readers_bytes.specs.WasmReadersTypes.SeenExterns.{table_of}
-use Rattle.wasm_readers_bytes.specs.WasmReadersTypes.WasmReadersValues.declared.indices.UnpackedIndex.{UnpackedIndex}
+use Rattle.wasm_readers_types.specs.SeenExterns.{table_of}
+use Rattle.wasm_readers_types.specs.WasmReadersValues.declared.indices.UnpackedIndex.{UnpackedIndex}
 use Rattle.wasm_readers.specs.Written.{written}
 use Rattle.wasm_readers.specs.declared.items.TableHead.{TableHead}
 

@@ -6,9 +6,9 @@ ghost use Rattle.wasm_readers_bytes.specs.WasmSpec.BinaryTypes.{index_at, func_a
 ghost use Rattle.wasm_readers_bytes.specs.Reader.{input, SameInput, position_in, rest, RefusedFrom, FailedFrom};
 ghost use Rattle.wasm_readers_bytes.specs.WasmReadersErrors.Errors.{Reads};
 ghost use Rattle.wasm_readers.specs.Written.{written};
-ghost use Rattle.wasm_readers_bytes.specs.WasmReadersTypes.SeenTypes.{func_of, comp_of, sub_of, rec_of};
+ghost use Rattle.wasm_readers_types.specs.SeenTypes.{func_of, comp_of, sub_of, rec_of};
 ghost use Rattle.std.specs.Option.{option_map};
-ghost use Rattle.wasm_readers_bytes.specs.WasmReadersTypes.WasmReadersValues.SeenValues.{index_of, field_of};
+ghost use Rattle.wasm_readers_types.specs.WasmReadersValues.SeenValues.{index_of, field_of};
 
 use crate::lists::read_list;
 use crate::section_limited::FromReader;
@@ -16,7 +16,7 @@ use crate::types::read_field_type;
 use std::alloc::Allocator;
 use wasm_readers_bytes::BinaryReader;
 use wasm_readers_bytes::readers_errors::{Error, Fault, Malformed, Refusal};
-use wasm_readers_bytes::readers_types::{
+use wasm_readers_types::{
     ArrayType, CompositeInnerType, CompositeType, ContType, FieldType, FuncType, Items,
     PackedIndex, RecGroup, StructType, SubType, ValType,
 };
@@ -81,7 +81,7 @@ fn read_marked_index(
 }
 
 impl<'a, A: Allocator> FromReader<'a, A> for PackedIndex {
-    ghost use Rattle.wasm_readers_bytes.specs.WasmReadersTypes.WasmReadersValues.declared.indices.UnpackedIndex.{UnpackedIndex};
+    ghost use Rattle.wasm_readers_types.specs.WasmReadersValues.declared.indices.UnpackedIndex.{UnpackedIndex};
 
     ghost Value = { UnpackedIndex };
 
@@ -182,7 +182,7 @@ fn read_final_or_not<'a, A: Allocator + Copy>(
 
 impl<'a, A: Allocator + Copy> FromReader<'a, A> for SubType<A> {
     ghost use Rattle.wasm_readers_bytes.specs.WasmSpec.Syntax.{Sub};
-    ghost use Rattle.wasm_readers_bytes.specs.WasmReadersTypes.WasmReadersValues.declared.indices.UnpackedIndex.{UnpackedIndex};
+    ghost use Rattle.wasm_readers_types.specs.WasmReadersValues.declared.indices.UnpackedIndex.{UnpackedIndex};
 
     ghost Value = { Sub UnpackedIndex };
 
@@ -214,7 +214,7 @@ impl<'a, A: Allocator + Copy> FromReader<'a, A> for SubType<A> {
 
 impl<'a, A: Allocator + Copy> FromReader<'a, A> for RecGroup<A> {
     ghost use Rattle.wasm_readers_bytes.specs.WasmSpec.Syntax.{Rec};
-    ghost use Rattle.wasm_readers_bytes.specs.WasmReadersTypes.WasmReadersValues.declared.indices.UnpackedIndex.{UnpackedIndex};
+    ghost use Rattle.wasm_readers_types.specs.WasmReadersValues.declared.indices.UnpackedIndex.{UnpackedIndex};
 
     ghost Value = { Rec UnpackedIndex };
 

@@ -8,7 +8,7 @@ ghost use Rattle.wasm_readers_bytes.specs.WasmReadersErrors.Refusals.{plain};
 ghost use Rattle.wasm_readers.specs.Written.{written};
 ghost use Rattle.wasm_readers.specs.Limits.{limits_of};
 ghost use Rattle.wasm_readers.specs.Tables.{head_of, table_head_at};
-ghost use Rattle.wasm_readers_bytes.specs.WasmReadersTypes.SeenExterns.{table_of, memory_of, global_of, extern_of, kind_of};
+ghost use Rattle.wasm_readers_types.specs.SeenExterns.{table_of, memory_of, global_of, extern_of, kind_of};
 
 use crate::items::{Export, Import, TableHead};
 use crate::section_limited::FromReader;
@@ -16,7 +16,7 @@ use crate::types::{read_ref_type, read_val_type};
 use std::alloc::Allocator;
 use wasm_readers_bytes::BinaryReader;
 use wasm_readers_bytes::readers_errors::{Error, Fault, Malformed, Refusal};
-use wasm_readers_bytes::readers_types::{
+use wasm_readers_types::{
     ExternalKind, GlobalType, MemoryType, TableType, TagKind, TagType, TypeRef,
 };
 
@@ -328,7 +328,7 @@ impl<'a, A: Allocator> FromReader<'a, A> for TagType {
 impl<'a, A: Allocator> FromReader<'a, A> for Import<'a> {
     ghost use Rattle.wasm_readers_bytes.specs.WasmSpec.BinaryModules.{Import};
     ghost use Rattle.wasm_readers.specs.Items.{import_of};
-    ghost use Rattle.wasm_readers_bytes.specs.WasmReadersTypes.WasmReadersValues.declared.indices.UnpackedIndex.{UnpackedIndex};
+    ghost use Rattle.wasm_readers_types.specs.WasmReadersValues.declared.indices.UnpackedIndex.{UnpackedIndex};
 
     ghost Value = { Import UnpackedIndex };
 

@@ -1,6 +1,6 @@
 //! The items of sections, as far as they have no expressions.
 
-use wasm_readers_bytes::readers_types::{ExternalKind, TableType, TypeRef};
+use wasm_readers_types::{ExternalKind, TableType, TypeRef};
 
 /// An import (Core Specification 3.0, Binary Format, Import Section).
 #[derive(Clone, Copy, Debug)]

@@ -20,7 +20,7 @@ pub use wasm_readers_bytes::readers_errors::{
     Counted, DescriptorRule, Error, Fault, GroupRule, Integer, ItemKind, ItemRule, Malformed,
     OutOfOrder, Refusal, Rule, ValueTypeRule, WasmFeatures,
 };
-pub use wasm_readers_bytes::readers_types::{
+pub use wasm_readers_types::{
     AbstractHeapType, ArrayType, CompositeInnerType, CompositeType, ContType, CoreTypeId,
     ExternalKind, FieldType, FuncType, GlobalType, HeapType, Items, MAX_IDS, MemoryType,
     PackedIndex, RecGroup, RefType, StorageType, StructType, SubType, TableType, TagKind, TagType,
@@ -36,7 +36,7 @@ pub fn table_heads_begin_tables()
 
 /// Passed on from `wasm_readers_types`.
 pub mod readers_types {
-    pub use wasm_readers_bytes::readers_types::{
+    pub use wasm_readers_types::{
         AbstractHeapType, CoreTypeId, EntityType, ExternalKind, GlobalType, HeapType, Items,
         MemoryType, RecGroup, RefType, SubType, TableType, TypeRef, UnpackedIndex, ValType,
     };

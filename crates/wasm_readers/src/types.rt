@@ -10,13 +10,13 @@ ghost use Rattle.wasm_readers_bytes.specs.WasmReadersErrors.Refusals.{plain};
 ghost use Rattle.wasm_readers_bytes.specs.WasmReadersErrors.Errors.{Reads};
 ghost use Rattle.wasm_readers.specs.Written.{written};
 ghost use Rattle.wasm_readers.specs.Refusals.{begins_reference, IsToldOfFirst};
-ghost use Rattle.wasm_readers_bytes.specs.WasmReadersTypes.WasmReadersValues.SeenValues.{abstract_heap_of, heap_of, HeapFits, ref_of, val_of, storage_of, field_of};
+ghost use Rattle.wasm_readers_types.specs.WasmReadersValues.SeenValues.{abstract_heap_of, heap_of, HeapFits, ref_of, val_of, storage_of, field_of};
 
 use crate::section_limited::FromReader;
 use std::alloc::Allocator;
 use wasm_readers_bytes::BinaryReader;
 use wasm_readers_bytes::readers_errors::{Error, Fault, Malformed, Refusal};
-use wasm_readers_bytes::readers_types::{
+use wasm_readers_types::{
     AbstractHeapType, FieldType, HeapType, RefType, StorageType, UnpackedIndex, ValType,
 };
 
@@ -285,7 +285,7 @@ pub fn read_mutability(reader: &mut BinaryReader<'_>) -> Result<bool, Refusal>
 
 impl<'a, A: Allocator> FromReader<'a, A> for ValType {
     ghost use Rattle.wasm_readers_bytes.specs.WasmSpec.Syntax.{Val};
-    ghost use Rattle.wasm_readers_bytes.specs.WasmReadersTypes.WasmReadersValues.declared.indices.UnpackedIndex.{UnpackedIndex};
+    ghost use Rattle.wasm_readers_types.specs.WasmReadersValues.declared.indices.UnpackedIndex.{UnpackedIndex};
 
     ghost Value = { Val UnpackedIndex };
 
@@ -302,7 +302,7 @@ impl<'a, A: Allocator> FromReader<'a, A> for ValType {
 
 impl<'a, A: Allocator> FromReader<'a, A> for FieldType {
     ghost use Rattle.wasm_readers_bytes.specs.WasmSpec.Syntax.{Field};
-    ghost use Rattle.wasm_readers_bytes.specs.WasmReadersTypes.WasmReadersValues.declared.indices.UnpackedIndex.{UnpackedIndex};
+    ghost use Rattle.wasm_readers_types.specs.WasmReadersValues.declared.indices.UnpackedIndex.{UnpackedIndex};
 
     ghost Value = { Field UnpackedIndex };
 

@@ -1,4 +1,3 @@
 pub use Rattle.wasm_readers_errors.specs.WasmSpec as WasmSpec
-pub use Rattle.wasm_readers_errors.specs.WasmReadersTypes as WasmReadersTypes
 pub use Rattle.wasm_readers_errors.specs as WasmReadersErrors
 pub mod Reader

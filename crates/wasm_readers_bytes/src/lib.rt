@@ -8,16 +8,6 @@ mod leb128;
 
 pub use binary_reader::BinaryReader;
 
-/// Passed on from `wasm_readers_types`.
-pub mod readers_types {
-    pub use wasm_readers_errors::readers_types::{
-        AbstractHeapType, ArrayType, CompositeInnerType, CompositeType, ContType, CoreTypeId,
-        EntityType, ExternalKind, FieldType, FuncType, GlobalType, HeapType, Items, MAX_IDS,
-        MemoryType, PackedIndex, RecGroup, RefType, StorageType, StructType, SubType, TableType,
-        TagKind, TagType, TypeRef, UnpackedIndex, ValType,
-    };
-}
-
 /// Passed on from `wasm_readers_errors`.
 pub mod readers_errors {
     pub use wasm_readers_errors::{

@@ -1,1 +1,1 @@
-pub use Rattle.wasm_readers_types.proofs.WasmSpec as WasmSpec
+pub use Rattle.wasm_readers_values.proofs.WasmSpec as WasmSpec

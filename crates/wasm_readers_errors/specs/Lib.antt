@@ -1,5 +1,4 @@
-pub use Rattle.wasm_readers_types.specs.WasmSpec as WasmSpec
-pub use Rattle.wasm_readers_types.specs as WasmReadersTypes
+pub use Rattle.wasm_readers_values.specs.WasmSpec as WasmSpec
 pub use Rattle.wasm_readers_features.specs as WasmReadersFeatures
 pub mod Errors
 pub mod Refusals

@@ -15,7 +15,7 @@ use crate::type_rules::{DescriptorRule, GroupRule, ValueTypeRule};
 use std::alloc::{AllocError, AllocFailed};
 use std::fmt;
 use wasm_readers_features::WasmFeatures;
-use wasm_readers_types::ValType;
+use wasm_readers_values::ValType;
 
 /// The numbers of the binary format, by their sign and their width in bits (Core Specification 3.0,
 /// Binary Format, Values, Integers).

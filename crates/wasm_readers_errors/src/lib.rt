@@ -13,13 +13,3 @@ pub use operator_rules::{GatedConstant, OperatorRule};
 pub use refusals::{hold, require, require_if};
 pub use type_rules::{DescriptorRule, GroupRule, ValueTypeRule};
 pub use wasm_readers_features::WasmFeatures;
-
-/// Passed on from `wasm_readers_types`.
-pub mod readers_types {
-    pub use wasm_readers_types::{
-        AbstractHeapType, ArrayType, CompositeInnerType, CompositeType, ContType, CoreTypeId,
-        EntityType, ExternalKind, FieldType, FuncType, GlobalType, HeapType, Items, MAX_IDS,
-        MemoryType, PackedIndex, RecGroup, RefType, StorageType, StructType, SubType, TableType,
-        TagKind, TagType, TypeRef, UnpackedIndex, ValType, limits_match, same_flag,
-    };
-}

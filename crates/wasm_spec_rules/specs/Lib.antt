@@ -1,5 +1,4 @@
 pub use Rattle.wasm_readers_errors.specs.WasmSpec as WasmSpec
-pub use Rattle.wasm_readers_errors.specs.WasmReadersTypes as WasmReadersTypes
 pub mod FeatureFlags
 pub mod Parts
 pub mod Sections

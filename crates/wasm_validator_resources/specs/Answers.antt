@@ -7,11 +7,11 @@ use Rattle.wasm_readers_errors.specs.WasmSpec.ValueTypes.{allows_val}
 use Rattle.wasm_readers_errors.specs.WasmSpec.MatchingTests.{World}
 use Rattle.wasm_spec_rules.specs.Contexts.{Context}
 use Rattle.wasm_readers_errors.specs.declared.error.Refusal.{Refusal}
-use Rattle.wasm_readers_errors.specs.WasmReadersTypes.WasmReadersValues.SeenValues.{val_of, index_in}
-use Rattle.wasm_readers_errors.specs.WasmReadersTypes.WasmReadersValues.declared.indices.CoreTypeId.{CoreTypeId}
-use Rattle.wasm_readers_errors.specs.WasmReadersTypes.WasmReadersValues.declared.indices.UnpackedIndex.{UnpackedIndex}
-use Rattle.wasm_readers_errors.specs.WasmReadersTypes.WasmReadersValues.declared.indices.UnpackedIndex.TheVariants.{Module, RecGroup, Id}
-use Rattle.wasm_readers_errors.specs.WasmReadersTypes.declared.types.FuncType.{FuncType}
+use Rattle.wasm_readers_types.specs.WasmReadersValues.SeenValues.{val_of, index_in}
+use Rattle.wasm_readers_types.specs.WasmReadersValues.declared.indices.CoreTypeId.{CoreTypeId}
+use Rattle.wasm_readers_types.specs.WasmReadersValues.declared.indices.UnpackedIndex.{UnpackedIndex}
+use Rattle.wasm_readers_types.specs.WasmReadersValues.declared.indices.UnpackedIndex.TheVariants.{Module, RecGroup, Id}
+use Rattle.wasm_readers_types.specs.declared.types.FuncType.{FuncType}
 use Rattle.wasm_spec_rules.specs.Attempts.{◌>>=◌}
 use Rattle.wasm_spec_rules.specs.Signatures.{Signature, signature_of, resolve_heap, resolve_ref, resolve_val}
 use Rattle.wasm_spec_rules.specs.Worlds.{world_of}

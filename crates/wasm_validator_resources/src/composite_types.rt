@@ -5,8 +5,8 @@ ghost use Rattle.std.specs.List.{list_all};
 ghost use Rattle.wasm_readers_errors.specs.WasmSpec.GroupRules.{field_storage};
 ghost use Rattle.wasm_readers_errors.specs.WasmSpec.ValueTypes.{allows_storage, allows_val};
 ghost use Rattle.wasm_spec_rules.specs.FeatureFlags.{features_of};
-ghost use Rattle.wasm_readers_errors.specs.WasmReadersTypes.WasmReadersValues.SeenValues.{field_of, storage_of, val_of};
-ghost use Rattle.wasm_readers_errors.specs.WasmReadersTypes.SeenTypes.{array_of, comp_of, cont_of, func_of, struct_of};
+ghost use Rattle.wasm_readers_types.specs.WasmReadersValues.SeenValues.{field_of, storage_of, val_of};
+ghost use Rattle.wasm_readers_types.specs.SeenTypes.{array_of, comp_of, cont_of, func_of, struct_of};
 ghost use Rattle.wasm_validator_resources.specs.Allowed.{allows_comp};
 ghost use Rattle.wasm_readers_errors.specs.Refusals.{refused};
 ghost use Rattle.wasm_validator_resources.specs.Refusals.{IsMissing};
@@ -14,10 +14,10 @@ ghost use Rattle.wasm_validator_resources.specs.Told.{first_told, told_of_val, t
 
 use crate::value_types::check_value_type;
 use std::alloc::Allocator;
-use wasm_readers_errors::readers_types::{
+use wasm_readers_errors::{Fault, GroupRule, Refusal, Rule, WasmFeatures, require, require_if};
+use wasm_readers_types::{
     ArrayType, CompositeInnerType, ContType, FieldType, FuncType, StorageType, StructType, ValType,
 };
-use wasm_readers_errors::{Fault, GroupRule, Refusal, Rule, WasmFeatures, require, require_if};
 
 /// Accepts where the features allow all of these.
 fn check_value_types(features: WasmFeatures, types: &[ValType], offset: u64) -> Result<(), Refusal>

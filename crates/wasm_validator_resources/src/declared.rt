@@ -5,12 +5,12 @@ ghost use Rattle.std.specs.Prelude.{◌≡◌};
 ghost use Rattle.std.specs.Option.{option_map};
 ghost use Rattle.wasm_readers_errors.specs.WasmSpec.Matching.{shared_flag};
 ghost use Rattle.wasm_readers_errors.specs.WasmSpec.MatchingTests.{matches_kind, is_above_bottom};
-ghost use Rattle.wasm_readers_errors.specs.WasmReadersTypes.SeenTypes.{sub_of};
-ghost use Rattle.wasm_readers_errors.specs.WasmReadersTypes.WasmReadersValues.SeenValues.{abstract_heap_of};
+ghost use Rattle.wasm_readers_types.specs.SeenTypes.{sub_of};
+ghost use Rattle.wasm_readers_types.specs.WasmReadersValues.SeenValues.{abstract_heap_of};
 ghost use Rattle.wasm_validator_resources.specs.Answers.{same_index};
 
 use std::alloc::Allocator;
-use wasm_readers_errors::readers_types::{AbstractHeapType, SubType, UnpackedIndex, same_flag};
+use wasm_readers_types::{AbstractHeapType, SubType, UnpackedIndex, same_flag};
 
 /// Whether two references are of one form, with the same number.
 pub fn same_index(a: UnpackedIndex, b: UnpackedIndex) -> bool

@@ -4,7 +4,7 @@ use crate::resources::WasmModuleResources;
 use std::alloc::Allocator;
 use std::rc::Rc;
 use wasm_readers_errors::Refusal;
-use wasm_readers_errors::readers_types::{
+use wasm_readers_types::{
     CoreTypeId, FuncType, GlobalType, HeapType, MemoryType, RefType, SubType, TableType, ValType,
 };
 

@@ -17,7 +17,7 @@ pub use value_types::{check_ref_type, check_value_type};
 
 /// Passed on from `wasm_readers_types`.
 pub mod readers_types {
-    pub use wasm_readers_errors::readers_types::{
+    pub use wasm_readers_types::{
         AbstractHeapType, HeapType, PackedIndex, RefType, StorageType, UnpackedIndex, ValType,
     };
 }

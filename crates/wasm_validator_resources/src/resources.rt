@@ -6,20 +6,20 @@ ghost use Rattle.wasm_readers_errors.specs.WasmSpec.Matching.{is_shared_heap, to
 ghost use Rattle.wasm_readers_errors.specs.WasmSpec.MatchingTests.{matches_val};
 ghost use Rattle.wasm_spec_rules.specs.Contexts.{Context};
 ghost use Rattle.wasm_spec_rules.specs.FeatureFlags.{features_of};
-ghost use Rattle.wasm_readers_errors.specs.WasmReadersTypes.SeenExterns.{table_of, memory_of, global_of};
-ghost use Rattle.wasm_readers_errors.specs.WasmReadersTypes.SeenTypes.{sub_of};
-ghost use Rattle.wasm_readers_errors.specs.WasmReadersTypes.WasmReadersValues.SeenValues.{heap_of, ref_of, val_of, HeapFits};
-ghost use Rattle.wasm_readers_errors.specs.WasmReadersTypes.WasmReadersValues.declared.indices.UnpackedIndex.{UnpackedIndex};
-ghost use Rattle.wasm_readers_errors.specs.WasmReadersTypes.WasmReadersValues.declared.indices.UnpackedIndex.TheVariants.{Id};
+ghost use Rattle.wasm_readers_types.specs.SeenExterns.{table_of, memory_of, global_of};
+ghost use Rattle.wasm_readers_types.specs.SeenTypes.{sub_of};
+ghost use Rattle.wasm_readers_types.specs.WasmReadersValues.SeenValues.{heap_of, ref_of, val_of, HeapFits};
+ghost use Rattle.wasm_readers_types.specs.WasmReadersValues.declared.indices.UnpackedIndex.{UnpackedIndex};
+ghost use Rattle.wasm_readers_types.specs.WasmReadersValues.declared.indices.UnpackedIndex.TheVariants.{Id};
 ghost use Rattle.wasm_spec_rules.specs.Attempts.{passes, among};
 ghost use Rattle.wasm_validator_resources.specs.Answers.{world, sub_in, sub_of_id, function_type_in, tag_in, heap_in, ref_in, val_in, signature_seen, IsWrittenHeap, IsWrittenVal, Puts};
 
 use crate::check_value_type;
 use std::alloc::Allocator;
-use wasm_readers_errors::readers_types::{
+use wasm_readers_errors::{Refusal, WasmFeatures};
+use wasm_readers_types::{
     CoreTypeId, FuncType, GlobalType, HeapType, MemoryType, RefType, SubType, TableType, ValType,
 };
-use wasm_readers_errors::{Refusal, WasmFeatures};
 
 /// What operators look up of a module. Every answer is read from one context, and its types are
 /// identities, as ids are.

@@ -4,15 +4,15 @@ ghost use Rattle.std.specs.Prelude.{◌≡◌, is_ok, IfErr};
 ghost use Rattle.wasm_readers_errors.specs.WasmSpec.Syntax.{abstract_heap};
 ghost use Rattle.wasm_readers_errors.specs.WasmSpec.ValueTypes.{abstract_needs, allows_heap, allows_ref, allows_val};
 ghost use Rattle.wasm_spec_rules.specs.FeatureFlags.{features_of};
-ghost use Rattle.wasm_readers_errors.specs.WasmReadersTypes.WasmReadersValues.SeenValues.{abstract_heap_of, ref_of, val_of};
-ghost use Rattle.wasm_readers_errors.specs.WasmReadersTypes.WasmReadersValues.declared.indices.UnpackedIndex.{UnpackedIndex};
+ghost use Rattle.wasm_readers_types.specs.WasmReadersValues.SeenValues.{abstract_heap_of, ref_of, val_of};
+ghost use Rattle.wasm_readers_types.specs.WasmReadersValues.declared.indices.UnpackedIndex.{UnpackedIndex};
 ghost use Rattle.wasm_readers_errors.specs.Refusals.{refused};
 ghost use Rattle.wasm_validator_resources.specs.Refusals.{IsMissing};
 ghost use Rattle.wasm_validator_resources.specs.Told.{told_of_abstract, told_of_heap, told_of_ref, told_of_val};
 
 use bitflags::Flags;
-use wasm_readers_errors::readers_types::{AbstractHeapType, HeapType, RefType, ValType};
 use wasm_readers_errors::{Fault, Refusal, Rule, ValueTypeRule, WasmFeatures, require, require_if};
+use wasm_readers_types::{AbstractHeapType, HeapType, RefType, ValType};
 
 /// Accepts where the features allow what this abstract heap type stands for.
 fn check_abstract_needs(

@@ -7,15 +7,15 @@ use Rattle.std.proofs.lemmas.Option.{same_Some, slice_get_within, slice_get-get_
 use Rattle.wasm_readers_errors.specs.WasmSpec.Syntax.{map_val, map_field, map_comp, map_sub}
 use Rattle.wasm_readers_errors.specs.WasmSpec.References.{refs_option, refs_comp, refs_sub}
 use Rattle.wasm_readers_errors.specs.WasmSpec.Matching.{MatchesVal, MatchesFields, MatchesComp, MatchesSub}
-use Rattle.wasm_readers_errors.specs.WasmReadersTypes.WasmReadersValues.SeenValues.{val_of, field_of}
-use Rattle.wasm_readers_errors.specs.WasmReadersTypes.SeenTypes.{comp_of, sub_of}
-use Rattle.wasm_readers_errors.specs.WasmReadersTypes.WasmReadersValues.declared.values.ValType.{ValType}
-use Rattle.wasm_readers_errors.specs.WasmReadersTypes.WasmReadersValues.declared.values.FieldType.{FieldType}
-use Rattle.wasm_readers_errors.specs.WasmReadersTypes.declared.types.FuncType.{FuncType}
-use Rattle.wasm_readers_errors.specs.WasmReadersTypes.declared.types.StructType.{StructType}
-use Rattle.wasm_readers_errors.specs.WasmReadersTypes.declared.types.CompositeInnerType.{CompositeInnerType}
-use Rattle.wasm_readers_errors.specs.WasmReadersTypes.declared.types.CompositeInnerType.TheVariants.{Func, Struct}
-use Rattle.wasm_readers_errors.specs.WasmReadersTypes.declared.types.SubType.{SubType}
+use Rattle.wasm_readers_types.specs.WasmReadersValues.SeenValues.{val_of, field_of}
+use Rattle.wasm_readers_types.specs.SeenTypes.{comp_of, sub_of}
+use Rattle.wasm_readers_types.specs.WasmReadersValues.declared.values.ValType.{ValType}
+use Rattle.wasm_readers_types.specs.WasmReadersValues.declared.values.FieldType.{FieldType}
+use Rattle.wasm_readers_types.specs.declared.types.FuncType.{FuncType}
+use Rattle.wasm_readers_types.specs.declared.types.StructType.{StructType}
+use Rattle.wasm_readers_types.specs.declared.types.CompositeInnerType.{CompositeInnerType}
+use Rattle.wasm_readers_types.specs.declared.types.CompositeInnerType.TheVariants.{Func, Struct}
+use Rattle.wasm_readers_types.specs.declared.types.SubType.{SubType}
 use Rattle.wasm_validator_type_ancestors.specs.WasmValidatorTypeGroups.Groups.{all_in, first_of, IsInGroup}
 use Rattle.wasm_validator_type_list.specs.Listing.{Listing, types_in}
 use Rattle.wasm_validator_type_list.specs.Listable.{IsKnown, AreListable}

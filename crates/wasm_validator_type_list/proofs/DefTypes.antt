@@ -14,7 +14,7 @@ use Rattle.wasm_readers_errors.specs.WasmSpec.TypeLaws.{IsKnownUse, MentionsKnow
 use Rattle.wasm_readers_errors.proofs.WasmSpec.Accepted.{length-positions}
 use Rattle.wasm_readers_errors.proofs.WasmSpec.Agreement.{agree_sub}
 use Rattle.wasm_readers_errors.proofs.WasmSpec.Listed.{appended_listed_group}
-use Rattle.wasm_readers_errors.specs.WasmReadersTypes.declared.types.SubType.{SubType}
+use Rattle.wasm_readers_types.specs.declared.types.SubType.{SubType}
 use Rattle.wasm_validator_type_ancestors.specs.WasmValidatorTypeGroups.Groups.{all_in, first_of}
 use Rattle.wasm_validator_type_list.specs.Listable.{IsListable, AreListable}
 use Rattle.wasm_validator_type_list.specs.DefTypes.{listed_sub, listed_group, def_types, tree_behind}

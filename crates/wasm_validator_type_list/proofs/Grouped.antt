@@ -6,20 +6,20 @@ use Rattle.std.proofs.lemmas.List.Elements.{All-head, All-tail, All-cons, All-ni
 use Rattle.std.proofs.lemmas.Bool.{cases_lt}
 use Rattle.std.specs.declared.ops.Range.{Range}
 use Rattle.wasm_readers_errors.specs.WasmSpec.Syntax.{Field, Sub}
-use Rattle.wasm_readers_errors.specs.WasmReadersTypes.WasmReadersValues.Indices.{number_of}
-use Rattle.wasm_readers_errors.specs.WasmReadersTypes.WasmReadersValues.declared.indices.TheConstants.{MAX_IDS}
-use Rattle.wasm_readers_errors.specs.WasmReadersTypes.WasmReadersValues.declared.indices.CoreTypeId.{CoreTypeId}
-use Rattle.wasm_readers_errors.specs.WasmReadersTypes.WasmReadersValues.declared.indices.UnpackedIndex.{UnpackedIndex}
-use Rattle.wasm_readers_errors.specs.WasmReadersTypes.WasmReadersValues.declared.indices.UnpackedIndex.TheVariants.{Module, RecGroup, Id}
-use Rattle.wasm_readers_errors.specs.WasmReadersTypes.WasmReadersValues.SeenValues.{val_of, field_of}
-use Rattle.wasm_readers_errors.specs.WasmReadersTypes.SeenTypes.{comp_of}
-use Rattle.wasm_readers_errors.specs.WasmReadersTypes.WasmReadersValues.declared.values.ValType.{ValType}
-use Rattle.wasm_readers_errors.specs.WasmReadersTypes.WasmReadersValues.declared.values.FieldType.{FieldType}
-use Rattle.wasm_readers_errors.specs.WasmReadersTypes.declared.types.FuncType.{FuncType}
-use Rattle.wasm_readers_errors.specs.WasmReadersTypes.declared.types.StructType.{StructType}
-use Rattle.wasm_readers_errors.specs.WasmReadersTypes.declared.types.CompositeInnerType.{CompositeInnerType}
-use Rattle.wasm_readers_errors.specs.WasmReadersTypes.declared.types.CompositeInnerType.TheVariants.{Func, Struct}
-use Rattle.wasm_readers_errors.specs.WasmReadersTypes.declared.types.SubType.{SubType}
+use Rattle.wasm_readers_types.specs.WasmReadersValues.Indices.{number_of}
+use Rattle.wasm_readers_types.specs.WasmReadersValues.declared.indices.TheConstants.{MAX_IDS}
+use Rattle.wasm_readers_types.specs.WasmReadersValues.declared.indices.CoreTypeId.{CoreTypeId}
+use Rattle.wasm_readers_types.specs.WasmReadersValues.declared.indices.UnpackedIndex.{UnpackedIndex}
+use Rattle.wasm_readers_types.specs.WasmReadersValues.declared.indices.UnpackedIndex.TheVariants.{Module, RecGroup, Id}
+use Rattle.wasm_readers_types.specs.WasmReadersValues.SeenValues.{val_of, field_of}
+use Rattle.wasm_readers_types.specs.SeenTypes.{comp_of}
+use Rattle.wasm_readers_types.specs.WasmReadersValues.declared.values.ValType.{ValType}
+use Rattle.wasm_readers_types.specs.WasmReadersValues.declared.values.FieldType.{FieldType}
+use Rattle.wasm_readers_types.specs.declared.types.FuncType.{FuncType}
+use Rattle.wasm_readers_types.specs.declared.types.StructType.{StructType}
+use Rattle.wasm_readers_types.specs.declared.types.CompositeInnerType.{CompositeInnerType}
+use Rattle.wasm_readers_types.specs.declared.types.CompositeInnerType.TheVariants.{Func, Struct}
+use Rattle.wasm_readers_types.specs.declared.types.SubType.{SubType}
 use Rattle.wasm_validator_type_list.specs.declared.type_list.TypeList.TheInside.{Inside}
 use Rattle.wasm_validator_type_ancestors.specs.WasmValidatorTypeGroups.Groups.{all_in, first_of}
 use Rattle.wasm_validator_type_ancestors.specs.WasmValidatorTypeGroups.Spans.{span}

@@ -13,10 +13,10 @@ use Rattle.wasm_readers_errors.specs.WasmSpec.TypeLists.{use_of_id, resolve_list
 use Rattle.wasm_readers_errors.proofs.WasmSpec.Agreement.{agree_sub}
 use Rattle.wasm_readers_errors.proofs.WasmSpec.SyntaxMaps.{map_sub-map}
 use Rattle.wasm_readers_errors.proofs.WasmSpec.Closing.{members_of_closed}
-use Rattle.wasm_readers_errors.specs.WasmReadersTypes.SeenTypes.{sub_of}
-use Rattle.wasm_readers_errors.specs.WasmReadersTypes.WasmReadersValues.declared.indices.UnpackedIndex.{UnpackedIndex}
-use Rattle.wasm_readers_errors.specs.WasmReadersTypes.WasmReadersValues.declared.indices.UnpackedIndex.TheVariants.{Module, RecGroup, Id}
-use Rattle.wasm_readers_errors.specs.WasmReadersTypes.declared.types.SubType.{SubType}
+use Rattle.wasm_readers_types.specs.SeenTypes.{sub_of}
+use Rattle.wasm_readers_types.specs.WasmReadersValues.declared.indices.UnpackedIndex.{UnpackedIndex}
+use Rattle.wasm_readers_types.specs.WasmReadersValues.declared.indices.UnpackedIndex.TheVariants.{Module, RecGroup, Id}
+use Rattle.wasm_readers_types.specs.declared.types.SubType.{SubType}
 use Rattle.wasm_validator_type_ancestors.specs.WasmValidatorTypeGroups.Groups.{all_in, first_of}
 use Rattle.wasm_validator_type_list.specs.Listable.{IsKnown, AreListable}
 use Rattle.wasm_validator_type_list.specs.Lookups.{leads_to}

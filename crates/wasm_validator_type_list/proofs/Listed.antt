@@ -9,11 +9,11 @@ use Rattle.wasm_readers_errors.specs.WasmSpec.TypeLaws.{IsKnownUse, MentionsKnow
 use Rattle.wasm_readers_errors.proofs.WasmSpec.Shifting.{refs_sub-map}
 use Rattle.wasm_readers_errors.proofs.WasmSpec.Agreement.{map_sub-undone}
 use Rattle.wasm_readers_errors.proofs.WasmSpec.Written.{Each, each_map}
-use Rattle.wasm_readers_errors.specs.WasmReadersTypes.WasmReadersValues.declared.indices.UnpackedIndex.{UnpackedIndex}
-use Rattle.wasm_readers_errors.specs.WasmReadersTypes.WasmReadersValues.declared.indices.UnpackedIndex.TheVariants.{Module, RecGroup, Id}
-use Rattle.wasm_readers_errors.specs.WasmReadersTypes.declared.types.SubType.{SubType}
-use Rattle.wasm_readers_errors.specs.WasmReadersTypes.SeenTypes.{sub_of}
-use Rattle.wasm_readers_errors.specs.WasmReadersTypes.SeenApart.{subs_of-apart}
+use Rattle.wasm_readers_types.specs.WasmReadersValues.declared.indices.UnpackedIndex.{UnpackedIndex}
+use Rattle.wasm_readers_types.specs.WasmReadersValues.declared.indices.UnpackedIndex.TheVariants.{Module, RecGroup, Id}
+use Rattle.wasm_readers_types.specs.declared.types.SubType.{SubType}
+use Rattle.wasm_readers_types.specs.SeenTypes.{sub_of}
+use Rattle.wasm_readers_types.specs.SeenApart.{subs_of-apart}
 use Rattle.wasm_validator_type_list.specs.Listable.{IsKnown, IsListable}
 use Rattle.wasm_validator_type_list.specs.DefTypes.{listed_ref, listed_sub, listed_group}
 

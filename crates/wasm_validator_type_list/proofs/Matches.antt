@@ -11,10 +11,10 @@ use Rattle.wasm_readers_errors.specs.WasmSpec.Syntax.{AbstractHeap, abstract_hea
 use Rattle.wasm_readers_errors.specs.WasmSpec.Matching.{kind_of, bottom_of, top_of, shared_flag, top_of_heap, is_shared_type, MatchesAbstract, MatchesKind, IsAboveBottom}
 use Rattle.wasm_readers_errors.specs.WasmSpec.MatchingTests.{matches_abstract}
 use Rattle.wasm_readers_errors.proofs.WasmSpec.MatchingTests.{tests_decide_matching}
-use Rattle.wasm_readers_errors.specs.WasmReadersTypes.WasmReadersValues.SeenValues.{abstract_heap_of}
-use Rattle.wasm_readers_errors.specs.WasmReadersTypes.SeenTypes.{comp_of}
-use Rattle.wasm_readers_errors.specs.WasmReadersTypes.WasmReadersValues.declared.values.AbstractHeapType.{AbstractHeapType}
-use Rattle.wasm_readers_errors.specs.WasmReadersTypes.declared.types.SubType.{SubType}
+use Rattle.wasm_readers_types.specs.WasmReadersValues.SeenValues.{abstract_heap_of}
+use Rattle.wasm_readers_types.specs.SeenTypes.{comp_of}
+use Rattle.wasm_readers_types.specs.WasmReadersValues.declared.values.AbstractHeapType.{AbstractHeapType}
+use Rattle.wasm_readers_types.specs.declared.types.SubType.{SubType}
 use Rattle.wasm_validator_type_ancestors.specs.WasmValidatorTypeGroups.Groups.{all_in}
 use Rattle.wasm_validator_type_list.specs.Listing.{Listing, types_in}
 use Rattle.wasm_validator_type_list.specs.Lookups.{leads_to}

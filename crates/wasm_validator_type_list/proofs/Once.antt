@@ -6,7 +6,7 @@ use Rattle.wasm_readers_errors.specs.WasmSpec.Trees.{DefType}
 use Rattle.wasm_readers_errors.specs.WasmSpec.Closing.{positions}
 use Rattle.wasm_readers_errors.specs.WasmSpec.TypeLaws.{HasNoRepetition}
 use Rattle.wasm_readers_errors.proofs.WasmSpec.Listed.{equal_trees_equal_listed_groups}
-use Rattle.wasm_readers_errors.specs.WasmReadersTypes.declared.types.SubType.{SubType}
+use Rattle.wasm_readers_types.specs.declared.types.SubType.{SubType}
 use Rattle.wasm_validator_type_ancestors.specs.WasmValidatorTypeGroups.Groups.{all_in, first_of}
 use Rattle.wasm_validator_type_list.specs.Listable.{IsListable, AreListable}
 use Rattle.wasm_validator_type_list.specs.DefTypes.{listed_sub, listed_group, def_types, tree_behind, IsTreeOfOne, StandFor}

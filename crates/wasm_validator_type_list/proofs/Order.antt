@@ -9,7 +9,7 @@ use Rattle.wasm_readers_errors.specs.WasmSpec.Trees.{DefType, declared}
 use Rattle.wasm_readers_errors.specs.WasmSpec.Declared.{supertype, supertype_of, ancestor_at, IsAncestor}
 use Rattle.wasm_readers_errors.specs.WasmSpec.Matching.{kind_of, bottom_of, MatchesAbstract, MatchesKind, IsAboveBottom, MatchesHeap, MatchesVal}
 use Rattle.wasm_readers_errors.specs.WasmSpec.TypeLaws.{HasNoRepetition}
-use Rattle.wasm_readers_errors.specs.WasmReadersTypes.declared.types.SubType.{SubType}
+use Rattle.wasm_readers_types.specs.declared.types.SubType.{SubType}
 use Rattle.wasm_validator_type_list.specs.Listable.{AreListable}
 use Rattle.wasm_validator_type_list.specs.DefTypes.{def_types}
 use Rattle.wasm_validator_type_list.specs.Declares.{declares}

@@ -8,7 +8,7 @@ use Rattle.wasm_readers_errors.specs.WasmSpec.Closing.{positions}
 use Rattle.wasm_readers_errors.specs.WasmSpec.TypeLists.{ListedUse, resolve_listed, listed_tree, with_listed, with_all_listed}
 use Rattle.wasm_readers_errors.specs.WasmSpec.TypeLaws.{HasNoRepetition}
 use Rattle.wasm_readers_errors.proofs.WasmSpec.Numbering.{start_of-close}
-use Rattle.wasm_readers_errors.specs.WasmReadersTypes.declared.types.SubType.{SubType}
+use Rattle.wasm_readers_types.specs.declared.types.SubType.{SubType}
 use Rattle.wasm_validator_type_list.specs.declared.type_list.TypeList.TheInside.{Inside}
 use Rattle.wasm_validator_type_list.specs.Listing.{Listing}
 use Rattle.wasm_validator_type_list.specs.DefTypes.{listed_group, def_types}

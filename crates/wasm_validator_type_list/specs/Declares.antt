@@ -1,8 +1,8 @@
 -- What the ids of a list declare, over ids.
 use Rattle.std.specs.Prelude.{ℕ, ◌+◌, List, [], ◌∷◌, ◌++◌, map, length, slice_get, Option}
 use Rattle.wasm_readers_errors.specs.WasmSpec.Syntax.{Sub, map_sub}
-use Rattle.wasm_readers_errors.specs.WasmReadersTypes.declared.types.SubType.{SubType}
-use Rattle.wasm_readers_errors.specs.WasmReadersTypes.SeenTypes.{sub_of}
+use Rattle.wasm_readers_types.specs.declared.types.SubType.{SubType}
+use Rattle.wasm_readers_types.specs.SeenTypes.{sub_of}
 use Rattle.wasm_validator_type_list.specs.Lookups.{leads_to}
 
 module _ {A : Type 0} where

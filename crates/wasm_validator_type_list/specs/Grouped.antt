@@ -4,16 +4,16 @@ use Rattle.std.specs.declared.option.Option.TheVariants.{Some}
 use Rattle.std.specs.List.{All}
 use Rattle.wasm_readers_errors.specs.WasmSpec.Syntax.{Heap, Ref, Val, Storage, Field, Comp, Sub, map_heap, map_ref, map_val, map_storage, map_field, map_comp, map_sub}
 use Rattle.wasm_readers_errors.specs.WasmSpec.Matching.{MatchesRef, MatchesVal, MatchesStorage, MatchesField, MatchesFields, MatchesComp, MatchesSub}
-use Rattle.wasm_readers_errors.specs.WasmReadersTypes.WasmReadersValues.declared.indices.UnpackedIndex.{UnpackedIndex}
-use Rattle.wasm_readers_errors.specs.WasmReadersTypes.declared.types.CompositeInnerType.{CompositeInnerType}
-use Rattle.wasm_readers_errors.specs.WasmReadersTypes.declared.types.SubType.{SubType}
-use Rattle.wasm_readers_errors.specs.WasmReadersTypes.WasmReadersValues.declared.values.HeapType.{HeapType}
-use Rattle.wasm_readers_errors.specs.WasmReadersTypes.WasmReadersValues.declared.values.RefType.{RefType}
-use Rattle.wasm_readers_errors.specs.WasmReadersTypes.WasmReadersValues.declared.values.StorageType.{StorageType}
-use Rattle.wasm_readers_errors.specs.WasmReadersTypes.WasmReadersValues.declared.values.ValType.{ValType}
-use Rattle.wasm_readers_errors.specs.WasmReadersTypes.WasmReadersValues.declared.values.FieldType.{FieldType}
-use Rattle.wasm_readers_errors.specs.WasmReadersTypes.WasmReadersValues.SeenValues.{heap_of, ref_of, val_of, storage_of, field_of}
-use Rattle.wasm_readers_errors.specs.WasmReadersTypes.SeenTypes.{comp_of, sub_of}
+use Rattle.wasm_readers_types.specs.WasmReadersValues.declared.indices.UnpackedIndex.{UnpackedIndex}
+use Rattle.wasm_readers_types.specs.declared.types.CompositeInnerType.{CompositeInnerType}
+use Rattle.wasm_readers_types.specs.declared.types.SubType.{SubType}
+use Rattle.wasm_readers_types.specs.WasmReadersValues.declared.values.HeapType.{HeapType}
+use Rattle.wasm_readers_types.specs.WasmReadersValues.declared.values.RefType.{RefType}
+use Rattle.wasm_readers_types.specs.WasmReadersValues.declared.values.StorageType.{StorageType}
+use Rattle.wasm_readers_types.specs.WasmReadersValues.declared.values.ValType.{ValType}
+use Rattle.wasm_readers_types.specs.WasmReadersValues.declared.values.FieldType.{FieldType}
+use Rattle.wasm_readers_types.specs.WasmReadersValues.SeenValues.{heap_of, ref_of, val_of, storage_of, field_of}
+use Rattle.wasm_readers_types.specs.SeenTypes.{comp_of, sub_of}
 use Rattle.wasm_validator_type_ancestors.specs.WasmValidatorTypeGroups.Groups.{first_of}
 use Rattle.wasm_validator_type_list.specs.Listable.{IsKnown}
 use Rattle.wasm_validator_type_list.specs.Lookups.{leads_to}

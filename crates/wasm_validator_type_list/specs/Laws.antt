@@ -8,7 +8,7 @@ use Rattle.wasm_readers_errors.specs.WasmSpec.Trees.{DefType, declared}
 use Rattle.wasm_readers_errors.specs.WasmSpec.Declared.{IsAncestor}
 use Rattle.wasm_readers_errors.specs.WasmSpec.Matching.{MatchesVal}
 use Rattle.wasm_readers_errors.specs.WasmSpec.TypeLaws.{HasNoRepetition}
-use Rattle.wasm_readers_errors.specs.WasmReadersTypes.declared.types.SubType.{SubType}
+use Rattle.wasm_readers_types.specs.declared.types.SubType.{SubType}
 use Rattle.wasm_validator_type_list.specs.Listable.{AreListable}
 use Rattle.wasm_validator_type_list.specs.DefTypes.{def_types}
 use Rattle.wasm_validator_type_list.specs.Declares.{declares}

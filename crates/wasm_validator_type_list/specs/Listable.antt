@@ -2,7 +2,7 @@
 pub use Rattle.wasm_validator_type_ancestors.specs.Listable.{IsKnown, IsListable}
 use Rattle.std.specs.Prelude.{ℕ, ◌≡◌, List, slice_get}
 use Rattle.std.specs.declared.option.Option.TheVariants.{Some}
-use Rattle.wasm_readers_errors.specs.WasmReadersTypes.declared.types.SubType.{SubType}
+use Rattle.wasm_readers_types.specs.declared.types.SubType.{SubType}
 use Rattle.wasm_validator_type_ancestors.specs.WasmValidatorTypeGroups.Groups.{first_of}
 use Rattle.wasm_validator_type_ancestors.specs.Listable.{IsListable}
 

@@ -1,6 +1,6 @@
 -- What a contract sees of a list of types.
 use Rattle.std.specs.Prelude.{ℕ, Bool, true, false, List, []}
-use Rattle.wasm_readers_errors.specs.WasmReadersTypes.declared.types.SubType.{SubType}
+use Rattle.wasm_readers_types.specs.declared.types.SubType.{SubType}
 use Rattle.wasm_validator_type_ancestors.specs.WasmValidatorTypeGroups.Groups.{all_in}
 
 -- whether equal groups are kept once, whether groups may be added, the sub types of each group, and the ids of which the

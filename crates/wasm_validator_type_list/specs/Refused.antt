@@ -9,10 +9,10 @@ use Rattle.wasm_readers_errors.specs.declared.error.Fault.TheVariants.{Rule, Out
 use Rattle.wasm_readers_errors.specs.declared.error.Refusal.{Refusal}
 use Rattle.wasm_readers_errors.specs.declared.error.Rule.TheVariants.{TooManyTypes}
 use Rattle.wasm_readers_errors.specs.WasmSpec.Syntax.{Sub}
-use Rattle.wasm_readers_errors.specs.WasmReadersTypes.WasmReadersValues.declared.indices.TheConstants.{MAX_IDS}
-use Rattle.wasm_readers_errors.specs.WasmReadersTypes.WasmReadersValues.declared.indices.UnpackedIndex.{UnpackedIndex}
-use Rattle.wasm_readers_errors.specs.WasmReadersTypes.SeenTypes.{sub_of}
-use Rattle.wasm_readers_errors.specs.WasmReadersTypes.declared.types.SubType.{SubType}
+use Rattle.wasm_readers_types.specs.WasmReadersValues.declared.indices.TheConstants.{MAX_IDS}
+use Rattle.wasm_readers_types.specs.WasmReadersValues.declared.indices.UnpackedIndex.{UnpackedIndex}
+use Rattle.wasm_readers_types.specs.SeenTypes.{sub_of}
+use Rattle.wasm_readers_types.specs.declared.types.SubType.{SubType}
 use Rattle.wasm_validator_type_ancestors.specs.WasmValidatorTypeGroups.Places.{IsNew}
 use Rattle.wasm_validator_type_list.specs.Listing.{Listing, types_in}
 

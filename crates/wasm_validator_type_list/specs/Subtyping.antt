@@ -1,18 +1,18 @@
 -- Reference types, value types and external types over the ids of a list.
-pub use Rattle.wasm_readers_errors.specs.WasmReadersTypes.Entities.{IsIdOfOne, IsEntityOver}
+pub use Rattle.wasm_readers_types.specs.Entities.{IsIdOfOne, IsEntityOver}
 use Rattle.std.specs.Prelude.{ℕ}
 use Rattle.std.specs.List.{All}
 use Rattle.wasm_readers_errors.specs.WasmSpec.Syntax.{Heap, Ref, Val, Table, Global, Extern, map_heap, map_ref, map_val, map_table, map_global, map_extern}
 use Rattle.wasm_readers_errors.specs.WasmSpec.References.{refs_heap, refs_val}
-use Rattle.wasm_readers_errors.specs.WasmReadersTypes.WasmReadersValues.declared.values.HeapType.{HeapType}
-use Rattle.wasm_readers_errors.specs.WasmReadersTypes.WasmReadersValues.declared.values.RefType.{RefType}
-use Rattle.wasm_readers_errors.specs.WasmReadersTypes.WasmReadersValues.declared.values.ValType.{ValType}
-use Rattle.wasm_readers_errors.specs.WasmReadersTypes.WasmReadersValues.SeenValues.{heap_of, ref_of, val_of}
-use Rattle.wasm_readers_errors.specs.WasmReadersTypes.declared.externs.TableType.{TableType}
-use Rattle.wasm_readers_errors.specs.WasmReadersTypes.declared.externs.GlobalType.{GlobalType}
-use Rattle.wasm_readers_errors.specs.WasmReadersTypes.declared.externs.EntityType.{EntityType}
-use Rattle.wasm_readers_errors.specs.WasmReadersTypes.SeenExterns.{table_of, global_of}
-use Rattle.wasm_readers_errors.specs.WasmReadersTypes.Entities.{entity_of}
+use Rattle.wasm_readers_types.specs.WasmReadersValues.declared.values.HeapType.{HeapType}
+use Rattle.wasm_readers_types.specs.WasmReadersValues.declared.values.RefType.{RefType}
+use Rattle.wasm_readers_types.specs.WasmReadersValues.declared.values.ValType.{ValType}
+use Rattle.wasm_readers_types.specs.WasmReadersValues.SeenValues.{heap_of, ref_of, val_of}
+use Rattle.wasm_readers_types.specs.declared.externs.TableType.{TableType}
+use Rattle.wasm_readers_types.specs.declared.externs.GlobalType.{GlobalType}
+use Rattle.wasm_readers_types.specs.declared.externs.EntityType.{EntityType}
+use Rattle.wasm_readers_types.specs.SeenExterns.{table_of, global_of}
+use Rattle.wasm_readers_types.specs.Entities.{entity_of}
 use Rattle.wasm_validator_type_list.specs.Lookups.{leads_to}
 
 -- each reference is the id of one of so many types

@@ -3,7 +3,7 @@ use Rattle.std.specs.Prelude.{ℕ, zero, suc, Bool, false, ◌||◌, ◌==◌, L
 use Rattle.wasm_readers_errors.specs.WasmSpec.Syntax.{Sub}
 use Rattle.wasm_readers_errors.specs.WasmSpec.Declared.{supertype_of}
 use Rattle.wasm_readers_errors.specs.WasmSpec.MatchingTests.{World, IsWorld}
-use Rattle.wasm_readers_errors.specs.WasmReadersTypes.declared.types.SubType.{SubType}
+use Rattle.wasm_readers_types.specs.declared.types.SubType.{SubType}
 use Rattle.wasm_validator_type_list.specs.Listable.{AreListable}
 use Rattle.wasm_validator_type_list.specs.Declares.{declares}
 

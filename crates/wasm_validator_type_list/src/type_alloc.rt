@@ -9,7 +9,7 @@ ghost use Rattle.wasm_validator_type_list.specs.contracts.type_alloc.TypeAlloc.{
 use crate::type_list::TypeList;
 use std::alloc::{Allocator, Global};
 use std::ops::{Deref, DerefMut, Index, Range};
-use wasm_readers_errors::readers_types::{CoreTypeId, SubType};
+use wasm_readers_types::{CoreTypeId, SubType};
 use wasm_validator_type_ancestors::validator_type_groups::RecGroupId;
 
 /// The list of types to which a validator adds.

@@ -19,9 +19,9 @@
 
 ghost use Rattle.std.specs.Prelude.{◌≡◌, ◌+◌, ◌<◌, ◌≤◌, true, length, slice_index_or, IfOk, IfErr, IfSome, IsOk, IsSome, IsTrue, ◌↔◌};
 ghost use Rattle.std.specs.declared.option.Option.TheVariants.{None};
-ghost use Rattle.wasm_readers_errors.specs.WasmReadersTypes.WasmReadersValues.SeenValues.{index_of};
-ghost use Rattle.wasm_readers_errors.specs.WasmReadersTypes.WasmReadersValues.Indices.{number_of, module_of};
-ghost use Rattle.wasm_readers_errors.specs.WasmReadersTypes.WasmReadersValues.declared.indices.TheConstants.{MAX_IDS};
+ghost use Rattle.wasm_readers_types.specs.WasmReadersValues.SeenValues.{index_of};
+ghost use Rattle.wasm_readers_types.specs.WasmReadersValues.Indices.{number_of, module_of};
+ghost use Rattle.wasm_readers_types.specs.WasmReadersValues.declared.indices.TheConstants.{MAX_IDS};
 ghost use Rattle.wasm_validator_type_ancestors.specs.WasmValidatorTypeGroups.Groups.{first_of, IsInGroup};
 ghost use Rattle.wasm_validator_type_ancestors.specs.WasmValidatorTypeGroups.Spans.{spans_of};
 ghost use Rattle.wasm_validator_type_ancestors.specs.WasmValidatorTypeGroups.Elements.{ids_left, ids_of_group};
@@ -33,8 +33,8 @@ use std::collections::HashMap;
 use std::hash::{BuildHasherDefault, FoldHasher};
 use std::marker::Model;
 use std::ops::{Index, Range};
-use wasm_readers_errors::readers_types::{CoreTypeId, PackedIndex, SubType, UnpackedIndex};
 use wasm_readers_errors::{Fault, Refusal};
+use wasm_readers_types::{CoreTypeId, PackedIndex, SubType, UnpackedIndex};
 use wasm_validator_type_ancestors::AncestorLists;
 use wasm_validator_type_ancestors::validator_type_groups::{
     GroupTable, RecGroupElements, RecGroupId, SnapshotList,

@@ -5,7 +5,7 @@ use Rattle.std.specs.Str.{bytes_eq}
 use Rattle.std.specs.String.{string_bytes, string_eq}
 use Rattle.std.specs.declared.string.String.{String}
 use Rattle.indexmap.specs.IndexMap.{insert_entry}
-use Rattle.wasm_spec_rules.specs.WasmReadersTypes.declared.externs.EntityType.{EntityType}
+use Rattle.wasm_readers.specs.WasmReadersTypes.declared.externs.EntityType.{EntityType}
 use Rattle.wasm_validator_types.specs.Entities.{Entity, entity_of}
 use Rattle.wasm_validator_types.specs.Spaces.{is_exported}
 use Rattle.wasm_validator_types.specs.SpacesSeen.{shown_export}

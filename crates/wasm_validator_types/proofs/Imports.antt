@@ -8,7 +8,7 @@ use Rattle.std.specs.declared.string.String.{String}
 use Rattle.indexmap.proofs.MapLemmas.{Found-position}
 use Rattle.indexmap.specs.IndexMap.{insert_entry}
 use Rattle.indexmap.specs.Layout.{set_value_at}
-use Rattle.wasm_spec_rules.specs.WasmReadersTypes.declared.externs.EntityType.{EntityType}
+use Rattle.wasm_readers.specs.WasmReadersTypes.declared.externs.EntityType.{EntityType}
 use Rattle.wasm_validator_types.specs.Entities.{Entity, entity_of}
 use Rattle.wasm_validator_types.specs.Spaces.{with_import}
 use Rattle.wasm_validator_types.specs.SpacesSeen.{shown_import, PutsAt}

@@ -8,8 +8,8 @@ use Rattle.std.specs.declared.string.String.{String}
 use Rattle.std.specs.String.{string_bytes}
 use Rattle.std.proofs.lemmas.List.{map-append}
 use Rattle.std.proofs.lemmas.List.Elements.{All-nil, All-cons, All-head, All-tail, All-append, All-push, All-map, All-same, All-weaker}
-use Rattle.wasm_spec_rules.specs.WasmReadersTypes.WasmReadersValues.declared.indices.CoreTypeId.{CoreTypeId}
-use Rattle.wasm_spec_rules.specs.WasmReadersTypes.declared.externs.EntityType.{EntityType}
+use Rattle.wasm_readers.specs.WasmReadersTypes.WasmReadersValues.declared.indices.CoreTypeId.{CoreTypeId}
+use Rattle.wasm_readers.specs.WasmReadersTypes.declared.externs.EntityType.{EntityType}
 use Rattle.wasm_validator_types.specs.Entities.{Entity, entity_of, HasIdBelow, IsAmong}
 use Rattle.wasm_validator_types.specs.Rows.{import_rows, all_imports}
 use Rattle.wasm_validator_types.specs.Spaces.{is_pair, with_import}

@@ -1,5 +1,5 @@
 pub use Rattle.wasm_validator_type_list.specs as WasmValidatorTypeList
-pub use Rattle.wasm_spec_rules.specs.WasmReadersTypes.Entities as Entities
+pub use Rattle.wasm_readers.specs.WasmReadersTypes.Entities as Entities
 pub mod Spaces
 pub mod SpacesSeen
 pub mod Rows

@@ -5,10 +5,10 @@ use Rattle.std.specs.Map.{values_of}
 use Rattle.indexmap.specs.Layout.{set_value_at}
 use Rattle.std.specs.String.{string_bytes}
 use Rattle.std.specs.declared.string.String.{String}
-use Rattle.wasm_spec_rules.specs.WasmReadersTypes.SeenExterns.{table_of, memory_of, global_of}
-use Rattle.wasm_spec_rules.specs.WasmReadersTypes.WasmReadersValues.SeenValues.{ref_of}
-pub use Rattle.wasm_spec_rules.specs.WasmReadersTypes.WasmReadersValues.Indices.{numbers}
-use Rattle.wasm_spec_rules.specs.WasmReadersTypes.declared.externs.EntityType.{EntityType}
+use Rattle.wasm_readers.specs.WasmReadersTypes.SeenExterns.{table_of, memory_of, global_of}
+use Rattle.wasm_readers.specs.WasmReadersTypes.WasmReadersValues.SeenValues.{ref_of}
+pub use Rattle.wasm_readers.specs.WasmReadersTypes.WasmReadersValues.Indices.{numbers}
+use Rattle.wasm_readers.specs.WasmReadersTypes.declared.externs.EntityType.{EntityType}
 use Rattle.wasm_validator_types.specs.declared.index_spaces.IndexSpaces.TheInside.{Inside}
 use Rattle.wasm_validator_types.specs.Entities.{Entity, entity_of, IsAmong}
 use Rattle.wasm_validator_types.specs.Spaces.{Spaces, with_import}

@@ -4,8 +4,8 @@
 ghost use Rattle.std.specs.Prelude.{◌≡◌, ◌+◌, ◌<◌, ◌^◌, ◌++◌, ◌∷◌, [], ℕ, length, false, slice_index, slice_get, map, OnOk, OnErr};
 ghost use Rattle.std.specs.List.{All};
 ghost use Rattle.std.specs.declared.option.Option.TheVariants.{Some};
-ghost use Rattle.wasm_spec_rules.specs.WasmReadersTypes.SeenExterns.{table_of, memory_of, global_of};
-ghost use Rattle.wasm_spec_rules.specs.WasmReadersTypes.WasmReadersValues.SeenValues.{ref_of};
+ghost use Rattle.wasm_readers.specs.WasmReadersTypes.SeenExterns.{table_of, memory_of, global_of};
+ghost use Rattle.wasm_readers.specs.WasmReadersTypes.WasmReadersValues.SeenValues.{ref_of};
 ghost use Rattle.wasm_validator_types.specs.Entities.{entity_of, IsAmong};
 ghost use Rattle.wasm_validator_types.specs.Spaces.{no_spaces, importing_global, with_import, is_exported, is_exact};
 ghost use Rattle.indexmap.specs.IndexMap.{index_map_len};

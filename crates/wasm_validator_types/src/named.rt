@@ -4,7 +4,7 @@
 ghost use Rattle.std.specs.Prelude.{◌≡◌, slice_get, IfSome};
 ghost use Rattle.std.specs.Option.{option_map};
 ghost use Rattle.wasm_spec_rules.specs.WasmSpec.Syntax.{func_extern, table_extern, memory_extern, global_extern};
-ghost use Rattle.wasm_spec_rules.specs.WasmReadersTypes.SeenExterns.{extern_of};
+ghost use Rattle.wasm_readers.specs.WasmReadersTypes.SeenExterns.{extern_of};
 ghost use Rattle.wasm_readers.specs.Items.{export_of};
 ghost use Rattle.wasm_validator_types.specs.Entities.{entity_of, IsAmong};
 ghost use Rattle.wasm_validator_types.specs.Named.{imported_entity, named_entity, named_function, named_tag};

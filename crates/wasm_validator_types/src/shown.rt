@@ -9,8 +9,8 @@
 ghost use Rattle.std.specs.Prelude.{◌≡◌, ◌+◌, ◌<◌, length, slice_get, slice_index, slice_index_or, IfSome, IsSome, ◌↔◌};
 ghost use Rattle.std.specs.Option.{option_map};
 ghost use Rattle.std.specs.declared.option.Option.TheVariants.{Some};
-ghost use Rattle.wasm_spec_rules.specs.WasmReadersTypes.SeenExterns.{extern_of, table_of, memory_of, global_of};
-ghost use Rattle.wasm_spec_rules.specs.WasmReadersTypes.WasmReadersValues.SeenValues.{ref_of};
+ghost use Rattle.wasm_readers.specs.WasmReadersTypes.SeenExterns.{extern_of, table_of, memory_of, global_of};
+ghost use Rattle.wasm_readers.specs.WasmReadersTypes.WasmReadersValues.SeenValues.{ref_of};
 ghost use Rattle.wasm_validator_type_list.specs.WasmValidatorTypeGroups.Groups.{IsInGroup};
 ghost use Rattle.wasm_validator_type_list.specs.WasmValidatorTypeGroups.Elements.{ids_left, ids_of_group};
 ghost use Rattle.wasm_validator_type_list.specs.Listing.{types_in};

@@ -9,7 +9,7 @@ ghost use Rattle.wasm_validator_type_list.specs.Depths.{depth_of, with_depth, Ha
 
 use crate::type_list::TypeList;
 use std::alloc::{AllocError, Allocator};
-use wasm_readers_errors::readers_types::CoreTypeId;
+use wasm_readers_types::CoreTypeId;
 
 impl<A: Allocator + Copy> TypeList<A> {
     /// Keeps the depth of a type of which none is kept: the number of its proper ancestors (Core

@@ -4,14 +4,14 @@
 ghost use Rattle.std.specs.Prelude.{◌≡◌, ◌<◌, ◌∷◌, [], length};
 ghost use Rattle.std.specs.Bool.{Decides};
 ghost use Rattle.std.specs.List.{All};
-ghost use Rattle.wasm_readers_errors.specs.WasmReadersTypes.Entities.{entity_of};
+ghost use Rattle.wasm_readers_types.specs.Entities.{entity_of};
 ghost use Rattle.wasm_validator_type_list.specs.Listable.{IsListable};
 ghost use Rattle.wasm_validator_type_list.specs.Listing.{types_in};
 ghost use Rattle.wasm_validator_type_list.specs.Subtyping.{IsIdOfOne, IsHeapOver, IsRefOver, IsValOver, IsEntityOver};
 
 use crate::type_list::TypeList;
 use std::alloc::Allocator;
-use wasm_readers_errors::readers_types::{
+use wasm_readers_types::{
     CoreTypeId, EntityType, HeapType, RecGroup, RefType, SubType, UnpackedIndex, ValType,
 };
 use wasm_validator_type_ancestors::{group_is_listable, type_is_listable};

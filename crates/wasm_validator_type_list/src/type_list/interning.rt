@@ -6,7 +6,7 @@ ghost use Rattle.std.specs.declared.option.Option.TheVariants.{None};
 ghost use Rattle.wasm_validator_type_ancestors.specs.WasmValidatorTypeGroups.Known.{group_hash};
 ghost use Rattle.wasm_validator_type_ancestors.specs.WasmValidatorTypeGroups.Places.{IsPlaceOf};
 ghost use Rattle.wasm_readers_errors.specs.WasmSpec.References.{refs_comp};
-ghost use Rattle.wasm_readers_errors.specs.WasmReadersTypes.SeenTypes.{func_of, final_func};
+ghost use Rattle.wasm_readers_types.specs.SeenTypes.{func_of, final_func};
 ghost use Rattle.wasm_validator_type_list.specs.Listing.{types_in};
 ghost use Rattle.wasm_validator_type_list.specs.Listable.{IsKnown, IsListable};
 ghost use Rattle.wasm_validator_type_list.specs.Interned.{Interns, InternsTypes, InternsOne, InternsSeen};
@@ -15,8 +15,8 @@ ghost use Rattle.wasm_validator_type_list.specs.Refused.{HasGroup, RefusesTooMan
 use crate::type_list::TypeList;
 use std::alloc::Allocator;
 use std::hash::Hash;
-use wasm_readers_errors::readers_types::{CoreTypeId, FuncType, MAX_IDS, RecGroup, SubType};
 use wasm_readers_errors::{Error, Fault, Refusal, Rule};
+use wasm_readers_types::{CoreTypeId, FuncType, MAX_IDS, RecGroup, SubType};
 use wasm_validator_type_ancestors::validator_type_groups::{GroupTable, RecGroupId};
 
 impl<A: Allocator + Copy> TypeList<A> {

@@ -4,14 +4,14 @@
 ghost use Rattle.std.specs.Prelude.{◌≡◌, length};
 ghost use Rattle.std.specs.Bool.{Decides};
 ghost use Rattle.wasm_readers_errors.specs.WasmSpec.LinkMatching.{MatchesExtern, MatchesTable, MatchesGlobal};
-ghost use Rattle.wasm_readers_errors.specs.WasmReadersTypes.Entities.{entity_of};
+ghost use Rattle.wasm_readers_types.specs.Entities.{entity_of};
 ghost use Rattle.wasm_validator_type_list.specs.Listing.{types_in};
 ghost use Rattle.wasm_validator_type_list.specs.Declares.{declares};
 ghost use Rattle.wasm_validator_type_list.specs.Subtyping.{IsRefOver, IsValOver, IsEntityOver, table_by_ids, global_by_ids, entity_by_ids};
 
 use crate::type_list::TypeList;
 use std::alloc::Allocator;
-use wasm_readers_errors::readers_types::{EntityType, GlobalType, TableType, limits_match};
+use wasm_readers_types::{EntityType, GlobalType, TableType, limits_match};
 
 impl<A: Allocator + Copy> TypeList<A> {
     /// Whether what has the first type may be linked to an import that asks for the second (Core

@@ -6,8 +6,8 @@ ghost use Rattle.std.specs.Prelude.{◌≡◌, ◌<◌, length};
 ghost use Rattle.std.specs.Bool.{Decides};
 ghost use Rattle.std.specs.List.{All, AllZip};
 ghost use Rattle.wasm_readers_errors.specs.WasmSpec.References.{refs_heap, refs_val, refs_storage, refs_field, refs_comp, refs_sub};
-ghost use Rattle.wasm_readers_errors.specs.WasmReadersTypes.WasmReadersValues.SeenValues.{heap_of, ref_of, val_of, storage_of, field_of};
-ghost use Rattle.wasm_readers_errors.specs.WasmReadersTypes.SeenTypes.{comp_of, sub_of};
+ghost use Rattle.wasm_readers_types.specs.WasmReadersValues.SeenValues.{heap_of, ref_of, val_of, storage_of, field_of};
+ghost use Rattle.wasm_readers_types.specs.SeenTypes.{comp_of, sub_of};
 ghost use Rattle.wasm_validator_type_list.specs.Listing.{types_in};
 ghost use Rattle.wasm_validator_type_list.specs.Declares.{declares};
 ghost use Rattle.wasm_validator_type_list.specs.Subtyping.{IsHeapOver, heap_by_ids};
@@ -16,7 +16,7 @@ ghost use Rattle.wasm_validator_type_list.specs.Grouped.{leads_in, heap_in, IsKn
 use crate::type_list::{TypeList, id_from};
 use crate::with_rec_group::WithRecGroup;
 use std::alloc::Allocator;
-use wasm_readers_errors::readers_types::{
+use wasm_readers_types::{
     CompositeInnerType, CoreTypeId, FieldType, HeapType, RefType, StorageType, SubType,
     UnpackedIndex, ValType,
 };

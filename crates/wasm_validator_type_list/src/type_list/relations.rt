@@ -7,9 +7,9 @@ ghost use Rattle.std.specs.declared.option.Option.TheVariants.{Some};
 ghost use Rattle.wasm_readers_errors.specs.WasmSpec.Syntax.{abstract_heap, concrete, exact};
 ghost use Rattle.wasm_readers_errors.specs.WasmSpec.Declared.{IsAncestor, IsDepth};
 ghost use Rattle.wasm_readers_errors.specs.WasmSpec.Matching.{MatchesKind, IsAboveBottom, MatchesHeap, MatchesRef, MatchesVal, top_of_heap, is_shared_type, is_shared_heap, is_shared_val};
-ghost use Rattle.wasm_readers_errors.specs.WasmReadersTypes.WasmReadersValues.Indices.{IsId};
-ghost use Rattle.wasm_readers_errors.specs.WasmReadersTypes.WasmReadersValues.SeenValues.{abstract_heap_of};
-ghost use Rattle.wasm_readers_errors.specs.WasmReadersTypes.WasmReadersValues.declared.indices.UnpackedIndex.TheVariants.{Id};
+ghost use Rattle.wasm_readers_types.specs.WasmReadersValues.Indices.{IsId};
+ghost use Rattle.wasm_readers_types.specs.WasmReadersValues.SeenValues.{abstract_heap_of};
+ghost use Rattle.wasm_readers_types.specs.WasmReadersValues.declared.indices.UnpackedIndex.TheVariants.{Id};
 ghost use Rattle.wasm_validator_type_list.specs.Listing.{types_in};
 ghost use Rattle.wasm_validator_type_list.specs.Declares.{declares};
 ghost use Rattle.wasm_validator_type_list.specs.Reading.{Counts};
@@ -17,9 +17,7 @@ ghost use Rattle.wasm_validator_type_list.specs.Subtyping.{IsHeapOver, IsRefOver
 
 use crate::type_list::TypeList;
 use std::alloc::Allocator;
-use wasm_readers_errors::readers_types::{
-    AbstractHeapType, CoreTypeId, HeapType, RefType, UnpackedIndex, ValType,
-};
+use wasm_readers_types::{AbstractHeapType, CoreTypeId, HeapType, RefType, UnpackedIndex, ValType};
 use wasm_validator_type_ancestors::LinkCount;
 
 impl<A: Allocator + Copy> TypeList<A> {

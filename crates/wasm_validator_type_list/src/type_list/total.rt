@@ -8,7 +8,7 @@ ghost use Rattle.wasm_validator_type_list.specs.Worlds.{ids_world};
 
 use crate::type_list::TypeList;
 use std::alloc::Allocator;
-use wasm_readers_errors::readers_types::CoreTypeId;
+use wasm_readers_types::CoreTypeId;
 
 impl<A: Allocator + Copy> TypeList<A> {
     /// Whether the second id is the first or that of one of its declared ancestors (Core

@@ -2,7 +2,7 @@ use Rattle.std.proofs.Common.{is_ok, true, arith}
 use Rattle.std.proofs.lemmas.Bool.Decides.{nat_tests}
 use Rattle.std.proofs.lemmas.Grind.{common_steps}
 use Rattle.wasm_spec_rules.specs.FeatureFlags.{features_of}
-use Rattle.wasm_readers_errors.specs.WasmReadersTypes.WasmReadersValues.SeenValues.{val_of}
+use Rattle.wasm_readers_types.specs.WasmReadersValues.SeenValues.{val_of}
 use Rattle.wasm_validator_resources.proofs.Composites.{judged_func}
 use Rattle.wasm_validator_resources.proofs.composite_types.check_func_type.Goals as goal
 

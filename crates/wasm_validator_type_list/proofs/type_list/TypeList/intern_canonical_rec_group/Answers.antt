@@ -1,5 +1,5 @@
 use Rattle.std.proofs.Common.{arith, ap, subst, sym, ◌∙◌, ◌≤◌, ◌-◌, ◌++◌, ◌∷◌, [], length, refl}
-use Rattle.wasm_readers_errors.specs.WasmReadersTypes.WasmReadersValues.declared.indices.TheConstants.{MAX_IDS}
+use Rattle.wasm_readers_types.specs.WasmReadersValues.declared.indices.TheConstants.{MAX_IDS}
 use Rattle.wasm_validator_type_ancestors.specs.WasmValidatorTypeGroups.Groups.{all_in}
 use Rattle.wasm_validator_type_ancestors.specs.Supers.{extended_in}
 use Rattle.wasm_validator_type_list.specs.Listable.{IsListable}

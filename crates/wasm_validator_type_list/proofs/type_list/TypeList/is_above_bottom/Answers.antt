@@ -1,4 +1,4 @@
-use Rattle.wasm_readers_errors.specs.WasmReadersTypes.WasmReadersValues.SeenValues.{abstract_heap_of}
+use Rattle.wasm_readers_types.specs.WasmReadersValues.SeenValues.{abstract_heap_of}
 use Rattle.wasm_validator_type_list.proofs.Matches.{bottom_seen, bottom_unlike}
 use Rattle.wasm_validator_type_list.proofs.type_list.TypeList.is_above_bottom.Goals as goal
 
