@@ -1,6 +1,6 @@
 //! What is kept of a module once its code section has started.
 
-ghost use Rattle.std.specs.Prelude.{◌≡◌, ◌-◌, ◌+◌, ◌==◌, suc, not, true, length, slice_get, is_ok, is_some, IfOk, IfErr, OnOk, OnErr, IfSome, Some};
+ghost use Rattle.std.specs.Prelude.{◌≡◌, ◌-◌, ◌+◌, ◌==◌, suc, not, length, slice_get, is_ok, is_some, IfOk, IfErr, OnOk, OnErr, IfSome, Some};
 ghost use Rattle.wasm_readers_errors.specs.Refusals.{plain};
 ghost use Rattle.wasm_validator_sections.specs.Bodies.{expected_bodies};
 
@@ -35,21 +35,6 @@ impl<A: Allocator + Copy> CodeState<A> {
             spaces,
             resources,
             taken: 0,
-        }
-    }
-
-    /// The same with one body more that was taken, where one was to come.
-    pub fn with_body(self) -> CodeState<A>
-        requires { not (expected_bodies self.spaces.value - self.taken == 0) ≡ true }
-        ensures spaces { result.spaces ≡ self.spaces }
-        ensures resources { result.resources ≡ self.resources }
-        ensures taken { result.taken ≡ suc self.taken }
-    {
-        // Asked for what it promises: functions are as many as 32 bits count.
-        let _functions = self.spaces.as_ref().function_count();
-        CodeState {
-            taken: self.taken + 1,
-            ..self
         }
     }
 
