@@ -36,16 +36,8 @@ impl Drop for Answer {
 }
 
 impl Answer {
-    /// The answer of a section.
-    pub fn of_section(given: Result<(), Error>) -> Answer {
-        match given {
-            Ok(()) => Answer::Accepted,
-            Err(error) => Answer::Refused(error),
-        }
-    }
-
-    /// The answer of the end, or of a whole module.
-    pub fn of_end(given: Result<Types, Error>) -> Answer {
+    /// The answer to a whole module.
+    pub fn of_module(given: Result<Types, Error>) -> Answer {
         match given {
             Ok(types) => Answer::Ended(types),
             Err(error) => Answer::Refused(error),

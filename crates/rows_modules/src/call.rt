@@ -24,7 +24,7 @@ pub fn answer_call(
         "kept" => take(kept, arguments),
         "module" => {
             let bytes = parse_bytes(alloc, arguments)?;
-            Ok(Answer::of_end(validator.validate_all(bytes.as_slice())))
+            Ok(Answer::of_module(validator.validate_all(bytes.as_slice())))
         }
         _ => {
             let (offset, more) = split_word(arguments);
@@ -76,7 +76,7 @@ fn look(validator: &Validator, level: &str) -> Result<Answer, Trouble> {
     }
 }
 
-/// Makes the call of this name at this offset.
+/// Gives the payload that this name, this offset and these arguments stand for.
 fn call_at(
     alloc: Global,
     validator: &mut Validator,
@@ -84,106 +84,25 @@ fn call_at(
     offset: u32,
     arguments: &str,
 ) -> Result<Answer, Trouble> {
-    let range = range_at(offset);
-    match name {
-        "version" => give_version(validator, arguments, &range),
-        "start_section" => {
-            let function = parse_number(arguments)?;
-            Ok(Answer::of_section(validator.start_section(function, &range)))
-        }
-        "data_count_section" => {
-            let count = parse_number(arguments)?;
-            Ok(Answer::of_section(validator.data_count_section(count, &range)))
-        }
-        "code_section_start" => {
-            check_no_more(arguments)?;
-            Ok(Answer::of_section(validator.code_section_start(&range)))
-        }
-        "unknown_section" => give_unknown(validator, arguments, &range),
-        "end" => {
-            check_no_more(arguments)?;
-            Ok(Answer::of_end(validator.end(range.start)))
-        }
-        _ => {
-            let bytes = parse_bytes(alloc, arguments)?;
-            call_on(alloc, validator, name, reader_at(bytes.as_slice(), offset))
-        }
+    if let Some(payload) = plain_payload(name, offset, arguments)? {
+        return Ok(give(alloc, validator, &payload));
     }
+    let bytes = parse_bytes(alloc, arguments)?;
+    let reader = BinaryReader::new(bytes.as_slice(), u64::from(offset));
+    let payload = payload_on(alloc, name, reader)?;
+    Ok(give(alloc, validator, &payload))
 }
 
-/// The offsets of a first byte, which is this one, and of the one behind it.
-fn range_at(offset: u32) -> Range<u64> {
-    let start = u64::from(offset);
-    start..start + 1
-}
-
-/// A reader of these bytes, the first of which stands at this offset.
-fn reader_at(bytes: &[u8], offset: u32) -> BinaryReader<'_> {
-    BinaryReader::new(bytes, u64::from(offset))
-}
-
-fn parse_number(text: &str) -> Result<u32, Trouble> {
-    match text.parse::<u32>() {
-        Ok(number) => Ok(number),
-        Err(_) => Err(Trouble::Malformed("a number that isn't one")),
-    }
-}
-
-/// Gives a header: an encoding and a number.
-fn give_version(
-    validator: &mut Validator,
-    arguments: &str,
-    range: &Range<u64>,
-) -> Result<Answer, Trouble> {
-    let (encoding, number) = split_word(arguments);
-    let encoding = match encoding {
-        "module" => Encoding::Module,
-        "component" => Encoding::Component,
-        _ => return Err(Trouble::Malformed("an unknown encoding")),
-    };
-    let Ok(number) = number.parse::<u16>() else {
-        return Err(Trouble::Malformed("a version that isn't a number"));
-    };
-    Ok(Answer::of_section(validator.version(number, encoding, range)))
-}
-
-/// Gives a section of this id, of which nothing is known.
-fn give_unknown(
-    validator: &mut Validator,
-    id: &str,
-    range: &Range<u64>,
-) -> Result<Answer, Trouble> {
-    match id.parse::<u8>() {
-        Ok(id) => Ok(Answer::of_section(validator.unknown_section(id, range))),
-        Err(_) => Err(Trouble::Malformed("an id that isn't a number")),
-    }
-}
-
-/// Makes the call of this name on the bytes of this reader.
-fn call_on(
-    alloc: Global,
-    validator: &mut Validator,
-    name: &str,
-    reader: BinaryReader<'_>,
-) -> Result<Answer, Trouble> {
-    match name {
-        "code_section_entry" => Ok(give_body(alloc, validator, &FunctionBody::new(reader))),
-        "custom_section" => give_custom(validator, reader),
-        _ => {
-            let given = give_section(alloc, validator, name, reader)?;
-            Ok(Answer::of_section(given))
-        }
-    }
-}
-
-/// Gives a body, and validates the body of the function that is handed out.
-fn give_body(alloc: Global, validator: &mut Validator, body: &FunctionBody<'_>) -> Answer {
-    match validator.code_section_entry(body) {
-        Ok(function) => Answer::HandedOut(HandedOut {
+/// Gives a payload, and validates the body of a function that is handed out.
+fn give(alloc: Global, validator: &mut Validator, payload: &Payload<'_>) -> Answer {
+    match validator.payload(payload) {
+        Ok(ValidPayload::Ok) => Answer::Accepted,
+        Ok(ValidPayload::Func(function, body)) => Answer::HandedOut(HandedOut {
             index: function.index,
             type_index: function.ty,
-            refusal: refusal_of(alloc, function, body),
+            refusal: refusal_of(alloc, function, &body),
         }),
+        Ok(ValidPayload::End(types)) => Answer::Ended(types),
         Err(error) => Answer::Refused(error),
     }
 }
@@ -200,38 +119,112 @@ fn refusal_of<A: Allocator + Copy>(
     }
 }
 
-/// Gives the payload of a custom section.
-fn give_custom(validator: &mut Validator, reader: BinaryReader<'_>) -> Result<Answer, Trouble> {
-    let Ok(section) = CustomSectionReader::new(reader) else {
-        return Err(Trouble::Malformed("a custom section without a name"));
-    };
-    match validator.payload(&Payload::CustomSection(section)) {
-        Ok(ValidPayload::Ok) => Ok(Answer::Accepted),
-        Ok(_) => Ok(Answer::Nothing("something of a custom section")),
-        Err(error) => Ok(Answer::Refused(error)),
+/// The payload of this name, if it has no bytes to be read.
+fn plain_payload<'a>(
+    name: &str,
+    offset: u32,
+    arguments: &str,
+) -> Result<Option<Payload<'a>>, Trouble> {
+    let range = range_at(offset);
+    Ok(Some(match name {
+        "version" => version(arguments, range)?,
+        "start_section" => Payload::StartSection {
+            func: parse_number(arguments)?,
+            range,
+        },
+        "data_count_section" => Payload::DataCountSection {
+            count: parse_number(arguments)?,
+            range,
+        },
+        "code_section_start" => {
+            check_no_more(arguments)?;
+            Payload::CodeSectionStart {
+                count: 0,
+                range,
+                size: 0,
+            }
+        }
+        "unknown_section" => unknown_section(arguments, range)?,
+        "end" => {
+            check_no_more(arguments)?;
+            Payload::End(range.start)
+        }
+        _ => return Ok(None),
+    }))
+}
+
+/// The offsets of a first byte, which is this one, and of the one behind it.
+fn range_at(offset: u32) -> Range<u64> {
+    let start = u64::from(offset);
+    start..start + 1
+}
+
+fn parse_number(text: &str) -> Result<u32, Trouble> {
+    match text.parse::<u32>() {
+        Ok(number) => Ok(number),
+        Err(_) => Err(Trouble::Malformed("a number that isn't one")),
     }
 }
 
-/// Gives the section of this name, a count and items.
-fn give_section(
+/// A header: an encoding and a number.
+fn version<'a>(arguments: &str, range: Range<u64>) -> Result<Payload<'a>, Trouble> {
+    let (encoding, number) = split_word(arguments);
+    let encoding = match encoding {
+        "module" => Encoding::Module,
+        "component" => Encoding::Component,
+        _ => return Err(Trouble::Malformed("an unknown encoding")),
+    };
+    match number.parse::<u16>() {
+        Ok(num) => Ok(Payload::Version {
+            num,
+            encoding,
+            range,
+        }),
+        Err(_) => Err(Trouble::Malformed("a version that isn't a number")),
+    }
+}
+
+/// A section of this id, of which nothing is known.
+fn unknown_section<'a>(id: &str, range: Range<u64>) -> Result<Payload<'a>, Trouble> {
+    match id.parse::<u8>() {
+        Ok(id) => Ok(Payload::UnknownSection {
+            id,
+            contents: &[],
+            range,
+        }),
+        Err(_) => Err(Trouble::Malformed("an id that isn't a number")),
+    }
+}
+
+/// The payload of this name with the bytes of this reader: a body, or a name and bytes, or a count and
+/// items.
+fn payload_on<'a>(
     alloc: Global,
-    validator: &mut Validator,
     name: &str,
-    reader: BinaryReader<'_>,
-) -> Result<Result<(), Error>, Trouble> {
+    reader: BinaryReader<'a>,
+) -> Result<Payload<'a>, Trouble> {
     Ok(match name {
-        "type_section" => validator.type_section(&section(alloc, reader)?),
-        "import_section" => validator.import_section(&section(alloc, reader)?),
-        "function_section" => validator.function_section(&section(alloc, reader)?),
-        "table_section" => validator.table_section(&section(alloc, reader)?),
-        "memory_section" => validator.memory_section(&section(alloc, reader)?),
-        "tag_section" => validator.tag_section(&section(alloc, reader)?),
-        "global_section" => validator.global_section(&section(alloc, reader)?),
-        "export_section" => validator.export_section(&section(alloc, reader)?),
-        "element_section" => validator.element_section(&section(alloc, reader)?),
-        "data_section" => validator.data_section(&section(alloc, reader)?),
+        "code_section_entry" => Payload::CodeSectionEntry(FunctionBody::new(reader)),
+        "custom_section" => custom_section(reader)?,
+        "type_section" => Payload::TypeSection(section(alloc, reader)?),
+        "import_section" => Payload::ImportSection(section(alloc, reader)?),
+        "function_section" => Payload::FunctionSection(section(alloc, reader)?),
+        "table_section" => Payload::TableSection(section(alloc, reader)?),
+        "memory_section" => Payload::MemorySection(section(alloc, reader)?),
+        "tag_section" => Payload::TagSection(section(alloc, reader)?),
+        "global_section" => Payload::GlobalSection(section(alloc, reader)?),
+        "export_section" => Payload::ExportSection(section(alloc, reader)?),
+        "element_section" => Payload::ElementSection(section(alloc, reader)?),
+        "data_section" => Payload::DataSection(section(alloc, reader)?),
         _ => return Err(Trouble::Malformed("an unknown call")),
     })
+}
+
+fn custom_section<'a>(reader: BinaryReader<'a>) -> Result<Payload<'a>, Trouble> {
+    match CustomSectionReader::new(reader) {
+        Ok(section) => Ok(Payload::CustomSection(section)),
+        Err(_) => Err(Trouble::Malformed("a custom section without a name")),
+    }
 }
 
 /// The section of these bytes.

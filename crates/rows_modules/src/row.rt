@@ -236,5 +236,5 @@ fn answer_module(alloc: Global, bench: &mut Bench, bytes: &str) -> Result<Answer
     if bench.validator.can_reset() {
         bench.validator.reset();
     }
-    Ok(Answer::of_end(bench.validator.validate_all(bytes.as_slice())))
+    Ok(Answer::of_module(bench.validator.validate_all(bytes.as_slice())))
 }
