@@ -21,8 +21,8 @@ use std::io::{self, Write};
 use std::process::ExitCode;
 use std::rt::Files;
 use std::time::Clock;
-use test_memory::check_refusals;
 use test_parts::{check_code, check_types};
+use test_programs::check_files;
 use test_validator::check_calls;
 
 fn main(rt: HostRuntime) -> ExitCode {
@@ -54,7 +54,8 @@ fn run<R: Env + Files + Clock + Print + AllocGlobal, W: Write, E: Write>(
 /// Makes the calls of the tests, if they are asked for. The answer is the exit status.
 fn run_calls<R: Env + Print + AllocGlobal, W: Write>(rt: &R, out: &mut W) -> io::Result<u8> {
     if has_option(rt, "--memory")? {
-        check_refusals(rt)?;
+        test_memory::check_refusals(rt)?;
+        test_programs::check_refusals(rt)?;
     }
     if !has_option(rt, "--calls")? {
         return Ok(0);
@@ -62,7 +63,8 @@ fn run_calls<R: Env + Print + AllocGlobal, W: Write>(rt: &R, out: &mut W) -> io:
     let types = print_calls(&check_types(rt.alloc()), out)?;
     let code = print_calls(&check_code(rt.alloc()), out)?;
     let validator = print_calls(&check_calls(rt.alloc()), out)?;
-    Ok(types.max(code).max(validator))
+    let files = print_calls(&check_files(rt.alloc()), out)?;
+    Ok(types.max(code).max(validator).max(files))
 }
 
 /// Runs the examples that are asked for.

@@ -1,12 +1,14 @@
 //! Validators of bodies, where a request for memory is refused.
 
-use crate::heap::{Plan, count_refused, grant_all, refuse_all};
 use crate::modules::give;
-use crate::outcome::{After, Checked, Outcome, Wrong, accept, check_no_request, settle};
 use crate::shown::{Written, push};
 use std::alloc::{Allocator, Global};
 use std::cell::Cell;
-use wasm_validate_files::validator::{
+use test_refusals::{
+    After, Checked, Outcome, Plan, Wrong, accept, check_no_request, count_refused, grant_all,
+    refuse_all, settle,
+};
+use wasm_validator::{
     BinaryReader, BodyError, ConstantOperator, Fault, FuncValidator, FuncValidatorAllocations,
     FunctionBody, ModuleArity, Operator, OperatorRule, Parser, ValType, ValidPayload, Validator,
     ValidatorId, ValidatorResources, WasmModuleResources, operator_arity, read_operator,

@@ -3,22 +3,17 @@
 #![tactic(auto)]
 
 mod bodies;
-mod heap;
 mod lists;
 mod modules;
-mod outcome;
-mod program;
 mod shown;
 mod without_memory;
 
 use bodies::{Calls, check_calls, check_tries};
-use heap::{Refusing, count_refused, refuse_after};
 use lists::{check_share, check_snapshots, check_types};
 use modules::{Sample, WRONG_BODY, WRONG_BODY_VERDICT, check_list, check_module};
-use outcome::{Outcome, Tally};
-use program::check_run;
 use std::alloc::Global;
 use std::io;
+use test_refusals::{Outcome, Refusing, Subject, Tally, print_right};
 use without_memory::check_without_memory;
 
 /// Two equal groups of two structures that refer to each other.
@@ -43,9 +38,9 @@ const REFUSED_BODY: Sample<'static> = Sample {
     has_body: true,
 };
 
-/// What is called: a module by hand or at once, a list of modules, single calls, or the program.
+/// What is called: a module by hand or at once, a list of modules, or single calls.
 #[derive(Clone, Copy)]
-enum Subject {
+enum Called {
     ByHand(Sample<'static>),
     Whole(Sample<'static>),
     List,
@@ -54,113 +49,65 @@ enum Subject {
     Snapshots,
     Types,
     Share,
-    Run,
 }
 
 /// What is called in turn. A module comes by hand first, and then at once.
-const SUBJECTS: [Subject; 15] = [
-    Subject::ByHand(EQUAL_GROUPS),
-    Subject::Whole(EQUAL_GROUPS),
-    Subject::ByHand(REFUSED_BODY),
-    Subject::Whole(REFUSED_BODY),
-    Subject::ByHand(EACH_KIND),
-    Subject::Whole(EACH_KIND),
-    Subject::List,
-    Subject::Body(Calls::Op),
-    Subject::Body(Calls::DefineLocals),
-    Subject::Body(Calls::Validate),
-    Subject::Tries,
-    Subject::Snapshots,
-    Subject::Types,
-    Subject::Share,
-    Subject::Run,
+const SUBJECTS: [Called; 14] = [
+    Called::ByHand(EQUAL_GROUPS),
+    Called::Whole(EQUAL_GROUPS),
+    Called::ByHand(REFUSED_BODY),
+    Called::Whole(REFUSED_BODY),
+    Called::ByHand(EACH_KIND),
+    Called::Whole(EACH_KIND),
+    Called::List,
+    Called::Body(Calls::Op),
+    Called::Body(Calls::DefineLocals),
+    Called::Body(Calls::Validate),
+    Called::Tries,
+    Called::Snapshots,
+    Called::Types,
+    Called::Share,
 ];
 
-/// Makes the calls once.
-fn run(heap: &Refusing<Global>, text: Global, subject: &Subject) -> Outcome {
-    let plan = heap.plan();
-    match subject {
-        Subject::ByHand(sample) => check_module(heap, plan, text, sample, false),
-        Subject::Whole(sample) => check_module(heap, plan, text, sample, true),
-        Subject::List => check_list(heap, plan, text),
-        Subject::Body(calls) => check_calls(heap, plan, *calls),
-        Subject::Tries => check_tries(heap, plan, text),
-        Subject::Snapshots => check_snapshots(heap, plan),
-        Subject::Types => check_types(heap, plan),
-        Subject::Share => check_share(heap, plan),
-        Subject::Run => check_run(heap, plan, text),
+impl Subject for Called {
+    fn call(&self, heap: &Refusing<Global>, text: Global) -> Outcome {
+        let plan = heap.plan();
+        match self {
+            Called::ByHand(sample) => check_module(heap, plan, text, sample, false),
+            Called::Whole(sample) => check_module(heap, plan, text, sample, true),
+            Called::List => check_list(heap, plan, text),
+            Called::Body(calls) => check_calls(heap, plan, *calls),
+            Called::Tries => check_tries(heap, plan, text),
+            Called::Snapshots => check_snapshots(heap, plan),
+            Called::Types => check_types(heap, plan),
+            Called::Share => check_share(heap, plan),
+        }
     }
-}
 
-/// Makes the calls again and again: the first request is refused, with so many in all from there on,
-/// then the second, up to a run that meets no refusal. Answers where refused requests left what was
-/// called.
-fn refuse_each(heap: &Refusing<Global>, text: Global, subject: &Subject, refused: u64) -> Tally {
-    let mut tally = Tally::default();
-    for granted in 0..u64::MAX {
-        refuse_after(heap.plan(), granted, refused);
-        let outcome = run(heap, text, subject);
-        let is_last = count_refused(heap.plan()) == 0;
-        if !is_last || outcome.is_err() {
-            tally = tally.with(outcome);
-        }
-        if is_last {
-            break;
+    /// Whether no run was wrong, some requests were refused, and they left what was called where they
+    /// should. The first request of a list of modules is for the answers. Of a module at once, as many
+    /// sections leave the validator in failure as by hand, and as many bodies at the end; and where it
+    /// has bodies, the request for their list leaves it in the module.
+    fn is_right(&self, before: Tally, tally: Tally) -> bool {
+        let is_refused = tally.wrong == 0 && tally != Tally::default();
+        match self {
+            Called::List => is_refused && tally.unchanged == 1,
+            Called::Whole(sample) => {
+                let wanted = Tally {
+                    in_module: u64::from(sample.has_body),
+                    ..before
+                };
+                is_refused && tally.failed > 0 && tally == wanted
+            }
+            _ => is_refused,
         }
     }
-    tally
-}
-
-/// Whether no run was wrong, some requests were refused, and they left what was called where they
-/// should. The first request of a list of modules is for the answers. Of a module at once, as many
-/// sections leave the validator in failure as by hand, and as many bodies at the end; and where it
-/// has bodies, the request for their list leaves it in the module.
-fn is_right(subject: &Subject, by_hand: Tally, tally: Tally) -> bool {
-    let is_refused = tally.wrong == 0 && tally != Tally::default();
-    match subject {
-        Subject::List => is_refused && tally.unchanged == 1,
-        Subject::Whole(sample) => {
-            let wanted = Tally {
-                in_module: u64::from(sample.has_body),
-                ..by_hand
-            };
-            is_refused && tally.failed > 0 && tally == wanted
-        }
-        _ => is_refused,
-    }
-}
-
-/// Refuses the requests of each subject in turn, so many from each on, prints what was wrong, and
-/// answers how many are right.
-fn count_right<R: Print + AllocGlobal>(
-    rt: &R,
-    heap: &Refusing<Global>,
-    refused: u64,
-) -> io::Result<u32> {
-    let mut right = 0u32;
-    let mut before = Tally::default();
-    let mut place = 0u32;
-    for subject in &SUBJECTS {
-        let tally = refuse_each(heap, rt.alloc(), subject, refused);
-        if is_right(subject, before, tally) {
-            right = right.saturating_add(1);
-        } else {
-            println!(rt; "subject {place}, {refused} refused: {tally:?}")?;
-        }
-        before = tally;
-        place = place.saturating_add(1);
-    }
-    Ok(right)
 }
 
 /// Refuses each request alone and with all from it on, and prints how many subjects are right.
 pub fn check_refusals<R: Print + AllocGlobal>(rt: &R) -> io::Result<()> {
     let heap = Refusing::new(rt.alloc());
-    let alone = count_right(rt, &heap, 1)?;
-    let onwards = count_right(rt, &heap, u64::MAX)?;
+    print_right(rt, &heap, "modules, lists and bodies", &SUBJECTS)?;
     let without = check_without_memory(&heap, heap.plan(), rt.alloc());
-    println!(rt;
-        "of 15 subjects {alone} are right with each request refused alone, and {onwards} with all from it on"
-    )?;
     println!(rt; "the calls that take no memory: {without:?}")
 }

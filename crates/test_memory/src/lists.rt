@@ -1,10 +1,9 @@
 //! Lists that are kept and values that are shared, where a request for memory is refused.
 
-use crate::heap::{Plan, count_refused, grant_all};
-use crate::outcome::{After, Wrong, accept, settle};
 use std::alloc::Allocator;
 use std::cell::Cell;
-use wasm_validate_files::validator::{FuncType, MaybeOwned, SnapshotList, TypeList};
+use test_refusals::{After, Plan, Wrong, accept, count_refused, grant_all, settle};
+use wasm_validator::{FuncType, MaybeOwned, SnapshotList, TypeList};
 
 /// How many snapshots are taken: enough that parts of the list are gathered, and joined.
 const SNAPSHOTS: u32 = 34;

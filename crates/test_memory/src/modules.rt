@@ -1,11 +1,10 @@
 //! Modules and lists of them, where a request for memory is refused.
 
-use crate::heap::{Plan, count_refused, grant_all};
-use crate::outcome::{After, Checked, Outcome, Wrong, settle};
 use crate::shown::{Answer, check_verdict};
 use std::alloc::{Allocator, Global};
 use std::cell::Cell;
-use wasm_validate_files::validator::{
+use test_refusals::{After, Checked, Outcome, Plan, Wrong, count_refused, grant_all, settle};
+use wasm_validator::{
     BodyError, Error, Fault, FuncToValidate, FuncValidatorAllocations, FunctionBody, OutOfOrder,
     Parser, Payload, Refusal, Types, ValidPayload, Validator, ValidatorId, ValidatorResources,
     validate_list,

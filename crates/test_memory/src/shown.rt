@@ -1,9 +1,9 @@
 //! Answers as text.
 
-use crate::outcome::{Checked, Wrong, accept};
 use std::alloc::{AllocError, Allocator, Global};
 use std::fmt::{Debug, Write};
-use wasm_validate_files::validator::{Error, Types, TypesRef};
+use test_refusals::{Checked, Wrong, accept};
+use wasm_validator::{Error, Types, TypesRef};
 
 /// The answer of what adds to a text: only memory can be refused.
 pub type Written = Result<(), AllocError>;

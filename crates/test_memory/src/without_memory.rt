@@ -8,13 +8,12 @@ ghost use Rattle.wasm_validator_type_list.specs.Listable.{IsListable};
 ghost use Rattle.wasm_validator_type_list.specs.Subtyping.{IsRefOver};
 
 use crate::bodies::{BODY, check_queries};
-use crate::heap::{Plan, grant_all, refuse_all};
 use crate::modules::give_before_code;
-use crate::outcome::{Checked, Wrong, check_no_request};
 use crate::shown::{Written, push, push_summary};
 use std::alloc::{Allocator, Global};
 use std::cell::Cell;
-use wasm_validate_files::validator::{
+use test_refusals::{Checked, Plan, Wrong, check_no_request, grant_all, refuse_all};
+use wasm_validator::{
     CompositeInnerType, CompositeType, CoreTypeId, Encoding, Error, Export, ExternalKind, HeapType,
     Import, Items, LinkCount, Matches, MaybeOwned, RecGroup, RefType, StorageType, StructType,
     SubType, TypeList, TypeRef, TypesRef, UnpackedIndex, ValType, Validator, ValidatorId,

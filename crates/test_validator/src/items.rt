@@ -1,7 +1,7 @@
 //! The items of a module, added by hand.
 
 ghost use Rattle.std.specs.Prelude.{IfOk};
-ghost use Rattle.wasm_validate_files.specs.WasmValidatorCore.Ready.{AreHeld};
+ghost use Rattle.wasm_validator.specs.WasmValidatorCore.Ready.{AreHeld};
 
 use bitflags::Flags;
 use std::alloc::Global;
@@ -9,7 +9,7 @@ use wasm_readers::{
     FuncType, GlobalType, Import, MemoryType, RecGroup, RefType, SubType, TableType, TagKind,
     TagType, TypeRef, ValType, WasmFeatures,
 };
-use wasm_validate_files::validator::{EntityType, Error, Module, TypeList};
+use wasm_validator::{EntityType, Error, Module, TypeList};
 
 /// A module, and a list of types, with the function type that takes two integers and gives one.
 fn module_of(alloc: Global) -> Result<(TypeList, Module), Error>

@@ -1,7 +1,6 @@
 //! Tests of the validator by its public calls: what a row of `rows_modules` can't show.
 #![tactic(auto)]
 
-mod files;
 mod items;
 mod lists;
 mod owned;
@@ -9,8 +8,8 @@ mod types;
 
 use std::alloc::Global;
 
-/// Tests of items, types, lists of modules and files, each by its name, and whether it is right.
-pub fn check_calls(alloc: Global) -> [(&'static str, bool); 15] {
+/// Tests of items, types and lists of modules, each by its name, and whether it is right.
+pub fn check_calls(alloc: Global) -> [(&'static str, bool); 11] {
     [
         (
             "items are imported and defined",
@@ -53,18 +52,5 @@ pub fn check_calls(alloc: Global) -> [(&'static str, bool); 15] {
             owned::a_value_is_written_while_it_is_owned(alloc).unwrap_or(false),
         ),
         ("a default is owned", owned::a_default_is_owned()),
-        (
-            "files up to a refused one and behind",
-            files::files_up_to_a_refused_one_and_behind(alloc).unwrap_or(false),
-        ),
-        (
-            "a stream that is full",
-            files::a_stream_that_is_full(alloc).unwrap_or(false),
-        ),
-        (
-            "a file that is not there",
-            files::a_file_that_is_not_there(alloc).unwrap_or(false),
-        ),
-        ("no file", files::no_file(alloc)),
     ]
 }

@@ -1,7 +1,7 @@
 //! Lists of modules that share their types.
 
 use std::alloc::{AllocError, Global};
-use wasm_validate_files::validator::{Error, Validator, ValidatorId, validate_list};
+use wasm_validator::{Error, Validator, ValidatorId, validate_list};
 
 /// A module that begins so and goes on with so many function types of no parameters and results.
 fn with_types(alloc: Global, front: &[u8], count: usize) -> Result<Vec<u8>, AllocError> {

@@ -2,7 +2,7 @@
 
 use std::alloc::{AllocError, Global};
 use std::rc::Rc;
-use wasm_validate_files::validator::MaybeOwned;
+use wasm_validator::MaybeOwned;
 
 /// Whether a value is written while it is owned, and is shared once it is given out.
 pub fn a_value_is_written_while_it_is_owned(alloc: Global) -> Result<bool, AllocError> {

@@ -11,7 +11,7 @@ use wasm_readers::readers_types::{
     AbstractHeapType, CoreTypeId, HeapType, RecGroup, RefType, UnpackedIndex,
 };
 use wasm_readers::{BinaryReader, FromReader};
-use wasm_validate_files::validator::{
+use wasm_validator::{
     Error, TypeList, Types, ValidatorId, WasmFeatures, canonicalize_and_intern_rec_group, validate,
 };
 use wasm_validator_type_list::LinkCount;

@@ -17,8 +17,8 @@ use denote.Steps.{nothing, only}
 use denote.Triple.Statement.{Contract}
 use denote.Triple.Spec.{triple_of}
 use Rattle.std.specs.contracts.cell.Cell as CE
-use Rattle.test_memory.specs.contracts.heap.Plan as PL
-use Rattle.test_memory.specs.contracts.heap.refuses as RF
+use Rattle.test_refusals.specs.contracts.heap.Plan as PL
+use Rattle.test_refusals.specs.contracts.heap.refuses as RF
 
 abbrev Plans : RattleType
 Plans = CE.the_row PL.the_row
