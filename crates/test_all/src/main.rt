@@ -55,6 +55,7 @@ fn run<R: Env + Files + Clock + Print + AllocGlobal, W: Write, E: Write>(
 fn run_calls<R: Env + Print + AllocGlobal, W: Write>(rt: &R, out: &mut W) -> io::Result<u8> {
     if has_option(rt, "--memory")? {
         test_memory::check_refusals(rt)?;
+        test_validator::check_refusals(rt)?;
         test_programs::check_refusals(rt)?;
     }
     if !has_option(rt, "--calls")? {

@@ -3,13 +3,11 @@
 #![tactic(auto)]
 
 mod bodies;
-mod lists;
 mod modules;
 mod shown;
 mod without_memory;
 
 use bodies::{Calls, check_calls, check_tries};
-use lists::{check_share, check_snapshots, check_types};
 use modules::{Sample, WRONG_BODY, WRONG_BODY_VERDICT, check_list, check_module};
 use std::alloc::Global;
 use std::io;
@@ -46,13 +44,10 @@ enum Called {
     List,
     Body(Calls),
     Tries,
-    Snapshots,
-    Types,
-    Share,
 }
 
 /// What is called in turn. A module comes by hand first, and then at once.
-const SUBJECTS: [Called; 14] = [
+const SUBJECTS: [Called; 11] = [
     Called::ByHand(EQUAL_GROUPS),
     Called::Whole(EQUAL_GROUPS),
     Called::ByHand(REFUSED_BODY),
@@ -64,9 +59,6 @@ const SUBJECTS: [Called; 14] = [
     Called::Body(Calls::DefineLocals),
     Called::Body(Calls::Validate),
     Called::Tries,
-    Called::Snapshots,
-    Called::Types,
-    Called::Share,
 ];
 
 impl Subject for Called {
@@ -78,9 +70,6 @@ impl Subject for Called {
             Called::List => check_list(heap, plan, text),
             Called::Body(calls) => check_calls(heap, plan, *calls),
             Called::Tries => check_tries(heap, plan, text),
-            Called::Snapshots => check_snapshots(heap, plan),
-            Called::Types => check_types(heap, plan),
-            Called::Share => check_share(heap, plan),
         }
     }
 

@@ -4,8 +4,10 @@
 mod items;
 mod lists;
 mod owned;
+mod refused;
 mod types;
 
+pub use refused::check_refusals;
 use std::alloc::Global;
 
 /// Tests of items, types and lists of modules, each by its name, and whether it is right.

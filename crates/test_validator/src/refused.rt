@@ -1,8 +1,12 @@
 //! Lists that are kept and values that are shared, where a request for memory is refused.
 
-use std::alloc::Allocator;
+use std::alloc::{Allocator, Global};
 use std::cell::Cell;
-use test_refusals::{After, Plan, Wrong, accept, count_refused, grant_all, settle};
+use std::io;
+use test_refusals::{
+    After, Outcome, Plan, Refusing, Subject, Tally, Wrong, accept, count_refused, grant_all,
+    print_right, settle,
+};
 use wasm_validator::{FuncType, MaybeOwned, SnapshotList, TypeList};
 
 /// How many snapshots are taken: enough that parts of the list are gathered, and joined.
@@ -60,7 +64,7 @@ fn snapshot<A: Allocator + Copy>(
 }
 
 /// Takes a snapshot after each number of a list.
-pub fn check_snapshots<A: Allocator + Copy>(alloc: A, plan: &Cell<Plan>) -> Result<After, Wrong> {
+fn check_snapshots<A: Allocator + Copy>(alloc: A, plan: &Cell<Plan>) -> Outcome {
     let mut list = SnapshotList::new(alloc);
     for number in 0..SNAPSHOTS {
         push(plan, &mut list, number)?;
@@ -74,7 +78,7 @@ pub fn check_snapshots<A: Allocator + Copy>(alloc: A, plan: &Cell<Plan>) -> Resu
 
 /// Takes a snapshot of a list of one type. Where a request was refused, there is none, the list
 /// is unchanged, and the next one is equal.
-pub fn check_types<A: Allocator + Copy>(alloc: A, plan: &Cell<Plan>) -> Result<After, Wrong> {
+fn check_types<A: Allocator + Copy>(alloc: A, plan: &Cell<Plan>) -> Outcome {
     let wanted = plan.get();
     grant_all(plan);
     let mut list = TypeList::new(alloc, true);
@@ -101,7 +105,7 @@ pub fn check_types<A: Allocator + Copy>(alloc: A, plan: &Cell<Plan>) -> Result<A
 
 /// Shares a value. Where a request was refused, it is lost and can't be written, or it is still
 /// owned and is shared by the next call.
-pub fn check_share<A: Allocator + Copy>(alloc: A, plan: &Cell<Plan>) -> Result<After, Wrong> {
+fn check_share<A: Allocator + Copy>(alloc: A, plan: &Cell<Plan>) -> Outcome {
     let mut value: MaybeOwned<u32, A> = MaybeOwned::new(3);
     let refused = count_refused(plan);
     let first = value.arc(alloc).is_ok();
@@ -117,4 +121,40 @@ pub fn check_share<A: Allocator + Copy>(alloc: A, plan: &Cell<Plan>) -> Result<A
     }
     let is_shared = value.arc(alloc).is_ok() && *value == 3 && value.as_mut().is_none();
     settle(is_shared, After::Unchanged, Wrong::RefusedAgain)
+}
+
+/// What is called.
+#[derive(Clone, Copy)]
+enum Called {
+    Snapshots,
+    Types,
+    Share,
+}
+
+impl Subject for Called {
+    fn call(&self, heap: &Refusing<Global>, _text: Global) -> Outcome {
+        let plan = heap.plan();
+        match self {
+            Called::Snapshots => check_snapshots(heap, plan),
+            Called::Types => check_types(heap, plan),
+            Called::Share => check_share(heap, plan),
+        }
+    }
+
+    /// Whether no run was wrong, and some requests were refused.
+    fn is_right(&self, _before: Tally, tally: Tally) -> bool {
+        tally.wrong == 0 && tally != Tally::default()
+    }
+}
+
+/// Refuses each request alone and with all from it on, and prints how many subjects are right.
+pub fn check_refusals<R: Print + AllocGlobal>(rt: &R) -> io::Result<()> {
+    let heap = Refusing::new(rt.alloc());
+    let subjects = [Called::Snapshots, Called::Types, Called::Share];
+    print_right(
+        rt,
+        &heap,
+        "lists that are kept and values that are shared",
+        &subjects,
+    )
 }
