@@ -1,7 +1,9 @@
 use crate::operators::{OPERATOR, judge_operator};
 use crate::sample::Sample;
 use examples_own_module::OwnModule;
-use rows_files::{Difference, Judge, NOT, Trouble, name_of, parse_features, take_part};
+use rows_files::{
+    Difference, Judge, NOT, Trouble, name_of, parse_digits, parse_features, take_part,
+};
 use std::alloc::{AllocError, Global};
 use wasm_parser::FunctionBody;
 use wasm_readers::{BinaryReader, Error};
@@ -92,11 +94,7 @@ pub fn parse_bytes(alloc: Global, text: &str) -> Result<Vec<u8>, Trouble> {
     if text == "-" {
         return Ok(Vec::new(alloc));
     }
-    match hex::decode(alloc, text) {
-        Ok(bytes) => Ok(bytes),
-        Err(hex::FromHexError::OutOfMemory) => Err(Trouble::OutOfMemory),
-        Err(_) => Err(Trouble::Malformed("bytes that aren't hexadecimal")),
-    }
+    parse_digits(alloc, text)
 }
 
 /// The index of the function whose body a row has: it stands behind those of the sample.

@@ -2,11 +2,13 @@
 //! judge answers one line after another.
 #![tactic(auto)]
 
+mod digits;
 mod features;
 mod files;
 mod judge;
 mod words;
 
+pub use digits::parse_digits;
 pub use features::{name_of, parse_features};
 pub use files::{Input, STATUS_RIGHT, STATUS_TROUBLE, STATUS_WRONG, print_error, run};
 pub use judge::{Difference, Judge, NOT, Trouble, take_part};

@@ -1,5 +1,5 @@
 use crate::text::split_word;
-use rows_files::Trouble;
+use rows_files::{Trouble, parse_digits};
 use std::alloc::{AllocError, Global};
 
 /// The bytes that this text stands for: hexadecimal digits, `H` for the header of a module,
@@ -59,12 +59,7 @@ fn push_words(alloc: Global, bytes: &mut Vec<u8>, text: &str) -> Result<(), Trou
 }
 
 fn push_digits(alloc: Global, bytes: &mut Vec<u8>, digits: &str) -> Result<(), Trouble> {
-    match hex::decode(alloc, digits) {
-        Ok(more) => {
-            bytes.extend_from_slice(more.as_slice())?;
-            Ok(())
-        }
-        Err(hex::FromHexError::OutOfMemory) => Err(Trouble::OutOfMemory),
-        Err(_) => Err(Trouble::Malformed("bytes that aren't hexadecimal")),
-    }
+    let more = parse_digits(alloc, digits)?;
+    bytes.extend_from_slice(more.as_slice())?;
+    Ok(())
 }
