@@ -1,5 +1,5 @@
 //! `test-all OPTION ..` runs what each option names, and tells what is wrong. The exit status is 0 only
-//! where nothing is.
+//! where no row, no answer to refused memory and no call by hand is.
 //!
 //! - `--modules FILE..`: rows of modules and of calls on a validator;
 //! - `--bodies FILE..`: rows of bodies and of single operators;
@@ -14,7 +14,7 @@
 #![tactic(auto)]
 
 use rows_bodies::{print_items, time_body};
-use rows_files::{has_option, print_calls, print_error};
+use rows_files::{STATUS_RIGHT, STATUS_WRONG, has_option, print_calls, print_error};
 use std::alloc::Global;
 use std::env::Env;
 use std::io::{self, Write};
@@ -46,20 +46,31 @@ fn run<R: Env + Files + Clock + Print + AllocGlobal, W: Write, E: Write>(
     let bodies = rows_bodies::run_rows(rt, out, err)?;
     time_body(rt, out, err)?;
     print_items(rt, out)?;
+    let memory = refuse_memory(rt)?;
     let calls = run_calls(rt, out)?;
     print_examples(rt)?;
-    Ok(modules.max(bodies).max(calls))
+    Ok(modules.max(bodies).max(memory).max(calls))
+}
+
+/// Refuses each request for memory, if that is asked for. The answer is the exit status.
+fn refuse_memory<R: Env + Print + AllocGlobal>(rt: &R) -> io::Result<u8> {
+    if !has_option(rt, "--memory")? {
+        return Ok(STATUS_RIGHT);
+    }
+    let modules = test_memory::check_refusals(rt)?;
+    let lists = test_validator::check_refusals(rt)?;
+    let programs = test_programs::check_refusals(rt)?;
+    if modules && lists && programs {
+        Ok(STATUS_RIGHT)
+    } else {
+        Ok(STATUS_WRONG)
+    }
 }
 
 /// Makes the calls of the tests, if they are asked for. The answer is the exit status.
 fn run_calls<R: Env + Print + AllocGlobal, W: Write>(rt: &R, out: &mut W) -> io::Result<u8> {
-    if has_option(rt, "--memory")? {
-        test_memory::check_refusals(rt)?;
-        test_validator::check_refusals(rt)?;
-        test_programs::check_refusals(rt)?;
-    }
     if !has_option(rt, "--calls")? {
-        return Ok(0);
+        return Ok(STATUS_RIGHT);
     }
     let types = print_calls(&check_types(rt.alloc()), out)?;
     let code = print_calls(&check_code(rt.alloc()), out)?;

@@ -93,10 +93,12 @@ impl Subject for Called {
     }
 }
 
-/// Refuses each request alone and with all from it on, and prints how many subjects are right.
-pub fn check_refusals<R: Print + AllocGlobal>(rt: &R) -> io::Result<()> {
+/// Refuses each request alone and with all from it on, prints how many subjects are right, and answers
+/// whether all are.
+pub fn check_refusals<R: Print + AllocGlobal>(rt: &R) -> io::Result<bool> {
     let heap = Refusing::new(rt.alloc());
-    print_right(rt, &heap, "modules, lists and bodies", &SUBJECTS)?;
+    let are_right = print_right(rt, &heap, "modules, lists and bodies", &SUBJECTS)?;
     let without = check_without_memory(&heap, heap.plan(), rt.alloc());
-    println!(rt; "the calls that take no memory: {without:?}")
+    println!(rt; "the calls that take no memory: {without:?}")?;
+    Ok(are_right && without.is_ok())
 }

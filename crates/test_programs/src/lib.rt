@@ -29,8 +29,9 @@ pub fn check_files(alloc: Global) -> [(&'static str, bool); 4] {
     ]
 }
 
-/// Refuses each request of the program alone and with all from it on, and prints whether it is right.
-pub fn check_refusals<R: Print + AllocGlobal>(rt: &R) -> io::Result<()> {
+/// Refuses each request of the program alone and with all from it on, prints whether it is right, and
+/// answers that.
+pub fn check_refusals<R: Print + AllocGlobal>(rt: &R) -> io::Result<bool> {
     let heap = Refusing::new(rt.alloc());
     print_right(rt, &heap, "wasm-validate", &[Run])
 }

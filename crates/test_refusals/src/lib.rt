@@ -68,18 +68,19 @@ fn count_right<R: Print + AllocGlobal, S: Subject>(
     Ok(right)
 }
 
-/// Refuses each request of these subjects alone, and with all from it on, and prints how many of them
-/// are right.
+/// Refuses each request of these subjects alone, and with all from it on, prints how many of them are
+/// right, and answers whether all are.
 pub fn print_right<R: Print + AllocGlobal, S: Subject>(
     rt: &R,
     heap: &Refusing<Global>,
     what: &str,
     subjects: &[S],
-) -> io::Result<()> {
+) -> io::Result<bool> {
     let alone = count_right(rt, heap, subjects, 1)?;
     let onwards = count_right(rt, heap, subjects, u64::MAX)?;
     let all = subjects.len();
     println!(rt;
         "{what}: of {all} {alone} are right with each request refused alone, and {onwards} with all from it on"
-    )
+    )?;
+    Ok(alone as usize == all && onwards as usize == all)
 }

@@ -147,8 +147,9 @@ impl Subject for Called {
     }
 }
 
-/// Refuses each request alone and with all from it on, and prints how many subjects are right.
-pub fn check_refusals<R: Print + AllocGlobal>(rt: &R) -> io::Result<()> {
+/// Refuses each request alone and with all from it on, prints how many subjects are right, and answers
+/// whether all are.
+pub fn check_refusals<R: Print + AllocGlobal>(rt: &R) -> io::Result<bool> {
     let heap = Refusing::new(rt.alloc());
     let subjects = [Called::Snapshots, Called::Types, Called::Share];
     print_right(
