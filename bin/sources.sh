@@ -1,5 +1,5 @@
-# What bin/wasm-validate, bin/wasm-check, bin/prove and tools/run_unproved share: the sources of a program, the programs that were built of them,
-# the kit, and how a program is run. Each sets `top` first.
+# What bin/wasm-validate, bin/wasm-check, bin/prove, bin/build-c and tools/run_unproved share: the sources of a program, the programs that were
+# built of them, the kit, and how a program is run. Each sets `top` first.
 
 # Sets which program is meant: its crate, its name, and where those that were built are kept.
 choose_program() {

@@ -18,7 +18,7 @@
 
    Wrong calls. A pointer may be null where its count is 0; a report may always be null. Any other null pointer, a count of items that no object can
    have (more than PTRDIFF_MAX bytes), and a bit of `features` that no proposal has make the result RUTHVELKA_BAD_CALL, and nothing is written but
-   a report. Arrays that are written need not be initialized.
+   a report. Calls that give no verdict say themselves what they do. Arrays that are written need not be initialized.
 
    Room. Each array that is written has a room: a count of items. As many are written as there is room for, what is behind them stays as it was, and
    the report tells how many there are: so a room that was too small is seen, and the call can be made again with more.
@@ -62,7 +62,7 @@ extern "C" {
 #define RUTHVELKA_EXTENDED_CONST (UINT64_C(1) << 11)           /* add, sub and mul of integers in constant expressions */
 #define RUTHVELKA_FUNCTION_REFERENCES (UINT64_C(1) << 12)      /* references to types by index, and ones that may not be null */
 #define RUTHVELKA_GC (UINT64_C(1) << 13)                       /* recursion groups, sub types, structures and arrays */
-#define RUTHVELKA_GC_TYPES (UINT64_C(1) << 14)                 /* structure and array types, and references to anything but functions */
+#define RUTHVELKA_GC_TYPES (UINT64_C(1) << 14)                 /* structure, array and continuation types; references but to functions and exceptions */
 #define RUTHVELKA_CUSTOM_PAGE_SIZES (UINT64_C(1) << 15)        /* memories with a written page size */
 #define RUTHVELKA_CUSTOM_DESCRIPTORS (UINT64_C(1) << 16)       /* descriptor clauses, and exact references */
 #define RUTHVELKA_STACK_SWITCHING (UINT64_C(1) << 17)          /* continuations */
@@ -105,8 +105,8 @@ uint32_t ruthvelka_version(void);
 uint64_t ruthvelka_feature(const char *name, size_t length);
 
 /* ruthvelka_feature_name: writes the name of the proposal with this bit, as far as there is room, without a zero behind it, and gives the length of the
-   whole name. That is 0, and nothing is written, where no proposal has just this bit, or `name` is null and `room` isn't 0. It may be called at any
-   time, in any thread.
+   whole name. That is 0, and nothing is written, where no proposal has just this bit, `name` is null and `room` isn't 0, or `room` is more than
+   PTRDIFF_MAX. It may be called at any time, in any thread.
 
        char name[32];
        size_t length = ruthvelka_feature_name(report.missing_features, name, sizeof name);

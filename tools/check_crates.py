@@ -2,9 +2,9 @@
 """check_crates.py: checks the graph of crates.txt, and the sizes of crates, in a second. .ci/run calls it first.
 
 `rt` follows each walk down from a crate through the graph before it checks that crate, so each crate may have at most 3,400 walks, and
-`test_all`, which runs the rows, the tests and the examples, those of them together. A crate
-names the layers it uses and passes on what is below them, by `pub use` lines of its specs/Lib.antt and proofs/Lib.antt and by `pub mod`
-blocks at the end of its src/lib.rt; each such line must be used by a crate above. A crate of laws (wasm_laws_..) passes on no code."""
+`test_all`, which runs the rows, the tests and the examples, at most 20,000. A crate names the layers it uses and passes on what is below
+them, by `pub use` lines of its specs/Lib.antt and proofs/Lib.antt and by `pub mod` blocks at the end of its src/lib.rt; each such line must
+be used by a crate above. A crate of laws (wasm_laws_..) passes on no code."""
 import os
 import re
 import sys

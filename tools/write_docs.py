@@ -1,10 +1,11 @@
 #!/usr/bin/env python3
 """write_docs.py [--check]: writes what documents take from the sources: docs/API.md, and the contracts that documents quote.
 
-docs/API.md has each public item of `wasm_validator` with what its source says of it: its text, its signature and its conditions. Its `pub use`
-lines are followed to where each item is declared; one that isn't understood ends this with status 1. A quote is a block of code in a document
-after a line `<!-- from PATH: NAME -->`: it becomes the function or definition NAME as PATH has it. With --check nothing is written, and the
-status is 1 where a document differs from what would be; .ci/run calls it so."""
+docs/API.md has each public item of `wasm_validator` with what its source says of it: its text, its signature and its conditions, without the
+texts of fields and variants and the types and constants of traits. Its `pub use` lines are followed to where each item is declared; one that
+isn't understood ends this with status 1. A quote is a block of code in a document after a line `<!-- from PATH: NAME -->`: it becomes the
+function or definition NAME as PATH has it. With --check nothing is written, and the status is 1 where a document differs from what would be;
+.ci/run calls it so."""
 import os
 import re
 import sys

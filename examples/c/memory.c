@@ -69,7 +69,7 @@ static uint32_t validate_list_with_queries(const uint8_t *bytes, size_t length, 
     return result == RUTHVELKA_VALID ? to->reports[0].verdict : result;
 }
 
-/* Whether nothing is written but what a call may write where memory was refused: reports. */
+/* Whether nothing is written but what a call may write where memory was refused: reports and answers. */
 static int is_untouched(const struct written *it) {
     struct written all;
     memset(&all, 7, sizeof all);

@@ -1,4 +1,4 @@
-/* Four threads make calls of every kind side by side, on the same bytes, and each has the same answer as one alone. */
+/* Four threads make each call that validates side by side, on the same bytes, and each has the same answer as one alone. */
 #include <pthread.h>
 #include <ruthvelka.h>
 #include <stdio.h>

@@ -116,9 +116,9 @@ pub extern "C" fn ruthvelka_proved_validate_with_ids(
     report.verdict
 }
 
-/// The same, and writes the imports and the exports of the module, in their order, and all their
-/// names, as far as there is room. Nothing is written there where the module is not valid, or where
-/// memory to gather them is refused, which is then the verdict.
+/// The same, and writes the imports of the module, by their pairs of names, its exports, in their
+/// order, and all their names, as far as there is room. Nothing is written there where the module is
+/// not valid, or where memory to gather them is refused, which is then the verdict.
 #[unsafe(no_mangle)]
 pub extern "C" fn ruthvelka_proved_validate_with_externs(
     alloc: Global,

@@ -50,7 +50,7 @@ ghost use Rattle.wasm_validator_states.specs.Taken.{body_seen};
 ghost use Rattle.wasm_validator_states.specs.Standing.{HoldsValid, Leaves, Moves, read_refused_at, body_refused_at, ended_at, fresh, is_failed, may_reset, after_reset, shown_at};
 ghost use Rattle.wasm_validator_states.specs.Verdict.{StandsApart};
 ghost use Rattle.wasm_validator_states.specs.Taken.{body_told};
-ghost use Rattle.wasm_validator_modules.specs.OrderTold.{TellsWithin, TellsReading, TellsOrder, TellsTagSection, TellsStart, TellsDataCount, header_told, end_order_told};
+ghost use Rattle.wasm_validator_states.specs.OrderTold.{TellsWithin, TellsReading, TellsOrder, TellsTagSection, TellsStart, TellsDataCount, header_told, end_order_told};
 ghost use Rattle.wasm_validator_states.specs.WasmValidatorSections.SectionsTold.{OfContent, StandsBetween, TellsTypes, TellsImports, TellsExports, TellsFunctions, TellsTables, TellsMemories, TellsGlobals, TellsElements, TellsData};
 ghost use Rattle.wasm_validator_states.specs.States.{after_version, after_section, section_refused_at, after_start, after_data_count, after_code_start, body_at, after_body, after_end};
 ghost use Rattle.wasm_validator_states.specs.Views.{open_of, read_of, ended_spaces, stage_of, order_at, end_order_at, body_order_at, state_kept};
@@ -175,9 +175,9 @@ impl<A: Allocator + Copy> Validator<A> {
         self.id
     }
 
-    /// Whether a section or a body that was handed in was refused while a module was being read, or
-    /// memory was: then every further section but custom ones, and `end`, are refused. Elsewhere
-    /// each type that the validator holds is valid.
+    /// Whether a section or a body that was handed in was refused for its content while a module was
+    /// being read, or memory was: then every further section but custom ones, and `end`, are
+    /// refused. Elsewhere each type that the validator holds is valid.
     pub fn has_failed(&self) -> bool
         ensures failed { result ≡ is_failed self.now }
         ensures valid { HoldsValid self.now }
@@ -330,7 +330,7 @@ impl<A: Allocator + Copy> Validator<A> {
     ///
     /// Refused, at the section's start, where no module is being read or its code has started,
     /// which changes nothing. In a module refused, at the section's start, where a module would
-    /// have too many imports; at the first import that can't be read or keeps no rule; and where
+    /// have too many imports; at the first import that can't be read or breaks a rule; and where
     /// memory is. The validator has then failed.
     pub fn import_section<'a>(
         &mut self,
@@ -359,7 +359,7 @@ impl<A: Allocator + Copy> Validator<A> {
     ///
     /// Refused, at the section's start, where no module is being read or its code has started,
     /// which changes nothing. In a module refused, at the section's start, where a module would
-    /// have too many exports; at the first export that can't be read or keeps no rule, or whose
+    /// have too many exports; at the first export that can't be read or breaks a rule, or whose
     /// name is taken; and where memory is. The validator has then failed.
     pub fn export_section<'a>(
         &mut self,
@@ -421,7 +421,7 @@ impl<A: Allocator + Copy> Validator<A> {
     ///
     /// Refused, at the section's start, where no module is being read or its code has started,
     /// which changes nothing. In a module refused, at the section's start, where a module would
-    /// have too many tables; in the first table that can't be read or keeps no rule, or whose
+    /// have too many tables; in the first table that can't be read or breaks a rule, or whose
     /// initializer is no constant expression of its type; and where memory is. The validator has
     /// then failed.
     pub fn table_section<'a>(
@@ -457,7 +457,7 @@ impl<A: Allocator + Copy> Validator<A> {
     ///
     /// Refused, at the section's start, where no module is being read or its code has started,
     /// which changes nothing. In a module refused, at the section's start, where a module would
-    /// have too many memories; at the first memory that can't be read or keeps no rule; and where
+    /// have too many memories; at the first memory that can't be read or breaks a rule; and where
     /// memory is. The validator has then failed.
     pub fn memory_section(
         &mut self,
@@ -488,7 +488,7 @@ impl<A: Allocator + Copy> Validator<A> {
     ///
     /// Refused, at the section's start, where no module is being read or its code has started,
     /// which changes nothing. In a module refused, at the section's start, where a module would
-    /// have too many tags; at the first tag that can't be read or keeps no rule; and where memory
+    /// have too many tags; at the first tag that can't be read or breaks a rule; and where memory
     /// is. The validator has then failed.
     pub fn tag_section(&mut self, section: &SectionLimited<'_, TagType, A>) -> Result<(), Error<A>>
         ensures moves { Leaves result (after_section self.old 13 (count_of section.now)
@@ -528,7 +528,7 @@ impl<A: Allocator + Copy> Validator<A> {
     ///
     /// Refused, at the section's start, where no module is being read or its code has started,
     /// which changes nothing. In a module refused, at the section's start, where a module would
-    /// have too many globals; in the first global that can't be read or keeps no rule, or whose
+    /// have too many globals; in the first global that can't be read or breaks a rule, or whose
     /// initializer is no constant expression of its type; and where memory is. The validator has
     /// then failed.
     pub fn global_section<'a>(
@@ -589,7 +589,7 @@ impl<A: Allocator + Copy> Validator<A> {
     ///
     /// Refused, at the section's start, where no module is being read or its code has started,
     /// which changes nothing. In a module refused, at the section's start, where it would have too
-    /// many element segments; in the first segment that can't be read or keeps no rule, or whose
+    /// many element segments; in the first segment that can't be read or breaks a rule, or whose
     /// offset or items are no constant expressions of their types; and where memory is. The
     /// validator has then failed.
     pub fn element_section<'a>(
@@ -700,7 +700,7 @@ impl<A: Allocator + Copy> Validator<A> {
     ///
     /// Refused, at the section's start, where no module is being read, which changes nothing. In a
     /// module refused, at the section's start, where it would have too many data segments; in the
-    /// first segment that can't be read or keeps no rule, or whose offset is no constant expression
+    /// first segment that can't be read or breaks a rule, or whose offset is no constant expression
     /// of its type; and where memory is. The validator has then failed.
     pub fn data_section<'a>(
         &mut self,
