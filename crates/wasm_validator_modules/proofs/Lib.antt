@@ -5,14 +5,7 @@ pub use Rattle.wasm_validator_states.proofs.Resets
 pub use Rattle.wasm_validator_states.proofs.TableKept
 pub use Rattle.wasm_validator_states.proofs.HeldShown
 pub mod Cited
-pub mod Sections
-pub mod ToldMoves
-pub mod KeptTypes
-pub mod SectionMoves
 pub mod Runs
 pub mod Bodies
 pub mod Gathering
 pub mod KeptContext
-pub mod GoingOn
-pub mod Together
-pub mod HeldApart

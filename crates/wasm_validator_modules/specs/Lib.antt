@@ -12,5 +12,4 @@ pub use Rattle.wasm_validator_states.specs.Table
 pub mod Codes
 pub mod Views
 pub mod Ready
-pub mod OrderTold
 pub mod Given

@@ -1,5 +1,4 @@
 pub use Rattle.wasm_parser.proofs as WasmParser
-pub use Rattle.wasm_validator_type_list.proofs as WasmValidatorTypeList
 pub use Rattle.wasm_validator_canonical.proofs as WasmValidatorCanonical
 pub use Rattle.wasm_validator_sections.proofs as WasmValidatorSections
 pub use Rattle.wasm_validator_sections.proofs.WasmLawsCore as WasmLawsCore
@@ -28,3 +27,10 @@ pub mod ImportsAdded
 pub mod ExportsAdded
 pub mod TypesAdded
 pub mod HeldShown
+pub mod GoingOn
+pub mod KeptTypes
+pub mod HeldApart
+pub mod OpenModules
+pub mod SectionMoves
+pub mod ToldMoves
+pub mod Together

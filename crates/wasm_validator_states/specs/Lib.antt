@@ -21,3 +21,4 @@ pub mod SectionLaws
 pub mod Views
 pub mod Ready
 pub mod Taken
+pub mod OrderTold

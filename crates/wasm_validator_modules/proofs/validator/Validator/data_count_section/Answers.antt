@@ -5,11 +5,11 @@ use Rattle.wasm_validator_states.specs.WasmValidatorTypes.Spaces.{Spaces}
 use Rattle.wasm_validator_states.specs.WasmValidatorSections.WasmValidatorCore.declared.error.Error.{Error}
 use Rattle.wasm_validator_states.specs.WasmValidatorSections.WasmValidatorCore.Answers.{TypesSoFar}
 use Rattle.wasm_validator_states.specs.WasmValidatorSections.WasmValidatorCore.Told.{told_of_data_count}
-use Rattle.wasm_validator_modules.specs.OrderTold.{TellsDataCount}
-use Rattle.wasm_validator_modules.proofs.ToldMoves.{all_told_within, checked_told}
+use Rattle.wasm_validator_states.specs.OrderTold.{TellsDataCount}
+use Rattle.wasm_validator_states.proofs.ToldMoves.{all_told_within, checked_told}
 use Rattle.wasm_validator_states.specs.WasmValidatorSections.declared.module_state.ModuleState.{ModuleState}
 use Rattle.wasm_validator_states.specs.Ready.{AreIdsIn, AreValidIn, AreFirstIn}
-use Rattle.wasm_validator_modules.proofs.Sections.{open-ids, open-valid, open-first, kept-ids, kept-valid, kept-first}
+use Rattle.wasm_validator_states.proofs.OpenModules.{open-ids, open-valid, open-first, kept-ids, kept-valid, kept-first}
 use Rattle.wasm_validator_modules.proofs.validator.Validator.data_count_section.Goals as goal
 
 pub invariant_of-self : goal.invariant_of-self

@@ -9,7 +9,7 @@ use Rattle.wasm_validator_states.specs.WasmValidatorSections.WasmValidatorCore.R
 use Rattle.wasm_validator_states.specs.WasmValidatorSections.WasmLawsContexts.WasmValidatorCoreResources.ById.{AreFirstByIds}
 use Rattle.wasm_validator_states.specs.Standing.{Standing}
 use Rattle.wasm_validator_states.specs.Views.{ended_spaces}
-use Rattle.wasm_validator_modules.proofs.Sections.{ended_from_open, shown_from_open, read-valid, read-first, shown-valid, shown-ids}
+use Rattle.wasm_validator_states.proofs.OpenModules.{ended_from_open, shown_from_open, read-valid, read-first, shown-valid, shown-ids}
 use Rattle.wasm_validator_modules.proofs.validator.Validator.end.Goals as goal
 
 pub invariant_of-self : goal.invariant_of-self

@@ -1,4 +1,4 @@
-use Rattle.std.proofs.Common.{ap, ◌∙◌, sym, subst}
+use Rattle.std.proofs.Common.{ap, ◌∙◌}
 use Rattle.wasm_readers.specs.SectionsSeen.{count_of, bytes_of, section_start}
 use Rattle.wasm_readers_errors.specs.Refusals.{plain}
 use Rattle.wasm_readers_errors.specs.declared.error.Fault.TheVariants as fault
@@ -8,18 +8,14 @@ use Rattle.wasm_validator_states.specs.WasmValidatorTypeList.DefTypes.{types_of_
 use Rattle.wasm_validator_states.specs.WasmValidatorTypes.Spaces.{Spaces}
 use Rattle.wasm_validator_states.specs.WasmValidatorSections.WasmValidatorCore.declared.error.Error.{Error}
 use Rattle.wasm_validator_states.specs.WasmValidatorSections.WasmValidatorCore.Answers.{TypesSoFar, HasValidTypes}
-use Rattle.wasm_validator_states.specs.WasmValidatorSections.WasmValidatorCore.Ready.{AreIdsOf}
 use Rattle.wasm_validator_states.specs.WasmValidatorSections.Machine.{other_items, section_items}
-use Rattle.wasm_validator_states.specs.Ready.{AreIdsIn, AreValidIn, AreFirstIn}
 use Rattle.wasm_validator_states.specs.WasmValidatorSections.SectionsTold.{TellsGlobals}
 use Rattle.wasm_validator_states.specs.WasmValidatorSections.WasmValidatorReferences.References.{section_names}
 use Rattle.wasm_validator_states.specs.WasmValidatorSections.Noted.{naming}
-use Rattle.wasm_validator_states.specs.Standing.{Standing, Moves}
-use Rattle.wasm_validator_states.specs.States.{after_section}
-use Rattle.wasm_validator_states.specs.Views.{stage_of, order_at}
-use Rattle.wasm_validator_modules.proofs.SectionMoves.{adds_beside, section_moves}
-use Rattle.wasm_validator_modules.proofs.Sections.{open-ids, open-valid, open-first, kept-ids, kept-valid, kept-first}
-use Rattle.wasm_validator_modules.proofs.ToldMoves.{told_within, order_within}
+use Rattle.wasm_validator_states.specs.Views.{order_at}
+use Rattle.wasm_validator_states.proofs.SectionMoves.{section_answers, adds_beside}
+use Rattle.wasm_validator_states.proofs.OpenModules.{stays_ready, open-ids, open-first}
+use Rattle.wasm_validator_states.proofs.ToldMoves.{told_within, order_within}
 use Rattle.wasm_validator_modules.proofs.validator.Validator.global_section.Goals as goal
 
 pub take_globals-added-requires-clause-held : goal.take_globals-added-requires-clause-held
@@ -30,34 +26,16 @@ take_globals-added-requires-clause-first g c = open-first c.self.inside.types c.
 
 pub invariant_of-self : goal.invariant_of-self
 invariant_of-self g c =
-    let list = c.self.inside.types in
-    let features = c.self.inside.features in
-    let added = c.take_globals-added in
-    let before = c.in-Ok.state.«module» in
-    let ids = open-ids list c.self.inside.state before c.in-Ok.ensures.ok c.self.invariant.ids in
-    let valid = open-valid features list c.self.inside.state before c.in-Ok.ensures.ok c.self.invariant.valid in
-    let types = added.new.constants.types in
-    record {
-      list = c.self.invariant.list;
-      ids = subst (AreIdsIn list) (sym c.put_back.ensures.kept) (kept-ids list added.new.state added.result (subst (AreIdsOf list) (sym added.ensures.types) ids));
-      valid = subst (AreValidIn features list) (sym c.put_back.ensures.kept) (kept-valid list added.new.state features added.result valid);
-      first = subst (AreFirstIn list types) (sym c.put_back.ensures.kept) (kept-first list added.new.state types added.result added.ensures.first);
-    }
+    let stays = stays_ready c.self.inside.features c.self.inside.types c.take_globals-added.new.constants.types c.self.inside.state c.put_back.new.state c.in-Ok.state.«module» c.take_globals-added.new.state c.take_globals-added.result
+    c.in-Ok.ensures.ok c.self.invariant.ids c.self.invariant.valid c.take_globals-added.ensures.first c.take_globals-added.ensures.types c.put_back.ensures.kept in
+    record { list = c.self.invariant.list; ids = stays.0; valid = stays.1; first = stays.2 }
 
 pub returns-in-Ok-clause-moves : goal.returns-in-Ok-clause-moves
 returns-in-Ok-clause-moves g c =
-    let id = c.self.inside.id in
-    let features = c.self.inside.features in
-    let added = c.take_globals-added in
-    let count = count_of c.args.section.now in
-    let bytes = bytes_of c.args.section.now in
-    let types = types_of_list c.self.inside.types in
-    let before = c.in-Ok.state.«module» in
-    let new : Standing = record { id = id; features = features; stage = stage_of types c.put_back.new.state } in
-    subst (λ r. Moves r (after_section c.args.self.now 6 count bytes) c.args.self.now new) (sym c.put_back.ensures.same)
-    (section_moves id features types c.in-Ok.state (naming (section_names 6 count bytes)) (λ g. section_items g 6 count bytes) c.self.inside.state added.result types added.new.state c.args.self.now new
-    c.in-Ok.ensures.was c.self.view_is (λ i. record { id = id; features = features; stage = stage_of types (sym c.put_back.ensures.kept i) })
-    (adds_beside (HasValidTypes features) types added.result (other_items (features_of features) types 6 count bytes before) added.new.state.«module» added.ensures.added) added.ensures.noted)
+    section_answers c.self.inside.id c.self.inside.features (types_of_list c.self.inside.types) c.in-Ok.state (naming (section_names 6 (count_of c.args.section.now) (bytes_of c.args.section.now))) (λ g. section_items g 6 (count_of c.args.section.now) (bytes_of c.args.section.now))
+    c.self.inside.state c.put_back.new.state c.take_globals-added.result c.put_back.result (types_of_list c.self.inside.types) c.take_globals-added.new.state c.args.self.now c.in-Ok.ensures.was c.self.view_is
+    (adds_beside (HasValidTypes c.self.inside.features) (types_of_list c.self.inside.types) c.take_globals-added.result (other_items (features_of c.self.inside.features) (types_of_list c.self.inside.types) 6 (count_of c.args.section.now) (bytes_of c.args.section.now) c.in-Ok.state.«module») c.take_globals-added.new.state.«module» c.take_globals-added.ensures.added)
+    c.take_globals-added.ensures.noted c.put_back.ensures.kept c.put_back.ensures.same
 
 pub returns-in-Ok-clause-told : goal.returns-in-Ok-clause-told
 returns-in-Ok-clause-told g c =

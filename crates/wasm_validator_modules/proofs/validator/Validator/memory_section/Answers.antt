@@ -1,58 +1,35 @@
-use Rattle.std.proofs.Common.{refl, ap, ◌∙◌, sym, subst}
+use Rattle.std.proofs.Common.{refl, ap, ◌∙◌}
 use Rattle.wasm_readers.specs.SectionsSeen.{count_of, bytes_of, section_start}
 use Rattle.wasm_validator_states.specs.WasmValidatorTypeList.DefTypes.{types_of_list}
 use Rattle.wasm_validator_states.specs.WasmValidatorSections.WasmValidatorCore.Answers.{HasValidTypes, TypesSoFar}
-use Rattle.wasm_validator_states.specs.WasmValidatorSections.WasmValidatorCore.Ready.{AreIdsOf}
 use Rattle.wasm_spec_rules.specs.FeatureFlags.{features_of}
 use Rattle.wasm_validator_states.specs.WasmValidatorSections.Machine.{other_items, section_items}
-use Rattle.wasm_validator_states.specs.Ready.{AreIdsIn, AreValidIn, AreFirstIn}
 use Rattle.wasm_validator_states.specs.WasmValidatorSections.WasmValidatorReferences.References.{section_names}
 use Rattle.wasm_validator_states.specs.WasmValidatorSections.Noted.{naming}
-use Rattle.wasm_validator_states.specs.Standing.{Standing, Moves}
-use Rattle.wasm_validator_states.specs.States.{after_section}
-use Rattle.wasm_validator_states.specs.Views.{stage_of, order_at}
-use Rattle.wasm_validator_modules.proofs.SectionMoves.{adds_beside, section_moves, nothing_more}
-use Rattle.wasm_validator_modules.proofs.Sections.{open-ids, open-valid, open-first, kept-ids, kept-valid, kept-first}
+use Rattle.wasm_validator_states.specs.Views.{order_at}
+use Rattle.wasm_validator_states.proofs.SectionMoves.{section_answers, adds_beside, nothing_more}
+use Rattle.wasm_validator_states.proofs.OpenModules.{stays_ready, open-first}
 use Rattle.wasm_readers_errors.specs.WasmReadersFeatures.declared.features.WasmFeatures.{WasmFeatures}
 use Rattle.wasm_validator_states.specs.WasmValidatorTypes.Spaces.{Spaces}
 use Rattle.wasm_validator_states.specs.WasmValidatorSections.WasmValidatorCore.declared.error.Error.{Error}
 use Rattle.wasm_readers_errors.specs.Refusals.{plain}
 use Rattle.wasm_readers_errors.specs.declared.error.Fault.TheVariants as fault
 use Rattle.wasm_validator_states.specs.WasmValidatorSections.SectionsTold.{TellsMemories}
-use Rattle.wasm_validator_modules.proofs.ToldMoves.{told_within, order_within}
+use Rattle.wasm_validator_states.proofs.ToldMoves.{told_within, order_within}
 use Rattle.wasm_validator_modules.proofs.validator.Validator.memory_section.Goals as goal
 
 pub invariant_of-self : goal.invariant_of-self
 invariant_of-self g c =
-    let list = c.self.inside.types in
-    let features = c.self.inside.features in
-    let added = c.add_memories-added in
-    let before = c.in-Ok.state.«module» in
-    let ids = open-ids list c.self.inside.state before c.in-Ok.ensures.ok c.self.invariant.ids in
-    let valid = open-valid features list c.self.inside.state before c.in-Ok.ensures.ok c.self.invariant.valid in
-    let types = c.self.inside.constants.types in
-    let first = open-first list types c.self.inside.state before c.in-Ok.ensures.ok c.self.invariant.first in
-    record {
-      list = c.self.invariant.list;
-      ids = subst (AreIdsIn list) (sym c.put_back.ensures.kept) (kept-ids list (record c.in-Ok.state { «module» = added.new.opened }) added.result (subst (AreIdsOf list) (sym added.ensures.types) ids));
-      valid = subst (AreValidIn features list) (sym c.put_back.ensures.kept) (kept-valid list (record c.in-Ok.state { «module» = added.new.opened }) features added.result valid);
-      first = subst (AreFirstIn list types) (sym c.put_back.ensures.kept) (kept-first list (record c.in-Ok.state { «module» = added.new.opened }) types added.result first);
-    }
+    let stays = stays_ready c.self.inside.features c.self.inside.types c.self.inside.constants.types c.self.inside.state c.put_back.new.state c.in-Ok.state.«module» (record c.in-Ok.state { «module» = c.add_memories-added.new.opened }) c.add_memories-added.result
+    c.in-Ok.ensures.ok c.self.invariant.ids c.self.invariant.valid (open-first c.self.inside.types c.self.inside.constants.types c.self.inside.state c.in-Ok.state.«module» c.in-Ok.ensures.ok c.self.invariant.first) c.add_memories-added.ensures.types c.put_back.ensures.kept in
+    record { list = c.self.invariant.list; ids = stays.0; valid = stays.1; first = stays.2 }
 
 pub returns-in-Ok-clause-moves : goal.returns-in-Ok-clause-moves
 returns-in-Ok-clause-moves g c =
-    let id = c.self.inside.id in
-    let features = c.self.inside.features in
-    let added = c.add_memories-added in
-    let count = count_of c.args.section.now in
-    let bytes = bytes_of c.args.section.now in
-    let types = types_of_list c.self.inside.types in
-    let before = c.in-Ok.state.«module» in
-    let new : Standing = record { id = id; features = features; stage = stage_of types c.put_back.new.state } in
-    subst (λ r. Moves r (after_section c.args.self.now 5 count bytes) c.args.self.now new) (sym c.put_back.ensures.same)
-    (section_moves id features types c.in-Ok.state (naming (section_names 5 count bytes)) (λ g. section_items g 5 count bytes) c.self.inside.state added.result types (record c.in-Ok.state { «module» = added.new.opened }) c.args.self.now new
-    c.in-Ok.ensures.was c.self.view_is (λ i. record { id = id; features = features; stage = stage_of types (sym c.put_back.ensures.kept i) })
-    (adds_beside (HasValidTypes features) types added.result (other_items (features_of features) types 5 count bytes before) added.new.opened added.ensures.added) (nothing_more added.result (record c.in-Ok.state { «module» = added.new.opened }) c.in-Ok.state refl))
+    section_answers c.self.inside.id c.self.inside.features (types_of_list c.self.inside.types) c.in-Ok.state (naming (section_names 5 (count_of c.args.section.now) (bytes_of c.args.section.now))) (λ g. section_items g 5 (count_of c.args.section.now) (bytes_of c.args.section.now))
+    c.self.inside.state c.put_back.new.state c.add_memories-added.result c.put_back.result (types_of_list c.self.inside.types) (record c.in-Ok.state { «module» = c.add_memories-added.new.opened }) c.args.self.now c.in-Ok.ensures.was c.self.view_is
+    (adds_beside (HasValidTypes c.self.inside.features) (types_of_list c.self.inside.types) c.add_memories-added.result (other_items (features_of c.self.inside.features) (types_of_list c.self.inside.types) 5 (count_of c.args.section.now) (bytes_of c.args.section.now) c.in-Ok.state.«module») c.add_memories-added.new.opened c.add_memories-added.ensures.added)
+    (nothing_more c.add_memories-added.result (record c.in-Ok.state { «module» = c.add_memories-added.new.opened }) c.in-Ok.state refl) c.put_back.ensures.kept c.put_back.ensures.same
 
 pub returns-in-Ok-clause-told : goal.returns-in-Ok-clause-told
 returns-in-Ok-clause-told g c =

@@ -8,8 +8,8 @@ use Rattle.wasm_validator_states.specs.States.{BodyToValidate}
 use Rattle.wasm_validator_states.specs.Payloads.{Runs}
 use Rattle.wasm_validator_modules.specs.Given.{bodies_seen, bodies_given, latest_of, IsGivenIn, AllEndBy}
 use Rattle.wasm_validator_states.specs.WasmParser.Machine.{State}
-use Rattle.wasm_validator_modules.proofs.GoingOn.{refused_nothing}
-use Rattle.wasm_validator_modules.proofs.Together.{Together, is_on, together_step, refused_together, stuck_together}
+use Rattle.wasm_validator_states.proofs.GoingOn.{refused_nothing}
+use Rattle.wasm_validator_states.proofs.Together.{Together, is_on, together_step, refused_together, stuck_together}
 use Rattle.wasm_validator_modules.proofs.Bodies.{none_ends_by, given_wider, nothing_seen}
 use Rattle.wasm_validator_modules.proofs.KeptContext.{IsInKept, given_in, kept_in}
 use Rattle.wasm_validator_states.proofs.Growing.{same_features}

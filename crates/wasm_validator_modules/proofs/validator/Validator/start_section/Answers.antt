@@ -1,6 +1,6 @@
 use Rattle.std.proofs.Common.{sym, subst}
 use Rattle.wasm_validator_states.specs.Ready.{AreIdsIn, AreValidIn, AreFirstIn}
-use Rattle.wasm_validator_modules.proofs.Sections.{open-ids, open-valid, open-first, kept-ids, kept-valid, kept-first}
+use Rattle.wasm_validator_states.proofs.OpenModules.{open-ids, open-valid, open-first, kept-ids, kept-valid, kept-first}
 use Rattle.std.proofs.Common.{rules}
 use Rattle.wasm_readers_errors.specs.WasmReadersFeatures.declared.features.WasmFeatures.{WasmFeatures}
 use Rattle.wasm_validator_states.specs.WasmValidatorTypeList.DefTypes.{types_of_list}
@@ -8,8 +8,8 @@ use Rattle.wasm_validator_states.specs.WasmValidatorTypes.Spaces.{Spaces}
 use Rattle.wasm_validator_states.specs.WasmValidatorSections.WasmValidatorCore.declared.error.Error.{Error}
 use Rattle.wasm_validator_states.specs.WasmValidatorSections.WasmValidatorCore.Answers.{TypesSoFar}
 use Rattle.wasm_validator_states.specs.WasmValidatorSections.WasmValidatorCore.Told.{told_of_start}
-use Rattle.wasm_validator_modules.specs.OrderTold.{TellsStart}
-use Rattle.wasm_validator_modules.proofs.ToldMoves.{all_told_within, checked_told}
+use Rattle.wasm_validator_states.specs.OrderTold.{TellsStart}
+use Rattle.wasm_validator_states.proofs.ToldMoves.{all_told_within, checked_told}
 use Rattle.wasm_validator_modules.proofs.validator.Validator.start_section.Goals as goal
 
 pub check_start-answer-requires : goal.check_start-answer-requires

@@ -3,7 +3,7 @@ use Rattle.std.specs.Prelude.{IsSome}
 use Rattle.wasm_spec_rules.specs.FeatureFlags.{features_of}
 use Rattle.wasm_validator_states.specs.WasmValidatorTypeList.DefTypes.{types_of_list}
 use Rattle.wasm_validator_states.specs.WasmValidatorTypes.Shown.{shown_by}
-use Rattle.wasm_validator_modules.proofs.Sections.{lent-ids, shown_from_open, none-shows}
+use Rattle.wasm_validator_states.proofs.OpenModules.{lent-ids, shown_from_open, none-shows}
 use Rattle.wasm_validator_states.specs.Standing.{Standing, shown_at}
 use Rattle.wasm_validator_modules.proofs.validator.Validator.types.Goals as goal
 

@@ -3,10 +3,10 @@ use Rattle.std.proofs.Common.{◌≡◌, subst, ℕ}
 use Rattle.wasm_spec.specs.Features.{canonical}
 use Rattle.wasm_spec_rules.specs.FeatureFlags.{features_of}
 use Rattle.wasm_readers_errors.specs.WasmReadersFeatures.declared.features.WasmFeatures.{WasmFeatures}
-use Rattle.wasm_validator_states.specs.WasmValidatorTypeList.DefTypes.{types_of_list}
-use Rattle.wasm_validator_states.specs.WasmValidatorTypeList.Listing.{Listing}
-use Rattle.wasm_validator_states.specs.WasmValidatorCanonical.Apart.{AreApart}
-use Rattle.wasm_validator_states.specs.WasmValidatorSections.WasmValidatorCore.Answers.{TypesSoFar}
+use Rattle.wasm_validator_type_list.specs.DefTypes.{types_of_list}
+use Rattle.wasm_validator_type_list.specs.Listing.{Listing}
+use Rattle.wasm_validator_canonical.specs.Apart.{AreApart}
+use Rattle.wasm_validator_sections.specs.WasmValidatorCore.Answers.{TypesSoFar}
 use Rattle.wasm_validator_states.specs.declared.state.State.{State}
 use Rattle.wasm_validator_states.specs.declared.state.State.TheVariants.{Unparsed, Module, Code, End, Failed}
 use Rattle.wasm_validator_states.specs.Standing.{Standing, HoldsAt}

@@ -8,19 +8,19 @@ use Rattle.wasm_spec.specs.Values.{name_at, u32_at, bytes_at, sized_at}
 use Rattle.wasm_spec.specs.Framing as parts
 use Rattle.wasm_spec.specs.Framing.{Piece, Version, Custom, Counted, Start, DataCount, CodeStart, CodeEntry, Unknown, magic, u16_at, section_at, piece_of, number_of, agrees}
 use Rattle.wasm_spec_rules.specs.FeatureFlags.{features_of}
-use Rattle.wasm_validator_states.specs.WasmParser.Machine as parser
-use Rattle.wasm_validator_states.specs.WasmParser.Machine.{may_follow, State, at_header, at_sections, version_of, numbers_of, header_of, entry_of, opened, behind, contents_of, alone_of, ending_of, part_of, next_at, next_of}
-use Rattle.wasm_validator_states.proofs.WasmParser.Steps.{then_some, map_some, gives, guarded, chosen, alone_is, which}
-use Rattle.wasm_validator_states.specs.WasmValidatorSections.WasmValidatorReferences.References.{section_names}
-use Rattle.wasm_validator_states.specs.WasmValidatorTypes.Spaces.{Spaces, no_spaces}
-use Rattle.wasm_validator_states.specs.WasmValidatorSections.WasmValidatorCore.Answers.{TypesSoFar}
-use Rattle.wasm_validator_states.specs.WasmValidatorSections.Machine.{section_items, start_item, data_count_item, beside}
-use Rattle.wasm_validator_states.specs.WasmValidatorSections.Noted.{Noted, nothing_noted, naming, counting, noting_nothing}
-use Rattle.wasm_validator_states.specs.WasmValidatorSections.Started.{starting, bodies_left}
+use Rattle.wasm_parser.specs.Machine as parser
+use Rattle.wasm_parser.specs.Machine.{may_follow, State, at_header, at_sections, version_of, numbers_of, header_of, entry_of, opened, behind, contents_of, alone_of, ending_of, part_of, next_at, next_of}
+use Rattle.wasm_parser.proofs.Steps.{then_some, map_some, gives, guarded, chosen, alone_is, which}
+use Rattle.wasm_validator_sections.specs.WasmValidatorReferences.References.{section_names}
+use Rattle.wasm_validator_types.specs.Spaces.{Spaces, no_spaces}
+use Rattle.wasm_validator_sections.specs.WasmValidatorCore.Answers.{TypesSoFar}
+use Rattle.wasm_validator_sections.specs.Machine.{section_items, start_item, data_count_item, beside}
+use Rattle.wasm_validator_sections.specs.Noted.{Noted, nothing_noted, naming, counting, noting_nothing}
+use Rattle.wasm_validator_sections.specs.Started.{starting, bodies_left}
 use Rattle.wasm_validator_states.specs.Standing.{Stage, unparsed, in_module, in_code, ended, failed, Standing, shown_at, within, within_all, at_stage, refused_at, read_refused_at, body_refused_at, ended_at, IsEnded, HasNotEnded}
 use Rattle.wasm_validator_states.specs.States.{begun, code_started, body_taken, after_piece, is_barred, left_by, IsBeforeEnd}
 use Rattle.wasm_validator_states.proofs.Growing.{within_some, body_some}
-use Rattle.wasm_validator_modules.proofs.GoingOn.{IsOn}
+use Rattle.wasm_validator_states.proofs.GoingOn.{IsOn}
 
 -- where a piece leads the parser: the header to the sections, and each of them to more, up to the end
 abbrev Leads : parser.Stage → Piece → parser.Stage → Type 0

@@ -6,16 +6,16 @@ use Rattle.std.specs.declared.result.Result.TheVariants as results
 use Rattle.wasm_spec.specs.TypeLaws.{HasNoRepetition}
 use Rattle.wasm_readers_errors.specs.WasmReadersFeatures.declared.features.WasmFeatures.{WasmFeatures}
 use Rattle.wasm_readers_types.specs.declared.types.SubType.{SubType}
-use Rattle.wasm_validator_states.specs.WasmValidatorTypeList.Listing.{Listing}
-use Rattle.wasm_validator_states.specs.WasmValidatorTypeList.Listable.{AreListable}
-use Rattle.wasm_validator_states.specs.WasmValidatorTypeList.DefTypes.{def_types, types_of_list}
-use Rattle.wasm_validator_states.specs.WasmValidatorTypes.Spaces.{Spaces}
-use Rattle.wasm_validator_states.specs.WasmValidatorSections.WasmValidatorCore.Answers.{TypesSoFar, AddsWhere, HasValidTypes}
-use Rattle.wasm_validator_states.specs.WasmValidatorSections.WasmValidatorCore.declared.error.Error.{Error}
-use Rattle.wasm_validator_states.specs.WasmValidatorSections.WasmLawsContexts.WasmValidatorCoreResources.ById.{AreFirstByIds}
-use Rattle.wasm_validator_states.proofs.WasmValidatorSections.WasmLawsContexts.GrownLists.{first_types_stay_first}
-use Rattle.wasm_validator_states.specs.WasmValidatorSections.declared.module_state.ModuleState.{ModuleState}
-use Rattle.wasm_validator_states.specs.WasmValidatorSections.Machine.{type_items}
+use Rattle.wasm_validator_type_list.specs.Listing.{Listing}
+use Rattle.wasm_validator_type_list.specs.Listable.{AreListable}
+use Rattle.wasm_validator_type_list.specs.DefTypes.{def_types, types_of_list}
+use Rattle.wasm_validator_types.specs.Spaces.{Spaces}
+use Rattle.wasm_validator_sections.specs.WasmValidatorCore.Answers.{TypesSoFar, AddsWhere, HasValidTypes}
+use Rattle.wasm_validator_sections.specs.WasmValidatorCore.declared.error.Error.{Error}
+use Rattle.wasm_validator_sections.specs.WasmLawsContexts.WasmValidatorCoreResources.ById.{AreFirstByIds}
+use Rattle.wasm_validator_sections.proofs.WasmLawsContexts.GrownLists.{first_types_stay_first}
+use Rattle.wasm_validator_sections.specs.declared.module_state.ModuleState.{ModuleState}
+use Rattle.wasm_validator_sections.specs.Machine.{type_items}
 use Rattle.wasm_validator_states.specs.Ready.{AreFirstIn}
 use Rattle.wasm_validator_states.specs.Views.{state_kept}
 use Rattle.wasm_validator_states.proofs.Growing as growing

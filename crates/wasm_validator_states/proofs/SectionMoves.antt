@@ -7,14 +7,14 @@ use Rattle.std.specs.Prelude.{OnOk}
 use Rattle.std.specs.declared.result.Result.{Result}
 use Rattle.std.specs.declared.result.Result.TheVariants as results
 use Rattle.wasm_readers_errors.specs.WasmReadersFeatures.declared.features.WasmFeatures.{WasmFeatures}
-use Rattle.wasm_validator_states.specs.WasmValidatorTypes.Spaces.{Spaces}
-use Rattle.wasm_validator_states.specs.WasmValidatorSections.WasmValidatorCore.declared.error.Error.{Error}
-use Rattle.wasm_validator_states.specs.WasmValidatorSections.WasmValidatorCore.declared.error.Error.TheVariants.{Refused, DuplicateExport, InFunction, OutOfMemory}
-use Rattle.wasm_validator_states.specs.WasmValidatorSections.WasmValidatorCore.Answers.{TypesSoFar, IsNowhere, Adds, AddsWhere, HasValidTypes}
+use Rattle.wasm_validator_types.specs.Spaces.{Spaces}
+use Rattle.wasm_validator_sections.specs.WasmValidatorCore.declared.error.Error.{Error}
+use Rattle.wasm_validator_sections.specs.WasmValidatorCore.declared.error.Error.TheVariants.{Refused, DuplicateExport, InFunction, OutOfMemory}
+use Rattle.wasm_validator_sections.specs.WasmValidatorCore.Answers.{TypesSoFar, IsNowhere, Adds, AddsWhere, HasValidTypes}
 use Rattle.wasm_validator_states.specs.declared.state.State.{State}
 use Rattle.wasm_validator_states.specs.declared.state.State.TheVariants.{Module}
-use Rattle.wasm_validator_states.specs.WasmValidatorSections.declared.module_state.ModuleState.{ModuleState}
-use Rattle.wasm_validator_states.specs.WasmValidatorSections.Noted.{Noted, noted_of}
+use Rattle.wasm_validator_sections.specs.declared.module_state.ModuleState.{ModuleState}
+use Rattle.wasm_validator_sections.specs.Noted.{Noted, noted_of}
 use Rattle.wasm_validator_states.specs.Standing.{Stage, in_module, Standing, HoldsValid, refused_at, read_refused_at, within, at_stage, Moves}
 use Rattle.wasm_validator_states.specs.States.{section_refused_at}
 use Rattle.wasm_validator_states.specs.Views.{stage_of, state_kept}
@@ -50,6 +50,13 @@ module _ {T A : Type 0} (id : ℕ) (features : WasmFeatures) (types : TypesSoFar
       let start : Standing = record { id = id; features = features; stage = in_module types n.«module» (noted_of n) } in
       let here : start ≡ old = (λ i. record { id = id; features = features; stage = stage_of types (sym o i) }) ∙ was in
       subst (λ (s : Standing). moves_by r s new) here (subst (λ (t : Standing). moves_by r start t) is (moves_here id features types n.«module» (noted_of n) note (f features) r types' m' a k))
+
+  -- and of what the caller is told
+  pub section_answers : (s new : State A) (r q : Result T (Error A)) (types' : TypesSoFar) (m' : ModuleState A) (old : Standing) → s ≡ Module n → record { id = id; features = features; stage = stage_of types s } ≡ old
+      → AddsWhere (HasValidTypes features) r (f features (types, n.«module»)) (types', m'.«module») → OnOk r (noted_of m' ≡ note (noted_of n)) → new ≡ state_kept r m' → q ≡ r → moves_by q old (record { id = id; features = features; stage = stage_of types' new })
+  section_answers s new r q types' m' old o was a k kept same =
+      subst (λ w. moves_by w old (record { id = id; features = features; stage = stage_of types' new })) (sym same)
+      (section_moves s r types' m' old (record { id = id; features = features; stage = stage_of types' new }) o was (λ i. record { id = id; features = features; stage = stage_of types' (sym kept i) }) a k)
 
 -- where nothing more is noted
 pub nothing_more : {T A : Type 0} (r : Result T (Error A)) (m n : ModuleState A) → noted_of m ≡ noted_of n → OnOk r (noted_of m ≡ noted_of n)

@@ -11,13 +11,13 @@ use Rattle.wasm_readers_errors.specs.WasmReadersFeatures.declared.features.WasmF
 use Rattle.wasm_readers_errors.specs.WasmReadersFeatures.declared.features.TheConstants.WasmFeatures.{COMPONENT_MODEL, EXCEPTIONS}
 use Rattle.wasm_readers.specs.SectionsSeen.{section_start}
 use Rattle.wasm_readers.specs.declared.section_limited.SectionLimited.{SectionLimited}
-use Rattle.wasm_validator_states.specs.WasmValidatorTypes.Spaces.{Spaces}
-use Rattle.wasm_validator_states.specs.WasmValidatorSections.WasmValidatorCore.declared.error.Error.{Error}
-use Rattle.wasm_validator_states.specs.WasmValidatorSections.WasmValidatorCore.declared.error.Error.TheVariants.{Refused}
-use Rattle.wasm_validator_states.specs.WasmValidatorSections.WasmValidatorCore.Answers.{TypesSoFar}
-use Rattle.wasm_validator_states.specs.WasmValidatorSections.WasmValidatorCore.Told.{told_of_start, told_of_data_count}
+use Rattle.wasm_validator_types.specs.Spaces.{Spaces}
+use Rattle.wasm_validator_sections.specs.WasmValidatorCore.declared.error.Error.{Error}
+use Rattle.wasm_validator_sections.specs.WasmValidatorCore.declared.error.Error.TheVariants.{Refused}
+use Rattle.wasm_validator_sections.specs.WasmValidatorCore.Answers.{TypesSoFar}
+use Rattle.wasm_validator_sections.specs.WasmValidatorCore.Told.{told_of_start, told_of_data_count}
 use Rattle.wasm_validator_states.specs.Standing.{Stage, unparsed, in_module, in_code, ended, failed}
-use Rattle.wasm_validator_states.specs.WasmValidatorSections.SectionsTold.{Either, TellsAt, TellsTags}
+use Rattle.wasm_validator_sections.specs.SectionsTold.{Either, TellsAt, TellsTags}
 
 -- what is told of the order where a section may not come
 abbrev pub order_told : Stage → OutOfOrder

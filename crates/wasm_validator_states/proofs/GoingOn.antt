@@ -1,11 +1,11 @@
 -- A parser that goes on has refused nothing.
 use Rattle.std.proofs.Common.{◌≡◌, refl, ap, None}
-use Rattle.wasm_validator_states.specs.WasmParser.Machine.{Stage, at_header, at_sections, ended, failed}
-use Rattle.wasm_validator_states.specs.WasmParser.Places.{refused_with}
-use Rattle.wasm_validator_states.specs.WasmParser.Seen.{stage_of, state}
-use Rattle.wasm_validator_states.specs.WasmParser.declared.parser.ParseAll.{ParseAll}
-use Rattle.wasm_validator_states.specs.WasmParser.declared.parser.Progress.{Progress}
-use Rattle.wasm_validator_states.specs.WasmParser.declared.parser.Progress.TheVariants as stages
+use Rattle.wasm_parser.specs.Machine.{Stage, at_header, at_sections, ended, failed}
+use Rattle.wasm_parser.specs.Places.{refused_with}
+use Rattle.wasm_parser.specs.Seen.{stage_of, state}
+use Rattle.wasm_parser.specs.declared.parser.ParseAll.{ParseAll}
+use Rattle.wasm_parser.specs.declared.parser.Progress.{Progress}
+use Rattle.wasm_parser.specs.declared.parser.Progress.TheVariants as stages
 
 -- nothing was refused
 abbrev pub IsOn : Stage → Type 0

@@ -7,18 +7,18 @@ use Rattle.wasm_readers_errors.specs.Refusals.{plain, refused}
 use Rattle.wasm_readers_errors.specs.declared.error.Fault.TheVariants as fault
 use Rattle.wasm_readers_errors.specs.declared.error.Refusal.{Refusal}
 use Rattle.wasm_readers_errors.specs.WasmReadersFeatures.declared.features.WasmFeatures.{WasmFeatures}
-use Rattle.wasm_validator_states.specs.WasmValidatorTypes.Spaces.{Spaces}
-use Rattle.wasm_validator_states.specs.WasmValidatorSections.WasmValidatorCore.declared.error.Error.{Error}
-use Rattle.wasm_validator_states.specs.WasmValidatorSections.WasmValidatorCore.declared.error.Error.TheVariants.{Refused}
-use Rattle.wasm_validator_states.specs.WasmValidatorSections.WasmValidatorCore.Answers.{TypesSoFar}
+use Rattle.wasm_validator_types.specs.Spaces.{Spaces}
+use Rattle.wasm_validator_sections.specs.WasmValidatorCore.declared.error.Error.{Error}
+use Rattle.wasm_validator_sections.specs.WasmValidatorCore.declared.error.Error.TheVariants.{Refused}
+use Rattle.wasm_validator_sections.specs.WasmValidatorCore.Answers.{TypesSoFar}
 use Rattle.wasm_validator_states.specs.declared.state.State.{State}
 use Rattle.wasm_validator_states.specs.declared.state.State.TheVariants.{Unparsed, Module, Code, End, Failed}
-use Rattle.wasm_validator_states.specs.WasmValidatorSections.Noted.{Noted}
+use Rattle.wasm_validator_sections.specs.Noted.{Noted}
 use Rattle.wasm_validator_states.specs.Standing.{in_module, Standing}
-use Rattle.wasm_validator_states.specs.WasmValidatorSections.Noted.{noted_of}
+use Rattle.wasm_validator_sections.specs.Noted.{noted_of}
 use Rattle.wasm_validator_states.specs.Views.{open_of, stage_of, order_at}
-use Rattle.wasm_validator_modules.specs.OrderTold.{TellsWithin}
-use Rattle.wasm_validator_states.specs.WasmValidatorSections.SectionsTold.{OfContent, TellsAt}
+use Rattle.wasm_validator_states.specs.OrderTold.{TellsWithin}
+use Rattle.wasm_validator_sections.specs.SectionsTold.{OfContent, TellsAt}
 
 -- a module is being read, before the start of its code
 open_stage : {A : Type 0} (types : TypesSoFar) (s : State A) (m : Spaces) → open_of s ≡ Some m → (k : Noted) × (stage_of types s ≡ in_module types m k)

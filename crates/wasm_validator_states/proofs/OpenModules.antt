@@ -1,23 +1,23 @@
--- How a section moves a validator.
+-- A module that is being read: what its state shows and holds, and what stays true of it where a section is added.
 use Rattle.std.proofs.Common.{◌≡◌, refl, sym, ap, subst, ◌∙◌, ℕ, ◌<◌, List, Some, None}
 use Rattle.wasm_readers_errors.specs.WasmReadersFeatures.declared.features.WasmFeatures.{WasmFeatures}
 use Rattle.wasm_readers_types.specs.declared.types.SubType.{SubType}
-use Rattle.wasm_validator_states.specs.WasmValidatorSections.WasmLawsContexts.WasmValidatorCoreResources.ById.{AreFirstByIds}
-use Rattle.wasm_validator_states.specs.WasmValidatorTypes.Spaces.{Spaces}
+use Rattle.wasm_validator_sections.specs.WasmLawsContexts.WasmValidatorCoreResources.ById.{AreFirstByIds}
+use Rattle.wasm_validator_types.specs.Spaces.{Spaces}
 use Rattle.wasm_validator_states.specs.declared.state.State.{State}
 use Rattle.wasm_validator_states.specs.declared.state.State.TheVariants.{Unparsed, Module, Code, End, Failed}
-use Rattle.wasm_validator_states.specs.WasmValidatorSections.WasmValidatorCore.Answers.{TypesSoFar}
+use Rattle.wasm_validator_sections.specs.WasmValidatorCore.Answers.{TypesSoFar}
 use Rattle.wasm_spec.specs.Features.{Features}
 use Rattle.wasm_spec_rules.specs.FeatureFlags.{features_of}
-use Rattle.wasm_validator_states.specs.WasmValidatorCanonical.Groups.{AreValid}
-use Rattle.wasm_validator_states.specs.WasmValidatorTypeList.DefTypes.{types_of_list}
-use Rattle.wasm_validator_states.specs.WasmValidatorTypes.Shown.{Shown, HoldsIds}
+use Rattle.wasm_validator_canonical.specs.Groups.{AreValid}
+use Rattle.wasm_validator_type_list.specs.DefTypes.{types_of_list}
+use Rattle.wasm_validator_types.specs.Shown.{Shown, HoldsIds}
 use Rattle.wasm_validator_states.specs.Standing.{shown_at, Standing, ended}
-use Rattle.wasm_validator_states.specs.WasmValidatorTypeList.Listing.{Listing, types_in}
-use Rattle.wasm_validator_states.specs.WasmValidatorTypeList.Listing as lists
-use Rattle.wasm_validator_states.proofs.WasmValidatorTypeList.DefTypes.{length-def_types}
-use Rattle.wasm_validator_states.specs.WasmValidatorSections.WasmValidatorCore.Ready.{AreIdsOf}
-use Rattle.wasm_validator_states.specs.WasmValidatorSections.declared.module_state.ModuleState.{ModuleState}
+use Rattle.wasm_validator_type_list.specs.Listing.{Listing, types_in}
+use Rattle.wasm_validator_type_list.specs.Listing as lists
+use Rattle.wasm_validator_type_list.proofs.DefTypes.{length-def_types}
+use Rattle.wasm_validator_sections.specs.WasmValidatorCore.Ready.{AreIdsOf}
+use Rattle.wasm_validator_sections.specs.declared.module_state.ModuleState.{ModuleState}
 use Rattle.wasm_validator_states.specs.Ready.{AreIdsIn, AreValidIn, AreFirstIn}
 use Rattle.wasm_validator_states.specs.States.{module_ended, after_end}
 use Rattle.wasm_validator_states.specs.Views.{open_of, read_of, stage_of, state_kept}
@@ -25,7 +25,7 @@ use Rattle.std.specs.List.{All}
 use Rattle.std.specs.Prelude.{OnOk}
 use Rattle.std.specs.declared.result.Result.{Result}
 use Rattle.std.specs.declared.result.Result.TheVariants as results
-use Rattle.wasm_validator_states.specs.WasmValidatorSections.WasmValidatorCore.declared.error.Error.{Error}
+use Rattle.wasm_validator_sections.specs.WasmValidatorCore.declared.error.Error.{Error}
 
 -- the end of a module that is being read
 module _ {A : Type 0} where
@@ -156,3 +156,10 @@ module _ {T A : Type 0} (list : Listing A) (m : ModuleState A) where
   pub kept-valid : (features : WasmFeatures) (r : Result T (Error A)) → AreValid (features_of features) (types_of_list list) → AreValidIn features list (state_kept r m)
   kept-valid features (results.Ok x) v = v
   kept-valid features (results.Err e) v = tt
+
+-- what stays true of the state where a section was added that leaves the list
+module _ {T A : Type 0} (features : WasmFeatures) (list : Listing A) (types : List (SubType A)) (s new : State A) (before : Spaces) (m : ModuleState A) (r : Result T (Error A)) where
+  pub stays_ready : open_of s ≡ Some before → AreIdsIn list s → AreValidIn features list s → AreFirstByIds list.groups types → m.«module».types ≡ before.types → new ≡ state_kept r m → AreIdsIn list new × AreValidIn features list new × AreFirstIn list types new
+  stays_ready o ids valid first same kept =
+      subst (λ (n : State A). AreIdsIn list n × AreValidIn features list n × AreFirstIn list types n) (sym kept)
+      (kept-ids list m r (subst (AreIdsOf list) (sym same) (open-ids list s before o ids)), kept-valid list m features r (open-valid features list s before o valid), kept-first list m types r first)
