@@ -14,8 +14,8 @@ use std::alloc::{Allocator, Global};
 use wasm_items::readers::{BinaryReader, SectionLimited};
 use wasm_items::readers_errors::{Fault, Malformed, Refusal};
 
-/// A parser of modules and components, from its allocator and the offset at which the input begins.
-/// Parsing allocates nothing: the allocator is for the sections' items.
+/// A parser of modules, and of the header of components, from its allocator and the offset at which
+/// the input begins. Parsing allocates nothing: the allocator is for the sections' items.
 #[derive(Drop)]
 pub struct Parser<A: Allocator = Global> {
     alloc: A,
@@ -178,7 +178,7 @@ impl<A: Allocator + Copy> Parser<A> {
         Parser { alloc, offset }
     }
 
-    /// The payloads of the module or component that these bytes are.
+    /// The payloads of the module that these bytes are.
     pub fn parse_all<'a>(self, bytes: &'a [u8]) -> ParseAll<'a, A>
         requires { offset_of self + length bytes.now < 2 ^ 64 }
         ensures begun { state result ≡ start bytes.now }

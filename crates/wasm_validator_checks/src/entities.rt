@@ -109,7 +109,7 @@ fn listed_global(ids: &[CoreTypeId], ty: GlobalType) -> GlobalType
 ///
 /// # Errors
 ///
-/// Refused, at `offset`, where the type keeps no rule on the types of these ids.
+/// Refused, at `offset`, where the type breaks a rule on the types of these ids.
 pub fn listed_type_ref<A: Allocator + Copy>(
     features: WasmFeatures,
     list: &TypeList<A>,

@@ -141,7 +141,7 @@ impl<A: Allocator + Copy> Module<A> {
     ///
     /// # Errors
     ///
-    /// Refused where the import keeps no rule on what was read so far, or passes a limit, and where
+    /// Refused where the import breaks a rule on what was read so far, or passes a limit, and where
     /// memory is refused. The module is then only to be dropped.
     pub fn add_import(
         &mut self,
@@ -194,7 +194,7 @@ impl<A: Allocator + Copy> Module<A> {
     ///
     /// # Errors
     ///
-    /// Refused where the type keeps no rule, where there would be too many tables, and where memory
+    /// Refused where the type breaks a rule, where there would be too many tables, and where memory
     /// is refused. The module is then only to be dropped.
     pub fn add_table(
         &mut self,
@@ -221,7 +221,7 @@ impl<A: Allocator + Copy> Module<A> {
     ///
     /// # Errors
     ///
-    /// Refused, at `offset`, where the type keeps no rule on the types of the module.
+    /// Refused, at `offset`, where the type breaks a rule on the types of the module.
     pub fn check_table(
         &self,
         features: WasmFeatures,
@@ -270,7 +270,7 @@ impl<A: Allocator + Copy> Module<A> {
     ///
     /// # Errors
     ///
-    /// Refused where the type keeps no rule, where there would be too many memories, and where
+    /// Refused where the type breaks a rule, where there would be too many memories, and where
     /// memory is refused. The module is then only to be dropped.
     pub fn add_memory(
         &mut self,
@@ -329,7 +329,7 @@ impl<A: Allocator + Copy> Module<A> {
     ///
     /// # Errors
     ///
-    /// Refused where the type keeps no rule, where there would be too many tags, and where memory
+    /// Refused where the type breaks a rule, where there would be too many tags, and where memory
     /// is refused. The module is then only to be dropped.
     pub fn add_tag(
         &mut self,
@@ -354,7 +354,7 @@ impl<A: Allocator + Copy> Module<A> {
     ///
     /// # Errors
     ///
-    /// Refused where the export keeps no rule on what was read so far, or passes a limit, and where
+    /// Refused where the export breaks a rule on what was read so far, or passes a limit, and where
     /// memory is refused. The module is then only to be dropped.
     pub fn add_export(
         &mut self,
@@ -430,7 +430,7 @@ impl<A: Allocator + Copy> Module<A> {
     ///
     /// # Errors
     ///
-    /// Refused, at `offset`, where the type keeps no rule on the types of the module.
+    /// Refused, at `offset`, where the type breaks a rule on the types of the module.
     pub fn check_type_ref(
         &self,
         features: WasmFeatures,

@@ -48,7 +48,7 @@ pub struct FuncToValidate<T> {
 #[derive(Drop)]
 pub struct FuncValidatorAllocations<A: Allocator = Global>(OperatorValidatorAllocations<A>);
 
-/// The validation of one function body. Once something was refused it has failed, and refuses all.
+/// The validation of one function body. Once any call but `try_op` was refused, it refuses all.
 pub struct FuncValidator<T, A: Allocator = Global> {
     pub(crate) validator: OperatorValidator<A>,
     pub(crate) resources: T,
@@ -421,7 +421,7 @@ impl<T: WasmModuleResources, A: Allocator> FuncValidator<T, A> {
         self.validator.get_control_frame(depth)
     }
 
-    /// Whether something was refused.
+    /// Whether something was refused, other than by [`FuncValidator::try_op`].
     pub fn has_failed(&self) -> bool
         ensures { result ≡ self.now.validator.failed }
     {

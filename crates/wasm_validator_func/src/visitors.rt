@@ -28,7 +28,7 @@ impl<T: WasmModuleResources, A: Allocator> FuncValidator<T, A> {
         OperatorVisitor::new(&mut self.validator, &self.resources)
     }
 
-    /// As [`FuncValidator::visitor`]: `v128.const` is the only vector operator that there is.
+    /// The same visitor as [`FuncValidator::visitor`], which takes operators on vectors too.
     pub fn simd_visitor(&mut self) -> OperatorVisitor<'_, '_, T, A>
         ensures* writes_back { sem 𝓛 (Lends (the_row T.row A.row A.Allocator)
             (operators_row A.row A.Allocator) self.entry result.validator

@@ -56,7 +56,7 @@ impl<A: Allocator + Copy> ModuleState<A> {
     ///
     /// # Errors
     ///
-    /// Refused where the type keeps no rule, where there would be too many tables, and where memory
+    /// Refused where the type breaks a rule, where there would be too many tables, and where memory
     /// is refused. The module is then only to be dropped.
     pub fn add_table_of_type(
         &mut self,
