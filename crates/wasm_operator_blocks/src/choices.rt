@@ -116,7 +116,7 @@ pub fn select<A: Allocator, T: WasmModuleResources>(
 /// # Errors
 ///
 /// Refuses it without the proposal of reference types (`ReferenceTypes`), a type that the features
-/// or the module don't have (`ValueType`), and operands that aren't of these types (`Operand`).
+/// don't allow or the module doesn't have, and operands that aren't of these types (`Operand`).
 /// Where it is refused, all stays.
 #[tactic(auto, using(crate::proofs::Cited::acts, crate::proofs::Choosing::typed_selects))]
 pub fn select_of<A: Allocator, T: WasmModuleResources>(
@@ -145,7 +145,7 @@ pub fn select_of<A: Allocator, T: WasmModuleResources>(
                 ValTypes::One(word),
             )
         }
-        Err(_) => Err(OperatorError::Refused(OperatorFault::new(OperatorRule::ValueType))),
+        Err(refusal) => Err(OperatorError::Refused(OperatorFault::written_type(refusal))),
     }
 }
 

@@ -42,7 +42,7 @@ fn resolve_value<'a, A: Allocator, T: WasmModuleResources>(
             word: BlockWord::value(TypeWord::new(named)),
             takes: ValTypes::None,
         }),
-        Err(_) => Err(OperatorFault::new(OperatorRule::ValueType)),
+        Err(refusal) => Err(OperatorFault::written_type(refusal)),
     }
 }
 

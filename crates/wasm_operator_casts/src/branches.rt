@@ -23,7 +23,7 @@ use wasm_operator_references::operator_stacks::Stacks;
 use wasm_operator_references::readers_errors::WasmFeatures;
 use wasm_operator_references::readers_types::{RefType, ValType};
 use wasm_operator_references::validator_resources::{WasmModuleResources, check_ref_type};
-use wasm_operator_references::{matches_abstract, unknown_type};
+use wasm_operator_references::{disallowed, matches_abstract, unknown_type};
 
 /// Whether the features allow a reference type as it is written.
 #[tactic(auto, using(crate::proofs::Casting::allowances))]
@@ -74,6 +74,27 @@ fn casts<A: Allocator, T: WasmModuleResources>(
     }
 }
 
+/// The refusal of a cast to a type that may not be cast to, with the proposal under which it might be.
+#[inline(never)]
+fn mismatched<A: Allocator, T: WasmModuleResources>(
+    stacks: &Stacks<A>,
+    resources: &T,
+    from: RefType,
+    to: RefType,
+) -> OperatorFault
+    requires { IsWrittenHeap (ref_of from).heap }
+{
+    if has(stacks, WasmFeatures::CUSTOM_DESCRIPTORS) {
+        return OperatorFault::new(OperatorRule::CastTypes);
+    }
+    match top_of(resources, from.heap_type()) {
+        Some((shared, top)) if matches_abstract(resources, to, shared, top) => {
+            OperatorFault::new(OperatorRule::CastTypesOfHierarchy)
+        }
+        _ => OperatorFault::new(OperatorRule::CastTypes),
+    }
+}
+
 /// The two types of a branch on a cast with identities, where the one may be cast to the other.
 #[tactic(auto, using(crate::proofs::Cited::acts, crate::proofs::Casting::castables))]
 fn cast_types<A: Allocator, T: WasmModuleResources>(
@@ -92,11 +113,11 @@ fn cast_types<A: Allocator, T: WasmModuleResources>(
     }
     let source_allowed = is_allowed(stacks, from);
     if !source_allowed {
-        return Err(OperatorFault::new(OperatorRule::ValueType));
+        return Err(disallowed(stacks, from.is_nullable(), from.heap_type()));
     }
     let target_allowed = is_allowed(stacks, to);
     if !target_allowed {
-        return Err(OperatorFault::new(OperatorRule::ValueType));
+        return Err(disallowed(stacks, to.is_nullable(), to.heap_type()));
     }
     let named_from = match resolve_type(resources, from) {
         Some(ty) => ty,
@@ -107,7 +128,7 @@ fn cast_types<A: Allocator, T: WasmModuleResources>(
         None => return Err(unknown_type(to.heap_type())),
     };
     if !casts(stacks, resources, from, named_from, named_to) {
-        return Err(OperatorFault::new(OperatorRule::CastTypes));
+        return Err(mismatched(stacks, resources, from, named_to));
     }
     Ok((named_from, named_to))
 }

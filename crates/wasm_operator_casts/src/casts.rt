@@ -18,7 +18,7 @@ use wasm_operator_references::operators::operators_plain::NumberType;
 use wasm_operator_references::readers_errors::WasmFeatures;
 use wasm_operator_references::readers_types::HeapType;
 use wasm_operator_references::validator_resources::WasmModuleResources;
-use wasm_operator_references::{allows_heap, resolve, unknown_type};
+use wasm_operator_references::{allows_heap, disallowed, resolve, unknown_type};
 
 /// `ref.test` (Core Specification 3.0, Validation, Instructions, Reference Instructions), to a type
 /// with null or without.
@@ -44,7 +44,7 @@ pub fn ref_test<A: Allocator, T: WasmModuleResources>(
         return Err(OperatorError::Refused(OperatorFault::new(OperatorRule::Gc)));
     }
     if !allows_heap(stacks, nullable, heap) {
-        return Err(OperatorError::Refused(OperatorFault::new(OperatorRule::ValueType)));
+        return Err(OperatorError::Refused(disallowed(stacks, nullable, heap)));
     }
     let (shared, top) = match top_of(resources, heap) {
         Some(top) => top,
@@ -85,7 +85,7 @@ pub fn ref_cast<A: Allocator, T: WasmModuleResources>(
         return Err(OperatorError::Refused(OperatorFault::new(OperatorRule::Gc)));
     }
     if !allows_heap(stacks, nullable, heap) {
-        return Err(OperatorError::Refused(OperatorFault::new(OperatorRule::ValueType)));
+        return Err(OperatorError::Refused(disallowed(stacks, nullable, heap)));
     }
     let (shared, top) = match top_of(resources, heap) {
         Some(top) => top,

@@ -25,7 +25,7 @@ use wasm_operator_references::operators::operators_plain::NumberType;
 use wasm_operator_references::readers_errors::WasmFeatures;
 use wasm_operator_references::readers_types::{AbstractHeapType, HeapType};
 use wasm_operator_references::validator_resources::WasmModuleResources;
-use wasm_operator_references::{Referenced, allows_heap, look_below};
+use wasm_operator_references::{Referenced, allows_heap, disallowed, look_below};
 
 /// A reference of another hierarchy, null and shared as this one.
 #[tactic(auto, using(crate::proofs::Converting::words))]
@@ -64,15 +64,12 @@ fn convert<A: Allocator, T: WasmModuleResources>(
     if !has(stacks, WasmFeatures::GC) {
         return Err(OperatorError::Refused(OperatorFault::new(OperatorRule::Gc)));
     }
-    if !allows_heap(
-        stacks,
-        true,
-        HeapType::Abstract {
-            shared: false,
-            ty: to,
-        },
-    ) {
-        return Err(OperatorError::Refused(OperatorFault::new(OperatorRule::ValueType)));
+    let target = HeapType::Abstract {
+        shared: false,
+        ty: to,
+    };
+    if !allows_heap(stacks, true, target) {
+        return Err(OperatorError::Refused(disallowed(stacks, true, target)));
     }
     match look_below(stacks, resources, 0, from) {
         Ok((reference, taken)) => {
@@ -136,7 +133,7 @@ fn box_integer<A: Allocator, T: WasmModuleResources>(
         ty: AbstractHeapType::I31,
     };
     if !allows_heap(stacks, false, heap) {
-        return Err(OperatorError::Refused(OperatorFault::new(OperatorRule::ValueType)));
+        return Err(OperatorError::Refused(disallowed(stacks, false, heap)));
     }
     plain(
         stacks,

@@ -7,7 +7,7 @@ ghost use Rattle.wasm_operator_checks.specs.Told.{is_operand};
 use std::alloc::AllocError;
 use wasm_operator_stacks::operators_plain::NumberType;
 use wasm_operator_stacks::{Operand, TypeWord, Word};
-use wasm_validator_resources::readers_errors::{Error, Fault, OperatorRule, Refusal};
+use wasm_validator_resources::readers_errors::{Error, Fault, OperatorRule, Refusal, Rule};
 
 /// A rule that is broken, with a number that belongs to it, the type that is expected, and the
 /// operand that is found in its place, if there is one.
@@ -51,6 +51,19 @@ impl OperatorFault {
             number,
             expected: TypeWord::number(NumberType::I32),
             found: None,
+        }
+    }
+
+    /// Why a value type may not be written: for want of a proposal, which is named, or since the
+    /// module doesn't have the type of its index.
+    #[inline(never)]
+    pub fn written_type(refusal: Refusal) -> OperatorFault {
+        match refusal.fault {
+            Fault::Rule(Rule::Floats) => OperatorFault::new(OperatorRule::Floats),
+            Fault::Rule(Rule::Simd) => OperatorFault::new(OperatorRule::Simd),
+            Fault::ValueType(rule) => OperatorFault::new(OperatorRule::ReferenceProposal(rule)),
+            Fault::UnknownType(index) => OperatorFault::at(OperatorRule::UnknownType, index),
+            _ => OperatorFault::new(OperatorRule::ValueType),
         }
     }
 

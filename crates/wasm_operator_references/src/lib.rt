@@ -17,7 +17,7 @@ pub use given::{exchange_with, front_types, last_type};
 pub use nulls::{ref_as_non_null, ref_is_null, ref_null};
 pub use referenced::{Referenced, look_reference, non_null};
 pub use steps::step_reference;
-pub use written::{allows_heap, resolve, unknown_type};
+pub use written::{allows_heap, disallowed, resolve, unknown_type};
 
 /// Passed on from `wasm_operator_control`.
 pub mod operator_control {

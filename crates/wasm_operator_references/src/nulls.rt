@@ -9,7 +9,7 @@ ghost use Rattle.wasm_operator_control.specs.WasmOperatorChecks.WasmOperatorStac
 ghost use Rattle.wasm_operator_control.specs.WasmOperatorChecks.Steps.{Performs};
 
 use crate::referenced::{look_reference, non_null};
-use crate::written::{allows_heap, resolve, unknown_type};
+use crate::written::{allows_heap, disallowed, resolve, unknown_type};
 use std::alloc::Allocator;
 use wasm_operator_control::operator_checks::{
     OperatorError, OperatorFault, OperatorRule, Takes, ValTypes, has, plain,
@@ -40,7 +40,7 @@ pub fn ref_null<A: Allocator, T: WasmModuleResources>(
         return Err(OperatorError::Refused(OperatorFault::new(OperatorRule::ReferenceTypes)));
     }
     if !allows_heap(stacks, true, heap) {
-        return Err(OperatorError::Refused(OperatorFault::new(OperatorRule::ValueType)));
+        return Err(OperatorError::Refused(disallowed(stacks, true, heap)));
     }
     match resolve(resources, true, heap) {
         Some(ty) => plain(

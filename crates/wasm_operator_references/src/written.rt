@@ -61,6 +61,28 @@ pub fn resolve<T: WasmModuleResources>(
     }
 }
 
+/// The refusal of references to a written heap type that the features don't allow, with the proposal
+/// that they lack. Which type an index names makes no difference to it.
+#[inline(never)]
+pub fn disallowed<A: Allocator>(
+    stacks: &Stacks<A>,
+    nullable: bool,
+    heap: HeapType,
+) -> OperatorFault {
+    let like = match heap {
+        HeapType::Abstract { shared, ty } => HeapType::Abstract { shared, ty },
+        HeapType::Concrete(_) => HeapType::Concrete(UnpackedIndex::Module(0)),
+        HeapType::Exact(_) => HeapType::Exact(UnpackedIndex::Module(0)),
+    };
+    let Some(ty) = RefType::new(nullable, like) else {
+        return OperatorFault::new(OperatorRule::ValueType);
+    };
+    match check_ref_type(stacks.features, ty, 0) {
+        Err(refusal) => OperatorFault::written_type(refusal),
+        Ok(()) => OperatorFault::new(OperatorRule::ValueType),
+    }
+}
+
 /// The refusal of a written heap type that the module doesn't have, by its type index.
 #[inline(never)]
 pub fn unknown_type(heap: HeapType) -> OperatorFault {

@@ -30,7 +30,7 @@ pub fn struct_new<A: Allocator, T: WasmModuleResources>(
     let ty = reach_structure(stacks, resources, Proposal::Gc, struct_type_index)?;
     if ty.descriptor.is_some() {
         return Err(OperatorError::Refused(OperatorFault::at(
-            OperatorRule::CustomDescriptors,
+            OperatorRule::NewWithoutDescriptor,
             struct_type_index,
         )));
     }
@@ -52,7 +52,7 @@ pub fn struct_new_default<A: Allocator, T: WasmModuleResources>(
     let ty = reach_structure(stacks, resources, Proposal::Gc, struct_type_index)?;
     if ty.descriptor.is_some() {
         return Err(OperatorError::Refused(OperatorFault::at(
-            OperatorRule::CustomDescriptors,
+            OperatorRule::NewDefaultWithoutDescriptor,
             struct_type_index,
         )));
     }
@@ -89,7 +89,7 @@ pub fn struct_new_desc<A: Allocator, T: WasmModuleResources>(
     let descriptor = match described.descriptor {
         Some(descriptor) => descriptor,
         None => return Err(OperatorError::Refused(OperatorFault::at(
-            OperatorRule::CustomDescriptors,
+            OperatorRule::NewDescOfUndescribed,
             struct_type_index,
         ))),
     };
@@ -120,7 +120,7 @@ pub fn struct_new_default_desc<A: Allocator, T: WasmModuleResources>(
     let descriptor = match described.descriptor {
         Some(descriptor) => descriptor,
         None => return Err(OperatorError::Refused(OperatorFault::at(
-            OperatorRule::CustomDescriptors,
+            OperatorRule::NewDefaultDescOfUndescribed,
             struct_type_index,
         ))),
     };

@@ -95,6 +95,25 @@ fn resolve_type<T: WasmModuleResources>(
     }
 }
 
+/// The refusal of a type that the features don't allow, or that the module doesn't have.
+#[inline(never)]
+fn refuse_type<T: WasmModuleResources>(
+    resources: &T,
+    features: WasmFeatures,
+    ty: ValType,
+) -> OperatorError
+    requires { IsWrittenVal (val_of ty) }
+    ensures { IsRefused result }
+{
+    let mut resolved = ty;
+    OperatorError::Refused(
+        match resources.check_value_type(&mut resolved, &features, 0) {
+            Err(refusal) => OperatorFault::written_type(refusal),
+            Ok(()) => OperatorFault::new(OperatorRule::ValueType),
+        },
+    )
+}
+
 /// Adds the parameters of a function, which are set from the start.
 #[tactic(auto, using(crate::proofs::Defining::parameters_defined))]
 fn define_parameters<A: Allocator>(
@@ -242,7 +261,7 @@ impl<A: Allocator> OperatorValidator<A> {
         self.failed = true;
         let resolved = match resolve_type(resources, self.stacks.features, ty) {
             Some(resolved) => resolved,
-            None => return Err(refuse(OperatorRule::ValueType)),
+            None => return Err(refuse_type(resources, self.stacks.features, ty)),
         };
         if !self.stacks.locals.has_room(count) {
             return Err(refuse(OperatorRule::TooManyLocals));

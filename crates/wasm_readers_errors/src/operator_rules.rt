@@ -4,6 +4,7 @@
 ghost use Rattle.std.specs.Prelude.{◌≡◌};
 ghost use Rattle.wasm_readers_errors.specs.Lifting.{lifting, needed_by};
 
+use crate::type_rules::ValueTypeRule;
 use std::fmt;
 use wasm_readers_features::WasmFeatures;
 
@@ -101,6 +102,8 @@ pub enum OperatorRule {
     MissingDataCount,
     /// A type isn't below the one that it is cast from.
     CastTypes,
+    /// The same of two types of one hierarchy, which is enough with `CUSTOM_DESCRIPTORS`.
+    CastTypesOfHierarchy,
     /// The results of a tail call aren't those of the function.
     ReturnTypes,
     /// What isn't shared is reached from a shared function.
@@ -121,7 +124,7 @@ pub enum OperatorRule {
     Floats,
     /// Vectors need `SIMD`.
     Simd,
-    /// A value type that isn't there or that the features don't allow.
+    /// A value type that the module's look-ups refuse, for a reason of their own.
     ValueType,
     /// A block with a function type needs `MULTI_VALUE`.
     MultiValue,
@@ -139,6 +142,16 @@ pub enum OperatorRule {
     SharedEverything,
     /// An operator needs `CUSTOM_DESCRIPTORS`.
     CustomDescriptors,
+    /// A reference type is written without the proposal that it needs.
+    ReferenceProposal(ValueTypeRule),
+    /// `struct.new` takes no descriptor, and its type has one.
+    NewWithoutDescriptor,
+    /// `struct.new_default` takes no descriptor, and its type has one.
+    NewDefaultWithoutDescriptor,
+    /// `struct.new_desc` takes a descriptor, and its type has none.
+    NewDescOfUndescribed,
+    /// `struct.new_default_desc` takes a descriptor, and its type has none.
+    NewDefaultDescOfUndescribed,
     /// An operator on vectors needs `VECTOR_OPERATORS`.
     VectorOperators,
     /// An atomic operator needs `ATOMIC_OPERATORS`.
@@ -203,6 +216,8 @@ impl OperatorRule {
             OperatorRule::Gc => Some(WasmFeatures::GC),
             OperatorRule::SharedEverything => Some(WasmFeatures::SHARED_EVERYTHING_THREADS),
             OperatorRule::CustomDescriptors => Some(WasmFeatures::CUSTOM_DESCRIPTORS),
+            OperatorRule::CastTypesOfHierarchy => Some(WasmFeatures::CUSTOM_DESCRIPTORS),
+            OperatorRule::ReferenceProposal(rule) => Some(rule.feature()),
             OperatorRule::LocalGlobal => Some(WasmFeatures::GC),
             OperatorRule::VectorOperators => Some(WasmFeatures::VECTOR_OPERATORS),
             OperatorRule::AtomicOperators => Some(WasmFeatures::ATOMIC_OPERATORS),
@@ -271,7 +286,8 @@ impl OperatorRule {
             OperatorRule::CatchTypes =>
                 "type mismatch: catch clause sends other types than its label has",
             OperatorRule::MissingDataCount => "data count section required",
-            OperatorRule::CastTypes => "type mismatch: cast to a type that is not a subtype",
+            OperatorRule::CastTypes | OperatorRule::CastTypesOfHierarchy =>
+                "type mismatch: cast to a type that is not a subtype",
             OperatorRule::ReturnTypes =>
                 "type mismatch: callee returns other types than the function",
             OperatorRule::Shared => "shared functions cannot access what is not shared",
@@ -302,6 +318,7 @@ impl OperatorRule {
             OperatorRule::Gc => "gc support is not enabled",
             OperatorRule::SharedEverything => "shared-everything-threads support is not enabled",
             OperatorRule::CustomDescriptors => "custom descriptors support is not enabled",
+            OperatorRule::ReferenceProposal(rule) => rule.text(),
             OperatorRule::VectorOperators => "vector operators are not served",
             OperatorRule::AtomicOperators => "atomic operators are not served",
             OperatorRule::Threads => "threads support is not enabled",
@@ -324,19 +341,51 @@ impl OperatorRule {
             Some(Indexed { what, index }) => {
                 write!(f, "unknown {what} {number}: {index} index out of bounds")
             }
-            None => {
-                let text = self.text();
-                match self {
-                    OperatorRule::UnsetLocal => write!(f, "{text}: {number}"),
-                    OperatorRule::LegacyExceptions => write!(f, "{text} 0x{number:02x}"),
-                    OperatorRule::NotAFunction
-                    | OperatorRule::NotAStruct
-                    | OperatorRule::NotAnArray => write!(f, "{text} at index {number}"),
-                    _ => f.write_str(text),
-                }
-            }
+            None => self.write_text(f, number),
         }
     }
+
+    /// The same of a rule that isn't that an item is there.
+    fn write_text<W: fmt::Write>(self, f: &mut fmt::Formatter<W>, number: u32) -> fmt::Result {
+        let text = self.text();
+        match self {
+            OperatorRule::UnsetLocal => write!(f, "{text}: {number}"),
+            OperatorRule::LegacyExceptions => write!(f, "{text} 0x{number:02x}"),
+            OperatorRule::NotAFunction | OperatorRule::NotAStruct | OperatorRule::NotAnArray => {
+                write!(f, "{text} at index {number}")
+            }
+            OperatorRule::NewWithoutDescriptor => write_undescribed(f, "struct.new", number),
+            OperatorRule::NewDefaultWithoutDescriptor => {
+                write_undescribed(f, "struct.new_default", number)
+            }
+            OperatorRule::NewDescOfUndescribed => write_described(f, "struct.new_desc", number),
+            OperatorRule::NewDefaultDescOfUndescribed => {
+                write_described(f, "struct.new_default_desc", number)
+            }
+            _ => f.write_str(text),
+        }
+    }
+}
+
+/// What is said of an operator that takes no descriptor, where its type has one.
+fn write_undescribed<W: fmt::Write>(
+    f: &mut fmt::Formatter<W>,
+    operator: &str,
+    index: u32,
+) -> fmt::Result {
+    write!(
+        f,
+        "type with descriptor requires descriptor allocation: `{operator}` with type {index}"
+    )
+}
+
+/// What is said of an operator that takes a descriptor, where its type has none.
+fn write_described<W: fmt::Write>(
+    f: &mut fmt::Formatter<W>,
+    operator: &str,
+    index: u32,
+) -> fmt::Result {
+    write!(f, "invalid `{operator}`: type {index} is not described")
 }
 
 /// The operators of constant expressions that need a proposal (Core Specification 3.0, Validation,

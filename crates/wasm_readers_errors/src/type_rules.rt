@@ -1,6 +1,11 @@
 //! Rules of types: recursion groups, sub types, composite types, descriptor clauses and value
 //! types.
 
+ghost use Rattle.std.specs.Prelude.{◌≡◌};
+ghost use Rattle.wasm_readers_errors.specs.Lifting.{lifting_reference};
+
+use wasm_readers_features::WasmFeatures;
+
 /// Rules of recursion groups, sub types and composite types whose texts name no number (Core
 /// Specification 3.0, Validation, Types).
 #[derive(Clone, Copy, PartialEq, Eq, Debug)]
@@ -142,6 +147,24 @@ pub enum ValueTypeRule {
 }
 
 impl ValueTypeRule {
+    /// The proposal that would lift a refusal by this rule: of the two that allow references to types
+    /// by index, `FUNCTION_REFERENCES`.
+    pub fn feature(self) -> WasmFeatures
+        ensures { result ≡ lifting_reference self }
+    {
+        match self {
+            ValueTypeRule::ReferenceTypes => WasmFeatures::REFERENCE_TYPES,
+            ValueTypeRule::IndexReferences => WasmFeatures::FUNCTION_REFERENCES,
+            ValueTypeRule::ExactReferences => WasmFeatures::CUSTOM_DESCRIPTORS,
+            ValueTypeRule::SharedReferences => WasmFeatures::SHARED_EVERYTHING_THREADS,
+            ValueTypeRule::GcTypes => WasmFeatures::GC_TYPES,
+            ValueTypeRule::NonNullable => WasmFeatures::FUNCTION_REFERENCES,
+            ValueTypeRule::GcHeapTypes => WasmFeatures::GC,
+            ValueTypeRule::ExceptionReferences => WasmFeatures::EXCEPTIONS,
+            ValueTypeRule::ContinuationReferences => WasmFeatures::STACK_SWITCHING,
+        }
+    }
+
     pub(crate) fn text<'a>(self) -> &'a str {
         match self {
             ValueTypeRule::ReferenceTypes => "reference types support is not enabled",

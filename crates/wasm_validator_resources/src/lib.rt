@@ -25,7 +25,7 @@ pub mod readers_types {
 /// Passed on from `wasm_readers_errors`.
 pub mod readers_errors {
     pub use wasm_readers_errors::{
-        DescriptorRule, Error, Fault, GroupRule, OperatorRule, Refusal, WasmFeatures, hold,
+        DescriptorRule, Error, Fault, GroupRule, OperatorRule, Refusal, Rule, WasmFeatures, hold,
         require, require_if,
     };
 }
