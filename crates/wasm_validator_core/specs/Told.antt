@@ -33,6 +33,7 @@ use Rattle.wasm_validator_core.specs.declared.error.Error.{Error}
 use Rattle.wasm_validator_core.specs.declared.error.Error.TheVariants.{Refused, DuplicateExport, InFunction, OutOfMemory}
 use Rattle.wasm_validator_core.specs.declared.limits.TheConstants.{MAX_TYPES, MAX_FUNCTIONS, MAX_GLOBALS, MAX_TAGS, MAX_DATA_SEGMENTS}
 use Rattle.wasm_validator_core.specs.Answers.{TypesSoFar}
+use Rattle.wasm_validator_core.specs.OverLimit.{beyond_limit}
 use Rattle.wasm_validator_core.specs.Items.{types_of_module, listed, entity, entity_size, grown, arity_of_function, takes_and_gives_nothing}
 
 -- the call tells this, unless memory is refused
@@ -63,7 +64,7 @@ kind_named external.Tag = kind.Tag
 module _ (offset : ℕ) where
   -- one more, besides those that are there
   abbrev pub told_of_limit : Counted → ℕ → ℕ → Option Refusal
-  told_of_limit what there most = unless (nat_le (there + 1) most) (plain (fault.Limit what most) offset)
+  told_of_limit what there most = unless (nat_le (there + 1) most) (beyond_limit what most (there + 1) offset)
 
   -- the effective size with an entity more
   abbrev pub told_of_size : TypesSoFar → ℕ → Entity → Option Refusal

@@ -6,6 +6,7 @@ ghost use Rattle.wasm_spec_rules.specs.Limits.{most_tables, most_memories};
 ghost use Rattle.wasm_validator_checks.specs.Answers.{IsRefusalAt};
 ghost use Rattle.wasm_validator_core.specs.Items.{is_data_count};
 ghost use Rattle.wasm_validator_core.specs.Told.{told_of_data_count};
+ghost use Rattle.wasm_validator_core.specs.OverLimit.{lifting_one, lifting_limit, beyond_limit};
 ghost use Rattle.wasm_readers_errors.specs.Refusals.{refused};
 
 use bitflags::Flags;
@@ -35,12 +36,18 @@ pub const MAX_ELEMENT_SEGMENTS: u32 = 100_000;
 /// The most data segments of a module.
 pub const MAX_DATA_SEGMENTS: u32 = 100_000;
 
+/// The most tables of a module with `REFERENCE_TYPES`.
+pub const MAX_TABLES: u32 = 100;
+
+/// The most memories of a module with `MULTI_MEMORY`.
+pub const MAX_MEMORIES: u32 = 100;
+
 /// The most tables of a module.
 pub fn max_tables(features: WasmFeatures) -> u32
     ensures { result ≡ most_tables (features_of features) }
 {
     if features.contains(WasmFeatures::REFERENCE_TYPES) {
-        100
+        MAX_TABLES
     } else {
         1
     }
@@ -51,9 +58,51 @@ pub fn max_memories(features: WasmFeatures) -> u32
     ensures { result ≡ most_memories (features_of features) }
 {
     if features.contains(WasmFeatures::MULTI_MEMORY) {
-        100
+        MAX_MEMORIES
     } else {
         1
+    }
+}
+
+/// The proposal, if so many more items besides those that are there are too many without it, where
+/// there may be one, but not with it, where there may be `lifted`.
+fn lifting_one(
+    proposal: WasmFeatures,
+    lifted: u32,
+    limit: u32,
+    there: usize,
+    more: usize,
+) -> Option<WasmFeatures>
+    ensures { result ≡ lifting_one proposal lifted limit (there + more) }
+{
+    let most = lifted as usize;
+    if limit == 1 && there <= most && more <= most - there {
+        Some(proposal)
+    } else {
+        None
+    }
+}
+
+/// The proposal under which a module might have so many more items besides those that are there.
+fn lifting_limit(what: Counted, limit: u32, there: usize, more: usize) -> Option<WasmFeatures>
+    ensures { result ≡ lifting_limit what limit (there + more) }
+{
+    match what {
+        Counted::Tables => lifting_one(
+            WasmFeatures::REFERENCE_TYPES,
+            MAX_TABLES,
+            limit,
+            there,
+            more,
+        ),
+        Counted::Memories => lifting_one(
+            WasmFeatures::MULTI_MEMORY,
+            MAX_MEMORIES,
+            limit,
+            there,
+            more,
+        ),
+        _ => None,
     }
 }
 
@@ -61,7 +110,9 @@ pub fn max_memories(features: WasmFeatures) -> u32
 ///
 /// # Errors
 ///
-/// Refuses, at `offset`, more in all than `limit`, and names the limit and what it counts.
+/// Refuses, at `offset`, more in all than `limit`, and names the limit and what it counts, and the
+/// proposal under which there might be so many: `REFERENCE_TYPES` of tables, `MULTI_MEMORY` of
+/// memories.
 pub fn check_max(
     there: usize,
     more: usize,
@@ -70,14 +121,17 @@ pub fn check_max(
     offset: u64,
 ) -> Result<(), Refusal>
     ensures fits { is_ok result ≡ nat_le (there + more) limit }
-    ensures refusal { IfErr result (λ r. r ≡ record
-        { fault = Fault.Limit what limit; offset = offset; missing = None }) }
+    ensures refusal { IfErr result (λ r. r ≡ beyond_limit what limit (there + more) offset) }
 {
     let most = limit as usize;
     if there <= most && more <= most - there {
         Ok(())
     } else {
-        Err(Refusal::new(Fault::Limit(what, limit), offset))
+        Err(Refusal {
+            fault: Fault::Limit(what, limit),
+            offset,
+            missing: lifting_limit(what, limit, there, more),
+        })
     }
 }
 

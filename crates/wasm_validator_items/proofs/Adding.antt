@@ -9,9 +9,8 @@ use Rattle.std.specs.declared.result.Result.{Result}
 use Rattle.std.specs.declared.result.Result.TheVariants as results
 use Rattle.wasm_spec.specs.Values.{items_at}
 use Rattle.wasm_spec_rules.proofs.Tests.{then_some, guarded}
-use Rattle.wasm_readers_errors.specs.Refusals.{plain}
+use Rattle.wasm_validator_core.specs.OverLimit.{beyond_limit}
 use Rattle.wasm_readers_errors.specs.declared.error.Counted.{Counted}
-use Rattle.wasm_readers_errors.specs.declared.error.Fault.TheVariants as fault
 use Rattle.wasm_readers_errors.specs.declared.error.Refusal.{Refusal}
 use Rattle.wasm_validator_items.specs.Machine.{items_from}
 use Rattle.wasm_validator_items.specs.Sections.{read_one, read_each, read_section}
@@ -109,7 +108,7 @@ module _ {A S : Type 0} (step : S → List ℕ → Option (S × List ℕ)) (tell
     Section e = TellsCount what there most start count e (Steps e count bytes before)
 
     within : (e : Error A) → Steps e left rest s → Section e
-    within e h = subst (λ b. Either b (Steps e count bytes before) (e ≡ Refused (plain (fault.Limit what most) start))) (sym few) (up.all e h)
+    within e h = subst (λ b. Either b (Steps e count bytes before) (e ≡ Refused (beyond_limit what most (there + count) start))) (sym few) (up.all e h)
 
     -- a step is refused
     pub step_told : 0 < left → (e : Error A) → OfContent (tells stop s rest) e → OfContent Section e
@@ -174,7 +173,7 @@ module _ {A S : Type 0} (step : S → List ℕ → Option (S × List ℕ)) (name
 
 -- a section tells what its items do
 pub count_told : {A : Type 0} (what : Counted) (there most start count : ℕ) (e : Error A) (P Q : Type 0) → (P → Q) → TellsCount what there most start count e P → TellsCount what there most start count e Q
-count_told what there most start count e P Q f h = by_count (nat_le (there + count) most) (e ≡ Refused (plain (fault.Limit what most) start)) P Q f h
+count_told what there most start count e P Q f h = by_count (nat_le (there + count) most) (e ≡ Refused (beyond_limit what most (there + count) start)) P Q f h
 
 -- what is told of the content says another thing besides
 pub content_told : {T A : Type 0} (P Q : Error A → Type 0) → ((e : Error A) → P e → Q e) → (r : Result T (Error A)) → IfErr r (OfContent P) → IfErr r (OfContent Q)

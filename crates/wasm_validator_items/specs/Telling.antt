@@ -1,10 +1,9 @@
 -- What is told of a section that is refused, in words for any kind of items.
 use Rattle.std.specs.Prelude.{ℕ, zero, suc, ◌≡◌, ◌≤◌, ◌+◌, ◌-◌, ◌⊎◌, nat_le, Bool, true, false, List, length, Option, Some, None, ⊤}
 use Rattle.wasm_readers.specs.WasmReadersBytes.Reader.{IsMalformed}
-use Rattle.wasm_readers_errors.specs.Refusals.{plain}
 use Rattle.wasm_readers_errors.specs.declared.error.Counted.{Counted}
-use Rattle.wasm_readers_errors.specs.declared.error.Fault.TheVariants as fault
 use Rattle.wasm_readers_errors.specs.declared.error.Refusal.{Refusal}
+use Rattle.wasm_validator_core.specs.OverLimit.{beyond_limit}
 use Rattle.wasm_validator_core.specs.declared.error.Error.{Error}
 use Rattle.wasm_validator_core.specs.declared.error.Error.TheVariants.{Refused, DuplicateExport, InFunction, OutOfMemory}
 
@@ -61,4 +60,4 @@ module _ {A : Type 0} where
 
   -- a section: a count that is over its limit is told at its start, and anything else of its items
   abbrev pub TellsCount : Counted → ℕ → ℕ → ℕ → ℕ → Error A → Type 0 → Type 0
-  TellsCount what there most start count e items = Either (nat_le (there + count) most) items (e ≡ Refused (plain (fault.Limit what most) start))
+  TellsCount what there most start count e items = Either (nat_le (there + count) most) items (e ≡ Refused (beyond_limit what most (there + count) start))
