@@ -2,6 +2,7 @@
 use Rattle.std.specs.Prelude.{ℕ, nat_lt, if◌then◌else◌}
 use Rattle.std.specs.declared.option.Option.TheVariants.{Some, None}
 pub use Rattle.wasm_readers_errors.specs.Refusals.{plain}
+use Rattle.wasm_readers_errors.specs.Refusals.{lacking}
 use Rattle.wasm_readers_errors.specs.declared.error.Fault.{Fault}
 use Rattle.wasm_readers_errors.specs.declared.error.Fault.TheVariants.{Group, Descriptor, UnknownType, UnknownTypeWithoutGc}
 use Rattle.wasm_readers_errors.specs.declared.error.Refusal.{Refusal}
@@ -33,11 +34,11 @@ unknown_type index offset = plain (UnknownType index) offset
 
 -- the index is of a type of the group itself
 abbrev pub unknown_without_gc : ℕ → ℕ → Refusal
-unknown_without_gc index offset = plain (UnknownTypeWithoutGc index) offset
+unknown_without_gc index offset = lacking GC (UnknownTypeWithoutGc index) offset
 
 -- The index is of no type before the group: without gc it may not be one of the group. Only indices of a module are known.
 abbrev pub unknown_by : TypeCanonicalizer → UnpackedIndex → Refusal
-unknown_by c (Module k) = plain (if nat_lt k c.end then UnknownTypeWithoutGc k else UnknownType k) c.offset
+unknown_by c (Module k) = if nat_lt k c.end then lacking GC (UnknownTypeWithoutGc k) c.offset else plain (UnknownType k) c.offset
 unknown_by c (RecGroup i) = plain (UnknownType 0) c.offset
 unknown_by c (Id id) = plain (UnknownType 0) c.offset
 

@@ -33,7 +33,7 @@ ghost use Rattle.wasm_validator_canonical.specs.Indices.{has_no_index};
 ghost use Rattle.wasm_validator_canonical.specs.Told.{IfContent, ToldOfIndexBy};
 
 use std::alloc::Allocator;
-use wasm_readers_errors::{Error, Fault, Refusal};
+use wasm_readers_errors::{Error, Fault, Refusal, WasmFeatures};
 use wasm_readers_types::{
     ArrayType, CompositeInnerType, ContType, CoreTypeId, FieldType, FuncType, HeapType, Items,
     PackedIndex, RefType, StorageType, StructType, UnpackedIndex, ValType,
@@ -122,7 +122,8 @@ impl<'a> TypeCanonicalizer<'a> {
             return Err(Refusal::new(Fault::UnknownType(number), self.offset));
         }
         if !self.has_gc {
-            return Err(Refusal::new(Fault::UnknownTypeWithoutGc(number), self.offset));
+            let fault = Fault::UnknownTypeWithoutGc(number);
+            return Err(Refusal::missing(fault, self.offset, WasmFeatures::GC));
         }
         Ok(self.resolve(number))
     }

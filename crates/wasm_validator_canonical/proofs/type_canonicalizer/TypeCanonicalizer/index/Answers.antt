@@ -11,4 +11,4 @@ pub returns-then-not-self-clause-told : goal.returns-then-not-self-clause-told
 returns-then-not-self-clause-told c =
     let from : length c.args.self.now.ids.now ≤ c.in-Module.number = omega (arith, c.if-number-self.false) in
     let below : c.in-Module.number < c.args.self.now.end = omega (arith, c.if-number-self-2.false) in
-    needs_gc c.in-Module.number c.if-not-self.true from below c.new-then-not-self.ensures
+    needs_gc c.in-Module.number c.if-not-self.true from below c.missing.ensures
