@@ -269,11 +269,9 @@ impl<A: Allocator + Copy> Validator<A> {
             }
             Encoding::Component => {
                 if !self.features.contains(WasmFeatures::COMPONENT_MODEL) {
-                    let fault = Fault::ComponentHeader(number);
-                    return Err(Error::Refused(Refusal::missing(
-                        fault,
+                    return Err(Error::Refused(Refusal::new(
+                        Fault::ComponentHeader(number),
                         range.start,
-                        WasmFeatures::COMPONENT_MODEL,
                     )));
                 }
                 return Err(Error::Refused(Refusal::new(

@@ -8,7 +8,7 @@ use Rattle.wasm_readers_errors.specs.declared.error.OutOfOrder.TheVariants.{Sect
 use Rattle.wasm_readers_errors.specs.declared.error.Refusal.{Refusal}
 use Rattle.wasm_readers_errors.specs.declared.error.Rule.TheVariants.{ComponentModelLeftOut, Exceptions}
 use Rattle.wasm_readers_errors.specs.WasmReadersFeatures.declared.features.WasmFeatures.{WasmFeatures}
-use Rattle.wasm_readers_errors.specs.WasmReadersFeatures.declared.features.TheConstants.WasmFeatures.{COMPONENT_MODEL, EXCEPTIONS}
+use Rattle.wasm_readers_errors.specs.WasmReadersFeatures.declared.features.TheConstants.WasmFeatures.{EXCEPTIONS}
 use Rattle.wasm_readers.specs.SectionsSeen.{section_start}
 use Rattle.wasm_readers.specs.declared.section_limited.SectionLimited.{SectionLimited}
 use Rattle.wasm_validator_types.specs.Spaces.{Spaces}
@@ -39,7 +39,7 @@ end_order_told failed = SectionAfterFailure
 abbrev pub header_told : WasmFeatures → ℕ → Bool → ℕ → Stage → Refusal
 header_told features number is_module place (unparsed types) =
     if is_module then plain (fault.UnknownBinaryVersion number) place
-    else (if (features_of features).component_model then plain (fault.Rule ComponentModelLeftOut) place else lacking COMPONENT_MODEL (fault.ComponentHeader number) place)
+    else plain (if (features_of features).component_model then fault.Rule ComponentModelLeftOut else fault.ComponentHeader number) place
 header_told features number is_module place (in_module types spaces more) = plain (fault.OutOfOrder Header) place
 header_told features number is_module place (in_code types spaces more) = plain (fault.OutOfOrder Header) place
 header_told features number is_module place (ended types) = plain (fault.OutOfOrder Header) place
