@@ -73,6 +73,13 @@ impl<A: Allocator + Copy> FuncValidatorAllocations<A> {
     }
 }
 
+/// No memory yet, where the allocator has a default.
+impl<A: Allocator + Copy + Default> Default for FuncValidatorAllocations<A> {
+    fn default() -> FuncValidatorAllocations<A> {
+        FuncValidatorAllocations::new(A::default())
+    }
+}
+
 /// Accepts the index of a function type.
 ///
 /// # Errors

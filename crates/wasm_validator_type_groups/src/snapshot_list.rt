@@ -50,6 +50,15 @@ impl<T, A: Allocator> Model for SnapshotList<T, A> {
     ghost invariant = { IsSnapshotList };
 }
 
+/// The list of nothing, where the allocator has a default.
+impl<T, A: Allocator + Copy + Default> Default for SnapshotList<T, A> {
+    ghost is_default = { λ list. list ≡ [] };
+
+    fn default() -> SnapshotList<T, A> {
+        SnapshotList::new(A::default())
+    }
+}
+
 impl<T, A: Allocator + Copy> SnapshotList<T, A> {
     /// The list of nothing. It takes no memory until the first `push`.
     pub fn new(alloc: A) -> SnapshotList<T, A>
