@@ -70,15 +70,17 @@ fn print_link<A: Allocator + Copy, R: Print>(
     asked: EntityType,
     given: Option<EntityType>,
 ) -> io::Result<()> {
+    let wanted = list.display(asked);
     let Some(given) = given else {
-        return println!(rt; "{name} {asked}: not exported");
+        return println!(rt; "{name} {wanted}: not exported");
     };
     let linked = if may_be_linked(list, given, asked) {
         "linked"
     } else {
         "not linked"
     };
-    println!(rt; "{name} {asked}: {linked} to {given}")
+    let found = list.display(given);
+    println!(rt; "{name} {wanted}: {linked} to {found}")
 }
 
 /// Checks both modules by one validator, so that one list has the types of both.

@@ -13,6 +13,7 @@ pub use externs::{
 };
 pub use items::Items;
 pub use links::limits_match;
+pub use text::write_signature;
 pub use types::{
     ArrayType, CompositeInnerType, CompositeType, ContType, FuncType, RecGroup, StructType,
     SubType, same_group, same_sub,

@@ -102,10 +102,19 @@ impl fmt::Display for EntityType {
 impl<A: Allocator> fmt::Display for FuncType<A> {
     fn fmt<W: fmt::Write>(&self, f: &mut fmt::Formatter<W>) -> fmt::Result {
         f.write_str("(func")?;
-        write_values(f, " (param", self.params())?;
-        write_values(f, " (result", self.results())?;
+        write_signature(f, self)?;
         f.write_str(")")
     }
+}
+
+/// Writes what a function type takes and gives, ` (param i32 i64) (result f32)`, each with a space
+/// before it, and without what is empty.
+pub fn write_signature<A: Allocator, W: fmt::Write>(
+    f: &mut fmt::Formatter<W>,
+    ty: &FuncType<A>,
+) -> fmt::Result {
+    write_values(f, " (param", ty.params())?;
+    write_values(f, " (result", ty.results())
 }
 
 /// The value types behind this word, in braces, if there are any.

@@ -4,11 +4,13 @@
 //! Each `offset` counts bytes from the start of the input.
 #![tactic(auto)]
 
+mod entity_display;
 mod laws;
 mod type_alloc;
 mod type_list;
 mod with_rec_group;
 
+pub use entity_display::EntityDisplay;
 pub use laws::{
     ids_are_a_world, ids_match_as_types, types_declare_what_ids_declare, types_have_their_places,
 };
