@@ -19,19 +19,21 @@ pub use next_operator::read_operator;
 
 /// Passed on from `wasm_operators`.
 pub mod operators {
+    pub use wasm_operators::operators_atomic::{AtomicOperator, VectorOperator};
     pub use wasm_operators::{
         ArrayOperator, BlockType, BrTable, BulkMemoryOperator, CallOperator, CastOperator, Catch,
         ConstantOperator, ControlOperator, ConversionOperator, FrameKind, Ieee32, Ieee64,
-        Immediate, LegacyOperator, Listed, ListedItems, MemArg, MemoryOperator, NumericOperator,
-        Operator, ParametricOperator, ReferenceOperator, SaturatingOperator, StructOperator,
-        TableOperator, TryTable, V128, VariableOperator, max_align, read_block_type,
-        read_expression, read_memarg,
+        Immediate, ImmediateValues, LegacyOperator, Listed, ListedItems, MemArg, MemoryOperator,
+        NumericOperator, Operator, ParametricOperator, ReferenceOperator, SaturatingOperator,
+        StructOperator, TableOperator, TryTable, V128, VariableOperator, max_align,
+        read_block_type, read_expression, read_memarg,
     };
 }
 
 /// Passed on from `wasm_operator_validator`.
 pub mod operator_validator {
     pub use wasm_operator_validator::{
-        Frame, FrameStack, ModuleArity, OperatorVisitor, operator_arity,
+        Frame, FrameStack, ModuleArity, OperatorValidator, OperatorValidatorAllocations,
+        OperatorVisitor, operator_arity,
     };
 }

@@ -66,13 +66,14 @@ pub fn entries_are_renamed()
 pub mod validator_core {
     pub use wasm_validator_core::{
         Error, MAX_DATA_SEGMENTS, MAX_ELEMENT_SEGMENTS, MAX_EXPORTS, MAX_FUNCTIONS, MAX_GLOBALS,
-        MAX_IMPORTS, MAX_TAGS, MAX_TYPES, Module, check_data_count, check_max,
+        MAX_IMPORTS, MAX_MEMORIES, MAX_TABLES, MAX_TAGS, MAX_TYPES, Module, check_data_count,
+        check_max,
     };
 }
 
 /// Passed on from `wasm_validator_core_resources`.
 pub mod validator_core_resources {
-    pub use wasm_validator_core_resources::ValidatorResources;
+    pub use wasm_validator_core_resources::{TypesByIds, ValidatorResources};
 }
 
 /// Passed on from `wasm_validator_references`.

@@ -8,13 +8,15 @@ pub use bitflags::Flags;
 pub use payload::{ValidPayload, validate};
 pub use validator::Validator;
 pub use wasm_validator_states::sections::validator_core::{Error, Module};
-pub use wasm_validator_states::sections::validator_core_resources::ValidatorResources;
+pub use wasm_validator_states::sections::validator_core_resources::{
+    TypesByIds, ValidatorResources,
+};
 pub use wasm_validator_states::sections::{
-    CodeState, Constants, MAX_FUNCTION_SIZE, ModuleState, operator_validator, operators,
-    validator_core, validator_func,
+    CodeState, Constants, ExpressionMemory, MAX_FUNCTION_SIZE, ModuleState, ReferencedFunctions,
+    operator_validator, operators, validator_core, validator_func,
 };
 pub use wasm_validator_states::types::{
-    CoreExports, CoreImports, EntityType, IndexSpaces, InternRecGroup, LinkCount,
+    CoreExports, CoreImports, EntityDisplay, EntityType, IndexSpaces, InternRecGroup, LinkCount,
     MAX_WASM_SUBTYPING_DEPTH, Matches, RecGroupElements, RecGroupId, SnapshotList, TypeAlloc,
     TypeCanonicalizer, TypeData, TypeIdentifier, TypeInfo, TypeList, Types, TypesRef, ValidatorId,
     WasmModuleResources, WithRecGroup, canonicalize_and_intern_rec_group, check_composite_type,

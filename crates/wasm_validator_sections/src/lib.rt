@@ -16,13 +16,14 @@ pub use module_sections::{
     take_elements, take_exports, take_globals, take_tables,
 };
 pub use module_state::ModuleState;
-pub use wasm_validator_items::{Constants, tells_types_apart};
+pub use wasm_validator_items::references::ReferencedFunctions;
+pub use wasm_validator_items::{Constants, ExpressionMemory, tells_types_apart};
 
 /// Passed on from `wasm_validator_core`.
 pub mod validator_core {
     pub use wasm_validator_items::validator_core::{
         Error, MAX_DATA_SEGMENTS, MAX_ELEMENT_SEGMENTS, MAX_EXPORTS, MAX_FUNCTIONS, MAX_GLOBALS,
-        MAX_IMPORTS, MAX_TAGS, MAX_TYPES, Module, check_data_count,
+        MAX_IMPORTS, MAX_MEMORIES, MAX_TABLES, MAX_TAGS, MAX_TYPES, Module, check_data_count,
     };
 }
 
@@ -36,12 +37,12 @@ pub mod validator_func {
 /// Passed on from `wasm_operators`.
 pub mod operators {
     pub use wasm_validator_func::operators::{
-        ArrayOperator, BlockType, BrTable, BulkMemoryOperator, CallOperator, CastOperator, Catch,
-        ConstantOperator, ControlOperator, ConversionOperator, FrameKind, Ieee32, Ieee64,
-        Immediate, LegacyOperator, Listed, ListedItems, MemArg, MemoryOperator, NumericOperator,
-        Operator, ParametricOperator, ReferenceOperator, SaturatingOperator, StructOperator,
-        TableOperator, TryTable, V128, VariableOperator, max_align, read_block_type,
-        read_expression, read_memarg,
+        ArrayOperator, AtomicOperator, BlockType, BrTable, BulkMemoryOperator, CallOperator,
+        CastOperator, Catch, ConstantOperator, ControlOperator, ConversionOperator, FrameKind,
+        Ieee32, Ieee64, Immediate, ImmediateValues, LegacyOperator, Listed, ListedItems, MemArg,
+        MemoryOperator, NumericOperator, Operator, ParametricOperator, ReferenceOperator,
+        SaturatingOperator, StructOperator, TableOperator, TryTable, V128, VariableOperator,
+        VectorOperator, max_align, read_block_type, read_expression, read_memarg,
     };
     pub use wasm_validator_func::read_operator;
 }
@@ -49,11 +50,12 @@ pub mod operators {
 /// Passed on from `wasm_operator_validator`.
 pub mod operator_validator {
     pub use wasm_validator_func::operator_validator::{
-        Frame, FrameStack, ModuleArity, OperatorVisitor, operator_arity,
+        Frame, FrameStack, ModuleArity, OperatorValidator, OperatorValidatorAllocations,
+        OperatorVisitor, operator_arity,
     };
 }
 
 /// Passed on from `wasm_validator_core_resources`.
 pub mod validator_core_resources {
-    pub use wasm_validator_items::validator_core_resources::ValidatorResources;
+    pub use wasm_validator_items::validator_core_resources::{TypesByIds, ValidatorResources};
 }

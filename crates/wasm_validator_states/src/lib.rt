@@ -79,10 +79,11 @@ pub mod parser {
 /// Passed on from `wasm_validator_sections`.
 pub mod sections {
     pub use wasm_validator_sections::{
-        CodeState, Constants, MAX_FUNCTION_SIZE, ModuleState, add_functions, add_imports,
-        add_memories, add_tags, add_types, check_data_segments, operator_validator, operators,
-        started, take_elements, take_exports, take_globals, take_tables, tells_types_apart,
-        validator_core, validator_core_resources, validator_func,
+        CodeState, Constants, ExpressionMemory, MAX_FUNCTION_SIZE, ModuleState,
+        ReferencedFunctions, add_functions, add_imports, add_memories, add_tags, add_types,
+        check_data_segments, operator_validator, operators, started, take_elements, take_exports,
+        take_globals, take_tables, tells_types_apart, validator_core, validator_core_resources,
+        validator_func,
     };
 }
 
@@ -101,7 +102,7 @@ pub mod types {
     pub use wasm_validator_resources::WasmModuleResources;
     pub use wasm_validator_type_list::LinkCount;
     pub use wasm_validator_types::{
-        CoreExports, CoreImports, EntityType, IndexSpaces, RecGroupElements, RecGroupId,
-        SnapshotList, TypeAlloc, TypeList, Types, TypesRef, ValidatorId,
+        CoreExports, CoreImports, EntityDisplay, EntityType, IndexSpaces, RecGroupElements,
+        RecGroupId, SnapshotList, TypeAlloc, TypeList, Types, TypesRef, ValidatorId,
     };
 }

@@ -14,5 +14,5 @@ pub use index_spaces::IndexSpaces;
 pub use shown::{Types, TypesRef};
 pub use wasm_readers::readers_types::EntityType;
 pub use wasm_validator_type_list::{
-    RecGroupElements, RecGroupId, SnapshotList, TypeAlloc, TypeList,
+    EntityDisplay, RecGroupElements, RecGroupId, SnapshotList, TypeAlloc, TypeList,
 };
