@@ -1,0 +1,67 @@
+/* Modules that the tests share, byte by byte, and what the calls say of them. All that is expected here was written from these bytes by hand. */
+#include <ruthvelka.h>
+
+/* 3 types, 2 functions, 4 tables, 5 memories, 6 globals, 7 tags, 8 imports and 9 exports. The functions have the types 2 and 0. */
+static const uint8_t many[] = {0x00, 0x61, 0x73, 0x6d, 0x01, 0x00, 0x00, 0x00,
+    /* types: [] -> [], [i32] -> [], [i64] -> [i32] */
+    0x01, 0x0d, 0x03, 0x60, 0x00, 0x00, 0x60, 0x01, 0x7f, 0x00, 0x60, 0x01, 0x7e, 0x01, 0x7f,
+    /* imports: a function env.func, a table env.tab, a memory m.memory, the globals "m"."" and "".global, and the tags t.tag, env.func and t.other */
+    0x02, 0x55, 0x08, 0x03, 'e', 'n', 'v', 0x04, 'f', 'u', 'n', 'c', 0x00, 0x02, 0x03, 'e', 'n', 'v', 0x03, 't', 'a', 'b', 0x01, 0x70, 0x00, 0x01,
+    0x01, 'm', 0x06, 'm', 'e', 'm', 'o', 'r', 'y', 0x02, 0x00, 0x01, 0x01, 'm', 0x00, 0x03, 0x7f, 0x00,
+    0x00, 0x06, 'g', 'l', 'o', 'b', 'a', 'l', 0x03, 0x7c, 0x01, 0x01, 't', 0x03, 't', 'a', 'g', 0x04, 0x00, 0x01,
+    0x03, 'e', 'n', 'v', 0x04, 'f', 'u', 'n', 'c', 0x04, 0x00, 0x00, 0x01, 't', 0x05, 'o', 't', 'h', 'e', 'r', 0x04, 0x00, 0x00,
+    /* a function of type 0, three tables, four memories, four tags, four globals */
+    0x03, 0x02, 0x01, 0x00, 0x04, 0x0b, 0x03, 0x70, 0x00, 0x01, 0x6f, 0x00, 0x02, 0x70, 0x01, 0x01, 0x03,
+    0x05, 0x0a, 0x04, 0x00, 0x00, 0x00, 0x01, 0x01, 0x01, 0x02, 0x00, 0x03, 0x0d, 0x09, 0x04, 0x00, 0x00, 0x00, 0x01, 0x00, 0x01, 0x00, 0x00,
+    0x06, 0x18, 0x04, 0x7f, 0x00, 0x41, 0x01, 0x0b, 0x7e, 0x01, 0x42, 0x02, 0x0b, 0x7d, 0x00, 0x43, 0x00, 0x00, 0x00, 0x00, 0x0b,
+    0x7f, 0x00, 0x41, 0x03, 0x0b,
+    /* exports: x is function 1, first function 0, table table 3, mem memory 4, "" global 5, e tag 4, ee tag 6, m0 memory 0, gl global 0 */
+    0x07, 0x31, 0x09, 0x01, 'x', 0x00, 0x01, 0x05, 'f', 'i', 'r', 's', 't', 0x00, 0x00, 0x05, 't', 'a', 'b', 'l', 'e', 0x01, 0x03,
+    0x03, 'm', 'e', 'm', 0x02, 0x04, 0x00, 0x03, 0x05, 0x01, 'e', 0x04, 0x04, 0x02, 'e', 'e', 0x04, 0x06, 0x02, 'm', '0', 0x02, 0x00,
+    0x02, 'g', 'l', 0x03, 0x00,
+    /* the body of function 1 */
+    0x0a, 0x04, 0x01, 0x02, 0x00, 0x0b};
+
+/* 5 types: [i64] -> [i32], as the last one of `many`; [] -> [i32]; an open sub type of [] -> []; a final one below it; and [] -> [], as the first one of
+   `many`. It imports a function a.x of type 4, a function a.first of type 1 and a memory a.m0, and has functions of the types 0 and 3. */
+static const uint8_t user[] = {0x00, 0x61, 0x73, 0x6d, 0x01, 0x00, 0x00, 0x00,
+    0x01, 0x18, 0x05, 0x60, 0x01, 0x7e, 0x01, 0x7f, 0x60, 0x00, 0x01, 0x7f, 0x50, 0x00, 0x60, 0x00, 0x00, 0x4f, 0x01, 0x02, 0x60, 0x00, 0x00,
+    0x60, 0x00, 0x00,
+    0x02, 0x19, 0x03, 0x01, 'a', 0x01, 'x', 0x00, 0x04, 0x01, 'a', 0x05, 'f', 'i', 'r', 's', 't', 0x00, 0x01, 0x01, 'a', 0x02, 'm', '0', 0x02, 0x00, 0x01,
+    0x03, 0x03, 0x02, 0x00, 0x03, 0x07, 0x05, 0x01, 0x01, 'h', 0x00, 0x03, 0x0a, 0x09, 0x02, 0x04, 0x00, 0x41, 0x00, 0x0b, 0x02, 0x00, 0x0b};
+
+/* One type, an imported function, and one whose body leaves a number, which is seen at its `end`, byte 34. */
+static const uint8_t wrong_body[] = {0x00, 0x61, 0x73, 0x6d, 0x01, 0x00, 0x00, 0x00, 0x01, 0x04, 0x01, 0x60, 0x00, 0x00,
+    0x02, 0x07, 0x01, 0x01, 'a', 0x01, 'x', 0x00, 0x00, 0x03, 0x02, 0x01, 0x00, 0x0a, 0x06, 0x01, 0x04, 0x00, 0x41, 0x00, 0x0b};
+#define WRONG_BODY "type mismatch: values remaining on stack at end of block"
+
+/* A memory with pages of one byte, which stands at byte 11. */
+static const uint8_t small_pages[] = {0x00, 0x61, 0x73, 0x6d, 0x01, 0x00, 0x00, 0x00, 0x05, 0x04, 0x01, 0x08, 0x00, 0x00};
+#define SMALL_PAGES "the custom page sizes proposal must be enabled to customize a memory's page size"
+
+/* Two exports of one name: a line feed, an escape and a quotation mark. The second one stands at byte 32. */
+static const uint8_t one_name[] = {0x00, 0x61, 0x73, 0x6d, 0x01, 0x00, 0x00, 0x00, 0x01, 0x04, 0x01, 0x60, 0x00, 0x00,
+    0x02, 0x07, 0x01, 0x01, 'm', 0x01, 'f', 0x00, 0x00, 0x07, 0x0d, 0x02, 0x03, 0x0a, 0x1b, 0x22, 0x00, 0x00, 0x03, 0x0a, 0x1b, 0x22, 0x00, 0x00};
+#define ONE_NAME "duplicate export name `\n\x1b\"` already defined"
+
+/* The report on each, by its fields in the order of their places in memory. */
+#define NOWHERE 4294967295u
+static const struct ruthvelka_report report_on_many = {.offset = 0, .missing_features = 0, .message_length = 0, .imports = 8, .exports = 9,
+    .names_length = 0, .verdict = 0, .function = NOWHERE, .types = 3, .functions = 2, .tables = 4, .memories = 5, .globals = 6, .tags = 7};
+static const struct ruthvelka_report report_on_user = {.imports = 3, .exports = 1, .verdict = 0, .function = NOWHERE, .types = 5, .functions = 4, .memories = 1};
+static const struct ruthvelka_report report_on_wrong_body = {.offset = 34, .message_length = sizeof WRONG_BODY - 1, .verdict = 1, .function = 1};
+static const struct ruthvelka_report report_on_small_pages = {.offset = 11, .missing_features = 32768, .message_length = sizeof SMALL_PAGES - 1,
+    .verdict = 1, .function = NOWHERE};
+static const struct ruthvelka_report report_on_one_name = {.offset = 32, .message_length = sizeof ONE_NAME - 1, .verdict = 1, .function = NOWHERE};
+
+/* The ids, the imports and the exports of `many`. The imports of a pair of names stand together, where the first one of them does. */
+#define EXTERN(module_at, module_size, name_at, name_size, kind_number, id) \
+    {.module_start = module_at, .module_length = module_size, .name_start = name_at, .name_length = name_size, .kind = kind_number, .type_id = id}
+#define NO_ID 4294967295u
+static const uint32_t types_of_many[] = {0, 1, 2}, functions_of_many[] = {2, 0};
+static const struct ruthvelka_extern imports_of_many[] = {EXTERN(0, 3, 3, 4, 0, 2), EXTERN(7, 3, 10, 4, 4, 0), EXTERN(14, 3, 17, 3, 1, NO_ID),
+    EXTERN(20, 1, 21, 6, 2, NO_ID), EXTERN(27, 1, 28, 0, 3, NO_ID), EXTERN(28, 0, 28, 6, 3, NO_ID), EXTERN(34, 1, 35, 3, 4, 1), EXTERN(38, 1, 39, 5, 4, 0)};
+static const struct ruthvelka_extern exports_of_many[] = {EXTERN(44, 0, 44, 1, 0, 0), EXTERN(45, 0, 45, 5, 0, 2), EXTERN(50, 0, 50, 5, 1, NO_ID),
+    EXTERN(55, 0, 55, 3, 2, NO_ID), EXTERN(58, 0, 58, 0, 3, NO_ID), EXTERN(58, 0, 58, 1, 4, 1), EXTERN(59, 0, 59, 2, 4, 0), EXTERN(61, 0, 61, 2, 2, NO_ID),
+    EXTERN(63, 0, 63, 2, 3, NO_ID)};
+static const char names_of_many[] = "envfuncenvfuncenvtabmmemorymglobalttagtotherxfirsttablememeeem0gl";
