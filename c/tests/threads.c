@@ -28,7 +28,7 @@ static int is_right(size_t length, int is_valid) {
 }
 
 static void *work(void *wrong) {
-    for (size_t i = 0; i < 4000; i++) *(int *)wrong += !is_right(sizeof module - i % 2, i % 2 == 0);
+    for (size_t i = 0; i < 500; i++) *(int *)wrong += !is_right(sizeof module - i % 2, i % 2 == 0);
     return NULL;
 }
 
