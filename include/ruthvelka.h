@@ -1,10 +1,20 @@
 /* ruthvelka.h: validation of WebAssembly modules, for C and C++.
 
-   A module is accepted exactly where it is valid under the WebAssembly Core Specification 3.0 and the enabled proposals, within fixed limits;
-   the operators of stack switching and components are refused, and without their features vector operators other than v128.const, atomic operators and
-   the operators of legacy exceptions.
-   docs/THEOREM.md of the repository has the exact statement; docs/PROVED.md says which part of this library is proved: all but c/, some 190 lines of C
-   that test the arguments, pass these calls on and take memory.
+   A module is accepted exactly where it is valid under the WebAssembly Core Specification 3.0 and the enabled proposals, within fixed limits, and has
+   nothing that is left out. docs/THEOREM.md of the repository has the exact statement; docs/PROVED.md says which part of this library is proved: all but
+   c/, some 190 lines of C that test the arguments, pass these calls on and take memory.
+
+   Left out. These are refused under all features:
+   - components;
+   - the operators of stack switching; continuation types are validated;
+   - of custom descriptors, ref.get_desc and the casts and branches by descriptors;
+   - of shared-everything threads, the atomic accesses to globals, tables, structures and arrays;
+   - the operators of wide arithmetic: i64.add128, i64.sub128, i64.mul_wide_s and i64.mul_wide_u;
+   - memory.discard.
+   These are refused without a feature of their own, which RUTHVELKA_STANDARD doesn't have:
+   - the operators on vectors other than v128.const, without RUTHVELKA_VECTOR_OPERATORS;
+   - the atomic operators on memories, without RUTHVELKA_ATOMIC_OPERATORS;
+   - try, catch, catch_all, rethrow and delegate, the operators of legacy exceptions, without RUTHVELKA_LEGACY_EXCEPTIONS.
 
    Trust. The library trusts its caller for what C can't test: that each pointer is of as many items as its count says, that what a call writes overlaps
    nothing else that it is given, and that nothing changes the bytes while it runs. Besides it trusts the Rattle toolchain, the C compiler, and malloc
@@ -20,8 +30,8 @@
    have (more than PTRDIFF_MAX bytes), and a bit of `features` that no proposal has make the result RUTHVELKA_BAD_CALL, and nothing is written but
    a report. Calls that give no verdict say themselves what they do. Arrays that are written need not be initialized.
 
-   Room. Each array that is written has a room: a count of items. As many are written as there is room for, what is behind them stays as it was, and
-   the report tells how many there are: so a room that was too small is seen, and the call can be made again with more.
+   Arrays that are written. Each comes with the count of items that there is room for in it. No more are written, and what is behind them stays as it
+   was. The report says how many there are: where that is more than there was room for, the call can be made again with a larger array.
 
    Build with `pkg-config --cflags --libs ruthvelka`, or with include/ in the path and libruthvelka.a. It is for x86-64 Linux (x86-64-v2). */
 #ifndef RUTHVELKA_H
@@ -54,7 +64,7 @@ extern "C" {
 #define RUTHVELKA_BULK_MEMORY (UINT64_C(1) << 3)               /* passive segments, and the data count section */
 #define RUTHVELKA_SIMD (UINT64_C(1) << 4)                      /* vectors of 128 bits */
 #define RUTHVELKA_THREADS (UINT64_C(1) << 5)                   /* shared memories */
-#define RUTHVELKA_SHARED_EVERYTHING_THREADS (UINT64_C(1) << 6) /* types, tables and globals that are shared between threads */
+#define RUTHVELKA_SHARED_EVERYTHING_THREADS (UINT64_C(1) << 6) /* types, tables and globals that are shared between threads; see "Left out" */
 #define RUTHVELKA_FLOATS (UINT64_C(1) << 7)                    /* floating-point types */
 #define RUTHVELKA_MULTI_MEMORY (UINT64_C(1) << 8)              /* more than one memory */
 #define RUTHVELKA_EXCEPTIONS (UINT64_C(1) << 9)                /* tags, and references to exceptions */
@@ -64,17 +74,18 @@ extern "C" {
 #define RUTHVELKA_GC (UINT64_C(1) << 13)                       /* recursion groups, sub types, structures and arrays */
 #define RUTHVELKA_GC_TYPES (UINT64_C(1) << 14)                 /* structure, array and continuation types; references but to functions and exceptions */
 #define RUTHVELKA_CUSTOM_PAGE_SIZES (UINT64_C(1) << 15)        /* memories with a written page size */
-#define RUTHVELKA_CUSTOM_DESCRIPTORS (UINT64_C(1) << 16)       /* descriptor clauses, and exact references */
-#define RUTHVELKA_STACK_SWITCHING (UINT64_C(1) << 17)          /* continuations */
+#define RUTHVELKA_CUSTOM_DESCRIPTORS (UINT64_C(1) << 16)       /* descriptor clauses, and exact references; see "Left out" */
+#define RUTHVELKA_STACK_SWITCHING (UINT64_C(1) << 17)          /* continuation types; see "Left out" */
 #define RUTHVELKA_COMPONENT_MODEL (UINT64_C(1) << 18)          /* components, which are not validated */
-#define RUTHVELKA_VECTOR_OPERATORS (UINT64_C(1) << 19)         /* the operators on vectors, which need SIMD too */
-#define RUTHVELKA_ATOMIC_OPERATORS (UINT64_C(1) << 20)         /* the atomic operators, which need THREADS too */
+#define RUTHVELKA_VECTOR_OPERATORS (UINT64_C(1) << 19)         /* the operators on vectors, also the relaxed ones; they need SIMD too */
+#define RUTHVELKA_ATOMIC_OPERATORS (UINT64_C(1) << 20)         /* the atomic operators on memories, which need THREADS too */
 #define RUTHVELKA_LEGACY_EXCEPTIONS (UINT64_C(1) << 21)        /* try, catch, catch_all, rethrow and delegate, which need EXCEPTIONS too */
-/* What the standard has: all but SHARED_EVERYTHING_THREADS, CUSTOM_PAGE_SIZES, CUSTOM_DESCRIPTORS, STACK_SWITCHING, COMPONENT_MODEL,
-   VECTOR_OPERATORS, ATOMIC_OPERATORS and LEGACY_EXCEPTIONS. */
+/* All but SHARED_EVERYTHING_THREADS, CUSTOM_PAGE_SIZES, CUSTOM_DESCRIPTORS, STACK_SWITCHING, COMPONENT_MODEL, VECTOR_OPERATORS, ATOMIC_OPERATORS and
+   LEGACY_EXCEPTIONS. That is the Core Specification 3.0, but for two things: it has no operator on vectors other than v128.const, which
+   VECTOR_OPERATORS adds; and it has THREADS, so memories may be shared, which the specification doesn't know. */
 #define RUTHVELKA_STANDARD UINT64_C(32703)
 
-/* What a call tells of a module. */
+/* What a call reports on a module. */
 struct ruthvelka_report {
     uint64_t offset;           /* refused: of the byte that is wrong, from the first byte; else 0 */
     uint64_t missing_features; /* refused: the proposal without which it is, as a bit; 0 where there is none that would lift it */
@@ -99,7 +110,7 @@ struct ruthvelka_report {
 uint32_t ruthvelka_version(void);
 
 /* ruthvelka_feature: the bit of the proposal with this name, of `length` bytes: the name of the macro above without RUTHVELKA_, in capitals. It is 0
-   where there is no proposal of the name, or the name is null. It may be called at any time, in any thread.
+   where there is no proposal of the name, the name is null, or `length` is more than PTRDIFF_MAX. It may be called at any time, in any thread.
 
        uint64_t features = RUTHVELKA_STANDARD | ruthvelka_feature("CUSTOM_PAGE_SIZES", 17); */
 uint64_t ruthvelka_feature(const char *name, size_t length);
@@ -115,15 +126,20 @@ size_t ruthvelka_feature_name(uint64_t feature, char *name, size_t room);
 
 /* ruthvelka_validate: whether `length` bytes are a valid module under these features.
 
-   It writes the message of a refusal into `message`, as far as there is room: UTF-8, without a zero behind it, and nothing behind it changes. The
-   message is empty where memory for it is refused. It gives the verdict and writes it into the report, with all else that it tells: VALID, REFUSED,
-   NO_MEMORY or BAD_CALL.
+   It writes the message of a refusal into `message`, as far as there is room: UTF-8, without a zero behind it, and nothing behind it changes. Where
+   there is less room than that, the text may end within a character. The message is empty where memory for it is refused. It gives the verdict and
+   writes it into the report, with all else: VALID, REFUSED, NO_MEMORY or BAD_CALL.
+
+   A message may quote a name of the module: "duplicate export name `a` already defined". The name is the module's, and may hold any characters: line
+   feeds, escape sequences of terminals, zeros, marks that change the direction of text. So a message from a module that isn't trusted has to be escaped
+   before it goes to a terminal, a log or a page.
 
        struct ruthvelka_report report;
        char text[200];
        if (ruthvelka_validate(bytes, length, RUTHVELKA_STANDARD, text, sizeof text, &report) == RUTHVELKA_REFUSED) {
-           size_t shown = report.message_length < sizeof text ? (size_t)report.message_length : sizeof text;
-           printf("at byte %llu: %.*s\n", (unsigned long long)report.offset, (int)shown, text);
+           size_t written = report.message_length < sizeof text ? (size_t)report.message_length : sizeof text;
+           printf("at byte %llu: ", (unsigned long long)report.offset);
+           print_escaped(text, written);
        } */
 uint32_t ruthvelka_validate(const uint8_t *bytes, size_t length, uint64_t features, char *message, size_t message_room,
     struct ruthvelka_report *report);
@@ -167,8 +183,8 @@ struct ruthvelka_extern {
    The exports come in their order. The imports come by their pairs of names (of the module, and their own), in the order in which the pairs first
    come, and those of one pair in their order: so in the order of the module, unless a pair comes again behind another one. This is how
    RUTHVELKA_MAY_BE_GIVEN numbers them too. The names stand in `names` one after another, those of imports first: UTF-8, without a zero behind
-   them. It takes memory for what it writes: where that is refused, the verdict is RUTHVELKA_NO_MEMORY and none of the arrays changes. The room for
-   names that is always enough is `length`.
+   them, and of any characters, as in a message. It takes memory for what it writes: where that is refused, the verdict is RUTHVELKA_NO_MEMORY and none
+   of the arrays changes. `length` bytes are always enough for all names.
 
        struct ruthvelka_extern imports[64];
        char names[4096];

@@ -7,20 +7,18 @@
 #define STANDARD UINT64_C(32703)
 static long requests, refuse_at, blocks;
 
-/* malloc may give a null pointer for no bytes: so none is asked for that. */
-static int is_refused(size_t size) {
-    expect("a request is for some bytes", size != 0);
+static int is_refused(void) {
     return requests++ == refuse_at;
 }
 
 static void *allocate(size_t size) {
-    void *block = is_refused(size) ? NULL : malloc(size);
+    void *block = is_refused() ? NULL : malloc(size);
     blocks += block != NULL;
     return block;
 }
 
 static void *resize(void *block, size_t size) {
-    return is_refused(size) ? NULL : realloc(block, size);
+    return is_refused() ? NULL : realloc(block, size);
 }
 
 static void release(void *block) {
@@ -91,23 +89,11 @@ static void try_each(const struct call *call, const struct answers *answers) {
     printf("%s: %s: %ld requests, each refused in turn\n", call->name, answers->name, refuse_at);
 }
 
-/* Any null function sets malloc, realloc and free again. */
-static void try_malloc(void) {
-    for (int it = 0; it < 3; it++) {
-        ruthvelka_set_allocator(allocate, resize, release);
-        ruthvelka_set_allocator(it == 0 ? NULL : allocate, it == 1 ? NULL : resize, it == 2 ? NULL : release);
-        requests = blocks = 0, refuse_at = -1;
-        expect("no allocator of the host's own", ruthvelka_validate(many, sizeof many, STANDARD, NULL, 0, NULL) == RUTHVELKA_VALID && !requests && !blocks);
-    }
-}
-
 int main(void) {
+    ruthvelka_set_allocator(allocate, resize, release);
     for (int it = 0; it < CALLS; it++)
-        for (size_t at = 0; at < sizeof all / sizeof *all; at++) {
-            ruthvelka_set_allocator(allocate, resize, release);
+        for (size_t at = 0; at < sizeof all / sizeof *all; at++)
             if (all[at].has_list == (it >= SINGLE_CALLS)) try_each(&calls[it], &all[at]);
-        }
-    try_malloc();
     printf("%ld wrong answers without memory\n", wrong);
     return wrong != 0;
 }
