@@ -1,8 +1,8 @@
 /* ruthvelka.h: validation of WebAssembly modules, for C and C++.
 
    A module is accepted exactly where it is valid under the WebAssembly Core Specification 3.0 and the enabled proposals, within fixed limits, and has
-   nothing that is left out. docs/THEOREM.md of the repository has the exact statement; docs/PROVED.md says which part of this library is proved: all but
-   c/, some 190 lines of C that test the arguments, pass these calls on and take memory.
+   nothing that is left out. docs/THEOREM.md of the repository has the exact statement; docs/PROVED.md says which part of this library is proved: all
+   but c/, some 190 lines of C that test the arguments, pass these calls on and take memory.
 
    Left out. These are refused under all features:
    - components;
@@ -16,9 +16,9 @@
    - the atomic operators on memories, without RUTHVELKA_ATOMIC_OPERATORS;
    - try, catch, catch_all, rethrow and delegate, the operators of legacy exceptions, without RUTHVELKA_LEGACY_EXCEPTIONS.
 
-   Trust. The library trusts its caller for what C can't test: that each pointer is of as many items as its count says, that what a call writes overlaps
-   nothing else that it is given, and that nothing changes the bytes while it runs. Besides it trusts the Rattle toolchain, the C compiler, and malloc
-   or the functions that ruthvelka_set_allocator was given. It trusts nothing in the bytes of a module.
+   Trust. The library trusts its caller for what C can't test: that each pointer is of as many items as its count says, that what a call writes
+   overlaps nothing else that it is given, and that nothing changes the bytes while it runs. Besides it trusts the Rattle toolchain, the C compiler,
+   and malloc or the functions that ruthvelka_set_allocator was given. It trusts nothing in the bytes of a module.
 
    Memory. Nothing is kept between calls, so there is nothing to be freed. While a call runs, memory comes from malloc, realloc and free, or from
    what ruthvelka_set_allocator was given. Where a request is refused the verdict is RUTHVELKA_NO_MEMORY, and all that was taken is given back.
@@ -72,7 +72,7 @@ extern "C" {
 #define RUTHVELKA_EXTENDED_CONST (UINT64_C(1) << 11)           /* add, sub and mul of integers in constant expressions */
 #define RUTHVELKA_FUNCTION_REFERENCES (UINT64_C(1) << 12)      /* references to types by index, and ones that may not be null */
 #define RUTHVELKA_GC (UINT64_C(1) << 13)                       /* recursion groups, sub types, structures and arrays */
-#define RUTHVELKA_GC_TYPES (UINT64_C(1) << 14)                 /* structure, array and continuation types; references but to functions and exceptions */
+#define RUTHVELKA_GC_TYPES (UINT64_C(1) << 14)                 /* structure, array, continuation types; references but to functions and exceptions */
 #define RUTHVELKA_CUSTOM_PAGE_SIZES (UINT64_C(1) << 15)        /* memories with a written page size */
 #define RUTHVELKA_CUSTOM_DESCRIPTORS (UINT64_C(1) << 16)       /* descriptor clauses, and exact references; see "Left out" */
 #define RUTHVELKA_STACK_SWITCHING (UINT64_C(1) << 17)          /* continuation types; see "Left out" */
@@ -115,8 +115,8 @@ uint32_t ruthvelka_version(void);
        uint64_t features = RUTHVELKA_STANDARD | ruthvelka_feature("CUSTOM_PAGE_SIZES", 17); */
 uint64_t ruthvelka_feature(const char *name, size_t length);
 
-/* ruthvelka_feature_name: writes the name of the proposal with this bit, as far as there is room, without a zero behind it, and gives the length of the
-   whole name. That is 0, and nothing is written, where no proposal has just this bit, `name` is null and `room` isn't 0, or `room` is more than
+/* ruthvelka_feature_name: writes the name of the proposal with this bit, as far as there is room, without a zero behind it, and gives the length of
+   the whole name. That is 0, and nothing is written, where no proposal has just this bit, `name` is null and `room` isn't 0, or `room` is more than
    PTRDIFF_MAX. It may be called at any time, in any thread.
 
        char name[32];
@@ -131,8 +131,8 @@ size_t ruthvelka_feature_name(uint64_t feature, char *name, size_t room);
    writes it into the report, with all else: VALID, REFUSED, NO_MEMORY or BAD_CALL.
 
    A message may quote a name of the module: "duplicate export name `a` already defined". The name is the module's, and may hold any characters: line
-   feeds, escape sequences of terminals, zeros, marks that change the direction of text. So a message from a module that isn't trusted has to be escaped
-   before it goes to a terminal, a log or a page.
+   feeds, escape sequences of terminals, zeros, marks that change the direction of text. So a message about a module that isn't trusted has to be
+   escaped before it goes to a terminal, a log or a page.
 
        struct ruthvelka_report report;
        char text[200];
@@ -176,15 +176,15 @@ struct ruthvelka_extern {
     uint32_t type_id;       /* a function or a tag: the id of its type; else RUTHVELKA_NO_ID */
 };
 
-/* ruthvelka_validate_with_externs: as ruthvelka_validate, and of a valid module also its imports, its exports and their names, as far as there is room
-   for each. How many there are, and the length of all names, stand in the report, and nothing behind them changes. Where the module isn't valid none
-   of the arrays changes.
+/* ruthvelka_validate_with_externs: as ruthvelka_validate, and of a valid module also its imports, its exports and their names, as far as there is
+   room for each. How many there are, and the length of all names, stand in the report, and nothing behind them changes. Where the module isn't valid
+   none of the arrays changes.
 
    The exports come in their order. The imports come by their pairs of names (of the module, and their own), in the order in which the pairs first
    come, and those of one pair in their order: so in the order of the module, unless a pair comes again behind another one. This is how
    RUTHVELKA_MAY_BE_GIVEN numbers them too. The names stand in `names` one after another, those of imports first: UTF-8, without a zero behind
-   them, and of any characters, as in a message. It takes memory for what it writes: where that is refused, the verdict is RUTHVELKA_NO_MEMORY and none
-   of the arrays changes. `length` bytes are always enough for all names.
+   them, and of any characters, as in a message. It takes memory for what it writes: where that is refused, the verdict is RUTHVELKA_NO_MEMORY and
+   none of the arrays changes. `length` bytes are always enough for all names.
 
        struct ruthvelka_extern imports[64];
        char names[4096];

@@ -1,5 +1,5 @@
-/* Every field of every answer, on modules whose counts and ids all differ, with rooms of 0, of one less, of just enough and of one more for each array,
-   and with null pointers for arrays of no items. Nothing behind a room may change, and nothing before it. */
+/* Every field of every answer, on modules whose counts and ids all differ, with rooms of 0, of one less, of just enough and of one more for each
+   array, and with null pointers for arrays of no items. Nothing behind a room may change, and nothing before it. */
 #include "check.h"
 
 /* What each call says of a module under these features. */
@@ -24,14 +24,18 @@ static const char names_of_user[] = "axafirstam0h";
 static const struct ruthvelka_report report_on_one_memory = {.verdict = 0, .function = NOWHERE, .memories = 1};
 static const struct facts modules[] = {
     {"many of all", {many, sizeof many, NULL, 0, STANDARD}, {0, {[REPORT] = {&report_on_many, 1}, [TYPES] = ITEMS(types_of_many),
-        [FUNCTIONS] = ITEMS(functions_of_many), [IMPORTS] = ITEMS(imports_of_many), [EXPORTS] = ITEMS(exports_of_many), [NAMES] = TEXT(names_of_many)}}, NULL},
+        [FUNCTIONS] = ITEMS(functions_of_many), [IMPORTS] = ITEMS(imports_of_many), [EXPORTS] = ITEMS(exports_of_many),
+        [NAMES] = TEXT(names_of_many)}}, NULL},
     {"all features", {user, sizeof user, NULL, 0, ALL_FEATURES}, {0, {[REPORT] = {&report_on_user, 1}, [TYPES] = ITEMS(types_of_user),
-        [FUNCTIONS] = ITEMS(functions_of_user), [IMPORTS] = ITEMS(imports_of_user), [EXPORTS] = ITEMS(exports_of_user), [NAMES] = TEXT(names_of_user)}}, NULL},
-    {"a wrong body", {wrong_body, sizeof wrong_body, NULL, 0, STANDARD}, {1, {[REPORT] = {&report_on_wrong_body, 1}, [MESSAGE] = TEXT(WRONG_BODY)}}, NULL},
+        [FUNCTIONS] = ITEMS(functions_of_user), [IMPORTS] = ITEMS(imports_of_user), [EXPORTS] = ITEMS(exports_of_user),
+        [NAMES] = TEXT(names_of_user)}}, NULL},
+    {"a wrong body", {wrong_body, sizeof wrong_body, NULL, 0, STANDARD},
+        {1, {[REPORT] = {&report_on_wrong_body, 1}, [MESSAGE] = TEXT(WRONG_BODY)}}, NULL},
     {"a missing feature", {small_pages, sizeof small_pages, NULL, 0, STANDARD},
         {1, {[REPORT] = {&report_on_small_pages, 1}, [MESSAGE] = TEXT(SMALL_PAGES)}}, NULL},
     {"a feature", {small_pages, sizeof small_pages, NULL, 0, STANDARD | 32768}, {0, {[REPORT] = {&report_on_one_memory, 1}}}, NULL},
-    {"a name in a message", {one_name, sizeof one_name, NULL, 0, STANDARD}, {1, {[REPORT] = {&report_on_one_name, 1}, [MESSAGE] = TEXT(ONE_NAME)}}, NULL}};
+    {"a name in a message", {one_name, sizeof one_name, NULL, 0, STANDARD},
+        {1, {[REPORT] = {&report_on_one_name, 1}, [MESSAGE] = TEXT(ONE_NAME)}}, NULL}};
 
 /* Lists: a valid module, one with a wrong body, a valid one, one that ends the list, and one behind it. The ids are those of the valid ones. */
 #define LENT(array) {array, sizeof array}
@@ -42,8 +46,8 @@ static const struct ruthvelka_bytes one[] = {LENT(small_pages)};
     .globals = 6, .tags = 7}, {.offset = 34, .verdict = 1, .function = 1}, \
     {.imports = 3, .exports = 1, .verdict = 0, .function = NOWHERE, .types = 5, .functions = 4, .memories = 1}
 #define NOT_LOOKED_AT {.verdict = 3, .function = NOWHERE}
-static const struct ruthvelka_report reports_on_five[] = {ON_FIRST_THREE, {.offset = 11, .missing_features = 32768, .verdict = 1, .function = NOWHERE},
-    NOT_LOOKED_AT};
+static const struct ruthvelka_report reports_on_five[] = {ON_FIRST_THREE,
+    {.offset = 11, .missing_features = 32768, .verdict = 1, .function = NOWHERE}, NOT_LOOKED_AT};
 static const struct ruthvelka_report reports_with_null[] = {ON_FIRST_THREE, {.verdict = 1, .function = NOWHERE}, NOT_LOOKED_AT};
 static const uint32_t types_of_five[] = {0, 1, 2, 2, 3, 4, 5, 0}, functions_of_five[] = {2, 0, 0, 3, 2, 5};
 
@@ -65,7 +69,8 @@ static const struct facts lists[] = {
 /* Makes the call with these rooms, and says in a mistake which one of them is tried. */
 static void try_call(const struct call *call, const struct facts *facts, const struct rooms *rooms, enum array tried) {
     char what[100];
-    snprintf(what, sizeof what, "%s, with %s for %zu in %s", facts->name, rooms->is_null[tried] ? "null" : "room", rooms->of[tried], arrays[tried].name);
+    snprintf(what, sizeof what, "%s, with %s for %zu in %s", facts->name, rooms->is_null[tried] ? "null" : "room", rooms->of[tried],
+        arrays[tried].name);
     expect_answer(what, call, &facts->in, rooms, &facts->right, facts->asked, facts->right.of[QUERIES].count);
 }
 

@@ -159,8 +159,10 @@ static void expect_passed(const char *what, size_t which, const struct passed *i
     memset(&passed, 0, sizeof passed);
     expect(calls[which].name, what, calls[which].made(it) == calls[which].result && passed.name && !strcmp(passed.name, it->name)
             && passed.features == it->features && !memcmp(passed.counts, it->counts, sizeof it->counts));
-    for (int at = 0; at < calls[which].arrays; at++)
-        expect(calls[which].name, what, it->places[at] ? passed.places[at] == it->places[at] : passed.places[at] && !((uintptr_t)passed.places[at] % 8));
+    for (int at = 0; at < calls[which].arrays; at++) {
+        const void *place = passed.places[at];
+        expect(calls[which].name, what, it->places[at] ? place == it->places[at] : place && !((uintptr_t)place % 8));
+    }
     if (calls[which].has_report) expect(calls[which].name, what, it->report ? passed.report == it->report : passed.report != NULL);
 }
 

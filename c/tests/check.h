@@ -116,8 +116,8 @@ static void clear(struct written *it, const struct ruthvelka_query *asked, size_
     if (count) memcpy(it->queries, asked, count * sizeof *asked);
 }
 
-/* Of each array that the call has, and that isn't null, as much of the right answer as there is room for; and the length of all names, where the call has
-   them. */
+/* Of each array that the call has, and that isn't null, as much of the right answer as there is room for; and the length of all names, where the
+   call has them. */
 static void write_right(struct written *to, const struct call *call, const struct answer *right, const struct rooms *rooms) {
     for (int it = 0; it < ARRAYS; it++) {
         const size_t count = right->of[it].count < rooms->of[it] ? right->of[it].count : rooms->of[it];
@@ -139,8 +139,8 @@ static void expect_written(const char *what, const struct written *to, const str
 }
 
 /* Makes the call, and compares its result and all that it may write with what is right. */
-static inline void expect_answer(const char *what, const struct call *call, const struct input *in, const struct rooms *rooms, const struct answer *right,
-    const struct ruthvelka_query *asked, size_t asked_count) {
+static inline void expect_answer(const char *what, const struct call *call, const struct input *in, const struct rooms *rooms,
+    const struct answer *right, const struct ruthvelka_query *asked, size_t asked_count) {
     struct written to, wanted;
     char text[160];
     clear(&to, asked, asked_count), clear(&wanted, asked, asked_count);

@@ -1,5 +1,5 @@
-/* Each constant of the header by its value, and each field of its structures by its place, as its documents and programs in other languages have them.
-   It only has to compile. */
+/* Each constant of the header by its value, and each field of its structures by its place, as programs in other languages have them. It only has to
+   compile. */
 #include <ruthvelka.h>
 
 #define HAS(name, value) _Static_assert((name) == (value), #name)

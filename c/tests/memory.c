@@ -37,7 +37,8 @@ struct answers {
 
 #define NO_MEMORY_HERE {.verdict = 2, .function = NOWHERE}
 #define NO_BYTES {.verdict = 1, .function = NOWHERE}
-#define ON_MANY {.imports = 8, .exports = 9, .verdict = 0, .function = NOWHERE, .types = 3, .functions = 2, .tables = 4, .memories = 5, .globals = 6, .tags = 7}
+#define ON_MANY {.imports = 8, .exports = 9, .verdict = 0, .function = NOWHERE, .types = 3, .functions = 2, .tables = 4, .memories = 5, \
+    .globals = 6, .tags = 7}
 #define NOT_LOOKED_AT {.verdict = 3, .function = NOWHERE}
 static const struct ruthvelka_report no_memory = NO_MEMORY_HERE;
 static const struct ruthvelka_report without_message = {.offset = 32, .verdict = 1, .function = NOWHERE};
@@ -52,8 +53,9 @@ static const struct ruthvelka_query asked[] = {{0, 0, 1, 0, 0, 9}}, unknown[] = 
 static const struct answers all[] = {
     {"a valid module", {many, sizeof many, NULL, 0, STANDARD}, 0, 2,
         {{2, {[REPORT] = {&no_memory, 1}}}, {0, {[REPORT] = {&report_on_many, 1}, WITH_IDS, WITH_EXTERNS}}}},
-    {"a refused one", {one_name, sizeof one_name, NULL, 0, STANDARD}, 0, 3, {{2, {[REPORT] = {&no_memory, 1}}}, {1, {[REPORT] = {&without_message, 1}}},
-        {1, {[REPORT] = {&report_on_one_name, 1}, [MESSAGE] = {ONE_NAME, sizeof ONE_NAME - 1}}}}},
+    {"a refused one", {one_name, sizeof one_name, NULL, 0, STANDARD}, 0, 3,
+        {{2, {[REPORT] = {&no_memory, 1}}}, {1, {[REPORT] = {&without_message, 1}}},
+            {1, {[REPORT] = {&report_on_one_name, 1}, [MESSAGE] = {ONE_NAME, sizeof ONE_NAME - 1}}}}},
     {"a list", {NULL, 0, list, 2, STANDARD}, 1, 4, {{2, {{NULL, 0}}}, {0, {REPORTS_ARE(0), [QUERIES] = {unknown, 1}}},
         {0, {REPORTS_ARE(1), WITH_IDS, [QUERIES] = {denied, 1}}}, {0, {REPORTS_ARE(2), WITH_IDS, [QUERIES] = {denied, 1}}}}}};
 

@@ -22,12 +22,13 @@ static const uint8_t many[] = {0x00, 0x61, 0x73, 0x6d, 0x01, 0x00, 0x00, 0x00,
     /* the body of function 1 */
     0x0a, 0x04, 0x01, 0x02, 0x00, 0x0b};
 
-/* 5 types: [i64] -> [i32], as the last one of `many`; [] -> [i32]; an open sub type of [] -> []; a final one below it; and [] -> [], as the first one of
-   `many`. It imports a function a.x of type 4, a function a.first of type 1 and a memory a.m0, and has functions of the types 0 and 3. */
+/* 5 types: [i64] -> [i32], as the last one of `many`; [] -> [i32]; an open sub type of [] -> []; a final one below it; and [] -> [], as the first one
+   of `many`. It imports a function a.x of type 4, a function a.first of type 1 and a memory a.m0, and has functions of the types 0 and 3. */
 static const uint8_t user[] = {0x00, 0x61, 0x73, 0x6d, 0x01, 0x00, 0x00, 0x00,
     0x01, 0x18, 0x05, 0x60, 0x01, 0x7e, 0x01, 0x7f, 0x60, 0x00, 0x01, 0x7f, 0x50, 0x00, 0x60, 0x00, 0x00, 0x4f, 0x01, 0x02, 0x60, 0x00, 0x00,
     0x60, 0x00, 0x00,
-    0x02, 0x19, 0x03, 0x01, 'a', 0x01, 'x', 0x00, 0x04, 0x01, 'a', 0x05, 'f', 'i', 'r', 's', 't', 0x00, 0x01, 0x01, 'a', 0x02, 'm', '0', 0x02, 0x00, 0x01,
+    0x02, 0x19, 0x03, 0x01, 'a', 0x01, 'x', 0x00, 0x04, 0x01, 'a', 0x05, 'f', 'i', 'r', 's', 't', 0x00, 0x01,
+    0x01, 'a', 0x02, 'm', '0', 0x02, 0x00, 0x01,
     0x03, 0x03, 0x02, 0x00, 0x03, 0x07, 0x05, 0x01, 0x01, 'h', 0x00, 0x03, 0x0a, 0x09, 0x02, 0x04, 0x00, 0x41, 0x00, 0x0b, 0x02, 0x00, 0x0b};
 
 /* One type, an imported function, and one whose body leaves a number, which is seen at its `end`, byte 34. */
@@ -48,7 +49,8 @@ static const uint8_t one_name[] = {0x00, 0x61, 0x73, 0x6d, 0x01, 0x00, 0x00, 0x0
 #define NOWHERE 4294967295u
 static const struct ruthvelka_report report_on_many = {.offset = 0, .missing_features = 0, .message_length = 0, .imports = 8, .exports = 9,
     .names_length = 0, .verdict = 0, .function = NOWHERE, .types = 3, .functions = 2, .tables = 4, .memories = 5, .globals = 6, .tags = 7};
-static const struct ruthvelka_report report_on_user = {.imports = 3, .exports = 1, .verdict = 0, .function = NOWHERE, .types = 5, .functions = 4, .memories = 1};
+static const struct ruthvelka_report report_on_user = {.imports = 3, .exports = 1, .verdict = 0, .function = NOWHERE, .types = 5,
+    .functions = 4, .memories = 1};
 static const struct ruthvelka_report report_on_wrong_body = {.offset = 34, .message_length = sizeof WRONG_BODY - 1, .verdict = 1, .function = 1};
 static const struct ruthvelka_report report_on_small_pages = {.offset = 11, .missing_features = 32768, .message_length = sizeof SMALL_PAGES - 1,
     .verdict = 1, .function = NOWHERE};
@@ -60,8 +62,9 @@ static const struct ruthvelka_report report_on_one_name = {.offset = 32, .messag
 #define NO_ID 4294967295u
 static const uint32_t types_of_many[] = {0, 1, 2}, functions_of_many[] = {2, 0};
 static const struct ruthvelka_extern imports_of_many[] = {EXTERN(0, 3, 3, 4, 0, 2), EXTERN(7, 3, 10, 4, 4, 0), EXTERN(14, 3, 17, 3, 1, NO_ID),
-    EXTERN(20, 1, 21, 6, 2, NO_ID), EXTERN(27, 1, 28, 0, 3, NO_ID), EXTERN(28, 0, 28, 6, 3, NO_ID), EXTERN(34, 1, 35, 3, 4, 1), EXTERN(38, 1, 39, 5, 4, 0)};
+    EXTERN(20, 1, 21, 6, 2, NO_ID), EXTERN(27, 1, 28, 0, 3, NO_ID), EXTERN(28, 0, 28, 6, 3, NO_ID), EXTERN(34, 1, 35, 3, 4, 1),
+    EXTERN(38, 1, 39, 5, 4, 0)};
 static const struct ruthvelka_extern exports_of_many[] = {EXTERN(44, 0, 44, 1, 0, 0), EXTERN(45, 0, 45, 5, 0, 2), EXTERN(50, 0, 50, 5, 1, NO_ID),
-    EXTERN(55, 0, 55, 3, 2, NO_ID), EXTERN(58, 0, 58, 0, 3, NO_ID), EXTERN(58, 0, 58, 1, 4, 1), EXTERN(59, 0, 59, 2, 4, 0), EXTERN(61, 0, 61, 2, 2, NO_ID),
-    EXTERN(63, 0, 63, 2, 3, NO_ID)};
+    EXTERN(55, 0, 55, 3, 2, NO_ID), EXTERN(58, 0, 58, 0, 3, NO_ID), EXTERN(58, 0, 58, 1, 4, 1), EXTERN(59, 0, 59, 2, 4, 0),
+    EXTERN(61, 0, 61, 2, 2, NO_ID), EXTERN(63, 0, 63, 2, 3, NO_ID)};
 static const char names_of_many[] = "envfuncenvfuncenvtabmmemorymglobalttagtotherxfirsttablememeeem0gl";

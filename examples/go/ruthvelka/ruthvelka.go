@@ -14,7 +14,7 @@ import (
 	"unsafe"
 )
 
-// Standard is what the standard has.
+// Standard is RUTHVELKA_STANDARD, of which the header says what it has.
 const Standard = uint64(C.RUTHVELKA_STANDARD)
 
 // Told is what is told of a valid module.

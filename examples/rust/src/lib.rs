@@ -4,7 +4,7 @@ pub mod sys;
 
 use std::ptr::null_mut;
 
-/// What the standard has.
+/// `RUTHVELKA_STANDARD`, of which the header says what it has.
 pub const STANDARD: u64 = 32703;
 
 /// Why bytes aren't taken for a valid module.

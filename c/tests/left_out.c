@@ -1,0 +1,92 @@
+/* What the header says is left out is refused, under all features or without a feature of its own; and what it doesn't name there is not. */
+#include <ruthvelka.h>
+#include <stdio.h>
+#include <string.h>
+
+#define ALL ((UINT64_C(1) << 22) - 1)
+static long wrong;
+
+/* Validates a module with a memory and a function whose body is `unreachable`, these bytes, `unreachable` and `end`. The bytes begin at byte 29. */
+static uint32_t validate(const uint8_t *code, uint8_t length, uint64_t features, char text[64], struct ruthvelka_report *report) {
+    uint8_t module[64] = {0x00, 0x61, 0x73, 0x6d, 0x01, 0x00, 0x00, 0x00, 0x01, 0x04, 0x01, 0x60, 0x00, 0x00, 0x03, 0x02, 0x01, 0x00,
+        0x05, 0x03, 0x01, 0x00, 0x01, 0x0a, 0, 0x01, 0, 0x00, 0x00};
+    module[24] = (uint8_t)(length + 6), module[26] = (uint8_t)(length + 4);
+    memcpy(module + 29, code, length);
+    module[29 + length] = 0x00, module[30 + length] = 0x0b;
+    return ruthvelka_validate(module, 31u + length, features, text, 64, report);
+}
+
+/* The message has to begin so: these bytes may be refused for nothing else. */
+static void expect_refused(const char *what, const uint8_t *code, uint8_t length, uint64_t features, const char *why) {
+    struct ruthvelka_report report;
+    char text[64];
+    if (validate(code, length, features, text, &report) == RUTHVELKA_REFUSED && report.offset == 29 && !memcmp(text, why, strlen(why))) return;
+    printf("wrong: %s is not refused as it should be\n", what);
+    wrong++;
+}
+
+/* The operators of each group by their first numbers and how many there are. Behind them come zeros. */
+static void try_left_out(void) {
+    static const struct {
+        const char *name;
+        uint8_t code[2];
+        int at, count;
+    } groups[] = {{"an operator of stack switching", {0xe0}, 0, 7}, {"ref.get_desc, or a cast or a branch by a descriptor", {0xfb, 0x22}, 1, 5},
+        {"memory.discard", {0xfc, 0x12}, 1, 1}, {"an operator of wide arithmetic", {0xfc, 0x13}, 1, 4},
+        {"an atomic access to a global, a table, a structure or an array", {0xfe, 0x4f}, 1, 35}};
+    for (size_t group = 0; group < sizeof groups / sizeof *groups; group++)
+        for (int it = 0; it < groups[group].count; it++) {
+            uint8_t code[16] = {groups[group].code[0], groups[group].code[1]};
+            code[groups[group].at] = (uint8_t)(code[groups[group].at] + it);
+            expect_refused(groups[group].name, code, sizeof code, ALL, "illegal opcode");
+        }
+}
+
+/* Each is valid under all features, and refused without its own. */
+static void try_opt_in(void) {
+    static const char vectors[] = "vector operators are not served", atomics[] = "atomic operators are not served", legacy[] = "illegal opcode 0x06";
+    static const struct {
+        const char *name;
+        uint64_t feature;
+        const char *why;
+        uint8_t length, code[6];
+    } operators[] = {{"i32x4.add", RUTHVELKA_VECTOR_OPERATORS, vectors, 3, {0xfd, 0xae, 0x01}},
+        {"i8x16.relaxed_swizzle", RUTHVELKA_VECTOR_OPERATORS, vectors, 3, {0xfd, 0x80, 0x02}},
+        {"v128.load", RUTHVELKA_VECTOR_OPERATORS, vectors, 4, {0xfd, 0x00, 0x00, 0x00}},
+        {"atomic.fence", RUTHVELKA_ATOMIC_OPERATORS, atomics, 3, {0xfe, 0x03, 0x00}},
+        {"i32.atomic.load", RUTHVELKA_ATOMIC_OPERATORS, atomics, 4, {0xfe, 0x10, 0x02, 0x00}},
+        {"try", RUTHVELKA_LEGACY_EXCEPTIONS, legacy, 3, {0x06, 0x40, 0x0b}},
+        {"try and rethrow", RUTHVELKA_LEGACY_EXCEPTIONS, legacy, 6, {0x06, 0x40, 0x19, 0x09, 0x00, 0x0b}},
+        {"try and delegate", RUTHVELKA_LEGACY_EXCEPTIONS, legacy, 4, {0x06, 0x40, 0x18, 0x00}}};
+    for (size_t it = 0; it < sizeof operators / sizeof *operators; it++) {
+        char text[64];
+        expect_refused(operators[it].name, operators[it].code, operators[it].length, ALL & ~operators[it].feature, operators[it].why);
+        expect_refused(operators[it].name, operators[it].code, operators[it].length, RUTHVELKA_STANDARD, operators[it].why);
+        if (validate(operators[it].code, operators[it].length, ALL, text, NULL) == RUTHVELKA_VALID) continue;
+        printf("wrong: %s is refused\n", operators[it].name);
+        wrong++;
+    }
+}
+
+/* v128.const, shared memories and continuation types are none of them, and a component is. */
+static void try_others(void) {
+    static const uint8_t constant[18] = {0xfd, 0x0c}, component[] = {0x00, 0x61, 0x73, 0x6d, 0x0d, 0x00, 0x01, 0x00},
+        shared[] = {0x00, 0x61, 0x73, 0x6d, 0x01, 0x00, 0x00, 0x00, 0x05, 0x04, 0x01, 0x03, 0x01, 0x02},
+        continuation[] = {0x00, 0x61, 0x73, 0x6d, 0x01, 0x00, 0x00, 0x00, 0x01, 0x06, 0x02, 0x60, 0x00, 0x00, 0x5d, 0x00};
+    char text[64];
+    const int are_right = validate(constant, sizeof constant, RUTHVELKA_STANDARD, text, NULL) == RUTHVELKA_VALID
+        && ruthvelka_validate(shared, sizeof shared, RUTHVELKA_STANDARD, NULL, 0, NULL) == RUTHVELKA_VALID
+        && ruthvelka_validate(shared, sizeof shared, RUTHVELKA_STANDARD & ~RUTHVELKA_THREADS, NULL, 0, NULL) == RUTHVELKA_REFUSED
+        && ruthvelka_validate(continuation, sizeof continuation, ALL, NULL, 0, NULL) == RUTHVELKA_VALID
+        && ruthvelka_validate(continuation, sizeof continuation, RUTHVELKA_STANDARD, NULL, 0, NULL) == RUTHVELKA_REFUSED
+        && ruthvelka_validate(component, sizeof component, ALL, NULL, 0, NULL) == RUTHVELKA_REFUSED;
+    if (!are_right) printf("wrong: v128.const, a shared memory, a continuation type or a component\n"), wrong++;
+}
+
+int main(void) {
+    try_left_out();
+    try_opt_in();
+    try_others();
+    printf("%ld wrong answers about what is left out\n", wrong);
+    return wrong != 0;
+}
