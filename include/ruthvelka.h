@@ -21,7 +21,8 @@
    and malloc or the functions that ruthvelka_set_allocator was given. It trusts nothing in the bytes of a module.
 
    Memory. Nothing is kept between calls, so there is nothing to be freed. While a call runs, memory comes from malloc, realloc and free, or from
-   what ruthvelka_set_allocator was given. Where a request is refused the verdict is RUTHVELKA_NO_MEMORY, and all that was taken is given back.
+   what ruthvelka_set_allocator was given. Where a request is refused the verdict is RUTHVELKA_NO_MEMORY, or, where only a message wanted it, the
+   right one without a message; and all that was taken is given back.
 
    Threads. Calls may run side by side, in any number of threads. What a call is given belongs to it until it returns; bytes and lists of modules
    are only read, so calls may share them. What it writes may overlap nothing else that it is given. Make no call in a signal handler.

@@ -74,30 +74,45 @@ static void try_call(const struct call *call, const struct facts *facts, const s
     expect_answer(what, call, &facts->in, rooms, &facts->right, facts->asked, facts->right.of[QUERIES].count);
 }
 
-/* Tries each room of one array, and a null pointer, where all others have room for one more than there are. */
-static void try_array(const struct call *call, const struct facts *facts, enum array tried) {
-    const size_t count = facts->right.of[tried].count;
+/* Room for one more than there are in each array, but for questions, all of which are answered. */
+static struct rooms enough(const struct facts *facts) {
     struct rooms rooms;
     for (int it = 0; it < ARRAYS; it++) rooms.of[it] = facts->right.of[it].count + (it != QUERIES), rooms.is_null[it] = 0;
     rooms.of[REPORT] = 1;
-    if (tried != REPORT) {
-        const size_t tries[] = {0, count ? count - 1 : 0, count, count + (tried != QUERIES)};
-        for (size_t it = 0; it < sizeof tries / sizeof *tries; it++) rooms.of[tried] = tries[it], try_call(call, facts, &rooms, tried);
-        rooms.of[tried] = 0;
-    }
-    rooms.is_null[tried] = 1;
+    return rooms;
+}
+
+/* Tries each room of one array, where all others have enough. */
+static void try_rooms(const struct call *call, const struct facts *facts, enum array tried) {
+    const size_t count = facts->right.of[tried].count, tries[] = {0, count ? count - 1 : 0, count, count + (tried != QUERIES)};
+    struct rooms rooms = enough(facts);
+    for (size_t it = 0; it < sizeof tries / sizeof *tries; it++) rooms.of[tried] = tries[it], try_call(call, facts, &rooms, tried);
+}
+
+/* Tries a null pointer for one array, or for the report. */
+static void try_null(const struct call *call, const struct facts *facts, enum array tried) {
+    struct rooms rooms = enough(facts);
+    rooms.of[tried] = tried == REPORT, rooms.is_null[tried] = 1;
     try_call(call, facts, &rooms, tried);
 }
 
-static void try_all(const struct call *call, const struct facts *facts, size_t count) {
-    for (size_t it = 0; it < count; it++)
-        for (int tried = 0; tried < ARRAYS; tried++)
-            if (call->has[tried]) try_array(call, &facts[it], (enum array)tried);
+static void try_arrays(const struct call *call, const struct facts *facts) {
+    for (int it = 0; it < ARRAYS; it++) {
+        if (call->has[it] && it != REPORT) try_rooms(call, facts, (enum array)it);
+        if (call->has[it]) try_null(call, facts, (enum array)it);
+    }
+}
+
+static void try_modules(const struct call *call) {
+    for (size_t it = 0; it < sizeof modules / sizeof *modules; it++) try_arrays(call, &modules[it]);
+}
+
+static void try_lists(const struct call *call) {
+    for (size_t it = 0; it < sizeof lists / sizeof *lists; it++) try_arrays(call, &lists[it]);
 }
 
 int main(void) {
-    for (int it = 0; it < SINGLE_CALLS; it++) try_all(&calls[it], modules, sizeof modules / sizeof *modules);
-    for (int it = SINGLE_CALLS; it < CALLS; it++) try_all(&calls[it], lists, sizeof lists / sizeof *lists);
+    for (int it = 0; it < CALLS; it++) (it < SINGLE_CALLS ? try_modules : try_lists)(&calls[it]);
     printf("%ld wrong answers\n", wrong);
     return wrong != 0;
 }

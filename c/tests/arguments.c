@@ -17,7 +17,9 @@ static struct passed {
 } passed;
 /* The proposals that are known here. */
 static const uint64_t known = UINT64_C(1) << 40 | UINT64_C(1) << 3;
-static const uint8_t *first_bytes, *last_bytes;
+/* And the modules of its list. */
+#define MODULES 4
+static struct ruthvelka_bytes passed_modules[MODULES];
 
 uint32_t ruthvelka_proved_version(void) {
     return 2000;
@@ -59,8 +61,8 @@ uint32_t ruthvelka_proved_validate_with_externs(const uint8_t *bytes, size_t len
 }
 
 static void keep_list(const struct ruthvelka_bytes *modules, size_t count) {
-    first_bytes = count ? modules[0].bytes : NULL;
-    last_bytes = count ? modules[count - 1].bytes : NULL;
+    memset(passed_modules, 0, sizeof passed_modules);
+    memcpy(passed_modules, modules, (count < MODULES ? count : MODULES) * sizeof *modules);
 }
 
 uint32_t ruthvelka_proved_validate_list(const struct ruthvelka_bytes *modules, size_t module_count, uint64_t features,
@@ -126,8 +128,9 @@ static const struct {
 
 static long wrong, blocks;
 static int is_memory_refused;
-/* The arrays that are given. Each of them is a list of modules too, of which the last is of no bytes, at a null pointer. */
-static struct ruthvelka_bytes lists[MOST][4];
+/* The arrays that are given. The first one is a list of modules too. */
+static const uint8_t bytes[MODULES];
+static struct ruthvelka_bytes lists[MOST][MODULES] = {{{&bytes[0], 1}, {&bytes[1], 1}, {&bytes[2], 1}, {&bytes[3], 1}}};
 static struct ruthvelka_report report;
 
 static void expect(const char *name, const char *what, int is_right) {
@@ -150,7 +153,7 @@ static void release(void *block) {
 /* Right arguments, of which all counts differ. */
 static struct passed given(size_t which) {
     struct passed it = {calls[which].name, known, {NULL}, {0}, calls[which].has_report ? &report : NULL};
-    for (int at = 0; at < calls[which].arrays; at++) it.places[at] = lists[at], it.counts[at] = calls[which].has_list && !at ? 3 : 40 + (size_t)at;
+    for (int at = 0; at < calls[which].arrays; at++) it.places[at] = lists[at], it.counts[at] = calls[which].has_list && !at ? MODULES : 40 + (size_t)at;
     return it;
 }
 
@@ -197,7 +200,10 @@ static void try_wrong(size_t which) {
         it.places[at] = lists[at], it.counts[at] = (size_t)PTRDIFF_MAX + 1;
         expect_kept("an array of too many items", which, &it);
     }
-    for (int bit = 0; bit < 64 && which + 1 < CALLS; bit++) {
+}
+
+static void try_features(size_t which) {
+    for (int bit = 0; bit < 64; bit++) {
         struct passed it = given(which);
         it.features = UINT64_C(1) << bit;
         if (known & it.features) expect_passed("a known feature", which, &it);
@@ -205,19 +211,38 @@ static void try_wrong(size_t which) {
     }
 }
 
-/* A list with a null pointer at its end is passed on as a copy, for which memory is taken, and given back. */
-static void try_null_in_list(size_t which) {
+/* Whether the modules that were passed on are those of this list, with something in the place of a null pointer. */
+static int are_passed(const struct ruthvelka_bytes *list) {
+    int all = 1;
+    for (int it = 0; it < MODULES; it++)
+        all &= passed_modules[it].length == list[it].length
+            && (list[it].bytes ? passed_modules[it].bytes == list[it].bytes : passed_modules[it].bytes != NULL);
+    return all;
+}
+
+/* A list with a null pointer is passed on as a copy, for which memory is taken, and given back. */
+static void try_null_in_list(size_t which, int at) {
+    struct ruthvelka_bytes list[MODULES];
     struct passed it = given(which);
-    it.counts[0] = 4;
+    memcpy(list, lists[0], sizeof list);
+    list[at] = (struct ruthvelka_bytes){NULL, 0};
+    it.places[0] = list;
     passed.name = NULL;
     expect(calls[which].name, "a null pointer in a list",
-        calls[which].made(&it) == calls[which].result && passed.name && passed.places[0] != it.places[0] && passed.counts[0] == 4);
-    expect(calls[which].name, "the modules of a copied list", first_bytes == lists[0][0].bytes && last_bytes);
+        calls[which].made(&it) == calls[which].result && passed.name && passed.places[0] != list && passed.counts[0] == MODULES);
+    expect(calls[which].name, "the modules of a copied list", are_passed(list));
     expect(calls[which].name, "the memory of a copied list", !blocks);
     passed.name = NULL, is_memory_refused = 1;
     expect(calls[which].name, "no memory for a copied list", calls[which].made(&it) == RUTHVELKA_NO_MEMORY && !passed.name);
-    it.counts[0] = 3;
+    is_memory_refused = 0;
+}
+
+static void try_list(size_t which) {
+    const struct passed it = given(which);
+    for (int at = 0; at < MODULES; at++) try_null_in_list(which, at);
+    is_memory_refused = 1;
     expect_passed("no memory, where none is wanted", which, &it);
+    expect(calls[which].name, "the modules of a list", are_passed(lists[0]));
     is_memory_refused = 0;
 }
 
@@ -231,14 +256,12 @@ static void try_feature(void) {
 }
 
 int main(void) {
-    static const uint8_t byte;
-    for (int at = 0; at < MOST; at++)
-        for (int it = 0; it < 3; it++) lists[at][it] = (struct ruthvelka_bytes){&byte, 1};
     ruthvelka_set_allocator(allocate, realloc, release);
     for (size_t which = 0; which < CALLS; which++) {
         try_right(which);
         try_wrong(which);
-        if (calls[which].has_list) try_null_in_list(which);
+        if (which + 1 < CALLS) try_features(which);
+        if (calls[which].has_list) try_list(which);
     }
     try_feature();
     expect("version", "the result", ruthvelka_version() == 2000);

@@ -27,16 +27,19 @@ static void try_room(const char *name, uint64_t bit, size_t room) {
     expect(what, result == length && !memcmp(to, right, sizeof to));
 }
 
-static void try_names(void) {
-    for (size_t it = 0; it < COUNT; it++) {
-        const size_t length = strlen(names[it]), rooms[] = {0, length - 1, length, length + 1};
-        const uint64_t bit = UINT64_C(1) << it;
-        expect(names[it], ruthvelka_feature(names[it], length) == bit);
-        expect("a name cut off", !ruthvelka_feature(names[it], length - 1));
-        expect("the length of a name", ruthvelka_feature_name(bit, NULL, 0) == length);
-        for (int room = 0; room < 4; room++) try_room(names[it], bit, rooms[room]);
+static void try_name(const char *name, uint64_t bit) {
+    const size_t length = strlen(name), rooms[] = {0, length - 1, length, length + 1};
+    expect(name, ruthvelka_feature(name, length) == bit);
+    expect("a name cut off", !ruthvelka_feature(name, length - 1));
+    expect("the length of a name", ruthvelka_feature_name(bit, NULL, 0) == length);
+    for (int it = 0; it < 4; it++) try_room(name, bit, rooms[it]);
+}
+
+static void try_bits(void) {
+    for (size_t it = 0; it < 64; it++) {
+        if (it < COUNT) try_name(names[it], UINT64_C(1) << it);
+        else expect("a bit of no proposal", !ruthvelka_feature_name(UINT64_C(1) << it, NULL, 0));
     }
-    for (size_t it = COUNT; it < 64; it++) expect("a bit of no proposal", !ruthvelka_feature_name(UINT64_C(1) << it, NULL, 0));
 }
 
 /* What is no proposal, and no array. */
@@ -52,7 +55,7 @@ static void try_none(void) {
 }
 
 int main(void) {
-    try_names();
+    try_bits();
     try_none();
     expect("the version", ruthvelka_version() == 1000);
     printf("%ld wrong answers about proposals\n", wrong);

@@ -25,21 +25,27 @@ static void expect_refused(const char *what, const uint8_t *code, uint8_t length
     wrong++;
 }
 
-/* The operators of each group by their first numbers and how many there are. Behind them come zeros. */
+/* So many operators from this one on, by their first byte or, behind a prefix, the second. Behind them come zeros. */
+struct group {
+    const char *name;
+    uint8_t code[2];
+    int at, count;
+};
+
+static void try_group(const struct group *group) {
+    for (int it = 0; it < group->count; it++) {
+        uint8_t code[16] = {group->code[0], group->code[1]};
+        code[group->at] = (uint8_t)(code[group->at] + it);
+        expect_refused(group->name, code, sizeof code, ALL, "illegal opcode");
+    }
+}
+
 static void try_left_out(void) {
-    static const struct {
-        const char *name;
-        uint8_t code[2];
-        int at, count;
-    } groups[] = {{"an operator of stack switching", {0xe0}, 0, 7}, {"ref.get_desc, or a cast or a branch by a descriptor", {0xfb, 0x22}, 1, 5},
+    static const struct group groups[] = {{"an operator of stack switching", {0xe0}, 0, 7}, 
+        {"ref.get_desc, or a cast or a branch by a descriptor", {0xfb, 0x22}, 1, 5},
         {"memory.discard", {0xfc, 0x12}, 1, 1}, {"an operator of wide arithmetic", {0xfc, 0x13}, 1, 4},
         {"an atomic access to a global, a table, a structure or an array", {0xfe, 0x4f}, 1, 35}};
-    for (size_t group = 0; group < sizeof groups / sizeof *groups; group++)
-        for (int it = 0; it < groups[group].count; it++) {
-            uint8_t code[16] = {groups[group].code[0], groups[group].code[1]};
-            code[groups[group].at] = (uint8_t)(code[groups[group].at] + it);
-            expect_refused(groups[group].name, code, sizeof code, ALL, "illegal opcode");
-        }
+    for (size_t it = 0; it < sizeof groups / sizeof *groups; it++) try_group(&groups[it]);
 }
 
 /* Each is valid under all features, and refused without its own. */
