@@ -153,7 +153,8 @@ static void release(void *block) {
 /* Right arguments, of which all counts differ. */
 static struct passed given(size_t which) {
     struct passed it = {calls[which].name, known, {NULL}, {0}, calls[which].has_report ? &report : NULL};
-    for (int at = 0; at < calls[which].arrays; at++) it.places[at] = lists[at], it.counts[at] = calls[which].has_list && !at ? MODULES : 40 + (size_t)at;
+    for (int at = 0; at < calls[which].arrays; at++) it.places[at] = lists[at], it.counts[at] = 40 + (size_t)at;
+    if (calls[which].has_list) it.counts[0] = MODULES;
     return it;
 }
 
