@@ -13,7 +13,7 @@
    - memory.discard.
    These are refused without a feature of their own, which RUTHVELKA_STANDARD doesn't have:
    - the operators on vectors other than v128.const, without RUTHVELKA_VECTOR_OPERATORS;
-   - the atomic operators on memories, without RUTHVELKA_ATOMIC_OPERATORS;
+   - the atomic operators on memories and atomic.fence, without RUTHVELKA_ATOMIC_OPERATORS;
    - try, catch, catch_all, rethrow and delegate, the operators of legacy exceptions, without RUTHVELKA_LEGACY_EXCEPTIONS.
 
    Trust. The library trusts its caller for what C can't test: that each pointer is of as many items as its count says, that what a call writes
@@ -79,11 +79,11 @@ extern "C" {
 #define RUTHVELKA_STACK_SWITCHING (UINT64_C(1) << 17)          /* continuation types; see "Left out" */
 #define RUTHVELKA_COMPONENT_MODEL (UINT64_C(1) << 18)          /* components, which are not validated */
 #define RUTHVELKA_VECTOR_OPERATORS (UINT64_C(1) << 19)         /* the operators on vectors, also the relaxed ones; they need SIMD too */
-#define RUTHVELKA_ATOMIC_OPERATORS (UINT64_C(1) << 20)         /* the atomic operators on memories, which need THREADS too */
-#define RUTHVELKA_LEGACY_EXCEPTIONS (UINT64_C(1) << 21)        /* try, catch, catch_all, rethrow and delegate, which need EXCEPTIONS too */
+#define RUTHVELKA_ATOMIC_OPERATORS (UINT64_C(1) << 20)         /* the atomic operators on memories and atomic.fence; they need THREADS too */
+#define RUTHVELKA_LEGACY_EXCEPTIONS (UINT64_C(1) << 21)        /* try, catch, catch_all, rethrow and delegate; they need EXCEPTIONS too */
 /* All but SHARED_EVERYTHING_THREADS, CUSTOM_PAGE_SIZES, CUSTOM_DESCRIPTORS, STACK_SWITCHING, COMPONENT_MODEL, VECTOR_OPERATORS, ATOMIC_OPERATORS and
-   LEGACY_EXCEPTIONS. That is the Core Specification 3.0, but for two things: it has no operator on vectors other than v128.const, which
-   VECTOR_OPERATORS adds; and it has THREADS, so memories may be shared, which the specification doesn't know. */
+   LEGACY_EXCEPTIONS. That is the Core Specification 3.0, but for two things: the operators on vectors other than v128.const are missing, which
+   RUTHVELKA_VECTOR_OPERATORS adds; and RUTHVELKA_THREADS is on, so memories may be shared, which the specification doesn't have. */
 #define RUTHVELKA_STANDARD UINT64_C(32703)
 
 /* What a call reports on a module. */
