@@ -192,7 +192,7 @@ struct ruthvelka_extern {
        if (ruthvelka_validate_with_externs(bytes, length, RUTHVELKA_STANDARD, NULL, 0, &report, imports, 64, NULL, 0, names, sizeof names)
                == RUTHVELKA_VALID && report.names_length <= sizeof names)
            for (uint64_t i = 0; i < report.imports && i < 64; i++)
-               printf("%.*s\n", (int)imports[i].name_length, names + imports[i].name_start); */
+               print_escaped(names + imports[i].name_start, (size_t)imports[i].name_length); */
 uint32_t ruthvelka_validate_with_externs(const uint8_t *bytes, size_t length, uint64_t features, char *message, size_t message_room,
     struct ruthvelka_report *report, struct ruthvelka_extern *imports, size_t import_room, struct ruthvelka_extern *exports, size_t export_room,
     char *names, size_t name_room);
