@@ -4,11 +4,9 @@ Each item has a section, with what its source says: its text, the texts of its f
 method with its text and its conditions. Names are those that `wasm_validator` gives. GROUPS says on which page an item is, by the file that
 declares it; an item without a group, or without a text, ends this with status 1."""
 import re
-import textwrap
 
-from docs_sources import Item, TRAIT_ITEM, body_of, derived_before, has_body, head_of, stop, text_before, without_parameters
+from docs_sources import TRAIT_ITEM, WIDTH, Anchors, Item, body_of, derived_before, has_body, head_of, slug, stop, text_before, without_parameters, wrap
 
-WIDTH = 150
 ONLY_READING = ("wasm_readers", "wasm_items", "wasm_parser")
 # Traits of the kit that say something to a caller.
 KNOWN = "Clone Copy Debug Default Display Eq Ord PartialEq PartialOrd Hash Error Iterator ExactSizeIterator Deref DerefMut Index From Flags".split()
@@ -55,7 +53,8 @@ PAGES = {
         "find out why and where something was refused",
         ["gate.rt", "interpreter.rt"],
         "`Validator` and the methods of a module return `Error`; readers and validators of bodies return `BodyError`, which is `Copy`; readers that "
-        "don't allocate return a `Refusal`. Each has a fault, which prints itself, an offset, and the proposal that is missing, if one is.",
+        "don't allocate return a `Refusal`. Each has a fault, which prints itself, an offset, and the proposal that is missing, if one is. Behind `//` a variant "
+        "has the message that it prints.",
     ),
 }
 
@@ -73,13 +72,13 @@ GROUPS = [
     ("operators", "All operators", ["wasm_operators/operators", "wasm_validator_func/next_operator"]),
     ("operators", "Families of operators", ["wasm_operators", "wasm_operators_plain", "wasm_operators_vector", "wasm_operators_atomic"]),
     ("operators", "How many operands an operator takes and gives", ["wasm_operator_arity"]),
-    ("validate", "Limits", ["MAX_*"]),
-    ("validate", "Whole modules and lists of modules", ["wasm_validator/list", "wasm_validator_modules/payload"]),
+    ("validate", "Whole modules and lists of modules", ["wasm_validator_modules/payload", "wasm_validator/list"]),
     ("validate", "Payload by payload", ["wasm_validator_modules"]),
     ("validate", "Features", ["wasm_readers_features"]),
     ("validate", "Bodies", ["wasm_validator_func", "wasm_operator_validator"]),
     ("validate", "What bodies and expressions look up", ["wasm_validator_resources", "wasm_validator_core_resources", "wasm_validator_references"]),
     ("validate", "Item by item", ["wasm_validator_sections", "wasm_validator_core/module", "wasm_validator_items", "wasm_validator_constants", "wasm_validator_states/maybe_owned"]),
+    ("validate", "Limits", ["MAX_*"]),
     ("validate", "Laws", ["wasm_validator/laws", "wasm_validator_states/lib"]),
     ("types", "Value types", ["wasm_readers_values/values"]),
     ("types", "Defined types", ["wasm_readers_types/types", "wasm_readers_types/items"]),
@@ -93,27 +92,6 @@ GROUPS = [
     ("errors", "Faults of the format", ["Malformed", "Integer", "OutOfOrder"]),
     ("errors", "Broken rules", ["wasm_readers_errors"]),
 ]
-
-
-def slug(heading):
-    """The anchor of a heading, as GitHub makes it."""
-    return re.sub(r"[^\w\- ]", "", heading.lower()).replace(" ", "-")
-
-
-class Anchors:
-    """The anchors of a page's headings, in order: one that comes again gets a number."""
-
-    def __init__(self):
-        self.counts = {}
-
-    def of(self, heading):
-        plain = slug(heading)
-        count = self.counts[plain] = self.counts.get(plain, -1) + 1
-        return f"{plain}-{count}" if count else plain
-
-
-def wrap(text, first="", then=""):
-    return textwrap.fill(text, WIDTH, initial_indent=first, subsequent_indent=then, break_long_words=False, break_on_hyphens=False)
 
 
 def flow(text):
@@ -130,19 +108,19 @@ def flow(text):
 
 
 def group_of(name, item):
-    """The number of the group of an item: the one that names it, or its file, or its crate, whichever says most."""
+    """The number of the group of an item, and its place there: of the one that names it, or its file, or its crate, whichever says most."""
     crate, _, file = item.path[len("crates/") : -len(".rt")].partition("/src/")
     place = f"{crate}/{file}"
     found = []
     for at, (_, _, words) in enumerate(GROUPS):
-        for word in words:
+        for order, word in enumerate(words):
             if word == name or word.endswith("*") and name.startswith(word[:-1]):
-                found.append((len(place) + 1, at))
+                found.append((len(place) + 1, at, order))
             elif place == word or place.startswith(f"{word}/"):
-                found.append((len(word), at))
+                found.append((len(word), at, order))
     if not found:
         stop(f"no group of tools/docs_api.py has `{name}`, of {item.path}")
-    return max(found)[1]
+    return max(found)[1:]
 
 
 class Pages:
@@ -163,8 +141,8 @@ class Pages:
         for name, it in self.items.items():
             self.names.setdefault(it, []).append(name)
         self.groups = [[] for _ in GROUPS]
-        for name, it in sorted(self.items.items(), key=lambda it: (it[1].path, it[1].at, it[0])):
-            self.groups[group_of(name, it)].append(name)
+        for name, it in sorted(self.items.items(), key=lambda it: (group_of(*it), it[1].path, it[1].at, it[0])):
+            self.groups[group_of(name, it)[0]].append(name)
         for page, (title, _, _, _) in PAGES.items():
             self.add_places(page, title)
 
@@ -282,12 +260,11 @@ class Pages:
             of = without_parameters(it.owner)[1]
             whole += f" for {it.owner}" if re.search(r"[A-Z]\w+", of) else ""
             own.append((f"`{self.with_names(it.module, whole)}`", self.text(page, it.module, it.text)))
-        names = [f"`{it}`" for it in KNOWN if it in plain] + [f"`{it}`" for it in sorted(plain) if it in self.items]
+        names = [f"`{it}`" for it in [*KNOWN, *sorted(set(self.items) - set(KNOWN))] if it in plain]
         out = [wrap(f"Implements {', '.join(names)}.")] if names else []
-        out += [wrap(f"- {trait}{': ' if text else ''}{' '.join(text.split())}", "", "  ") for trait, text in sorted(set(own))] and [
-            *([""] if names else ["Implements:", ""]),
-            *(wrap(f"- {trait}{': ' if text else ''}{' '.join(text.split())}", "", "  ") for trait, text in sorted(set(own))),
-        ]
+        if own:
+            out += [""] if names else ["Implements:", ""]
+            out += [wrap(f"- {trait}{': ' if text else ''}{' '.join(text.split())}", "", "  ") for trait, text in sorted(set(own))]
         return [*out, *([wrap(f"Implemented by {', '.join(sorted(set(others)))}.")] if others else [])]
 
     def is_of_examples(self, impl):
@@ -374,9 +351,16 @@ def declaration(item):
         inner = with_texts(whole, lambda row: re.match(r"    pub (?!ghost)", row))
         return "\n".join([whole[0], *inner, whole[-1]]) if inner else re.sub(r" *\{$", "", whole[0]) + " { .. }"
     if item.kind == "trait":
-        inner = with_texts(whole, lambda row: re.match(r"    (type|const) ", row))
+        inner = with_texts(whole, lambda row: re.match(r"    (type|const|ghost (?!use)).*;$", row))
         return "\n".join([whole[0], *inner, "    ..", whole[-1]])
-    return "\n".join(row.rstrip() for row in whole if not re.match(r" *(//(?!/)|#\[|ghost )", row))
+    return "\n".join(with_message(item, row.rstrip()) for row in whole if not re.match(r" *(//(?!/)|#\[|ghost )", row))
+
+
+def with_message(item, row):
+    """A variant of a fault with the message that it prints, where that is one text."""
+    variant = re.match(r"    (\w+)(?:\([^)]*\))?,$", row)
+    found = item.path.startswith("crates/wasm_readers_errors/") and variant and re.search(rf'\b{item.name}::{variant[1]}(?:\(_\))? =>\s*"([^"]*)"', "\n".join(item.rows))
+    return f"{row} // {found[1]}" if found else row
 
 
 def write_api(library):

@@ -4,7 +4,7 @@ A row names the constant or the expression that has the value, the variant that 
 up in the sources: what isn't found ends this with status 1, and so does a constant MAX_* of a library that no row is about."""
 import re
 
-from docs_sources import Item, head_of, stop
+from docs_sources import Item, stop, wrap
 
 # Constants that say how something is stored, and limit nothing that a module may have.
 NO_LIMITS = {"MAX_LISTED": "so many ancestors of a type are listed with it, and further ones are looked up"}
@@ -82,19 +82,16 @@ FREE = [
     "how many modules one validator reads, as long as there are ids for their types.",
 ]
 
-INTRODUCTION = """# Limits
-
-Made by `tools/write_docs.py`, which takes the values and messages from the sources.
-
-## This validator's own
-
-The standard lets each validator set such limits (Core Specification 3.0, Appendix, Implementation Limitations); the numbers are this validator's. What
-passes one isn't valid here: `KeepsLimits` and the other definitions of docs/DEFINITIONS.md have the same numbers. "At the section's count" means that the
-section is refused before its first item is read, at the offset of its count; any other refusal is at the offset of the item. A limit on what is in one
-list counts what earlier sections of the same kind and imports added; the count of a data section is compared alone. N in a message is a number.
-
-A constant with a name is public, under that name, in `wasm_validator`.
-"""
+INTRODUCTION = [
+    "# Limits",
+    "Made by `tools/write_docs.py`, which takes the values and messages from the sources.",
+    "## This validator's own",
+    "The standard lets each validator set such limits (Core Specification 3.0, Appendix, Implementation Limitations); the numbers are this validator's. "
+    "What passes one isn't valid here: `KeepsLimits` and the other definitions of docs/DEFINITIONS.md have the same numbers.",
+    "\"At the section's count\" means that the section is refused before its first item is read, at the offset of its count; any other refusal is at the "
+    "offset of the item. A limit on what is in one list counts what earlier sections of the same kind and imports added; the count of a data section is "
+    "compared alone. N in a message is a number. A constant that is named is one of `wasm_validator`.",
+]
 
 
 def commas(text):
@@ -178,7 +175,7 @@ def write_limits(tree, library):
     left = [f"{name} of {path}" for path, name in limits.all_constants() if (path, name) not in told and name not in NO_LIMITS]
     if left:
         stop(f"docs_limits.py has no row for {', '.join(left)}")
-    out = [INTRODUCTION, "| What | At most | Counted | Message | Constant | Compared in |", "|---|---|---|---|---|---|"]
+    out = [*(it for text in INTRODUCTION for it in (wrap(text), "")), "| What | At most | Counted | Message | Constant | Compared in |", "|---|---|---|---|---|---|"]
     for row in OWN:
         value = limits.value(row.value)
         out.append(f"| {row.what} | {value} | {row.counted} | {limits.message(row.message, value)} | {limits.constant(row)} | {limits.place(row)} |")

@@ -2,8 +2,10 @@
 import os
 import re
 import sys
+import textwrap
 
 ROOT = os.path.dirname(os.path.dirname(os.path.realpath(__file__)))
+WIDTH = 150
 ITEM = re.compile(r"^( *)pub (?:unsafe )?(?:const )?(fn|struct|enum|trait|const|type) (\w+)")
 CONSTANT = re.compile(r" *(?:pub )?(?:const|type) (?!(?:unsafe )?fn )")
 CLAUSE = re.compile(r"\b(?:requires|ensures|ghost)\*?(?: \w+)?\s*$")
@@ -42,6 +44,27 @@ class Tree:
 
 def stop(why):
     sys.exit(f"write_docs: {why}")
+
+
+def wrap(text, first="", then=""):
+    return textwrap.fill(text, WIDTH, initial_indent=first, subsequent_indent=then, break_long_words=False, break_on_hyphens=False)
+
+
+def slug(heading):
+    """The anchor of a heading, as GitHub makes it."""
+    return re.sub(r"[^\w\- ]", "", heading.lower()).replace(" ", "-")
+
+
+class Anchors:
+    """The anchors of a page's headings, in order: one that comes again gets a number."""
+
+    def __init__(self):
+        self.counts = {}
+
+    def of(self, heading):
+        plain = slug(heading)
+        count = self.counts[plain] = self.counts.get(plain, -1) + 1
+        return f"{plain}-{count}" if count else plain
 
 
 def text_before(rows, at):
