@@ -1,7 +1,8 @@
 """False sentences for the self-test of tools/write_docs.py: what is false, the file, what is replaced there and by what, and the check that must
-refuse it. What is replaced is a pattern, which stands for its first place in the file; `END` is the end of the file."""
+refuse it. What is replaced is a pattern, which is tried at its first place in the file; with `HEAD`, a sentence goes behind
+its first heading."""
 
-END = r"\Z"
+HEAD = None
 
 PLANTS = [
     # what PROVED says
@@ -17,36 +18,36 @@ PLANTS = [
     ("a file of definitions that isn't there", "docs/DEFINITIONS.md", r"^- `IsFramed` \(`Framing`;", "- `IsFramed` (`Frames`;", "definitions"),
     ("a section under another crate", "docs/DEFINITIONS.md", r"^### `wasm_spec_rules`", "### `wasm_spec_validity`", "definitions"),
     # names
-    ("a call that no type has", "README.md", END, "\nCall `Validator::check_everything`.\n", "names"),
-    ("a crate that isn't there", "docs/ARCHITECTURE.md", END, "\nSee `wasm_validator_everything`.\n", "names"),
+    ("a call that no type has", "README.md", HEAD, "Call `Validator::check_everything`.", "names"),
+    ("a crate that isn't there", "docs/ARCHITECTURE.md", HEAD, "See `wasm_validator_everything`.", "names"),
     ("a renamed call", "docs/DIFFERENCES.md", r"`get_rec_group`", "`get_group_of_types`", "names"),
-    ("an operator under a name that it hasn't", "CHANGELOG.md", END, "\n`Operator` has the family `Continuations`.\n", "names"),
+    ("an operator under a name that it hasn't", "CHANGELOG.md", HEAD, "`Operator` has the family `Resumptions`.", "names"),
     # files, options and links
-    ("a document that isn't there", "README.md", END, "\ndocs/NOWHERE.md says more.\n", "paths"),
-    ("a tool that isn't there", "CONTRIBUTING.md", END, "\nRun `tools/mutate`.\n", "paths"),
+    ("a document that isn't there", "README.md", HEAD, "docs/NOWHERE.md says more.", "paths"),
+    ("a tool that isn't there", "CONTRIBUTING.md", HEAD, "Run `tools/mutate`.", "paths"),
     ("a source that isn't there", "docs/ARCHITECTURE.md", r"`defined_types\.rt`", "`definite_types.rt`", "paths"),
     ("a source of another crate", "docs/ARCHITECTURE.md", r"`wasm_parser` `locals\.rt`", "`wasm_items` `locals.rt`", "paths"),
-    ("an example that isn't there", "README.md", END, "\nThe example is `crates/examples/src/gateway.rt`.\n", "paths"),
-    ("an option that a tool hasn't", "CONTRIBUTING.md", END, "\nRun `tools/mutants --threads 4`.\n", "options"),
-    ("an option that a program hasn't", "README.md", END, "\nRun `bin/wasm-check --strict a.wasm`.\n", "options"),
-    ("a link to a heading that isn't there", "README.md", END, "\n[All](docs/API.md#nothing)\n", "links"),
-    ("a link to a file that isn't there", "docs/THEOREM.md", END, "\n[All](NOWHERE.md)\n", "links"),
-    ("a section that isn't there", "docs/ARCHITECTURE.md", END, '\nMachines have states (see "Four levels").\n', "links"),
-    ("a folder of one machine", "CONTRIBUTING.md", END, "\nThe kit is in /opt/kit.\n", "machines"),
-    ("a long line", "docs/PROOF.md", END, f"\n{'and so on ' * 20}\n", "width"),
+    ("an example that isn't there", "README.md", HEAD, "The example is `crates/examples/src/gateway.rt`.", "paths"),
+    ("an option that a tool hasn't", "CONTRIBUTING.md", HEAD, "Run `tools/mutants --threads 4`.", "options"),
+    ("an option that a program hasn't", "README.md", HEAD, "Run `bin/wasm-check --strict a.wasm`.", "options"),
+    ("a link to a heading that isn't there", "README.md", HEAD, "[All](docs/API.md#nothing)", "links"),
+    ("a link to a file that isn't there", "docs/THEOREM.md", HEAD, "[All](NOWHERE.md)", "links"),
+    ("a section that isn't there", "docs/ARCHITECTURE.md", HEAD, 'Machines have states (see "Four levels").', "links"),
+    ("a folder of one machine", "CONTRIBUTING.md", HEAD, "The kit is in /opt/kit.", "machines"),
+    ("a long line", "docs/PROOF.md", HEAD, f"{'and so on ' * 20}", "width"),
     # code and numbers
     ("other code in README than in its source", "README.md", r"error\.is_out_of_memory\(\) =>", "error.is_refused() =>", "code"),
     ("another output in README than of the test", "README.md", "turned away, for byte 11: size", "turned away, for byte 12: size", "code"),
-    ("another number of rows", "README.md", END, "\n5,001 rows of modules, and more.\n", "counts"),
-    ("another number of wrong bodies", "CONTRIBUTING.md", END, "\nThere are 1,300 wrong bodies.\n", "counts"),
-    ("another number of crates", "docs/ARCHITECTURE.md", END, "\nThe 70 crates are proved.\n", "counts"),
+    ("another number of rows", "README.md", HEAD, "5,001 rows of modules, and more.", "counts"),
+    ("another number of wrong bodies", "CONTRIBUTING.md", HEAD, "There are 1,300 wrong bodies.", "counts"),
+    ("another number of crates", "docs/ARCHITECTURE.md", HEAD, "The 70 crates are proved.", "counts"),
     ("another limit", "docs/THEOREM.md", r"\(50,000\)", "(60,000)", "counts"),
     ("another number of lines", "docs/DEFINITIONS.md", r"\(488 lines\)", "(433 lines)", "counts"),
-    ("another number of lines, said roughly", "README.md", END, "\nRead some 8,000 lines, with laws and examples.\n", "counts"),
-    ("another number of features", "README.md", END, "\nAll 21 features can be chosen.\n", "counts"),
+    ("another number of lines, said roughly", "README.md", HEAD, "Read some 8,000 lines, with laws and examples.", "counts"),
+    ("another number of features", "README.md", HEAD, "All 21 features can be chosen.", "counts"),
     ("rows that the tests don't print", "crates/test_all/stdout", r"^4\d+ rows", "4444 rows", "counts"),
-    ("a feature that isn't there", "README.md", END, "\nChoose `TAIL_CALLS`.\n", "features"),
-    ("a flag that isn't there", "docs/DIFFERENCES.md", END, "\nChoose `WasmFeatures::MAX_IDS`.\n", "features"),
+    ("a feature that isn't there", "README.md", HEAD, "Choose `TAIL_CALLS`.", "features"),
+    ("a flag that isn't there", "docs/DIFFERENCES.md", HEAD, "Choose `WasmFeatures::MAX_IDS`.", "features"),
     ("a bit of another feature in the C header", "include/ruthvelka.h", r"RUTHVELKA_GC \(UINT64_C\(1\) << 13", "RUTHVELKA_GC (UINT64_C(1) << 23", "features"),
     # lists
     ("a crate that ARCHITECTURE leaves out", "docs/ARCHITECTURE.md", r"^- `wasm_items`: .*\n", "", "crates"),
@@ -56,8 +57,8 @@ PLANTS = [
     ("a proof that PROOF has in another crate", "docs/PROOF.md", r"`wasm_spec_rules` `FramedOrder`", "`wasm_spec` `FramedOrder`", "rules"),
     ("a field that the theorem hasn't", "docs/THEOREM.md", r"^\| `goes_on` \|", "| `goes_further` |", "theorem"),
     ("a field of the theorem that is left out", "docs/THEOREM.md", r"^\| `ordered` \|.*\n", "", "theorem"),
-    ("a kit that nothing was proved with", "README.md", END, "\nThe kit is `rattle-kit-99z`.\n", "versions"),
-    ("another version", "README.md", END, "\nThis is version 0.2.0.\n", "versions"),
+    ("a kit that nothing was proved with", "README.md", HEAD, "The kit is `rattle-kit-99z`.", "versions"),
+    ("another version", "README.md", HEAD, "This is version 0.2.0.", "versions"),
     # what is made from the sources
     ("an edited page of items", "docs/api/validate.md", r"^# Validate", "# Validating", "current"),
     ("an edited index", "docs/API.md", r"^- \[`Validator`\]", "- [`Validators`]", "current"),

@@ -15,7 +15,7 @@ TRAIT_ITEM = re.compile(r"^( +)(fn|const|type|ghost) (\w+)")
 class Tree:
     """The files of the repository, some of which may be replaced: a self-test reads false documents so."""
 
-    kept = {}
+    kept, listed = {}, {}
 
     def __init__(self, replaced=None):
         self.replaced = replaced or {}
@@ -33,8 +33,10 @@ class Tree:
 
     def files(self, *folders, ending=""):
         """The paths of the files in these folders, and in theirs."""
-        found = [f"{top}/{it}" for folder in folders for top, _, names in os.walk(f"{ROOT}/{folder}") if "/out" not in top for it in names]
-        return sorted(os.path.relpath(it, ROOT) for it in found if it.endswith(ending))
+        if (folders, ending) not in self.listed:
+            walks = [(top, inner, names) for it in folders for top, inner, names in os.walk(f"{ROOT}/{it}") if "/out" not in top]
+            self.listed[folders, ending] = sorted(os.path.relpath(f"{top}/{it}", ROOT) for top, _, names in walks for it in names if it.endswith(ending))
+        return self.listed[folders, ending]
 
     def crates(self):
         """The crates of crates.txt, in its order."""
