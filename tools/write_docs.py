@@ -14,10 +14,12 @@ import sys
 
 sys.dont_write_bytecode = True
 from docs_api import write_api
-from docs_checks import CHECKS, documents, warnings
+from docs_checks import CHECKS
+from docs_files import warnings
 from docs_limits import write_limits
 from docs_plants import PLANTS
 from docs_sources import ROOT, Library, Tree, quoted
+from docs_texts import documents
 
 
 def with_quotes(tree, path):
