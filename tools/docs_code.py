@@ -8,7 +8,9 @@ DEFINITION = re.compile(r"(?m)^(?: *(?:(?:abbrev|unfoldable|record|data|pub|rec|
 # What a document may name that no source of the repository does: the kit's files, tools of other projects, and what a reader is to replace.
 FOREIGN = set(
     "rt stdout SHORTER_PROOFS wasm wabt valgrind callgrind gcc node pkg clap anyhow serde_json bitflags indexmap core hex wasmparser NAME SUBJECT CRATE FILE TEXT "
-    "MESSAGE OFFSET FOLDER BUILD must_fail out data start_io start_lib rt1 rt2".split()
+    "MESSAGE OFFSET FOLDER BUILD must_fail out data start_io start_lib rt1 rt2 Send Sync "
+    # operators that are left out
+    "suspend resume resume_throw resume_throw_ref switch cont ref br_on_cast_desc_eq br_on_cast_desc_eq_fail".split()
 )
 
 
@@ -177,7 +179,7 @@ def check_definitions(tree):
 def check_names(tree):
     """Each name in backticks is a name of some source: a function, a definition, a variant, a feature, a crate or a tool."""
     code = Code.of(tree)
-    known = code.names | FOREIGN
+    known = code.names | FOREIGN | {it.split(".")[0] for it in code.files}
     for path in by_hand(tree):
         for at, text in present(tree, path):
             if path == "docs/DIFFERENCES.md" and text.startswith("|"):

@@ -11,27 +11,53 @@ DIGITS = r"(\d[\d,]*)"
 NUMBER = r"(\d[\d,]*|%s)" % "|".join(WORDS)
 
 
+class Block:
+    """A block of code of a document, fenced or indented: its first line, its language, the paragraph above it, and its rows."""
+
+    def __init__(self, at, language, above):
+        self.at, self.language, self.above, self.rows = at, language, above, []
+
+
+def blocks_of(tree, path):
+    found, block, above, is_fenced = [], None, "", False
+    for at, row in enumerate(tree.read(path).split("\n"), 1):
+        if row.startswith("```"):
+            is_fenced = not is_fenced
+            block = Block(at + 1, row[3:], above) if is_fenced else None
+            found += [block] if block else []
+        elif is_fenced:
+            block.rows.append(row)
+        elif row.startswith("    "):
+            block = block or Block(at, "", above)
+            block.rows.append(row[4:])
+            found += [block] if block not in found else []
+        else:
+            block, is_new = None, above.endswith("\n")
+            above = f"{'' if is_new else above} {row}" if row.strip() else above.rstrip("\n") + "\n"
+    return found
+
+
 def check_code(tree):
-    """The code that README shows from a source is there, part by part, and what it says is printed is what the tests print."""
-    rows = tree.read("README.md").split("\n")
-    starts = [at for at, row in enumerate(rows) if row.startswith("```rust")]
-    compared = 0
-    for at in starts:
-        above = " ".join(rows[max(0, at - 4) : at])
+    """What README shows: code from a source that it names is there, part by part; what other code calls is a call of some crate; and each line of
+    `wasm-validate` and of an example that it shows is one that a test expects, the file's name aside."""
+    code = Code.of(tree)
+    calls = {it.split("::")[-1] for its in code.functions.values() for it in its}
+    tests = [*tree.files("crates", ending="stdout"), *tree.files("crates/test_programs/src", "crates/examples/src"), *(it for it in tree.files("tools") if "/try_" in it)]
+    expected = "\n".join(map(tree.read, tests))
+    for block in blocks_of(tree, "README.md"):
+        at, language, above, rows = block.at, block.language, block.above, block.rows
         sources = [it for it in re.findall(r"`(crates/[\w/]+\.rt)`", above) if tree.has(it)]
-        end = rows.index("```", at)
-        if not sources:
-            continue
-        compared += 1
-        text = tree.read(sources[-1])
-        for part in "\n".join(rows[at + 1 : end]).split("\n\n"):
-            if f"\n{part}\n" not in f"\n{text}\n":
-                yield f"README.md:{at + 1}: {sources[-1]} has nothing like: {part.splitlines()[0]}"
-        printed = [row[4:] for row in rows[end + 1 : end + 12] if row.startswith("    ")]
-        if printed and "\n".join(printed) not in tree.read("crates/test_all/stdout"):
-            yield f"README.md:{end + 2}: crates/test_all/stdout has nothing like: {printed[0]}"
-    if not compared:
-        yield "README.md: no block of code names the file in `crates/` that it is from"
+        if language == "rust" and sources:
+            for part in "\n".join(rows).split("\n\n"):
+                if f"\n{part}\n" not in f"\n{tree.read(sources[-1])}\n":
+                    yield f"README.md:{at}: {sources[-1]} has nothing like: {part.splitlines()[0]}"
+        for name in re.findall(r"(?:\.|::)([a-z]\w+)\(", "\n".join(rows)) if language == "rust" and not sources else []:
+            if name not in calls and f".{name}(" not in expected:
+                yield f"README.md:{at}: no crate has the call {name}"
+        for row in rows if language != "rust" else []:
+            printed = re.search(r"(?:^|: )((?:ok types|refused at|turned away|let in).*)", row)
+            if printed and "MESSAGE" not in row and printed[1] not in expected:
+                yield f"README.md:{at}: no test expects the line: {row}"
 
 
 def count_rows(tree, folder):
@@ -57,7 +83,7 @@ def tuple_constant(tree, name):
 
 
 def counts(tree):
-    """Each number that documents say of the sources: how they say it, and the number. `some` before a number allows for a twentieth more or less."""
+    """Each number that documents say of the sources: how they say it, and the number. A number behind `some` or `over` may be a twentieth more or less."""
     flags = len(flags_of(tree))
     edits = {kind: len([it for it in tree.files("crates", ending=".edit") if f"/{kind}/" in it]) for kind in ("must-fail", "mutants")}
     rows = [count_rows(tree, "modules"), count_rows(tree, "bodies")]
@@ -106,7 +132,8 @@ def check_counts(tree):
                 for found in re.finditer(rf"(?<![\w,.])(?:{pattern})", text):
                     word = next(it for it in found.groups() if it)
                     number = WORDS[word] if word in WORDS else int(word.replace(",", ""))
-                    loose = re.search(r"\b(?:some|about) $", text[: found.start(found.groups().index(word) + 1)])
+                    before = text[: found.start(found.groups().index(word) + 1)]
+                    loose = re.search(r"\b(?:some|about|over|more than|almost) $", before)
                     if number not in values and not (loose and any(abs(number - it) * 20 <= it for it in values)):
                         yield f"{path}:{at}: {found[0].strip()}: there are {' or '.join(f'{it:,}' for it in sorted(values))}"
 

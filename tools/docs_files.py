@@ -90,18 +90,15 @@ def check_links(tree):
 
 
 def sections_named(tree):
-    """Sections that are named by their titles: `"Title"` behind a document's name, and (see "Title") of the same one."""
+    """Sections that are named by their titles, as `docs/X.md "Title"`, `(see "Title")` or `("Title")`: one of the documents that are named there has it."""
     titles = {path: {it for found in re.findall(r"(?m)^#+ (.*)$|^\*\*(.*?)\*\*", tree.read(path)) for it in found} for path in by_hand(tree)}
     for path in by_hand(tree):
-        text = " ".join(row.strip() for row in prose(tree, path))
-        for other, title in re.findall(r"(README|[A-Z]+\.md)(?:'s)?,? \"([A-Z][^\"]+)\"", text):
-            there = [it for it in titles if it.endswith(f"{other.removesuffix('.md')}.md")]
-            if there and title not in titles[there[0]]:
-                yield f"{path}: {there[0]} has no section {title}"
-        for title in re.findall(r"\(see \"([A-Z][^\"]+)\"\)|\(\"([A-Z][^\"]+)\"\)", text):
-            title = title[0] or title[1]
-            if title not in titles[path]:
-                yield f"{path}: it has no section {title}"
+        for at, text in paragraphs(prose(tree, path)):
+            named = [path, *(it for it in titles for word in re.findall(r"\b(README|[A-Z]+)\b(?:\.md|'s)", text) if it.endswith(f"{word}.md"))]
+            for found in re.finditer(r"(?:README(?:'s)?|[A-Z]+\.md(?:'s)?),? \"([A-Z][^\"]+)\"|\((?:see )?\"([A-Z][^\"]+)\"\)", text):
+                title = found[1] or found[2]
+                if not any(title in titles[it] for it in named):
+                    yield f"{path}:{at}: neither it nor what it names has a section {title}"
 
 
 def check_machines(tree):

@@ -36,7 +36,7 @@ PLANTS = [
     ("a folder of one machine", "CONTRIBUTING.md", HEAD, "The kit is in /opt/kit.", "machines"),
     ("a long line", "docs/PROOF.md", HEAD, f"{'and so on ' * 20}", "width"),
     # code and numbers
-    ("other code in README than in its source", "README.md", r"error\.is_out_of_memory\(\) =>", "error.is_refused() =>", "code"),
+    ("other code in README than in its source", "README.md", r"error\.is_out_of_memory\(\)", "error.is_out_of_storage()", "code"),
     ("another output in README than of the test", "README.md", "turned away, for byte 11: size", "turned away, for byte 12: size", "code"),
     ("another number of rows", "README.md", HEAD, "5,001 rows of modules, and more.", "counts"),
     ("another number of wrong bodies", "CONTRIBUTING.md", HEAD, "There are 1,300 wrong bodies.", "counts"),
