@@ -6,6 +6,11 @@ from docs_sources import Anchors
 from docs_texts import HISTORY, by_hand, documents, paragraphs, present, prose, ticked
 
 MOST_README_LINES = 110
+# False while README is longer, which is then only a warning.
+README_IS_SHORT = False
+# Words of the sources that say nothing to others, and the documents for users.
+PRIVATE = r"\b(?:told|shown|held|standing|rooms?|worlds?)\b"
+FOR_USERS = ("README.md", "SECURITY.md", "CONTRIBUTING.md", "CHANGELOG.md", "docs/THEOREM.md", "docs/LIMITS.md", "docs/API.md")
 MOST_COLUMNS = 160
 FOLDERS = ("crates", "docs", "tools", "bin", "c", "include", "examples", ".ci")
 PATH = re.compile(r"(?<![\w/.@-])((?:%s)/[\w./*-]*\w|[A-Z]\w+\.(?:md|txt)|(?:src|specs|proofs|data)/[\w./-]+\.\w+|\w[\w-]*\.(?:rt|antt|rows|edit|py|sh|c|h|md|txt|svg))(?![\w-])" % "|".join(re.escape(it) for it in FOLDERS))
@@ -116,6 +121,17 @@ def check_width(tree):
         for at, row in enumerate(tree.read(path).split("\n"), 1):
             if len(row) > MOST_COLUMNS and not row.startswith("|") and "](" not in row:
                 yield f"{path}:{at}: {len(row)} columns"
+
+
+def check_words(tree):
+    """Documents for users have no private words, but for names in backticks; and README is short."""
+    for path in documents(tree):
+        for at, text in paragraphs(prose(tree, path)) if path.startswith(FOR_USERS) else []:
+            found = re.search(PRIVATE, re.sub(r"`[^`]*`", "", text), re.I)
+            if found:
+                yield f"{path}:{at}: {found[0]} is a private word"
+    if README_IS_SHORT:
+        yield from warnings(tree)
 
 
 def warnings(tree):

@@ -35,6 +35,7 @@ PLANTS = [
     ("a section that isn't there", "docs/ARCHITECTURE.md", HEAD, 'Machines have states (see "Four levels").', "links"),
     ("a folder of one machine", "CONTRIBUTING.md", HEAD, "The kit is in /opt/kit.", "machines"),
     ("a long line", "docs/PROOF.md", HEAD, f"{'and so on ' * 20}", "width"),
+    ("a private word", "README.md", HEAD, "What is shown is told.", "words"),
     # code and numbers
     ("other code in README than in its source", "README.md", r"error\.is_out_of_memory\(\)", "error.is_out_of_storage()", "code"),
     ("another output in README than of the test", "README.md", "turned away, for byte 11: size", "turned away, for byte 12: size", "code"),
