@@ -5,6 +5,7 @@ method with its text and its conditions. Names are those that `wasm_validator` g
 declares it; an item without a group, or without a text, ends this with status 1."""
 import re
 
+from docs_conditions import conditions
 from docs_sources import TRAIT_ITEM, WIDTH, Anchors, Item, body_of, derived_before, has_body, head_of, slug, stop, text_before, without_parameters, wrap
 
 ONLY_READING = ("wasm_readers", "wasm_items", "wasm_parser")
@@ -223,6 +224,7 @@ class Pages:
         elif item.name != name:
             where += f", as `{item.name}`"
         out += [where, "", "```rust", self.with_names(item.module, declaration(item)), "```", ""]
+        out += self.conditions(item.module, signature_and_conditions(item.rows, item.at)) if item.kind == "fn" else []
         traits = self.traits(page, name, item)
         out += [*traits, ""] if traits else []
         calls = self.calls(item)
@@ -237,7 +239,12 @@ class Pages:
             provided = item.kind == "trait" and has_body(it.rows, it.at)
             out += [f"#### `{name}::{it.name}`", "", "```rust", self.with_names(it.module, code), "```", ""]
             out += [self.text(page, it.module, it.text(), "Has a body, which an implementation may replace. " if provided else ""), ""]
+            out += self.conditions(it.module, code)
         return out
+
+    def conditions(self, module, code):
+        words = conditions(self.with_names(module, code))
+        return [wrap(words), ""] if words else []
 
     def traits(self, page, name, item):
         """What a type implements, or by which types a trait is implemented."""
@@ -309,7 +316,7 @@ class Pages:
 
 INTRODUCTION = (
     "Six pages by what one wants to do, made by `tools/write_docs.py` from the sources, which also have each function's `ensures` clauses. Offsets are in "
-    "bytes from the start of the input. A `requires` clause is a condition that the caller must satisfy; the text above or below it says it in words. A call "
+    "bytes from the start of the input. A `requires` clause is a condition that the caller must satisfy; its text says in words what it asks. A call "
     "that takes memory returns an error if memory is refused. A name is that of `wasm_validator`; where the source has another one, the line with the file "
     "says so. A tool that only parses finds the same names in `wasm_parser`, `wasm_items`, `wasm_readers` and `wasm_operators`, where `BodyError` is `Error`."
 )
