@@ -196,6 +196,18 @@ class Pages:
         """Code with the names that `wasm_validator` gives to what it names."""
         return re.sub(r"\b(?:\w+::)*[A-Z]\w+", lambda it: self.name_here(module, it[0]), code)
 
+    def unnamed(self):
+        """What public items name in their declarations and signatures and no user can name, since `wasm_validator` doesn't pass it on."""
+        found = {}
+        for name, item in self.items.items():
+            for it in [item, *self.calls(item)]:
+                code = re.sub(r" *///.*", "", declaration(it) if it is item else signature_and_conditions(it.rows, it.at)).partition("requires")[0]
+                for word in re.findall(r"(?m)(?<!^    )\b(?:\w+::)*[A-Z]\w+", code):
+                    of = self.library.find(it.module, word.split("::"))
+                    if isinstance(of, Item) and of not in self.names:
+                        found.setdefault(of.name, name)
+        return [f"{other} is named by the public item {name}, and not passed on by wasm_validator" for other, name in found.items()]
+
     def link(self, page, module, word):
         """A name as a link to its section, if it has one."""
         name, double, inner = word.rpartition("::")
@@ -353,7 +365,7 @@ def declaration(item):
         return signature_and_conditions(rows, at)
     whole = body_of(rows, at)
     if item.kind in ("const", "type") or len(whole) == 1:
-        return "\n".join(head_of(rows, at)) if item.kind in ("const", "type") else whole[0]
+        return "\n".join(head_of(rows, at)) if item.kind in ("const", "type") else re.sub(r"\((?!.*\bpub ).*\)(?=;$)", "(..)", whole[0])
     if item.kind == "struct":
         inner = with_texts(whole, lambda row: re.match(r"    pub (?!ghost)", row))
         return "\n".join([whole[0], *inner, whole[-1]]) if inner else re.sub(r" *\{$", "", whole[0]) + " { .. }"
@@ -370,7 +382,6 @@ def with_message(item, row):
     return f"{row} // {found[1]}" if found else row
 
 
-def write_api(library):
+def write_api(pages):
     """Each page by its path."""
-    pages = Pages(library)
     return {"docs/API.md": pages.write_index(), **{f"docs/api/{it}.md": pages.write_page(it) for it in PAGES}}

@@ -13,7 +13,7 @@ import re
 import sys
 
 sys.dont_write_bytecode = True
-from docs_api import write_api
+from docs_api import Pages, write_api
 from docs_checks import CHECKS
 from docs_files import warnings
 from docs_limits import write_limits
@@ -31,9 +31,14 @@ def with_quotes(tree, path):
     )
 
 
-def wanted_pages(tree, library):
-    """What is made of the sources alone: each page by its path."""
-    return {**write_api(library), "docs/LIMITS.md": write_limits(tree, library)}
+class Made:
+    """What is made of the sources alone: each page by its path, and what is to be said of them."""
+
+    def __init__(self, tree):
+        library = Library(tree)
+        items = Pages(library)
+        self.pages = {**write_api(items), "docs/LIMITS.md": write_limits(tree, library)}
+        self.warnings = items.unnamed()
 
 
 def out_of_date(tree, pages):
@@ -52,8 +57,8 @@ def find_wrong(tree, pages):
     return found + [(name, text) for name, check in CHECKS.items() for text in check(tree)]
 
 
-def write(tree, pages):
-    wrong, left = out_of_date(tree, pages)
+def write(tree, made):
+    wrong, left = out_of_date(tree, made.pages)
     os.makedirs(f"{ROOT}/docs/api", exist_ok=True)
     for path, text in wrong.items():
         with open(f"{ROOT}/{path}", "w", encoding="utf-8") as it:
@@ -64,20 +69,20 @@ def write(tree, pages):
     return 1 if left else 0
 
 
-def check(tree, pages):
-    found = find_wrong(tree, pages)
+def check(tree, made):
+    found = find_wrong(tree, made.pages)
     for name, text in found:
         print(f"write_docs: {text} [{name}]", file=sys.stderr)
-    for text in warnings(tree):
+    for text in [*warnings(tree), *made.warnings]:
         print(f"write_docs: warning: {text}", file=sys.stderr)
     if not found:
         print(f"write_docs: {len(documents(tree))} documents say what the sources say, by {len(CHECKS) + 1} checks")
     return 1 if found else 0
 
 
-def selftest(tree, pages):
+def selftest(tree, made):
     """Each false sentence must be refused by the check that it is for, which must have refused nothing of the kind before."""
-    before, missed = set(find_wrong(tree, pages)), 0
+    before, missed = set(find_wrong(tree, made.pages)), 0
     for what, path, old, new, name in PLANTS:
         old, new = (old, new) if old else (r"\A#.*\n", lambda it, new=new: f"{it[0]}\n{new}\n")
         text = re.sub(old, new, tree.read(path), count=1, flags=re.M)
@@ -85,7 +90,7 @@ def selftest(tree, pages):
             print(f"BAD PLANT {what}: {path} has nothing like {old}")
             missed += 1
             continue
-        said = [it for it in find_wrong(Tree({path: text}), pages) if it not in before]
+        said = [it for it in find_wrong(Tree({path: text}), made.pages) if it not in before]
         mine = [text for by, text in said if by == name]
         print(f"refused  {what} [{name}]: {mine[0]}" if mine else f"LET THROUGH {what}: {name} says nothing; {said}")
         missed += not mine
@@ -100,8 +105,7 @@ def main(words):
     if len(words) > 1 or words and words[0] not in ("--check", "--selftest"):
         sys.exit(__doc__)
     tree = Tree()
-    pages = wanted_pages(tree, Library(tree))
-    return {"--check": check, "--selftest": selftest}.get(words[0] if words else "", write)(tree, pages)
+    return {"--check": check, "--selftest": selftest}.get(words[0] if words else "", write)(tree, Made(tree))
 
 
 if __name__ == "__main__":
