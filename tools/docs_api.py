@@ -76,9 +76,16 @@ GROUPS = [
     ("validate", "Whole modules and lists of modules", ["wasm_validator_modules/payload", "wasm_validator/list"]),
     ("validate", "Payload by payload", ["wasm_validator_modules"]),
     ("validate", "Features", ["wasm_readers_features"]),
-    ("validate", "Bodies", ["wasm_validator_func", "wasm_operator_validator"]),
+    ("validate", "Bodies", ["wasm_validator_func", "wasm_operator_validator", "wasm_operator_stacks", "wasm_operator_checks"]),
     ("validate", "What bodies and expressions look up", ["wasm_validator_resources", "wasm_validator_core_resources", "wasm_validator_references"]),
-    ("validate", "Item by item", ["wasm_validator_sections", "wasm_validator_core/module", "wasm_validator_items", "wasm_validator_constants", "wasm_validator_states/maybe_owned"]),
+    (
+        "validate",
+        "Item by item",
+        [
+            *("wasm_validator_sections", "wasm_validator_core", "wasm_validator_items", "wasm_validator_segments", "wasm_validator_constants"),
+            *("wasm_validator_checks", "wasm_validator_states"),
+        ],
+    ),
     ("validate", "Limits", ["MAX_*"]),
     ("validate", "Laws", ["wasm_validator/laws", "wasm_validator_states/lib"]),
     ("types", "Value types", ["wasm_readers_values/values"]),

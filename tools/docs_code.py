@@ -22,7 +22,7 @@ class Code:
     def __init__(self, tree):
         self.tree, self.functions, self.types, self.clauses = tree, {}, {}, {}
         self.names, self.paths, self.definitions = set(), set(), {}
-        for path in tree.files("crates", ending=".rt"):
+        for path in [*tree.files("crates", ending=".rt"), *tree.files("tests", ending=".rt.test")]:
             self.read_code(path)
         for path in [*tree.files("crates", ending=".antt")]:
             text = tree.read(path)
@@ -30,10 +30,10 @@ class Code:
             if "/specs/" in path:
                 crate, _, rest = path[len("crates/") : -len(".antt")].partition("/specs/")
                 self.definitions[crate, rest.split("/")[-1]] = set(DEFINITION.findall(text))
-        for path in [*tree.files("c", "include", "bin", "examples", ".ci"), *tree.files("tools"), "crates.txt"]:
+        for path in [*tree.files("c", "include", "bin", "examples", "tests", "tools", ".ci"), "crates.txt"]:
             if not re.search(r"tools/(?:docs_|write_docs)|\.(?:pyc|svg|o|so|a)$", path):
                 self.names.update(re.findall(r"[^\W\d]\w*", tree.read(path)))
-        self.files = {it.split("/")[-1] for it in tree.files("crates", "c", "include", "bin", "tools", "examples", "docs", ".ci")}
+        self.files = {it.split("/")[-1] for it in tree.files("crates", "tests", "c", "include", "bin", "tools", "examples", "docs", ".ci")}
 
     @staticmethod
     def of(tree):
@@ -206,9 +206,9 @@ def check_crates(tree):
         if listed.count(name) != 1:
             yield f"docs/ARCHITECTURE.md: its list of crates has {name} {listed.count(name)} times"
     for name in listed:
-        if name not in crates:
+        if name not in [*crates, *tree.crates_of_tests()]:
             yield f"docs/ARCHITECTURE.md: crates.txt has no {name}"
-    proved = {it for _, its, _ in rows_of_proved(tree) for it in its}
+    proved = {it for _, its, _ in rows_of_proved(tree) for it in its} - (set(tree.crates_of_tests()) - set(crates))
     for name in sorted(set(crates) ^ proved):
         yield f"docs/PROVED.md: {f'it has no row for {name}' if name in crates else f'crates.txt has no {name}'}"
     text = tree.read("docs/DEFINITIONS.md")

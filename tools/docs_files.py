@@ -12,7 +12,7 @@ README_IS_SHORT = False
 PRIVATE = r"\b(?:told|shown|held|standing|rooms?|worlds?)\b"
 FOR_USERS = ("README.md", "SECURITY.md", "CONTRIBUTING.md", "CHANGELOG.md", "docs/THEOREM.md", "docs/LIMITS.md", "docs/API.md")
 MOST_COLUMNS = 160
-FOLDERS = ("crates", "docs", "tools", "bin", "c", "include", "examples", ".ci")
+FOLDERS = ("crates", "tests", "docs", "tools", "bin", "c", "include", "examples", ".ci")
 PATH = re.compile(r"(?<![\w/.@-])((?:%s)/[\w./*-]*\w|[A-Z]\w+\.(?:md|txt)|(?:src|specs|proofs|data)/[\w./-]+\.\w+|\w[\w-]*\.(?:rt|antt|rows|edit|py|sh|c|h|md|txt|svg))(?![\w-])" % "|".join(re.escape(it) for it in FOLDERS))
 
 

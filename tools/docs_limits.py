@@ -26,7 +26,7 @@ class Constant:
 
 
 class Found:
-    """What a pattern finds in a file, as values for these words."""
+    """What a pattern finds in a file, as values for these words: numbers, and the names of constants of that file."""
 
     def __init__(self, file, pattern, words):
         self.file, self.pattern, self.words = file, pattern, words
@@ -43,8 +43,8 @@ OWN = [
     Row("recursion groups, after the types so far", Constant(LIMITS, "MAX_TYPES"), SECTION, "Counted::Types", "wasm_validator_sections/plain_items"),
     Row("entries of the import section, after the pairs of names so far", Constant(LIMITS, "MAX_IMPORTS"), SECTION, "Counted::Imports", "wasm_validator_sections/plain_items"),
     Row("functions, with imported ones", Constant(LIMITS, "MAX_FUNCTIONS"), BOTH, "Counted::Functions", PLACES),
-    Row("tables, with imported ones", Found(LIMITS, r"REFERENCE_TYPES\) \{\s+(\d+)\s+\} else \{\s+(\d+)", "{} with `REFERENCE_TYPES`, else {}"), BOTH, "Counted::Tables", PLACES),
-    Row("memories, with imported ones", Found(LIMITS, r"MULTI_MEMORY\) \{\s+(\d+)\s+\} else \{\s+(\d+)", "{} with `MULTI_MEMORY`, else {}"), BOTH, "Counted::Memories", PLACES),
+    Row("tables, with imported ones", Found(LIMITS, r"REFERENCE_TYPES\) \{\s+(\w+)\s+\} else \{\s+(\d+)", "{} with `REFERENCE_TYPES`, else {}"), BOTH, "Counted::Tables", PLACES),
+    Row("memories, with imported ones", Found(LIMITS, r"MULTI_MEMORY\) \{\s+(\w+)\s+\} else \{\s+(\d+)", "{} with `MULTI_MEMORY`, else {}"), BOTH, "Counted::Memories", PLACES),
     Row("globals, with imported ones", Constant(LIMITS, "MAX_GLOBALS"), BOTH, "Counted::Globals", PLACES),
     Row("tags, with imported ones", Constant(LIMITS, "MAX_TAGS"), BOTH, "Counted::Tags", PLACES),
     Row("exports", Constant(LIMITS, "MAX_EXPORTS"), SECTION, "Counted::Exports", "wasm_validator_sections/plain_items"),
@@ -101,7 +101,7 @@ def commas(text):
 
 class Limits:
     def __init__(self, tree, library):
-        self.tree, self.constants = tree, {}
+        self.tree, self.constants, self.told = tree, {}, set()
         top = library.tops["wasm_validator"]
         for name in [*top.items, *top.passed]:
             it = library.find_name(top, name)
@@ -118,12 +118,21 @@ class Limits:
 
     def value(self, it):
         path, text = self.source(it.file)
-        pattern = rf"(?m)^pub(?:\(crate\))? const {it.name}: u32 = ([\d_]+);" if isinstance(it, Constant) else it.pattern
-        found = re.search(pattern, text)
+        found = [it.name] if isinstance(it, Constant) else re.search(it.pattern, text)
         if not found:
-            stop(f"docs_limits.py: {path} has nothing like {pattern}")
-        values = [commas(word) if re.fullmatch(r"\d[\d_]*", word) else word for word in found.groups()]
-        return it.words.format(*values)
+            stop(f"docs_limits.py: {path} has nothing like {it.pattern}")
+        words = found if isinstance(it, Constant) else found.groups()
+        return it.words.format(*(self.number(path, text, word) for word in words))
+
+    def number(self, path, text, word):
+        """A number as it is written, or as the constant of a file has it."""
+        found = re.search(rf"(?m)^pub(?:\(crate\))? const {word}: u32 = ([\d_]+);", text)
+        if found:
+            self.told.add((path, word))
+            return commas(found[1])
+        if word.isupper():
+            stop(f"docs_limits.py: {path} has no constant {word}")
+        return commas(word) if re.fullmatch(r"\d[\d_]*", word) else word
 
     def message(self, variant, value):
         """The text of a variant, as the crate of errors has it, with N for numbers."""
@@ -171,10 +180,6 @@ class Limits:
 
 def write_limits(tree, library):
     limits = Limits(tree, library)
-    told = {(limits.source(it.value.file)[0], it.value.name) for it in OWN + STANDARD if isinstance(it.value, Constant)}
-    left = [f"{name} of {path}" for path, name in limits.all_constants() if (path, name) not in told and name not in NO_LIMITS]
-    if left:
-        stop(f"docs_limits.py has no row for {', '.join(left)}")
     out = [*(it for text in INTRODUCTION for it in (wrap(text), "")), "| What | At most | Counted | Message | Constant | Compared in |", "|---|---|---|---|---|---|"]
     for row in OWN:
         value = limits.value(row.value)
@@ -182,4 +187,7 @@ def write_limits(tree, library):
     out += ["", "## The standard's", "", "| What | At most | Message | Section or proposal | Compared in |", "|---|---|---|---|---|"]
     for row in STANDARD:
         out.append(f"| {row.what} | {limits.value(row.value)} | {limits.message(row.message, '')} | {row.section} | {limits.place(row)} |")
+    left = [f"{name} of {path}" for path, name in limits.all_constants() if (path, name) not in limits.told and name not in NO_LIMITS]
+    if left:
+        stop(f"docs_limits.py has no row for {', '.join(left)}")
     return "\n".join([*out, "", "## What has no limit", "", "Only the bytes and the memory that is there limit:", "", *(f"- {it}" for it in FREE)]) + "\n"

@@ -38,10 +38,14 @@ class Tree:
             self.listed[folders, ending] = sorted(os.path.relpath(f"{top}/{it}", ROOT) for top, _, names in walks for it in names if it.endswith(ending))
         return self.listed[folders, ending]
 
-    def crates(self):
+    def crates(self, of="crates.txt"):
         """The crates of crates.txt, in its order."""
-        rows = (row.split("#")[0].partition(":") for row in self.read("crates.txt").split("\n"))
+        rows = (row.split("#")[0].partition(":") for row in self.read(of).split("\n"))
         return [head.split()[0] for head, colon, _ in rows if colon]
+
+    def crates_of_tests(self):
+        """The crates of tests that aren't in crates.txt, where there are some."""
+        return self.crates("tests/crates-of-tests.txt") if self.has("tests/crates-of-tests.txt") else []
 
 
 def stop(why):
