@@ -29,7 +29,7 @@ CONDITIONS = [
     (r"depth_of self\.old\.depths (\w+)\.index ≡ None", "the list keeps no depth of `{0}` yet"),
     (r"IsDepth \(declares self\.old\.groups\) (\w+)\.index depth", "`depth` is the number of proper ancestors of `{0}`"),
     (r"AreByIds list\.groups types", "`types` are those of the list, with ids for positions in groups"),
-    (r"AreFirstByIds list\.now\.groups (\w+)\.old\.types", "the list is that of the calls before, with or without further types"),
+    (r"AreFirstByIds list\.now\.groups (\w+)\.old(?:\.types)?", "the list is that of the calls before, with or without further types"),
     (r"module_of (?:index|\(index_of index\)) ≡ None", "`index` isn't a module's type index"),
     (r"(?:List)?[sS]tands types\.now\.groups (\w+)(?:\.rec_group\.index .*)?", "the indices in `{0}` are ids of the list, or positions in its group"),
     # what a module has
@@ -41,6 +41,8 @@ CONDITIONS = [
     (r"IsSome \(sub_of_id \(context self\.now\) id\)", "the look-ups know the id"),
     (r"IsSome \(top_of_heap .*", "the look-ups know the type that it names"),
     (r"IsKnown(?:In)? \(asked self\.now\) .*", "the look-ups know the id in it"),
+    (r"IsSome \(function_in \(T\.context resources\.now\) (\w+)\)", "`{0}` is the index of a function type"),
+    (r"self\.old\.failed ≡ false", "the validator hasn't failed"),
     # how many there are
     (r"length self\.old\.(\w+) \+ 1 < 2 \^ 32", "there are fewer {0} than 2^32 - 1"),
     (r"length \(ids self\.now\) < 2 \^ 32", "there are fewer types than 2^32"),
