@@ -193,7 +193,10 @@ class Pages:
         return [Item("fn", it[3], item.module, item.path, item.rows, i) for i, it in found if it and len(it[1]) == 4 and it[2] == "fn"]
 
     def name_here(self, module, word):
-        """The name that `wasm_validator` gives to what a word or path is in a module, or the word itself."""
+        """The name that `wasm_validator` gives to what a word or path is in a module, or the word itself; what a module renames has its path."""
+        path = module.used.get(word, [word])
+        if path[0] not in ("crate", "self", "super", *self.library.tops) and path[-1] != word:
+            return "::".join(path)
         at = self.library.find(module, word.split("::"))
         names = self.names.get(at, []) if isinstance(at, Item) else []
         last = word.split("::")[-1]
