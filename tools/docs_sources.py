@@ -24,7 +24,7 @@ class Tree:
         if path in self.replaced:
             return self.replaced[path]
         if path not in self.kept:
-            with open(f"{ROOT}/{path}", encoding="utf-8") as it:
+            with open(f"{ROOT}/{path}", encoding="utf-8", errors="replace") as it:
                 self.kept[path] = it.read()
         return self.kept[path]
 
@@ -34,7 +34,7 @@ class Tree:
     def files(self, *folders, ending=""):
         """The paths of the files in these folders, and in theirs."""
         if (folders, ending) not in self.listed:
-            walks = [(top, inner, names) for it in folders for top, inner, names in os.walk(f"{ROOT}/{it}") if "/out" not in top]
+            walks = [(top, inner, names) for it in folders for top, inner, names in os.walk(f"{ROOT}/{it}") if not re.search(r"/(?:out|target|__pycache__)(?:/|$)", top)]
             self.listed[folders, ending] = sorted(os.path.relpath(f"{top}/{it}", ROOT) for top, _, names in walks for it in names if it.endswith(ending))
         return self.listed[folders, ending]
 
