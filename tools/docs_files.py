@@ -13,7 +13,12 @@ PRIVATE = r"\b(?:told|shown|held|standing|rooms?|worlds?)\b"
 FOR_USERS = ("README.md", "SECURITY.md", "CONTRIBUTING.md", "CHANGELOG.md", "docs/THEOREM.md", "docs/LIMITS.md", "docs/API.md")
 MOST_COLUMNS = 160
 FOLDERS = ("crates", "tests", "docs", "tools", "bin", "c", "include", "examples", ".ci")
-PATH = re.compile(r"(?<![\w/.@-])((?:%s)/[\w./*-]*\w|[A-Z]\w+\.(?:md|txt)|(?:src|specs|proofs|data)/[\w./-]+\.\w+|\w[\w-]*\.(?:rt|antt|rows|edit|py|sh|c|h|md|txt|svg))(?![\w-])" % "|".join(re.escape(it) for it in FOLDERS))
+ENDINGS = "rt antt rows edit py sh c h md txt svg".split()
+# A path from the top, a document there, a path in a crate, or the name of a file.
+PATH = re.compile(
+    rf"(?<![\w/.@-])((?:{'|'.join(re.escape(it) for it in FOLDERS)})/[\w./*-]*\w|[A-Z]\w+\.(?:md|txt)|"
+    rf"(?:src|specs|proofs|data)/[\w./-]+\.\w+|\w[\w-]*\.(?:{'|'.join(ENDINGS)}))(?![\w-])"
+)
 
 
 def check_paths(tree):

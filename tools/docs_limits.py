@@ -41,37 +41,101 @@ SECTION = "at the section's count"
 OWN = [
     Row("types, in all recursion groups", Constant(LIMITS, "MAX_TYPES"), "each recursion group", "Counted::Types", "wasm_validator_core/module"),
     Row("recursion groups, after the types so far", Constant(LIMITS, "MAX_TYPES"), SECTION, "Counted::Types", "wasm_validator_sections/plain_items"),
-    Row("entries of the import section, after the pairs of names so far", Constant(LIMITS, "MAX_IMPORTS"), SECTION, "Counted::Imports", "wasm_validator_sections/plain_items"),
+    Row(
+        "entries of the import section, after the pairs of names so far", Constant(LIMITS, "MAX_IMPORTS"), SECTION, "Counted::Imports",
+        "wasm_validator_sections/plain_items",
+    ),
     Row("functions, with imported ones", Constant(LIMITS, "MAX_FUNCTIONS"), BOTH, "Counted::Functions", PLACES),
-    Row("tables, with imported ones", Found(LIMITS, r"REFERENCE_TYPES\) \{\s+(\w+)\s+\} else \{\s+(\d+)", "{} with `REFERENCE_TYPES`, else {}"), BOTH, "Counted::Tables", PLACES),
-    Row("memories, with imported ones", Found(LIMITS, r"MULTI_MEMORY\) \{\s+(\w+)\s+\} else \{\s+(\d+)", "{} with `MULTI_MEMORY`, else {}"), BOTH, "Counted::Memories", PLACES),
+    Row(
+        "tables, with imported ones",
+        Found(LIMITS, r"REFERENCE_TYPES\) \{\s+(\w+)\s+\} else \{\s+(\d+)", "{} with `REFERENCE_TYPES`, else {}"), BOTH, "Counted::Tables",
+        PLACES,
+    ),
+    Row(
+        "memories, with imported ones",
+        Found(LIMITS, r"MULTI_MEMORY\) \{\s+(\w+)\s+\} else \{\s+(\d+)", "{} with `MULTI_MEMORY`, else {}"), BOTH, "Counted::Memories",
+        PLACES,
+    ),
     Row("globals, with imported ones", Constant(LIMITS, "MAX_GLOBALS"), BOTH, "Counted::Globals", PLACES),
     Row("tags, with imported ones", Constant(LIMITS, "MAX_TAGS"), BOTH, "Counted::Tags", PLACES),
     Row("exports", Constant(LIMITS, "MAX_EXPORTS"), SECTION, "Counted::Exports", "wasm_validator_sections/plain_items"),
     Row("element segments", Constant(LIMITS, "MAX_ELEMENT_SEGMENTS"), SECTION, "Counted::ElementSegments", "wasm_validator_items/elements"),
-    Row("items of an element segment", Constant("wasm_validator_segments/lists", "MAX_ITEMS"), "at the segment's count", "ItemRule::ElementCount", "wasm_validator_segments/lists"),
+    Row(
+        "items of an element segment", Constant("wasm_validator_segments/lists", "MAX_ITEMS"), "at the segment's count",
+        "ItemRule::ElementCount", "wasm_validator_segments/lists",
+    ),
     Row("data segments", Constant(LIMITS, "MAX_DATA_SEGMENTS"), SECTION, "Counted::DataSegments", "wasm_validator_items/data"),
     Row("the number in a data count section", Constant(LIMITS, "MAX_DATA_SEGMENTS"), "where it is read", "ItemRule::DataCountLimit", LIMITS),
-    Row("bytes of a function body, with its locals", Constant("wasm_validator_sections/code_state", "MAX_FUNCTION_SIZE"), "each body", "Counted::FunctionBodySize", "wasm_validator_states/state"),
-    Row("locals of a body, with its parameters", Constant("wasm_operator_stacks/locals", "MAX_LOCALS"), "each declaration", "OperatorRule::TooManyLocals", "wasm_operator_stacks/locals"),
-    Row("effective size of a module's type", Constant("wasm_validator_checks/entities", "MAX_EFFECTIVE_SIZE", "below {}"), "each import and export", "Rule::EffectiveSize", "wasm_validator_checks/entities"),
-    Row("proper ancestors of a type", Constant("wasm_validator_type_checks/subtypes", "MAX_WASM_SUBTYPING_DEPTH"), "each type", "Fault::SubtypesTooDeep", "wasm_validator_type_checks/subtypes"),
-    Row("ids of types in one list of types", Constant("wasm_readers_values/indices", "MAX_IDS"), "each recursion group", "Rule::TooManyTypes", "wasm_validator_canonical/intern_rec_group"),
+    Row(
+        "bytes of a function body, with its locals", Constant("wasm_validator_sections/code_state", "MAX_FUNCTION_SIZE"), "each body",
+        "Counted::FunctionBodySize", "wasm_validator_states/state",
+    ),
+    Row(
+        "locals of a body, with its parameters", Constant("wasm_operator_stacks/locals", "MAX_LOCALS"), "each declaration",
+        "OperatorRule::TooManyLocals", "wasm_operator_stacks/locals",
+    ),
+    Row(
+        "effective size of a module's type", Constant("wasm_validator_checks/entities", "MAX_EFFECTIVE_SIZE", "below {}"),
+        "each import and export", "Rule::EffectiveSize", "wasm_validator_checks/entities",
+    ),
+    Row(
+        "proper ancestors of a type", Constant("wasm_validator_type_checks/subtypes", "MAX_WASM_SUBTYPING_DEPTH"), "each type",
+        "Fault::SubtypesTooDeep", "wasm_validator_type_checks/subtypes",
+    ),
+    Row(
+        "ids of types in one list of types", Constant("wasm_readers_values/indices", "MAX_IDS"), "each recursion group",
+        "Rule::TooManyTypes", "wasm_validator_canonical/intern_rec_group",
+    ),
 ]
 
 VALUES = "Binary Format, Values, Integers"
 STANDARD = [
-    Row("bytes of a number of 32 bits", Found("wasm_readers_bytes/binary_reader", r"in at most (five) bytes", "5"), "", "Malformed::IntegerTooLong", "wasm_readers_bytes/binary_reader", VALUES),
-    Row("bytes of a number of 64 bits", Found("wasm_readers_bytes/binary_reader", r"in at most (ten) bytes", "10"), "", "Malformed::IntegerTooLong", "wasm_readers_bytes/binary_reader", VALUES),
-    Row("supertypes of a type", Found("wasm_validator_canonical/type_canonicalizer/sub_types", r"supertype_idxs\.len\(\) > (1)", "{}"), "", "GroupRule::MultipleSupertypes", "wasm_validator_canonical/intern_rec_group", "Validation, Types, Sub Types"),
-    Row("entries of a table", Found(CHECKS, r"u64::MAX\s+\} else \{\s+u(32)::MAX", "2^{} - 1; of a 64-bit one 2^64 - 1"), "", "ItemRule::TableSize", CHECKS, "Validation, Types, Table Types"),
-    Row("pages of a memory", Found(CHECKS, r"1 << \((32) - log\)\s+\} else if log == 0 \{\s+u64::MAX", "2^{} bytes; of a 64-bit one 2^64 bytes, and 2^64 - 1 pages"), "", "Fault::MemorySize", CHECKS, "Validation, Types, Memory Types"),
+    Row(
+        "bytes of a number of 32 bits", Found("wasm_readers_bytes/binary_reader", r"in at most (five) bytes", "5"), "",
+        "Malformed::IntegerTooLong", "wasm_readers_bytes/binary_reader", VALUES,
+    ),
+    Row(
+        "bytes of a number of 64 bits", Found("wasm_readers_bytes/binary_reader", r"in at most (ten) bytes", "10"), "",
+        "Malformed::IntegerTooLong", "wasm_readers_bytes/binary_reader", VALUES,
+    ),
+    Row(
+        "supertypes of a type", Found("wasm_validator_canonical/type_canonicalizer/sub_types", r"supertype_idxs\.len\(\) > (1)", "{}"), "",
+        "GroupRule::MultipleSupertypes", "wasm_validator_canonical/intern_rec_group", "Validation, Types, Sub Types",
+    ),
+    Row(
+        "entries of a table", Found(CHECKS, r"u64::MAX\s+\} else \{\s+u(32)::MAX", "2^{} - 1; of a 64-bit one 2^64 - 1"), "",
+        "ItemRule::TableSize", CHECKS, "Validation, Types, Table Types",
+    ),
+    Row(
+        "pages of a memory",
+        Found(CHECKS, r"1 << \((32) - log\)\s+\} else if log == 0 \{\s+u64::MAX", "2^{} bytes; of a 64-bit one 2^64 bytes, and 2^64 - 1 pages"),
+        "", "Fault::MemorySize", CHECKS, "Validation, Types, Memory Types",
+    ),
     Row("bytes of a page, a power of two", Found(CHECKS, r"log <= (16)", "2^{}"), "", "ItemRule::PageSize", CHECKS, "the custom page sizes proposal"),
-    Row("exponent of an alignment", Found("wasm_operators_plain/memories", r"flags < (64)", "below {}"), "", "Malformed::Alignment", "wasm_operators_plain/memories", "Binary Format, Instructions, Memory Instructions"),
-    Row("alignment of a load or store", Found("wasm_operator_numbers/accesses", r"arg\.align <= (max_align)\(op\)", "the bytes that it reads or writes"), "", "OperatorRule::Alignment", "wasm_operator_numbers/accesses", "Validation, Instructions, Memory Instructions"),
-    Row("alignment of an atomic operator", Found("wasm_operator_numbers/forms", r"Alignment::Exactly\((_)\) => OperatorRule::AtomicAlignment", "just the bytes that it reads or writes"), "", "OperatorRule::AtomicAlignment", "wasm_operator_numbers/forms", "the threads proposal"),
-    Row("lane of a vector", Found("wasm_operator_numbers/forms", r"bits % 256 < (32)", "below the number of lanes; of `i8x16.shuffle` below {}"), "", "OperatorRule::Lane", "wasm_operator_numbers/forms", "Validation, Instructions, Vector Instructions"),
-    Row("offset of a load or store", Found("wasm_operator_numbers/accesses", r"memory64 \|\| arg\.offset < (4_294_967_296)", "2^32 - 1; of a 64-bit memory 2^64 - 1"), "", "OperatorRule::Offset", "wasm_operator_numbers/accesses", "Validation, Instructions, Memory Instructions"),
+    Row(
+        "exponent of an alignment", Found("wasm_operators_plain/memories", r"flags < (64)", "below {}"), "", "Malformed::Alignment",
+        "wasm_operators_plain/memories", "Binary Format, Instructions, Memory Instructions",
+    ),
+    Row(
+        "alignment of a load or store",
+        Found("wasm_operator_numbers/accesses", r"arg\.align <= (max_align)\(op\)", "the bytes that it reads or writes"), "",
+        "OperatorRule::Alignment", "wasm_operator_numbers/accesses", "Validation, Instructions, Memory Instructions",
+    ),
+    Row(
+        "alignment of an atomic operator",
+        Found("wasm_operator_numbers/forms", r"Alignment::Exactly\((_)\) => OperatorRule::AtomicAlignment", "just the bytes that it reads or writes"),
+        "", "OperatorRule::AtomicAlignment", "wasm_operator_numbers/forms", "the threads proposal",
+    ),
+    Row(
+        "lane of a vector",
+        Found("wasm_operator_numbers/forms", r"bits % 256 < (32)", "below the number of lanes; of `i8x16.shuffle` below {}"), "",
+        "OperatorRule::Lane", "wasm_operator_numbers/forms", "Validation, Instructions, Vector Instructions",
+    ),
+    Row(
+        "offset of a load or store",
+        Found("wasm_operator_numbers/accesses", r"memory64 \|\| arg\.offset < (4_294_967_296)", "2^32 - 1; of a 64-bit memory 2^64 - 1"),
+        "", "OperatorRule::Offset", "wasm_operator_numbers/accesses", "Validation, Instructions, Memory Instructions",
+    ),
 ]
 
 FREE = [
