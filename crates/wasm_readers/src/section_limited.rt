@@ -26,6 +26,12 @@ pub trait FromReader<'a, A: Allocator>: Sized + Drop {
     /// What a refusal of content may say, by where the reader is.
     ghost refuses: { Telling };
 
+    /// The next item.
+    ///
+    /// # Errors
+    ///
+    /// Refused where the bytes encode none, and where memory is refused. The reader has then gone on
+    /// in the same bytes, or stays where it was.
     fn from_reader(alloc: A, reader: &mut BinaryReader<'a>) -> Result<Self, Error>
         ensures same { SameInput reader.old reader.new }
         ensures onward { position_in reader.old ≤ position_in reader.new }
