@@ -76,7 +76,11 @@ GROUPS = [
     ("validate", "Whole modules and lists of modules", ["wasm_validator_modules/payload", "wasm_validator/list"]),
     ("validate", "Payload by payload", ["wasm_validator_modules"]),
     ("validate", "Features", ["wasm_readers_features"]),
-    ("validate", "Bodies", ["wasm_validator_func", "wasm_operator_validator", "wasm_operator_stacks", "wasm_operator_checks"]),
+    (
+        "validate",
+        "Bodies",
+        ["wasm_validator_func", "wasm_operator_validator", "wasm_operator_stacks", "wasm_operator_checks", "wasm_operator_control/not_taken"],
+    ),
     ("validate", "What bodies and expressions look up", ["wasm_validator_resources", "wasm_validator_core_resources", "wasm_validator_references"]),
     (
         "validate",

@@ -28,7 +28,7 @@ pub use wasm_operator_control::step_call;
 /// Passed on from `wasm_operator_stacks`.
 pub mod operator_stacks {
     pub use wasm_operator_control::operator_stacks::{
-        BlockWord, LocalWord, Locals, MAX_LOCALS, Operand, Stacks, TypeWord,
+        BlockWord, LocalWord, Locals, MAX_LOCALS, Operand, Stacks, TypeWord, Word,
     };
 }
 

@@ -13,9 +13,13 @@ use wasm_validator_resources::readers_errors::{Error, Fault, OperatorRule, Refus
 /// operand that is found in its place, if there is one.
 #[derive(Clone, Copy)]
 pub struct OperatorFault {
+    /// The rule.
     pub rule: OperatorRule,
+    /// The index, depth or number that the rule's text names, and 0 where it names none.
     pub number: u32,
+    /// The type that is expected, where the rule is that an operand has one.
     pub expected: TypeWord,
+    /// The operand that is found in its place, if there is one.
     pub found: Option<Word>,
 }
 
@@ -118,7 +122,9 @@ impl OperatorFault {
 /// Why a step isn't taken: for the code, or for want of memory.
 #[derive(Clone, Copy)]
 pub enum OperatorError {
+    /// The code is refused.
     Refused(OperatorFault),
+    /// Memory is refused, and nothing is said of the code.
     OutOfMemory,
 }
 

@@ -11,6 +11,7 @@ use wasm_operators_plain::readers_types::{RefType, ValType};
 /// A value type as one number: two are the same type exactly where the numbers are equal.
 #[derive(Clone, Copy)]
 pub struct TypeWord {
+    /// The number.
     pub bits: u64,
     pub ghost is_type: { bits % 8 < 5 },
     pub ghost small: { bits < 2 ^ 38 },

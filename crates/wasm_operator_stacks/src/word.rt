@@ -14,6 +14,7 @@ const BOTTOM: u64 = 5;
 /// An operand as one number: that of its type, where it is known.
 #[derive(Clone, Copy)]
 pub struct Word {
+    /// The number.
     pub bits: u64,
     pub ghost small: { bits < 2 ^ 38 },
     pub ghost fits: { operand_number (operand_at bits) < MAX_IDS },

@@ -33,7 +33,7 @@ pub mod operators {
 /// Passed on from `wasm_operator_validator`.
 pub mod operator_validator {
     pub use wasm_operator_validator::{
-        Frame, FrameStack, ModuleArity, OperatorValidator, OperatorValidatorAllocations,
-        OperatorVisitor, operator_arity,
+        Frame, FrameStack, ModuleArity, NotTaken, OperatorError, OperatorFault, OperatorValidator,
+        OperatorValidatorAllocations, OperatorVisitor, TypeWord, Word, operator_arity,
     };
 }
