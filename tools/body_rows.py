@@ -72,6 +72,8 @@ TEXTS = [
     (r'unknown type: type index out of bounds', 'unknown type 99: type index out of bounds'),
     (r'unknown global: global index out of bounds', 'unknown global 7: global index out of bounds'),
     (r'expected (func|struct|array) type at index (\d+), found .*', r'expected \1 type at index \2'),
+    # as the text format writes it
+    (r'(type mismatch: expected) \(shared (\w+)ref\), found (\w+)', r'\1 (ref null (shared \2)), found \3'),
     (r'type mismatch: expected (ref but found|a reference type, found) .*', 'type mismatch: expected a reference type'),
     (r'type mismatch: expected subtype of eqref, found .*', 'type mismatch: expected subtypes of eqref'),
     (r'type mismatch: expected subtype of .*, found .*', 'type mismatch: expected a reference of another hierarchy'),
@@ -652,14 +654,15 @@ CASTS = [('ref.test', 0x14, '!'), ('ref.test_null', 0x15, '?'), ('ref.cast', 0x1
 
 
 def heap(name):
+    if name.startswith('shared '):
+        return b'\x65' + heap(name[7:])
     return bytes([CONTINUATIONS[name]]) if name in CONTINUATIONS else W.ht(name)
 
 
-def cast(title, top, code, end, given, wanted=None):
+def cast(title, top, code, end, given):
     """A null of this type is tested or cast, and what is given goes to a local of this type."""
     local = W.vt('i32') if code < 0x16 else (b'\x63' if given == '?' else b'\x64') + heap(end)
-    body = b'\x01\x01' + local + b'\xd0' + heap(top) + b'\xfb' + bytes([code]) + heap(end) + b'\x21\x00\x0b'
-    case(title, '', raw=body, wanted=wanted)
+    case(title, '', raw=b'\x01\x01' + local + b'\xd0' + heap(top) + b'\xfb' + bytes([code]) + heap(end) + b'\x21\x00\x0b')
 
 
 def abstract_casts():
@@ -671,6 +674,9 @@ def abstract_casts():
             for op, code, given in CASTS:
                 cast('%s from %s to %s' % (op, hierarchy[0], end), hierarchy[0], code, end, given)
                 cast('%s from %s to %s of another hierarchy' % (op, other, end), other, code, end, given)
+            for op, code, given in CASTS[2:]:
+                for top in ['shared ' + hierarchy[0], hierarchy[0]]:
+                    cast('%s from %s to shared %s' % (op, top, end), top, code, 'shared ' + end, given)
 
 
 def unreached():
