@@ -145,7 +145,26 @@ def off(feature, message, before, op, locals='', ty=0, name=None, after=''):
     FILE.append(('%s without %s' % (word, feature), 'all-' + feature, ty, body, wanted, None))
 
 
-VALUE_TYPE = 'invalid value type'
+# What value types need of the proposals, and what is said where one is off.
+VALUE_TYPES = {
+    'floats': 'floating-point support is disabled',
+    'simd': 'SIMD support is not enabled',
+    'reference_types': 'reference types support is not enabled',
+    'gc_types': 'gc types are disallowed but found type which requires gc',
+    'function_references': 'function references required for non-nullable types',
+    'gc': 'heap types not supported without the gc feature',
+    'exceptions': 'exception refs not supported without the exception handling feature',
+    'shared_everything_threads': 'shared reference types require the shared-everything-threads proposal',
+}
+BY_INDEX = 'function references required for index reference types; missing function_references'
+NO_TYPE = 'unknown type 99: type index out of bounds; missing nothing'
+
+
+def value_type(feature):
+    """What is said of a value type without this proposal, and that the proposal is missing."""
+    return '%s; missing %s' % (VALUE_TYPES[feature], feature)
+
+
 # The Rust crate's reader tells of an `else` behind its opcode, where the validator tells of it at its place.
 ELSE = 'else found outside of an `if` block'
 CONST = {'i': 'i32.const 1', 'l': 'i64.const 1', 'f': 'f32.const 1', 'd': 'f64.const 1'}
@@ -355,8 +374,8 @@ def variables():
     case('50,000 locals with the parameters', '', ty=8, raw=W.vec([W.u(49999) + b'\x7f']) + b'\x0b')
     case('50,001 locals with the parameters', '', ty=8, raw=W.vec([W.u(25000) + b'\x7f', W.u(25000) + b'\x7e']) + b'\x0b')
     case('a declaration of no locals', '', raw=W.vec([W.u(0) + b'\x7f']) + b'\x0b')
-    case('a declared local of an unknown type', '', locals='i32 ?99', told=VALUE_TYPE)
-    case('a declaration of no locals of an unknown type', '', raw=W.vec([W.u(0) + W.vt('?99')]) + b'\x0b', told=VALUE_TYPE)
+    case('a declared local of an unknown type', '', locals='i32 ?99', told=NO_TYPE)
+    case('a declaration of no locals of an unknown type', '', raw=W.vec([W.u(0) + W.vt('?99')]) + b'\x0b', told=NO_TYPE)
 
 
 def control():
@@ -379,7 +398,7 @@ def control():
     case('a block of an unknown type', 'block @99; end')
     case('a block of a type that is no function', 'block @3; end')
     case('a block of a reference to a type', 'block =?3; ref.null 3; end; drop')
-    case('a block of a reference to an unknown type', 'block =?99; unreachable; end; drop', told=VALUE_TYPE)
+    case('a block of a reference to an unknown type', 'block =?99; unreachable; end; drop', told=NO_TYPE)
     case('a loop', 'loop; end')
     case('a loop gives a value', 'loop =i32; i32.const 1; end; drop')
     case('a loop that gives too little', 'loop =i32; end; drop')
@@ -498,7 +517,7 @@ def control():
     case('select with a type', 'f32.const 1; f32.const 2; i32.const 3; select_t f32; drop')
     case('select with a reference type', 'ref.null 5; ref.null 3; i32.const 3; select_t ?3; drop')
     case('select with a type that the operands do not have', 'f32.const 1; f32.const 2; i32.const 3; select_t i64; drop')
-    case('select with an unknown type', 'unreachable; select_t ?99; drop', told=VALUE_TYPE)
+    case('select with an unknown type', 'unreachable; select_t ?99; drop', told=NO_TYPE)
     case('select with no types', 'unreachable; select_t; drop')
     case('select with two types', 'unreachable; select_t i32 i32; drop')
     off('reference_types', REFS, 'i32.const 1; i32.const 2; i32.const 3', 'select_t i32', name='select with a type', after='drop')
@@ -812,19 +831,19 @@ def proposals():
                                 ('exceptions', 'throw', 'throw 0'), ('exceptions', 'try_table', 'try_table; end')]:
         case('%s needs %s alone' % (name, feature), text, features='none+' + feature, wanted='ok')
     case('ref.null extern needs reference_types and gc_types', 'ref.null extern; ref.is_null; drop', features='none+reference_types+gc_types', wanted='ok')
-    case('ref.null extern needs more than reference_types', 'ref.null extern; drop', features='none+reference_types', wanted='refused 1 ' + VALUE_TYPE)
+    case('ref.null extern needs more than reference_types', 'ref.null extern; drop', features='none+reference_types', wanted='refused 1 ' + value_type('gc_types'))
     for name, locals, text in [('structures', '!5', 'struct.new_default 5; local.set 0'), ('arrays', '!4', 'i32.const 1; array.new_default 4; local.set 0'),
                                ('exceptions', 'exnref', 'local.get 0; throw_ref'), ('calls by reference', '', 'i32.const 1; i32.const 2; ref.func 1; call_ref 1; drop'),
                                ('casts', 'anyref', 'local.get 0; ref.test 3; drop'), ('tables of 64 bits', 'externref', 'i64.const 0; table.get 1; local.set 0')]:
         case('%s are among the default proposals' % name, text, locals=locals, features='default', wanted='ok')
     for feature, type in [('floats', 'f32'), ('floats', 'f64'), ('simd', 'v128'), ('reference_types', 'funcref'), ('gc', 'anyref'), ('gc', 'i31ref'),
                           ('exceptions', 'exnref'), ('gc_types', 'externref'), ('function_references', '!func')]:
-        case('a local of %s without %s' % (type, feature), '', locals=type, features='all-' + feature, wanted='refused 1 ' + VALUE_TYPE)
+        case('a local of %s without %s' % (type, feature), '', locals=type, features='all-' + feature, wanted='refused 1 ' + value_type(feature))
         case('a block that gives %s without %s' % (type, feature), 'block =%s; unreachable; end; drop' % type, features='all-' + feature,
-             wanted='refused 1 ' + VALUE_TYPE)
+             wanted='refused 1 ' + value_type(feature))
     case('a local of a type by its index without gc', '', locals='?3', features='all-gc', wanted='ok')
     case('a local of a type by its index without function_references', '', locals='?3', features='all-function_references', wanted='ok')
-    case('a local of a type by its index without either', '', locals='?3', features='all-gc-function_references', wanted='refused 1 ' + VALUE_TYPE)
+    case('a local of a type by its index without either', '', locals='?3', features='all-gc-function_references', wanted='refused 1 ' + BY_INDEX)
     # that a wrong answer is told
     case('a valid body is not refused', 'i32.const 1; drop', wanted='not refused')
     case('an unknown local is not accepted', 'local.get 7; drop', wanted='not ok')

@@ -1176,17 +1176,17 @@ def gated():
         type_bytes = bytes.fromhex('6370') if ty == 'shared' else None
         declared = W.vec([W.u(1) + (b'\x63\x65\x70' if ty == 'shared' else W.vt(ty))])
         b = with_body(declared + b'\x0b')
-        case('a local of %s in a module without %s' % (ty, feature), b, 'default-' + feature, wanted='refused %d invalid value type; %s' % (body_start(b) + 1,
-                                                                                                                                            IN_BODY), own=True)
+        case('a local of %s in a module without %s' % (ty, feature), b, 'default-' + feature,
+             wanted='refused %d %s; %s' % (body_start(b) + 1, B.value_type(feature), IN_BODY), own=True)
         b = with_body(b'\0\x02' + (b'\x63\x65\x70' if ty == 'shared' else W.vt(ty)) + b'\0\x0b\x1a\x0b')
         case('a block that gives %s in a module without %s' % (ty, feature), b, 'default-' + feature,
-             wanted='refused %d invalid value type; %s' % (body_start(b) + 1, IN_BODY), own=True)
+             wanted='refused %d %s; %s' % (body_start(b) + 1, B.value_type(feature), IN_BODY), own=True)
 
 
     for features, wanted in [('default-gc', 'ok'), ('default-function_references', 'ok'), ('default-gc-function_references', None)]:
         b = function('', '?0', 0, types=['func ->'])
-        case('a local of a type by its index, %s' % features, b, features, wanted=wanted or 'refused %d invalid value type; %s' % (body_start(b) + 1,
-                                                                                                                                   IN_BODY), own=True)
+        case('a local of a type by its index, %s' % features, b, features,
+             wanted=wanted or 'refused %d %s; %s' % (body_start(b) + 1, B.BY_INDEX, IN_BODY), own=True)
 
 
 # A group of a structure and its descriptor, by its bytes; shared types; functions of continuations' hierarchy.
@@ -1376,10 +1376,10 @@ def edges():
     heading('Proposals that an operator needs, and those that it does not')
     active = dict(tables=['funcref 1'], elems=[dict(funcs=[0])])
     for title, ops, features, wanted, parts in [
-            ('try_table that gives f32', 'try_table =f32; unreachable; end; unreachable', '-floats', 'invalid value type', {}),
+            ('try_table that gives f32', 'try_table =f32; unreachable; end; unreachable', '-floats', B.value_type('floats'), {}),
             ('try_table of a function type', 'try_table @0; end', '-multi_value', B_MULTI, dict(types=['func ->'])),
-            ('select with f32', 'unreachable; select_t f32; drop', '-floats', 'invalid value type', {}),
-            ('select with exn', 'unreachable; select_t exnref; drop', '-exceptions', 'invalid value type', {}),
+            ('select with f32', 'unreachable; select_t f32; drop', '-floats', B.value_type('floats'), {}),
+            ('select with exn', 'unreachable; select_t exnref; drop', '-exceptions', B.value_type('exceptions'), {}),
             ('f32.eq in code that is not reached', 'unreachable; f32.eq; drop', '-floats', 'floating-point support is disabled', {}),
             ('i64.trunc_f64_s in code that is not reached', 'unreachable; i64.trunc_f64_s; drop', '-floats', 'floating-point support is disabled', {}),
             ('table.set', 'unreachable; table.set 0', '-reference_types', B_REFERENCES, dict(tables=['funcref 1'])),
@@ -1404,9 +1404,9 @@ def edges():
              dict(ty='funcref ->')),
             ('br_on_cast from what is never null', 'block =funcref; unreachable; br_on_cast 0 !func ?func; unreachable; end; drop',
              '+custom_descriptors-function_references', '', {}),
-            ('ref.i31', 'i32.const 1; ref.i31; drop', '-gc_types', 'invalid value type', {}), ('any.convert_extern', 'unreachable; any.convert_extern; drop',
-                                                                                               '-gc_types', 'invalid value type', {}),
-            ('extern.convert_any', 'unreachable; extern.convert_any; drop', '-gc_types', 'invalid value type', {}),
+            ('ref.i31', 'i32.const 1; ref.i31; drop', '-gc_types', B.value_type('gc_types'), {}),
+            ('any.convert_extern', 'unreachable; any.convert_extern; drop', '-gc_types', B.value_type('gc_types'), {}),
+            ('extern.convert_any', 'unreachable; extern.convert_any; drop', '-gc_types', B.value_type('gc_types'), {}),
             ('extern.convert_any', 'ref.null any; extern.convert_any; drop', '-function_references', None, {}),
             ('any.convert_extern', 'ref.null extern; any.convert_extern; drop', '-function_references', None, {}),
             ('ref.i31', 'i32.const 1; ref.i31; drop', '-bulk_memory', None, {}),
