@@ -11,7 +11,7 @@ import sys
 ROOT = os.path.dirname(os.path.dirname(os.path.abspath(__file__)))
 SOURCES = ["crates/wasm_readers_errors/src/*.rt", "crates/wasm_validator_core/src/error.rt"]
 ROWS = "crates/test_all/data/*/*.rows"
-TESTS = ["crates/test_*/src/*.rt", "tests/**/*.rt"]
+TESTS = ["crates/test_*/src/*.rt", "tests/**/*.rt*"]
 # What no call of the public ones can make the crates print, and why.
 NEVER = {
     "invalid integer": "each integer prints its kind and its fault",

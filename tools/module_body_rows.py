@@ -1101,7 +1101,9 @@ def casts():
             ty = '%s ->' % start
             bytes = function(ops, ty=ty, types=types)
             before = 'block =%s; local.get 0' % sent
-            wanted = 'ok' if ok else refusal(bytes, before, 'type mismatch: cast to a type that is not a subtype; missing nothing')
+            # descriptors lift the rule within a hierarchy
+            missing = 'custom_descriptors' if wide else 'nothing'
+            wanted = 'ok' if ok else refusal(bytes, before, 'type mismatch: cast to a type that is not a subtype; missing ' + missing)
             case('%s from %s to %s' % (op, start, end), bytes, wanted=wanted, own=wide and not ok)
             if wide and not ok:
                 case('%s from %s to %s with custom descriptors' % (op, start, end), bytes, 'default+custom_descriptors', wanted='ok')
@@ -1429,9 +1431,11 @@ def edges():
         if wanted:
             # the operator that is refused is the first one but those that make operands
             before = '; '.join(x for x in re.match(r'((?:unreachable|local.get 0|block =funcref|i32.const 1)(?:; |$))*', ops).group(0).split('; ') if x)
-            wanted = refusal(b, before, wanted) + '; ' + IN_BODY
-        case('%s, default%s' % (title, features), b, 'default' + features, wanted='ok' if wanted is None else wanted or 'refused; ' + IN_BODY,
-             own=wanted is not None)
+            wanted = refusal(b, before, wanted)
+        if wanted is not None:
+            missing = '' if '; missing' in wanted else '; missing ' + features.split('-')[-1]
+            wanted = '%s%s; %s' % (wanted or 'refused', missing, IN_BODY)
+        case('%s, default%s' % (title, features), b, 'default' + features, wanted=wanted or 'ok', own=wanted is not None)
     heading('What bodies of shared functions reach, by each operator')
     items = dict(types=SHARED + ['array mut:i32', 'func -> i32'], tables=['funcref 1'], elems=[dict(mode='passive', type='funcref', exprs=[])],
                  globals=[('i32', 'i32.const 1')])
