@@ -72,6 +72,8 @@ TEXTS = [
     (r'unknown type: type index out of bounds', 'unknown type 99: type index out of bounds'),
     (r'unknown global: global index out of bounds', 'unknown global 7: global index out of bounds'),
     (r'expected (func|struct|array) type at index (\d+), found .*', r'expected \1 type at index \2'),
+    # as the text format writes it
+    (r'(type mismatch: expected) \(shared (\w+)ref\), found (\w+)', r'\1 (ref null (shared \2)), found \3'),
     (r'type mismatch: expected (ref but found|a reference type, found) .*', 'type mismatch: expected a reference type'),
     (r'type mismatch: expected subtype of eqref, found .*', 'type mismatch: expected subtypes of eqref'),
     (r'type mismatch: expected subtype of .*, found .*', 'type mismatch: expected a reference of another hierarchy'),
@@ -88,6 +90,7 @@ TEXTS = [
     (r'type mismatch: array.\w+_elem can only create arrays with reference elements', 'type mismatch: element segment has another type'),
     (r'invalid array.\w+ instruction: element segment \d+ type mismatch: .*', 'type mismatch: element segment has another type'),
     (r'invalid `\w+.new_default`: .* field is not defaultable', 'type mismatch: field or element type is not defaultable'),
+    (r'invalid cast: cannot cast to a continuation type', 'cannot test or cast continuation references'),
     (r'can only use struct `get` with non-packed storage types', 'can only use struct.get with non-packed storage types'),
     (r'cannot use (struct|array).get_[su] with non-packed storage types', r'cannot use \1.get_s or \1.get_u with non-packed storage types'),
 ]
@@ -119,6 +122,11 @@ def subject(name):
 
 def declared(locals):
     return W.vec(W.u(1) + W.vt(x) for x in locals.split())
+
+
+def note(text):
+    """A comment in front of the cases that follow."""
+    FILE.append(text)
 
 
 def case(name, text, locals='', ty=0, features='all', wanted=None, raw=None, told=None):
@@ -658,6 +666,66 @@ def references():
     off('shared_everything_threads', 'shared-everything-threads support is not enabled', 'i32.const 1', 'x:fe72', name='ref.i31_shared', after='drop')
 
 
+# The heap types of each hierarchy, the greatest first. wasmgen has no continuations.
+HIERARCHIES = [['any', 'eq', 'i31', 'struct', 'array', 'none'], ['func', 'nofunc'], ['extern', 'noextern'], ['exn', 'noexn'], ['cont', 'nocont']]
+CONTINUATIONS = {'cont': 0x68, 'nocont': 0x75}
+CASTS = [('ref.test', 0x14, '!'), ('ref.test_null', 0x15, '?'), ('ref.cast', 0x16, '!'), ('ref.cast_null', 0x17, '?')]
+
+
+def heap(name):
+    if name.startswith('shared '):
+        return b'\x65' + heap(name[7:])
+    return bytes([CONTINUATIONS[name]]) if name in CONTINUATIONS else W.ht(name)
+
+
+def cast(title, top, code, end, given):
+    """A null of this type is tested or cast, and what is given goes to a local of this type."""
+    local = W.vt('i32') if code < 0x16 else (b'\x63' if given == '?' else b'\x64') + heap(end)
+    case(title, '', raw=b'\x01\x01' + local + b'\xd0' + heap(top) + b'\xfb' + bytes([code]) + heap(end) + b'\x21\x00\x0b')
+
+
+def abstract_casts():
+    """Each abstract heap type, from the top of its hierarchy and from that of the next. Continuations can't be cast."""
+    subject('references')
+    for number, hierarchy in enumerate(HIERARCHIES):
+        other = HIERARCHIES[(number + 1) % len(HIERARCHIES)][0]
+        for end in hierarchy:
+            for op, code, given in CASTS:
+                cast('%s from %s to %s' % (op, hierarchy[0], end), hierarchy[0], code, end, given)
+                cast('%s from %s to %s of another hierarchy' % (op, other, end), other, code, end, given)
+            for op, code, given in CASTS[2:]:
+                for top in ['shared ' + hierarchy[0], hierarchy[0]]:
+                    cast('%s from %s to shared %s' % (op, top, end), top, code, 'shared ' + end, given)
+
+
+def unreached():
+    subject('references')
+    note('''What isn't reached is converted to a reference that may be shared or not, and a table fits its labels one by one: where one label is shared and one
+isn't, no single type matches both, so the standard's rules with shared types have no typing of these bodies, and the Rust crate accepts them.''')
+    for name, digits, wanted in [
+            ('unreached any.convert_extern before a table of a label and a shared one', '00026e0263656e00fb1a41000e0100010b1ad06e0b1a0b', 'ok'),
+            ('unreached any.convert_extern before a table of a shared label and another', '000263656e026e00fb1a41000e0100010b1ad0656e0b1a0b', 'ok'),
+            ('unreached any.convert_extern before a table of labels without null', '0002646e0264656e00fb1a41000e0100010b1a000b1a0b', 'ok'),
+            ('unreached extern.convert_any before a table of a label and a shared one', '00026f0263656f00fb1b41000e0100010b1ad06f0b1a0b', 'ok')]:
+        case(name, '', raw=bytes.fromhex(digits), wanted=wanted)
+    note('Their neighbours: where the types have something in common that matches both labels, or where a type is known.')
+    for name, digits, wanted in [
+            ('unreached any.convert_extern before a table of shared labels', '000263656e0263656e00fb1a41000e0100010b1ad0656e0b1a0b', 'ok'),
+            ("unreached any.convert_extern before a table of labels that aren't shared", '00026e026e00fb1a41000e0100010b1ad06e0b1a0b', 'ok'),
+            ('what is not reached is of each type at a table of a label and a shared one', '00026e0263656e0041000e0100010b1ad06e0b1a0b', 'ok'),
+            ('unreached ref.as_non_null before a table of a label and a shared one', '00026e0263656e00d441000e0100010b1ad06e0b1a0b', 'ok'),
+            ('reached any.convert_extern before a table of a label and a shared one', '00026e0263656ed06ffb1a41000e0100010b1ad06e0b1a0b', 'refused 13'),
+            ('reached any.convert_extern of a shared one before such a table', '00026e0263656ed0656ffb1a41000e0100010b1ad06e0b1a0b', 'refused 14'),
+            ('unreached any.convert_extern before a branch to a shared label and then one to another', '00026e0263656e00fb1a41000d0041000d01000b1ad06e0b1a0b', 'refused 16'),
+            ('unreached any.convert_extern before a branch to a shared label and then one to its like', '000263656e0263656e00fb1a41000d0041000d01000b1ad0656e0b1a0b', 'ok'),
+            ('unreached any.convert_extern before a table of another hierarchy', '00026e026f00fb1a41000e0100010b1ad06e0b1a0b', 'refused 10'),
+            ('unreached any.convert_extern before a table of another hierarchy and a shared label', '000263656e026f00fb1a41000e0100010b1ad0656e0b1a0b', 'refused 12'),
+            ('unreached any.convert_extern before a table of a shared label and one below', '00026d0263656e00fb1a41000e0100010b1ad06d0b1a0b', 'refused 12')]:
+        case(name, '', raw=bytes.fromhex(digits), wanted=wanted)
+    case('a table of a label and a shared one without shared_everything_threads', '',
+         raw=bytes.fromhex('00026e0263656e00fb1a41000e0100010b1ad06e0b1a0b'), features='all-shared_everything_threads', wanted='refused')
+
+
 def aggregates():
     subject('aggregates')
     case('struct.new takes the fields in order', 'i32.const 1; i64.const 2; i32.const 3; struct.new 3; local.set 0', locals='!3')
@@ -909,19 +977,23 @@ def wanted_of(wp, type_index, body, told):
 
 
 def main():
-    for part in [numbers, memories, tables, variables, control, references, aggregates, proposals, legacy]:
+    for part in [numbers, memories, tables, variables, control, references, abstract_casts, unreached, aggregates, proposals, legacy]:
         part()
     wp = oracle.WP()
     total = 0
     for name, cases in CASES.items():
         lines = []
-        for title, features, ty, body, wanted, told in cases:
+        for it in cases:
+            if isinstance(it, str):
+                lines += ['# ' + line for line in it.split('\n')]
+                continue
+            title, features, ty, body, wanted, told = it
             wanted = wanted or wanted_of(wp, ty, body, told)
             if wanted is None:
                 print('no answer: %s' % title, file=sys.stderr)
                 continue
             lines.append(' | '.join([title, features, str(ty), body.hex() or '-', wanted]))
-        total += len(lines)
+        total += sum(line[0] != '#' for line in lines)
         with open(os.path.join(DATA, name + '.rows'), 'w') as f:
             f.write(HEAD + '\n' + '\n'.join(lines) + '\n')
     wp.close()

@@ -24,8 +24,9 @@ GLOBALS = [('m', 'h', 'global', 'i32'), ('m', 'i', 'global', 'mut:i32'), ('m', '
 CONSTANT = 'constant expression required: non-constant operator'
 
 
-def case(title, bytes, features='all', wanted=None, facts=''):
-    CASES.append((title, features, bytes, wanted, facts))
+def case(title, bytes, features='all', wanted=None, facts='', missing=None):
+    """A module. `facts` are wanted where it is accepted, and the `missing` feature or `nothing` where it is refused."""
+    CASES.append((title, features, bytes, wanted, facts, missing))
 
 
 def heading(text):
@@ -46,12 +47,13 @@ def initializer(title, ty, ops, features='all', wanted=None, more=()):
     case(title, module(globals=[(ty, ops)] + list(more)), features, wanted)
 
 
-def without(feature, op, ty, before='', message=None, behind=''):
+def without(feature, op, ty, before='', name=None):
     """The operator refused for want of a proposal, at its place behind those before it."""
-    bytes = W.build(types=TYPES[:1], globals=[(ty, '; '.join(x for x in (before, op, behind) if x))])
+    name = name or op.split()[0]
+    bytes = W.build(types=TYPES[:1], globals=[(ty, '; '.join(x for x in (before, op) if x))])
     place = at(bytes, 6, 1 + len(W.globaltype(ty)) + len(W.asm(before)))
-    wanted = 'refused %d %s; missing %s' % (place, message or '%s: %s' % (CONSTANT, op.split()[0]), feature)
-    case('a global by %s without %s' % (op.split()[0], feature), bytes, 'all-' + feature, wanted)
+    wanted = 'refused %d %s: %s; missing %s' % (place, CONSTANT, name, feature)
+    case('a global by %s without %s' % (name, feature), bytes, 'all-' + feature, wanted)
 
 
 OTHER = {'i32': 'i64', 'i64': 'f32', 'f32': 'f64', 'f64': 'i32', 'v128': 'i32'}
@@ -109,12 +111,35 @@ def references():
             initializer('a global by %s with an operand of another type' % name, ty, '; '.join([*before.split('; ')[:-1], 'f32.const 1', op]))
         if name not in ('extern.convert_any', 'any.convert_extern'):
             without('gc', ' '.join([name] + (['0'] if 'new' in name else []) + (['2'] if 'fixed' in name else [])), 'i32', before=before)
+    without('gc', 'any.convert_extern', 'i32', before='ref.null extern')
+    # no operand of these can be written without gc
+    for name, op in [('extern.convert_any', 'extern.convert_any'), ('struct.new_desc', 'x:fb2000'), ('struct.new_default_desc', 'x:fb2100')]:
+        without('gc', op, 'i32', name=name)
+    without('shared_everything_threads', 'x:fe72', 'i32', before='i32.const 1', name='ref.i31_shared')
     initializer('a global by array.new_fixed of no items', '!3', 'array.new_fixed 3 0')
     initializer('a global by array.new_fixed with one operand of two', '!3', 'i32.const 1; array.new_fixed 3 2')
     initializer('a global by struct.new_default of a field without default', '!5', 'i32.const 1; array.new_default 5')
     initializer('a global by struct.new of a type that is no structure', '!3', 'struct.new 3')
     initializer('a global by array.new of a type that is no array', '!2', 'i32.const 1; i32.const 1; array.new 2')
     initializer('a global by struct.new of a structure in one', '!4', 'struct.new_default 2; struct.new 4')
+
+
+# A structure with a descriptor, and that; and a structure without.
+DESCRIBED = dict(types=[b'\x4e\x02\x4d\x01\x5f\x00\x4c\x00\x5f\x00'], ntypes=2)
+PLAIN = dict(types=['struct'])
+
+
+def descriptors():
+    heading('Globals by structures with descriptors and without')
+    for name, code in [('struct.new', 'fb00'), ('struct.new_default', 'fb01'), ('struct.new_desc', 'fb20'), ('struct.new_default_desc', 'fb21')]:
+        for which, index, parts in [('a type with a descriptor', 0, DESCRIBED), ('a descriptor', 1, DESCRIBED), ('a type without a descriptor', 0, PLAIN)]:
+            before = '' if 'desc' not in name else 'x:fb0101; ' if which == 'a type with a descriptor' else 'ref.null none; '
+            bytes = W.build(globals=[('!struct', '%sx:%s%02x' % (before, code, index))], **parts)
+            case('a global by %s of %s' % (name, which), bytes, 'default+custom_descriptors', missing='nothing')
+        if 'desc' in name:
+            bytes = W.build(globals=[('!struct', 'ref.null none; x:%s00' % code)], **PLAIN)
+            wanted = 'refused %d custom descriptors support is not enabled; missing custom_descriptors' % at(bytes, 6, 1 + 3 + 2)
+            case('a global by %s without custom_descriptors' % name, bytes, 'all-custom_descriptors', wanted)
 
 
 def reads():
@@ -243,7 +268,8 @@ def elements():
     plain = dict(imports=[('m', 'f', 'func', '->')], tables=['funcref 1'])
     for mode in ['passive', 'declared']:
         b = W.build(elems=[dict(mode=mode, funcs=[0])], **plain)
-        case('a %s list without bulk_memory' % mode, b, 'all-bulk_memory', 'refused; missing bulk_memory')
+        # behind the segment's flag
+        case('a %s list without bulk_memory' % mode, b, 'all-bulk_memory', 'refused %d bulk memory must be enabled; missing bulk_memory' % at(b, 9, 2))
     b = W.build(imports=[('m', 'f', 'func', '->')], elems=[b'\x05\x70\x00'])
     case('a list of expressions without reference_types', b, 'all-reference_types', 'refused; missing reference_types')
     case('an active list of functions without reference_types', W.build(elems=[dict(funcs=[0])], **plain), 'all-reference_types', 'ok')
@@ -279,7 +305,8 @@ def data():
         stored('data with the flag %d' % flag, bytes([flag]) + b'\x41\x00\x0b\x00', wanted='refused')
     stored('data that are cut off', b'\x01\x05ab', wanted='refused')
     b = W.build(datas=[dict(mode='passive')])
-    case('passive data without bulk_memory', b, 'all-bulk_memory', 'refused; missing bulk_memory')
+    case('passive data without bulk_memory', b, 'all-bulk_memory',
+         'refused %d passive data segments require the bulk-memory proposal; missing bulk_memory' % at(b, 11, 2))
     case('as many data as are counted', W.build(datacount=2, datas=[dict(mode='passive')] * 2))
     case('fewer data than are counted', W.build(datacount=2, datas=[dict(mode='passive')]), wanted='refused')
     case('more data than are counted', W.build(datacount=1, datas=[dict(mode='passive')] * 2), wanted='refused')
@@ -290,8 +317,23 @@ def data():
 SHORTER = [(r'(constant expression required: non-constant operator): visit_.*', r'\1'), (r'(type mismatch: invalid element type) .*', r'\1')]
 
 
-# What a segment as a whole is refused for is told behind its flag, where the Rust crate tells it at the segment's first byte.
-OWN_PLACES = [r'unknown (table|memory) \d+:', r'type mismatch: invalid element type']
+def behind_index(b, flag):
+    """Behind the flag of the segment that is here, and behind the index of its table or memory, where one is written."""
+    return flag + (2 if b[flag] & 2 and not b[flag] & 1 else 1)
+
+
+def items_of(b, flag):
+    """Where the items begin of the element segment whose flag is here: behind its table, its offset, and their kind or type."""
+    at = behind_index(b, flag)
+    if not b[flag] & 1:
+        at = b.index(0x0b, at) + 1
+    if b[flag] not in (0, 4):
+        at += 2 if b[at] in (0x63, 0x64) else 1
+    return at
+
+
+# What a segment as a whole is refused for, which the Rust crate tells at the segment's first byte, and where ours tells it.
+OWN_PLACES = [(r'unknown (table|memory) \d+:', behind_index), (r'type mismatch: invalid element type', items_of)]
 
 
 def wanted_of(wp, b):
@@ -300,16 +342,18 @@ def wanted_of(wp, b):
         return 'ok'
     if r['v'] != 'bad' or r['off'] is None:
         return None
-    message = shown(r['msg'])
-    if any(re.match(' ' + pattern, message) for pattern in OWN_PLACES):
-        return 'refused; missing nothing'
+    message, place = r['msg'], r['off']
     for pattern, text in SHORTER:
-        message = re.sub('^ ' + pattern + '$', ' ' + text, message)
-    return 'refused %d%s' % (r['off'], message) if message else 'refused'
+        message = re.sub('^' + pattern + '$', text, message)
+    message = shown(message)
+    for pattern, own in OWN_PLACES:
+        if re.match(' ' + pattern, message):
+            return 'refused %d%s; missing nothing' % (own(b, place), message)
+    return 'refused %d%s' % (place, message) if message else 'refused'
 
 
 def main():
-    for part in [numbers, references, reads, others, ends, tables, elements, data]:
+    for part in [numbers, references, descriptors, reads, others, ends, tables, elements, data]:
         part()
     with open(os.path.join(ROWS, 'modules.rows')) as f:
         lines = f.read().split('\n\n')[0].splitlines()
@@ -319,13 +363,15 @@ def main():
         if isinstance(c, str):
             lines += ['', '# ' + c]
             continue
-        title, features, b, wanted, facts = c
+        title, features, b, wanted, facts, missing = c
         wanted = wanted or wanted_of(wp, b)
         if wanted is None:
             print('no answer: %s' % title, file=sys.stderr)
             continue
         if facts and wanted == 'ok':
             wanted = 'ok; ' + facts
+        if missing and wanted != 'ok':
+            wanted += '; missing ' + missing
         lines.append(' | '.join([title, features, 'H ' + b[8:].hex(), wanted]))
         total += 1
     with open(os.path.join(ROWS, 'constants.rows'), 'w') as f:

@@ -89,7 +89,9 @@ BOTTOM = r'type mismatch: expected .*, found (heap type|bot|bottom)( type)?'
 
 PLAIN = (r'type mismatch: expected [ifv]\d+(, found [ifv]\d+| but nothing on stack)'
          '|type mismatch: (expected a type but nothing on stack|values remaining on stack at end of block)')
-BEYOND = '|invalid exception type: non-empty tag result type|shared functions cannot access what is not shared'
+BEYOND = ('|invalid exception type: non-empty tag result type|shared functions cannot access what is not shared'
+          r'|type with descriptor requires descriptor allocation: .*|invalid `struct\.new(_default)?_desc`: type \d+ is not described'
+          r'|expected (func|struct|array) type at index \d+|unknown type \d+: type index out of bounds')
 
 
 def text_of(message, ids):
@@ -101,6 +103,7 @@ def text_of(message, ids):
         if message.count('$type') == len(ids):
             for i in ids:
                 message = message.replace('$type', f'(id {i})', 1)
+            return message
     return B.shown(message).strip()
 
 
@@ -1098,7 +1101,9 @@ def casts():
             ty = '%s ->' % start
             bytes = function(ops, ty=ty, types=types)
             before = 'block =%s; local.get 0' % sent
-            wanted = 'ok' if ok else refusal(bytes, before, 'type mismatch: cast to a type that is not a subtype; missing nothing')
+            # descriptors lift the rule within a hierarchy
+            missing = 'custom_descriptors' if wide else 'nothing'
+            wanted = 'ok' if ok else refusal(bytes, before, 'type mismatch: cast to a type that is not a subtype; missing ' + missing)
             case('%s from %s to %s' % (op, start, end), bytes, wanted=wanted, own=wide and not ok)
             if wide and not ok:
                 case('%s from %s to %s with custom descriptors' % (op, start, end), bytes, 'default+custom_descriptors', wanted='ok')
@@ -1270,6 +1275,48 @@ def beyond():
         row('a shared function, and one that is not, and ' + title, *[Part(b, beyond=True) for b in both], features='default+shared_everything_threads')
 
 
+def refused_with_all_on(title, features, operator, told=None, **parts):
+    """An operator that is refused with its features on, behind what is not reached."""
+    b = with_body(raw_body(b'\0', 'unreachable; %s; drop' % operator), **parts)
+    case(title, b, features, told=told, facts='missing nothing', beyond=True)
+
+
+ALLOCATIONS = [('struct.new', 'fb00'), ('struct.new_default', 'fb01'), ('struct.new_desc', 'fb20'), ('struct.new_default_desc', 'fb21')]
+
+
+def descriptors():
+    heading('Structures with descriptors and without')
+    features = 'default+custom_descriptors'
+    for op, code in ALLOCATIONS:
+        with_descriptor = dict(types=DESCRIBED, ntypes=2)
+        accepted = [('a type with a descriptor', 0, with_descriptor)]
+        refused = [('a descriptor', 1, with_descriptor), ('a type without a descriptor', 0, dict(types=['struct i32']))]
+        if 'desc' not in op:
+            accepted, refused = refused, accepted
+        for which, index, parts in accepted:
+            body = raw_body(b'\0', 'unreachable; x:%s%02x; drop' % (code, index))
+            case('%s of %s, behind what is not reached' % (op, which), with_body(body, **parts), features, beyond=True)
+        for which, index, parts in refused:
+            refused_with_all_on('%s of %s, behind what is not reached' % (op, which), features, 'x:%s%02x' % (code, index), **parts)
+        for which, types in [('an array', ['array i32']), ('a function type', ['func ->'])]:
+            refused_with_all_on('%s of %s' % (op, which), features, 'x:%s00' % code, '' if 'desc' in op else None, types=types)
+        refused_with_all_on('%s of a type that is not there' % op, features, 'x:%s63' % code, types=['struct'])
+
+
+def continuations():
+    heading('Operators that name a continuation type')
+    types = ['func ->', b'\x5d\x00', 'struct i8', 'array mut:i8']
+    for op in ['struct.new %d', 'struct.new_default %d', 'struct.get_s %d 0', 'struct.get_u %d 0']:
+        name = op.split()[0]
+        valid('%s of a structure behind a continuation type' % name, 'unreachable; %s; drop' % op % 2, features='default+stack_switching', types=types)
+        refused_with_all_on('%s of a continuation type' % name, 'default+stack_switching', op % 1, types=types)
+    for op in ['struct.get 1 0', 'struct.set 1 0', 'array.new 1', 'array.new_default 1', 'array.new_fixed 1 0', 'array.get 1', 'array.get_s 1',
+               'array.get_u 1', 'array.set 1', 'array.fill 1', 'call_ref 1', 'return_call_ref 1']:
+        refused_with_all_on('%s of a continuation type' % op.split()[0], 'default+stack_switching', op, types=types)
+    for op, code in ALLOCATIONS[2:]:
+        refused_with_all_on('%s of a continuation type' % op, 'default+stack_switching+custom_descriptors', 'x:%s01' % code, '', types=types)
+
+
 def edges():
     """What few rows tell apart: found by tools/shape_mutations.py."""
     heading('Orders of operands, subtypes and given types')
@@ -1384,9 +1431,11 @@ def edges():
         if wanted:
             # the operator that is refused is the first one but those that make operands
             before = '; '.join(x for x in re.match(r'((?:unreachable|local.get 0|block =funcref|i32.const 1)(?:; |$))*', ops).group(0).split('; ') if x)
-            wanted = refusal(b, before, wanted) + '; ' + IN_BODY
-        case('%s, default%s' % (title, features), b, 'default' + features, wanted='ok' if wanted is None else wanted or 'refused; ' + IN_BODY,
-             own=wanted is not None)
+            wanted = refusal(b, before, wanted)
+        if wanted is not None:
+            missing = '' if '; missing' in wanted else '; missing ' + features.split('-')[-1]
+            wanted = '%s%s; %s' % (wanted or 'refused', missing, IN_BODY)
+        case('%s, default%s' % (title, features), b, 'default' + features, wanted=wanted or 'ok', own=wanted is not None)
     heading('What bodies of shared functions reach, by each operator')
     items = dict(types=SHARED + ['array mut:i32', 'func -> i32'], tables=['funcref 1'], elems=[dict(mode='passive', type='funcref', exprs=[])],
                  globals=[('i32', 'i32.const 1')])
@@ -1457,7 +1506,7 @@ def programs():
         row('the program %s with another operator, in turn' % name, *[Part(other, plain=True) for other in changed(b, 10 if len(b) < 800 else 6)])
 
 
-PARTS = [by_bytes, on_one_validator, limits, numbers, accesses, frames, unreached, joins, named, calls, identities, catches, casts, gated, beyond, edges,
+PARTS = [by_bytes, on_one_validator, limits, numbers, accesses, frames, unreached, joins, named, calls, identities, catches, casts, gated, beyond, descriptors, continuations, edges,
          bodies, programs]
 
 if __name__ == '__main__':

@@ -7,7 +7,9 @@ mod bytes;
 mod items;
 mod lists;
 mod operators;
+mod own_checks;
 mod payloads;
+mod positions;
 mod sample;
 mod values;
 mod views;
@@ -15,7 +17,7 @@ mod views;
 use std::alloc::Global;
 
 /// Tests of types and of the list of types, each by its name, and whether it is right.
-pub fn check_types(alloc: Global) -> [(&'static str, bool); 13] {
+pub fn check_types(alloc: Global) -> [(&'static str, bool); 14] {
     [
         (
             "constants are the types of their names",
@@ -50,6 +52,10 @@ pub fn check_types(alloc: Global) -> [(&'static str, bool); 13] {
             lists::a_group_is_found_by_its_type(alloc).unwrap_or(false),
         ),
         (
+            "positions end with their group",
+            positions::positions_end_with_their_group(alloc).unwrap_or(false),
+        ),
+        (
             "a kept list is closed",
             lists::a_kept_list_is_closed(alloc).unwrap_or(false),
         ),
@@ -74,7 +80,7 @@ pub fn check_types(alloc: Global) -> [(&'static str, bool); 13] {
 
 /// Tests of views, of parsing, of the checks of items, and of operators and bodies, each by its name,
 /// and whether it is right.
-pub fn check_code(alloc: Global) -> [(&'static str, bool); 8] {
+pub fn check_code(alloc: Global) -> [(&'static str, bool); 9] {
     [
         (
             "snapshots share what they hold",
@@ -107,6 +113,10 @@ pub fn check_code(alloc: Global) -> [(&'static str, bool); 8] {
         (
             "operators in bodies",
             bodies::operators_in_bodies(alloc).unwrap_or(false),
+        ),
+        (
+            "a user's own checks of types decide alike",
+            own_checks::own_checks_decide_alike(alloc).unwrap_or(false),
         ),
     ]
 }

@@ -3,6 +3,7 @@
 #![tactic(auto)]
 
 mod files;
+mod lines;
 mod memory;
 
 use memory::Run;
@@ -11,7 +12,7 @@ use std::io;
 use test_refusals::{Refusing, print_right};
 
 /// Tests of files, each by its name, and whether it is right.
-pub fn check_files(alloc: Global) -> [(&'static str, bool); 4] {
+pub fn check_files(alloc: Global) -> [(&'static str, bool); 7] {
     [
         (
             "files up to a refused one and behind",
@@ -26,6 +27,18 @@ pub fn check_files(alloc: Global) -> [(&'static str, bool); 4] {
             files::a_file_that_is_not_there(alloc).unwrap_or(false),
         ),
         ("no file", files::no_file(alloc)),
+        (
+            "an import and an export",
+            lines::an_import_and_an_export(alloc).unwrap_or(false),
+        ),
+        (
+            "an export of no function",
+            lines::an_export_of_no_function(alloc).unwrap_or(false),
+        ),
+        (
+            "files behind a refused body",
+            lines::files_behind_a_refused_body(alloc).unwrap_or(false),
+        ),
     ]
 }
 
