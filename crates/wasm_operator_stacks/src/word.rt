@@ -24,9 +24,13 @@ pub struct Word {
 /// or of an abstract heap type whose shared flag is open, not null.
 #[derive(Clone, Copy)]
 pub enum Operand {
+    /// Of this type.
     Known(ValType),
+    /// Of any type.
     Bottom,
+    /// Of any reference type.
     BottomReference,
+    /// A reference to this heap type that isn't null, and is shared or not as is needed.
     Open(AbstractHeapType),
 }
 

@@ -16,5 +16,5 @@ pub use validator::{OperatorValidator, OperatorValidatorAllocations};
 pub use visitor::OperatorVisitor;
 pub use wasm_operator_arity::{FrameStack, ModuleArity, counts_are_lengths, operator_arity};
 pub use wasm_operator_blocks::operator_checks::{OperatorError, OperatorFault};
-pub use wasm_operator_blocks::operator_stacks::{TypeWord, Word};
+pub use wasm_operator_blocks::operator_stacks::{Operand, TypeWord, Word};
 pub use wasm_operator_fast::NotTaken;

@@ -20,6 +20,7 @@ pub use next_operator::read_operator;
 /// Passed on from `wasm_operators`.
 pub mod operators {
     pub use wasm_operators::operators_atomic::{AtomicOperator, VectorOperator};
+    pub use wasm_operators::operators_plain::NumberType;
     pub use wasm_operators::{
         ArrayOperator, BlockType, BrTable, BulkMemoryOperator, CallOperator, CastOperator, Catch,
         ConstantOperator, ControlOperator, ConversionOperator, FrameKind, Ieee32, Ieee64,
@@ -33,7 +34,8 @@ pub mod operators {
 /// Passed on from `wasm_operator_validator`.
 pub mod operator_validator {
     pub use wasm_operator_validator::{
-        Frame, FrameStack, ModuleArity, NotTaken, OperatorError, OperatorFault, OperatorValidator,
-        OperatorValidatorAllocations, OperatorVisitor, TypeWord, Word, operator_arity,
+        Frame, FrameStack, ModuleArity, NotTaken, Operand, OperatorError, OperatorFault,
+        OperatorValidator, OperatorValidatorAllocations, OperatorVisitor, TypeWord, Word,
+        operator_arity,
     };
 }

@@ -40,9 +40,9 @@ pub mod operators {
         ArrayOperator, AtomicOperator, BlockType, BrTable, BulkMemoryOperator, CallOperator,
         CastOperator, Catch, ConstantOperator, ControlOperator, ConversionOperator, FrameKind,
         Ieee32, Ieee64, Immediate, ImmediateValues, LegacyOperator, Listed, ListedItems, MemArg,
-        MemoryOperator, NumericOperator, Operator, ParametricOperator, ReferenceOperator,
-        SaturatingOperator, StructOperator, TableOperator, TryTable, V128, VariableOperator,
-        VectorOperator, max_align, read_block_type, read_expression, read_memarg,
+        MemoryOperator, NumberType, NumericOperator, Operator, ParametricOperator,
+        ReferenceOperator, SaturatingOperator, StructOperator, TableOperator, TryTable, V128,
+        VariableOperator, VectorOperator, max_align, read_block_type, read_expression, read_memarg,
     };
     pub use wasm_validator_func::read_operator;
 }
@@ -50,8 +50,9 @@ pub mod operators {
 /// Passed on from `wasm_operator_validator`.
 pub mod operator_validator {
     pub use wasm_validator_func::operator_validator::{
-        Frame, FrameStack, ModuleArity, NotTaken, OperatorError, OperatorFault, OperatorValidator,
-        OperatorValidatorAllocations, OperatorVisitor, TypeWord, Word, operator_arity,
+        Frame, FrameStack, ModuleArity, NotTaken, Operand, OperatorError, OperatorFault,
+        OperatorValidator, OperatorValidatorAllocations, OperatorVisitor, TypeWord, Word,
+        operator_arity,
     };
 }
 
