@@ -13,7 +13,7 @@ mod types;
 pub use bench::time_body;
 pub use items::print_items;
 use row::{BodyRows, NAME};
-use rows_files::{STATUS_RIGHT, files_behind, print_error, run};
+use rows_files::{STATUS_RIGHT, WrongRows, files_behind, print_error, run};
 use sample::Sample;
 use std::alloc::Global;
 use std::env::Env;
@@ -33,6 +33,26 @@ pub fn run_rows<R: Env + Files + AllocGlobal, W: Write, E: Write>(
     }
     match Sample::new(rt.alloc()) {
         Ok(sample) => Ok(run(rt.alloc(), &BodyRows { sample }, &files, out, err)),
+        Err(trouble) => Ok(print_error(err, NAME, trouble.text())),
+    }
+}
+
+/// The same for the files that stand behind `--wrong-bodies`, each of whose rows has to be judged
+/// wrong: those are told that aren't.
+pub fn run_wrong_rows<R: Env + Files + AllocGlobal, W: Write, E: Write>(
+    rt: &R,
+    out: &mut W,
+    err: &mut E,
+) -> io::Result<u8> {
+    let files = files_behind(rt, "--wrong-bodies")?;
+    if files.is_empty() {
+        return Ok(STATUS_RIGHT);
+    }
+    match Sample::new(rt.alloc()) {
+        Ok(sample) => {
+            let judge = BodyRows { sample };
+            Ok(run(rt.alloc(), &WrongRows { judge: &judge }, &files, out, err))
+        }
         Err(trouble) => Ok(print_error(err, NAME, trouble.text())),
     }
 }
