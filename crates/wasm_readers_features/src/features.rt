@@ -1,5 +1,5 @@
 //! The proposals as flags of one set, each under the name that the Rust crate gives it; a test of
-//! each flag; and the set of what the standard has.
+//! each flag; and `STANDARD`, the set that is the default.
 
 ghost use Rattle.std.specs.Prelude.{⊤, ◌≡◌, [], ◌∷◌, codes};
 ghost use Rattle.wasm_readers_features.specs.On.{mutable_global_on, reference_types_on, multi_value_on, bulk_memory_on, simd_on, threads_on, shared_everything_threads_on, floats_on, multi_memory_on, exceptions_on, memory64_on, extended_const_on, function_references_on, gc_on, gc_types_on, custom_page_sizes_on, custom_descriptors_on, stack_switching_on, component_model_on, vector_operators_on, atomic_operators_on, legacy_exceptions_on};
@@ -35,8 +35,8 @@ use bitflags::{Flag, Flags, bitflag_items};
 /// - `LEGACY_EXCEPTIONS`: `try`, `catch`, `catch_all`, `rethrow` and `delegate`, by which exceptions
 ///   were handled before references to them. They need `EXCEPTIONS` too.
 ///
-/// The last three are no flags of the Rust crate; they have to be asked for, and are in no set but
-/// `all()`.
+/// The last three have to be asked for, and are in no set but `all()`; the first two of these are
+/// no flags of the Rust crate.
 #[derive(Clone, Copy, PartialEq, Eq, Hash, Debug)]
 pub struct WasmFeatures(u64);
 
@@ -70,7 +70,8 @@ bitflag_items! {
 impl WasmFeatures {
     /// All but `SHARED_EVERYTHING_THREADS`, `CUSTOM_DESCRIPTORS`, `STACK_SWITCHING`,
     /// `CUSTOM_PAGE_SIZES`, `COMPONENT_MODEL`, `VECTOR_OPERATORS`, `ATOMIC_OPERATORS` and
-    /// `LEGACY_EXCEPTIONS`.
+    /// `LEGACY_EXCEPTIONS`. So it lacks the standard's operators on vectors, and has shared memories,
+    /// which the standard hasn't.
     pub const STANDARD: WasmFeatures = WasmFeatures(32703);
 
     /// No proposal.

@@ -12,7 +12,8 @@ pub enum Error<A: Allocator = Global> {
     /// The content is refused: by which rule, at which offset, and for want of which proposal, if
     /// one would lift the refusal.
     Refused(Refusal),
-    /// The module exports two items under this name. The offset is that of the second one.
+    /// The module exports two items under this name, which may hold any UTF-8, also line breaks and
+    /// escape codes. The offset is that of the second one.
     DuplicateExport { name: String<A>, offset: u64 },
     /// The body of the function with this index is refused. The index counts imported functions,
     /// which come first.
@@ -97,7 +98,8 @@ impl<A: Allocator> Error<A> {
     }
 }
 
-/// The message alone, without the offset.
+/// The message alone, without the offset. A name in it is printed as the module has it, with line
+/// breaks and escape codes: a caller that prints it on a terminal or into a log escapes them.
 impl<A: Allocator> fmt::Display for Error<A> {
     fn fmt<W: fmt::Write>(&self, f: &mut fmt::Formatter<W>) -> fmt::Result {
         match self {
