@@ -49,6 +49,16 @@ impl Tally {
         }
     }
 
+    /// Where a file can't be read, or what became of its rows can't be printed.
+    fn trouble() -> Tally
+        ensures { result.has_trouble ≡ true }
+    {
+        Tally {
+            has_trouble: true,
+            ..Tally::new()
+        }
+    }
+
     /// With one more row.
     fn with(self, outcome: Outcome) -> Tally
         ensures wrong { outcome ≡ Outcome.Wrong → 0 < result.wrong }
@@ -69,6 +79,20 @@ impl Tally {
                 has_trouble: true,
                 ..self
             },
+        }
+    }
+
+    /// With what became of the rows of another file.
+    fn and(self, other: Tally) -> Tally
+        ensures wrong { 0 < other.wrong → 0 < result.wrong }
+        ensures still_wrong { self.wrong ≤ result.wrong }
+        ensures trouble { other.has_trouble ≡ true → result.has_trouble ≡ true }
+        ensures still_trouble { self.has_trouble ≡ true → result.has_trouble ≡ true }
+    {
+        Tally {
+            rows: self.rows.saturating_add(other.rows),
+            wrong: self.wrong.saturating_add(other.wrong),
+            has_trouble: self.has_trouble || other.has_trouble,
         }
     }
 
@@ -96,7 +120,7 @@ pub fn print_error<E: Write>(err: &mut E, name: &str, message: &str) -> u8
     STATUS_TROUBLE
 }
 
-/// Judges the rows of these files, prints those that are wrong and last how many there were, and
+/// Judges the rows of these files, prints those that are wrong and how many each file has, and
 /// answers the exit status.
 pub fn run<J: Judge, W: Write, E: Write>(
     alloc: Global,
@@ -109,35 +133,31 @@ pub fn run<J: Judge, W: Write, E: Write>(
 {
     let mut tally = Tally::new();
     for file in files {
-        tally = run_file(alloc, judge, tally, file, out, err);
+        tally = tally.and(run_file(alloc, judge, file, out, err));
     }
-    let rows = tally.rows;
-    let wrong = tally.wrong;
-    match writeln!(out, "{rows} rows, {wrong} wrong") {
-        Ok(()) => tally.status(),
-        Err(_) => STATUS_TROUBLE,
-    }
+    tally.status()
 }
 
+/// Judges the rows of a file, prints those that are wrong, and last how many there were.
 fn run_file<J: Judge, W: Write, E: Write>(
     alloc: Global,
     judge: &J,
-    tally: Tally,
     file: &Input,
     out: &mut W,
     err: &mut E,
 ) -> Tally {
     let name = file.name.as_str();
-    match &file.text {
-        Some(text) => run_lines(alloc, judge, tally, text.as_str(), out, err),
-        None => {
-            let program = judge.name();
-            let _printed = writeln!(err, "{program}: cannot read {name}");
-            Tally {
-                has_trouble: true,
-                ..tally
-            }
-        }
+    let Some(text) = &file.text else {
+        let program = judge.name();
+        let _printed = writeln!(err, "{program}: cannot read {name}");
+        return Tally::trouble();
+    };
+    let tally = run_lines(alloc, judge, text.as_str(), out, err);
+    let rows = tally.rows;
+    let wrong = tally.wrong;
+    match writeln!(out, "{name}: {rows} rows, {wrong} wrong") {
+        Ok(()) => tally,
+        Err(_) => Tally::trouble(),
     }
 }
 
@@ -145,12 +165,11 @@ fn run_file<J: Judge, W: Write, E: Write>(
 fn run_lines<J: Judge, W: Write, E: Write>(
     alloc: Global,
     judge: &J,
-    before: Tally,
     text: &str,
     out: &mut W,
     err: &mut E,
 ) -> Tally {
-    let mut tally = before;
+    let mut tally = Tally::new();
     for line in text.lines() {
         if is_row(line) {
             tally = tally.with(run_line(alloc, judge, line, out, err));

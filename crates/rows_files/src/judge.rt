@@ -61,3 +61,25 @@ pub trait Judge {
     /// The answer to the row that this line is, where it isn't right.
     fn judge<'a>(&self, alloc: Global, line: &'a str) -> Result<Option<Difference<'a>>, Trouble>;
 }
+
+/// Judges rows each of which the other judge has to find wrong: here it is right where it differs
+/// there.
+pub struct WrongRows<'a, J: Judge> {
+    pub judge: &'a J,
+}
+
+impl<J: Judge> Judge for WrongRows<'_, J> {
+    fn name(&self) -> &'static str {
+        self.judge.name()
+    }
+
+    fn judge<'a>(&self, alloc: Global, line: &'a str) -> Result<Option<Difference<'a>>, Trouble> {
+        match self.judge.judge(alloc, line)? {
+            Some(_) => Ok(None),
+            None => Ok(Some(Difference {
+                wanted: "a row that is judged wrong",
+                given: String::from_str(alloc, "judged right")?,
+            })),
+        }
+    }
+}

@@ -11,5 +11,5 @@ mod words;
 pub use digits::parse_digits;
 pub use features::{name_of, parse_features};
 pub use files::{Input, STATUS_RIGHT, STATUS_TROUBLE, STATUS_WRONG, print_error, run};
-pub use judge::{Difference, Judge, NOT, Trouble, take_part};
-pub use words::{files_behind, has_option, print_calls, words_behind};
+pub use judge::{Difference, Judge, NOT, Trouble, WrongRows, take_part};
+pub use words::{files_behind, has_option, words_behind};

@@ -1,29 +1,28 @@
-//! `test-all OPTION ..` runs what each option names, and tells what is wrong. The exit status is 0 only
-//! where no row, no answer to refused memory and no call by hand is.
+//! `test-all OPTION ..` runs what each option names, and prints what is wrong. The exit status is 0 only
+//! where no row, no test and no answer to refused memory is.
 //!
 //! - `--modules FILE..`: rows of modules and of calls on a validator;
 //! - `--bodies FILE..`: rows of bodies and of single operators;
+//! - `--wrong-modules FILE..`, `--wrong-bodies FILE..`: such rows, each of which has to be judged wrong;
 //! - `--body FILE..`: validates one body, which is made of the operators in the files, one file behind
 //!   the other, and prints how many they are and whether it is valid; and to standard error how long
 //!   that took;
 //! - `--items FILE..`: reads the modules in the files and no more, and prints how many items their
 //!   globals, element and data segments are;
-//! - `--memory`: refuses each request for memory;
-//! - `--calls`: tests of what rows can't show;
+//! - `--tests`: the tests by hand, as `bin/test` builds this program, and none elsewhere;
 //! - `--examples`: the examples.
 #![tactic(auto)]
 
+mod tests;
+
 use rows_bodies::{print_items, time_body};
-use rows_files::{STATUS_RIGHT, STATUS_WRONG, has_option, print_calls, print_error};
-use std::alloc::Global;
+use rows_files::{has_option, print_error};
 use std::env::Env;
 use std::io::{self, Write};
 use std::process::ExitCode;
 use std::rt::Files;
 use std::time::Clock;
-use test_parts::{check_code, check_types};
-use test_programs::check_files;
-use test_validator::check_calls;
+use tests::run_tests;
 
 fn main(rt: HostRuntime) -> ExitCode {
     ExitCode::from(match run(&rt, &mut rt.stdout(), &mut rt.stderr()) {
@@ -46,37 +45,9 @@ fn run<R: Env + Files + Clock + Print + AllocGlobal, W: Write, E: Write>(
     let bodies = rows_bodies::run_rows(rt, out, err)?;
     time_body(rt, out, err)?;
     print_items(rt, out)?;
-    let memory = refuse_memory(rt)?;
-    let calls = run_calls(rt, out)?;
+    let tests = run_tests(rt, out)?;
     print_examples(rt)?;
-    Ok(modules.max(bodies).max(memory).max(calls))
-}
-
-/// Refuses each request for memory, if that is asked for. The answer is the exit status.
-fn refuse_memory<R: Env + Print + AllocGlobal>(rt: &R) -> io::Result<u8> {
-    if !has_option(rt, "--memory")? {
-        return Ok(STATUS_RIGHT);
-    }
-    let modules = test_memory::check_refusals(rt)?;
-    let lists = test_validator::check_refusals(rt)?;
-    let programs = test_programs::check_refusals(rt)?;
-    if modules && lists && programs {
-        Ok(STATUS_RIGHT)
-    } else {
-        Ok(STATUS_WRONG)
-    }
-}
-
-/// Makes the calls of the tests, if they are asked for. The answer is the exit status.
-fn run_calls<R: Env + Print + AllocGlobal, W: Write>(rt: &R, out: &mut W) -> io::Result<u8> {
-    if !has_option(rt, "--calls")? {
-        return Ok(STATUS_RIGHT);
-    }
-    let types = print_calls(&check_types(rt.alloc()), out)?;
-    let code = print_calls(&check_code(rt.alloc()), out)?;
-    let validator = print_calls(&check_calls(rt.alloc()), out)?;
-    let files = print_calls(&check_files(rt.alloc()), out)?;
-    Ok(types.max(code).max(validator).max(files))
+    Ok(modules.max(bodies).max(tests))
 }
 
 /// Runs the examples that are asked for.
