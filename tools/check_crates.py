@@ -4,15 +4,17 @@
 `rt` follows each walk down from a crate through the graph before it checks that crate, so each crate may have at most 3,400 walks, and
 `test_all`, which runs the rows and the examples, at most 7,500. A crate names the layers it uses and passes on what is below
 them, by `pub use` lines of its specs/Lib.antt and proofs/Lib.antt and by `pub mod` blocks at the end of its src/lib.rt; each such line must
-be used by a crate above. A crate of laws (wasm_laws_..) passes on no code."""
+be used by a crate above, or be in FOR_USERS. A crate of laws (wasm_laws_..) passes on no code."""
 import os
 import re
 import sys
 
 ROOT = os.path.dirname(os.path.dirname(os.path.abspath(__file__)))
-MOST_WALKS, MOST_CRATES, MOST_LINES, MOST_FUNCTIONS = 3_400, 72, 1_500, 110
+MOST_WALKS, MOST_CRATES, MOST_LINES, MOST_FUNCTIONS = 3_400, 68, 1_500, 110
 ALL, MOST_WALKS_OF_ALL = "test_all", 7_500
-LAYERS = ("wasm_spec", "wasm_readers", "wasm_operator", "wasm_items", "wasm_parser", "wasm_validat", "wasm_check", "wasm_laws_", "rows_", "test_", "examples", "ruthvelka_c")
+# What is passed on for users alone: the condition of `FuncValidator::op`, which their contracts name.
+FOR_USERS = {("wasm_validator_func", "specs/Stepped")}
+LAYERS = ("wasm_spec", "wasm_readers", "wasm_operator", "wasm_items", "wasm_parser", "wasm_validat", "wasm_check", "wasm_laws_", "rows_", "test_all", "examples", "ruthvelka_c")
 
 
 def read(path):
@@ -98,7 +100,7 @@ def main():
         if name.startswith("wasm_laws_") and any(it.startswith("code/") for it, _ in passed):
             wrong.append(f"{name}: a crate of laws passes on code")
         for it, named in passed:
-            if not any(re.match(named, path) for path, by in writers.items() if by != {name}):
+            if (name, it) not in FOR_USERS and not any(re.match(named, path) for path, by in writers.items() if by != {name}):
                 wrong.append(f"{name}: it passes on {it}, which no other crate names")
     worst = max(walks, key=walks.get)
     print(f"{len(graph)} crates, {sum(map(len, graph.values()))} edges, {count_passed} lines that pass on; {walks[worst]} walks at most, from {worst}")

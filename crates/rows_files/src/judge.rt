@@ -64,6 +64,7 @@ pub trait Judge {
 
 /// Judges rows each of which the other judge has to find wrong: here it is right where it differs
 /// there.
+#[derive(Drop)]
 pub struct WrongRows<'a, J: Judge> {
     pub judge: &'a J,
 }
