@@ -20,23 +20,39 @@ use std::env::Env;
 use std::io::{self, Write};
 use std::rt::Files;
 
-/// Runs the rows of the files behind `--bodies`, and those behind `--wrong-bodies`, each of which has to
-/// be judged wrong, and prints those that aren't as they should. The answer is the exit status.
+/// Runs the rows of the files that stand behind `--bodies`, if there are any, and tells the wrong
+/// ones. The answer is the exit status.
 pub fn run_rows<R: Env + Files + AllocGlobal, W: Write, E: Write>(
     rt: &R,
     out: &mut W,
     err: &mut E,
 ) -> io::Result<u8> {
     let files = files_behind(rt, "--bodies")?;
-    let wrong = files_behind(rt, "--wrong-bodies")?;
-    if files.is_empty() && wrong.is_empty() {
+    if files.is_empty() {
         return Ok(STATUS_RIGHT);
     }
-    let rows = match Sample::new(rt.alloc()) {
-        Ok(sample) => BodyRows { sample },
-        Err(trouble) => return Ok(print_error(err, NAME, trouble.text())),
-    };
-    let status = run(rt.alloc(), &rows, &files, out, err);
-    let judge = WrongRows { judge: &rows };
-    Ok(status.max(run(rt.alloc(), &judge, &wrong, out, err)))
+    match Sample::new(rt.alloc()) {
+        Ok(sample) => Ok(run(rt.alloc(), &BodyRows { sample }, &files, out, err)),
+        Err(trouble) => Ok(print_error(err, NAME, trouble.text())),
+    }
+}
+
+/// The same for the files that stand behind `--wrong-bodies`, each of whose rows has to be judged
+/// wrong: those are told that aren't.
+pub fn run_wrong_rows<R: Env + Files + AllocGlobal, W: Write, E: Write>(
+    rt: &R,
+    out: &mut W,
+    err: &mut E,
+) -> io::Result<u8> {
+    let files = files_behind(rt, "--wrong-bodies")?;
+    if files.is_empty() {
+        return Ok(STATUS_RIGHT);
+    }
+    match Sample::new(rt.alloc()) {
+        Ok(sample) => {
+            let judge = BodyRows { sample };
+            Ok(run(rt.alloc(), &WrongRows { judge: &judge }, &files, out, err))
+        }
+        Err(trouble) => Ok(print_error(err, NAME, trouble.text())),
+    }
 }

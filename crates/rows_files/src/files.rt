@@ -49,16 +49,6 @@ impl Tally {
         }
     }
 
-    /// Where a file can't be read, or what became of its rows can't be printed.
-    fn trouble() -> Tally
-        ensures { result.has_trouble ≡ true }
-    {
-        Tally {
-            has_trouble: true,
-            ..Tally::new()
-        }
-    }
-
     /// With one more row.
     fn with(self, outcome: Outcome) -> Tally
         ensures wrong { outcome ≡ Outcome.Wrong → 0 < result.wrong }
@@ -79,20 +69,6 @@ impl Tally {
                 has_trouble: true,
                 ..self
             },
-        }
-    }
-
-    /// With what became of the rows of another file.
-    fn and(self, other: Tally) -> Tally
-        ensures wrong { 0 < other.wrong → 0 < result.wrong }
-        ensures still_wrong { self.wrong ≤ result.wrong }
-        ensures trouble { other.has_trouble ≡ true → result.has_trouble ≡ true }
-        ensures still_trouble { self.has_trouble ≡ true → result.has_trouble ≡ true }
-    {
-        Tally {
-            rows: self.rows.saturating_add(other.rows),
-            wrong: self.wrong.saturating_add(other.wrong),
-            has_trouble: self.has_trouble || other.has_trouble,
         }
     }
 
@@ -120,7 +96,7 @@ pub fn print_error<E: Write>(err: &mut E, name: &str, message: &str) -> u8
     STATUS_TROUBLE
 }
 
-/// Judges the rows of these files, prints those that are wrong and how many each file has, and
+/// Judges the rows of these files, prints those that are wrong and last how many there were, and
 /// answers the exit status.
 pub fn run<J: Judge, W: Write, E: Write>(
     alloc: Global,
@@ -133,31 +109,35 @@ pub fn run<J: Judge, W: Write, E: Write>(
 {
     let mut tally = Tally::new();
     for file in files {
-        tally = tally.and(run_file(alloc, judge, file, out, err));
+        tally = run_file(alloc, judge, tally, file, out, err);
     }
-    tally.status()
+    let rows = tally.rows;
+    let wrong = tally.wrong;
+    match writeln!(out, "{rows} rows, {wrong} wrong") {
+        Ok(()) => tally.status(),
+        Err(_) => STATUS_TROUBLE,
+    }
 }
 
-/// Judges the rows of a file, prints those that are wrong, and last how many there were.
 fn run_file<J: Judge, W: Write, E: Write>(
     alloc: Global,
     judge: &J,
+    tally: Tally,
     file: &Input,
     out: &mut W,
     err: &mut E,
 ) -> Tally {
     let name = file.name.as_str();
-    let Some(text) = &file.text else {
-        let program = judge.name();
-        let _printed = writeln!(err, "{program}: cannot read {name}");
-        return Tally::trouble();
-    };
-    let tally = run_lines(alloc, judge, text.as_str(), out, err);
-    let rows = tally.rows;
-    let wrong = tally.wrong;
-    match writeln!(out, "{name}: {rows} rows, {wrong} wrong") {
-        Ok(()) => tally,
-        Err(_) => Tally::trouble(),
+    match &file.text {
+        Some(text) => run_lines(alloc, judge, tally, text.as_str(), out, err),
+        None => {
+            let program = judge.name();
+            let _printed = writeln!(err, "{program}: cannot read {name}");
+            Tally {
+                has_trouble: true,
+                ..tally
+            }
+        }
     }
 }
 
@@ -165,11 +145,12 @@ fn run_file<J: Judge, W: Write, E: Write>(
 fn run_lines<J: Judge, W: Write, E: Write>(
     alloc: Global,
     judge: &J,
+    before: Tally,
     text: &str,
     out: &mut W,
     err: &mut E,
 ) -> Tally {
-    let mut tally = Tally::new();
+    let mut tally = before;
     for line in text.lines() {
         if is_row(line) {
             tally = tally.with(run_line(alloc, judge, line, out, err));

@@ -43,11 +43,23 @@ fn run<R: Env + Files + Clock + Print + AllocGlobal, W: Write, E: Write>(
 ) -> io::Result<u8> {
     let modules = rows_modules::run_rows(rt, out, err)?;
     let bodies = rows_bodies::run_rows(rt, out, err)?;
+    let rows = modules.max(bodies).max(run_wrong_rows(rt, out, err)?);
     time_body(rt, out, err)?;
     print_items(rt, out)?;
     let tests = run_tests(rt, out)?;
     print_examples(rt)?;
-    Ok(modules.max(bodies).max(tests))
+    Ok(rows.max(tests))
+}
+
+/// Runs the rows each of which has to be judged wrong. The answer is the exit status.
+fn run_wrong_rows<R: Env + Files + AllocGlobal, W: Write, E: Write>(
+    rt: &R,
+    out: &mut W,
+    err: &mut E,
+) -> io::Result<u8> {
+    let modules = rows_modules::run_wrong_rows(rt, out, err)?;
+    let bodies = rows_bodies::run_wrong_rows(rt, out, err)?;
+    Ok(modules.max(bodies))
 }
 
 /// Runs the examples that are asked for.
