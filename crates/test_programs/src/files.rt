@@ -4,7 +4,8 @@ use std::alloc::{AllocError, Global};
 use std::io::Cursor;
 use wasm_validate_files::{Input, run};
 
-fn file(alloc: Global, name: &str, bytes: &[u8]) -> Result<Input, AllocError> {
+/// A file that was read.
+pub fn file(alloc: Global, name: &str, bytes: &[u8]) -> Result<Input, AllocError> {
     Ok(Input {
         name: String::from_str(alloc, name)?,
         bytes: Some(bytes.to_vec(alloc)?),
@@ -25,7 +26,7 @@ fn three_files(alloc: Global) -> Result<[Input; 3], AllocError> {
 
 /// Runs on these files, and says whether it ended with this status after these lines to standard
 /// output and this one to standard error.
-fn ends_with(alloc: Global, files: &[Input], status: u8, out: &str, err: &str) -> bool {
+pub fn ends_with(alloc: Global, files: &[Input], status: u8, out: &str, err: &str) -> bool {
     let mut written = Vec::new(alloc);
     let mut complained = Vec::new(alloc);
     let answer = run(alloc, files, &mut written, &mut complained);

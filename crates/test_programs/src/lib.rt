@@ -4,6 +4,7 @@
 
 mod files;
 mod memory;
+mod names;
 
 use memory::Run;
 use std::alloc::Global;
@@ -11,7 +12,7 @@ use std::io;
 use test_refusals::{Refusing, print_right};
 
 /// Tests of files, each by its name, and whether it is right.
-pub fn check_files(alloc: Global) -> [(&'static str, bool); 4] {
+pub fn check_files(alloc: Global) -> [(&'static str, bool); 7] {
     [
         (
             "files up to a refused one and behind",
@@ -26,6 +27,18 @@ pub fn check_files(alloc: Global) -> [(&'static str, bool); 4] {
             files::a_file_that_is_not_there(alloc).unwrap_or(false),
         ),
         ("no file", files::no_file(alloc)),
+        (
+            "names that are escaped",
+            names::names_that_are_escaped(alloc).unwrap_or(false),
+        ),
+        (
+            "names that are kept",
+            names::names_that_are_kept(alloc).unwrap_or(false),
+        ),
+        (
+            "bytes of the text format",
+            names::bytes_of_the_text_format(alloc).unwrap_or(false),
+        ),
     ]
 }
 
