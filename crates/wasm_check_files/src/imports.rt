@@ -44,13 +44,13 @@ pub fn write_imports(
     Ok(())
 }
 
-fn write_section(
+fn write_section<'a>(
     text: &mut String,
     alloc: Global,
     file: &str,
     shown: &TypesRef<'_, Global>,
     form: Form,
-    section: &SectionLimited<'_, Import<'_>, Global>,
+    section: &SectionLimited<'a, Import<'a>, Global>,
 ) -> Result<(), AllocError> {
     let mut before = Imported::default();
     let mut place = 0u32;

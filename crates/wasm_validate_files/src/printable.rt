@@ -73,10 +73,18 @@ fn is_hidden(letter: char) -> bool
 pub struct Printable<D: Drop>(pub D);
 
 impl<D: Display + Drop> Display for Printable<D> {
+    ghost use Rattle.std.specs.Prelude.{option_map};
+
+    ghost output = { λ p. option_map printable (D.output p.0) };
+
     fn fmt<W: fmt::Write>(&self, f: &mut fmt::Formatter<W>) -> fmt::Result {
         let mut escaping = Escaping { inner: f };
         let value = &self.0;
-        fmt::Write::write(&mut escaping, value)
+        let result = fmt::Write::write(&mut escaping, value);
+        // No effect at run time. The proof reads what `f` holds from this use of `inner`.
+        let Escaping { inner } = escaping;
+        let _ = &*inner;
+        result
     }
 }
 
@@ -87,6 +95,11 @@ struct Escaping<'f, W> {
 }
 
 impl<W: fmt::Write> fmt::Write for Escaping<'_, W> {
+    ghost use Rattle.std.specs.Prelude.{IsUtf8};
+
+    ghost write_str_gives = { λ s bs t. IsUtf8 bs × (t.inner.ghost_name ≡ s.inner.ghost_name)
+        × WritesInCalls W.write_str_gives s.inner.now (printable bs) t.inner.now };
+
     fn write_str(&mut self, text: &str) -> fmt::Result {
         write_printable(self.inner, text)
     }
