@@ -1,11 +1,11 @@
 # What bin/wasm-validate, bin/wasm-check, bin/prove, bin/build-c and tools/run_unproved share: the sources of a program, the programs that were
 # built of them, the kit, and how a program is run. Each sets `top` first.
 
-# Sets which program is meant: its crate, its name, and where those that were built are kept.
+# Sets which program is meant: its crate, its name, and where those that were built are kept: in the folder that RUTHVELKA_CACHE names, or in `out`.
 choose_program() {
     crate=$1
     name=${crate//_/-}
-    built=$top/out/$name
+    built=${RUTHVELKA_CACHE:-$top/out}/$name
 }
 
 choose_program wasm_validate
@@ -32,13 +32,24 @@ make_room() {
     room=$(mktemp -d) || exit 2
 }
 
-# Finds the kit's folder by its command, for the script of this name. Without the kit the call ends.
+# Sets the kit's folder and what it says it is, both empty where its command isn't in PATH.
+look_for_kit() {
+    local command
+    kit='' kit_is=''
+    command=$(command -v rt) || return
+    command=$(readlink -f "$command")
+    kit=${command%/*/*}
+    read -r kit_is 2>/dev/null <"$kit/KIT-ID" || kit_is=$(rt version | head -n 1)
+    kit_is="$kit $kit_is"
+}
+
+# The same for the script of this name, which ends without the kit.
 find_kit() {
-    if ! command -v rt >/dev/null; then
-        echo "$1: rt, the command of the Rattle kit, is not in PATH" >&2
+    look_for_kit
+    if [ -z "$kit" ]; then
+        echo "$1: rt, the command of the Rattle kit, is not in PATH, and builds what is not built yet" >&2
         exit 2
     fi
-    kit=$(dirname "$(dirname "$(readlink -f "$(command -v rt)")")")
 }
 
 # The crates of the program, or of the crates that are named, one on a line, lowest first.
@@ -56,37 +67,78 @@ crates_of_program() {
         END { count = split(tops, chosen, " "); for (i = 1; i <= count; i++) visit(chosen[i]) }' "$top/crates.txt"
 }
 
-# A checksum of the program's sources, with their places, and of the kit's place and identity.
-sum_of_sources() {
+# Calls `find` on the program's sources, from the top.
+find_sources() {
     (
         cd "$top" || exit
-        echo "$kit"
-        cat "$kit/KIT-ID" 2>/dev/null || rt version
-        find $(crates_of_program | sed 's,.*,crates/&/src crates/&/specs crates/&/proofs,') -type f -print0 2>/dev/null |
-            LC_ALL=C sort -z | xargs -0 sha256sum crates.txt
-    ) | sha256sum | cut -d' ' -f1
+        find crates.txt $(crates_of_program | sed 's,.*,crates/&/src crates/&/specs crates/&/proofs,') -type f "$@" 2>/dev/null
+    )
 }
 
-# Whether the program of this kind, proved or unproved, stands built of the sources with this sum.
+# A checksum of the program's sources, with their places.
+sum_of_sources() {
+    find_sources -print0 | LC_ALL=C sort -z | (cd "$top" && xargs -0 sha256sum) | sha256sum | cut -d' ' -f1
+}
+
+# Sets `sum` to that checksum. It is read only where the names, sizes and times of the sources aren't those that it was kept with, which takes a
+# fraction of the time. A file that changes gets another time of change, which no program can choose, unless two changes are so near that the file
+# system's clock doesn't tell them apart: so the checksum isn't kept where a file changed in the last two seconds.
+find_sum() {
+    local began=$EPOCHSECONDS stamp kept_stamp=
+    stamp=$(find_sources -printf '%p %s %i %T@ %C@\n' | sha256sum)
+    { read -r kept_stamp && read -r sum; } 2>/dev/null <"$built/seen"
+    if [ "$kept_stamp" = "$stamp" ] && [ -n "$sum" ]; then return; fi
+    sum=$(sum_of_sources)
+    if [ -d "$built" ] && [ -z "$(find_sources -newerct "@$((began - 2))" -print -quit)" ]; then
+        printf '%s\n%s\n' "$stamp" "$sum" 2>/dev/null >"$built/seen.$$" && mv "$built/seen.$$" "$built/seen"
+    fi
+}
+
+# Whether the program of this kind, proved or unproved, stands built of the sources with this sum, by the kit that is in PATH, if one is.
 is_built() {
-    [ -x "$built/$1" ] && [ "$(cat "$built/$1.sum" 2>/dev/null)" = "$2" ]
+    local kept_sum='' kept_kit=''
+    [ -x "$built/$1" ] || return
+    read -r kept_sum kept_kit 2>/dev/null <"$built/$1.sum"
+    [ "$kept_sum" = "$2" ] && { [ -z "$kit" ] || [ "$kept_kit" = "$kit_is" ]; }
 }
 
 # Keeps a program of this kind, of the sources with this sum. A call that is running keeps its old file.
 keep() {
     mkdir -p "$built" && rm -f "$built/$2.sum"
-    cp "$1" "$built/$2.new" && chmod +x "$built/$2.new" && mv "$built/$2.new" "$built/$2" && echo "$3" >"$built/$2.sum"
+    cp "$1" "$built/$2.new" && chmod +x "$built/$2.new" && mv "$built/$2.new" "$built/$2" && echo "$3 $kit_is" >"$built/$2.sum"
+}
+
+# Ends the script of this name where the program can't be kept.
+need_place() {
+    if ! mkdir -p "$built" 2>/dev/null || [ ! -w "$built" ]; then
+        echo "$1: the program is kept in $built once it is built, but that folder can't be written: set RUTHVELKA_CACHE to one that can" >&2
+        exit 2
+    fi
 }
 
 # Lets one call at a time build a program of this kind. Another says this line, and waits. Jobs and programs are started with `9>&-`, since the lock
 # is free once nobody has file 9 open.
 one_at_a_time() {
-    mkdir -p "$built" && exec 9>"$built/$1.lock" || return
+    exec 9>"$built/$1.lock" || return
     if ! flock -n 9; then
         echo "$2" >&2
         flock 9 &
         wait $!
     fi
+}
+
+# Copies these crates and all below them into a folder, as a repository of their own, without rows, tests and wrong bodies.
+copy_crates() {
+    local folder=$1 it part parts=()
+    shift
+    mkdir -p "$folder/.git" && cp "$top/HANDLES" "$folder" || return 1
+    for it in $(crates_of_program "$@"); do
+        grep -E "^$it( [^:]*)?:" "$top/crates.txt" >>"$folder/crates.txt" || return 1
+        for part in "crates/$it"/{src,specs,proofs,data,args,status,stdin,stdout}; do
+            if [ -e "$top/$part" ]; then parts+=("$part"); fi
+        done
+    done
+    (cd "$top" && cp -r --parents "${parts[@]}" "$folder")
 }
 
 # A folder that looks like the kit, but for its compiler, which is called for each module that `rt try` makes. Ours compiles the one of the whole
@@ -118,11 +170,16 @@ CLANG
     chmod +x "$1/toolchain/bin/clang"
 }
 
-# Compiles the program of a crate without its proofs, as `program` in this folder, which gets a log, `try.log`.
+# Compiles the program of a crate without its proofs, as `program` in this folder, which gets a log, `try.log`. Where the crate's folder can't be
+# written, a copy of the crates is compiled.
 compile_crate() {
-    local crate=$1 room=$2
+    local crate=$1 room=$2 from=$top
     make_kit "$room" >"$room/try.log" 2>&1 || return 1
-    (cd "$top/crates/$crate" && exec setsid "$room/bin/rt" try) >>"$room/try.log" 2>&1 </dev/null 9>&- &
+    if [ ! -w "$top/crates/$crate" ]; then
+        from=$room/repo
+        copy_crates "$from" "$crate" >>"$room/try.log" 2>&1 || return 1
+    fi
+    (cd "$from/crates/$crate" && exec setsid "$room/bin/rt" try) >>"$room/try.log" 2>&1 </dev/null 9>&- &
     wait $!
     [ -s "$room/program.o" ] || return 1
     "$kit/bin/rattle-link" --target x86_64-unknown-linux-gnu --toolchain "$kit/toolchain" -o "$room/program" "$room/program.o" \
@@ -132,7 +189,7 @@ compile_crate() {
 # Runs the program of the sources as they are now, if one is built.
 run_built() {
     local kind
-    sum=$(sum_of_sources)
+    find_sum
     for kind in proved unproved; do
         if is_built "$kind" "$sum"; then exec "$built/$kind" "$@" 9>&-; fi
     done
@@ -178,8 +235,10 @@ run_by_rt() {
 # Runs the program, on the caller's words: the one that bin/prove has proved and built of these sources, else one that is compiled from the same
 # sources without their proofs, which takes two minutes the first time. docs/DECISIONS.md says what this rests on.
 run_program() {
-    find_kit "$name"
+    look_for_kit
     run_built "$@"
+    find_kit "$name"
+    need_place "$name"
     if one_at_a_time unproved "$name: another call is compiling the program, and this one waits for it"; then
         # while this call waited, a program may have been built
         run_built "$@"

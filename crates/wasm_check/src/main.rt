@@ -5,14 +5,16 @@ mod words;
 
 use anyhow::{Result, bail};
 use clap::ArgMatches;
+use std::alloc::Global;
 use std::process::ExitCode;
-use wasm_check_files::{Form, STATUS_TROUBLE, Settings, check_files, select_features};
-use words::{command, gather_words};
+use wasm_check_files::{Form, Printable, STATUS_TROUBLE, Settings, check_files, select_features};
+use words::{command, end_of_help, gather_words, show_words, suggest};
 
 fn main(rt: HostRuntime) -> ExitCode {
     match run(&rt) {
         Ok(status) => ExitCode::from(status),
         Err(error) => {
+            let error = Printable(error);
             let _printed = eprintln!(rt; "wasm-check: {error}");
             ExitCode::from(STATUS_TROUBLE)
         }
@@ -22,8 +24,19 @@ fn main(rt: HostRuntime) -> ExitCode {
 /// Does what the words on the command line ask for. The answer is the exit status.
 fn run(rt: &HostRuntime) -> Result<u8> {
     let words = gather_words(rt)?;
-    match command(rt.alloc())?.try_get_matches_from(words.as_slice()) {
+    let end = end_of_help(rt.alloc())?;
+    match command(rt.alloc(), end.as_str())?.try_get_matches_from(words.as_slice()) {
         Ok(matches) => check(rt, &matches),
+        Err(_) => answer_words(rt, words.as_slice(), end.as_str()),
+    }
+}
+
+/// Prints what is wrong with these words, or the help or the version that they ask for. Where the
+/// answer names a word, it is written as a line shows it.
+fn answer_words(rt: &HostRuntime, words: &[String], end: &str) -> Result<u8> {
+    let shown = show_words(rt.alloc(), words)?;
+    match command(rt.alloc(), end)?.try_get_matches_from(shown.as_slice()) {
+        Ok(_) => bail!("a word has a character that is not printed"),
         Err(error) => show(rt, &error),
     }
 }
@@ -43,14 +56,20 @@ fn check(rt: &HostRuntime, matches: &ArgMatches<'_>) -> Result<u8> {
     if names.iter().filter(|name| **name == "-").count() > 1 {
         bail!("standard input can be read only once");
     }
-    let settings = settings_of(matches)?;
+    let settings = settings_of(rt.alloc(), matches)?;
     Ok(check_files(rt, names, &settings, &mut rt.stdout(), &mut rt.stderr()))
 }
 
-fn settings_of(matches: &ArgMatches<'_>) -> Result<Settings> {
+/// The error of a word that selects no features.
+fn unknown_feature(alloc: Global, word: &str) -> Result<Settings> {
+    let hint = suggest(alloc, word)?;
+    bail!("--features: `{word}` is no feature with + or - before it; {hint}")
+}
+
+fn settings_of(alloc: Global, matches: &ArgMatches<'_>) -> Result<Settings> {
     let features = match select_features(matches.get_strs("features").unwrap_or(&[])) {
         Ok(features) => features,
-        Err(word) => bail!("--features: `{word}` is no feature with + or - before it"),
+        Err(word) => return unknown_feature(alloc, word),
     };
     let form = if matches.get_flag("quiet") {
         Form::Quiet

@@ -3,7 +3,9 @@
 use clap::{Arg, ArgAction, Command};
 use std::alloc::{AllocError, Global};
 use std::env::Env;
-use wasm_check_files::{NO_TEXT, Word, read_words};
+use wasm_check_files::{
+    Flags, NO_TEXT, Printable, WasmFeatures, Word, nearest_feature, read_words,
+};
 
 /// What `--help` says of features.
 const FEATURES: &str =
@@ -13,6 +15,9 @@ from left to right behind `default`; names are in small letters, with _ or - bet
 /// What `--help` says last.
 const STATUSES: &str =
     "Exit status: 0 if all files are valid, 1 if some are not, 2 if something else went wrong.";
+
+/// How many columns a line of names may have.
+const COLUMNS: usize = 78;
 
 /// The options that take no value, each with what `--help` says of it.
 const FLAGS: [(&str, &str); 4] = [
@@ -48,12 +53,73 @@ fn text_of(word: Word) -> Result<String, AllocError> {
     }
 }
 
-/// What the command line may say.
-pub fn command<'a>(alloc: Global) -> Result<Command<'a>, AllocError> {
+/// The same words as they are shown where they are wrong.
+pub fn show_words(alloc: Global, words: &[String]) -> Result<Vec<String>, AllocError> {
+    let mut shown = Vec::with_capacity(alloc, words.len())?;
+    'words: for word in words {
+        let word = Printable(word.as_str().trim_end_matches(NO_TEXT));
+        shown.push(format!(in alloc; "{word}")?)?;
+    }
+    Ok(shown)
+}
+
+/// What `--help` says behind the options: the names of features, and the exit status.
+pub fn end_of_help(alloc: Global) -> Result<String, AllocError> {
+    let mut text = String::from_str(alloc, "Features that `default` has:")?;
+    add_names(&mut text, WasmFeatures::STANDARD)?;
+    text.push_str("Features that only `all` has:")?;
+    let others = <WasmFeatures as Flags>::all().difference(WasmFeatures::STANDARD);
+    add_names(&mut text, others)?;
+    text.push('\n')?;
+    text.push_str(STATUSES)?;
+    Ok(text)
+}
+
+/// Adds lines with the names of these features.
+fn add_names(text: &mut String, features: WasmFeatures) -> Result<(), AllocError> {
+    let mut column = COLUMNS;
+    'names: for (name, _) in features.iter_names() {
+        column = column.saturating_add(name.len()).saturating_add(1);
+        if column > COLUMNS {
+            text.push_str("\n ")?;
+            column = name.len().saturating_add(2);
+        }
+        text.push(' ')?;
+        add_small_letters(text, name)?;
+    }
+    text.push('\n')
+}
+
+/// Adds a name in small letters.
+pub fn add_small_letters(text: &mut String, name: &str) -> Result<(), AllocError> {
+    'letters: for letter in name.chars() {
+        text.push(letter.to_ascii_lowercase())?;
+    }
+    Ok(())
+}
+
+/// What is said behind a word that selects no features: the one that it most likely means.
+pub fn suggest(alloc: Global, word: &str) -> Result<String, AllocError> {
+    let name = word.trim_start_matches(['+', '-']);
+    let sign = if word.starts_with('-') { '-' } else { '+' };
+    let mut text = String::new(alloc);
+    match nearest_feature(alloc, name)? {
+        Some(feature) => {
+            write!(text, "did you mean `{sign}")?;
+            add_small_letters(&mut text, feature)?;
+            text.push_str("`?")?;
+        }
+        None => text.push_str("`wasm-check --help` lists them")?,
+    }
+    Ok(text)
+}
+
+/// What the command line may say. The text comes last in the help.
+pub fn command<'a>(alloc: Global, end_of_help: &'a str) -> Result<Command<'a>, AllocError> {
     let mut command = Command::new(alloc, "wasm-check")
         .version("0.1.0")
         .about("Says of each file whether it is a valid WebAssembly module")
-        .after_help(STATUSES)
+        .after_help(end_of_help)
         .arg(features(alloc))?
         .arg(files(alloc))?;
     'flags: for (name, help) in FLAGS {

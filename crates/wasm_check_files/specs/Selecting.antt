@@ -1,5 +1,5 @@
 -- The features that words on the command line select.
-use Rattle.std.specs.Prelude.{ℕ, ◌≡◌, ◌==◌, ◌&&◌, Bool, true, false, if◌then◌else◌, List, [], ◌∷◌, Option, Some, None, option_and_then, fold, take, slice_get, codes}
+use Rattle.std.specs.Prelude.{ℕ, ◌≡◌, ◌==◌, ◌&&◌, Bool, true, false, if◌then◌else◌, List, [], ◌∷◌, Option, Some, None, option_and_then, fold, take, slice_get, codes, Any}
 use Rattle.std.specs.Char.{to_ascii_uppercase}
 use Rattle.std.specs.Int.RustNames.{bit_or}
 use Rattle.std.specs.Str.{bytes_eq}
@@ -54,3 +54,7 @@ module _ (table : List Row) where
     pub features : WasmFeatures
     pub before : selected (take place words) ≡ Some features
     pub selects_none : changed features word ≡ None
+
+-- The name is that of a flag.
+abbrev pub IsFlagName : List Row → List ℕ → Type 0
+IsFlagName table name = Any (λ row. row.0 ≡ name) table

@@ -15,7 +15,9 @@ use std::io::{self, Write};
 use std::rt::Files;
 use std::slice;
 use wasm_validate_files::validator::Error;
-use wasm_validate_files::{Answer, Input, STATUS_OK, STATUS_REFUSED, STATUS_TROUBLE, answer_files};
+use wasm_validate_files::{
+    Answer, Input, Printable, STATUS_OK, STATUS_REFUSED, STATUS_TROUBLE, answer_files,
+};
 
 /// Checks the files with these names, in order, and prints of each what is asked for. A file that
 /// can't be read is told on `err` with the reason. The answer is the exit status.
@@ -34,6 +36,7 @@ pub fn check_files<R: Files + io::Input + AllocGlobal, W: Write, E: Write>(
     match check_all(rt, names, settings, out, err) {
         Ok(status) => status,
         Err(error) => {
+            let error = Printable(error);
             let _printed = writeln!(err, "wasm-check: {error}");
             STATUS_TROUBLE
         }
@@ -100,7 +103,7 @@ fn check_group<R: Files + io::Input + AllocGlobal, W: Write, E: Write>(
             Err(error) => tell_unread(rt.alloc(), name, &error, settings, out, err)?,
         }
     }
-    let status = check_inputs(rt.alloc(), files.as_slice(), settings, out)?;
+    let status = check_inputs(rt.alloc(), files.as_slice(), settings, out, err)?;
     if files.len() < names.len() {
         return Ok(STATUS_TROUBLE);
     }
@@ -129,7 +132,8 @@ fn tell_unread<W: Write, E: Write>(
     ensures quiet { settings.now.form ≡ Form.Quiet → out.new ≡ out.old }
 {
     let name = shown_name(name);
-    let _printed = writeln!(err, "wasm-check: {name}: {error}");
+    let shown = Printable(name);
+    let _printed = writeln!(err, "wasm-check: {shown}: {error}");
     match settings.form {
         Form::Json => print_unread(alloc, name, error, out),
         Form::Text | Form::Quiet => Ok(()),
@@ -150,20 +154,44 @@ fn print_unread<W: Write>(
 
 /// Checks files that were read, by one validator, and prints of each what is asked for. The answer is
 /// the exit status.
-pub fn check_inputs<W: Write>(
+pub fn check_inputs<W: Write, E: Write>(
     alloc: Global,
     files: &[Input],
     settings: &Settings,
     out: &mut W,
+    err: &mut E,
 ) -> io::Result<u8>
     requires read { All IsRead files.now }
     ensures told { IfOk result (StatusTells settings.now.features
         (HasRoomForAll settings.now.features) files.now) }
+    ensures silent { IfOk result (λ status. (status ≡ STATUS_TROUBLE → ⊥) → err.new ≡ err.old) }
     ensures quiet { settings.now.form ≡ Form.Quiet → out.new ≡ out.old }
 {
     let answers = answer_files(alloc, files, settings.features)?;
     print_wanted(alloc, files, answers.as_slice(), settings, out)?;
-    Ok(worst_status(answers.as_slice(), files.len()))
+    let status = worst_status(answers.as_slice(), files.len());
+    tell_refused_memory(status, files, answers.as_slice(), err);
+    Ok(status)
+}
+
+/// Says for which files memory was refused, where the status is that of trouble.
+fn tell_refused_memory<E: Write>(
+    status: u8,
+    files: &[Input],
+    answers: &[Answer<Global>],
+    err: &mut E,
+)
+    ensures silent { (status ≡ STATUS_TROUBLE → ⊥) → err.new ≡ err.old }
+{
+    if status != STATUS_TROUBLE {
+        return;
+    }
+    'files: for (file, answer) in files.iter().zip(answers) {
+        if status_of(answer) == STATUS_TROUBLE {
+            let name = Printable(file.name.as_str());
+            let _printed = writeln!(err, "wasm-check: {name}: out of memory");
+        }
+    }
 }
 
 /// Prints of each file what is asked for, unless nothing is.
@@ -192,13 +220,7 @@ fn print_reports<W: Write>(
 ) -> io::Result<()> {
     'files: for (place, file) in files.iter().enumerate() {
         let mut text = String::new(alloc);
-        write_report(
-            &mut text,
-            alloc,
-            file.name.as_str(),
-            answers.get(place),
-            settings,
-        )?;
+        write_report(&mut text, alloc, file, answers.get(place), settings)?;
         out.write_all(text.as_bytes())?;
     }
     Ok(())

@@ -74,7 +74,7 @@ fn is_named(flag: &[u8], name: &[u8]) -> bool
 }
 
 /// The letter of a flag's name that this one stands for.
-fn flag_letter(letter: u8) -> u8
+pub fn flag_letter(letter: u8) -> u8
     ensures { result ≡ flag_letter letter }
 {
     if letter == b'-' {

@@ -4,9 +4,11 @@ ghost use Rattle.std.specs.Prelude.{◌≡◌, ◌<◌};
 ghost use Rattle.wasm_validate_files.specs.WasmValidatorTypes.Shown.{shown_by};
 ghost use Rattle.wasm_check_files.specs.Counts.{count_in};
 
+use crate::imports::write_imports;
 use crate::settings::Form;
 use crate::{json, lines};
 use std::alloc::{AllocError, Global};
+use wasm_validate_files::Input;
 use wasm_validate_files::validator::{CoreTypeId, TypesRef};
 
 /// An index space of a module (Core Specification 3.0, Syntax, Modules, Indices).
@@ -37,7 +39,8 @@ pub const SPACES: [Space; 7] = [
 pub enum Kind {
     /// What has an index of this index space.
     Of(Space),
-    Import,
+    /// What is imported, with its index space and its index there.
+    Import(Space, u32),
     Export,
 }
 
@@ -46,7 +49,7 @@ pub enum Kind {
 pub struct Item<'a> {
     /// What it is.
     pub kind: Kind,
-    /// Its place among those of its kind.
+    /// Its index in its index space, or its place among the imports or exports.
     pub index: u32,
     /// The id of its type, if that has one.
     pub id: Option<u64>,
@@ -62,7 +65,7 @@ pub struct Item<'a> {
 pub fn word_of<'a>(kind: Kind) -> &'a str {
     match kind {
         Kind::Of(space) => singular(space),
-        Kind::Import => "import",
+        Kind::Import(_, _) => "import",
         Kind::Export => "export",
     }
 }
@@ -81,7 +84,7 @@ pub fn plural<'a>(space: Space) -> &'a str {
 }
 
 /// What one of an index space is called.
-fn singular<'a>(space: Space) -> &'a str {
+pub fn singular<'a>(space: Space) -> &'a str {
     match space {
         Space::Types => "type",
         Space::Functions => "function",
@@ -112,15 +115,16 @@ pub fn count_in(shown: &TypesRef<'_, Global>, space: Space) -> u32
 pub fn write_items(
     text: &mut String,
     alloc: Global,
-    file: &str,
+    file: &Input,
     shown: &TypesRef<'_, Global>,
     form: Form,
 ) -> Result<(), AllocError> {
+    let name = file.name.as_str();
     'spaces: for space in SPACES {
-        write_space(text, alloc, file, shown, form, space)?;
+        write_space(text, alloc, name, shown, form, space)?;
     }
     write_imports(text, alloc, file, shown, form)?;
-    write_exports(text, alloc, file, shown, form)
+    write_exports(text, alloc, name, shown, form)
 }
 
 fn write_space(
@@ -186,33 +190,6 @@ fn write_listed(
     Ok(Some(id.index() as u64))
 }
 
-fn write_imports(
-    text: &mut String,
-    alloc: Global,
-    file: &str,
-    shown: &TypesRef<'_, Global>,
-    form: Form,
-) -> Result<(), AllocError> {
-    let Some(imports) = shown.core_imports() else {
-        return Ok(());
-    };
-    let mut index = 0u32;
-    'imports: for (module, name, entity) in imports {
-        let ty = format!(in alloc; "{entity}")?;
-        let item = Item {
-            kind: Kind::Import,
-            index,
-            id: None,
-            module,
-            name,
-            ty: ty.as_str(),
-        };
-        write_item(text, alloc, file, &item, form)?;
-        index = index.saturating_add(1);
-    }
-    Ok(())
-}
-
 fn write_exports(
     text: &mut String,
     alloc: Global,
@@ -240,7 +217,8 @@ fn write_exports(
     Ok(())
 }
 
-fn write_item(
+/// Writes an item in the form that is asked for.
+pub fn write_item(
     text: &mut String,
     alloc: Global,
     file: &str,

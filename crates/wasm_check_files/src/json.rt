@@ -1,13 +1,13 @@
 //! JSON objects, one on each line.
 
 use crate::features::WasmFeatures;
-use crate::items::{Item, Kind, SPACES, count_in, plural, word_of};
+use crate::items::{Item, Kind, SPACES, count_in, plural, singular, word_of};
 use bitflags::Flags;
 use serde_json::{Map, Value, put};
 use std::alloc::{AllocError, Global};
 use std::io;
 use wasm_validate_files::validator::{Error, TypesRef};
-use wasm_validate_files::{Answer, count_exports, count_imports};
+use wasm_validate_files::{Answer, Input, bytes_of, count_exports, count_imports, hint_of};
 
 /// The members of an object that is made.
 type Members = Map<String, Value>;
@@ -16,14 +16,14 @@ type Members = Map<String, Value>;
 pub fn write_verdict(
     text: &mut String,
     alloc: Global,
-    name: &str,
+    file: &Input,
     answer: Option<&Answer<Global>>,
 ) -> Result<(), AllocError> {
     let mut members = Map::new(alloc);
-    put_text(&mut members, alloc, "file", name)?;
+    put_text(&mut members, alloc, "file", file.name.as_str())?;
     match answer {
         Some(Ok(types)) => put_valid(&mut members, alloc, &types.as_ref())?,
-        Some(Err(error)) => put_error(&mut members, alloc, error)?,
+        Some(Err(error)) => put_error(&mut members, alloc, hint_of(bytes_of(file)), error)?,
         None => put_text(&mut members, alloc, "verdict", "not checked")?,
     }
     write_line(text, alloc, members)
@@ -39,7 +39,7 @@ pub fn write_unread(
     let mut members = Map::new(alloc);
     put_text(&mut members, alloc, "file", name)?;
     put_text(&mut members, alloc, "verdict", "unreadable")?;
-    put_message(&mut members, alloc, error)?;
+    put_message(&mut members, alloc, error, "")?;
     write_line(text, alloc, members)
 }
 
@@ -68,9 +68,11 @@ fn put_item(members: &mut Members, alloc: Global, item: &Item<'_>) -> Result<(),
 
 fn put_names(members: &mut Members, alloc: Global, item: &Item<'_>) -> Result<(), AllocError> {
     match item.kind {
-        Kind::Import => {
+        Kind::Import(space, index) => {
             put_text(members, alloc, "module", item.module)?;
-            put_text(members, alloc, "name", item.name)
+            put_text(members, alloc, "name", item.name)?;
+            put_text(members, alloc, "space", singular(space))?;
+            put_number(members, alloc, "space_index", u64::from(index))
         }
         Kind::Export => put_text(members, alloc, "name", item.name),
         Kind::Of(_) => Ok(()),
@@ -109,6 +111,7 @@ fn put_counts(
 fn put_error(
     members: &mut Members,
     alloc: Global,
+    hint: &str,
     error: &Error<Global>,
 ) -> Result<(), AllocError> {
     if error.is_out_of_memory() {
@@ -119,7 +122,7 @@ fn put_error(
     if let Some(function) = error.function() {
         put_number(members, alloc, "function", u64::from(function))?;
     }
-    put_message(members, alloc, error)?;
+    put_message(members, alloc, error, hint)?;
     if let Some(missing) = error.missing_features() {
         let names = names_of(alloc, missing)?;
         put(members, alloc, "missing_features", Value::Array(names))?;
@@ -140,8 +143,9 @@ fn put_message<D: std::fmt::Display>(
     members: &mut Members,
     alloc: Global,
     error: &D,
+    hint: &str,
 ) -> Result<(), AllocError> {
-    let message = format!(in alloc; "{error}")?;
+    let message = format!(in alloc; "{error}{hint}")?;
     put(members, alloc, "message", Value::String(message))
 }
 

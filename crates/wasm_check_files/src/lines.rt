@@ -1,31 +1,33 @@
 //! Lines that a person reads.
 
 use crate::features::WasmFeatures;
-use crate::items::{Item, Kind, SPACES, count_in, plural, word_of, write_items};
+use crate::items::{Item, Kind, SPACES, count_in, plural, singular, word_of, write_items};
 use crate::json;
 use crate::settings::{Form, Settings};
 use bitflags::Flags;
 use std::alloc::{AllocError, Global};
 use wasm_validate_files::validator::{Error, TypesRef};
-use wasm_validate_files::{Answer, count_exports, count_imports};
+use wasm_validate_files::{
+    Answer, Input, Printable, bytes_of, count_exports, count_imports, hint_of,
+};
 
 /// Writes what is asked for of a file that could be read.
 pub fn write_report(
     text: &mut String,
     alloc: Global,
-    name: &str,
+    file: &Input,
     answer: Option<&Answer<Global>>,
     settings: &Settings,
 ) -> Result<(), AllocError> {
     match settings.form {
-        Form::Json => json::write_verdict(text, alloc, name, answer)?,
-        Form::Text => write_verdict(text, alloc, name, answer)?,
+        Form::Json => json::write_verdict(text, alloc, file, answer)?,
+        Form::Text => write_verdict(text, alloc, file, answer)?,
         Form::Quiet => {}
     }
     match answer {
         Some(Ok(types)) => {
             if settings.shows_items {
-                write_items(text, alloc, name, &types.as_ref(), settings.form)?;
+                write_items(text, alloc, file, &types.as_ref(), settings.form)?;
             }
             Ok(())
         }
@@ -36,12 +38,15 @@ pub fn write_report(
 fn write_verdict(
     text: &mut String,
     alloc: Global,
-    name: &str,
+    file: &Input,
     answer: Option<&Answer<Global>>,
 ) -> Result<(), AllocError> {
+    let name = Printable(file.name.as_str());
     match answer {
-        Some(Ok(types)) => write_valid(text, name, &types.as_ref()),
-        Some(Err(error)) => write_error(text, alloc, name, error),
+        Some(Ok(types)) => write_valid(text, file.name.as_str(), &types.as_ref()),
+        // said on the error output
+        Some(Err(error)) if error.is_out_of_memory() => Ok(()),
+        Some(Err(error)) => write_error(text, alloc, file, error),
         None => writeln!(text, "{name}: not checked"),
     }
 }
@@ -51,6 +56,7 @@ fn write_valid(
     name: &str,
     shown: &TypesRef<'_, Global>,
 ) -> Result<(), AllocError> {
+    let name = Printable(name);
     write!(text, "{name}: valid")?;
     'spaces: for space in SPACES {
         let word = plural(space);
@@ -71,18 +77,18 @@ fn write_valid(
 fn write_error(
     text: &mut String,
     alloc: Global,
-    name: &str,
+    file: &Input,
     error: &Error<Global>,
 ) -> Result<(), AllocError> {
-    if error.is_out_of_memory() {
-        return writeln!(text, "{name}: out of memory");
-    }
+    let name = Printable(file.name.as_str());
     let offset = error.offset();
     write!(text, "{name}: invalid at {offset} (0x{offset:x})")?;
     if let Some(function) = error.function() {
         write!(text, " in function {function}")?;
     }
-    write!(text, ": {error}")?;
+    let message = Printable(error);
+    let hint = hint_of(bytes_of(file));
+    write!(text, ": {message}{hint}")?;
     if let Some(missing) = error.missing_features() {
         write_missing(text, alloc, missing)?;
     }
@@ -104,6 +110,7 @@ fn write_missing(
 
 /// Writes the line of an item of a module.
 pub fn write_item(text: &mut String, name: &str, item: &Item<'_>) -> Result<(), AllocError> {
+    let name = Printable(name);
     let word = word_of(item.kind);
     let index = item.index;
     write!(text, "{name}: {word} {index}")?;
@@ -120,7 +127,10 @@ fn write_names(text: &mut String, item: &Item<'_>) -> Result<(), AllocError> {
     let module = item.module;
     let name = item.name;
     match item.kind {
-        Kind::Import => write!(text, " {module:?} {name:?}"),
+        Kind::Import(space, index) => {
+            let word = singular(space);
+            write!(text, " {word} {index} {module:?} {name:?}")
+        }
         Kind::Export => write!(text, " {name:?}"),
         Kind::Of(_) => Ok(()),
     }

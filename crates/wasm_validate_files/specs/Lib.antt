@@ -3,3 +3,5 @@ pub use Rattle.wasm_validator.specs.WasmValidatorCore as WasmValidatorCore
 pub mod Files
 pub mod Answers
 pub mod Words
+pub mod Printable
+pub mod TextFormat

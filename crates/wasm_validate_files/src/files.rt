@@ -4,6 +4,7 @@ ghost use Rattle.wasm_validate_files.specs.Files.{AreAllAccepted, HasRoomForAll,
 ghost use Rattle.wasm_validate_files.specs.Answers.{AreAnswers, Tells, LacksMemory};
 
 use crate::lines::{Answer, print_lines};
+use crate::printable::Printable;
 use std::alloc::{AllocError, Allocator, Global};
 use std::io::{self, Write};
 use wasm_validator::{Validator, ValidatorId, WasmFeatures, validate_list};
@@ -45,7 +46,7 @@ pub fn run<A: Allocator + Copy, W: Write, E: Write>(
         return STATUS_TROUBLE;
     }
     if let Some(file) = first_unread(files) {
-        let name = file.name.as_str();
+        let name = Printable(file.name.as_str());
         let _printed = writeln!(err, "wasm-validate: cannot read {name}");
         return STATUS_TROUBLE;
     }
@@ -116,7 +117,8 @@ fn lend_bytes<A: Allocator>(alloc: A, files: &[Input<A>]) -> Result<Vec<&[u8], A
     Ok(modules)
 }
 
-fn bytes_of<A: Allocator>(file: &Input<A>) -> &[u8]
+/// The bytes of a file, and none of one that could not be read.
+pub fn bytes_of<A: Allocator>(file: &Input<A>) -> &[u8]
     ensures { result.now ≡ bytes_held file.now }
 {
     match &file.bytes {

@@ -7,16 +7,20 @@ ghost use Rattle.wasm_validate_files.specs.Words.{IsNoText, name_of};
 
 mod files;
 mod lines;
+mod printable;
+mod text_format;
 mod words;
 
 use files::print_error;
-pub use files::{Input, STATUS_OK, STATUS_REFUSED, STATUS_TROUBLE, answer_files, run};
+pub use files::{Input, STATUS_OK, STATUS_REFUSED, STATUS_TROUBLE, answer_files, bytes_of, run};
 pub use lines::{Answer, count_exports, count_imports};
+pub use printable::{Printable, write_printable};
 use std::alloc::AllocError;
 use std::env::Env;
 use std::fs;
 use std::io::{self, Write};
 use std::rt::Files;
+pub use text_format::{hint_of, looks_like_text};
 pub use wasm_validator as validator;
 pub use words::{Word, read_words};
 

@@ -3,7 +3,9 @@
 ghost use Rattle.std.specs.Prelude.{ℕ, ◌<◌, length, IfOk, IsTrue, ◌↔◌};
 ghost use Rattle.wasm_validate_files.specs.Answers.{IsOkAt};
 
-use crate::files::Input;
+use crate::files::{Input, bytes_of};
+use crate::printable::Printable;
+use crate::text_format::hint_of;
 use std::alloc::Allocator;
 use std::io::{self, Write};
 use wasm_validator::{CoreExports, CoreImports, Error, Types};
@@ -22,7 +24,7 @@ pub fn print_lines<A: Allocator + Copy, W: Write>(
 {
     let mut all = true;
     'files: for (place, file) in files.iter().enumerate() {
-        let is_valid = print_line(file.name.as_str(), answers, place, out)?;
+        let is_valid = print_line(file, answers, place, out)?;
         all &= is_valid;
     }
     Ok(all)
@@ -30,7 +32,7 @@ pub fn print_lines<A: Allocator + Copy, W: Write>(
 
 /// Prints the line of the file at this place, and says whether it was checked and is valid.
 fn print_line<A: Allocator + Copy, W: Write>(
-    name: &str,
+    file: &Input<A>,
     answers: &[Answer<A>],
     place: usize,
     out: &mut W,
@@ -39,14 +41,15 @@ fn print_line<A: Allocator + Copy, W: Write>(
 {
     match answers.get(place) {
         Some(Ok(types)) => {
-            print_ok(name, types, out)?;
+            print_ok(file.name.as_str(), types, out)?;
             Ok(true)
         }
         Some(Err(error)) => {
-            print_refused(name, error, out)?;
+            print_refused(file, error, out)?;
             Ok(false)
         }
         None => {
+            let name = Printable(file.name.as_str());
             writeln!(out, "{name}: not checked")?;
             Ok(false)
         }
@@ -58,6 +61,7 @@ fn print_ok<A: Allocator + Copy, W: Write>(
     types: &Types<A>,
     out: &mut W,
 ) -> io::Result<()> {
+    let name = Printable(name);
     let shown = types.as_ref();
     let type_count = shown.core_type_count_in_module();
     let function_count = shown.function_count();
@@ -76,12 +80,15 @@ fn print_ok<A: Allocator + Copy, W: Write>(
 }
 
 fn print_refused<A: Allocator, W: Write>(
-    name: &str,
+    file: &Input<A>,
     error: &Error<A>,
     out: &mut W,
 ) -> io::Result<()> {
+    let name = Printable(file.name.as_str());
     let offset = error.offset();
-    writeln!(out, "{name}: refused at {offset}: {error}")
+    let message = Printable(error);
+    let hint = hint_of(bytes_of(file));
+    writeln!(out, "{name}: refused at {offset}: {message}{hint}")
 }
 
 /// How many imports these are.
