@@ -150,8 +150,10 @@ make_kit() {
     ln -s "$kit"/toolchain/* "$1/toolchain" 2>/dev/null
     ln -s "$kit"/toolchain/bin/* "$1/toolchain/bin"
     # A script finds its kit by its own place.
-    rm -f "$1/bin/rt" "$1/bin/rtlib.py" "$1/toolchain/bin/clang"
+    rm -f "$1/bin/rt" "$1/bin/rtlib.py" "$1/bin/rattle" "$1/toolchain/bin/clang"
     cp "$kit/bin/rt" "$kit/bin/rtlib.py" "$1/bin" || return 1
+    # The prover would only look for names that a check refuses, and take as long as what translates.
+    printf '#!/bin/sh\nexit 0\n' >"$1/bin/rattle" && chmod +x "$1/bin/rattle" || return 1
     cat >"$1/toolchain/bin/clang" <<CLANG
 #!/usr/bin/env bash
 words=()
