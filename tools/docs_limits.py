@@ -211,7 +211,7 @@ class Limits:
             return f"`{text}`" + (f", or `multiple {found[1][1]}`" if "else" in value else "")
         integer = re.search(rf'{variant}\(integer\) => write_integer\(\s*f,\s*integer\.text\(\),\s*"([^"]*)"', self.errors)
         if integer:
-            return f"`invalid var_u32: {integer[1]}` (or `u64`, ..)"
+            return f"`invalid var_u32: {integer[1]}` (or `var_u64`, ..)"
         calls = re.search(rf"{variant}\(\w+\) =>\s*(write_(?!variant|pair)\w+)\(", self.errors)
         if calls:
             found = re.search(rf'fn {calls[1]}<[^"]*?\n\) -> fmt::Result \{{\s*write!\(\s*f,\s*"([^"]*)"|fn {calls[1]}<[^"]*?"([^"]*)"', self.errors)

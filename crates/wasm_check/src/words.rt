@@ -23,7 +23,7 @@ const COLUMNS: usize = 78;
 const FLAGS: [(&str, &str); 4] = [
     (
         "shared",
-        "Check all files by one validator, so that the ids of their types can be compared",
+        "Check all files by one validator, so that the ids of their types can be compared; a file that is refused for more than a body ends the list",
     ),
     ("json", "Print a JSON object on each line"),
     (
