@@ -9,5 +9,6 @@ pub mod Throwing
 pub mod Tabled
 pub mod Sending
 pub mod Catching
+pub mod Counting
 pub mod Writing
 pub mod Cited

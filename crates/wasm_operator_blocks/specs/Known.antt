@@ -1,17 +1,18 @@
 -- Block types that are known: what their checks say, and what they stand for.
-use Rattle.std.specs.Prelude.{ℕ, Bool, true, ◌&&◌, ◌≡◌, List, [], ◌∷◌, Option, Some, None, Result, Ok, Err, if◌then◌else◌}
+use Rattle.std.specs.Prelude.{ℕ, Bool, true, ◌&&◌, ◌≡◌, List, [], ◌∷◌, ◌++◌, Option, Some, None, Result, Ok, Err, if◌then◌else◌}
 use Rattle.std.specs.Option.{option_map}
 use Rattle.wasm_spec.specs.Syntax.{Val}
 use Rattle.wasm_spec.specs.MatchingTests.{World}
 use Rattle.wasm_spec_rules.specs.Contexts.{Context}
 use Rattle.wasm_readers_types.specs.WasmReadersValues.declared.indices.UnpackedIndex.{UnpackedIndex}
 use Rattle.wasm_operators.specs.Control.{Block}
+use Rattle.wasm_operators.specs.declared.control.Catch.{Catch}
 use Rattle.wasm_spec_rules.specs.Attempts.{◌>>=◌}
-use Rattle.wasm_operator_control.specs.WasmOperatorChecks.WasmOperatorSteps.Actions.{Check}
+use Rattle.wasm_operator_control.specs.WasmOperatorChecks.WasmOperatorSteps.Actions.{Check, has, exceptions}
 use Rattle.wasm_operator_control.specs.WasmOperatorChecks.WasmOperatorSteps.Bodies.{Surroundings}
 use Rattle.wasm_operator_control.specs.WasmOperatorChecks.WasmOperatorSteps.Machine.{State}
 use Rattle.wasm_operator_control.specs.WasmOperatorChecks.WasmOperatorSteps.Meanings.{resolve_block, holds}
-use Rattle.wasm_operator_control.specs.WasmOperatorChecks.WasmOperatorSteps.Shapes.{block_checks}
+use Rattle.wasm_operator_control.specs.WasmOperatorChecks.WasmOperatorSteps.Shapes.{block_checks, catch_checks}
 use Rattle.wasm_operator_control.specs.WasmOperatorChecks.WasmValidatorResources.Answers.{world}
 use Rattle.wasm_operator_control.specs.WasmOperatorChecks.WasmOperatorStacks.Seen.{state_of, around}
 use Rattle.wasm_operator_control.specs.WasmOperatorChecks.WasmOperatorStacks.SeenBlocks.{block_in}
@@ -24,6 +25,10 @@ use Rattle.wasm_operator_blocks.specs.declared.openings.Opening.{Opening}
 abbrev pub hold_all : World UnpackedIndex → Surroundings UnpackedIndex → State UnpackedIndex → List Check → Bool
 hold_all W B s [] = true
 hold_all W B s (c ∷ cs) = holds W B s c && hold_all W B s cs
+
+-- what a `try_table` checks, the number of its catch clauses aside
+abbrev pub try_checks : Block ℕ → List Catch → List Check
+try_checks b cs = has exceptions ∷ block_checks b ++ catch_checks cs
 
 -- the block type by identities, and what it takes
 abbrev pub taken_by : Context UnpackedIndex → Block UnpackedIndex → Option (Block UnpackedIndex × List (Val UnpackedIndex))

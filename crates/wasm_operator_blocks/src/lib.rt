@@ -20,7 +20,7 @@ pub use dispatch::{step_control, step_parametric, step_variable};
 pub use exceptions::{throw, throw_ref};
 pub use legacy::step_legacy;
 pub use tables::branch_by_table;
-pub use tries::open_try_table;
+pub use tries::{MAX_WASM_CATCHES, open_try_table};
 
 // Blocks stand on calls, so who steps through blocks finds these here.
 pub use wasm_operator_control::step_call;

@@ -1,12 +1,18 @@
 //! `try_table`.
 
-ghost use Rattle.std.specs.Prelude.{◌≡◌};
+ghost use Rattle.std.specs.Prelude.{◌≡◌, nat_le, length};
+ghost use Rattle.wasm_spec.specs.CrateLimits.{most_clauses};
+ghost use Rattle.wasm_spec_rules.specs.FeatureFlags.{features_of};
 ghost use Rattle.wasm_operators.specs.Control.{try_table, catch_at};
 ghost use Rattle.wasm_operators.specs.SeenControl.{block_of};
 ghost use Rattle.wasm_operators.specs.SeenLists.{listed};
-ghost use Rattle.wasm_operator_control.specs.WasmOperatorChecks.WasmOperatorSteps.Shapes.{control_shape};
+ghost use Rattle.wasm_operator_control.specs.WasmOperatorChecks.WasmOperatorSteps.Actions.{few_clauses};
+ghost use Rattle.wasm_operator_control.specs.WasmOperatorChecks.WasmOperatorSteps.Machine.{try_table_kind};
+ghost use Rattle.wasm_operator_control.specs.WasmOperatorChecks.WasmOperatorSteps.Meanings.{is_on};
+ghost use Rattle.wasm_operator_control.specs.WasmOperatorChecks.WasmOperatorSteps.Shapes.{control_shape, opening, nothing};
 ghost use Rattle.wasm_operator_control.specs.WasmOperatorChecks.WasmOperatorStacks.Seen.{Kept};
 ghost use Rattle.wasm_operator_control.specs.WasmOperatorChecks.Steps.{Performs};
+ghost use Rattle.wasm_operator_blocks.specs.Known.{try_checks};
 ghost use Rattle.wasm_operator_blocks.specs.Written.{block_written, IsWrittenBlock};
 
 use crate::catches::check_catches;
@@ -16,29 +22,50 @@ use wasm_operator_control::open_frame;
 use wasm_operator_control::operator_checks::{OperatorError, OperatorFault, OperatorRule, has};
 use wasm_operator_control::operator_stacks::Stacks;
 use wasm_operator_control::validator_resources::WasmModuleResources;
-use wasm_operators::{FrameKind, TryTable};
+use wasm_operators::{Catch, FrameKind, Listed, TryTable};
 use wasm_readers::readers_errors::WasmFeatures;
 
-/// `try_table` (Core Specification 3.0, Validation, Instructions, Control Instructions): a frame
-/// whose catch clauses branch to labels around it. Each label takes what its clause sends.
-///
-/// # Errors
-///
-/// Refuses it without the proposal of exceptions (`Exceptions`), a block type that the features or
-/// the module don't have (`ValueType`, `MultiValue`, `UnknownType`, `NotAFunction`, `Shared`), a
-/// tag that isn't there (`UnknownTag`) or has results (`TagResults`), a label that isn't there
-/// (`UnknownLabel`) or takes other types (`CatchTypes`), and operands that aren't what the block
-/// takes (`Operand`). Where it is refused, all stays.
+/// The most catch clauses of a `try_table`, with `CRATE_LIMITS`.
+pub const MAX_WASM_CATCHES: usize = 10_000;
+
+/// Whether these are at most 10,000 catch clauses.
+#[tactic(auto, using(crate::proofs::Counting::counts))]
+fn are_few<'a>(clauses: Listed<'a, Catch>) -> bool
+    ensures { result ≡ nat_le (length (listed catch_at clauses.entry)) most_clauses }
+{
+    let mut left = clauses.items();
+    let mut room = MAX_WASM_CATCHES;
+    'counting: while let Some(_clause) = left.next() {
+        if room == 0 {
+            return false;
+        }
+        room -= 1;
+    }
+    true
+}
+
+/// Whether the features allow a `try_table` to have so many catch clauses.
+fn allows_clauses<'a, A: Allocator>(stacks: &Stacks<A>, clauses: Listed<'a, Catch>) -> bool
+    ensures { result ≡ is_on (features_of stacks.now.features)
+        (few_clauses (length (listed catch_at clauses.entry))) }
+{
+    if !has(stacks, WasmFeatures::CRATE_LIMITS) {
+        return true;
+    }
+    are_few(clauses)
+}
+
+/// `try_table` with any number of catch clauses.
 #[tactic(auto, using(crate::proofs::Cited::acts, crate::proofs::Entering::tries))]
-pub fn open_try_table<'a, A: Allocator, T: WasmModuleResources>(
+fn enter_try_table<'a, A: Allocator, T: WasmModuleResources>(
     stacks: &mut Stacks<A>,
     resources: &T,
     table: TryTable<'a>,
 ) -> Result<(), OperatorError>
     requires { IsWrittenBlock (block_of table.ty) }
     ensures took { Performs result (T.context resources.now)
-        (control_shape (try_table (block_written table.entry.ty)
-        (listed catch_at table.entry.catches))) stacks.old stacks.new }
+        (opening (try_checks (block_written table.entry.ty) (listed catch_at table.entry.catches))
+        nothing try_table_kind (block_written table.entry.ty)) stacks.old stacks.new }
     ensures same { Kept stacks.old stacks.new }
 {
     if !has(stacks, WasmFeatures::EXCEPTIONS) {
@@ -59,4 +86,33 @@ pub fn open_try_table<'a, A: Allocator, T: WasmModuleResources>(
         ),
         Err(fault) => Err(OperatorError::Refused(fault)),
     }
+}
+
+/// `try_table` (Core Specification 3.0, Validation, Instructions, Control Instructions): a frame
+/// whose catch clauses branch to labels around it. Each label takes what its clause sends.
+///
+/// # Errors
+///
+/// Refuses, with `CRATE_LIMITS`, more than 10,000 catch clauses (`CatchCount`), and refuses it
+/// without the proposal of exceptions (`Exceptions`), a block type that the features or
+/// the module don't have (`ValueType`, `MultiValue`, `UnknownType`, `NotAFunction`, `Shared`), a
+/// tag that isn't there (`UnknownTag`) or has results (`TagResults`), a label that isn't there
+/// (`UnknownLabel`) or takes other types (`CatchTypes`), and operands that aren't what the block
+/// takes (`Operand`). Where it is refused, all stays.
+#[tactic(auto, using(crate::proofs::Cited::acts))]
+pub fn open_try_table<'a, A: Allocator, T: WasmModuleResources>(
+    stacks: &mut Stacks<A>,
+    resources: &T,
+    table: TryTable<'a>,
+) -> Result<(), OperatorError>
+    requires { IsWrittenBlock (block_of table.ty) }
+    ensures took { Performs result (T.context resources.now)
+        (control_shape (try_table (block_written table.entry.ty)
+        (listed catch_at table.entry.catches))) stacks.old stacks.new }
+    ensures same { Kept stacks.old stacks.new }
+{
+    if !allows_clauses(stacks, table.catches) {
+        return Err(OperatorError::Refused(OperatorFault::new(OperatorRule::CatchCount)));
+    }
+    enter_try_table(stacks, resources, table)
 }

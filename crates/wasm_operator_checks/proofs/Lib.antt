@@ -7,3 +7,5 @@ pub mod Acting
 pub mod Typing
 pub mod Comparing
 pub mod Naming
+pub mod Knowing
+pub mod Finding

@@ -7,8 +7,8 @@ use Rattle.wasm_validator_resources.specs.WasmSpec.Syntax.{Val}
 use Rattle.wasm_validator_resources.specs.WasmReadersTypes.WasmReadersValues.SeenValues.{val_of}
 use Rattle.wasm_validator_resources.specs.WasmReadersTypes.WasmReadersValues.declared.indices.UnpackedIndex.{UnpackedIndex}
 use Rattle.wasm_validator_resources.specs.WasmReadersTypes.WasmReadersValues.declared.values.ValType.{ValType}
-use Rattle.wasm_operator_stacks.specs.WasmOperatorSteps.Machine.{State, pop_val, pop_vals}
-use Rattle.wasm_operator_checks.proofs.Looking.{from_on}
+use Rattle.wasm_operator_stacks.specs.WasmOperatorSteps.Machine.{State, bottom, pop_any, pop_val, pop_vals}
+use Rattle.wasm_operator_checks.proofs.Looking.{from_on, one_popped}
 
 -- one type more from the end, that matches or doesn't
 last_types : (vs : List ValType) (n : ℕ) (v : ValType) (x : Val UnpackedIndex) → n < length vs → x ≡ val_of (get_or vs n v) → map val_of (drop n vs) ≡ x ∷ map val_of (drop (n + 1) vs)
@@ -50,4 +50,11 @@ next_not_popped W vs i v x s t h e p q =
     let a : pop_vals W (map val_of (drop (length vs - 1 - i + 1) vs)) s ≡ Some t = ap (λ n. pop_vals W (map val_of (drop n vs)) s) (sym (after_last _ i h)) ∙ p in
     never_popped W vs (length vs - 1 - i) v x s t (within _ i h) e a q
 
-pub ruleset list_checks = (next_popped, next_not_popped)
+-- where any more may be taken
+pub all_taken : (W : World UnpackedIndex) (vs : List ValType) (n : ℕ) (s t : State UnpackedIndex) → pop_vals W (map val_of (drop n vs)) s ≡ Some t → pop_any t ≡ Some (bottom, t) → pop_vals W (map val_of vs) s ≡ Some t
+all_taken W [] zero s t e b = e
+all_taken W [] (suc n) s t e b = e
+all_taken W (v ∷ vs) zero s t e b = e
+all_taken W (v ∷ vs) (suc n) s t e b = rw (all_taken W vs n s t e b) (one_popped W (val_of v) t t bottom b refl)
+
+pub ruleset list_checks = (next_popped, next_not_popped, all_taken)

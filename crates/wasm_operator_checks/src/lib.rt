@@ -4,6 +4,7 @@
 
 mod faults;
 mod fields;
+mod known;
 mod lists;
 mod looks;
 mod matching;
@@ -14,8 +15,9 @@ mod types;
 
 pub use faults::{OperatorError, OperatorFault};
 pub use fields::{has_default, is_packed, same_flag, unpack};
+pub use known::has_known;
 pub use lists::match_all;
-pub use looks::{check_many, check_type, look};
+pub use looks::{check_many, check_type, look, look_many};
 pub use matching::matches;
 pub use named::{exact_or_null, identity, new_reference, nullable};
 pub use reach::{address, has, lesser, reaches};

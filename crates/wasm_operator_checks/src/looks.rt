@@ -1,14 +1,15 @@
 //! Looks at operands below others that count as taken.
 
-ghost use Rattle.std.specs.Prelude.{◌≡◌, ◌≤◌, length, map};
+ghost use Rattle.std.specs.Prelude.{◌≡◌, ◌≤◌, Some, true, length, map, IfSome};
 ghost use Rattle.wasm_validator_resources.specs.WasmReadersTypes.WasmReadersValues.SeenValues.{val_of};
 ghost use Rattle.wasm_operator_stacks.specs.SeenTypeWords.{val_in};
-ghost use Rattle.wasm_operator_stacks.specs.WasmOperatorSteps.Machine.{pop_any, pop_val, pop_vals};
+ghost use Rattle.wasm_operator_stacks.specs.WasmOperatorSteps.Machine.{bottom, pop_any, pop_val, pop_vals, push_vals};
 ghost use Rattle.wasm_validator_resources.specs.Answers.{world};
 ghost use Rattle.wasm_operator_stacks.specs.Seen.{state_of, below};
 ghost use Rattle.wasm_operator_checks.specs.Steps.{Looked, Checked};
 
 use crate::faults::OperatorFault;
+use crate::known::has_known;
 use crate::matching::matches;
 use std::alloc::Allocator;
 use wasm_operator_stacks::{Stacks, TypeWord, Word};
@@ -64,6 +65,61 @@ pub fn check_type<A: Allocator, T: WasmModuleResources>(
     }
 }
 
+/// Whether code isn't reached here, and no operand of the innermost frame is left below so many that
+/// are taken already: any more may be taken then.
+#[inline(always)]
+#[tactic(auto, using(crate::proofs::Looking::looks))]
+fn is_all_taken<A: Allocator>(stacks: &Stacks<A>, taken: usize) -> bool
+    requires { taken ≤ length (state_of stacks.now).operands }
+    ensures { result ≡ true → pop_any (below taken (state_of stacks.now))
+        ≡ Some (bottom, below taken (state_of stacks.now)) }
+{
+    if !stacks.is_open {
+        return false;
+    }
+    if stacks.operands.len() - taken != stacks.frame.height {
+        return false;
+    }
+    stacks.frame.unreachable
+}
+
+/// Looks whether operands that are known to be of these types, the last one on top, are in the
+/// innermost frame, below so many that are taken already, and how many are taken with them.
+#[inline(always)]
+#[tactic(auto, using(crate::proofs::Finding::finds))]
+pub fn look_many<A: Allocator, T: WasmModuleResources>(
+    stacks: &Stacks<A>,
+    _resources: &T,
+    taken: usize,
+    types: &[ValType],
+) -> Option<usize>
+    ensures popped { IfSome result (λ k. pop_vals (world (T.context _resources.now))
+        (map val_of types.now) (below taken (state_of stacks.now))
+        ≡ Some (below k (state_of stacks.now))) }
+    ensures there { IfSome result (λ k. push_vals (map val_of types.now)
+        (below k (state_of stacks.now)) ≡ below taken (state_of stacks.now)) }
+    ensures within { IfSome result (λ k. k ≤ length (state_of stacks.now).operands) }
+{
+    if !stacks.is_open {
+        return None;
+    }
+    let count = stacks.operands.len();
+    if count < stacks.frame.height {
+        return None;
+    }
+    let above = count - stacks.frame.height;
+    if above < taken {
+        return None;
+    }
+    if above - taken < types.len() {
+        return None;
+    }
+    if !has_known(stacks, taken, types) {
+        return None;
+    }
+    Some(taken + types.len())
+}
+
 /// Whether operands of these types, the last one on top, are below so many that are taken already,
 /// and how many are taken with them.
 #[tactic(auto, using(crate::proofs::Listing::list_checks))]
@@ -77,9 +133,15 @@ pub fn check_many<A: Allocator, T: WasmModuleResources>(
     ensures { Checked result (pop_vals (world (T.context resources.now)) (map val_of types.now)
         (below taken (state_of stacks.now))) (state_of stacks.now) }
 {
+    if let Some(taken) = look_many(stacks, resources, taken, types) {
+        return Ok(taken);
+    }
     let count = types.len();
     let mut taken = taken;
     'checking: for i in 0..count {
+        if is_all_taken(stacks, taken) {
+            return Ok(taken);
+        }
         taken = check_type(
             stacks,
             resources,

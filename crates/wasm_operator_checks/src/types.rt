@@ -9,6 +9,7 @@ ghost use Rattle.wasm_operator_checks.specs.Steps.{Checked};
 ghost use Rattle.wasm_operator_checks.specs.SeenTypes.{types_seen, takes_seen};
 
 use crate::faults::OperatorFault;
+use crate::known::exchange_many;
 use crate::looks::{check_many, check_type};
 use std::alloc::{AllocError, Allocator};
 use wasm_operator_stacks::{Stacks, TypeWord, Word};
@@ -119,6 +120,6 @@ pub fn exchange_types<'a, A: Allocator>(
             Ok(())
         }
         ValTypes::One(ty) => stacks.exchange(taken, Word::known(ty)),
-        ValTypes::Many(types) => stacks.exchange_many(taken, types),
+        ValTypes::Many(types) => exchange_many(stacks, taken, types),
     }
 }

@@ -8,6 +8,7 @@ ghost use Rattle.wasm_operator_numbers.specs.WasmOperatorChecks.Steps.{Turns};
 ghost use Rattle.wasm_operator_numbers.specs.WasmOperatorChecks.SeenTypes.{types_seen};
 ghost use Rattle.wasm_operator_control.specs.Entered.{entered};
 
+use crate::peeks::peek_types;
 use std::alloc::Allocator;
 use wasm_operator_numbers::operator_checks::{
     OperatorError, ValTypes, check_types, exchange_types,
@@ -16,10 +17,10 @@ use wasm_operator_numbers::operator_stacks::{BlockWord, Stacks};
 use wasm_operator_numbers::operators::FrameKind;
 use wasm_operator_numbers::validator_resources::WasmModuleResources;
 
-/// Opens a frame of this kind and type, by identities, over what it takes, below so many operands
-/// that are taken already. Where that can't be, all stays.
+/// Opens a frame of this kind and type, by identities, over what it takes, which is written anew,
+/// below so many operands that are taken already. Where that can't be, all stays.
 #[tactic(auto, using(crate::proofs::Cited::acts, crate::proofs::Opened::enters))]
-pub fn open_frame<'a, A: Allocator, T: WasmModuleResources>(
+fn open_anew<'a, A: Allocator, T: WasmModuleResources>(
     stacks: &mut Stacks<A>,
     resources: &T,
     kind: FrameKind,
@@ -46,4 +47,33 @@ pub fn open_frame<'a, A: Allocator, T: WasmModuleResources>(
         },
         Err(_) => Err(OperatorError::OutOfMemory),
     }
+}
+
+/// Opens a frame of this kind and type, by identities, over what it takes, below so many operands
+/// that are taken already. Operands that are known to be of the types that it takes stay where they
+/// are. Where that can't be, all stays.
+#[tactic(auto, using(crate::proofs::Cited::acts, crate::proofs::Opened::enters))]
+pub fn open_frame<'a, A: Allocator, T: WasmModuleResources>(
+    stacks: &mut Stacks<A>,
+    resources: &T,
+    kind: FrameKind,
+    block: BlockWord,
+    first: usize,
+    takes: ValTypes<'a>,
+) -> Result<(), OperatorError>
+    requires { first ≤ length (state_of stacks.old).operands }
+    ensures took { Turns result (λ s. entered (world (T.context resources.now)) (kind_of kind)
+        (block_in block) (types_seen takes.entry) (below first s)) stacks.old stacks.new }
+    ensures same { Kept stacks.old stacks.new }
+{
+    if let Ok(taken) = peek_types(stacks, resources, first, takes) {
+        return match stacks.open_below(kind, block, taken) {
+            Ok(()) => {
+                stacks.take(first);
+                Ok(())
+            }
+            Err(_) => Err(OperatorError::OutOfMemory),
+        };
+    }
+    open_anew(stacks, resources, kind, block, first, takes)
 }

@@ -60,7 +60,8 @@ pub mod validator_resources {
 pub mod operator_checks {
     pub use wasm_operator_numbers::operator_checks::{
         OperatorError, OperatorFault, OperatorRule, Takes, ValTypes, address, check_type,
-        check_types, exchange_types, halt, has, look, match_all, matches, plain, reaches,
+        check_types, exchange_types, halt, has, has_known, look, look_many, match_all, matches,
+        plain, reaches,
     };
 }
 

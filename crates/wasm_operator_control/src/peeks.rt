@@ -1,8 +1,8 @@
 //! Looks at operands whose types are known.
 
-ghost use Rattle.std.specs.Prelude.{◌≡◌, ◌≤◌, ◌+◌, Some, length, map, OnOk};
+ghost use Rattle.std.specs.Prelude.{◌≡◌, ◌≤◌, ◌+◌, Some, length, map, OnOk, IfOk};
 ghost use Rattle.wasm_operator_numbers.specs.WasmOperatorChecks.WasmOperatorStacks.SeenTypeWords.{val_in};
-ghost use Rattle.wasm_operator_numbers.specs.WasmOperatorChecks.WasmOperatorSteps.Machine.{known, pop_any, pop_val, pop_vals, push_operand};
+ghost use Rattle.wasm_operator_numbers.specs.WasmOperatorChecks.WasmOperatorSteps.Machine.{known, pop_any, pop_val, pop_vals, push_operand, push_vals};
 ghost use Rattle.wasm_operator_numbers.specs.WasmOperatorChecks.WasmValidatorResources.Answers.{world};
 ghost use Rattle.wasm_operator_numbers.specs.WasmOperatorChecks.WasmOperatorStacks.Seen.{state_of, below};
 ghost use Rattle.wasm_operator_numbers.specs.WasmOperatorChecks.SeenTypes.{types_seen};
@@ -11,7 +11,7 @@ ghost use Rattle.wasm_operator_control.specs.Fast.{Peeked};
 
 use crate::not_taken::NotTaken;
 use std::alloc::Allocator;
-use wasm_operator_numbers::operator_checks::ValTypes;
+use wasm_operator_numbers::operator_checks::{ValTypes, look_many};
 use wasm_operator_numbers::operator_stacks::{Stacks, TypeWord};
 use wasm_operator_numbers::validator_resources::WasmModuleResources;
 use wasm_readers_types::ValType;
@@ -63,8 +63,10 @@ fn peek_next<A: Allocator, T: WasmModuleResources>(
     taken: usize,
     ty: TypeWord,
 ) -> Result<usize, NotTaken>
-    ensures { Peeked result (pop_val (world (T.context resources.now)) (val_in ty)
+    ensures popped { Peeked result (pop_val (world (T.context resources.now)) (val_in ty)
         (below taken (state_of stacks.now))) (state_of stacks.now) }
+    ensures there { IfOk result (λ k. push_operand (known (val_in ty))
+        (below k (state_of stacks.now)) ≡ below taken (state_of stacks.now)) }
 {
     peek(stacks, resources, taken, ty)?;
     if taken >= stacks.operands.len() {
@@ -76,28 +78,21 @@ fn peek_next<A: Allocator, T: WasmModuleResources>(
 /// Looks whether operands that are known to be of these types, the last one on top, are in the
 /// innermost frame, below so many others.
 #[inline(always)]
-#[tactic(auto, using(crate::proofs::Cited::list_checks))]
 fn peek_many<A: Allocator, T: WasmModuleResources>(
     stacks: &Stacks<A>,
     resources: &T,
     first: usize,
     types: &[ValType],
 ) -> Result<usize, NotTaken>
-    requires { first ≤ length (state_of stacks.now).operands }
-    ensures { Peeked result (pop_vals (world (T.context resources.now)) (map val_of types.now)
-        (below first (state_of stacks.now))) (state_of stacks.now) }
+    ensures popped { Peeked result (pop_vals (world (T.context resources.now))
+        (map val_of types.now) (below first (state_of stacks.now))) (state_of stacks.now) }
+    ensures there { IfOk result (λ k. push_vals (map val_of types.now)
+        (below k (state_of stacks.now)) ≡ below first (state_of stacks.now)) }
 {
-    let count = types.len();
-    let mut taken = first;
-    'looking: for i in 0..count {
-        taken = peek_next(
-            stacks,
-            resources,
-            taken,
-            TypeWord::new(types[count - 1 - i]),
-        )?;
+    match look_many(stacks, resources, first, types) {
+        Some(taken) => Ok(taken),
+        None => Err(NotTaken::Left),
     }
-    Ok(taken)
 }
 
 /// Looks whether operands that are known to be of these types are in the innermost frame, below so
@@ -111,8 +106,10 @@ pub fn peek_types<'a, A: Allocator, T: WasmModuleResources>(
     types: ValTypes<'a>,
 ) -> Result<usize, NotTaken>
     requires { first ≤ length (state_of stacks.now).operands }
-    ensures { Peeked result (pop_vals (world (T.context resources.now)) (types_seen types.entry)
-        (below first (state_of stacks.now))) (state_of stacks.now) }
+    ensures popped { Peeked result (pop_vals (world (T.context resources.now))
+        (types_seen types.entry) (below first (state_of stacks.now))) (state_of stacks.now) }
+    ensures there { IfOk result (λ k. push_vals (types_seen types.entry)
+        (below k (state_of stacks.now)) ≡ below first (state_of stacks.now)) }
 {
     match types {
         ValTypes::None => Ok(first),

@@ -1,5 +1,5 @@
 -- Branches, calls and what stops code, where operands are looked at and then taken.
-use Rattle.std.proofs.Common.{◌≡◌, ℕ, List, [], ◌∷◌, ◌++◌, refl}
+use Rattle.std.proofs.Common.{◌≡◌, ℕ, List, [], ◌∷◌, ◌++◌, refl, sym, ◌∙◌}
 use Rattle.std.specs.Prelude.{Some, Ok}
 use Rattle.wasm_spec.specs.Syntax.{Val}
 use Rattle.wasm_operator_control.specs.WasmOperatorChecks.WasmSpecRules.Contexts.{Context}
@@ -42,5 +42,10 @@ module _ {A : Type 0} (v : Stacks A) (C : Context UnpackedIndex) where
   unfolding Took
   exchanged_below t u vs ws top k new e f p q n =
       acting.plainly v C (Ok tt) t u (vs ++ top ∷ []) ws (state_of v) new (all_exchanged (world C) vs ws top (state_of v) (below 1 (state_of v)) (below k (state_of v)) new p q n) e f
+
+  -- the same operands, left where they stand
+  pub kept_below : (t u : OperandTypes) (vs : List (Val UnpackedIndex)) (top : Val UnpackedIndex) (k : ℕ) (new : State UnpackedIndex) → typed v C t ≡ Some (vs ++ top ∷ []) → typed v C u ≡ Some vs → pop_val (world C) top (state_of v) ≡ Some (below 1 (state_of v))
+      → pop_vals (world C) vs (below 1 (state_of v)) ≡ Some (below k (state_of v)) → push_vals vs (below k (state_of v)) ≡ below 1 (state_of v) → new ≡ below 1 (state_of v) → acted v C (take t ∷ give u ∷ []) ≡ Some new
+  kept_below t u vs top k new e f p q there n = exchanged_below t u vs vs top k new e f p q (n ∙ sym there)
 
 pub ruleset branches = (nothing_done, trapped)

@@ -7,7 +7,6 @@ ghost use Rattle.wasm_operator_control.specs.Fast.{Performs};
 
 use crate::general::{branch_generally, branch_if_generally, return_generally};
 use std::alloc::Allocator;
-use wasm_operator_control::operator_checks::exchange_types;
 use wasm_operator_control::operator_stacks::{Stacks, TypeWord};
 use wasm_operator_control::validator_resources::WasmModuleResources;
 use wasm_operator_control::{NotTaken, label_types, peek, peek_types, returned_types};
@@ -94,10 +93,10 @@ pub(crate) fn branch_perhaps<A: Allocator, T: WasmModuleResources>(
         None => return Err(NotTaken::Left),
     };
     match peek_types(stacks, resources, 1, types) {
-        Ok(taken) => match exchange_types(stacks, taken, types) {
-            Ok(()) => Ok(()),
-            Err(_) => Err(NotTaken::OutOfMemory),
-        },
+        Ok(_) => {
+            stacks.take(1);
+            Ok(())
+        }
         Err(_) => branch_if_generally(stacks, resources, depth),
     }
 }

@@ -1,10 +1,10 @@
 //! The end of a frame.
 
-ghost use Rattle.std.specs.Prelude.{◌≡◌};
-ghost use Rattle.wasm_operator_control.specs.WasmOperatorChecks.WasmOperatorSteps.Machine.{is_if, pop_vals};
+ghost use Rattle.std.specs.Prelude.{◌≡◌, ◌<◌, IfOk};
+ghost use Rattle.wasm_operator_control.specs.WasmOperatorChecks.WasmOperatorSteps.Machine.{is_if, pop_vals, push_vals};
 ghost use Rattle.wasm_operator_control.specs.WasmOperatorChecks.WasmOperatorSteps.Shapes.{closing};
 ghost use Rattle.wasm_operator_control.specs.WasmOperatorChecks.WasmValidatorResources.Answers.{world};
-ghost use Rattle.wasm_operator_control.specs.WasmOperatorChecks.WasmOperatorStacks.Seen.{state_of, Kept};
+ghost use Rattle.wasm_operator_control.specs.WasmOperatorChecks.WasmOperatorStacks.Seen.{state_of, below, Kept};
 ghost use Rattle.wasm_operator_control.specs.WasmOperatorChecks.SeenTypes.{types_seen};
 ghost use Rattle.wasm_operator_control.specs.WasmOperatorChecks.WasmOperatorStacks.SeenBlocks.{kind_of};
 ghost use Rattle.wasm_operator_control.specs.Fast.{Peeked, Performs};
@@ -43,8 +43,10 @@ fn peek_results<'a, A: Allocator, T: WasmModuleResources>(
     resources: &T,
     types: ValTypes<'a>,
 ) -> Result<usize, NotTaken>
-    ensures { Peeked result (pop_vals (world (T.context resources.now)) (types_seen types.entry)
-        (state_of stacks.now)) (state_of stacks.now) }
+    ensures popped { Peeked result (pop_vals (world (T.context resources.now))
+        (types_seen types.entry) (state_of stacks.now)) (state_of stacks.now) }
+    ensures there { IfOk result (λ k. 0 < k → push_vals (types_seen types.entry)
+        (below k (state_of stacks.now)) ≡ state_of stacks.now) }
 {
     if stacks.is_open && stacks.frame.unreachable && stacks.operands.len() == stacks.frame.height {
         return Ok(0);
@@ -82,6 +84,10 @@ fn end_typed<A: Allocator, T: WasmModuleResources>(
     };
     if stacks.operands.len() - taken != frame.height {
         return Err(NotTaken::Left);
+    }
+    if taken > 0 {
+        stacks.close();
+        return Ok(());
     }
     match exchange_types(stacks, taken, types) {
         Ok(()) => {

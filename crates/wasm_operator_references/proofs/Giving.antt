@@ -103,3 +103,9 @@ module _ (vs : List (Val UnpackedIndex)) (x : Operand UnpackedIndex) (old mid la
       rw f (ap (λ os. record old { operands = os }) s)
 
 pub ruleset gives = (given_above, given_with, given_within, taken_back)
+
+-- operands that stand where they would be given, with one more on top
+pub stays : (s new : State UnpackedIndex) (vs : List (Val UnpackedIndex)) (x : Operand UnpackedIndex) (k n t : ℕ) → n ≤ t → k ≡ t - n → push_vals vs (below (k + n) s) ≡ below k s → new ≡ push_operand x (below k s) → new ≡ push_operand x (push_vals vs (below t s))
+stays s new vs x k n t h e f g =
+    let q : k + n ≡ t = omega arith in
+    g ∙ ap (push_operand x) (sym f ∙ ap (λ j. push_vals vs (below j s)) q)

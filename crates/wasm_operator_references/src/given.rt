@@ -10,7 +10,7 @@ ghost use Rattle.wasm_operator_control.specs.WasmOperatorChecks.WasmOperatorStac
 ghost use Rattle.wasm_operator_control.specs.WasmOperatorChecks.SeenTypes.{types_seen};
 
 use std::alloc::{AllocError, Allocator};
-use wasm_operator_control::operator_checks::{ValTypes, exchange_types};
+use wasm_operator_control::operator_checks::{ValTypes, exchange_types, has_known};
 use wasm_operator_control::operator_stacks::{Stacks, TypeWord, Word};
 
 /// The last of some types, if there is one.
@@ -51,13 +51,14 @@ pub fn front_types<'a>(types: ValTypes<'a>) -> ValTypes<'a>
     }
 }
 
-/// Gives operands of these types, with one more on top, in the place of so many.
+/// Gives operands of these types, with one more on top, in the place of so many. All are written
+/// anew.
 ///
 /// # Errors
 ///
 /// Where memory is refused. All stays then.
 #[tactic(auto, using(crate::proofs::Giving::gives))]
-pub fn exchange_with<'a, A: Allocator>(
+fn exchange_anew<'a, A: Allocator>(
     stacks: &mut Stacks<A>,
     taken: usize,
     types: ValTypes<'a>,
@@ -82,4 +83,34 @@ pub fn exchange_with<'a, A: Allocator>(
             Err(AllocError)
         }
     }
+}
+
+/// Gives operands of these types, with one more on top, in the place of so many. Those that are
+/// known to be of these types already stay where they are.
+///
+/// # Errors
+///
+/// Where memory is refused. All stays then.
+#[tactic(auto, using(crate::proofs::Giving::stays))]
+pub fn exchange_with<'a, A: Allocator>(
+    stacks: &mut Stacks<A>,
+    taken: usize,
+    types: ValTypes<'a>,
+    top: Word,
+) -> Result<(), AllocError>
+    requires { taken ≤ length (state_of stacks.old).operands }
+    ensures ok { OnOk result (state_of stacks.new ≡ push_operand (operand_of top)
+        (push_vals (types_seen types.entry) (below taken (state_of stacks.old)))) }
+    ensures err { OnErr result (state_of stacks.new ≡ state_of stacks.old) }
+    ensures same { Kept stacks.old stacks.new }
+{
+    if let ValTypes::Many(list) = types {
+        if list.len() <= taken {
+            let above = taken - list.len();
+            if has_known(stacks, above, list) {
+                return stacks.exchange(above, top);
+            }
+        }
+    }
+    exchange_anew(stacks, taken, types, top)
 }

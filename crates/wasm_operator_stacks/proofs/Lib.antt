@@ -8,3 +8,4 @@ pub mod Holding
 pub mod Wording
 pub mod Framing
 pub mod Pushing
+pub mod Slicing

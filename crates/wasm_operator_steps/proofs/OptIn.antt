@@ -1,9 +1,12 @@
--- Operators that need a feature take no step without it.
-use Rattle.std.proofs.Common.{◌≡◌, refl, ℕ, Bool, true, false, List, [], ◌∷◌}
+-- Operators that need a feature take no step without it, and a `try_table` of too many catch clauses none with the limits.
+use Rattle.std.proofs.Common.{◌≡◌, refl, ℕ, ◌≤◌, ◌<◌, Bool, true, false, not, ◌||◌, leb, List, [], ◌∷◌, ◌++◌, length}
 use Rattle.std.specs.Prelude.{Option, Some, None}
+use Rattle.std.proofs.lemmas.Bool.{le-leb, lt-leb}
 use Rattle.wasm_spec_rules.specs.WasmSpec.MatchingTests.{World}
 use Rattle.wasm_spec_rules.specs.Attempts.{◌>>=◌, guard}
-use Rattle.wasm_operators.specs.Instructions.{Instruction, vector, atomic}
+use Rattle.wasm_spec_rules.specs.WasmSpec.CrateLimits.{most_clauses}
+use Rattle.wasm_operators.specs.Control.{try_table}
+use Rattle.wasm_operators.specs.Instructions.{Instruction, control, vector, atomic}
 use Rattle.wasm_operator_steps.specs.Bodies.{Surroundings}
 use Rattle.wasm_operator_steps.specs.Machine.{State}
 use Rattle.wasm_operators.specs.WasmOperatorsAtomic.WasmOperatorsVector.Forms as vectors
@@ -11,11 +14,12 @@ use Rattle.wasm_operators.specs.WasmOperatorsAtomic.Forms as atomics
 use Rattle.wasm_operators.specs.WasmOperatorsAtomic.WasmOperatorsVector.declared.forms.Form.{Form}
 use Rattle.wasm_operators.specs.declared.immediates.ImmediateValues.{ImmediateValues}
 use Rattle.wasm_operator_steps.specs.Forms.{types_taken, types_given, memarg_of}
-use Rattle.wasm_operator_steps.specs.Actions.{Needed, Check, has, Action, need, take, give, these, joined, simd, threads, vector_operators, atomic_operators}
+use Rattle.wasm_operator_steps.specs.Actions.{Needed, Check, has, Action, need, take, give, enter, these, joined, simd, threads, vector_operators, atomic_operators, exceptions, few_clauses}
 use Rattle.wasm_operator_steps.specs.Meanings.{is_on, holds, run}
-use Rattle.wasm_operator_steps.specs.Shapes.{shape_of, form_checks, address_of}
+use Rattle.wasm_operator_steps.specs.Machine.{try_table_kind}
+use Rattle.wasm_operator_steps.specs.Shapes.{shape_of, form_checks, address_of, nothing, block_checks, catch_checks}
 use Rattle.wasm_operator_steps.specs.Steps.{checked, actions_of, is_open, step_in}
-use Rattle.wasm_operator_steps.specs.Laws.{OperatorsAreOptIn}
+use Rattle.wasm_operator_steps.specs.Laws.{OperatorsAreOptIn, ClausesAreLimited}
 
 nowhere : {X Y : Type 0} (o : Option X) (k : X → Option Y) → ((x : X) → k x ≡ None) → (o >>= k) ≡ None
 nowhere None k h = refl
@@ -42,4 +46,23 @@ operators_are_opt_in W B = record {
   needs_simd = λ e op values. step_by W B (vector op values) (second W B (has vector_operators) simd (behind (vectors.form_of op) values) e);
   needs_atomic_operators = λ e op values. step_by W B (atomic op values) (first W B atomic_operators (need (has threads) ∷ behind (atomics.form_of op) values) e);
   needs_threads = λ e op values. step_by W B (atomic op values) (second W B (has atomic_operators) threads (behind (atomics.form_of op) values) e);
+}
+
+-- a number against a limit that is asked for, that isn't, and that the number keeps
+past : (b : Bool) (n most : ℕ) → b ≡ true → most < n → (not b || leb n most) ≡ false
+past b n most e h = rw (e, lt-leb n most h) refl
+
+unasked : (b : Bool) (n most : ℕ) → b ≡ false → (not b || leb n most) ≡ true
+unasked b n most e = rw e refl
+
+kept : (b : Bool) (n most : ℕ) → n ≤ most → (not b || leb n most) ≡ true
+kept true n most h = le-leb n most h
+kept false n most h = refl
+
+pub clauses_are_limited : {R : Type 0} → ClausesAreLimited R
+clauses_are_limited W B = record {
+  limited = λ e b cs h. step_by W B (control (try_table b cs))
+      (first W B (few_clauses (length cs)) (checked (has exceptions ∷ block_checks b ++ catch_checks cs) (take nothing ∷ enter try_table_kind b ∷ [])) (past B.features.crate_limits (length cs) most_clauses e h));
+  without = λ e n s. unasked B.features.crate_limits n most_clauses e;
+  within = λ n h s. kept B.features.crate_limits n most_clauses h;
 }

@@ -32,12 +32,13 @@ pub data OperandTypes : Type 0 where
   front last : OperandTypes → OperandTypes
   joined : OperandTypes → OperandTypes → OperandTypes
 
--- the proposals that an instruction may need
+-- the proposals that an instruction may need, and no more than so many catch clauses where limits are asked for
 pub data Needed : Type 0 where
   multi_value reference_types bulk_memory exceptions function_references gc shared_everything_threads custom_descriptors simd threads vector_operators atomic_operators legacy_exceptions : Needed
+  few_clauses : ℕ → Needed
 
 -- Checks:
--- a feature is on; a written type is one that the features allow; a global is mutable; a local is set; a function counts as referenced;
+-- what is needed is on; a written type is one that the features allow; a global is mutable; a local is set; a function counts as referenced;
 -- a tag has no results, so that it is one of exceptions; each type of one list matches that of another; a reference type may be cast
 -- to another; references of its hierarchy can be tested, which those to continuations can't; a load or a store may have its memory
 -- argument; an operator of a form may have its immediates; all fields of a structure have a default, and it has no descriptor; a field is mutable, and is packed or isn't; the same of

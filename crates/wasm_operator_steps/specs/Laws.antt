@@ -1,17 +1,19 @@
 -- Laws of the steps, as facts that a contract can name.
-use Rattle.std.specs.Prelude.{◌≡◌, ◌≤◌, ℕ, Bool, true, false, ◌&&◌, List, ◌++◌, length, Option, Some, None, is_some}
+use Rattle.std.specs.Prelude.{◌≡◌, ◌≤◌, ◌<◌, ℕ, Bool, true, false, ◌&&◌, List, ◌++◌, length, Option, Some, None, is_some}
 use Rattle.std.specs.Bool.{Decides}
 use Rattle.std.specs.Option.{option_map}
 use Rattle.wasm_spec_rules.specs.WasmSpec.Syntax.{Sub}
 use Rattle.wasm_spec_rules.specs.WasmSpec.Declared.{ancestor_at, IsAncestor}
+use Rattle.wasm_spec_rules.specs.WasmSpec.CrateLimits.{most_clauses}
 use Rattle.wasm_spec_rules.specs.WasmSpec.MatchingTests.{World, IsWorld}
 use Rattle.wasm_spec_rules.specs.Contexts.{Context}
 use Rattle.wasm_operators.specs.WasmOperatorsPlain.Numeric.{numeric_opcode}
 use Rattle.wasm_operators.specs.WasmOperatorsPlain.Signatures.{signature_at}
 use Rattle.wasm_operators.specs.WasmOperatorsPlain.declared.numeric.NumericOperator.{NumericOperator}
-use Rattle.wasm_operators.specs.Control.{Block}
+use Rattle.wasm_operators.specs.Control.{Block, try_table}
+use Rattle.wasm_operators.specs.declared.control.Catch.{Catch}
 use Rattle.wasm_operators.specs.Maps.{map_block}
-use Rattle.wasm_operators.specs.Instructions.{Instruction, numeric, legacy, vector, atomic}
+use Rattle.wasm_operators.specs.Instructions.{Instruction, control, numeric, legacy, vector, atomic}
 use Rattle.wasm_operators.specs.WasmOperatorsAtomic.WasmOperatorsVector.declared.operators.VectorOperator.{VectorOperator}
 use Rattle.wasm_operators.specs.WasmOperatorsAtomic.declared.operators.AtomicOperator.{AtomicOperator}
 use Rattle.wasm_operators.specs.declared.immediates.ImmediateValues.{ImmediateValues}
@@ -21,6 +23,8 @@ use Rattle.wasm_operator_steps.specs.Bodies.{Surroundings, map_surroundings}
 use Rattle.wasm_operator_steps.specs.Machine.{State, map_state}
 use Rattle.wasm_operator_steps.specs.Identities.{refs_surroundings, refs_state, refs_block, IsOneToOneOn}
 use Rattle.wasm_operator_steps.specs.ConstantExpressions.{gives_reference, takes_no_reference, is_number, GivesOne, GivesOneReference}
+use Rattle.wasm_operator_steps.specs.Actions.{has, few_clauses}
+use Rattle.wasm_operator_steps.specs.Meanings.{holds}
 use Rattle.wasm_operator_steps.specs.Shapes.{computing, shape_of}
 use Rattle.wasm_operator_steps.specs.Steps.{step_in, step, steps, is_typed}
 
@@ -60,6 +64,16 @@ pub record AreOptIn {R : Type 0} (W : World R) (B : Surroundings R) : Type 0 whe
 
 abbrev pub OperatorsAreOptIn : (R : Type 0) → Type 0
 OperatorsAreOptIn R = (W : World R) (B : Surroundings R) → AreOptIn W B
+
+-- Where limits are asked for, no step is taken by a `try_table` of more catch clauses. Where they aren't, and up to the limit, the
+-- number of clauses is no obstacle.
+pub record AreClausesLimited {R : Type 0} (W : World R) (B : Surroundings R) : Type 0 where
+  pub limited : B.features.crate_limits ≡ true → (b : Block ℕ) (cs : List Catch) → most_clauses < length cs → (s : State R) → step_in W B (control (try_table b cs)) s ≡ None
+  pub without : B.features.crate_limits ≡ false → (n : ℕ) (s : State R) → holds W B s (has (few_clauses n)) ≡ true
+  pub within : (n : ℕ) → n ≤ most_clauses → (s : State R) → holds W B s (has (few_clauses n)) ≡ true
+
+abbrev pub ClausesAreLimited : (R : Type 0) → Type 0
+ClausesAreLimited R = (W : World R) (B : Surroundings R) → AreClausesLimited W B
 
 -- A numeric instruction checks, takes and gives what the table of signatures says of its opcode.
 abbrev pub NumericShapesByOpcode : Type 0

@@ -3,7 +3,7 @@
 //! Validation, Instructions, and Appendix, Validation Algorithm).
 #![tactic(auto)]
 
-ghost use Rattle.wasm_operator_steps.specs.Laws.{LegacyNeedsFeatures, StepsRename, OperatorsAreOptIn, NumericShapesByOpcode, VerdictsRename, ConstantsGiveReferences, WorldsAreRight};
+ghost use Rattle.wasm_operator_steps.specs.Laws.{LegacyNeedsFeatures, StepsRename, OperatorsAreOptIn, ClausesAreLimited, NumericShapesByOpcode, VerdictsRename, ConstantsGiveReferences, WorldsAreRight};
 ghost use Rattle.wasm_operator_steps.specs.LegacyExamples.{Tries, NoTries, TriesNeedFeatures};
 ghost use Rattle.wasm_operator_steps.specs.StackLaws.{ListsAreTakenInTurn, TakingKeepsFrames, TypesAreTakenInTurn, UnreachedCodeTakesAnything, EqualTypesMatch, EqualTypesMatchInContexts, ActionsAreRunInTurn};
 ghost use Rattle.wasm_operator_steps.specs.ControlExamples.{Blocks, NoBlocks, Branches, NoBranches, Calls, NoCalls, Exceptions, NoExceptions, Parametrics, NoParametrics, Variables, NoVariables, ControlNeedsFeatures, Constants, NoConstants, ConstantInstructions, NoConstantInstructions};
@@ -26,6 +26,13 @@ pub fn steps_rename<R, S>()
 #[tactic(auto, using(crate::proofs::OptIn::operators_are_opt_in))]
 pub fn operators_are_opt_in<R>()
     ensures opt_in { OperatorsAreOptIn R }
+{}
+
+/// Where the limits of `crate_limits` are asked for, no step is taken by a `try_table` of more than
+/// 10,000 catch clauses; where they aren't, their number is no obstacle.
+#[tactic(auto, using(crate::proofs::OptIn::clauses_are_limited))]
+pub fn clauses_are_limited<R>()
+    ensures limited { ClausesAreLimited R }
 {}
 
 /// Bodies of control, parametric and variable instructions, and constant expressions: valid ones,

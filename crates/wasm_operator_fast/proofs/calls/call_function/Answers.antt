@@ -9,4 +9,4 @@ pub returns-in-Ok-exchange_types-clause-took : goal.returns-in-Ok-exchange_types
 returns-in-Ok-exchange_types-clause-took g c =
     needed _ _ _ _ _ _ _ (function_held _ _ _ _ c.in-Ok.ensures.ok)
     (fast_ok _ _ _ _ (exchanged_by _ _ _ _ _ _ c.in-Ok-peek_types.taken _ (function_params _ _ _ _ _ c.in-Ok.ensures.ok (ap (map val_of) c.params.ensures))
-    (function_results _ _ _ _ _ c.in-Ok.ensures.ok (c.val_types_of.ensures ∙ ap (map val_of) c.results.ensures)) c.in-Ok-peek_types.ensures.0 c.in-Ok-exchange_types.ensures.ok))
+    (function_results _ _ _ _ _ c.in-Ok.ensures.ok (c.val_types_of.ensures ∙ ap (map val_of) c.results.ensures)) c.in-Ok-peek_types.ensures.popped.0 c.in-Ok-exchange_types.ensures.ok))

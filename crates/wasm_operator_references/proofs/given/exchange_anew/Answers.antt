@@ -3,7 +3,7 @@ use Rattle.wasm_operator_control.specs.WasmOperatorChecks.WasmOperatorStacks.See
 use Rattle.wasm_operator_control.specs.WasmOperatorChecks.WasmOperatorStacks.SeenOperands.{operand_of}
 use Rattle.wasm_operator_control.specs.WasmOperatorChecks.SeenTypes.{types_seen}
 use Rattle.wasm_operator_references.proofs.Giving.{given_above, given_with, given_within, taken_back}
-use Rattle.wasm_operator_references.proofs.given.exchange_with.Goals as goal
+use Rattle.wasm_operator_references.proofs.given.exchange_anew.Goals as goal
 
 pub overflow_sub-given : goal.overflow_sub-given
 overflow_sub-given g c =

@@ -1,0 +1,73 @@
+//! Operands that are known to be of given types.
+
+ghost use Rattle.std.specs.Prelude.{◌≡◌, ◌≤◌, ◌+◌, true, length, map, OnOk, OnErr};
+ghost use Rattle.wasm_validator_resources.specs.WasmReadersTypes.WasmReadersValues.SeenValues.{val_of};
+ghost use Rattle.wasm_operator_stacks.specs.WasmOperatorSteps.Machine.{known, push_vals};
+ghost use Rattle.wasm_operator_stacks.specs.Seen.{state_of, below, Kept};
+ghost use Rattle.wasm_operator_stacks.specs.SeenOperands.{operand_of};
+
+use std::alloc::{AllocError, Allocator};
+use wasm_operator_stacks::{Stacks, TypeWord, Word};
+use wasm_validator_resources::readers_types::ValType;
+
+/// Whether these operands are known to be of these types, place by place.
+#[inline(never)]
+#[tactic(auto, using(crate::proofs::Knowing::lists))]
+fn are_of(operands: &[Word], types: &[ValType]) -> bool
+    requires { length operands.now ≡ length types.now }
+    ensures { result ≡ true
+        → map operand_of operands.now ≡ map known (map val_of types.now) }
+{
+    'comparing: for i in 0..types.len() {
+        if !operands[i].is(TypeWord::new(types[i])) {
+            return false;
+        }
+    }
+    true
+}
+
+/// Whether operands that are known to be of these types, the last one on top, stand below so many.
+#[inline(always)]
+#[tactic(auto, using(crate::proofs::Knowing::knows))]
+pub fn has_known<A: Allocator>(stacks: &Stacks<A>, taken: usize, types: &[ValType]) -> bool
+    ensures there { result ≡ true → push_vals (map val_of types.now)
+        (below (taken + length types.now) (state_of stacks.now))
+        ≡ below taken (state_of stacks.now) }
+    ensures within { result ≡ true
+        → taken + length types.now ≤ length (state_of stacks.now).operands }
+{
+    let count = stacks.operands.len();
+    if count < taken {
+        return false;
+    }
+    if count - taken < types.len() {
+        return false;
+    }
+    are_of(stacks.operands.slice(taken, types.len()), types)
+}
+
+/// Gives operands of these types in the place of so many, the last one on top. Those that are known
+/// to be of them already stay where they are. Where memory is refused, all stays.
+#[tactic(auto, using(crate::proofs::Knowing::stays))]
+pub(crate) fn exchange_many<A: Allocator>(
+    stacks: &mut Stacks<A>,
+    taken: usize,
+    types: &[ValType],
+) -> Result<(), AllocError>
+    requires { taken ≤ length (state_of stacks.old).operands }
+    ensures ok { OnOk result (state_of stacks.new
+        ≡ push_vals (map val_of types.now) (below taken (state_of stacks.old))) }
+    ensures err { OnErr result (state_of stacks.new ≡ state_of stacks.old) }
+    ensures frame { stacks.new.frame ≡ stacks.old.frame }
+    ensures open { stacks.new.is_open ≡ stacks.old.is_open }
+    ensures same { Kept stacks.old stacks.new }
+{
+    if types.len() <= taken {
+        let above = taken - types.len();
+        if has_known(stacks, above, types) {
+            stacks.take(above);
+            return Ok(());
+        }
+    }
+    stacks.exchange_many(taken, types)
+}
