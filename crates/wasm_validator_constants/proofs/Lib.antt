@@ -3,3 +3,6 @@ pub mod Machine
 pub mod Finding
 pub mod Stepping
 pub mod Named
+pub mod ItemsWritten
+pub mod ItemsTyped
+pub mod ItemsNoted

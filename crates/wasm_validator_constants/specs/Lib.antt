@@ -4,3 +4,4 @@ pub use Rattle.wasm_operator_validator.specs.Typed
 pub use Rattle.wasm_operator_validator.specs.Checked
 pub use Rattle.wasm_operator_validator.specs.declared.validator.OperatorValidator
 pub mod Constants
+pub mod Items

@@ -5,12 +5,17 @@
 #![tactic(auto)]
 
 mod expressions;
+mod item_bytes;
+mod item_types;
 mod laws;
 mod operators;
+mod references_alone;
 
 pub use expressions::{check_constant_expression, check_constant_operator, note_function};
+pub use item_bytes::next_end;
 pub use laws::constants_are_lists_of_instructions;
 pub use operators::{is_constant, reads_constants};
+pub use references_alone::{KnownReferences, pass_reference};
 
 /// What constant expressions are validated by.
 pub use wasm_operator_validator::{OperatorValidator, OperatorValidatorAllocations};

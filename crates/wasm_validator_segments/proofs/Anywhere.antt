@@ -11,7 +11,7 @@ use Rattle.wasm_readers_types.specs.WasmReadersValues.declared.indices.UnpackedI
 use Rattle.wasm_operators.specs.WasmOperatorsPlain.Constants.{constant_from}
 use Rattle.wasm_operators.specs.WasmOperatorsPlain.declared.constants.ConstantOperator.{ConstantOperator}
 use Rattle.wasm_operators.specs.WasmOperatorsPlain.declared.constants.ConstantOperator.TheVariants.{I32Const, I64Const}
-use Rattle.wasm_operators.specs.Control.{end_, control_from, value_block}
+use Rattle.wasm_operators.specs.Control.{end_, value_block}
 use Rattle.wasm_operators.specs.Instructions.{Instruction, control, constant, plain_from, instruction_at}
 use Rattle.wasm_operator_steps.specs.ConstantRules.{is_allowed}
 use Rattle.wasm_operator_steps.specs.Machine.{State, known}
@@ -53,10 +53,6 @@ module _ (C : Context UnpackedIndex) (F : Features) (imported : ℕ) where
       finished = refl;
     };
   }
-
-pub ends : (b : ℕ) (bytes more : List ℕ) → bytes ≡ b ∷ more → b ≡ 0x0b → instruction_at (λ n. n) bytes ≡ Some (control end_, more)
-unfolding instruction_at plain_from control_from
-ends b bytes more e f = rw (e, f) refl
 
 module _ (b : ℕ) (bytes second third more : List ℕ) (n : ℤ) where
   read_i32 : bytes ≡ b ∷ second → b ≡ 0x41 → signed_at 32 second ≡ Some (n, third) → instruction_at (λ n. n) bytes ≡ Some (constant (I32Const n), third)

@@ -5,6 +5,7 @@ pub mod Anywhere
 pub mod Written
 pub mod Loops
 pub mod Read
+pub mod PassedReferences
 pub mod NamedSegments
 pub mod Known
 pub mod PlainSegments

@@ -1,6 +1,6 @@
 //! The items of element segments.
 
-ghost use Rattle.std.specs.Prelude.{◌≡◌, ◌≤◌, true, false, Some, IfErr, IfOk, OnOk};
+ghost use Rattle.std.specs.Prelude.{◌≡◌, ◌≤◌, ◌<◌, true, false, Some, IfErr, IfOk, OnOk};
 ghost use Rattle.wasm_spec_rules.specs.FeatureFlags.{features_of};
 ghost use Rattle.wasm_readers.specs.WasmReadersBytes.Reader.{SameInput, position_in, rest};
 ghost use Rattle.wasm_readers_types.specs.WasmReadersValues.SeenValues.{val_of};
@@ -8,7 +8,7 @@ ghost use Rattle.wasm_validator_constants.specs.Checked.{IsRefusedAt, StandsIn};
 ghost use Rattle.wasm_spec.specs.Values.{u32_at};
 ghost use Rattle.wasm_validator_constants.specs.WasmValidatorReferences.Notes.{noting};
 ghost use Rattle.wasm_validator_constants.specs.WasmValidatorReferences.References.{names_at};
-ghost use Rattle.wasm_validator_segments.specs.Answers.{GoesPast};
+ghost use Rattle.wasm_validator_segments.specs.Answers.{GoesPast, Refuses};
 ghost use Rattle.wasm_validator_segments.specs.Elements.{behind_function};
 ghost use Rattle.wasm_validator_segments.specs.Expressions.{behind_expression};
 ghost use Rattle.wasm_validator_segments.specs.Lists.{behind_many, behind_list};
@@ -22,6 +22,7 @@ use wasm_readers::BinaryReader;
 use wasm_readers_errors::{Error, Fault, ItemRule, Refusal, WasmFeatures};
 use wasm_readers_types::ValType;
 use wasm_validator_constants::references::NotesFunctions;
+use wasm_validator_constants::{KnownReferences, pass_reference};
 use wasm_validator_resources::WasmModuleResources;
 
 /// The most items of an element segment.
@@ -263,6 +264,96 @@ pub fn check_function_list<'a, T: WasmModuleResources, N: NotesFunctions>(
     check_functions(resources, notes, count, reader)
 }
 
+/// Goes past references that are of this type, so many at the most, notes the functions, and gives how
+/// many items are left.
+#[inline(never)]
+fn pass_references<'a, T: WasmModuleResources, N: NotesFunctions>(
+    features: WasmFeatures,
+    resources: &T,
+    imported_globals: u32,
+    ty: ValType,
+    notes: &mut N,
+    count: u32,
+    reader: &mut BinaryReader<'a>,
+) -> Result<u32, AllocError>
+    ensures so_far { IfOk result (λ left. behind_many (behind_expression (T.context resources.now)
+        (features_of features) imported_globals (val_of ty)) left (rest reader.new)
+        ≡ behind_many (behind_expression (T.context resources.now) (features_of features)
+        imported_globals (val_of ty)) count (rest reader.old)) }
+    ensures noted { IfOk result (λ left. noting N.note
+        (names_of_expressions left (rest reader.new)) notes.new
+        ≡ noting N.note (names_of_expressions count (rest reader.old)) notes.old) }
+    ensures fewer { IfOk result (λ left. left ≤ count) }
+    ensures input { SameInput reader.old reader.new }
+    ensures onward { position_in reader.old ≤ position_in reader.new }
+{
+    // The reader itself is not lent, so that it can be kept in registers.
+    let mut ahead = *reader;
+    let mut known = KnownReferences::none();
+    let mut more = count;
+    'items: while more > 0 {
+        if !pass_reference(features, resources, &ty, &mut known, notes, &mut ahead)? {
+            reader.go_on_from(&ahead);
+            return Ok(more);
+        }
+        more -= 1;
+    }
+    reader.go_on_from(&ahead);
+    Ok(more)
+}
+
+/// Reads constant expressions of this type, one at least and so many at the most, notes the functions
+/// that they name, and gives how many are left.
+fn check_some_expressions<'a, A: Allocator + Copy, T: WasmModuleResources, N: NotesFunctions>(
+    memory: &mut ExpressionMemory<A>,
+    features: WasmFeatures,
+    resources: &T,
+    imported_globals: u32,
+    ty: ValType,
+    notes: &mut N,
+    count: u32,
+    reader: &mut BinaryReader<'a>,
+) -> Result<u32, Error>
+    requires { 0 < count }
+    ensures so_far { IfOk result (λ left. behind_many (behind_expression (T.context resources.now)
+        (features_of features) imported_globals (val_of ty)) left (rest reader.new)
+        ≡ behind_many (behind_expression (T.context resources.now) (features_of features)
+        imported_globals (val_of ty)) count (rest reader.old)) }
+    ensures refused { IfErr result (λ e. Refuses e (behind_many
+        (behind_expression (T.context resources.now) (features_of features) imported_globals
+        (val_of ty)) count (rest reader.old))) }
+    ensures noted { IfOk result (λ left. noting N.note
+        (names_of_expressions left (rest reader.new)) notes.new
+        ≡ noting N.note (names_of_expressions count (rest reader.old)) notes.old) }
+    ensures fewer { IfOk result (λ left. left < count) }
+    ensures input { SameInput reader.old reader.new }
+    ensures onward { position_in reader.old ≤ position_in reader.new }
+    ensures place { IfErr result (StandsIn reader.old) }
+{
+    let left = pass_references(
+        features,
+        resources,
+        imported_globals,
+        ty,
+        notes,
+        count,
+        reader,
+    )?;
+    if left == 0 {
+        return Ok(0);
+    }
+    check_expression_of_type(
+        memory,
+        features,
+        resources,
+        imported_globals,
+        ty,
+        notes,
+        reader,
+    )?;
+    Ok(left - 1)
+}
+
 /// Reads so many constant expressions of this type, and notes the functions that they name.
 fn check_expressions<'a, A: Allocator + Copy, T: WasmModuleResources, N: NotesFunctions>(
     memory: &mut ExpressionMemory<A>,
@@ -284,16 +375,17 @@ fn check_expressions<'a, A: Allocator + Copy, T: WasmModuleResources, N: NotesFu
 {
     let mut left = count;
     'items: while left > 0 {
-        check_expression_of_type(
+        let still = check_some_expressions(
             memory,
             features,
             resources,
             imported_globals,
             ty,
             notes,
+            left,
             reader,
         )?;
-        left -= 1;
+        left = still;
     }
     Ok(())
 }

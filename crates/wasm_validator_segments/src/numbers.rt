@@ -1,31 +1,15 @@
 //! Constant expressions of one integer.
 
-ghost use Rattle.std.specs.Prelude.{◌≡◌, ◌≤◌, [], Some, OnSome};
+ghost use Rattle.std.specs.Prelude.{◌≡◌, ◌≤◌, [], OnSome};
 ghost use Rattle.wasm_spec.specs.Syntax.{i32, i64};
 ghost use Rattle.wasm_readers.specs.WasmReadersBytes.Reader.{SameInput, position_in, rest};
 ghost use Rattle.wasm_readers_types.specs.WasmReadersValues.SeenValues.{val_of};
-ghost use Rattle.wasm_operators.specs.Control.{end_};
-ghost use Rattle.wasm_operators.specs.Instructions.{control, instruction_at};
 ghost use Rattle.wasm_validator_constants.specs.WasmValidatorReferences.References.{names_of_expression};
 ghost use Rattle.wasm_validator_segments.specs.Numbers.{IsAnywhere};
 
 use wasm_readers::BinaryReader;
 use wasm_readers_types::ValType;
-
-/// Goes past an `end`, if it is next. Else the reader may stand further on.
-#[inline(always)]
-fn next_end(reader: &mut BinaryReader<'_>) -> Option<()>
-    ensures same { SameInput reader.old reader.new }
-    ensures onward { OnSome result (position_in reader.old ≤ position_in reader.new) }
-    ensures some { OnSome result (instruction_at (λ n. n) (rest reader.old)
-        ≡ Some (control end_, rest reader.new)) }
-{
-    if reader.next_u8()? == 0x0b {
-        Some(())
-    } else {
-        None
-    }
-}
+use wasm_validator_constants::next_end;
 
 /// Goes past a constant expression of one integer of 32 bits, if it is next. Else the reader may
 /// stand further on.

@@ -1,21 +1,10 @@
 use Rattle.std.proofs.Common.{◌∙◌, arith, rules}
-use Rattle.wasm_spec_rules.specs.FeatureFlags.{features_of}
-use Rattle.wasm_readers.specs.WasmReadersBytes.Reader.{rest}
-use Rattle.wasm_readers_types.specs.WasmReadersValues.SeenValues.{val_of}
-use Rattle.wasm_validator_segments.specs.Expressions.{behind_expression}
-use Rattle.wasm_validator_constants.specs.WasmValidatorReferences.WasmSpecValidity.Expressions.{expression_at, named}
-use Rattle.wasm_validator_segments.proofs.Loops.{one_less}
-use Rattle.wasm_validator_segments.proofs.Read.{expression_read, read_and_noted}
 use Rattle.wasm_validator_segments.proofs.lists.check_expressions.Goals as goal
 
 pub items-preserved : goal.items-preserved
 items-preserved g c = record {
   same = search rules;
   onward = omega arith;
-  so_far = one_less (behind_expression (g.T.WasmModuleResources.context c.args.resources.now) (features_of c.args.features) c.args.imported_globals (val_of c.args.ty)) c.items.left (rest c.items.reader) (rest c.check_expression_of_type.new.reader) (omega arith) c.in_ok-check_expression_of_type.ensures.past ∙ c.items.invariant.so_far;
-  noted =
-      read_and_noted (behind_expression (g.T.WasmModuleResources.context c.args.resources.now) (features_of c.args.features) c.args.imported_globals (val_of c.args.ty)) expression_at
-      (expression_read (g.T.WasmModuleResources.context c.args.resources.now) (features_of c.args.features) c.args.imported_globals (val_of c.args.ty)) named g.N.NotesFunctions.note c.items.left
-      (rest c.items.reader) (rest c.check_expression_of_type.new.reader) c.items.notes c.check_expression_of_type.new.notes (omega arith) c.in_ok-check_expression_of_type.ensures.past c.in_ok-check_expression_of_type.ensures.noted
-      ∙ c.items.invariant.noted;
+  so_far = c.in_ok-still.ensures.so_far ∙ c.items.invariant.so_far;
+  noted = c.in_ok-still.ensures.noted ∙ c.items.invariant.noted;
 }
