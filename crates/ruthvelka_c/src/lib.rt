@@ -41,7 +41,7 @@ pub extern "C" fn ruthvelka_proved_version() -> u32
     1000
 }
 
-/// The bits of all proposals.
+/// The bits of all features, `CRATE_LIMITS` among them.
 #[unsafe(no_mangle)]
 pub extern "C" fn ruthvelka_proved_features() -> u64
     ensures { result ≡ known_bits ⟦<WasmFeatures as Flags>⟧.table }
@@ -49,7 +49,7 @@ pub extern "C" fn ruthvelka_proved_features() -> u64
     all_features()
 }
 
-/// The bits of the proposal with this name, or none.
+/// The bits of the feature with this name, or none.
 #[unsafe(no_mangle)]
 pub extern "C" fn ruthvelka_proved_feature(name: &[u8]) -> u64
     ensures { result ≡ bits_named ⟦<WasmFeatures as Flags>⟧.table name.now }
@@ -57,8 +57,8 @@ pub extern "C" fn ruthvelka_proved_feature(name: &[u8]) -> u64
     find_feature(name)
 }
 
-/// Writes the name of the proposal with these bits, as far as there is room, and gives its length,
-/// which is 0 where there is no such proposal.
+/// Writes the name of the feature with these bits, as far as there is room, and gives its length,
+/// which is 0 where there is no such feature.
 #[unsafe(no_mangle)]
 pub extern "C" fn ruthvelka_proved_feature_name(bits: u64, name: &mut [u8]) -> u64
     ensures { HasName ⟦<WasmFeatures as Flags>⟧.table bits result name.old name.new }

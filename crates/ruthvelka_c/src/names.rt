@@ -1,4 +1,4 @@
-//! The proposals by their names.
+//! The features by their names.
 
 ghost use Rattle.std.specs.Prelude.{◌≡◌, length};
 ghost use Rattle.bitflags.specs.Sets.{known_bits};
@@ -8,7 +8,7 @@ ghost use Rattle.ruthvelka_c.specs.Names.{bits_named, name_in};
 use crate::arrays::write_bytes;
 use wasm_validator::{Flags, WasmFeatures};
 
-/// The bits of the proposal with this name, or none.
+/// The bits of the feature with this name, or none.
 pub fn find_feature(name: &[u8]) -> u64
     ensures { result ≡ bits_named ⟦<WasmFeatures as Flags>⟧.table name.now }
 {
@@ -21,7 +21,7 @@ pub fn find_feature(name: &[u8]) -> u64
     }
 }
 
-/// The name of the proposal with these bits, or the empty one.
+/// The name of the feature with these bits, or the empty one.
 pub fn find_name(bits: u64) -> &'static str
     ensures { result.now ≡ name_in ⟦<WasmFeatures as Flags>⟧.table bits }
 {
@@ -34,7 +34,7 @@ pub fn find_name(bits: u64) -> &'static str
     ""
 }
 
-/// The bits of all proposals.
+/// The bits of all features, `CRATE_LIMITS` among them.
 pub fn all_features() -> u64
     ensures { result ≡ known_bits ⟦<WasmFeatures as Flags>⟧.table }
 {

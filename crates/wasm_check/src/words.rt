@@ -68,8 +68,13 @@ pub fn end_of_help(alloc: Global) -> Result<String, AllocError> {
     let mut text = String::from_str(alloc, "Features that `default` has:")?;
     add_names(&mut text, WasmFeatures::STANDARD)?;
     text.push_str("Features that only `all` has:")?;
-    let others = <WasmFeatures as Flags>::all().difference(WasmFeatures::STANDARD);
-    add_names(&mut text, others)?;
+    add_names(
+        &mut text,
+        WasmFeatures::ALL.difference(WasmFeatures::STANDARD),
+    )?;
+    text.push_str("Features that have to be named:")?;
+    let limits = <WasmFeatures as Flags>::all().difference(WasmFeatures::ALL);
+    add_names(&mut text, limits)?;
     text.push('\n')?;
     text.push_str(STATUSES)?;
     Ok(text)

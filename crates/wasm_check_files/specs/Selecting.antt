@@ -3,9 +3,9 @@ use Rattle.std.specs.Prelude.{ℕ, ◌≡◌, ◌==◌, ◌&&◌, Bool, true, fa
 use Rattle.std.specs.Char.{to_ascii_uppercase}
 use Rattle.std.specs.Int.RustNames.{bit_or}
 use Rattle.std.specs.Str.{bytes_eq}
-use Rattle.bitflags.specs.Sets.{Row, without, known_bits}
+use Rattle.bitflags.specs.Sets.{Row, without}
 use Rattle.wasm_readers_errors.specs.WasmReadersFeatures.declared.features.WasmFeatures.{WasmFeatures}
-use Rattle.wasm_readers_errors.specs.WasmReadersFeatures.declared.features.TheConstants.WasmFeatures.{STANDARD}
+use Rattle.wasm_readers_errors.specs.WasmReadersFeatures.declared.features.TheConstants.WasmFeatures.{STANDARD, ALL}
 
 -- the letter of a flag's name that this one stands for
 abbrev pub flag_letter : ℕ → ℕ
@@ -40,7 +40,7 @@ module _ (table : List Row) where
   abbrev pub changed : WasmFeatures → List ℕ → Option WasmFeatures
   changed features word =
       if bytes_eq word (codes "default") then Some STANDARD
-      else if bytes_eq word (codes "all") then Some (record { 0 = known_bits table })
+      else if bytes_eq word (codes "all") then Some ALL
       else with_named features word
 
   -- the features behind words, one after another, from the default ones on

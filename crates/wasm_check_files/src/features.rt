@@ -7,8 +7,9 @@ use bitflags::Flag;
 pub use wasm_validate_files::validator::{Flags, WasmFeatures};
 
 /// The features that these words select, one after another, from the default ones on: `default` and
-/// `all` select those, `+name` adds a feature, and `-name` takes one away. A name is that of a flag of
-/// [`WasmFeatures`] in small letters, with `-` or `_` between its words.
+/// `all` select those, of which neither has `CRATE_LIMITS`, `+name` adds a feature, and `-name` takes
+/// one away. A name is that of a flag of [`WasmFeatures`] in small letters, with `-` or `_` between
+/// its words.
 ///
 /// # Errors
 ///
@@ -37,7 +38,7 @@ fn change_features(features: WasmFeatures, word: &str) -> Option<WasmFeatures>
         return Some(WasmFeatures::STANDARD);
     }
     if word == "all" {
-        return Some(<WasmFeatures as Flags>::all());
+        return Some(WasmFeatures::ALL);
     }
     let (sign, name) = word.as_bytes().split_first()?;
     let feature = find_feature(WasmFeatures::flags(), name)?;

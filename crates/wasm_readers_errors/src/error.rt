@@ -1,11 +1,9 @@
 //! What a refusal is: a [`Fault`], the byte where it is, counted from the start of the input, and
 //! the proposal that would lift it, if one would.
 //!
-//! A fault says which rule is broken, with what the rule's text names: numbers, types, a limit.
-//! Faults of the binary format are [`Malformed`]; the rest are rules of validation, in families by
-//! the part of the standard that they belong to (`item_rules.rt`, `type_rules.rt`,
-//! `operator_rules.rt`). A fault is a small value: its text is written only where it is printed. An
-//! [`Error`] is a refusal, or memory that was refused.
+//! A fault is a rule that is broken, with what its text names. Those of the binary format are
+//! [`Malformed`]; the rest are rules of validation, in families by the part of the standard. Its text
+//! is written only where it is printed. An [`Error`] is a refusal, or memory that was refused.
 
 ghost use Rattle.std.specs.Prelude.{◌≡◌};
 
@@ -17,8 +15,7 @@ use std::fmt;
 use wasm_readers_features::WasmFeatures;
 use wasm_readers_values::ValType;
 
-/// The numbers of the binary format, by their sign and their width in bits (Core Specification 3.0,
-/// Binary Format, Values, Integers).
+/// Numbers, by sign and width in bits (Core Specification 3.0, Binary Format, Values, Integers).
 #[derive(Clone, Copy, PartialEq, Eq, Debug)]
 pub enum Integer {
     /// Unsigned, 32 bits: indices, sizes and counts.

@@ -52,6 +52,8 @@ pub enum ItemRule {
     ElementTypes,
     /// A data segment that isn't active needs `BULK_MEMORY`.
     PassiveData,
+    /// With `CRATE_LIMITS` a name of an import or export has at most 100,000 bytes.
+    NameSize,
 }
 
 impl ItemRule {
@@ -86,6 +88,7 @@ impl ItemRule {
             ItemRule::ElementCount => "number of elements is out of bounds",
             ItemRule::ElementTypes => "type mismatch: invalid element type",
             ItemRule::PassiveData => "passive data segments require the bulk-memory proposal",
+            ItemRule::NameSize => "string size out of bounds",
         }
     }
 }

@@ -1,5 +1,4 @@
-//! Rules of operators (Core Specification 3.0, Validation, Instructions), and what is said where one
-//! is broken.
+//! Rules of operators (Core Specification 3.0, Validation, Instructions), and their texts.
 
 ghost use Rattle.std.specs.Prelude.{◌≡◌};
 ghost use Rattle.wasm_readers_errors.specs.Lifting.{lifting, needed_by};
@@ -172,6 +171,8 @@ pub enum OperatorRule {
     DelegateOutsideTry,
     /// `rethrow` names a label of what has caught nothing.
     RethrowLabel,
+    /// With `CRATE_LIMITS` a `try_table` has at most 10,000 catch clauses.
+    CatchCount,
 }
 
 /// The items of a module, and of a function, that an operator names by an index.
@@ -327,6 +328,7 @@ impl OperatorRule {
             OperatorRule::CatchAllOutsideTry => "catch_all found outside of a `try` block",
             OperatorRule::DelegateOutsideTry => "delegate found outside of a `try` block",
             OperatorRule::RethrowLabel => "invalid rethrow label: target was not a `catch` block",
+            OperatorRule::CatchCount => "catches size is out of bounds",
             _ => "invalid operator",
         }
     }

@@ -1,5 +1,4 @@
-//! Rules of types: recursion groups, sub types, composite types, descriptor clauses and value
-//! types.
+//! Rules of types: of recursion groups, sub, composite and value types, and descriptor clauses.
 
 ghost use Rattle.std.specs.Prelude.{◌≡◌};
 ghost use Rattle.wasm_readers_errors.specs.Lifting.{lifting_reference};
@@ -38,6 +37,12 @@ pub enum GroupRule {
     Continuations,
     /// A continuation type needs `GC_TYPES`.
     ContinuationGcTypes,
+    /// With `CRATE_LIMITS` a function type has at most 1,000 parameters.
+    FunctionParams,
+    /// With `CRATE_LIMITS` a function type has at most 1,000 results.
+    FunctionReturns,
+    /// With `CRATE_LIMITS` a structure type has at most 10,000 fields.
+    StructFields,
 }
 
 impl GroupRule {
@@ -60,6 +65,9 @@ impl GroupRule {
                 "cannot define continuation types when stack switching is disabled",
             GroupRule::ContinuationGcTypes =>
                 "cannot define continuation types when gc types are disabled",
+            GroupRule::FunctionParams => "function params size is out of bounds",
+            GroupRule::FunctionReturns => "function returns size is out of bounds",
+            GroupRule::StructFields => "struct fields size is out of bounds",
         }
     }
 }
@@ -122,8 +130,7 @@ impl DescriptorRule {
     }
 }
 
-/// What reference types need of the proposals (Core Specification 3.0, Validation, Types, Reference
-/// Types).
+/// What reference types need (Core Specification 3.0, Validation, Types, Reference Types).
 #[derive(Clone, Copy, PartialEq, Eq, Debug)]
 pub enum ValueTypeRule {
     /// References need `REFERENCE_TYPES`.
@@ -147,8 +154,7 @@ pub enum ValueTypeRule {
 }
 
 impl ValueTypeRule {
-    /// The proposal that would lift a refusal by this rule: of the two that allow references to types
-    /// by index, `FUNCTION_REFERENCES`.
+    /// The proposal that would lift a refusal by this rule: of two, `FUNCTION_REFERENCES`.
     pub fn feature(self) -> WasmFeatures
         ensures { result ≡ lifting_reference self }
     {

@@ -72,3 +72,7 @@ atomic_operators_on = has_flag 1048576
 
 abbrev pub legacy_exceptions_on : WasmFeatures → Bool
 legacy_exceptions_on = has_flag 2097152
+
+-- the limits of the Rust crate's readers, which are no proposal
+abbrev pub crate_limits_on : WasmFeatures → Bool
+crate_limits_on = has_flag 4194304

@@ -2,7 +2,7 @@
 //! each flag; and `STANDARD`, the set that is the default.
 
 ghost use Rattle.std.specs.Prelude.{⊤, ◌≡◌, [], ◌∷◌, codes};
-ghost use Rattle.wasm_readers_features.specs.On.{mutable_global_on, reference_types_on, multi_value_on, bulk_memory_on, simd_on, threads_on, shared_everything_threads_on, floats_on, multi_memory_on, exceptions_on, memory64_on, extended_const_on, function_references_on, gc_on, gc_types_on, custom_page_sizes_on, custom_descriptors_on, stack_switching_on, component_model_on, vector_operators_on, atomic_operators_on, legacy_exceptions_on};
+ghost use Rattle.wasm_readers_features.specs.On.{mutable_global_on, reference_types_on, multi_value_on, bulk_memory_on, simd_on, threads_on, shared_everything_threads_on, floats_on, multi_memory_on, exceptions_on, memory64_on, extended_const_on, function_references_on, gc_on, gc_types_on, custom_page_sizes_on, custom_descriptors_on, stack_switching_on, component_model_on, vector_operators_on, atomic_operators_on, legacy_exceptions_on, crate_limits_on};
 
 use bitflags::{Flag, Flags, bitflag_items};
 
@@ -37,6 +37,15 @@ use bitflags::{Flag, Flags, bitflag_items};
 ///
 /// The last three have to be asked for, and are in no set but `all()`; the first two of these are
 /// no flags of the Rust crate.
+///
+/// - `CRATE_LIMITS`: the limits of the Rust crate's readers: at most 1,000 parameters and 1,000
+///   results of a function type, 10,000 fields of a structure type, 10,000 catch clauses of a
+///   `try_table`, and 100,000 bytes of a name of an import or export.
+///
+/// It is a flag with a name, but no proposal: it only takes away. So it has to be asked for by its
+/// own name: [`all`](WasmFeatures::all) hasn't it, and a refusal by one of its limits names no
+/// proposal, since what would lift it is to switch `CRATE_LIMITS` off. What the trait `Flags` has of
+/// every flag with a name, `<WasmFeatures as Flags>::all()` and complements, has it.
 #[derive(Clone, Copy, PartialEq, Eq, Hash, Debug)]
 pub struct WasmFeatures(u64);
 
@@ -64,14 +73,15 @@ bitflag_items! {
         const VECTOR_OPERATORS = 524288;
         const ATOMIC_OPERATORS = 1048576;
         const LEGACY_EXCEPTIONS = 2097152;
+        const CRATE_LIMITS = 4194304;
     }
 }
 
 impl WasmFeatures {
     /// All but `SHARED_EVERYTHING_THREADS`, `CUSTOM_DESCRIPTORS`, `STACK_SWITCHING`,
-    /// `CUSTOM_PAGE_SIZES`, `COMPONENT_MODEL`, `VECTOR_OPERATORS`, `ATOMIC_OPERATORS` and
-    /// `LEGACY_EXCEPTIONS`. So it lacks the standard's operators on vectors, and has shared memories,
-    /// which the standard hasn't.
+    /// `CUSTOM_PAGE_SIZES`, `COMPONENT_MODEL`, `VECTOR_OPERATORS`, `ATOMIC_OPERATORS`,
+    /// `LEGACY_EXCEPTIONS` and `CRATE_LIMITS`. So it lacks the standard's operators on vectors, and has
+    /// shared memories, which the standard hasn't.
     pub const STANDARD: WasmFeatures = WasmFeatures(32703);
 
     /// No proposal.
@@ -81,11 +91,14 @@ impl WasmFeatures {
         WasmFeatures(0)
     }
 
-    /// Every proposal.
+    /// Every proposal, and so not `CRATE_LIMITS`, which takes away.
+    pub const ALL: WasmFeatures = WasmFeatures(4194303);
+
+    /// Every proposal: [`ALL`](WasmFeatures::ALL), and so not `CRATE_LIMITS`.
     pub fn all() -> WasmFeatures
         ensures { result.0 ≡ 4194303 }
     {
-        WasmFeatures(4194303)
+        WasmFeatures::ALL
     }
 
     /// Whether `MUTABLE_GLOBAL` is on: mutable globals are imported and exported.
@@ -243,6 +256,13 @@ impl WasmFeatures {
     {
         self.contains(WasmFeatures::LEGACY_EXCEPTIONS)
     }
+
+    /// Whether `CRATE_LIMITS` is on: the limits of the Rust crate's readers.
+    pub fn crate_limits(&self) -> bool
+        ensures { result ≡ crate_limits_on self.now }
+    {
+        self.contains(WasmFeatures::CRATE_LIMITS)
+    }
 }
 
 impl Flags for WasmFeatures {
@@ -258,7 +278,8 @@ impl Flags for WasmFeatures {
         ∷ (codes "GC_TYPES", 16384) ∷ (codes "CUSTOM_PAGE_SIZES", 32768)
         ∷ (codes "CUSTOM_DESCRIPTORS", 65536) ∷ (codes "STACK_SWITCHING", 131072)
         ∷ (codes "COMPONENT_MODEL", 262144) ∷ (codes "VECTOR_OPERATORS", 524288)
-        ∷ (codes "ATOMIC_OPERATORS", 1048576) ∷ (codes "LEGACY_EXCEPTIONS", 2097152) ∷ [] };
+        ∷ (codes "ATOMIC_OPERATORS", 1048576) ∷ (codes "LEGACY_EXCEPTIONS", 2097152)
+        ∷ (codes "CRATE_LIMITS", 4194304) ∷ [] };
 
     ghost set_of = { λ p. p.0 };
 

@@ -41,6 +41,7 @@ extends_open_struct = record {
   continuation_needs_gc_types = λ _. refl;
   continuation_is_of_function = tt;
   members_are_allowed = refl;
+  limits_are_kept = refl;
 }
 
 pub final_struct_is_not_extended : FinalStructIsNotExtended
@@ -85,6 +86,7 @@ struct_rules D a o p e = record {
   continuation_needs_gc_types = λ _. refl;
   continuation_is_of_function = tt;
   members_are_allowed = refl;
+  limits_are_kept = refl;
 }
 
 abbrev pair_tree : RecTree

@@ -10,6 +10,7 @@ use Rattle.wasm_spec.specs.Trees.{RecTree, DefType, members, declared}
 use Rattle.wasm_spec.specs.Closing.{type_space}
 use Rattle.wasm_spec.specs.Declared.{supertype, supertype_of, descriptor_of, described_by, ancestor_at}
 use Rattle.wasm_spec.specs.ValueTypes.{allows_storage}
+use Rattle.wasm_spec.specs.CrateLimits.{is_limited}
 use Rattle.wasm_spec.specs.Matching.{MatchesSub, is_shared_storage}
 
 -- the storage types in a composite type: of its fields, or its parameters and results
@@ -73,6 +74,7 @@ pub record TypeRules {R : Type 0} (F : Features) (D : R → Option (Sub R)) (a :
   pub continuation_needs_gc_types : IsTrue (is_cont s.comp) → IsTrue F.gc_types
   pub continuation_is_of_function : IsContinuationOfFunction D s.comp
   pub members_are_allowed : IsTrue (list_all (allows_storage F) (storages s.comp))
+  pub limits_are_kept : IsTrue (is_limited F s.comp)
 
 -- the rules of its descriptor clauses
 pub record DescriptorRules {R : Type 0} (F : Features) (D : R → Option (Sub R)) (a : R) (s : Sub R) : Type 0 where

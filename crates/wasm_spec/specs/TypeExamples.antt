@@ -7,7 +7,7 @@ use Rattle.wasm_spec.specs.Matching.{MatchesField, MatchesComp, MatchesSub}
 use Rattle.wasm_spec.specs.Declared.{IsDepth}
 use Rattle.wasm_spec.specs.GroupRules.{TypeRules, OfSupertype, IsValidTypeSection}
 
--- every feature, or none
+-- every proposal, or none, and no limits of `crate_limits`
 abbrev pub features : Bool → Features
 features b = record {
   mutable_global = b;
@@ -32,6 +32,7 @@ features b = record {
   vector_operators = b;
   atomic_operators = b;
   legacy_exceptions = b;
+  crate_limits = false;
 }
 
 module _ {R : Type 0} where

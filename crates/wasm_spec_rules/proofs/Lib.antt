@@ -4,6 +4,7 @@ pub mod Verdicts
 pub mod Ordered
 pub mod FramedOrder
 pub mod ModuleExamples
+pub mod LimitLaws
 pub mod Contexts
 pub mod Totals
 pub mod Counts

@@ -78,10 +78,10 @@ pub no_tag_without_exceptions : NoTagWithoutExceptions
 no_tag_without_exceptions types x v = let h : false ≡ true = v.needs_exceptions in cc
 
 pub no_mutable_import : NoMutableImport
-no_mutable_import v = let h : false ≡ true = v.1 refl in cc
+no_mutable_import v = let h : false ≡ true = v.item.1 refl in cc
 
 pub memory_is_exported : MemoryIsExported
-memory_is_exported = record { item = _; exports = refl; movable = tt }
+memory_is_exported = record { item = _; exports = refl; movable = tt; name = λ h. absurd cc }
 
 pub no_second_memory : NoSecondMemory
 no_second_memory F v = let h : None ≡ Some v.item = v.exports in cc

@@ -1,4 +1,4 @@
--- The proposals that a set of flags allows.
+-- The proposals that a set of flags allows, and whether it asks for the limits of `crate_limits`.
 use Rattle.wasm_readers_errors.specs.WasmSpec.Features.{Features}
 use Rattle.wasm_readers_errors.specs.WasmReadersFeatures.On.{has_flag}
 use Rattle.wasm_readers_errors.specs.WasmReadersFeatures.declared.features.WasmFeatures.{WasmFeatures}
@@ -27,4 +27,5 @@ features_of flags = record {
   vector_operators = has_flag 524288 flags;
   atomic_operators = has_flag 1048576 flags;
   legacy_exceptions = has_flag 2097152 flags;
+  crate_limits = has_flag 4194304 flags;
 }

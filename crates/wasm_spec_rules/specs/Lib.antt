@@ -7,6 +7,7 @@ pub mod ItemRules
 pub mod LinkRules
 pub mod SegmentRules
 pub mod Limits
+pub mod LimitLaws
 pub mod Modules
 pub mod ModuleExamples
 pub mod StateTable

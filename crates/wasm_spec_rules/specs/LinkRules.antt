@@ -8,6 +8,7 @@ use Rattle.wasm_readers_errors.specs.WasmSpec.Syntax.{Val, Global, Extern, func_
 use Rattle.wasm_readers_errors.specs.WasmSpec.BinaryModules.{Import, Export}
 use Rattle.wasm_readers_errors.specs.WasmSpec.BinarySections.{Element, ElementItems, functions, expressions}
 use Rattle.wasm_readers_errors.specs.WasmSpec.Features.{Features}
+use Rattle.wasm_readers_errors.specs.WasmSpec.CrateLimits.{IsShortName}
 use Rattle.wasm_readers_errors.specs.WasmSpec.Trees.{DefType}
 use Rattle.wasm_spec_rules.specs.Parts.{Parts, Expression, expressions_of}
 use Rattle.wasm_spec_rules.specs.IndexSpaces.{IndexSpaces, IsFunctionType, signature_at}
@@ -25,8 +26,11 @@ IsValidExtern F types (memory_extern m) = IsValidMemory F m
 IsValidExtern F types (global_extern g) = IsValidGlobal F types g × IsMovable F g
 IsValidExtern F types (tag_extern x) = IsValidTag F types x
 
-abbrev pub IsValidImport : Features → List DefType → Import ℕ → Type 0
-IsValidImport F types i = IsValidExtern F types i.ty
+-- an import: what is imported is valid, and its names are short where limits are asked for
+pub record IsValidImport (F : Features) (types : List DefType) (i : Import ℕ) : Type 0 where
+  pub item : IsValidExtern F types i.ty
+  pub module_name : IsShortName F i.module_name
+  pub item_name : IsShortName F i.item_name
 
 -- what is exported, by the kinds' numbers: functions, tables, memories, globals, tags
 abbrev pub exported : IndexSpaces → Export → Option (Extern ℕ)
@@ -42,11 +46,12 @@ abbrev pub IsMovableExtern : Features → Extern ℕ → Type 0
 IsMovableExtern F (global_extern g) = IsMovable F g
 IsMovableExtern F _ = ⊤
 
--- an export: the index is in range, and a mutable global may be exported
+-- an export: the index is in range, a mutable global may be exported, and the name is short where limits are asked for
 pub record IsValidExport (F : Features) (C : IndexSpaces) (e : Export) : Type 0 where
   pub item : Extern ℕ
   pub exports : exported C e ≡ Some item
   pub movable : IsMovableExtern F item
+  pub name : IsShortName F e.name
 
 abbrev pub export_name : Export → List ℕ
 export_name e = e.name

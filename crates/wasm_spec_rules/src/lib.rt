@@ -3,6 +3,7 @@
 #![tactic(auto)]
 
 ghost use Rattle.wasm_spec_rules.specs.Contexts.{ContextsAreRenamed, RepeatedTypeIsOne};
+ghost use Rattle.wasm_spec_rules.specs.LimitLaws.{LimitsAreOptIn};
 ghost use Rattle.wasm_spec_rules.specs.Totals.{TotalsGoOn};
 ghost use Rattle.wasm_spec_rules.specs.ModuleExamples.{TableOfOneOrTwo, NoTableOfTwoToOne, NoTableWithoutEntries, MemoryOfAllAddresses, NoMemoryPastAllAddresses, MemoryOfSmallPages, NoMemoryPastSmallPages, NoMemoryOfLargerPages, NoSharedGlobal, NoTagWithoutExceptions, NoMutableImport, MemoryIsExported, NoSecondMemory, NoNameTwice, SizeIsThree, NoStartWithParameter, NoPassiveElements, NoWrittenElements, OffsetsReference, NoPassiveData, NoTwoMemories, HeaderIsModule, NoVersionTwo};
 ghost use Rattle.wasm_spec_rules.specs.Bodies.{BodiesAreAsManyAsFunctions};
@@ -33,6 +34,14 @@ pub fn module_examples()
     ensures no_memories { NoTwoMemories }
     ensures header { HeaderIsModule }
     ensures no_version { NoVersionTwo }
+{}
+
+/// Without `crate_limits` every composite type and every name keeps the limits that it asks for; with
+/// it a function type has at most 1,000 parameters and 1,000 results, a structure type 10,000 fields
+/// and a name 100,000 bytes, and a type that keeps its rules with it keeps them without it.
+#[tactic(auto, using(crate::proofs::LimitLaws::limits_are_opt_in))]
+pub fn limits_are_opt_in<R>()
+    ensures opt_in { LimitsAreOptIn R }
 {}
 
 /// A context over other identities of types is the context with each identity renamed.

@@ -128,6 +128,7 @@ module _ {R : Type 0} (F : Features) (off : canonical F ≡ false) where
         continuation_needs_gc_types = rules.continuation_needs_gc_types;
         continuation_is_of_function = rules.continuation_is_of_function;
         members_are_allowed = rules.members_are_allowed;
+        limits_are_kept = rules.limits_are_kept;
       }
 
       same_clauses : DescriptorRules F D b s

@@ -6,6 +6,7 @@ pub mod ModuleTypes
 pub mod Items
 pub mod Laws
 pub mod Told
+pub mod Names
 pub mod Held
 pub mod Listed
 pub mod Sizes

@@ -10,6 +10,7 @@ mod items;
 mod laws;
 mod limits;
 mod module_types;
+mod names;
 mod signatures;
 
 pub use entities::{
@@ -21,6 +22,7 @@ pub use items::{
 };
 pub use laws::{functions_are_decided, items_are_decided};
 pub use module_types::func_type_at;
+pub use names::{MAX_STRING_SIZE, check_name, check_names};
 pub use signatures::function_arity;
 
 /// Passed on from `wasm_validator_types`.

@@ -16,6 +16,7 @@ use Rattle.wasm_validator_checks.specs.WasmValidatorTypes.Entities.{Entity}
 use Rattle.wasm_validator_checks.specs.WasmValidatorTypes.Spaces.{Spaces, with_import, is_exported, is_exact}
 use Rattle.wasm_validator_core.specs.declared.limits.TheConstants.{MAX_FUNCTIONS, MAX_GLOBALS, MAX_TAGS, MAX_DATA_SEGMENTS}
 use Rattle.wasm_validator_core.specs.Answers.{TypesSoFar}
+pub use Rattle.wasm_validator_checks.specs.Names.{is_short}
 pub use Rattle.wasm_validator_checks.specs.Listed.{listed, entity}
 pub use Rattle.wasm_validator_checks.specs.Sizes.{function_size, entity_size, grown}
 
@@ -76,11 +77,15 @@ with_imported F s (tag_extern x) = with_tag s x
 abbrev pub with_named : TypesSoFar → Import UnpackedIndex → Entity → Spaces → Option Spaces
 with_named us i e s = option_map (λ size. record s { imports = with_import s.imports i.module_name i.item_name e; size = size }) (grown s.size (entity_size us e))
 
-abbrev pub add_import : Features → TypesSoFar → Spaces → Import UnpackedIndex → Option Spaces
-add_import F us s i =
+-- an import, its names aside
+abbrev pub add_importing : Features → TypesSoFar → Spaces → Import UnpackedIndex → Option Spaces
+add_importing F us s i =
     if is_importable F (types_of_module us s) i.ty
     then option_and_then (with_named us i (entity s (listed s i.ty))) (with_imported F s (listed s i.ty))
     else None
+
+abbrev pub add_import : Features → TypesSoFar → Spaces → Import UnpackedIndex → Option Spaces
+add_import F us s i = if is_short F i.module_name && is_short F i.item_name then add_importing F us s i else None
 
 -- what an export names of each kind: a function has exactly its type where it is defined or imported so
 abbrev pub function_entity : Features → Spaces → ℕ → ℕ → Entity
@@ -120,8 +125,12 @@ with_export us name e s =
 abbrev pub export_movable : Features → TypesSoFar → Spaces → List ℕ → Entity → Option Spaces
 export_movable F us s name e = if is_movable F e then with_export us name e s else None
 
+-- an export, the length of its name aside
+abbrev pub add_exporting : Features → TypesSoFar → Spaces → Export → Option Spaces
+add_exporting F us s e = option_and_then (export_movable F us s e.name) (exported_entity F s e)
+
 abbrev pub add_export : Features → TypesSoFar → Spaces → Export → Option Spaces
-add_export F us s e = option_and_then (export_movable F us s e.name) (exported_entity F s e)
+add_export F us s e = if is_short F e.name then add_exporting F us s e else None
 
 -- how many parameters and results a function has, by its index, where the type of the function at this index is a
 -- function type

@@ -27,6 +27,7 @@ use Rattle.wasm_readers_types.specs.declared.externs.ExternalKind.TheVariants as
 use Rattle.wasm_validator_checks.specs.WasmValidatorTypeList.Listing.{Listing}
 use Rattle.wasm_validator_checks.specs.WasmValidatorCanonical.Told.{ToldOfAdded}
 use Rattle.wasm_validator_checks.specs.Told.{told_of_function, told_of_defined_table, told_of_memory, told_of_tag, told_of_movable, told_of_extern}
+use Rattle.wasm_validator_checks.specs.Names.{told_of_name, told_of_names}
 use Rattle.wasm_validator_checks.specs.WasmValidatorTypes.Entities.{Entity}
 use Rattle.wasm_validator_checks.specs.WasmValidatorTypes.Spaces.{Spaces, is_exported}
 use Rattle.wasm_validator_core.specs.declared.error.Error.{Error}
@@ -119,16 +120,23 @@ module _ (features : WasmFeatures) (offset : ℕ) where
   told_of_moved (global_extern g) = told_of_movable features offset g
   told_of_moved _ = None
 
-  abbrev pub told_of_import : TypesSoFar → Spaces → Import UnpackedIndex → Option Refusal
-  told_of_import us s i =
+  -- an import, its names aside
+  abbrev pub told_of_importing : TypesSoFar → Spaces → Import UnpackedIndex → Option Refusal
+  told_of_importing us s i =
       option_or (told_of_extern features offset (types_of_module us s) i.ty)
       (option_or (told_of_moved i.ty)
       (option_or (told_of_imported s (listed s i.ty)) (told_of_size offset us s.size (entity s (listed s i.ty)))))
 
-  -- what an export names: it is there, may be exported, and counts in the effective size
+  abbrev pub told_of_import : TypesSoFar → Spaces → Import UnpackedIndex → Option Refusal
+  told_of_import us s i = option_or (told_of_names features offset i) (told_of_importing us s i)
+
+  -- an export: its name, and what it names: it is there, may be exported, and counts in the effective size
   abbrev pub told_of_entity : TypesSoFar → Spaces → ExternalKind → ℕ → Option Entity → Option Refusal
   told_of_entity us s kind index None = Some (plain (fault.UnknownExport (kind_named kind) index) offset)
   told_of_entity us s kind index (Some e) = option_or (told_of_moved e) (told_of_size offset us s.size e)
+
+  abbrev pub told_of_export : TypesSoFar → Spaces → List ℕ → ExternalKind → ℕ → Option Entity → Option Refusal
+  told_of_export us s name kind index e = option_or (told_of_name features offset name) (told_of_entity us s kind index e)
 
   abbrev pub told_of_data_count : ℕ → Option Refusal
   told_of_data_count count =

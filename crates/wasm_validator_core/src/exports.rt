@@ -10,7 +10,7 @@ ghost use Rattle.wasm_validator_checks.specs.WasmValidatorTypes.Entities.{entity
 ghost use Rattle.wasm_validator_checks.specs.WasmValidatorTypeList.DefTypes.{types_of_list};
 ghost use Rattle.wasm_validator_core.specs.Errors.{IsAt};
 ghost use Rattle.wasm_validator_core.specs.Answers.{Adds};
-ghost use Rattle.wasm_validator_core.specs.Items.{exported_function, exported_table, exported_memory, exported_global, exported_tag, exported_entity, with_export, add_export};
+ghost use Rattle.wasm_validator_core.specs.Items.{exported_function, exported_table, exported_memory, exported_global, exported_tag, exported_entity, with_export, add_exporting};
 ghost use Rattle.wasm_validator_core.specs.Told.{TellsExport, told_of_size, told_of_entity_there, told_of_entity};
 ghost use Rattle.wasm_readers_errors.specs.Refusals.{refused};
 
@@ -150,7 +150,7 @@ fn name_export<A: Allocator + Copy>(
     Ok(())
 }
 
-/// Adds one export.
+/// Adds one export, however long its name is.
 pub(crate) fn add_one_export<A: Allocator + Copy>(
     features: WasmFeatures,
     alloc: A,
@@ -159,7 +159,7 @@ pub(crate) fn add_one_export<A: Allocator + Copy>(
     export: &Export,
     offset: u64,
 ) -> Result<(), Error<A>>
-    ensures added { Adds result (add_export (features_of features) (types_of_list list.now)
+    ensures added { Adds result (add_exporting (features_of features) (types_of_list list.now)
         spaces.old (export_of export.now)) spaces.new }
     ensures types { spaces.new.types ≡ spaces.old.types }
     ensures place { IfErr result (IsAt offset) }

@@ -8,9 +8,9 @@ ghost use Rattle.wasm_validator_checks.specs.WasmValidatorTypes.Entities.{entity
 ghost use Rattle.wasm_validator_checks.specs.WasmValidatorTypeList.DefTypes.{types_of_list};
 ghost use Rattle.wasm_validator_core.specs.Errors.{IsAt};
 ghost use Rattle.wasm_validator_core.specs.Answers.{Adds};
-ghost use Rattle.wasm_validator_core.specs.Items.{with_imported, with_named, add_import};
+ghost use Rattle.wasm_validator_core.specs.Items.{with_imported, with_named, add_importing};
 ghost use Rattle.wasm_validator_core.specs.Ready.{AreHeld, IsTyped};
-ghost use Rattle.wasm_validator_core.specs.Told.{Tells, told_of_imported, told_of_size, told_of_import};
+ghost use Rattle.wasm_validator_core.specs.Told.{Tells, told_of_imported, told_of_size, told_of_importing};
 
 use crate::error::Error;
 use crate::items::{place_function, place_imported_global, place_memory, place_table, place_tag};
@@ -80,7 +80,7 @@ fn name_import<A: Allocator + Copy>(
     Ok(())
 }
 
-/// Adds one import.
+/// Adds one import, whatever its names.
 pub(crate) fn add_one_import<A: Allocator + Copy>(
     features: WasmFeatures,
     list: &TypeList<A>,
@@ -89,11 +89,11 @@ pub(crate) fn add_one_import<A: Allocator + Copy>(
     offset: u64,
 ) -> Result<(), Error<A>>
     requires { AreHeld list.now spaces.old.types }
-    ensures added { Adds result (add_import (features_of features) (types_of_list list.now)
+    ensures added { Adds result (add_importing (features_of features) (types_of_list list.now)
         spaces.old (import_of import.now)) spaces.new }
     ensures types { spaces.new.types ≡ spaces.old.types }
     ensures place { IfErr result (IsAt offset) }
-    ensures told { Tells result (told_of_import features offset (types_of_list list.now) spaces.old
+    ensures told { Tells result (told_of_importing features offset (types_of_list list.now) spaces.old
         (import_of import.now)) }
 {
     let ty = listed_type_ref(features, list, known_ids(list, spaces), import.ty, offset)?;

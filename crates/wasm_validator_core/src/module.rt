@@ -23,7 +23,7 @@ ghost use Rattle.wasm_validator_core.specs.Functions.{IsTypeOfFunction, IsUnknow
 ghost use Rattle.wasm_validator_core.specs.Ready.{IsOpenFor, AreIdsOf, AreHeld};
 ghost use Rattle.wasm_validator_core.specs.Machine.{add_group};
 ghost use Rattle.wasm_validator_core.specs.Items.{types_of_module, listed, entity, exported_function, exported_entity, arity_of_function, is_startable, add_import, add_function, with_table, add_table, add_memory, with_global, add_tag, add_export};
-ghost use Rattle.wasm_validator_core.specs.Told.{Tells, TellsExport, told_of_added_function, told_of_table_limit, told_of_added_table, told_of_added_memory, told_of_limit, told_of_added_tag, ToldOfAddedGroup, told_of_import, told_of_entity_there, told_of_entity, told_of_function_type, told_of_start};
+ghost use Rattle.wasm_validator_core.specs.Told.{Tells, TellsExport, told_of_added_function, told_of_table_limit, told_of_added_table, told_of_added_memory, told_of_limit, told_of_added_tag, ToldOfAddedGroup, told_of_import, told_of_entity_there, told_of_export, told_of_function_type, told_of_start};
 ghost use Rattle.wasm_readers_errors.specs.Refusals.{refused};
 ghost use Rattle.wasm_validator_checks.specs.Told.{told_of_extern, told_of_defined_table};
 
@@ -45,7 +45,7 @@ use wasm_readers::{
 use wasm_readers_types::RefType;
 use wasm_validator_checks::validator_canonical::{InternRecGroup, intern_rec_group_of};
 use wasm_validator_checks::validator_types::{EntityType, IndexSpaces, TypeList};
-use wasm_validator_checks::{entity_type, known_ids, listed_type_ref};
+use wasm_validator_checks::{check_name, check_names, entity_type, known_ids, listed_type_ref};
 
 /// A module as far as it has been read: its index spaces (Core Specification 3.0, Validation,
 /// Conventions, Contexts). A contract sees them as lists.
@@ -158,6 +158,7 @@ impl<A: Allocator + Copy> Module<A> {
         ensures told { Tells result (told_of_import features offset (types_of_list list.now)
             self.old (import_of import.now)) }
     {
+        check_names(features, import, offset)?;
         add_one_import(features, list, &mut self.spaces, import, offset)
     }
 
@@ -369,10 +370,11 @@ impl<A: Allocator + Copy> Module<A> {
         ensures types { self.new.types ≡ self.old.types }
         ensures place { IfErr result (IsAt offset) }
         ensures told { TellsExport self.old export.now.name.now offset result
-            (told_of_entity features offset (types_of_list list.now) self.old export.now.kind
-            export.now.index (exported_entity (features_of features) self.old
-            (export_of export.now))) }
+            (told_of_export features offset (types_of_list list.now) self.old
+            export.now.name.now export.now.kind export.now.index (exported_entity
+            (features_of features) self.old (export_of export.now))) }
     {
+        check_name(features, export.name, offset)?;
         add_one_export(features, alloc, list, &mut self.spaces, export, offset)
     }
 

@@ -5,12 +5,15 @@ use Rattle.std.specs.Prelude.{ℕ, Bool, true, not, List, [], ◌∷◌, Option,
 use Rattle.std.specs.Option.{option_or}
 use Rattle.wasm_readers_errors.specs.WasmSpec.Syntax.{AbstractHeap, any_heap, eq_heap, i31_heap, struct_heap, array_heap, none_heap, func_heap, nofunc_heap, extern_heap, noextern_heap, exn_heap, noexn_heap, cont_heap, nocont_heap, Heap, abstract_heap, concrete, exact, Ref, Val, i32, i64, f32, f64, v128, reference, Storage, i8, i16, unpacked, Field, Comp, func, array, struct, cont}
 use Rattle.wasm_readers_errors.specs.WasmSpec.ValueTypes.{is_without_gc_types}
+use Rattle.wasm_readers_errors.specs.WasmSpec.CrateLimits.{most_params, most_results, most_fields, is_within}
 use Rattle.wasm_readers_errors.specs.WasmReadersFeatures.On.{has_flag}
-use Rattle.wasm_readers_errors.specs.Refusals.{lack_if}
+use Rattle.wasm_spec_rules.specs.FeatureFlags.{features_of}
+use Rattle.wasm_readers_errors.specs.Refusals.{plain, unless, lack_if}
 use Rattle.wasm_readers_errors.specs.declared.error.Fault.{Fault}
 use Rattle.wasm_readers_errors.specs.declared.error.Fault.TheVariants as fault
 use Rattle.wasm_readers_errors.specs.declared.error.Rule.TheVariants.{Floats, Simd, MultiValue}
-use Rattle.wasm_readers_errors.specs.declared.type_rules.GroupRule.TheVariants.{Arrays, ArrayGcTypes, Structs, StructGcTypes, Continuations, ContinuationGcTypes}
+use Rattle.wasm_readers_errors.specs.declared.type_rules.GroupRule.{GroupRule}
+use Rattle.wasm_readers_errors.specs.declared.type_rules.GroupRule.TheVariants.{Arrays, ArrayGcTypes, Structs, StructGcTypes, Continuations, ContinuationGcTypes, FunctionParams, FunctionReturns, StructFields}
 use Rattle.wasm_readers_errors.specs.declared.type_rules.ValueTypeRule.{ValueTypeRule}
 use Rattle.wasm_readers_errors.specs.declared.type_rules.ValueTypeRule.TheVariants.{ReferenceTypes, IndexReferences, ExactReferences, SharedReferences, GcTypes, NonNullable, GcHeapTypes, ExceptionReferences, ContinuationReferences}
 use Rattle.wasm_readers_errors.specs.declared.error.Refusal.{Refusal}
@@ -76,10 +79,23 @@ module _ (features : WasmFeatures) (offset : ℕ) where
   lack_for_form proposal form gc_types behind = option_or (lack_if true features proposal form offset) (option_or (lack_if true features GC_TYPES gc_types offset) behind)
 
   -- composite types: the form before its fields, and the number of results behind their types
-  abbrev pub told_of_comp : {R : Type 0} → Comp R → Option Refusal
-  told_of_comp (func ps rs) =
+  abbrev pub told_of_form : {R : Type 0} → Comp R → Option Refusal
+  told_of_form (func ps rs) =
       option_or (first_told told_of_val ps)
       (option_or (first_told told_of_val rs) (lack_if (nat_lt 1 (length rs)) features MULTI_VALUE (fault.Rule MultiValue) offset))
-  told_of_comp (array x) = lack_for_form GC (fault.Group Arrays) (fault.Group ArrayGcTypes) (told_of_field x)
-  told_of_comp (struct xs) = lack_for_form GC (fault.Group Structs) (fault.Group StructGcTypes) (first_told told_of_field xs)
-  told_of_comp (cont r) = lack_for_form STACK_SWITCHING (fault.Group Continuations) (fault.Group ContinuationGcTypes) None
+  told_of_form (array x) = lack_for_form GC (fault.Group Arrays) (fault.Group ArrayGcTypes) (told_of_field x)
+  told_of_form (struct xs) = lack_for_form GC (fault.Group Structs) (fault.Group StructGcTypes) (first_told told_of_field xs)
+  told_of_form (cont r) = lack_for_form STACK_SWITCHING (fault.Group Continuations) (fault.Group ContinuationGcTypes) None
+
+  -- more than this limit, where the limits are asked for; no proposal lifts that
+  abbrev pub told_of_count : ℕ → ℕ → GroupRule → Option Refusal
+  told_of_count most count rule = unless (is_within (features_of features) most count) (plain (fault.Group rule) offset)
+
+  abbrev pub told_of_limits : {R : Type 0} → Comp R → Option Refusal
+  told_of_limits (func ps rs) = option_or (told_of_count most_params (length ps) FunctionParams) (told_of_count most_results (length rs) FunctionReturns)
+  told_of_limits (struct xs) = told_of_count most_fields (length xs) StructFields
+  told_of_limits _ = None
+
+  -- the proposals before the limits
+  abbrev pub told_of_comp : {R : Type 0} → Comp R → Option Refusal
+  told_of_comp c = option_or (told_of_form c) (told_of_limits c)

@@ -10,7 +10,10 @@ mod forwarded;
 mod resources;
 mod value_types;
 
-pub use composite_types::check_composite_type;
+pub use composite_types::{
+    MAX_WASM_FUNCTION_PARAMS, MAX_WASM_FUNCTION_RETURNS, MAX_WASM_STRUCT_FIELDS,
+    check_composite_type,
+};
 pub use declared::{is_above_bottom, is_shared, matches_kind, same_index};
 pub use resources::WasmModuleResources;
 pub use value_types::{check_ref_type, check_value_type};

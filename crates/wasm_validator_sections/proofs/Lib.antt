@@ -9,6 +9,7 @@ pub mod Singles
 pub mod ItemSteps
 pub mod ConstantSections
 pub mod PlainSections
+pub mod Exporting
 pub mod Forms
 pub mod Reading
 pub mod SectionEntries

@@ -43,6 +43,10 @@ module _ {A T S V : Type 0} (reads : List ℕ → Option (V × List ℕ)) (adds 
       added_told reads adds IsNone (λ (p : ℕ) (u : S) (w : V) (e : Error A). TellsAt p (told p u w) e) (λ (x : S). ⊤) stop s (rest reader) v more read r place from_end
       (told_at r (adds s v) new place (told place s v) added tells at)
 
+  -- the same of what is told by a relation
+  pub told_of_read : (tells : ℕ → S → V → Error A → Type 0) → IfErr r (OfContent (λ e. IsNone (adds s v) × tells place s v e)) → IfErr r (OfContent (tells_read reads adds IsNone tells stop s (rest reader)))
+  told_of_read tells h = added_told reads adds IsNone tells (λ (x : S). ⊤) stop s (rest reader) v more read r place from_end h
+
   -- where only some of what it leads to is accepted
   module _ (P : S → Type 0) (added : AddsWhere P r (adds s v) new) where
     tells_nowhere : (Q : Error A → Type 0) (a : Result T (Error A)) → AddsWhere P a (adds s v) new → IfErr a (IsAt place) → IfErr a Q → IfErr a (OfContent (λ e. IsNowhere P (adds s v) × (IsAt place e × Q e)))

@@ -31,7 +31,7 @@ use Rattle.wasm_validator_items.specs.WasmValidatorCore.Answers.{TypesSoFar, IsN
 use Rattle.wasm_validator_items.specs.WasmValidatorCore.Errors.{IsAt, IfContent}
 use Rattle.wasm_validator_items.specs.WasmValidatorCore.Items.{add_import, add_function, add_memory, add_tag, add_export, exported_entity}
 use Rattle.wasm_validator_items.specs.WasmValidatorCore.Machine.{add_group}
-use Rattle.wasm_validator_items.specs.WasmValidatorCore.Told.{told_of_import, told_of_added_function, told_of_added_memory, told_of_added_tag, ToldOfAddedGroup, told_of_entity}
+use Rattle.wasm_validator_items.specs.WasmValidatorCore.Told.{told_of_import, told_of_added_function, told_of_added_memory, told_of_added_tag, ToldOfAddedGroup, told_of_export}
 pub use Rattle.wasm_validator_items.specs.Telling.{IsNone, Either, Read, Added, OfContent, TellsFormat, TellsAt, TellsEach, TellsCount}
 pub use Rattle.wasm_validator_items.specs.Answers.{StandsBetween}
 
@@ -61,7 +61,7 @@ module _ {A : Type 0} where
     pub record TellsOfExport (place : ℕ) (s : Spaces) (x : Export) (e : Error A) : Type 0 where
       pub kind : ExternalKind
       pub is_kind : kind_of kind ≡ x.kind
-      pub tells : TellsNamedAt s x.name place (told_of_entity features place us s kind x.index (exported_entity (features_of features) s x)) e
+      pub tells : TellsNamedAt s x.name place (told_of_export features place us s x.name kind x.index (exported_entity (features_of features) s x)) e
 
   abbrev pub tells_function : TypesSoFar → ℕ → Spaces → ℕ → Error A → Type 0
   tells_function us place s x e = TellsAt place (told_of_added_function place us s x) e

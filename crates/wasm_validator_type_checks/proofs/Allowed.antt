@@ -6,6 +6,7 @@ use Rattle.std.proofs.lemmas.List.{length-map, map-append}
 use Rattle.wasm_spec.specs.Syntax.{Heap, abstract_heap, concrete, exact, map_heap, Val, i32, i64, f32, f64, v128, reference, map_val, Storage, i8, i16, unpacked, map_storage, Field, map_field, Comp, func, array, struct, cont, map_comp}
 use Rattle.wasm_spec.specs.Features.{Features}
 use Rattle.wasm_spec.specs.ValueTypes.{implies, allows_heap, allows_val, allows_storage}
+use Rattle.wasm_spec.specs.CrateLimits.{most_params, most_results, most_fields, is_within, is_limited}
 use Rattle.wasm_spec.specs.GroupRules.{storages, field_storage, has_many_results, is_array, is_struct, is_cont}
 use Rattle.wasm_validator_resources.specs.Allowed.{allows_comp}
 
@@ -72,10 +73,17 @@ module _ {R S : Type 0} (f : R → S) (F : Features) where
   storages_allowed [] = refl
   storages_allowed (s ∷ ss) = λ i. storage_allowed s i && storages_allowed ss i
 
+  limited_map : (c : Comp R) → is_limited F (map_comp f c) ≡ is_limited F c
+  limited_map (func ps rs) = λ i. is_within F most_params (length-map ps (map_val f) i) && is_within F most_results (length-map rs (map_val f) i)
+  limited_map (array x) = refl
+  limited_map (struct xs) = ap (is_within F most_fields) (length-map xs (map_field f))
+  limited_map (cont r) = refl
+
   pub comp_allowed : (c : Comp R) → allows_comp F (map_comp f c) ≡ allows_comp F c
   comp_allowed c = λ i.
-      (ap (list_all (allows_storage F)) (storages_map f c) ∙ storages_allowed (storages c)) i
+      ((ap (list_all (allows_storage F)) (storages_map f c) ∙ storages_allowed (storages c)) i
       && (implies (many_map f c i) F.multi_value
       && implies (array_map f c i) (F.gc && F.gc_types)
       && implies (struct_map f c i) (F.gc && F.gc_types)
-      && implies (cont_map f c i) (F.stack_switching && F.gc_types))
+      && implies (cont_map f c i) (F.stack_switching && F.gc_types)))
+      && limited_map c i

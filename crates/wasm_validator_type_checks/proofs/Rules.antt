@@ -7,10 +7,11 @@ use Rattle.wasm_spec.specs.Syntax.{Sub, map_sub}
 use Rattle.wasm_spec.specs.Features.{Features}
 use Rattle.wasm_spec.specs.Declared.{supertype, supertype_of, descriptor_of, described_by, ancestor_at}
 use Rattle.wasm_spec.specs.ValueTypes.{implies, allows_storage}
+use Rattle.wasm_spec.specs.CrateLimits.{is_limited}
 use Rattle.wasm_spec.specs.Matching.{MatchesSub, is_shared_storage}
 use Rattle.wasm_spec.specs.GroupRules.{storages, has_many_results, is_array, is_struct, is_cont, IsContinuationOfFunction, OfSupertype, TypeRules, DescriptorRules}
 use Rattle.wasm_validator_type_list.specs.Grouped.{MatchesDeclared}
-use Rattle.wasm_validator_resources.specs.Allowed.{allows_form, allows_comp}
+use Rattle.wasm_validator_resources.specs.Allowed.{allows_form, proposals_allow, allows_comp}
 use Rattle.wasm_validator_type_checks.specs.Rules.{Declares, CompositeRules, allows_extending, allows_clauses, HasSameFinality, HasDescriptorLike, DescribesLike, DescriptorDescribes, DescribedHasDescriptor, DescriptorHasSameFinality, IsShallow, MayExtend, ExtendsClauses}
 use Rattle.wasm_validator_type_checks.proofs.Allowed.{struct_map}
 use Rattle.wasm_validator_type_checks.proofs.Decided.{implied, implies_from, both, both_from, is_some_map, nothing_there}
@@ -43,7 +44,8 @@ module _ {R : Type 0} (F : Features) (D : R → Option (Sub R)) (s : Sub R) wher
       → IsContinuationOfFunction D s.comp → CompositeRules F D s
   composite_rules threads allowed members continuation =
       let c = s.comp in
-      let all = both (list_all (allows_storage F) (storages c)) (allows_form F c) allowed in
+      let whole = both (proposals_allow F c) (is_limited F c) allowed in
+      let all = both (list_all (allows_storage F) (storages c)) (allows_form F c) whole.0 in
       let many = implies (has_many_results c) F.multi_value in
       let arrays = implies (is_array c) (F.gc && F.gc_types) in
       let structs = implies (is_struct c) (F.gc && F.gc_types) in
@@ -63,6 +65,7 @@ module _ {R : Type 0} (F : Features) (D : R → Option (Sub R)) (s : Sub R) wher
         continuation_needs_gc_types = λ h. (both F.stack_switching F.gc_types (implied (is_cont c) (F.stack_switching && F.gc_types) last.1 h)).1;
         continuation_is_of_function = continuation;
         members_are_allowed = all.0;
+        limits_are_kept = whole.1;
       }
 
   pub composite_allowed : CompositeRules F D s → allows_comp F s.comp ≡ true
@@ -72,13 +75,15 @@ module _ {R : Type 0} (F : Features) (D : R → Option (Sub R)) (s : Sub R) wher
       let arrays = implies (is_array c) (F.gc && F.gc_types) in
       let structs = implies (is_struct c) (F.gc && F.gc_types) in
       let conts = implies (is_cont c) (F.stack_switching && F.gc_types) in
-      both_from (list_all (allows_storage F) (storages c)) (allows_form F c) r.members_are_allowed
+      both_from (proposals_allow F c) (is_limited F c)
+      (both_from (list_all (allows_storage F) (storages c)) (allows_form F c) r.members_are_allowed
       (both_from (many && arrays && structs) conts
       (both_from (many && arrays) structs
       (both_from many arrays (implies_from (has_many_results c) F.multi_value r.many_results_need_multi_value)
       (implies_from (is_array c) (F.gc && F.gc_types) (λ h. both_from F.gc F.gc_types (r.array_needs_gc h) (r.array_needs_gc_types h))))
       (implies_from (is_struct c) (F.gc && F.gc_types) (λ h. both_from F.gc F.gc_types (r.struct_needs_gc h) (r.struct_needs_gc_types h))))
-      (implies_from (is_cont c) (F.stack_switching && F.gc_types) (λ h. both_from F.stack_switching F.gc_types (r.continuation_needs_stack_switching h) (r.continuation_needs_gc_types h))))
+      (implies_from (is_cont c) (F.stack_switching && F.gc_types) (λ h. both_from F.stack_switching F.gc_types (r.continuation_needs_stack_switching h) (r.continuation_needs_gc_types h)))))
+      r.limits_are_kept
 
   pub shared_allowed : CompositeRules F D s → implies s.shared F.shared_everything_threads ≡ true
   shared_allowed r = implies_from s.shared F.shared_everything_threads r.shared_needs_shared_everything_threads
@@ -144,6 +149,7 @@ module _ {R : Type 0} (F : Features) (D : R → Option (Sub R)) (a : R) (s : Sub
     continuation_needs_gc_types = c.continuation_needs_gc_types;
     continuation_is_of_function = c.continuation_is_of_function;
     members_are_allowed = c.members_are_allowed;
+    limits_are_kept = c.limits_are_kept;
   }
 
   pub extending_from : TypeRules F D a s → allows_extending F s ≡ true
@@ -162,6 +168,7 @@ module _ {R : Type 0} (F : Features) (D : R → Option (Sub R)) (a : R) (s : Sub
     continuation_needs_gc_types = r.continuation_needs_gc_types;
     continuation_is_of_function = r.continuation_is_of_function;
     members_are_allowed = r.members_are_allowed;
+    limits_are_kept = r.limits_are_kept;
   }
 
   pub shallow_from : TypeRules F D a s → IsShallow D 64 a

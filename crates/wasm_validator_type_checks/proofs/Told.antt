@@ -7,20 +7,21 @@ use Rattle.std.specs.Option.{option_map, option_or}
 use Rattle.std.proofs.lemmas.List.{length-map}
 use Rattle.wasm_spec.specs.Syntax.{Heap, abstract_heap, concrete, exact, map_heap, Val, i32, i64, f32, f64, v128, reference, map_val, Storage, i8, i16, unpacked, map_storage, Field, map_field, Comp, func, array, struct, cont, map_comp, Sub, map_sub}
 use Rattle.wasm_spec.specs.GroupRules.{IsFunction, IsValidType}
+use Rattle.wasm_spec.specs.CrateLimits.{most_params, most_results, most_fields}
 use Rattle.wasm_validator_resources.specs.WasmSpecRules.FeatureFlags.{features_of}
 use Rattle.wasm_validator_resources.specs.WasmReadersErrors.Refusals.{refused, plain, unless, lack_if}
 use Rattle.wasm_validator_resources.specs.WasmReadersErrors.declared.error.Fault.TheVariants as fault
 use Rattle.wasm_validator_resources.specs.WasmReadersErrors.declared.error.Rule.TheVariants.{MultiValue}
 use Rattle.wasm_validator_resources.specs.WasmReadersErrors.declared.error.Refusal.{Refusal}
 use Rattle.wasm_validator_resources.specs.WasmReadersErrors.declared.type_rules.DescriptorRule.TheVariants.{Descriptors, DescriptorOfNonStruct, DescribesOfNonStruct}
-use Rattle.wasm_validator_resources.specs.WasmReadersErrors.declared.type_rules.GroupRule.TheVariants.{Subtypes, Arrays, ArrayGcTypes, Structs, StructGcTypes}
+use Rattle.wasm_validator_resources.specs.WasmReadersErrors.declared.type_rules.GroupRule.TheVariants.{FunctionParams, FunctionReturns, StructFields, Subtypes, Arrays, ArrayGcTypes, Structs, StructGcTypes}
 use Rattle.wasm_validator_resources.specs.WasmReadersErrors.declared.type_rules.ValueTypeRule.TheVariants.{ReferenceTypes}
 use Rattle.wasm_validator_resources.specs.WasmReadersErrors.WasmReadersFeatures.declared.features.WasmFeatures.{WasmFeatures}
 use Rattle.wasm_validator_resources.specs.WasmReadersErrors.WasmReadersFeatures.declared.features.TheConstants.WasmFeatures.{REFERENCE_TYPES, GC, GC_TYPES, CUSTOM_DESCRIPTORS, MULTI_VALUE}
 use Rattle.wasm_readers_types.specs.declared.types.SubType.{SubType}
 use Rattle.wasm_validator_type_list.specs.WasmValidatorTypeGroups.Groups.{first_of, IsInGroup}
 use Rattle.wasm_validator_type_list.specs.Declares.{declares}
-use Rattle.wasm_validator_resources.specs.Told.{first_told, lack_for_ref, told_of_heap, told_of_val, told_of_storage, told_of_field, told_of_comp}
+use Rattle.wasm_validator_resources.specs.Told.{first_told, lack_for_ref, told_of_heap, told_of_val, told_of_storage, told_of_field, told_of_form, told_of_count, told_of_limits, told_of_comp}
 use Rattle.wasm_validator_type_checks.specs.Told.{Unless, holds, broken, FirstOf, first, second, AtSome, absent, present, told_of_extending, told_of_clauses, ToldOfContinuation, ToldOfType, ToldOfGroup}
 use Rattle.wasm_validator_type_checks.proofs.Allowed.{struct_map}
 use Rattle.wasm_validator_type_checks.proofs.Decided.{is_some_map, is_decided}
@@ -112,14 +113,23 @@ module _ (features : WasmFeatures) (offset : ℕ) where
     field_told : (x : Field R) → told_of_field features offset (map_field f x) ≡ told_of_field features offset x
     field_told x = storage_told x.storage
 
-    pub comp_told : (c : Comp R) → told_of_comp features offset (map_comp f c) ≡ told_of_comp features offset c
-    comp_told (func ps rs) = λ i.
+    form_told : (c : Comp R) → told_of_form features offset (map_comp f c) ≡ told_of_form features offset c
+    form_told (func ps rs) = λ i.
         option_or (first_told_map (map_val f) (told_of_val features offset) (told_of_val features offset) val_told ps i)
         (option_or (first_told_map (map_val f) (told_of_val features offset) (told_of_val features offset) val_told rs i)
         (lack_if (nat_lt 1 (length-map rs (map_val f) i)) features MULTI_VALUE (fault.Rule MultiValue) offset))
-    comp_told (array x) = λ i. option_or (lack_if true features GC (fault.Group Arrays) offset) (option_or (lack_if true features GC_TYPES (fault.Group ArrayGcTypes) offset) (field_told x i))
-    comp_told (struct xs) = λ i. option_or (lack_if true features GC (fault.Group Structs) offset) (option_or (lack_if true features GC_TYPES (fault.Group StructGcTypes) offset) (first_told_map (map_field f) (told_of_field features offset) (told_of_field features offset) field_told xs i))
-    comp_told (cont r) = refl
+    form_told (array x) = λ i. option_or (lack_if true features GC (fault.Group Arrays) offset) (option_or (lack_if true features GC_TYPES (fault.Group ArrayGcTypes) offset) (field_told x i))
+    form_told (struct xs) = λ i. option_or (lack_if true features GC (fault.Group Structs) offset) (option_or (lack_if true features GC_TYPES (fault.Group StructGcTypes) offset) (first_told_map (map_field f) (told_of_field features offset) (told_of_field features offset) field_told xs i))
+    form_told (cont r) = refl
+
+    limits_told : (c : Comp R) → told_of_limits features offset (map_comp f c) ≡ told_of_limits features offset c
+    limits_told (func ps rs) = λ i. option_or (told_of_count features offset most_params (length-map ps (map_val f) i) FunctionParams) (told_of_count features offset most_results (length-map rs (map_val f) i) FunctionReturns)
+    limits_told (array x) = refl
+    limits_told (struct xs) = λ i. told_of_count features offset most_fields (length-map xs (map_field f) i) StructFields
+    limits_told (cont r) = refl
+
+    pub comp_told : (c : Comp R) → told_of_comp features offset (map_comp f c) ≡ told_of_comp features offset c
+    comp_told c = λ i. option_or (form_told c i) (limits_told c i)
 
     pub extending_told : (s : Sub R) → told_of_extending features offset (map_sub f s) ≡ told_of_extending features offset s
     extending_told s = ap (λ b. lack_if (not s.is_final || b) features GC (fault.Group Subtypes) offset) (first_kept f (features_of features) s.supers)

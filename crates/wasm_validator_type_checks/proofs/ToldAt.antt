@@ -5,11 +5,14 @@ use Rattle.wasm_spec.specs.Syntax.{Sub, AbstractHeap, any_heap, eq_heap, i31_hea
 use Rattle.std.specs.Prelude.{nat_lt}
 use Rattle.std.specs.declared.result.Result.{Result}
 use Rattle.wasm_spec.specs.ValueTypes.{is_without_gc_types}
+use Rattle.wasm_spec.specs.CrateLimits.{most_params, most_results, most_fields, is_within}
+use Rattle.wasm_validator_resources.specs.WasmSpecRules.FeatureFlags.{features_of}
 use Rattle.wasm_spec.specs.Declared.{supertype_of}
 use Rattle.wasm_spec.specs.GroupRules.{is_struct}
 use Rattle.wasm_validator_resources.specs.WasmReadersErrors.declared.error.Fault.TheVariants as fault
 use Rattle.wasm_validator_resources.specs.WasmReadersErrors.declared.error.Rule.TheVariants.{Floats, Simd, MultiValue}
-use Rattle.wasm_validator_resources.specs.WasmReadersErrors.declared.type_rules.GroupRule.TheVariants.{Arrays, ArrayGcTypes, Structs, StructGcTypes, Continuations, ContinuationGcTypes, SharedComposites, Subtypes}
+use Rattle.wasm_validator_resources.specs.WasmReadersErrors.declared.type_rules.GroupRule.TheVariants.{Arrays, ArrayGcTypes, Structs, StructGcTypes, Continuations, ContinuationGcTypes, FunctionParams, FunctionReturns, StructFields, SharedComposites, Subtypes}
+use Rattle.wasm_validator_resources.specs.WasmReadersErrors.declared.type_rules.GroupRule.{GroupRule}
 use Rattle.wasm_validator_resources.specs.WasmReadersErrors.declared.type_rules.DescriptorRule.TheVariants.{Descriptors}
 use Rattle.wasm_validator_resources.specs.WasmReadersErrors.declared.type_rules.ValueTypeRule.{ValueTypeRule}
 use Rattle.wasm_validator_resources.specs.WasmReadersErrors.declared.type_rules.ValueTypeRule.TheVariants.{ReferenceTypes, IndexReferences, ExactReferences, SharedReferences, GcTypes, NonNullable, GcHeapTypes, ExceptionReferences, ContinuationReferences}
@@ -21,7 +24,7 @@ use Rattle.wasm_validator_resources.specs.WasmReadersErrors.declared.error.Refus
 use Rattle.wasm_validator_resources.specs.WasmReadersErrors.WasmReadersFeatures.declared.features.WasmFeatures.{WasmFeatures}
 use Rattle.wasm_readers_types.specs.declared.types.SubType.{SubType}
 use Rattle.wasm_validator_type_list.specs.Declares.{declares}
-use Rattle.wasm_validator_resources.specs.Told.{first_told, told_of_abstract, told_of_heap, told_of_val, told_of_storage, told_of_comp}
+use Rattle.wasm_validator_resources.specs.Told.{first_told, told_of_abstract, told_of_heap, told_of_val, told_of_storage, told_of_form, told_of_count, told_of_limits, told_of_comp}
 use Rattle.wasm_validator_type_checks.specs.Told.{clause_of_non_struct, Unless, holds, broken, FirstOf, first, second, AtSome, absent, present, told_of_extending, told_of_clauses, told_before_continuation, ToldOfContinuation, ToldOfExtended, ToldOfExtendedClauses, ToldOfPair, ToldOfType, ToldOfGroup}
 
 module _ (offset : ℕ) where
@@ -73,6 +76,9 @@ module _ (offset : ℕ) where
         here_or (lack_if true features proposal form offset) (option_or (lack_if true features GC_TYPES gc_types offset) behind) (here_lack true features proposal form)
         (here_or (lack_if true features GC_TYPES gc_types offset) behind (here_lack true features GC_TYPES gc_types) h)
 
+    here_count : (most count : ℕ) (rule : GroupRule) → Here (told_of_count features offset most count rule)
+    here_count most count rule = here_unless (is_within (features_of features) most count) (plain (fault.Group rule) offset) refl
+
     module _ {R : Type 0} where
       here_heap : (nullable : Bool) (h : Heap R) → Here (told_of_heap features offset nullable h)
       here_heap nullable (concrete r) = here_ref (not (has_flag GC.0 features)) FUNCTION_REFERENCES IndexReferences
@@ -98,17 +104,28 @@ module _ (offset : ℕ) where
       here_storage i16 = tt
       here_storage (unpacked v) = here_val v
 
-      here_comp : (c : Comp R) → Here (told_of_comp features offset c)
-      here_comp (func ps rs) =
+      here_composite_form : (c : Comp R) → Here (told_of_form features offset c)
+      here_composite_form (func ps rs) =
           let many = lack_if (nat_lt 1 (length rs)) features MULTI_VALUE (fault.Rule MultiValue) offset in
           let results = first_told (told_of_val features offset) rs in
           here_or (first_told (told_of_val features offset) ps) (option_or results many) (here_first (told_of_val features offset) here_val ps)
           (here_or results many (here_first (told_of_val features offset) here_val rs) (here_lack (nat_lt 1 (length rs)) features MULTI_VALUE (fault.Rule MultiValue)))
-      here_comp (array x) = here_form GC (fault.Group Arrays) (fault.Group ArrayGcTypes) (told_of_storage features offset x.storage) (here_storage x.storage)
-      here_comp (struct xs) =
+      here_composite_form (array x) = here_form GC (fault.Group Arrays) (fault.Group ArrayGcTypes) (told_of_storage features offset x.storage) (here_storage x.storage)
+      here_composite_form (struct xs) =
           here_form GC (fault.Group Structs) (fault.Group StructGcTypes) (first_told (λ (x : Field R). told_of_storage features offset x.storage) xs)
           (here_first (λ (x : Field R). told_of_storage features offset x.storage) (λ x. here_storage x.storage) xs)
-      here_comp (cont r) = here_form STACK_SWITCHING (fault.Group Continuations) (fault.Group ContinuationGcTypes) None tt
+      here_composite_form (cont r) = here_form STACK_SWITCHING (fault.Group Continuations) (fault.Group ContinuationGcTypes) None tt
+
+      here_limits : (c : Comp R) → Here (told_of_limits features offset c)
+      here_limits (func ps rs) =
+          here_or (told_of_count features offset most_params (length ps) FunctionParams) (told_of_count features offset most_results (length rs) FunctionReturns)
+          (here_count most_params (length ps) FunctionParams) (here_count most_results (length rs) FunctionReturns)
+      here_limits (array x) = tt
+      here_limits (struct xs) = here_count most_fields (length xs) StructFields
+      here_limits (cont r) = tt
+
+      here_comp : (c : Comp R) → Here (told_of_comp features offset c)
+      here_comp c = here_or (told_of_form features offset c) (told_of_limits features offset c) (here_composite_form c) (here_limits c)
 
   -- rules one after another
   abbrev AllHere : (Option Refusal → Type 0) → Type 0

@@ -6,6 +6,7 @@ use Rattle.wasm_spec.specs.Syntax.{Sub}
 use Rattle.wasm_spec.specs.Features.{Features}
 use Rattle.wasm_spec.specs.Declared.{supertype, supertype_of, descriptor_of, described_by, ancestor_at}
 use Rattle.wasm_spec.specs.ValueTypes.{implies, allows_storage}
+use Rattle.wasm_spec.specs.CrateLimits.{is_limited}
 use Rattle.wasm_spec.specs.Matching.{is_shared_storage}
 use Rattle.wasm_spec.specs.GroupRules.{storages, has_many_results, is_array, is_struct, is_cont, IsContinuationOfFunction, TypeRules, DescriptorRules, IsValidType}
 use Rattle.wasm_readers_types.specs.declared.types.CompositeInnerType.{CompositeInnerType}
@@ -33,6 +34,7 @@ pub record CompositeRules {R : Type 0} (F : Features) (D : R → Option (Sub R))
   pub continuation_needs_gc_types : IsTrue (is_cont s.comp) → IsTrue F.gc_types
   pub continuation_is_of_function : IsContinuationOfFunction D s.comp
   pub members_are_allowed : IsTrue (list_all (allows_storage F) (storages s.comp))
+  pub limits_are_kept : IsTrue (is_limited F s.comp)
 
 -- whether the features allow a sub type to extend or to be extended as it does
 abbrev pub allows_extending : {R : Type 0} → Features → Sub R → Bool
