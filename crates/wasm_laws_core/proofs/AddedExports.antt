@@ -10,6 +10,7 @@ use Rattle.std.proofs.lemmas.Map.Keys.{IsDistinct-push}
 use Rattle.wasm_spec.specs.Syntax.{Extern}
 use Rattle.wasm_spec.specs.BinaryModules.{Export}
 use Rattle.wasm_spec.specs.Features.{Features, canonical}
+use Rattle.wasm_spec.specs.CrateLimits.{IsShortName}
 use Rattle.wasm_spec.specs.Trees.{DefType}
 use Rattle.wasm_spec_rules.specs.Parts.{Parts}
 use Rattle.wasm_spec_rules.specs.Sections.{each}
@@ -20,12 +21,12 @@ use Rattle.wasm_validator_core.specs.WasmValidatorChecks.Items.{is_movable}
 use Rattle.wasm_validator_core.specs.WasmValidatorChecks.Laws.{Stand}
 use Rattle.wasm_validator_types.specs.Entities.{Entity}
 use Rattle.wasm_validator_types.specs.Spaces.{Spaces, is_exported}
-use Rattle.wasm_validator_core.specs.Items.{grown, entity_size, export_movable, add_export}
+use Rattle.wasm_validator_core.specs.Items.{grown, entity_size, is_short, export_movable, add_exporting, add_export}
 use Rattle.wasm_laws_core.specs.Exports.{AreApart, HasSpaces, FitExports, with_exports, ExportsAreAddedBehind}
 use Rattle.wasm_laws_core.specs.Shown.{exported_as, export_row, exported_row, spaces_of}
 use Rattle.wasm_laws_core.specs.Lists.{add_exports}
 use Rattle.wasm_laws_core.specs.Laws.{ExportsAreAdded}
-use Rattle.wasm_laws_core.proofs.Steps.{if_map, passed, law_of_verdict}
+use Rattle.wasm_laws_core.proofs.Steps.{if_map, passed, law_of_verdict, name_decided}
 use Rattle.wasm_laws_core.proofs.Sizes.{IsTyped}
 use Rattle.wasm_laws_core.proofs.ExportNames.{row_names, no_names, apart, taken_names, names_append, names_between}
 use Rattle.wasm_laws_core.proofs.ExportedEntities.{rows_behind, state, entity_for, entity_if, entity_is, movable_decided, exported_size_is, exported_typed}
@@ -90,12 +91,12 @@ module _ (F : Features) (us : List DefType) (C : IndexSpaces) (s : Spaces) (stan
   same_item : (e : Export) (item : Extern ℕ) → exported C e ≡ Some item → (v : IsValidExport F C e) → IsMovableExtern F item
   same_item e item g v = let same : v.item ≡ item = let both : Some v.item ≡ Some item = sym v.exports ∙ g in cc in subst (IsMovableExtern F) same v.movable
 
-  export_case : (rows : List (List ℕ × Entity)) (m : ℕ) (e : Export) (o : Option (Extern ℕ)) → exported C e ≡ o
+  export_case : (rows : List (List ℕ × Entity)) (m : ℕ) (e : Export) → IsShortName F e.name → (o : Option (Extern ℕ)) → exported C e ≡ o
       → Verdict (IsValidExport F C e × (is_exported rows e.name ≡ false) × (m + export_size C e < 1000000))
       (option_and_then (export_movable F us (at_state rows m) e.name) (entity_if F C s same e.index o))
       (at_state (rows ++ row e) (m + export_size C e))
-  export_case rows m e None g = inr ((λ h. let v = h.0 in let both : None ≡ Some v.item = sym g ∙ v.exports in absurd cc), refl)
-  export_case rows m e (Some item) g =
+  export_case rows m e named None g = inr ((λ h. let v = h.0 in let both : None ≡ Some v.item = sym g ∙ v.exports in absurd cc), refl)
+  export_case rows m e named (Some item) g =
       let size : export_size C e ≡ extern_size C.types item = ap (size_if C.types) g in
       let shown : row e ≡ (e.name, entity_of e.index item) ∷ [] = ap (λ o. export_row type_ids e.name (exported_as F exactly e.index o)) g in
       verdict_to
@@ -106,19 +107,27 @@ module _ (F : Features) (us : List DefType) (C : IndexSpaces) (s : Spaces) (stan
       (verdict_as
       _
       _
-      (λ h. (record { item = item; exports = g; movable = h.0 }, h.1, subst (λ n. m + n < 1000000) (sym size) h.2))
+      (λ h. (record { item = item; exports = g; movable = h.0; name = named }, h.1, subst (λ n. m + n < 1000000) (sym size) h.2))
       (λ h. (same_item e item g h.0, h.1, subst (λ n. m + n < 1000000) size h.2))
       (item_verdict rows m e.name e.index item (exported_typed C same.function_types same.tag_types e item g)))
 
   one_export : (rows : List (List ℕ × Entity)) (m : ℕ) (e : Export)
       → Verdict (IsValidExport F C e × (is_exported rows e.name ≡ false) × (m + export_size C e < 1000000)) (add_export F us (at_state rows m) e) (at_state (rows ++ row e) (m + export_size C e))
   one_export rows m e =
+      let next = at_state (rows ++ row e) (m + export_size C e) in
+      let exporting : IsShortName F e.name → Verdict (IsValidExport F C e × (is_exported rows e.name ≡ false) × (m + export_size C e < 1000000)) (add_exporting F us (at_state rows m) e) next = λ named.
       verdict_of
       _
       _
-      (at_state (rows ++ row e) (m + export_size C e))
+      next
       (ap (option_and_then (export_movable F us (at_state rows m) e.name)) (entity_is F C s same rows m e))
-      (export_case rows m e (exported C e) refl)
+      (export_case rows m e named (exported C e) refl) in
+      verdict_as
+      _
+      next
+      (λ h. h.1)
+      (λ h. (h.0.name, h))
+      (if_verdict (is_short F e.name) (add_exporting F us (at_state rows m) e) next (name_decided F e.name) exporting)
 
   -- each export is valid, under a name that isn't taken, and there is room for it
   abbrev Fit : List (List ℕ × Entity) → ℕ → List Export → Type 0

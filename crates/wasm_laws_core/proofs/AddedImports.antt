@@ -1,5 +1,5 @@
 -- Imports, added one after another, are accepted exactly where they are valid, and then the state shows them.
-use Rattle.std.proofs.Common.{◌≡◌, refl, sym, ap, subst, ◌∙◌, ℕ, ◌+◌, ◌≤◌, ◌<◌, Bool, true, false, cond, ltb, List, [], ◌∷◌, ◌++◌, map, length, Some, None, arith, append_assoc, append-nil, length-append}
+use Rattle.std.proofs.Common.{◌≡◌, refl, sym, ap, subst, ◌∙◌, ℕ, ◌+◌, ◌≤◌, ◌<◌, Bool, true, false, ◌&&◌, cond, ltb, List, [], ◌∷◌, ◌++◌, map, length, Some, None, arith, append_assoc, append-nil, length-append}
 use Rattle.std.specs.Option.{option_map, option_and_then}
 use Rattle.std.specs.Bool.{Decides}
 use Rattle.std.proofs.lemmas.Bool.Decides.{Decides-ltb}
@@ -14,7 +14,7 @@ use Rattle.wasm_spec.proofs.SyntaxMaps.{map_table-map, map_global-map}
 use Rattle.wasm_spec_rules.specs.IndexSpaces.{imported, functions_in, tables_in, memories_in, globals_in, tags_in}
 use Rattle.wasm_spec_rules.specs.Contexts.{exact_in}
 use Rattle.wasm_spec_rules.specs.Limits.{most_tables, most_memories}
-use Rattle.wasm_spec_rules.specs.LinkRules.{IsValidImport, extern_size, import_size, sum}
+use Rattle.wasm_spec_rules.specs.LinkRules.{IsValidExtern, IsValidImport, extern_size, import_size, sum}
 use Rattle.wasm_spec_rules.proofs.Verdicts.{Verdict, then_verdict, if_verdict, verdict_as, verdict_to, verdict_of, always}
 use Rattle.wasm_validator_core.specs.WasmValidatorCanonical.Groups.{types_at}
 use Rattle.wasm_validator_core.specs.WasmValidatorCanonical.Indices.{canonical_index}
@@ -25,12 +25,12 @@ use Rattle.wasm_validator_core.proofs.WasmValidatorChecks.Decided.{externs_are_d
 use Rattle.wasm_validator_types.specs.Spaces.{Spaces, with_import}
 use Rattle.wasm_validator_types.specs.Entities.{Entity}
 use Rattle.wasm_validator_core.specs.Items as machine
-use Rattle.wasm_validator_core.specs.Items.{function_size, entity_size, grown, with_imported, with_named, add_import}
+use Rattle.wasm_validator_core.specs.Items.{function_size, entity_size, grown, with_imported, with_named, is_short, add_importing, add_import}
 use Rattle.wasm_laws_core.specs.Shown.{entity_in, listed_table, listed_global, spaces_of}
 use Rattle.wasm_laws_core.specs.Lists.{only_types, only_imports, add_imports}
 use Rattle.wasm_laws_core.specs.Laws.{AreValidImports, ImportsAreAdded}
 use Rattle.wasm_laws_core.specs.Imports.{RoomIn, FitsImport, with_kind, with_entry, OneImportIsAdded}
-use Rattle.wasm_laws_core.proofs.Steps.{if_map, passed, law_of_verdict}
+use Rattle.wasm_laws_core.proofs.Steps.{if_map, passed, law_of_verdict, names_decided}
 use Rattle.wasm_laws_core.proofs.Fronts.{All-front, All-last}
 use Rattle.wasm_laws_core.proofs.Sizes.{valid_typed, entity_size_is}
 use Rattle.wasm_laws_core.proofs.Rooms.{has_room, room_decided}
@@ -167,7 +167,7 @@ module _ (F : Features) (us : List DefType) (ids : List ℕ) (types : List DefTy
   }
 
   -- the names and the size of an import in its index space
-  named_verdict : (s : Spaces) → s.types ≡ ids → (i : Import ℕ) → IsValidImport F types i
+  named_verdict : (s : Spaces) → s.types ≡ ids → (i : Import ℕ) → IsValidExtern F types i.ty
       → Verdict (s.size + extern_size types i.ty < 1000000) (with_named us (map_import written i) (machine.entity s (machine.listed s (map_extern written i.ty))) (with_kind s i.ty)) (entered s i)
   named_verdict s same i valid =
       let more : ℕ = extern_size types i.ty in
@@ -193,16 +193,23 @@ module _ (F : Features) (us : List DefType) (ids : List ℕ) (types : List DefTy
   step_verdict s same i room =
       let x = i.ty in
       let entity = machine.entity s (machine.listed s (map_extern written x)) in
-      let decided : Decides (is_importable F (types_at us s.types) (map_extern written x)) (IsValidImport F types i) =
-      subst (λ js. Decides (is_importable F (types_at us js) (map_extern written x)) (IsValidImport F types i)) (sym same) (externs_are_decided F (canonical F) us ids types stand x) in
+      let decided : Decides (is_importable F (types_at us s.types) (map_extern written x)) (IsValidExtern F types x) =
+      subst (λ js. Decides (is_importable F (types_at us js) (map_extern written x)) (IsValidExtern F types x)) (sym same) (externs_are_decided F (canonical F) us ids types stand x) in
       let placed : Verdict (Room s x) (with_imported F s (machine.listed s (map_extern written x))) (with_kind s x) =
       verdict_of _ _ (with_kind s x) (imported_is F s x) (passed (room_in F s x) (with_kind s x) room) in
+      let importing : Verdict (IsValidExtern F types x × (Room s x × (s.size + extern_size types x < 1000000))) (add_importing F us s (map_import written i)) (entered s i) =
       if_verdict
       (is_importable F (types_at us s.types) (map_extern written x))
       (option_and_then (with_named us (map_import written i) entity) (with_imported F s (machine.listed s (map_extern written x))))
       (entered s i)
       decided
-      (λ valid. then_verdict (with_imported F s (machine.listed s (map_extern written x))) (with_kind s x) (with_named us (map_import written i) entity) (entered s i) placed (λ r. named_verdict s same i valid))
+      (λ valid. then_verdict (with_imported F s (machine.listed s (map_extern written x))) (with_kind s x) (with_named us (map_import written i) entity) (entered s i) placed (λ r. named_verdict s same i valid)) in
+      verdict_as
+      _
+      (entered s i)
+      (λ h. (record { item = h.1.0; module_name = h.0.0; item_name = h.0.1 }, h.1.1))
+      (λ h. ((h.0.module_name, h.0.item_name), (h.0.item, h.1)))
+      (if_verdict (is_short F i.module_name && is_short F i.item_name) (add_importing F us s (map_import written i)) (entered s i) (names_decided F i.module_name i.item_name) (λ names. importing))
 
   abbrev Valid : List (Import ℕ) → Type 0
   Valid is = AreValidImports F types is

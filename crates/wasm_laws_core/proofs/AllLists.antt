@@ -69,7 +69,7 @@ module _ (F : Features) (types : List DefType) where
       → (is : List (Import ℕ)) → All (IsValidImport F types) is → All (IsFunctionType types) (imported adds is)
   all_imported adds each_is [] v = All-nil (IsFunctionType types)
   all_imported adds each_is (i ∷ is) v =
-      All-append (IsFunctionType types) (adds i.ty) (imported adds is) (each_is i.ty (All-head (IsValidImport F types) i is v)) (all_imported adds each_is is (All-tail (IsValidImport F types) i is v))
+      All-append (IsFunctionType types) (adds i.ty) (imported adds is) (each_is i.ty (All-head (IsValidImport F types) i is v).item) (all_imported adds each_is is (All-tail (IsValidImport F types) i is v))
 
 -- the lists one after another, each behind those before it
 module _ (F : Features) (us : List DefType) (ids : List ℕ) (types : List DefType) (s : Stand (canonical F) us ids types) (parts : Parts) where

@@ -209,7 +209,7 @@ module _ (n : ℕ) (ids : List ℕ) (below : All (λ id. id < n) ids) where
       C = index_spaces types parts
 
       imports_in : All (λ (i : Import ℕ). ExternIn i.ty) parts.imports
-      imports_in = All-weaker (IsValidImport F types) (λ (i : Import ℕ). ExternIn i.ty) (λ i g. extern_in i.ty g) parts.imports valid.imports
+      imports_in = All-weaker (IsValidImport F types) (λ (i : Import ℕ). ExternIn i.ty) (λ i (g : IsValidImport F types i). extern_in i.ty g.item) parts.imports valid.imports
 
       functions_in_range : All IsIn C.functions
       functions_in_range = All-append IsIn (imported functions_in parts.imports) parts.functions

@@ -64,7 +64,7 @@ module _ (F : Features) (types : List DefType) where
   imported_in_range : (is : List (Import ℕ)) → All (IsValidImport F types) is → All IsInRange (imported tables_in is)
   imported_in_range [] v = All-nil IsInRange
   imported_in_range (i ∷ is) v =
-      All-append IsInRange (tables_in i.ty) (imported tables_in is) (table_in_range i.ty (All-head (IsValidImport F types) i is v)) (imported_in_range is (All-tail (IsValidImport F types) i is v))
+      All-append IsInRange (tables_in i.ty) (imported tables_in is) (table_in_range i.ty (All-head (IsValidImport F types) i is v).item) (imported_in_range is (All-tail (IsValidImport F types) i is v))
 
   pub tables_in_range : (is : List (Import ℕ)) (ts : List (TableEntry Expression ℕ)) → All (IsValidImport F types) is → All (IsValidTableEntry F types) ts → All IsInRange (imported tables_in is ++ map table_type ts)
   tables_in_range is ts i t =

@@ -52,7 +52,7 @@ module _ (F : Features) (types : List DefType) where
   pub imported_in_range : (is : List (Import ℕ)) → All (IsValidImport F types) is → GlobalsInRange types (imported globals_in is)
   imported_in_range [] v = All-nil IsInRange
   imported_in_range (i ∷ is) v =
-      All-append IsInRange (globals_in i.ty) (imported globals_in is) (global_in_range i.ty (All-head (IsValidImport F types) i is v)) (imported_in_range is (All-tail (IsValidImport F types) i is v))
+      All-append IsInRange (globals_in i.ty) (imported globals_in is) (global_in_range i.ty (All-head (IsValidImport F types) i is v).item) (imported_in_range is (All-tail (IsValidImport F types) i is v))
 
   abbrev pub IsValidEntry : GlobalEntry Expression ℕ → Type 0
   IsValidEntry g = IsValidGlobal F types g.ty

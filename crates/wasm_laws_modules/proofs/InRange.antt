@@ -17,7 +17,7 @@ module _ (F : Features) (types : List DefType) where
   module _ {X : Type 0} (adds : Extern ℕ → List X) (P : X → Type 0) (one : (x : Extern ℕ) → IsValidExtern F types x → All P (adds x)) where
     of_imports : (is : List (Import ℕ)) → All (IsValidImport F types) is → All P (imported adds is)
     of_imports [] v = All-nil P
-    of_imports (i ∷ is) v = All-append P (adds i.ty) (imported adds is) (one i.ty (All-head (IsValidImport F types) i is v)) (of_imports is (All-tail (IsValidImport F types) i is v))
+    of_imports (i ∷ is) v = All-append P (adds i.ty) (imported adds is) (one i.ty (All-head (IsValidImport F types) i is v).item) (of_imports is (All-tail (IsValidImport F types) i is v))
 
   abbrev pub IsTableInRange : Table ℕ → Type 0
   IsTableInRange t = IsRefInRange types t.element

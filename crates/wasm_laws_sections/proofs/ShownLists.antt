@@ -186,11 +186,11 @@ module _ (F : Features) (us : TypesSoFar) (m : Spaces) (C : IndexSpaces) (parts 
       let room = fits.1.0 in
       record {
         types = h.types;
-        functions = indices_behind C.types m.functions C.functions (functions_in i.ty) h.functions (functions_valid F C.types i.ty v) room.few_functions;
-        tables = tables_behind C.types F m.types m.tables C.tables (tables_in i.ty) h.tables (tables_valid F C.types i.ty v) room.few_tables;
+        functions = indices_behind C.types m.functions C.functions (functions_in i.ty) h.functions (functions_valid F C.types i.ty v.item) room.few_functions;
+        tables = tables_behind C.types F m.types m.tables C.tables (tables_in i.ty) h.tables (tables_valid F C.types i.ty v.item) room.few_tables;
         memories = memories_behind F m.memories C.memories (memories_in i.ty) h.memories room.few_memories;
-        globals = globals_behind C.types m.types m.globals C.globals (globals_in i.ty) h.globals (globals_valid F C.types i.ty v) room.few_globals;
-        tags = indices_behind C.types m.tags C.tags (tags_in i.ty) h.tags (tags_valid F C.types i.ty v) room.few_tags;
+        globals = globals_behind C.types m.types m.globals C.globals (globals_in i.ty) h.globals (globals_valid F C.types i.ty v.item) room.few_globals;
+        tags = indices_behind C.types m.tags C.tags (tags_in i.ty) h.tags (tags_valid F C.types i.ty v.item) room.few_tags;
         exports = record { names = h.exports.names; small = fits.1.1 };
         imported = record {
           same = ap (λ bs. bs ++ exact_in i.ty) h.imported.same ∙ sym (import_behind exact_in parts.imports i);

@@ -144,7 +144,7 @@ module _ {R : Type 0} (W : World R) (B : Surroundings R) (u : HasNoSharing W B.f
   opening-holds D (a_loop b) h = h
   opening-holds D (an_if b) h = h
   opening-holds D (a_try b) h = h.1.1
-  opening-holds D (a_try_table b cs) h = front-holds D (block_checks b) (catch_checks cs) h.1
+  opening-holds D (a_try_table b cs) h = front-holds D (block_checks b) (catch_checks cs) h.1.1
 
   pub opened-unshared : (D : Scope R) (x : Opening) (g : Signature R) → Opens W B D x g → AreUnshared W g.takes × AreUnshared W g.gives
   opened-unshared D x g h = block-unshared D (block_of x) h.block g (opening-holds D x h.holds) h.resolves h.signed

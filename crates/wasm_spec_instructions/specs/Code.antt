@@ -1,7 +1,7 @@
 -- Structured code: instructions that contain others, and the flat list that is written for them.
 -- Core Specification 3.0, Structure, Instructions (Control Instructions, Expressions), and Binary Format, Instructions; and for `try` the
 -- legacy exception-handling proposal.
-use Rattle.std.specs.Prelude.{◌≡◌, ℕ, Bool, true, false, List, [], ◌∷◌, ◌++◌}
+use Rattle.std.specs.Prelude.{◌≡◌, ℕ, Bool, true, false, List, [], ◌∷◌, ◌++◌, length}
 use Rattle.wasm_operators.specs.Control as control
 use Rattle.wasm_operators.specs.Control.{Block}
 use Rattle.wasm_operators.specs.Legacy as legacy
@@ -9,7 +9,7 @@ use Rattle.wasm_operators.specs.Instructions as instruction
 use Rattle.wasm_operators.specs.Instructions.{Instruction}
 use Rattle.wasm_operators.specs.declared.control.Catch.{Catch}
 use Rattle.wasm_operator_steps.specs.Machine.{Kind, block_kind, loop_kind, if_kind, try_table_kind, legacy_try_kind, legacy_catch_kind, legacy_catch_all_kind}
-use Rattle.wasm_operator_steps.specs.Actions.{of_tag, OperandTypes, params, Check, has, is_exception, exceptions}
+use Rattle.wasm_operator_steps.specs.Actions.{of_tag, OperandTypes, params, Check, has, is_exception, exceptions, few_clauses}
 use Rattle.wasm_operator_steps.specs.Shapes.{Shape, opening, closing, turning, catching, delegating, nothing, one, block_checks, catch_checks, legacy_checks, shape_of}
 use Rattle.wasm_operator_steps.specs.WasmSpecRules.WasmSpec.Syntax.{i32}
 
@@ -143,7 +143,7 @@ checks_of (a_block b) = block_checks b
 checks_of (a_loop b) = block_checks b
 checks_of (an_if b) = block_checks b
 checks_of (a_try b) = legacy_checks (block_checks b)
-checks_of (a_try_table b cs) = has exceptions ∷ block_checks b ++ catch_checks cs
+checks_of (a_try_table b cs) = has (few_clauses (length cs)) ∷ has exceptions ∷ block_checks b ++ catch_checks cs
 
 -- an `if` takes a number before what its block takes
 abbrev pub condition_of : Opening → OperandTypes
