@@ -1,25 +1,21 @@
 #!/usr/bin/env python3
-"""gate.py LIBRARY FILE..: an admission gate. Each file is let in exactly where it is a valid module. LIBRARY is the path of libruthvelka.so."""
+"""gate.py FILE..: an admission gate, by the package of packaging/python. Each file is let in exactly where it is a valid module."""
 import sys
 
-from ruthvelka import REFUSED, VALID, Library
-
-STANDARD = 32703
+import ruthvelka
 
 
 def main():
-    library = Library(sys.argv[1])
     status = 0
-    for name in sys.argv[2:]:
-        with open(name, "rb") as it:
-            verdict, report, text = library.validate(it.read(), STANDARD)
-        if verdict == VALID:
-            print(f"{name}: ok types {report.types} functions {report.functions} imports {report.imports} exports {report.exports}")
-        elif verdict == REFUSED:
-            print(f"{name}: refused at {report.offset}: {text}")
-        else:
-            print(f"{name}: out of memory")
-        status |= verdict != VALID
+    for name in sys.argv[1:]:
+        with open(name, "rb") as file:
+            data = file.read()
+        try:
+            it = ruthvelka.validate(data)
+            print(f"{name}: ok types {it.types} functions {it.functions} imports {it.imports} exports {it.exports}")
+        except ruthvelka.Refused as why:
+            print(f"{name}: {why}")
+            status = 1
     return status
 
 

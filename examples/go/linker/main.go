@@ -27,16 +27,16 @@ func main() {
 	for place, it := range exports {
 		places[it.Name] = uint32(place)
 	}
-	questions := []ruthvelka.Question{}
+	queries := []ruthvelka.Query{}
 	for wanted, it := range imports {
 		place, found := places[it.Name]
 		if !found {
 			place = uint32(len(exports))
 		}
-		questions = append(questions, ruthvelka.Question{ExportModule: 0, Export: place, ImportModule: 1, Import: uint32(wanted)})
+		queries = append(queries, ruthvelka.Query{Kind: ruthvelka.MayBeGiven, FirstModule: 0, First: place, SecondModule: 1, Second: uint32(wanted)})
 	}
 	words := map[ruthvelka.Answer]string{ruthvelka.No: "not linked", ruthvelka.Yes: "linked", ruthvelka.Unknown: "not exported"}
-	for i, answer := range must(ruthvelka.MayBeGiven(modules, ruthvelka.Standard, questions)) {
+	for i, answer := range must(ruthvelka.Ask(modules, ruthvelka.Standard, queries)) {
 		fmt.Printf("%s.%s: %s\n", imports[i].Module, imports[i].Name, words[answer])
 	}
 }

@@ -1,6 +1,6 @@
 //! `gate FILE..`: an admission gate. Each file is let in exactly where it is a valid module.
 
-use ruthvelka::{validate, Refusal, STANDARD};
+use ruthvelka::Validator;
 use std::process::ExitCode;
 
 fn main() -> ExitCode {
@@ -10,12 +10,16 @@ fn main() -> ExitCode {
             eprintln!("gate: cannot read {name}");
             return ExitCode::from(2);
         };
-        match validate(&bytes, STANDARD) {
-            Ok(it) => println!("{name}: ok types {} functions {} imports {} exports {}", it.types, it.functions, it.imports, it.exports),
+        match Validator::new().validate_all(&bytes) {
+            Ok(it) => {
+                let (types, functions) = (it.core_type_count_in_module(), it.function_count());
+                println!("{name}: ok types {types} functions {functions} imports {} exports {}", it.import_count(), it.export_count());
+            }
             Err(why) => {
-                match why {
-                    Refusal::At { offset, message } => println!("{name}: refused at {offset}: {message}"),
-                    other => println!("{name}: {other:?}"),
+                if why.is_refused() {
+                    println!("{name}: refused at {}: {why:#}", why.offset());
+                } else {
+                    println!("{name}: {why}");
                 }
                 status = ExitCode::from(1);
             }

@@ -1,29 +1,25 @@
 //! `linker EXPORTER IMPORTER`: each import of the second module is looked up among the exports of the first by its own name, and linked where what is
 //! found may be given for it.
 
-use ruthvelka::{ask, sys, Externs, Refusal, STANDARD};
+use ruthvelka::{ask, Answer, Query, Result, Validator, WasmFeatures};
 
-fn link(exporter: &[u8], importer: &[u8]) -> Result<(), Refusal> {
-    let (given, wanted) = (Externs::of(exporter, STANDARD)?, Externs::of(importer, STANDARD)?);
-    let mut queries: Vec<sys::Query> = Vec::new();
-    for (second, import) in wanted.imports.iter().enumerate() {
-        let found = given.exports.iter().position(|it| given.name_of(it) == wanted.name_of(import));
-        queries.push(sys::Query {
-            kind: sys::MAY_BE_GIVEN,
-            first: found.unwrap_or(given.exports.len()) as u32,
-            second_module: 1,
-            second: second as u32,
-            ..sys::Query::default()
-        });
+fn link(exporter: &[u8], importer: &[u8]) -> Result<()> {
+    let mut validator = Validator::new();
+    let exports = validator.imports_and_exports(exporter)?.exports;
+    let imports = validator.imports_and_exports(importer)?.imports;
+    let mut queries = Vec::new();
+    for (number, import) in imports.iter().enumerate() {
+        let found = exports.iter().position(|it| it.name == import.name).unwrap_or(exports.len());
+        queries.push(Query::MayBeGiven { export: (0, found as u32), import: (1, number as u32) });
     }
-    ask(&[exporter, importer], STANDARD, &mut queries)?;
-    for (import, query) in wanted.imports.iter().zip(&queries) {
-        let word = match query.answer {
-            sys::YES => "linked",
-            sys::UNKNOWN => "not exported",
-            _ => "not linked",
+    let answers = ask(&[exporter, importer], WasmFeatures::default(), &queries)?;
+    for (import, answer) in imports.iter().zip(answers) {
+        let word = match answer {
+            Answer::Yes => "linked",
+            Answer::No => "not linked",
+            Answer::Unknown => "not exported",
         };
-        println!("{}.{}: {word}", wanted.module_of(import), wanted.name_of(import));
+        println!("{}.{}: {word}", import.module, import.name);
     }
     Ok(())
 }

@@ -1,0 +1,3 @@
+module ruthvelka.example/ruthvelka
+
+go 1.19

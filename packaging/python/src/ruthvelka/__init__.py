@@ -1,0 +1,16 @@
+"""Validation of WebAssembly modules, by a validator that is proved.
+
+Each call either says what a valid module has, or raises: `Refused` where the bytes are no valid module, `MemoryError` where memory was refused and
+nothing is said of them, and `BadCall` where the call is wrong. So nothing that wasn't validated can be taken for a valid module.
+"""
+from ._calls import (
+    Answer, BadCall, Export, Extern, Import, Kind, Module, Query, QueryKind, Refused, Result, TypeId, Verdict, ask, imports_and_exports, is_valid,
+    validate, validate_list,
+)
+from ._features import VERSION as __version__
+from ._features import WasmFeatures
+
+__all__ = [
+    "Answer", "BadCall", "Export", "Extern", "Import", "Kind", "Module", "Query", "QueryKind", "Refused", "Result", "TypeId", "Verdict",
+    "WasmFeatures", "__version__", "ask", "imports_and_exports", "is_valid", "validate", "validate_list",
+]

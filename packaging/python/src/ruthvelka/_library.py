@@ -1,0 +1,61 @@
+"""The calls of ruthvelka.h, as they are declared there, by ctypes over the shared object that stands in this package."""
+import ctypes
+import os
+
+from ._features import LIBRARY_VERSION
+
+VALID, REFUSED, NO_MEMORY, NOT_CHECKED, BAD_CALL = range(5)
+NONE = 0xFFFFFFFF
+
+
+class Report(ctypes.Structure):
+    _fields_ = [(it, ctypes.c_uint64) for it in ("offset", "missing_features", "message_length", "imports", "exports", "names_length")]
+    _fields_ += [(it, ctypes.c_uint32) for it in ("verdict", "function", "types", "functions", "tables", "memories", "globals", "tags")]
+
+
+class Extern(ctypes.Structure):
+    _fields_ = [(it, ctypes.c_uint64) for it in ("module_start", "module_length", "name_start", "name_length")]
+    _fields_ += [(it, ctypes.c_uint32) for it in ("kind", "type_id")]
+
+
+class Bytes(ctypes.Structure):
+    _fields_ = [("bytes", ctypes.c_char_p), ("length", ctypes.c_size_t)]
+
+
+class Query(ctypes.Structure):
+    _fields_ = [(it, ctypes.c_uint32) for it in ("kind", "first_module", "first", "second_module", "second", "answer")]
+
+
+def place() -> str:
+    """The path of the shared object: that of this package, or, in a tree of sources, which has none, the one that RUTHVELKA_LIBRARY names."""
+    own = os.path.join(os.path.dirname(os.path.abspath(__file__)), "libruthvelka.so.0")
+    if os.path.isfile(own):
+        return own
+    named = os.environ.get("RUTHVELKA_LIBRARY")
+    if not named:
+        raise ImportError(f"the package has no shared object: there is no {own}, and RUTHVELKA_LIBRARY names none")
+    return named
+
+
+def load() -> ctypes.CDLL:
+    word, number, size, text, report = ctypes.c_uint64, ctypes.c_uint32, ctypes.c_size_t, ctypes.c_char_p, ctypes.POINTER(Report)
+    numbers, externs, modules = ctypes.POINTER(number), ctypes.POINTER(Extern), ctypes.POINTER(Bytes)
+    calls = {
+        "version": (number, []),
+        "feature": (word, [text, size]),
+        "feature_name": (size, [word, text, size]),
+        "validate_with_ids": (number, [text, size, word, text, size, report, numbers, size, numbers, size]),
+        "validate_with_externs": (number, [text, size, word, text, size, report, externs, size, externs, size, text, size]),
+        "validate_list": (number, [modules, size, word, report, size, numbers, size, numbers, size]),
+        "validate_list_with_queries": (number, [modules, size, word, report, size, ctypes.POINTER(Query), size]),
+    }
+    library = ctypes.CDLL(place())
+    for name, (result, arguments) in calls.items():
+        call = getattr(library, f"ruthvelka_{name}")
+        call.restype, call.argtypes = result, arguments
+    if library.ruthvelka_version() // 1000 != LIBRARY_VERSION // 1000:
+        raise ImportError(f"{place()} is of version {library.ruthvelka_version()}, and this package is for {LIBRARY_VERSION}")
+    return library
+
+
+calls = load()
