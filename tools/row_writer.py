@@ -1,0 +1,48 @@
+"""What the tools that write rows have in common: each makes whole files of rows as texts, and this writes or compares them."""
+import os
+import sys
+
+DATA = os.path.join(os.path.dirname(os.path.dirname(os.path.abspath(__file__))), "crates", "test_all", "data")
+
+
+def head_of_modules():
+    """The lines that describe the form of rows of modules: the head of modules.rows."""
+    with open(os.path.join(DATA, "modules", "modules.rows"), encoding="utf-8") as lines:
+        return lines.read().split("\n\n")[0].splitlines()
+
+
+def difference(kept, made):
+    """The first line in which a file that is kept differs from the one that is made."""
+    for number, (one, other) in enumerate(zip(kept.split("\n"), made.split("\n")), 1):
+        if one != other:
+            return f"line {number}: `{one[:200]}` in place of `{other[:200]}`"
+    return f"it has {len(kept)} characters in place of {len(made)}" if kept != made else ""
+
+
+def read(path):
+    try:
+        with open(path, encoding="utf-8", newline="") as it:
+            return it.read()
+    except OSError:
+        return ""
+
+
+def main(files, lacking, words):
+    """Writes these files, each text under its path below DATA, or with `--check` compares them with those that are there, and prints for each whether it is
+    the same byte for byte. `lacking` names the cases for which no answer is known: they have to name one."""
+    passed = failed = 0
+    for title in lacking:
+        failed += 1
+        print(f"FAILED: no answer is known, and the case names none: {title}")
+    if words not in ([], ["--check"]):
+        print("usage: [--check]", file=sys.stderr)
+        return 2
+    for path, text in files.items():
+        if not words:
+            with open(os.path.join(DATA, path), "w", encoding="utf-8", newline="") as out:
+                out.write(text)
+        problem = difference(read(os.path.join(DATA, path)), text)
+        passed, failed = passed + (not problem), failed + bool(problem)
+        print(f"FAILED: {path}: {problem}" if problem else f"ok: {path}: {sum(1 for it in text.split(chr(10)) if it and it[0] != '#')} rows")
+    print(f"{passed} passed, {failed} failed")
+    return 1 if failed else 0
