@@ -1,7 +1,9 @@
-//! An admission gate: a module is let in exactly where it is valid.
+//! An admission gate: a module is let in exactly where it is valid and keeps the limits of
+//! `CRATE_LIMITS`, which bound the work on it by its bytes. Who takes modules from strangers limits
+//! their bytes besides.
 
 use std::io;
-use wasm_validator::{ValidatorId, validate};
+use wasm_validator::{Flags, Validator, ValidatorId, WasmFeatures};
 
 /// A module with one function type.
 const ONE_TYPE: &[u8] = b"\0asm\x01\0\0\0\x01\x06\x01\x60\x01\x7f\x01\x7c";
@@ -10,8 +12,11 @@ const SHRINKING_MEMORY: &[u8] = b"\0asm\x01\0\0\0\x05\x04\x01\x01\x02\x01";
 
 /// Lets two modules in, or turns them away.
 pub fn run<R: Print + AllocGlobal>(rt: &R) -> io::Result<()> {
+    let features = WasmFeatures::STANDARD.union(WasmFeatures::CRATE_LIMITS);
     for bytes in [ONE_TYPE, SHRINKING_MEMORY] {
-        match validate(rt.alloc(), bytes, ValidatorId::from_number(0)) {
+        let id = ValidatorId::from_number(0);
+        let mut gate = Validator::new_with_features(rt.alloc(), features, id);
+        match gate.validate_all(bytes) {
             Ok(_types) => println!(rt; "let in")?,
             Err(error) if error.is_out_of_memory() => println!(rt; "try again")?,
             Err(error) => println!(rt; "turned away, for byte {}: {error}", error.offset())?,
