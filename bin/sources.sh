@@ -36,8 +36,8 @@ make_room() {
 look_for_kit() {
     local command
     kit='' kit_is=''
-    command=$(command -v rt) || return
-    command=$(readlink -f "$command")
+    hash rt 2>/dev/null || return
+    command=$(readlink -f "${BASH_CMDS[rt]}")
     kit=${command%/*/*}
     read -r kit_is 2>/dev/null <"$kit/KIT-ID" || kit_is=$(rt version | head -n 1)
     kit_is="$kit $kit_is"
@@ -67,37 +67,49 @@ crates_of_program() {
         END { count = split(tops, chosen, " "); for (i = 1; i <= count; i++) visit(chosen[i]) }' "$top/crates.txt"
 }
 
-# Calls `find` on the program's sources, from the top.
-find_sources() {
+# The places of the sources of a program of this kind, from the top: one that is compiled is made of code alone, and one that is proved of what is
+# stated and proved of it too.
+places_of_sources() {
+    local parts='crates/&/src'
+    if [ "$1" = proved ]; then parts='crates/&/src crates/&/specs crates/&/proofs'; fi
+    echo crates.txt $(crates_of_program | sed "s,.*,$parts,")
+}
+
+# A checksum of the sources of a program of this kind, with their places.
+sum_of_sources() {
     (
         cd "$top" || exit
-        find crates.txt $(crates_of_program | sed 's,.*,crates/&/src crates/&/specs crates/&/proofs,') -type f "$@" 2>/dev/null
+        find -L $(places_of_sources "$1") -type f -print0 2>/dev/null | LC_ALL=C sort -z | xargs -0 sha256sum | sha256sum | cut -d' ' -f1
     )
 }
 
-# A checksum of the program's sources, with their places.
-sum_of_sources() {
-    find_sources -print0 | LC_ALL=C sort -z | (cd "$top" && xargs -0 sha256sum) | sha256sum | cut -d' ' -f1
+# Prints what tells without reading them whether sources in these places are as before: the name, size, number and times of each file. A file that
+# changes gets another time of change, which no program can choose; one that is added, removed or moved makes another list. In front stand the sum
+# and the places, so that the whole can be compared with what was kept.
+list_sources() {
+    printf '%s\n%s\n' "$1" "$2"
+    cd "$top" && exec find -L $2 -type f -printf '%p %s %i %T@ %C@\n' 2>/dev/null
 }
 
-# Sets `sum` to that checksum. It is read only where the names, sizes and times of the sources aren't those that it was kept with, which takes a
-# fraction of the time. A file that changes gets another time of change, which no program can choose, unless two changes are so near that the file
-# system's clock doesn't tell them apart: so the checksum isn't kept where a file changed in the last two seconds.
+# Sets `sum` to the checksum of the sources of a program of this kind. They are read only where their list isn't the one that was kept with the sum,
+# which takes a fraction of the time. Two changes may be so near that the file system's clock doesn't tell them apart: so the sum isn't kept where a
+# file changed in the last two seconds, or has a time to come.
 find_sum() {
-    local began=$EPOCHSECONDS stamp kept_stamp=
-    stamp=$(find_sources -printf '%p %s %i %T@ %C@\n' | sha256sum)
-    { read -r kept_stamp && read -r sum; } 2>/dev/null <"$built/seen"
-    if [ "$kept_stamp" = "$stamp" ] && [ -n "$sum" ]; then return; fi
-    sum=$(sum_of_sources)
-    if [ -d "$built" ] && [ -z "$(find_sources -newerct "@$((began - 2))" -print -quit)" ]; then
-        printf '%s\n%s\n' "$stamp" "$sum" 2>/dev/null >"$built/seen.$$" && mv "$built/seen.$$" "$built/seen"
+    local places seen=$built/$1.seen now=$EPOCHSECONDS
+    if { read -r sum && read -r places; } 2>/dev/null <"$seen" && list_sources "$sum" "$places" | cmp -s - "$seen"; then return; fi
+    places=$(places_of_sources "$1")
+    (list_sources '' "$places" >"$seen.$$") 2>/dev/null
+    sum=$(sum_of_sources "$1")
+    if [ -e "$seen.$$" ] && list_sources '' "$places" | cmp -s - "$seen.$$" && awk -v last=$((now - 2)) 'NR > 2 && $NF >= last { exit 1 }' "$seen.$$"; then
+        { echo "$sum" && tail -n +2 "$seen.$$"; } >"$seen.$$.new" && mv "$seen.$$.new" "$seen"
     fi
+    rm -f "$seen.$$" "$seen.$$.new"
 }
 
 # Whether the program of this kind, proved or unproved, stands built of the sources with this sum, by the kit that is in PATH, if one is.
 is_built() {
     local kept_sum='' kept_kit=''
-    [ -x "$built/$1" ] || return
+    [ -x "$built/$1" ] && [ -n "$2" ] || return
     read -r kept_sum kept_kit 2>/dev/null <"$built/$1.sum"
     [ "$kept_sum" = "$2" ] && { [ -z "$kit" ] || [ "$kept_kit" = "$kit_is" ]; }
 }
@@ -191,9 +203,11 @@ compile_crate() {
 # Runs the program of the sources as they are now, if one is built.
 run_built() {
     local kind
-    find_sum
     for kind in proved unproved; do
-        if is_built "$kind" "$sum"; then exec "$built/$kind" "$@" 9>&-; fi
+        if [ -x "$built/$kind" ]; then
+            find_sum "$kind"
+            if is_built "$kind" "$sum"; then exec "$built/$kind" "$@" 9>&-; fi
+        fi
     done
 }
 
@@ -245,12 +259,13 @@ run_program() {
         # while this call waited, a program may have been built
         run_built "$@"
         make_room
+        sum=$(sum_of_sources unproved)
         echo "$name: compiling the program, which takes some two minutes, once" >&2
         if ! compile; then
             echo "$name: the program could not be compiled by itself; this is the end of its log, $built/try.log:" >&2
             cp "$room/try.log" "$built/try.log"
             tail -n 5 "$room/try.log" >&2
-        elif [ "$(sum_of_sources)" != "$sum" ]; then
+        elif [ "$(sum_of_sources unproved)" != "$sum" ]; then
             echo "$name: the sources changed while they were compiled: call it again" >&2
             exit 2
         elif keep "$room/program" unproved "$sum"; then

@@ -1,4 +1,4 @@
-/* The calls of ruthvelka.h, over the proved ones, which want no null pointer, no length past PTRDIFF_MAX bytes and no unknown proposal: a null pointer
+/* The calls of ruthvelka.h, over the proved ones, which want no null pointer, no length past PTRDIFF_MAX bytes and no unknown feature: a null pointer
    whose count is 0 becomes the place of a dummy, and all else is a wrong call. */
 #include "ruthvelka.h"
 

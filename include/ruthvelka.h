@@ -24,12 +24,18 @@
    what ruthvelka_set_allocator was given. Where a request is refused the verdict is RUTHVELKA_NO_MEMORY, or, where only a message wanted it, the
    right one without a message; and all that was taken is given back.
 
+   Gates. With RUTHVELKA_CRATE_LIMITS a function type has at most 1,000 parameters and 1,000 results, a structure type 10,000 fields, a try_table
+   10,000 catch clauses, and a name of an import or export 100,000 bytes, and the work on a body is at most a constant times its bytes times 1,000,
+   and linear for all that compilers write; without it, it is the product of the parameters and results of types and the operators that have them. A
+   host that takes modules from strangers sets it, and a limit on the bytes of a module besides. A refusal by one of these limits has no proposal in
+   missing_features: what would lift it is to leave RUTHVELKA_CRATE_LIMITS out.
+
    Threads. Calls may run side by side, in any number of threads. What a call is given belongs to it until it returns; bytes and lists of modules
    are only read, so calls may share them. What it writes may overlap nothing else that it is given. Make no call in a signal handler.
 
    Wrong calls. A pointer may be null where its count is 0; a report may always be null. Any other null pointer, a count of items that no object can
-   have (more than PTRDIFF_MAX bytes), and a bit of `features` that no proposal has make the result RUTHVELKA_BAD_CALL, and nothing is written but
-   a report. Calls that give no verdict say themselves what they do. Arrays that are written need not be initialized.
+   have (more than PTRDIFF_MAX bytes), and a bit of `features` that no feature has make the result RUTHVELKA_BAD_CALL, and nothing is written but a
+   report. Calls that give no verdict say themselves what they do. Arrays that are written need not be initialized.
 
    Arrays that are written. Each comes with the count of items that there is room for in it. No more are written, and what is behind them stays as it
    was. The report says how many there are: where that is more than there was room for, the call can be made again with a larger array.
@@ -58,7 +64,7 @@ extern "C" {
 /* In place of a function's index, where it is no body that is refused. */
 #define RUTHVELKA_NO_FUNCTION UINT32_MAX
 
-/* The proposals, as bits of a set. ruthvelka_feature and ruthvelka_feature_name have them by name. */
+/* The features, as bits of a set: the proposals, and CRATE_LIMITS. ruthvelka_feature and ruthvelka_feature_name have them by name. */
 #define RUTHVELKA_MUTABLE_GLOBAL (UINT64_C(1) << 0)            /* mutable globals are imported and exported */
 #define RUTHVELKA_REFERENCE_TYPES (UINT64_C(1) << 1)           /* values that are references, and more than one table */
 #define RUTHVELKA_MULTI_VALUE (UINT64_C(1) << 2)               /* more than one result */
@@ -81,9 +87,10 @@ extern "C" {
 #define RUTHVELKA_VECTOR_OPERATORS (UINT64_C(1) << 19)         /* the operators on vectors, also the relaxed ones; they need SIMD too */
 #define RUTHVELKA_ATOMIC_OPERATORS (UINT64_C(1) << 20)         /* the atomic operators on memories and atomic.fence; they need THREADS too */
 #define RUTHVELKA_LEGACY_EXCEPTIONS (UINT64_C(1) << 21)        /* try, catch, catch_all, rethrow and delegate; they need EXCEPTIONS too */
+#define RUTHVELKA_CRATE_LIMITS (UINT64_C(1) << 22)             /* no proposal: the limits of the Rust crate's readers; see "Gates" */
 /* All but SHARED_EVERYTHING_THREADS, CUSTOM_PAGE_SIZES, CUSTOM_DESCRIPTORS, STACK_SWITCHING, COMPONENT_MODEL, VECTOR_OPERATORS, ATOMIC_OPERATORS and
-   LEGACY_EXCEPTIONS. That is the Core Specification 3.0, but for two things: the operators on vectors other than v128.const are missing, which
-   RUTHVELKA_VECTOR_OPERATORS adds; and RUTHVELKA_THREADS is on, so memories may be shared, which the specification doesn't have. */
+   LEGACY_EXCEPTIONS; and without CRATE_LIMITS. That is the Core Specification 3.0, but for two things: the operators on vectors other than v128.const
+   are missing, which RUTHVELKA_VECTOR_OPERATORS adds; and RUTHVELKA_THREADS is on, so memories may be shared, which the specification has not. */
 #define RUTHVELKA_STANDARD UINT64_C(32703)
 
 /* What a call reports on a module. */
@@ -110,14 +117,14 @@ struct ruthvelka_report {
        if (ruthvelka_version() / 1000 != RUTHVELKA_VERSION / 1000) return wrong_library(); */
 uint32_t ruthvelka_version(void);
 
-/* ruthvelka_feature: the bit of the proposal with this name, of `length` bytes: the name of the macro above without RUTHVELKA_, in capitals. It is 0
-   where there is no proposal of the name, the name is null, or `length` is more than PTRDIFF_MAX. It may be called at any time, in any thread.
+/* ruthvelka_feature: the bit of the feature with this name, of `length` bytes: the name of the macro above without RUTHVELKA_, in capitals. It is 0
+   where there is no feature of the name, the name is null, or `length` is more than PTRDIFF_MAX. It may be called at any time, in any thread.
 
        uint64_t features = RUTHVELKA_STANDARD | ruthvelka_feature("CUSTOM_PAGE_SIZES", 17); */
 uint64_t ruthvelka_feature(const char *name, size_t length);
 
-/* ruthvelka_feature_name: writes the name of the proposal with this bit, as far as there is room, without a zero behind it, and gives the length of
-   the whole name. That is 0, and nothing is written, where no proposal has just this bit, `name` is null and `room` isn't 0, or `room` is more than
+/* ruthvelka_feature_name: writes the name of the feature with this bit, as far as there is room, without a zero behind it, and gives the length of
+   the whole name. That is 0, and nothing is written, where no feature has just this bit, `name` is null and `room` isn't 0, or `room` is more than
    PTRDIFF_MAX. It may be called at any time, in any thread.
 
        char name[32];

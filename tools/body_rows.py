@@ -1,23 +1,21 @@
 #!/usr/bin/env python3
-"""body_rows.py FOLDER: writes the rows of crates/test_all/data/bodies.
+"""body_rows.py [--check]: writes the rows of crates/test_all/data/bodies, or compares what it makes with those that are there.
 
-Each case is a function's body by its operators, over the context that crates/rows_bodies/src/sample.rt has too. FOLDER holds two
-modules that aren't part of this repository: `wasmgen`, which assembles a module, and `oracle`, whose `WP().check(BYTES)` runs the Rust
-crate on it, all its features on. A body is put as the last one into a module with the context; the verdict and the offset, less
-where the body begins, are what the row wants. What the Rust crate says with its features on isn't asked where a case names
-what it wants: those are refusals for want of a proposal, whose texts are the crate's `NAME support is not enabled`.
+Each case is a function's body by its operators, over the context that crates/rows_bodies/src/sample.rt has too. A body is put as the last
+one into a module with the context. What the Rust crate answered for that module, all its features on, is in tools/crate_answers.txt; the
+verdict and the offset, less where the body begins, are what the row wants. A case whose module has no answer there names what it wants, by
+the Core Specification; so do refusals for want of a proposal, whose texts are the crate's `NAME support is not enabled`.
 
 Texts: the operand types of a refusal are printed as the Rust crate does, but types by their numbers. Where our texts are those of a rule
 without its types (TEXTS), the row has that rule's; a message without one stands in the row as it came.
 """
 import os, re, sys
 
-sys.path.insert(0, sys.argv[1])
-import oracle
-import wasmgen as W
-
-HERE = os.path.dirname(os.path.abspath(__file__))
-DATA = os.path.join(HERE, '..', 'crates', 'test_all', 'data', 'bodies')
+sys.dont_write_bytecode = True
+sys.path.insert(0, os.path.dirname(os.path.abspath(__file__)))
+import row_writer
+import wasm_assembler as W
+from crate_answers import Answers
 
 # ------------------------------------------------------------------------------------------------- the context
 TYPES = [
@@ -55,7 +53,7 @@ def module(type_index, body):
     def put(sections):
         for s in sections:
             if s[0] == 10:
-                s[1] = W.vec([W.u(3) + b'\0\0\x0b'] * len(FUNCTIONS) + [W.u(len(body)) + body])
+                s[1] = W.listed([W.unsigned(3) + b'\0\0\x0b'] * len(FUNCTIONS) + [W.unsigned(len(body)) + body])
     b = W.build(types=TYPES, funcs=[(f, '', 'unreachable') for f in FUNCTIONS + [type_index]], tables=TABLES, mems=MEMORIES, tags=TAGS,
                 globals=GLOBALS, elems=ELEMENTS, datacount=DATA_COUNT, datas=[dict(mode='passive')] * DATA_COUNT, post=put)
     end = [e for i, _, _, e in W.sections(b) if i == 10][0]
@@ -121,7 +119,7 @@ def subject(name):
 
 
 def declared(locals):
-    return W.vec(W.u(1) + W.vt(x) for x in locals.split())
+    return W.listed(W.unsigned(1) + W.value_type(x) for x in locals.split())
 
 
 def note(text):
@@ -132,14 +130,14 @@ def note(text):
 def case(name, text, locals='', ty=0, features='all', wanted=None, raw=None, told=None):
     """A body and what is wanted of it: `wanted`, or what the Rust crate answers. `told` is the message of a refusal where the rule's own
     text isn't found by TEXTS, and '' where the row names the place alone."""
-    body = raw if raw is not None else declared(locals) + W.asm(text) + b'\x0b'
+    body = raw if raw is not None else declared(locals) + W.operators(text) + b'\x0b'
     FILE.append((name, features, ty, body, wanted, told))
 
 
 def off(feature, message, before, op, locals='', ty=0, name=None, after=''):
     """The operator refused for want of a proposal, at its place behind those before it."""
-    head = declared(locals) + W.asm(before)
-    body = head + W.asm(op) + W.asm(after) + b'\x0b'
+    head = declared(locals) + W.operators(before)
+    body = head + W.operators(op) + W.operators(after) + b'\x0b'
     word = name or op.split(';')[0]
     wanted = 'refused %d %s; missing %s' % (len(head), message, feature)
     FILE.append(('%s without %s' % (word, feature), 'all-' + feature, ty, body, wanted, None))
@@ -176,7 +174,7 @@ NUMERIC = '''45 i:i, 46..4f ii:i, 50 l:i, 51..5a ll:i, 5b..60 ff:i, 61..66 dd:i,
 8b..91 f:f, 92..98 ff:f, 99..9f d:d, a0..a6 dd:d, a7 l:i, a8..a9 f:i, aa..ab d:i, ac..ad i:l, ae..af f:l, b0..b1 d:l, b2..b3 i:f,
 b4..b5 l:f, b6 d:f, b7..b8 i:d, b9..ba l:d, bb f:d, bc f:i, bd d:l, be i:f, bf l:d, c0..c1 i:i, c2..c4 l:l'''
 SATURATING = ['f:i', 'f:i', 'd:i', 'd:i', 'f:l', 'f:l', 'd:l', 'd:l']
-BY_CODE = {code: name for name, (code, _) in W.OPS.items()}
+BY_CODE = {code: name for name, (code, _) in W.OPERATORS.items()}
 
 
 def numeric(op, signature):
@@ -369,13 +367,13 @@ def variables():
     case('global.set without an operand', 'global.set 1')
     case('global.set of no global', 'i32.const 1; global.set 7')
     # declarations
-    case('50,000 locals', '', raw=W.vec([W.u(50000) + b'\x7f']) + b'\x0b')
-    case('50,001 locals', '', raw=W.vec([W.u(50001) + b'\x7f']) + b'\x0b')
-    case('50,000 locals with the parameters', '', ty=8, raw=W.vec([W.u(49999) + b'\x7f']) + b'\x0b')
-    case('50,001 locals with the parameters', '', ty=8, raw=W.vec([W.u(25000) + b'\x7f', W.u(25000) + b'\x7e']) + b'\x0b')
-    case('a declaration of no locals', '', raw=W.vec([W.u(0) + b'\x7f']) + b'\x0b')
+    case('50,000 locals', '', raw=W.listed([W.unsigned(50000) + b'\x7f']) + b'\x0b')
+    case('50,001 locals', '', raw=W.listed([W.unsigned(50001) + b'\x7f']) + b'\x0b')
+    case('50,000 locals with the parameters', '', ty=8, raw=W.listed([W.unsigned(49999) + b'\x7f']) + b'\x0b')
+    case('50,001 locals with the parameters', '', ty=8, raw=W.listed([W.unsigned(25000) + b'\x7f', W.unsigned(25000) + b'\x7e']) + b'\x0b')
+    case('a declaration of no locals', '', raw=W.listed([W.unsigned(0) + b'\x7f']) + b'\x0b')
     case('a declared local of an unknown type', '', locals='i32 ?99', told=NO_TYPE)
-    case('a declaration of no locals of an unknown type', '', raw=W.vec([W.u(0) + W.vt('?99')]) + b'\x0b', told=NO_TYPE)
+    case('a declaration of no locals of an unknown type', '', raw=W.listed([W.unsigned(0) + W.value_type('?99')]) + b'\x0b', told=NO_TYPE)
 
 
 def control():
@@ -421,7 +419,7 @@ def control():
     case('an if of a type that is no function', 'i32.const 1; if @4; end')
     case('end behind the last', '', raw=b'\0\x0b\x0b')
     case('an operator behind the last end', '', raw=b'\0\x0b\x01')
-    case('a block that does not end', '', raw=b'\0' + W.asm('block; nop') + b'\x0b', told='')
+    case('a block that does not end', '', raw=b'\0' + W.operators('block; nop') + b'\x0b', told='')
     case('a body without end', '', raw=b'\0\x01', wanted='refused')
     case('a body without bytes', '', raw=b'', wanted='refused')
     case('an unknown opcode', '', raw=b'\0\xff\x0b', wanted='refused 1 illegal opcode 0xff')
@@ -675,12 +673,12 @@ CASTS = [('ref.test', 0x14, '!'), ('ref.test_null', 0x15, '?'), ('ref.cast', 0x1
 def heap(name):
     if name.startswith('shared '):
         return b'\x65' + heap(name[7:])
-    return bytes([CONTINUATIONS[name]]) if name in CONTINUATIONS else W.ht(name)
+    return bytes([CONTINUATIONS[name]]) if name in CONTINUATIONS else W.heap_type(name)
 
 
 def cast(title, top, code, end, given):
     """A null of this type is tested or cast, and what is given goes to a local of this type."""
-    local = W.vt('i32') if code < 0x16 else (b'\x63' if given == '?' else b'\x64') + heap(end)
+    local = W.value_type('i32') if code < 0x16 else (b'\x63' if given == '?' else b'\x64') + heap(end)
     case(title, '', raw=b'\x01\x01' + local + b'\xd0' + heap(top) + b'\xfb' + bytes([code]) + heap(end) + b'\x21\x00\x0b')
 
 
@@ -696,6 +694,18 @@ def abstract_casts():
             for op, code, given in CASTS[2:]:
                 for top in ['shared ' + hierarchy[0], hierarchy[0]]:
                     cast('%s from %s to shared %s' % (op, top, end), top, code, 'shared ' + end, given)
+
+
+def continuation_branches():
+    """A branch on a cast asks nothing of the hierarchy but that it is one, also of continuations."""
+    subject('references')
+    note('References to continuations can be neither tested nor cast (above), and a branch on a cast takes them.')
+    for op, code in [('br_on_cast', '18'), ('br_on_cast_fail', '19')]:
+        case('%s from cont to nocont' % op, '', raw=bytes.fromhex('00026368d068fb%s010068750b1a0b' % code))
+        case('%s from cont to nocont, both may be null' % op, '', raw=bytes.fromhex('00026368d068fb%s030068750b1a0b' % code))
+        case('%s from nocont to cont' % op, '', raw=bytes.fromhex('00026368d075fb%s010075680b1a0b' % code))
+        case('%s from cont to func' % op, '', raw=bytes.fromhex('00026370d068fb%s010068700b1a0b' % code))
+    case('br_on_cast from cont to nocont to a label of func', '', raw=bytes.fromhex('00026370d068fb18010068750b1a0b'), told='type mismatch: label has other types')
 
 
 def unreached():
@@ -965,22 +975,22 @@ HEAD = '''# Each line is a row; blank lines and lines that begin with `#` are pa
 '''
 
 
-def wanted_of(wp, type_index, body, told):
+def wanted_of(answers, type_index, body, told):
     b, start = module(type_index, body)
-    r = wp.check(b)
-    if r['v'] == 'ok':
+    it = answers.of(b)
+    if it.verdict == 'ok':
         return 'ok'
-    if r['v'] != 'bad' or r['off'] is None:
+    if it.verdict != 'refused' or it.offset is None:
         return None
-    message = shown(r['msg']) if told is None else ' ' + told
-    return ('refused %d%s' % (r['off'] - start, message)).strip()
+    message = shown(it.message) if told is None else ' ' + told
+    return ('refused %d%s' % (it.offset - start, message)).strip()
 
 
 def main():
-    for part in [numbers, memories, tables, variables, control, references, abstract_casts, unreached, aggregates, proposals, legacy]:
+    for part in [numbers, memories, tables, variables, control, references, abstract_casts, continuation_branches, unreached, aggregates, proposals, legacy]:
         part()
-    wp = oracle.WP()
-    total = 0
+    answers = Answers()
+    files, lacking = {}, []
     for name, cases in CASES.items():
         lines = []
         for it in cases:
@@ -988,17 +998,14 @@ def main():
                 lines += ['# ' + line for line in it.split('\n')]
                 continue
             title, features, ty, body, wanted, told = it
-            wanted = wanted or wanted_of(wp, ty, body, told)
+            wanted = wanted or wanted_of(answers, ty, body, told)
             if wanted is None:
-                print('no answer: %s' % title, file=sys.stderr)
+                lacking.append(title)
                 continue
             lines.append(' | '.join([title, features, str(ty), body.hex() or '-', wanted]))
-        total += sum(line[0] != '#' for line in lines)
-        with open(os.path.join(DATA, name + '.rows'), 'w') as f:
-            f.write(HEAD + '\n' + '\n'.join(lines) + '\n')
-    wp.close()
-    print('%d rows' % total)
+        files['bodies/%s.rows' % name] = HEAD + '\n' + '\n'.join(lines) + '\n'
+    return row_writer.main(files, lacking, sys.argv[1:])
 
 
 if __name__ == '__main__':
-    main()
+    sys.exit(main())

@@ -1,21 +1,21 @@
 #!/usr/bin/env python3
-"""constant_rows.py FOLDER: writes crates/test_all/data/modules/constants.rows, modules whose sections hold constant expressions.
+"""constant_rows.py [--check]: writes crates/test_all/data/modules/constants.rows, modules whose sections hold constant expressions, or compares what it
+makes with that file.
 
-FOLDER holds two modules that aren't part of this repository: `wasmgen`, which assembles a module, and `oracle`, whose
-`WP().check(BYTES)` runs the Rust crate on it, all its features on. What it answers is what a row wants, its texts put as
-tools/body_rows.py puts them. Where a case names what it wants, it isn't asked: those are refusals for want of a proposal, by the
-rules of constant expressions and of segments (Core Specification 3.0, Validation, Modules, and Instructions, Constant Expressions),
-and what the Rust crate's older version answers otherwise.
+What the Rust crate answered for a module, all its features on, is in tools/crate_answers.txt, and is what a row wants, its texts put as
+tools/body_rows.py puts them. A case whose module has no answer there names what it wants; so do refusals for want of a proposal, by the
+rules of constant expressions and of segments (Core Specification 3.0, Validation, Modules, and Instructions, Constant Expressions), and
+what the Rust crate's older version answers otherwise.
 """
 import os, re, sys
 
-HERE = os.path.dirname(os.path.abspath(__file__))
-sys.path[:0] = [sys.argv[1], HERE]
-import oracle
-import wasmgen as W
+sys.dont_write_bytecode = True
+sys.path.insert(0, os.path.dirname(os.path.abspath(__file__)))
+import row_writer
+import wasm_assembler as W
 from body_rows import shown
+from crate_answers import Answers
 
-ROWS = os.path.join(HERE, '..', 'crates', 'test_all', 'data', 'modules')
 CASES = []
 # what stands before a module's globals: a function that is imported and two that are defined would need bodies, so all are imported
 TYPES = ['func ->', 'func i32 -> i64', 'struct i32 mut:i64', 'array mut:i32', 'struct ?2', 'array !0']
@@ -51,7 +51,7 @@ def without(feature, op, ty, before='', name=None):
     """The operator refused for want of a proposal, at its place behind those before it."""
     name = name or op.split()[0]
     bytes = W.build(types=TYPES[:1], globals=[(ty, '; '.join(x for x in (before, op) if x))])
-    place = at(bytes, 6, 1 + len(W.globaltype(ty)) + len(W.asm(before)))
+    place = at(bytes, 6, 1 + len(W.global_type(ty)) + len(W.operators(before)))
     wanted = 'refused %d %s: %s; missing %s' % (place, CONSTANT, name, feature)
     case('a global by %s without %s' % (name, feature), bytes, 'all-' + feature, wanted)
 
@@ -171,14 +171,14 @@ def others():
                            ('array.get 3', 'ref.null 3; i32.const 0', 'i32'), ('ref.cast_null 2', 'ref.null any', '?2'), ('ref.test_null 2', 'ref.null any', 'i32'),
                            ('i32.extend8_s', 'i32.const 1', 'i32'), ('i32.trunc_sat_f32_s', 'f32.const 1', 'i32'), ('select', 'i32.const 1; i32.const 1; i32.const 1', 'i32')]:
         bytes = module(globals=[(ty, '; '.join(x for x in (before, op) if x))])
-        place = at(bytes, 6, 1 + len(W.globaltype(ty)) + len(W.asm(before)))
+        place = at(bytes, 6, 1 + len(W.global_type(ty)) + len(W.operators(before)))
         case('a global by %s' % op.split()[0], bytes, 'all', 'refused %d %s; missing nothing' % (place, CONSTANT))
     bytes = module(globals=[('i32', 'block =i32; i32.const 1; end')])
     case('a global by block', bytes, 'all', 'refused %d %s; missing nothing' % (at(bytes, 6, 3), CONSTANT))
 
 
 def raw(id, content):
-    return W.build(types=TYPES, imports=FUNCTIONS + GLOBALS) + bytes([id]) + W.u(len(content)) + content
+    return W.build(types=TYPES, imports=FUNCTIONS + GLOBALS) + bytes([id]) + W.unsigned(len(content)) + content
 
 
 def ends():
@@ -206,7 +206,7 @@ def tables():
         case('a table whose entries begin with %s' % title, module(tables=[(ty + ' 1 2', ops)]))
     case('a table of 64-bit addresses whose entries begin with null', module(tables=[('funcref i64 1', 'ref.null func')]), facts='tables i64 1 funcref')
     # what tables see of globals: the imported ones
-    begins = at(module(tables=[('funcref 1', 'global.get 2')]), 4, 3 + len(W.tabletype('funcref 1')))
+    begins = at(module(tables=[('funcref 1', 'global.get 2')]), 4, 3 + len(W.table_type('funcref 1')))
     case('a table whose entries begin with an imported global', module(tables=[('funcref 1', 'global.get 2')]), wanted='ok')
     case('a table whose entries begin with an imported number', module(tables=[('funcref 1', 'global.get 0')]), wanted='refused %d type mismatch: expected funcref, found i32' % (begins + 2))
     case('a table whose entries begin with an imported mutable global', module(tables=[('funcref 1', 'global.get 1')]),
@@ -336,13 +336,13 @@ def items_of(b, flag):
 OWN_PLACES = [(r'unknown (table|memory) \d+:', behind_index), (r'type mismatch: invalid element type', items_of)]
 
 
-def wanted_of(wp, b):
-    r = wp.check(b)
-    if r['v'] == 'ok':
+def wanted_of(answers, b):
+    it = answers.of(b)
+    if it.verdict == 'ok':
         return 'ok'
-    if r['v'] != 'bad' or r['off'] is None:
+    if it.verdict != 'refused' or it.offset is None:
         return None
-    message, place = r['msg'], r['off']
+    message, place = it.message, it.offset
     for pattern, text in SHORTER:
         message = re.sub('^' + pattern + '$', text, message)
     message = shown(message)
@@ -355,30 +355,24 @@ def wanted_of(wp, b):
 def main():
     for part in [numbers, references, descriptors, reads, others, ends, tables, elements, data]:
         part()
-    with open(os.path.join(ROWS, 'modules.rows')) as f:
-        lines = f.read().split('\n\n')[0].splitlines()
-    lines += ['#', '# Written by tools/constant_rows.py, which says where the wanted answers come from.']
-    wp, total = oracle.WP(), 0
+    lines = row_writer.head_of_modules() + ['#', '# Written by tools/constant_rows.py, which says where the wanted answers come from.']
+    answers, lacking = Answers(), []
     for c in CASES:
         if isinstance(c, str):
             lines += ['', '# ' + c]
             continue
         title, features, b, wanted, facts, missing = c
-        wanted = wanted or wanted_of(wp, b)
+        wanted = wanted or wanted_of(answers, b)
         if wanted is None:
-            print('no answer: %s' % title, file=sys.stderr)
+            lacking.append(title)
             continue
         if facts and wanted == 'ok':
             wanted = 'ok; ' + facts
         if missing and wanted != 'ok':
             wanted += '; missing ' + missing
         lines.append(' | '.join([title, features, 'H ' + b[8:].hex(), wanted]))
-        total += 1
-    with open(os.path.join(ROWS, 'constants.rows'), 'w') as f:
-        f.write('\n'.join(lines) + '\n')
-    wp.close()
-    print('%d rows' % total)
+    return row_writer.main({'modules/constants.rows': '\n'.join(lines) + '\n'}, lacking, sys.argv[1:])
 
 
 if __name__ == '__main__':
-    main()
+    sys.exit(main())

@@ -2,6 +2,7 @@
 import re
 
 from docs_code import FOREIGN, Code
+from docs_specification import Specification
 from docs_texts import by_hand, present, ticked
 
 FLAGS = "crates/wasm_readers_features/src/features.rt"
@@ -107,6 +108,7 @@ def counts(tree):
         (rf"`test_all` no more than {DIGITS}", {tuple_constant(tree, "MOST_WALKS_OF_ALL")}),
         (rf"functions and {DIGITS} lines", {tuple_constant(tree, "MOST_LINES")}),
         (rf"{DIGITS} lines in `c/`", {count_lines(tree, *(it for it in tree.files("c", ending=".c") if it.count("/") == 1))}),
+        (rf"{DIGITS} lines of \[?definitions", {Specification.of(tree).theorem}),
         (rf"{DIGITS} lines, with laws and examples", {count_lines(tree, *defined)}),
         (rf"`Expressions` \({DIGITS} lines\)", {count_lines(tree, *rules)}),
         (rf"`wasm_laws_instructions` \({DIGITS} lines\)", {count_lines(tree, *bodies)}),

@@ -12,7 +12,7 @@ README_IS_SHORT = True
 PRIVATE = r"\b(?:told|shown|held|standing|rooms?|worlds?)\b"
 FOR_USERS = ("README.md", "SECURITY.md", "CONTRIBUTING.md", "CHANGELOG.md", "docs/THEOREM.md", "docs/LIMITS.md", "docs/API.md")
 MOST_COLUMNS = 160
-FOLDERS = ("crates", "tests", "docs", "tools", "bin", "c", "include", "examples", ".ci")
+FOLDERS = ("crates", "tests", "docs", "tools", "bin", "c", "include", "examples", "packaging", ".ci")
 ENDINGS = "rt antt rows edit py sh c h md txt svg".split()
 # A path from the top, a document there, a path in a crate, or the name of a file.
 PATH = re.compile(

@@ -88,6 +88,18 @@ OWN = [
     ),
 ]
 
+TYPES = "wasm_validator_resources/composite_types"
+GATES = [
+    Row("parameters of a function type", Constant(TYPES, "MAX_WASM_FUNCTION_PARAMS"), "each recursion group", "GroupRule::FunctionParams", TYPES),
+    Row("results of a function type", Constant(TYPES, "MAX_WASM_FUNCTION_RETURNS"), "each recursion group", "GroupRule::FunctionReturns", TYPES),
+    Row("fields of a structure type", Constant(TYPES, "MAX_WASM_STRUCT_FIELDS"), "each recursion group", "GroupRule::StructFields", TYPES),
+    Row(
+        "catch clauses of a `try_table`", Constant("wasm_operator_blocks/tries", "MAX_WASM_CATCHES"), "each `try_table`",
+        "OperatorRule::CatchCount", "wasm_operator_blocks/tries",
+    ),
+    Row("bytes of the name of an export, and of each name of an import", Constant("wasm_validator_checks/names", "MAX_STRING_SIZE"), "each", "ItemRule::NameSize", "wasm_validator_checks/names"),
+]
+
 VALUES = "Binary Format, Values, Integers"
 STANDARD = [
     Row(
@@ -140,9 +152,10 @@ STANDARD = [
 
 FREE = [
     "the length of a module (offsets are below 2^64), and how many custom sections it has;",
-    "the length of names;",
-    "the parameters and results of a function type (but a body has at most as many parameters as locals), and the fields of a structure type;",
-    "how deep blocks are nested, how many targets a `br_table` has, and how many clauses a `try_table`;",
+    "without `CRATE_LIMITS` the length of names; with it, that of the names of custom sections;",
+    "without it the parameters and results of a function type (but a body has at most as many parameters as locals);",
+    "without it the fields of a structure type, and the clauses of a `try_table`;",
+    "how deep blocks are nested, and how many targets a `br_table` has;",
     "how many modules one validator reads, as long as there are ids for their types.",
 ]
 
@@ -155,6 +168,15 @@ INTRODUCTION = [
     "\"At the section's count\" means that the section is refused before its first item is read, at the offset of its count; any other refusal is at the "
     "offset of the item. A limit on what is in one list counts what earlier sections of the same kind and imports added; the count of a data section is "
     "compared alone. N in a message is a number. A constant that is named is one of `wasm_validator`.",
+]
+
+
+FOR_GATES = [
+    "## With `CRATE_LIMITS`",
+    "These are the limits of the Rust crate's readers. Only the feature `CRATE_LIMITS` asks for them, which neither `STANDARD` nor `all` has: a gate that "
+    "takes modules from strangers switches it on. A refusal by one of them names no missing feature: to leave `CRATE_LIMITS` out is what would lift it.",
+    "With it the work on a body is at most a constant times its bytes times 1,000, and linear for all that compilers write; without it, it is the "
+    "product of the parameters and results of types and the operators that have them. Besides, a host limits the bytes of a module.",
 ]
 
 
@@ -190,7 +212,7 @@ class Limits:
 
     def number(self, path, text, word):
         """A number as it is written, or as the constant of a file has it."""
-        found = re.search(rf"(?m)^pub(?:\(crate\))? const {word}: u32 = ([\d_]+);", text)
+        found = re.search(rf"(?m)^pub(?:\(crate\))? const {word}: (?:u32|usize) = ([\d_]+);", text)
         if found:
             self.told.add((path, word))
             return commas(found[1])
@@ -248,6 +270,9 @@ def write_limits(tree, library):
     for row in OWN:
         value = limits.value(row.value)
         out.append(f"| {row.what} | {value} | {row.counted} | {limits.message(row.message, value)} | {limits.constant(row)} | {limits.place(row)} |")
+    out += ["", *(it for text in FOR_GATES for it in (wrap(text), "")), "| What | At most | Counted | Message | Compared in |", "|---|---|---|---|---|"]
+    for row in GATES:
+        out.append(f"| {row.what} | {limits.value(row.value)} | {row.counted} | {limits.message(row.message, '')} | {limits.place(row)} |")
     out += ["", "## The standard's", "", "| What | At most | Message | Section or proposal | Compared in |", "|---|---|---|---|---|"]
     for row in STANDARD:
         out.append(f"| {row.what} | {limits.value(row.value)} | {limits.message(row.message, '')} | {row.section} | {limits.place(row)} |")

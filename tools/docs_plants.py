@@ -60,6 +60,18 @@ PLANTS = [
     ("a field of the theorem that is left out", "docs/THEOREM.md", r"^\| `ordered` \|.*\n", "", "theorem"),
     ("a kit that nothing was proved with", "README.md", HEAD, "The kit is `rattle-kit-99z`.", "versions"),
     ("another version", "README.md", HEAD, "This is version 0.2.0.", "versions"),
+    # the definitions that the theorem rests on
+    ("a definition that the specification leaves out", "docs/SPECIFICATION.md", r"^\| \[`unsigned_at`\].*\n", "", "specification"),
+    ("a definition too many", "docs/SPECIFICATION.md", r"^(\| \[`)unsigned_at(`\].*\n)", r"\1unsigned_at\2\1unsigned_of\2", "specification"),
+    ("another count of a definition", "docs/SPECIFICATION.md", r"^(\| \[`unsigned_at`\].*?\) \|) \d+", r"\1 99", "specification"),
+    ("another count of a part", "docs/SPECIFICATION.md", r"^\| 2\. Types and matching \| \d+", "| 2. Types and matching | 999", "specification"),
+    ("a section of another chapter", "docs/SPECIFICATION.md", r"^(\| \[`unsigned_at`\].*) \|$", r"\1, Names |", "specification"),
+    ("a moved file of definitions", "docs/SPECIFICATION.md", r"wasm_spec/specs/Values\.antt#", "wasm_spec/specs/Numbers.antt#", "specification"),
+    ("a moved file of definitions, as a link", "docs/SPECIFICATION.md", r"wasm_spec/specs/Values\.antt#", "wasm_spec/specs/Numbers.antt#", "links"),
+    ("a definition that begins to rest on another", "crates/wasm_spec/specs/Matching.antt", r"^top_of any_heap = any_heap", "top_of any_heap = eq_or_any any_heap\\n\\nabbrev pub eq_or_any : AbstractHeap → AbstractHeap\\neq_or_any k = k", "specification"),
+    ("a definition that rests on less", "crates/wasm_validator/specs/Headline.antt", r" × \(canonical F ≡ false → AreUnderOneId \(refs_val v\) \(refs_val w\)\)", "", "specification"),
+    ("a clause that names less", "crates/wasm_validator/src/list.rt", r"IfOk r HoldsTypes\)", "IfOk r (λ t. true ≡ true))", "specification"),
+    ("another number of lines to trust", "README.md", HEAD, "Trust 5,000 lines of definitions.", "counts"),
     # what is made from the sources
     ("an edited page of items", "docs/api/validate.md", r"^# Validate", "# Validating", "current"),
     ("an edited index", "docs/API.md", r"^- \[`Validator`\]", "- [`Validators`]", "current"),

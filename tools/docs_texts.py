@@ -4,7 +4,7 @@ import re
 # What was measured on other sources, or decided against.
 HISTORY = ("docs/DECISIONS.md", "docs/MEASUREMENTS.md")
 OLD_SECTIONS = ("Plants",)
-GENERATED = ("docs/API.md", "docs/api/", "docs/LIMITS.md")
+GENERATED = ("docs/API.md", "docs/api/", "docs/LIMITS.md", "docs/SPECIFICATION.md")
 
 
 def documents(tree):

@@ -1,8 +1,9 @@
 #!/usr/bin/env python3
-"""front_rows.py FOLDER: writes crates/test_all/data/modules/fronts.rows, the fronts of some modules, and the modules with one byte replaced.
+"""front_rows.py [--check]: writes crates/test_all/data/modules/fronts.rows, the fronts of some modules, and the modules with one byte replaced, or
+compares what it makes with that file.
 
-FOLDER holds a module that isn't part of this repository, `oracle`, whose `WP().check(BYTES)` runs the Rust crate on a module, all its features on.
-The verdict on a front that ends with a section, and on a module with a byte replaced, is what it answers. The rest is by the binary format (Core
+The verdict on a front that ends with a section, and on a module with a byte replaced, is what the Rust crate answered, all its features on: it is in
+tools/crate_answers.txt, or, of a module that has none there, in ANSWERS, by the Core Specification. The rest is by the binary format (Core
 Specification 3.0, Binary Format, Modules): any other front is malformed, where its last section begins or, within that one's id and size, at its end.
 
 The state afterwards: before a header where that is refused; in the module where bytes are refused that part it into sections and bodies, which are
@@ -11,10 +12,11 @@ Fronts that lie one after another and want the same are one row.
 """
 import os, sys
 
-sys.path.insert(0, sys.argv[1])
-import oracle
+sys.dont_write_bytecode = True
+sys.path.insert(0, os.path.dirname(os.path.abspath(__file__)))
+import row_writer
+from crate_answers import Answers
 
-ROWS = os.path.join(os.path.dirname(os.path.abspath(__file__)), '..', 'crates', 'test_all', 'data', 'modules')
 HEADER = bytes.fromhex('0061736d01000000')
 CHAIN = '50 00 60 00 00' + ''.join(' 50 01 %02x 60 00 00' % before for before in range(64))
 
@@ -65,13 +67,20 @@ class Module:
             at = begin + size
         assert len(self.after) == len(self.data)
 
-    def front(self, wp, length):
+    def verdict(self, answers, data):
+        """`ok` or `refused`."""
+        found = answers.of(data).verdict
+        if found == 'none':
+            found = ANSWERS.get(data.hex(), 'none')
+        if found == 'none' and self.name not in LACKING:
+            LACKING.append(self.name)
+        return found
+
+    def front(self, answers, length):
         """What is wanted of the first bytes, so many."""
         if length == 8 or length in [end for _, end in self.sections]:
-            answer = wp.check(self.data[:length])
-            if answer['v'] == 'ok':
+            if self.verdict(answers, self.data[:length]) == 'ok':
                 return 'ok; %sstate ready' % ''.join(fact + '; ' for fact in [self.facts.get(length, 'types' if length == 8 else '')] if fact)
-            assert answer['v'] == 'bad', (self.name, length, answer)
             return 'refused; state reading'
         if length < 8:
             wanted, state = 'refused', 'ready'
@@ -84,13 +93,12 @@ class Module:
         # nothing is shown of a section that is cut off
         return '%s; state %s%s' % (wanted, state, '; types' if state == 'reading' and len(self.sections) == 1 else '')
 
-    def replaced(self, wp, at, byte):
+    def replaced(self, answers, at, byte):
         """What is wanted where the byte at this offset is replaced by this one, None where it is that already."""
         if self.data[at] == byte:
             return None
-        answer = wp.check(self.data[:at] + bytes([byte]) + self.data[at + 1:])
-        assert answer['v'] in ('ok', 'bad'), (self.name, at, answer)
-        if answer['v'] == 'ok' and (self.name, at, byte) not in NO_VALUE_TYPE:
+        verdict = self.verdict(answers, self.data[:at] + bytes([byte]) + self.data[at + 1:])
+        if verdict == 'ok' and (self.name, at, byte) not in NO_VALUE_TYPE:
             return 'ok; state ready'
         # a size of 0 parts the bytes in other ways
         return 'refused' if byte == 0 else 'refused; state ' + self.after[at]
@@ -107,11 +115,11 @@ class Module:
                 rows.append([number, number, what])
         return ['%s %d to %d | %s | default | H %s | %s' % (head, first, last, self.name, self.text, what) for first, last, what in rows]
 
-    def fronts(self, wp):
-        return self.rows('fronts', [(length, self.front(wp, length)) for length in range(len(self.data))])
+    def fronts(self, answers):
+        return self.rows('fronts', [(length, self.front(answers, length)) for length in range(len(self.data))])
 
-    def changes(self, wp, byte):
-        return self.rows('%02x' % byte, [(at, self.replaced(wp, at, byte)) for at in range(len(self.data))])
+    def changes(self, answers, byte):
+        return self.rows('%02x' % byte, [(at, self.replaced(answers, at, byte)) for at in range(len(self.data))])
 
 
 FRONTS = [
@@ -127,6 +135,9 @@ FRONTS = [
     Module('data at an offset that is no number', REFUSED, refused_in_section=True),
 ]
 CHANGED = [Module('an import and an export of it', IMPORT)]
+# By its bytes in hexadecimal, `ok` or `refused` for a module that the Rust crate wasn't asked, by the Core Specification.
+ANSWERS = {}
+LACKING = []
 # where 00 comes in place of a value type, the Rust crate takes it for a reference to type 0, which the grammar of value types doesn't have (Core
 # Specification 3.0, Binary Format, Types, Value Types)
 NO_VALUE_TYPE = {('one function type', 13, 0), ('one function type', 15, 0)}
@@ -147,20 +158,18 @@ HEAD = """\
 
 
 def main():
-    wp = oracle.WP()
+    answers = Answers()
     lines = [HEAD, '# every front: the header alone is a module, and so are those that end with a section and lack no body']
     for module in FRONTS:
-        lines += module.fronts(wp)
+        lines += module.fronts(answers)
     lines += ['', '# each byte replaced by ff']
     for module in FRONTS[:1] + CHANGED + FRONTS[4:]:
-        lines += module.changes(wp, 0xff)
+        lines += module.changes(answers, 0xff)
     lines += ['', '# each byte that is another replaced by 00']
     for module in FRONTS[:1] + CHANGED:
-        lines += module.changes(wp, 0)
-    wp.close()
+        lines += module.changes(answers, 0)
     lines += [''] + NO_ROWS
-    with open(os.path.join(ROWS, 'fronts.rows'), 'w') as out:
-        out.write('\n'.join(lines) + '\n')
+    return row_writer.main({'modules/fronts.rows': '\n'.join(lines) + '\n'}, LACKING, sys.argv[1:])
 
 
 # what isn't of these forms
@@ -181,4 +190,4 @@ NO_ROWS = [
 
 
 if __name__ == '__main__':
-    main()
+    sys.exit(main())

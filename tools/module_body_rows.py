@@ -1,12 +1,13 @@
 #!/usr/bin/env python3
-"""module_body_rows.py FOLDER: writes crates/test_all/data/modules/bodies.rows, whole modules whose functions have bodies.
+"""module_body_rows.py [--check]: writes crates/test_all/data/modules/bodies.rows, whole modules whose functions have bodies, or compares what it makes
+with that file.
 
-FOLDER holds two modules that aren't part of this repository: `wasmgen`, which assembles a module, and `oracle`, whose
-`WP().check(BYTES)` runs the Rust crate on it, all its features on. Where a case doesn't name what it wants, that is what the Rust crate
-answers, its texts put as tools/body_rows.py puts them. Where a case names what it wants, that follows from a rule (Core Specification
-3.0, Validation, Instructions and Modules): a refusal of an operator stands at the operator's first byte. The Rust crate is asked
-all the same, where its features allow to ask, and this program says where its verdict is another one than the row's. `own` marks
-the cases where ours is meant to be another one: operators that are left out, and limits.
+What the Rust crate answered for a module, all its features on, is in tools/crate_answers.txt. Where a case doesn't name what it wants, that
+is this answer, its texts put as tools/body_rows.py puts them; a case whose module has no answer there has to name what it wants. Where a
+case names what it wants, that follows from a rule (Core Specification 3.0, Validation, Instructions and Modules): a refusal of an operator
+stands at the operator's first byte. It is compared with the crate's answer all the same, where there is one, and this program says where
+the crate's verdict is another one than the row's. `own` marks the cases where ours is meant to be another one: operators that are left out,
+and limits.
 
 tools/programs has the sources of small programs, each with the command that compiled it, and the bytes that clang 14 made of it.
 
@@ -15,13 +16,14 @@ wants `can_reset true`.
 """
 import os, re, sys
 
+sys.dont_write_bytecode = True
 HERE = os.path.dirname(os.path.abspath(__file__))
-sys.path[:0] = [sys.argv[1], HERE]
-import oracle
-import wasmgen as W
+sys.path.insert(0, HERE)
+import row_writer
+import wasm_assembler as W
 import body_rows as B
+from crate_answers import Answers
 
-ROWS = os.path.join(HERE, '..', 'crates', 'test_all', 'data', 'modules')
 PROGRAMS = os.path.join(HERE, 'programs')
 CASES = []          # a heading, or (name, features, [Part])
 HEADER = 'H '
@@ -63,7 +65,7 @@ def function(ops, locals='', ty='->', **parts):
 
 def refusal(bytes, before, message, locals='', k=0):
     """The refusal of the operator behind those before it, in body k."""
-    return 'refused %d %s' % (body_start(bytes, k) + len(B.declared(locals)) + len(W.asm(before)), message)
+    return 'refused %d %s' % (body_start(bytes, k) + len(B.declared(locals)) + len(W.operators(before)), message)
 
 
 def valid(title, ops, locals='', ty='->', features='default', facts='', **parts):
@@ -108,18 +110,16 @@ def text_of(message, ids):
 
 
 def wanted_of(answer, part):
-    if answer['v'] == 'ok':
-        return 'ok'
-    if answer['v'] != 'bad':
-        return None
-    text = part.told if part.told is not None else text_of(answer['msg'] or '', part.ids)
+    if answer.verdict != 'refused':
+        return 'ok' if answer.verdict == 'ok' else None
+    text = part.told if part.told is not None else text_of(answer.message or '', part.ids)
     if part.beyond:
         text = re.sub('^shared functions cannot access .*', 'shared functions cannot access what is not shared', text)
     if (part.plain or part.beyond) and not re.fullmatch(PLAIN + BEYOND * part.beyond, text):
         text = ''
-    if answer['off'] is None or not text:
-        return 'refused; ' + IN_BODY if is_in_body(part.bytes, answer['off']) else 'refused'
-    return 'refused %d %s' % (answer['off'], text)
+    if answer.offset is None or not text:
+        return 'refused; ' + IN_BODY if is_in_body(part.bytes, answer.offset) else 'refused'
+    return 'refused %d %s' % (answer.offset, text)
 
 
 def is_in_body(b, offset):
@@ -134,13 +134,13 @@ def is_in_body(b, offset):
 
 def complaint(answer, part):
     """Where the Rust crate decides otherwise, or tells of another place."""
-    if part.own or answer['v'] not in ('ok', 'bad'):
+    if part.own or answer.verdict == 'none':
         return ''
-    if part.wanted.startswith('ok') != (answer['v'] == 'ok'):
-        return 'the Rust crate says %r' % answer
+    if part.wanted.startswith('ok') != (answer.verdict == 'ok'):
+        return 'the Rust crate says %s %s' % (answer.verdict, answer.message)
     place = re.match(r'refused (\d+) ', part.wanted)
-    if place and answer['off'] != int(place.group(1)):
-        return 'the Rust crate refuses at %r: %s' % (answer['off'], answer['msg'])
+    if place and answer.offset != int(place.group(1)):
+        return 'the Rust crate refuses at %r: %s' % (answer.offset, answer.message)
     return ''
 
 
@@ -167,13 +167,12 @@ def shown_bytes(b):
     return hexadecimal(b) or '-'
 
 
-def shown_part(wp, title, part):
-    answer = wp.check(part.bytes)
+def shown_part(answers, title, part):
+    answer = answers.of(part.bytes)
     wanted = part.wanted
     if wanted is None:
         wanted = wanted_of(answer, part)
         if wanted is None:
-            print('no answer: %s: %r' % (title, answer), file=sys.stderr)
             return None
     else:
         said = complaint(answer, part)
@@ -187,28 +186,22 @@ def shown_part(wp, title, part):
 def main():
     for part in PARTS:
         part()
-    with open(os.path.join(ROWS, 'modules.rows')) as f:
-        lines = f.read().split('\n\n')[0].splitlines()
-    lines += ['#', '# Written by tools/module_body_rows.py, which says where the wanted answers come from.']
-    wp, total, seen = oracle.WP(), 0, set()
+    lines = row_writer.head_of_modules() + ['#', '# Written by tools/module_body_rows.py, which says where the wanted answers come from.']
+    answers, lacking, seen = Answers(), [], set()
     for c in CASES:
         if isinstance(c, str):
-            print('%5d rows before: %s' % (total, c))
             lines += ['', '# ' + c]
             continue
         title, features, parts = c
         if title in seen:
             print('twice: %s' % title, file=sys.stderr)
         seen.add(title)
-        shown = [shown_part(wp, title, p) for p in parts]
+        shown = [shown_part(answers, title, p) for p in parts]
         if None in shown:
+            lacking.append(title)
             continue
         lines.append(' | '.join([title, features] + shown))
-        total += 1
-    with open(os.path.join(ROWS, 'bodies.rows'), 'w') as f:
-        f.write('\n'.join(lines) + '\n')
-    wp.close()
-    print('%d rows' % total)
+    return row_writer.main({'modules/bodies.rows': '\n'.join(lines) + '\n'}, lacking, sys.argv[1:])
 
 
 # ------------------------------------------------------------------------------------------------- bytes
@@ -315,24 +308,24 @@ def limits():
     heading('Limits of bodies')
     def sized(n):
         body = b'\0' + b'\1' * (n - 2) + b'\x0b'
-        return W.build(funcs=[('->', '', '')], post=lambda secs: [s.__setitem__(1, W.vec([W.u(n) + body])) for s in secs if s[0] == 10] and None)
+        return W.build(funcs=[('->', '', '')], post=lambda secs: [s.__setitem__(1, W.listed([W.unsigned(n) + body])) for s in secs if s[0] == 10] and None)
     case('a body of 7,654,321 bytes', sized(7654321), wanted='ok')
     big = sized(7654322)
     case('a body of 7,654,322 bytes', big, wanted='refused %d function body size count exceeds limit of 7654321; has_failed true' % body_start(big))
     for title, n, ok in [('50,000', 50000, True), ('50,001', 50001, False)]:
         for words, ty, counts in [('', '->', [n]), (' in two lists', '->', [25000, n - 25000]), (' with the parameters', 'i32 i64 ->', [n - 2]),
                                   (' in lists of one', 'f32 ->', [1] * 3 + [n - 4])]:
-            raw = W.vec(W.u(c) + W.vt(NUMBERS[i % 4]) for i, c in enumerate(counts)) + b'\x0b'
+            raw = W.listed(W.unsigned(c) + W.value_type(NUMBERS[i % 4]) for i, c in enumerate(counts)) + b'\x0b'
             bytes = with_body(raw, ty)
-            ahead = len(W.u(len(counts))) + sum(len(W.u(c)) + 1 for c in counts[:-1])
+            ahead = len(W.unsigned(len(counts))) + sum(len(W.unsigned(c)) + 1 for c in counts[:-1])
             case('%s locals%s' % (title, words), bytes,
                  wanted='ok' if ok else 'refused %d too many locals: locals exceed maximum' % (body_start(bytes) + ahead))
-    asked('the last of 50,000 locals', '', ty='->', told=None, post=replaced(W.vec([W.u(50000) + b'\x7f']) + W.asm('local.get 49999; drop') + b'\x0b'))
-    asked('the one behind the last of 50,000 locals', '', ty='->', post=replaced(W.vec([W.u(50000) + b'\x7f']) + W.asm('local.get 50000; drop') + b'\x0b'))
+    asked('the last of 50,000 locals', '', ty='->', told=None, post=replaced(W.listed([W.unsigned(50000) + b'\x7f']) + W.operators('local.get 49999; drop') + b'\x0b'))
+    asked('the one behind the last of 50,000 locals', '', ty='->', post=replaced(W.listed([W.unsigned(50000) + b'\x7f']) + W.operators('local.get 50000; drop') + b'\x0b'))
     # a list of 2^32 - 1 locals, which two lists pass
-    bytes = with_body(W.vec([W.u(0xffffffff) + b'\x7f']) + b'\x0b')
+    bytes = with_body(W.listed([W.unsigned(0xffffffff) + b'\x7f']) + b'\x0b')
     case('4,294,967,295 locals', bytes, wanted='refused %d too many locals: locals exceed maximum' % (body_start(bytes) + 1))
-    bytes = with_body(W.vec([W.u(1) + b'\x7f', W.u(0xffffffff) + b'\x7f']) + b'\x0b')
+    bytes = with_body(W.listed([W.unsigned(1) + b'\x7f', W.unsigned(0xffffffff) + b'\x7f']) + b'\x0b')
     case('4,294,967,296 locals in two lists', bytes, wanted='refused %d too many locals: locals exceed maximum' % (body_start(bytes) + 3))
     nested = '; '.join
     for n in [1, 10, 1000]:
@@ -367,7 +360,7 @@ def replaced(body):
     def put(sections):
         for s in sections:
             if s[0] == 10:
-                s[1] = W.vec([W.u(len(body)) + body])
+                s[1] = W.listed([W.unsigned(len(body)) + body])
     return put
 
 
@@ -386,7 +379,7 @@ SATURATING = ['f:i', 'f:i', 'd:i', 'd:i', 'f:l', 'f:l', 'd:l', 'd:l']
 
 def numeric_operators():
     """Each numeric operator: name, opcode, what it takes and what it gives."""
-    codes = {code: name for name, (code, _) in W.OPS.items()}
+    codes = {code: name for name, (code, _) in W.OPERATORS.items()}
     for part in NUMERIC.replace('\n', ' ').split(', '):
         places, signature = part.split()
         first, _, last = places.partition('..')
@@ -398,7 +391,7 @@ def numeric_operators():
 
 def of_type(op, takes, gives):
     """A function of this type: its parameters in order, the operator, the end. And where operator and end begin."""
-    gets = b''.join(b'\x20' + W.u(i) for i in range(len(takes)))
+    gets = b''.join(b'\x20' + W.unsigned(i) for i in range(len(takes)))
     b = with_body(b'\0' + gets + op + b'\x0b', '%s -> %s' % (' '.join(takes), ' '.join(gives)))
     at = body_start(b) + 1 + len(gets)
     return b, at, at + len(op)
@@ -491,8 +484,8 @@ def accessed(op, align, address, value, gives, memory):
     gets = '; '.join('local.get %d' % i for i in range(1 + len(value)))
     access = '%s %d:8' % (op, align)
     b = function(gets + '; ' + access, ty='%s -> %s' % (' '.join([address] + value), ' '.join(gives)), mems=[memory])
-    at = body_start(b) + 1 + len(W.asm(gets))
-    return b, at, at + len(W.asm(access))
+    at = body_start(b) + 1 + len(W.operators(gets))
+    return b, at, at + len(W.operators(access))
 
 
 def access_rows(op, align, value, gives):
@@ -580,7 +573,7 @@ USES = {'call': ['functions'], 'return_call': ['functions'], 'ref.func': ['refer
 
 def uses_of(op, immediates, body):
     """The index spaces that an operator names, each with an index."""
-    numbers_of = [W.rdu(body, start)[0] for kind, start, _ in immediates if kind == 'u']
+    numbers_of = [W.unsigned_at(body, start)[0] for kind, start, _ in immediates if kind == 'u']
     if op in USES:
         yield from zip(USES[op], numbers_of)
     elif op.startswith(('table.', 'memory.')):
@@ -590,48 +583,48 @@ def uses_of(op, immediates, body):
     for kind, start, end in immediates:
         yield from written_types(kind, body[start:end])
         if kind == 'mem':
-            flags, at = W.rdu(body, start)
-            yield 'memories', W.rdu(body, at)[0] if flags & 0x40 else 0
+            flags, at = W.unsigned_at(body, start)
+            yield 'memories', W.unsigned_at(body, at)[0] if flags & 0x40 else 0
 
 
 def written_types(kind, b):
     """The types that an immediate names by their indices, and the tags of catch clauses."""
     if kind in ('ht', 'bt') and b[0] not in (0x63, 0x64):
-        n = W.rds(b, 0)[0]
+        n = W.signed_at(b, 0)[0]
         if n >= 0:
             yield 'types', n
-    elif kind in ('bt', 'vts', 'cast'):
+    elif kind in ('bt', 'types', 'cast'):
         # with a type behind 63 or 64, or the two heap types of a cast
-        at = {'bt': 1, 'vts': 2, 'cast': 1}[kind]
+        at = {'bt': 1, 'types': 2, 'cast': 1}[kind]
         if kind == 'cast':
-            at = W.rdu(b, at)[1]
+            at = W.unsigned_at(b, at)[1]
         while at < len(b):
-            n, at = W.rds(b, at)
+            n, at = W.signed_at(b, at)
             if n >= 0:
                 yield 'types', n
     elif kind == 'catches':
-        n, at = W.rdu(b, 0)
+        n, at = W.unsigned_at(b, 0)
         for _ in range(n):
             form = b[at]
-            x, at = W.rdu(b, at + 1)
+            x, at = W.unsigned_at(b, at + 1)
             if form < 2:
                 yield 'tags', x
-                _, at = W.rdu(b, at)
+                _, at = W.unsigned_at(b, at)
 
 
 def uses(body, ty):
     """For each index space the greatest index of a body, where it is one of the context, and whether one is beyond."""
     used = {'types': [ty]}
-    n, at = W.rdu(body, 0)
+    n, at = W.unsigned_at(body, 0)
     for _ in range(n):
-        _, at = W.rdu(body, at)
+        _, at = W.unsigned_at(body, at)
         if body[at] in (0x63, 0x64):
-            i, end = W.rds(body, at + 1)
+            i, end = W.signed_at(body, at + 1)
             if i >= 0:
                 used['types'].append(i)
-        at = W.skip_vt(body, at)
+        at = W.behind_value_type(body, at)
     while at < len(body):
-        op, immediates, end = W.decode_op(body, at)
+        op, immediates, end = W.operator_at(body, at)
         if op is None:
             break
         for space, index in uses_of(op, immediates, body):
@@ -681,7 +674,7 @@ def in_context(body, ty, features):
     def put(sections):
         for s in sections:
             if s[0] == 10:
-                s[1] = W.vec([W.u(3) + b'\0\0\x0b'] * len(functions) + [W.u(len(body)) + body])
+                s[1] = W.listed([W.unsigned(3) + b'\0\0\x0b'] * len(functions) + [W.unsigned(len(body)) + body])
     b = W.build(funcs=[(f, '', 'unreachable') for f in functions + [ty]], post=put, **parts)
     return b, W.bodies(b)[-1][1]
 
@@ -729,7 +722,7 @@ def whole_sample(ty, body):
     def put(sections):
         for s in sections:
             if s[0] == 10:
-                s[1] = W.vec([W.u(len(body)) + body])
+                s[1] = W.listed([W.unsigned(len(body)) + body])
     b = W.build(types=B.TYPES[:max(ty, 3) + 1], funcs=[(ty, '', 'unreachable')], post=put)
     return b, [e for i, _, _, e in W.sections(b) if i == 10][0] - len(body)
 
@@ -799,7 +792,7 @@ def frames():
             row('%s of function type %d%s' % (frame, n, ', and one without its last operand, or behind others' * bool(takes)), *parts)
         row('%s of a structure type, an array type, an unknown type' % frame, *[Part(function(framed(frame, '@%d' % n, 'unreachable') + '; unreachable',
                                                                                               types=FORMS)) for n in (5, 6, 99)])
-        case('%s of a block type that is none' % frame, with_body(b'\0' + W.asm('i32.const 0') + W.OPS[frame][0] + b'\x41\0\x0b\x0b'),
+        case('%s of a block type that is none' % frame, with_body(b'\0' + W.operators('i32.const 0') + W.OPERATORS[frame][0] + b'\x41\0\x0b\x0b'),
              wanted='refused; ' + IN_BODY)
         valid('return inside %s' % frame, 'i64.const 9; ' + framed(frame, '_', 'i32.const 1; return') + '; drop; i32.const 2', ty='-> i32')
         asked('return of another type inside %s' % frame, framed(frame, '_', 'i64.const 1; return') + '; i32.const 2', ty='-> i32')
@@ -1070,6 +1063,10 @@ def catches():
         first = dict(told='') if (clause, form) in (('catch:1:0', '=i64'), ('catch:2:0', '@6'), ('catch_ref:0:0', '=!noexn'), ('catch_all_ref:0', '=i32'),
                                                     ('catch_all_ref:0', '=anyref')) else {}
         (valid if ok else asked)('%s to a block %s' % (clause, form), ops, types=types, tags=tags, **first)
+    asked('an exception that may be null for a block of one that may not', 'block @4; local.get 0; end; drop', locals='exnref', types=types, tags=tags)
+    valid('an exception without its null for a block of one that may not', 'block @4; local.get 0; ref.as_non_null; end; drop', locals='exnref', types=types, tags=tags)
+    valid('what catch_ref gives is not null', 'block @4; block @4; try_table _ [catch_ref:0:0]; end; unreachable; end; end; drop', types=types, tags=tags)
+    asked('what catch_ref gives to a label that may be null', 'block @4; block =exnref; try_table _ [catch_ref:0:0]; end; unreachable; end; end; drop', types=types, tags=tags)
     valid('catch to the function', 'try_table _ [catch:1:0]; end; unreachable', ty='-> i32', types=types, tags=tags)
     asked('catch to the function of another result', 'try_table _ [catch:1:0]; end; unreachable', ty='-> i64', told='', types=types, tags=tags)
     valid('catch to a loop', 'i32.const 1; loop @8; drop; try_table _ [catch:1:0]; end; end', types=types, tags=tags)
@@ -1176,11 +1173,11 @@ def gated():
     for feature, ty in [('floats', 'f32'), ('simd', 'v128'), ('reference_types', 'funcref'), ('gc', 'anyref'), ('exceptions', 'exnref'),
                         ('gc_types', 'externref'), ('function_references', '!func'), ('gc', 'structref'), ('shared_everything_threads', 'shared')]:
         type_bytes = bytes.fromhex('6370') if ty == 'shared' else None
-        declared = W.vec([W.u(1) + (b'\x63\x65\x70' if ty == 'shared' else W.vt(ty))])
+        declared = W.listed([W.unsigned(1) + (b'\x63\x65\x70' if ty == 'shared' else W.value_type(ty))])
         b = with_body(declared + b'\x0b')
         case('a local of %s in a module without %s' % (ty, feature), b, 'default-' + feature,
              wanted='refused %d %s; %s' % (body_start(b) + 1, B.value_type(feature), IN_BODY), own=True)
-        b = with_body(b'\0\x02' + (b'\x63\x65\x70' if ty == 'shared' else W.vt(ty)) + b'\0\x0b\x1a\x0b')
+        b = with_body(b'\0\x02' + (b'\x63\x65\x70' if ty == 'shared' else W.value_type(ty)) + b'\0\x0b\x1a\x0b')
         case('a block that gives %s in a module without %s' % (ty, feature), b, 'default-' + feature,
              wanted='refused %d %s; %s' % (body_start(b) + 1, B.value_type(feature), IN_BODY), own=True)
 
@@ -1198,7 +1195,7 @@ SHARED = [b'\x65\x60\0\0', b'\x65\x5f\x01\x7f\x01', 'func ->', 'struct mut:i32',
 
 def raw_body(*pieces):
     """Bytes as they are, and operators, in turn, behind no locals but those that the first piece declares."""
-    return b''.join(x if isinstance(x, bytes) else W.asm(x) for x in pieces) + b'\x0b'
+    return b''.join(x if isinstance(x, bytes) else W.operators(x) for x in pieces) + b'\x0b'
 
 
 def beyond():
@@ -1485,7 +1482,7 @@ def changed(b, most):
         while at < end:
             if b[at] in CHANGED:
                 places.append(at)
-            at = W.decode_op(b, at)[2]
+            at = W.operator_at(b, at)[2]
     step = max(1, len(places) // most)
     for at in places[step // 2::step][:most]:
         yield b[:at] + bytes([CHANGED[b[at]]]) + b[at + 1:]
@@ -1510,4 +1507,4 @@ PARTS = [by_bytes, on_one_validator, limits, numbers, accesses, frames, unreache
          bodies, programs]
 
 if __name__ == '__main__':
-    main()
+    sys.exit(main())

@@ -1,18 +1,19 @@
 #!/usr/bin/env python3
-"""shape_mutations.py FOLDER: runs the table of shapes over the rows of bodies, and then with one change of it at a time.
+"""shape_mutations.py: runs the table of shapes over the rows of bodies, and then with one change of it at a time.
 
 The table is crates/wasm_operator_steps/specs/Shapes.antt, read as it stands; what its words mean (Actions, Meanings, Machine and Steps
 there) is written again here, over modules that are taken from crates/test_all/data/modules/bodies.rows. First every row whose
 answer is a body's is compared with what the table says: whether the body is accepted. Then single changes of the table are made:
 a check is left out; a value type, a list of operands or a flag is another one; two lists change places. A change that leaves every
 answer as it was is printed: no row tells it from the table.
-FOLDER holds `wasmgen` and `oracle`, as for the other tools; neither is asked anything. Nothing is proved or built for this.
+Nothing is proved or built for this.
 """
 import os, re, sys
 
+sys.dont_write_bytecode = True
 HERE = os.path.dirname(os.path.abspath(__file__))
-sys.path[:0] = [sys.argv[1], HERE]
-import wasmgen as W
+sys.path.insert(0, HERE)
+import wasm_assembler as W
 
 ROOT = os.path.join(HERE, '..', 'crates')
 SHAPES = os.path.join(ROOT, 'wasm_operator_steps', 'specs', 'Shapes.antt')
@@ -180,7 +181,7 @@ class Table:
 
 
 # ------------------------------------------------------------------------------------------------- modules
-HEAPS = {v: k + '_heap' for k, v in W.HEAP.items()}
+HEAPS = {v: k + '_heap' for k, v in W.HEAPS.items()}
 HEAPS.update({0x68: 'cont_heap', 0x75: 'nocont_heap'})
 ABOVE = {'any': [], 'eq': ['any'], 'i31': ['eq', 'any'], 'struct': ['eq', 'any'], 'array': ['eq', 'any'], 'none': ['i31', 'struct', 'array', 'eq', 'any'],
          'func': [], 'nofunc': ['func'], 'extern': [],
@@ -524,16 +525,16 @@ def instruction(r):
             return 'struct_shape', ('StructNewDesc' if n == 0x20 else 'StructNewDefaultDesc', r.unsigned())
         if (c, n) == (0xfe, 0x72):
             return 'conversion_shape', 'RefI31Shared'
-        key = bytes([c]) + W.u(n)
+        key = bytes([c]) + W.unsigned(n)
     else:
         key = bytes([c])
-    if key not in W.DEC:
+    if key not in W.BY_CODE:
         raise Refused('opcode')
-    return by_name(r, W.DEC[key][0])
+    return by_name(r, W.BY_CODE[key][0])
 
 
 def by_name(r, name):
-    kinds = W.OPS[name][1]
+    kinds = W.OPERATORS[name][1]
     if name in SIGNATURES:
         return 'computing', SIGNATURES[name]
     if 'mem' in kinds:
@@ -980,7 +981,7 @@ class Machine:
 
 
 WIDTHS = {camel(name): WIDTH.get(name) or {'8': 0, '1': 1, '3': 2}[re.search(r'(8|16|32)(_[su])?$', name).group(1)[0]] for name,
-          (_, kinds) in W.OPS.items() if 'mem' in kinds}
+          (_, kinds) in W.OPERATORS.items() if 'mem' in kinds}
 
 
 def address(is_64):

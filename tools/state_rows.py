@@ -1,5 +1,6 @@
 #!/usr/bin/env python3
-"""state_rows.py: writes crates/test_all/data/modules/states.rows, each call of a validator after each call, in each of its states.
+"""state_rows.py [--check]: writes crates/test_all/data/modules/states.rows, each call of a validator after each call, in each of its states, or compares
+what it makes with that file.
 
 A validator is in one of five states: before a header, in a module whose code section has not started, in one whose code section has
 started, after the end, and failed. There are eighteen calls. `answer` says what a call answers in each state, and in which state it leaves the
@@ -10,8 +11,11 @@ Calls that keep the state are made in turn on one validator, so that a row has a
 changes the state is made on a validator that is brought back to the state for each pair.
 """
 import os
+import sys
 
-ROWS = os.path.join(os.path.dirname(os.path.abspath(__file__)), '..', 'crates', 'test_all', 'data', 'modules')
+sys.dont_write_bytecode = True
+sys.path.insert(0, os.path.dirname(os.path.abspath(__file__)))
+import row_writer
 
 # a call's name, what it is called in the name of a row, and what it takes: of a section so much that it has an item
 CALLS = [
@@ -206,9 +210,8 @@ def main():
         pairs.update(shown)
     wanted = {(state, first, second) for state in STATES for first in NAMES for second in NAMES}
     assert pairs == wanted, (len(pairs), sorted(wanted - pairs)[:5], sorted(pairs - wanted)[:5])
-    with open(os.path.join(ROWS, 'states.rows'), 'w') as out:
-        out.write('\n'.join(lines).rstrip() + '\n')
+    return row_writer.main({'modules/states.rows': '\n'.join(lines).rstrip() + '\n'}, [], sys.argv[1:])
 
 
 if __name__ == '__main__':
-    main()
+    sys.exit(main())

@@ -1,8 +1,9 @@
 #!/usr/bin/env python3
-"""vector_rows.py FOLDER: writes vectors.rows and atomics.rows of crates/test_all/data/bodies from the table tools/vector_table.txt.
+"""vector_rows.py [--check]: writes vectors.rows and atomics.rows of crates/test_all/data/bodies from the table tools/vector_table.txt, or compares what
+it makes with those that are there.
 
-FOLDER is that of body_rows.py, whose context these rows have too. The verdict, the offset and the text of a row of a body are the Rust
-crate's, all its features on. By hand are the refusals for want of a feature: the Rust crate has no flags for these operators alone.
+These rows have the context of body_rows.py. The verdict, the offset and the text of a row of a body are the Rust crate's, all its features
+on, by tools/crate_answers.txt. By hand are the refusals for want of a feature: the Rust crate has no flags for these operators alone.
 
 Each operator is accepted once, and refused where an operand has another type, where another type is wanted of its result, where its
 address has another width, its memory isn't there, its offset is too large for the address, its alignment is greater than the access (an atomic
@@ -11,23 +12,19 @@ of each, as body_rows.py's does of other operators, under the names that the Rus
 """
 import os, re, sys
 
+sys.dont_write_bytecode = True
 HERE = os.path.dirname(os.path.abspath(__file__))
 sys.path.insert(0, HERE)
 import body_rows as B
+import row_writer
+from crate_answers import Answers
+from wasm_bytes import unsigned
 
 CONST = {'i32': b'\x41\x01', 'i64': b'\x42\x01', 'f32': b'\x43\0\0\x80\x3f', 'f64': b'\x44' + bytes(6) + b'\xf0\x3f', 'v128': b'\xfd\x0c' + bytes(16)}
 BYTE = {'i32': b'\x7f', 'i64': b'\x7e', 'f32': b'\x7d', 'f64': b'\x7c', 'v128': b'\x7b'}
 OTHER = {'i32': 'i64', 'i64': 'i32', 'f32': 'i32', 'f64': 'i64', 'v128': 'i32'}
 NEEDS = {'fd': ('vector_operators', 'vector operators are not served', 'simd', 'SIMD support is not enabled'),
          'fe': ('atomic_operators', 'atomic operators are not served', 'threads', 'threads support is not enabled')}
-
-
-def leb(n):
-    out = bytearray()
-    while n > 127:
-        out.append(n & 127 | 128)
-        n >>= 7
-    return bytes(out + bytes([n]))
 
 
 class Operator:
@@ -45,10 +42,10 @@ class Operator:
         self.lanes = int(m[1]) if m else None
 
     def bytes(self, align=None, memory=0, offset=0, lane=0, lanes=bytes([31] * 16)):
-        b = bytes([int(self.prefix, 16)]) + leb(self.sub)
+        b = bytes([int(self.prefix, 16)]) + unsigned(self.sub)
         if self.align is not None:
             align = self.align if align is None else align
-            b += (leb(align) if memory == 0 else leb(align + 64) + leb(memory)) + leb(offset)
+            b += (unsigned(align) if memory == 0 else unsigned(align + 64) + unsigned(memory)) + unsigned(offset)
         if self.lanes is not None:
             b += bytes([lane])
         if self.immediates == 'lanes16<32':
@@ -135,7 +132,7 @@ HEAD = B.HEAD.replace('''# Written by tools/body_rows.py, which says where the w
 def main():
     with open(os.path.join(HERE, 'vector_table.txt'), encoding='utf-8') as f:
         table = [Operator(line) for line in f if line.strip() and not line.startswith('#')]
-    wp = B.oracle.WP()
+    answers, files, lacking = Answers(), {}, []
     for file, prefix in [('vectors', 'fd'), ('atomics', 'fe')]:
         called = names(prefix)
         its = [it for it in table if it.prefix == prefix and it.sub in called]
@@ -143,16 +140,14 @@ def main():
         rows = [operator_row(it, called[it.sub]) for it in its]
         for it in its:
             for name, features, body, wanted in cases(it):
-                wanted = wanted or B.wanted_of(wp, 0, body, None)
+                wanted = wanted or B.wanted_of(answers, 0, body, None)
                 if wanted is None:
-                    print('no answer: %s' % name, file=sys.stderr)
+                    lacking.append(name)
                     continue
                 rows.append(' | '.join([name, features, '0', body.hex(), wanted]))
-        with open(os.path.join(B.DATA, file + '.rows'), 'w', encoding='utf-8') as f:
-            f.write(HEAD + '\n' + '\n'.join(rows) + '\n')
-        print('%s: %d rows' % (file, len(rows)))
-    wp.close()
+        files['bodies/%s.rows' % file] = HEAD + '\n' + '\n'.join(rows) + '\n'
+    return row_writer.main(files, lacking, sys.argv[1:])
 
 
 if __name__ == '__main__':
-    main()
+    sys.exit(main())

@@ -1,12 +1,12 @@
 #!/usr/bin/env python3
 """write_docs.py: writes what documents take from the sources, and checks what they say of them.
 
-usage: tools/write_docs.py               writes docs/API.md, docs/api/, docs/LIMITS.md, and what documents quote
+usage: tools/write_docs.py               writes docs/API.md, docs/api/, docs/LIMITS.md, docs/SPECIFICATION.md, and what documents quote
        tools/write_docs.py --check       writes nothing: says what isn't current, and what a document says that the sources don't
        tools/write_docs.py --selftest    puts false sentences into a copy of the documents, each of which a check must refuse
 
-docs_api.py makes the pages on the public items, docs_limits.py the page on limits, docs_checks.py has the checks, and docs_plants.py the false
-sentences. A quote is a block of code in a document after a line `<!-- from PATH: NAME -->`: it becomes the function or definition NAME as PATH
+docs_api.py makes the pages on the public items, docs_limits.py the page on limits, docs_specification.py that on definitions, docs_checks.py has the
+checks, and docs_plants.py the false sentences. A quote is a block of code in a document after a line `<!-- from PATH: NAME -->`: it becomes the function or definition NAME as PATH
 has it. The status is 1 where a page isn't current, a document is wrong, or a false sentence is let through; .ci/run calls it with --check."""
 import os
 import re
@@ -18,6 +18,7 @@ from docs_checks import CHECKS
 from docs_files import warnings
 from docs_limits import write_limits
 from docs_plants import PLANTS
+from docs_specification import PAGE, write_specification
 from docs_sources import ROOT, Library, Tree, quoted
 from docs_texts import documents
 
@@ -37,7 +38,7 @@ class Made:
     def __init__(self, tree):
         library = Library(tree)
         items = Pages(library)
-        self.pages = {**write_api(items), "docs/LIMITS.md": write_limits(tree, library)}
+        self.pages = {**write_api(items), "docs/LIMITS.md": write_limits(tree, library), PAGE: write_specification(tree)}
         self.warnings = items.unnamed()
 
 

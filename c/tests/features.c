@@ -3,10 +3,10 @@
 #include <stdio.h>
 #include <string.h>
 
-/* Each proposal, in the order of its bit. */
+/* Each feature, in the order of its bit. */
 static const char *const names[] = {"MUTABLE_GLOBAL", "REFERENCE_TYPES", "MULTI_VALUE", "BULK_MEMORY", "SIMD", "THREADS", "SHARED_EVERYTHING_THREADS",
     "FLOATS", "MULTI_MEMORY", "EXCEPTIONS", "MEMORY64", "EXTENDED_CONST", "FUNCTION_REFERENCES", "GC", "GC_TYPES", "CUSTOM_PAGE_SIZES",
-    "CUSTOM_DESCRIPTORS", "STACK_SWITCHING", "COMPONENT_MODEL", "VECTOR_OPERATORS", "ATOMIC_OPERATORS", "LEGACY_EXCEPTIONS"};
+    "CUSTOM_DESCRIPTORS", "STACK_SWITCHING", "COMPONENT_MODEL", "VECTOR_OPERATORS", "ATOMIC_OPERATORS", "LEGACY_EXCEPTIONS", "CRATE_LIMITS"};
 #define COUNT (sizeof names / sizeof *names)
 static long wrong;
 

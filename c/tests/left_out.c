@@ -1,4 +1,5 @@
-/* What the header says is left out is refused, under all features or without a feature of its own; and what it doesn't name there is not. */
+/* What the header says is left out is refused, under all features or without a feature of its own; and what it doesn't name there is not. The
+   limits of CRATE_LIMITS are there with that feature alone, and no proposal lifts them. */
 #include <ruthvelka.h>
 #include <stdio.h>
 #include <string.h>
@@ -89,10 +90,35 @@ static void try_others(void) {
     if (!are_right) printf("wrong: v128.const, a shared memory, a continuation type or a component\n"), wrong++;
 }
 
+/* A function type of so many parameters. */
+static uint32_t validate_parameters(size_t count, uint64_t features, char text[64], struct ruthvelka_report *report) {
+    static const uint8_t front[] = {0x00, 0x61, 0x73, 0x6d, 0x01, 0x00, 0x00, 0x00, 0x01, 0, 0, 0x01, 0x60, 0, 0};
+    uint8_t module[1100] = {0};
+    const size_t length = count + 5;
+    memcpy(module, front, sizeof front);
+    module[9] = (uint8_t)(length % 128 + 128), module[10] = (uint8_t)(length / 128);
+    module[13] = (uint8_t)(count % 128 + 128), module[14] = (uint8_t)(count / 128);
+    memset(module + 15, 0x7f, count);
+    return ruthvelka_validate(module, 16 + count, features, text, 64, report);
+}
+
+static void try_limits(void) {
+    static const char why[] = "function params size is out of bounds";
+    struct ruthvelka_report report;
+    char text[64];
+    const int are_right = validate_parameters(1000, RUTHVELKA_STANDARD | RUTHVELKA_CRATE_LIMITS, text, NULL) == RUTHVELKA_VALID
+        && validate_parameters(1001, RUTHVELKA_STANDARD, text, NULL) == RUTHVELKA_VALID
+        && validate_parameters(1001, ALL, text, NULL) == RUTHVELKA_VALID
+        && validate_parameters(1001, RUTHVELKA_STANDARD | RUTHVELKA_CRATE_LIMITS, text, &report) == RUTHVELKA_REFUSED
+        && report.missing_features == 0 && !memcmp(text, why, sizeof why - 1);
+    if (!are_right) printf("wrong: the limit of parameters\n"), wrong++;
+}
+
 int main(void) {
     try_left_out();
     try_opt_in();
     try_others();
+    try_limits();
     printf("%ld wrong answers about what is left out\n", wrong);
     return wrong != 0;
 }
