@@ -28,11 +28,11 @@ use Rattle.wasm_spec_instructions.proofs.Attempts.{no, the_same, absent, and-bot
 use Rattle.wasm_spec_instructions.proofs.Orders.{in_order}
 
 -- options and lists
-then_gives : {X Y : Type 0} (f : X → Option Y) (o : Option X) (y : Y) → option_and_then f o ≡ Some y → (x : X) × (o ≡ Some x) × (f x ≡ Some y)
+pub then_gives : {X Y : Type 0} (f : X → Option Y) (o : Option X) (y : Y) → option_and_then f o ≡ Some y → (x : X) × (o ≡ Some x) × (f x ≡ Some y)
 then_gives f None y e = absurd (absent y e)
 then_gives f (Some x) y e = (x, refl, e)
 
-from_map : {X Y : Type 0} (g : X → Y) (o : Option X) (y : Y) → option_map g o ≡ Some y → (x : X) × (o ≡ Some x) × (g x ≡ y)
+pub from_map : {X Y : Type 0} (g : X → Y) (o : Option X) (y : Y) → option_map g o ≡ Some y → (x : X) × (o ≡ Some x) × (g x ≡ y)
 from_map g None y e = absurd (absent y e)
 from_map g (Some x) y e = (x, refl, the_same (g x) y e)
 
@@ -41,10 +41,10 @@ first_of_all P [] rest x a e = absurd (absent x e)
 first_of_all P (z ∷ xs) rest x a e = subst P (the_same z x e) (All-head P z (xs ++ rest) a)
 
 -- places of a list
-place_of : {X : Type 0} (xs : List X) (x : X) (c : Contains xs x) → slice_get xs c.0 ≡ Some x
+pub place_of : {X : Type 0} (xs : List X) (x : X) (c : Contains xs x) → slice_get xs c.0 ≡ Some x
 place_of xs x c = slice_get-get_or xs c.0 x c.1 ∙ ap Some c.2
 
-contains_at : {X : Type 0} (xs : List X) (k : ℕ) (x : X) → slice_get xs k ≡ Some x → Contains xs x
+pub contains_at : {X : Type 0} (xs : List X) (k : ℕ) (x : X) → slice_get xs k ≡ Some x → Contains xs x
 contains_at xs k x e = (k, slice_get_within xs k x e, get_or_from_slice_get xs k x x e)
 
 -- how many types of a list pass a test
@@ -141,19 +141,19 @@ module _ (N : DefType → ℕ) where
   entries ds = flat_map (λ (d : DefType). declares_at N d (declared d)) ds
 
   -- an entry that is found
-  record Entry (ds : List DefType) (a : ℕ) (s : Sub ℕ) : Type 0 where
-    type : DefType
-    place : ℕ
-    there : slice_get ds place ≡ Some type
-    number : N type ≡ a
-    sub : Sub DefType
-    declares : declared type ≡ Some sub
-    is : map_sub N sub ≡ s
+  pub record Entry (ds : List DefType) (a : ℕ) (s : Sub ℕ) : Type 0 where
+    pub type : DefType
+    pub place : ℕ
+    pub there : slice_get ds place ≡ Some type
+    pub number : N type ≡ a
+    pub sub : Sub DefType
+    pub declares : declared type ≡ Some sub
+    pub is : map_sub N sub ≡ s
 
   behind : (d : DefType) (ds : List DefType) (a : ℕ) (s : Sub ℕ) → Entry ds a s → Entry (d ∷ ds) a s
   behind d ds a s e = record { type = e.type; place = suc e.place; there = e.there; number = e.number; sub = e.sub; declares = e.declares; is = e.is }
 
-  entry_of : (ds : List DefType) (a : ℕ) (s : Sub ℕ) → declared_in nat_eq (entries ds) a ≡ Some s → Entry ds a s
+  pub entry_of : (ds : List DefType) (a : ℕ) (s : Sub ℕ) → declared_in nat_eq (entries ds) a ≡ Some s → Entry ds a s
   entry_of [] a s e = absurd (absent s e)
   entry_of (d ∷ ds) a s e = go (entry_of ds a s) (declared d) refl e
     where
@@ -166,7 +166,7 @@ module _ (N : DefType → ℕ) where
       go ih (Some t) f g = pick ih t f (nat_eq (N d) a) refl g
 
   -- each type that declares something has an entry
-  entry_for : (ds : List DefType) (k : ℕ) (d : DefType) (t : Sub DefType) → slice_get ds k ≡ Some d → declared d ≡ Some t → (s : Sub ℕ) × (declared_in nat_eq (entries ds) (N d) ≡ Some s)
+  pub entry_for : (ds : List DefType) (k : ℕ) (d : DefType) (t : Sub DefType) → slice_get ds k ≡ Some d → declared d ≡ Some t → (s : Sub ℕ) × (declared_in nat_eq (entries ds) (N d) ≡ Some s)
   entry_for [] k d t e f = absurd (absent d e)
   entry_for (x ∷ ds) k d t e f = go (λ j g. entry_for ds j d t g f) (declared x) refl k e
     where
@@ -186,7 +186,7 @@ module _ (N : DefType → ℕ) where
       let s = h 0 d refl in
       ap (λ (o : Option (Sub DefType)). length (declares_at N d o ++ entries ds)) s.1 ∙ ap suc (length-entries ds (λ k e g. h (suc k) e g))
 
-kind-map : (N : DefType → ℕ) (c : Comp DefType) → kind_of (map_comp N c) ≡ kind_of c
+pub kind-map : (N : DefType → ℕ) (c : Comp DefType) → kind_of (map_comp N c) ≡ kind_of c
 kind-map N (func ps rs) = refl
 kind-map N (array x) = refl
 kind-map N (struct xs) = refl

@@ -1,10 +1,10 @@
 -- Among a module's types under their numbers, functions match as their types do.
-use Rattle.std.proofs.Common.{◌≡◌, refl, sym, ap, subst, ◌∙◌, ℕ, zero, suc, nat_eq, Bool, true, false, not, ◌&&◌, ◌||◌, if◌then◌else◌, List, [], ◌∷◌, ◌++◌, map, length, slice_get, Option, Some, None, option_map, All, IsTrue}
+use Rattle.std.proofs.Common.{◌≡◌, refl, sym, ap, subst, ◌∙◌, ℕ, zero, suc, nat_eq, Bool, true, false, not, ◌&&◌, ◌||◌, List, [], ◌∷◌, ◌++◌, map, length, slice_get, Option, Some, option_map, All, IsTrue}
 use Rattle.std.specs.Option.{option_and_then}
 use Rattle.std.specs.List.{flat_map, Contains, AllZip}
 use Rattle.std.proofs.lemmas.Bool.Decides.{Decides-eqb}
 use Rattle.std.proofs.lemmas.List.Elements.{All-nil, All-cons, All-head, All-tail, All-contains}
-use Rattle.std.proofs.lemmas.Option.{slice_get-map, slice_get_within, slice_get-get_or, get_or_from_slice_get}
+use Rattle.std.proofs.lemmas.Option.{slice_get-map}
 use Rattle.wasm_spec.specs.Syntax.{AbstractHeap, Heap, abstract_heap, concrete, exact, Val, i32, i64, f32, f64, v128, reference, Comp, func, array, struct, cont, Sub, map_heap, map_val, map_comp, map_sub}
 use Rattle.wasm_spec.specs.Features.{Features}
 use Rattle.wasm_spec.specs.References.{refs_option, refs_heap, refs_val, refs_comp}
@@ -18,31 +18,18 @@ use Rattle.wasm_spec.specs.TypeLaws.{AreAccepted}
 use Rattle.wasm_spec.proofs.Matching.{accepted_types_match_ancestors}
 use Rattle.wasm_spec.proofs.MatchingTests.{tests_decide_matching}
 use Rattle.wasm_operator_steps.specs.WasmSpecRules.Attempts.{◌>>=◌, passes}
-use Rattle.wasm_operator_steps.specs.WasmSpecRules.Contexts.{Context, declares_at, AreFirst}
+use Rattle.wasm_operator_steps.specs.WasmSpecRules.Contexts.{Context, AreFirst}
 use Rattle.wasm_operator_steps.specs.WasmSpecRules.Signatures.{Signature, signature_of}
 use Rattle.wasm_operator_steps.specs.WasmSpecRules.Worlds.{declared_in, is_below, world_of}
 use Rattle.wasm_spec_instructions.specs.ValueTypes.{vals, Match, none, each, IsInOrder}
 use Rattle.wasm_spec_instructions.proofs.Attempts.{no, the_same, absent, bind-gives, passes-gives}
 use Rattle.wasm_spec_instructions.proofs.Fits.{match-itself}
+use Rattle.wasm_laws_instructions.proofs.Numbered.{then_gives, from_map, place_of, contains_at, entries, Entry, entry_of, entry_for, kind-map}
 use Rattle.wasm_laws_values.specs.Values.{signature_in}
 use Rattle.wasm_laws_values.specs.Fits.{FunctionsMatch}
 use Rattle.wasm_laws_soundness.proofs.Steps.{vals-through}
 
--- options and lists
-then_gives : {X Y : Type 0} (f : X → Option Y) (o : Option X) (y : Y) → option_and_then f o ≡ Some y → (x : X) × (o ≡ Some x) × (f x ≡ Some y)
-then_gives f None y e = absurd (absent y e)
-then_gives f (Some x) y e = (x, refl, e)
-
-from_map : {X Y : Type 0} (g : X → Y) (o : Option X) (y : Y) → option_map g o ≡ Some y → (x : X) × (o ≡ Some x) × (g x ≡ y)
-from_map g None y e = absurd (absent y e)
-from_map g (Some x) y e = (x, refl, the_same (g x) y e)
-
-place_of : {X : Type 0} (xs : List X) (x : X) (c : Contains xs x) → slice_get xs c.0 ≡ Some x
-place_of xs x c = slice_get-get_or xs c.0 x c.1 ∙ ap Some c.2
-
-contains_at : {X : Type 0} (xs : List X) (k : ℕ) (x : X) → slice_get xs k ≡ Some x → Contains xs x
-contains_at xs k x e = (k, slice_get_within xs k x e, get_or_from_slice_get xs k x x e)
-
+-- lists and truth values
 module _ {X : Type 0} (P : X → Type 0) where
   all-first : (xs ys : List X) → All P (xs ++ ys) → All P xs
   all-first [] ys h = All-nil P
@@ -74,67 +61,6 @@ module _ (N : DefType → ℕ) where
   bottom-map (array x) = refl
   bottom-map (struct xs) = refl
   bottom-map (cont r) = refl
-
-  kinds-map : (c : Comp DefType) → kind_of (map_comp N c) ≡ kind_of c
-  kinds-map (func ps rs) = refl
-  kinds-map (array x) = refl
-  kinds-map (struct xs) = refl
-  kinds-map (cont r) = refl
-
-  abbrev entries : List DefType → List (ℕ × Sub ℕ)
-  entries ds = flat_map (λ (d : DefType). declares_at N d (declared d)) ds
-
-  -- an entry that is found
-  record Entry (ds : List DefType) (a : ℕ) (s : Sub ℕ) : Type 0 where
-    type : DefType
-    place : ℕ
-    there : slice_get ds place ≡ Some type
-    number : N type ≡ a
-    sub : Sub DefType
-    declares : declared type ≡ Some sub
-    is : map_sub N sub ≡ s
-
-  further : (d : DefType) (ds : List DefType) (a : ℕ) (s : Sub ℕ) → Entry ds a s → Entry (d ∷ ds) a s
-  further d ds a s e = record { type = e.type; place = suc e.place; there = e.there; number = e.number; sub = e.sub; declares = e.declares; is = e.is }
-
-  entry_of : (ds : List DefType) (a : ℕ) (s : Sub ℕ) → declared_in nat_eq (entries ds) a ≡ Some s → Entry ds a s
-  entry_of [] a s e = absurd (absent s e)
-  entry_of (d ∷ ds) a s e = go (entry_of ds a s) (declared d) refl e
-    where
-      pick :
-          (declared_in nat_eq (entries ds) a ≡ Some s → Entry ds a s) → (t : Sub DefType) → declared d ≡ Some t → (b : Bool) → nat_eq (N d) a ≡ b
-          → (if b then Some (map_sub N t) else declared_in nat_eq (entries ds) a) ≡ Some s → Entry (d ∷ ds) a s
-      pick ih t f true g h =
-          record { type = d; place = 0; there = refl; number = (Decides-eqb (N d) a).0 g; sub = t; declares = f; is = the_same (map_sub N t) s h }
-      pick ih t f false g h = further d ds a s (ih h)
-
-      go :
-          (declared_in nat_eq (entries ds) a ≡ Some s → Entry ds a s) → (o : Option (Sub DefType)) → declared d ≡ o
-          → declared_in nat_eq (declares_at N d o ++ entries ds) a ≡ Some s → Entry (d ∷ ds) a s
-      go ih None f g = further d ds a s (ih g)
-      go ih (Some t) f g = pick ih t f (nat_eq (N d) a) refl g
-
-  -- each type that declares something is found under its number
-  entry_for :
-      (ds : List DefType) (k : ℕ) (d : DefType) (t : Sub DefType) → slice_get ds k ≡ Some d → declared d ≡ Some t
-      → (s : Sub ℕ) × (declared_in nat_eq (entries ds) (N d) ≡ Some s)
-  entry_for [] k d t e f = absurd (absent d e)
-  entry_for (x ∷ ds) k d t e f = go (λ j g. entry_for ds j d t g f) (declared x) refl k e
-    where
-      pick :
-          ((j : ℕ) → slice_get ds j ≡ Some d → (s : Sub ℕ) × (declared_in nat_eq (entries ds) (N d) ≡ Some s)) → (u : Sub DefType) (b : Bool)
-          → nat_eq (N x) (N d) ≡ b → (k : ℕ) → slice_get (x ∷ ds) k ≡ Some d
-          → (s : Sub ℕ) × ((if b then Some (map_sub N u) else declared_in nat_eq (entries ds) (N d)) ≡ Some s)
-      pick ih u true g k e = (map_sub N u, refl)
-      pick ih u false g zero e = no (sym g ∙ (Decides-eqb (N x) (N d)).1 (ap N (the_same x d e)))
-      pick ih u false g (suc k) e = ih k e
-
-      go :
-          ((j : ℕ) → slice_get ds j ≡ Some d → (s : Sub ℕ) × (declared_in nat_eq (entries ds) (N d) ≡ Some s)) → (o : Option (Sub DefType)) → declared x ≡ o
-          → (k : ℕ) → slice_get (x ∷ ds) k ≡ Some d → (s : Sub ℕ) × (declared_in nat_eq (declares_at N x o ++ entries ds) (N d) ≡ Some s)
-      go ih None g zero e = absurd (absent t (sym g ∙ ap declared (the_same x d e) ∙ f))
-      go ih None g (suc k) e = ih k e
-      go ih (Some u) g k e = pick ih u (nat_eq (N x) (N d)) refl k e
 
 -- a supertype is above
 below-itself : (xs : List (ℕ × Sub ℕ)) (n a : ℕ) → is_below nat_eq xs n a a ≡ true
@@ -220,7 +146,7 @@ module _ (F : Features) (types ds : List DefType) (N : DefType → ℕ) (accepte
       let w : u.0 ≡ t = the_same u.0 t (sym u.1 ∙ e) in
       ap (matches_kind s k) (u.2 ∙ ap (λ (z : Sub DefType). Some (map_sub N z)) w)
       ∙ both-hold (same_flag t.shared s) (matches_abstract (kind_of (map_comp N t.comp)) k) (flag-itself t.shared s f)
-      (ap (λ (z : AbstractHeap). matches_abstract z k) (kinds-map N t.comp) ∙ ((tests_decide_matching {R = DefType}).abstract_types (kind_of t.comp) k).1 g)
+      (ap (λ (z : AbstractHeap). matches_abstract z k) (kind-map N t.comp) ∙ ((tests_decide_matching {R = DefType}).abstract_types (kind_of t.comp) k).1 g)
 
   heaps-match :
       (h k : Heap DefType) → Known (refs_heap h) → Known (refs_heap k) → MatchesHeap declared h k → matches_heap V (map_heap N h) (map_heap N k) ≡ true
