@@ -4,5 +4,8 @@ pub mod Main
 pub mod Worlds
 pub mod Modules
 pub mod ValidModules
+pub mod Reached
+pub mod Heights
+pub mod HeightsInModules
 pub mod Frames
 pub mod Example

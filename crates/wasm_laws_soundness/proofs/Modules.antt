@@ -80,7 +80,7 @@ module _ {R : Type 0} (W : World R) (F : Features) (C : Context R) (P : Primitiv
   as_code S g d B D I J c e f h t = subst (TypedAs S g) (sym f ∙ h) t
 
   -- a body that the rules type is the code that its bytes are
-  code-typed :
+  pub code-typed :
       (S : Store R) (I : Instance) (n : ℕ) (bytes : List ℕ) (B : Surroundings R) (c : Code) (k : IsCodeOf W F C n bytes B c) (t : IsTypedBody W F C n bytes)
       → ((shared : Bool) (locals : List (Local R)) → InstanceFits W P S (body_in F C shared locals) I) → IsTypedCode W P S t.signature B I c
   code-typed S I n bytes B c k t fits =
@@ -106,7 +106,7 @@ module _ {R : Type 0} (W : World R) (F : Features) (C : Context R) (P : Primitiv
         instance = fits t.shared (map local_taken t.signature.takes ++ t.locals);
       }))
 
-  function-typed :
+  pub function-typed :
       (parts : Parts) (S : Store R) (I : Instance) (f : Function R)
       → ((i n : ℕ) (bytes : List ℕ) → slice_get parts.functions i ≡ Some n → slice_get parts.bodies i ≡ Some bytes → IsTypedBody W F C n bytes)
       → ((shared : Bool) (locals : List (Local R)) → InstanceFits W P S (body_in F C shared locals) I) → IsFunctionOf W F C P parts I f

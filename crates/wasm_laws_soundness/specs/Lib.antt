@@ -4,4 +4,5 @@ pub mod Promises
 pub mod Laws
 pub mod Frames
 pub mod Modules
+pub mod Heights
 pub mod Example

@@ -4,6 +4,7 @@
 
 ghost use Rattle.wasm_laws_soundness.specs.Example.{ExampleWorks};
 ghost use Rattle.wasm_laws_soundness.specs.Frames.{NoRunReadsBelow};
+ghost use Rattle.wasm_laws_soundness.specs.Heights.{HeightsAreAsSeen, RunsComeToTheEnd, ValidModulesHaveTheirHeights};
 ghost use Rattle.wasm_laws_soundness.specs.Laws.{FunctionsAreSound, HeightsAreAsTyped, NeverStuck, Soundness};
 ghost use Rattle.wasm_laws_soundness.specs.Modules.{ValidModulesNeverGetStuck};
 
@@ -31,6 +32,19 @@ pub fn heights_are_as_typed<R>()
     ensures { HeightsAreAsTyped R }
 {}
 
+/// Wherever a run of typed code comes, it has as many operands as the validator saw there, below
+/// the innermost block and in it, and the validator doesn't regard what follows as unreachable.
+#[tactic(auto, using(crate::proofs::Heights::heights_are_as_seen))]
+pub fn heights_are_as_seen<R>()
+    ensures { HeightsAreAsSeen R }
+{}
+
+/// Where code falls through, its run has come to its end.
+#[tactic(auto, using(crate::proofs::Heights::runs_come_to_the_end))]
+pub fn runs_come_to_the_end<R>()
+    ensures { RunsComeToTheEnd R }
+{}
+
 /// With other operands below, code and functions do the same: no run reads an operand below its
 /// frame.
 #[tactic(auto, using(crate::proofs::Frames::no_run_reads_below))]
@@ -46,4 +60,10 @@ pub fn example_works()
 /// No function of an instance of a valid module is ever stuck, where shared types are off.
 pub fn valid_modules_never_get_stuck()
     ensures { ValidModulesNeverGetStuck }
+{}
+
+/// Wherever a run of a body of a valid module comes, it has as many operands as the validator saw
+/// there, where shared types are off.
+pub fn valid_modules_have_their_heights()
+    ensures { ValidModulesHaveTheirHeights }
 {}

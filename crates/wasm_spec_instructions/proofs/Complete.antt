@@ -63,7 +63,7 @@ module _ {R : Type 0} (W : World R) (o : IsInOrder W) (B : Surroundings R) where
     C = over base D
 
     -- checks that hold let the run go on
-    checks-run : (cs : List Check) (as_ : List Action) (p : Stack R) → AllHold W B D cs → Covers W B D.sets (p.sets ++ base) → lrun W B C (checked cs as_) p ≡ lrun W B C as_ p
+    pub checks-run : (cs : List Check) (as_ : List Action) (p : Stack R) → AllHold W B D cs → Covers W B D.sets (p.sets ++ base) → lrun W B C (checked cs as_) p ≡ lrun W B C as_ p
     checks-run [] as_ p h v = refl
     checks-run (c ∷ cs) as_ p h v =
         bind-at (lrun W B C (checked cs as_)) (guard-at (holds_in W B D.labels D.returns (p.sets ++ base) c) p (holds-more W B D.labels D.returns D.sets (p.sets ++ base) c v h.0)) (checks-run cs as_ p h.1 v)
