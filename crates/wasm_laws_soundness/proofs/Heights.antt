@@ -13,7 +13,7 @@ use Rattle.wasm_operator_steps.specs.Machine as machine
 use Rattle.wasm_operator_steps.specs.Actions.{of_tag, take}
 use Rattle.wasm_operator_steps.specs.Shapes.{shape_of}
 use Rattle.wasm_operator_steps.specs.Meanings.{label_by, block_signature, signature_at}
-use Rattle.wasm_operator_steps.specs.Steps.{actions_of, checked, start, steps_in}
+use Rattle.wasm_operator_steps.specs.Steps.{actions_of, checked, steps_in}
 use Rattle.wasm_spec_instructions.specs.Code.{Opening, a_block, a_loop, an_if, a_try, a_try_table, Handler, a_catch, a_catch_all, Code, done, simply, enclosing, choosing_between, handling, delegating_to, Handlers, last_handler, catch_before, and_then, is_done, is_one, written, handler_written, else_, end_, delegate_, flatten, flatten_handlers, kind_of, block_of, checks_of, condition_of, handler_kind, handler_checks, handler_operands}
 use Rattle.wasm_spec_instructions.specs.ValueTypes.{ValueType, bot, val, vals, Match}
 use Rattle.wasm_spec_instructions.specs.Scopes.{Scope, labelled, inside, in_handler, behind as behind_setting, is_set, types_in}
@@ -196,7 +196,8 @@ module _ {R : Type 0} (W : World R) (P : Primitives R) (B : Surroundings R) (I :
   to_the_end (enclosing o b c) n s t e =
       passing (enclosing o b c) n s t (enter W P (run W P n) B I o b (λ u. doing n b u) s) refl refl (λ u h. to_the_end c n u t h) e
   to_the_end (choosing_between g b d c) n s t e =
-      passing (choosing_between g b d c) n s t (with_signature W P (run W P n) B I g (λ x. in_either x (λ u. doing n b u) (λ u. doing n d u) s)) refl refl
+      passing (choosing_between g b d c) n s t
+      (with_signature W P (run W P n) B I g (λ x. in_either x (λ u. doing n b u) (λ u. doing n d u) s)) refl refl
       (λ u h. to_the_end c n u t h) e
   to_the_end (handling g b hs c) n s t e =
       passing (handling g b hs c) n s t
@@ -258,7 +259,8 @@ module _ {R : Type 0} {W : World R} {B : Surroundings R} where
   }
 
   -- the machine at the end of code, where a run has come to it, goes on
-  still_reached : (L : Place W B) (p q : Stack R) (ops : List (Instruction ℕ)) (m n : ℕ) → Seen L p ops m n → steps_in W B ops (at L p) ≡ Some (at L q)
+  still_reached :
+      (L : Place W B) (p q : Stack R) (ops : List (Instruction ℕ)) (m n : ℕ) → Seen L p ops m n → steps_in W B ops (at L p) ≡ Some (at L q)
       → q.unreached ≡ false
   still_reached L p q ops m n h e =
       let w : at L q ≡ h.state = the_same (at L q) h.state (sym e ∙ h.seen) in
@@ -281,8 +283,10 @@ module _ {R : Type 0} (W : World R) (P : Primitives R) (a : AreSound W P) (B : S
     covers : Covers W B D.sets (left.sets ++ L.inits)
 
   opens :
-      (D : Scope R) (L : Place W B) → scope L ≡ over L.inits D → (o : Opening) (g : Signature R) → Opens W B D o g → (p : Stack R) (ws : List (ValueType R))
-      → Covers W B D.sets (p.sets ++ L.inits) → FitsStack W p (onto (vals (condition W a.in_order B o)) (onto (vals g.takes) ws)) → p.unreached ≡ false
+      (D : Scope R) (L : Place W B) → scope L ≡ over L.inits D → (o : Opening) (g : Signature R) → Opens W B D o g
+      → (p : Stack R) (ws : List (ValueType R))
+      → Covers W B D.sets (p.sets ++ L.inits) → FitsStack W p (onto (vals (condition W a.in_order B o)) (onto (vals g.takes) ws))
+      → p.unreached ≡ false
       → Opened D L o g p ws
   opens D L q o g h p ws v k u =
       let x = pops-complete W (condition W a.in_order B o) p (onto (vals g.takes) ws) k in
@@ -298,14 +302,16 @@ module _ {R : Type 0} (W : World R) (P : Primitives R) (a : AreSound W P) (B : S
             ap (λ (z : Scope R). lenter W B z o p) q
             ∙ bind-at (lenter_block W B (block_of o)) r
             (bind-at (signed_at W B x.0) h.resolves (bind-at (taking W B h.block x.0) h.signed (bind-at (entered h.block g) b.1 refl)));
-        high = fits-length W b.0.unreached b.0.items ws (pops-reach W g.takes x.0 b.0 b.1 ∙ pops-reach W (condition W a.in_order B o) p x.0 x.1 ∙ u) b.2;
+        high = fits-length W b.0.unreached b.0.items ws
+            (pops-reach W g.takes x.0 b.0 b.1 ∙ pops-reach W (condition W a.in_order B o) p x.0 x.1 ∙ u) b.2;
         covers = λ m e.
             subst (λ (is : List ℕ). is_set W B m (is ++ L.inits) ≡ true) (sym (pops-sets W g.takes x.0 b.0 b.1))
             (taken-same W B (over L.inits D) (checks_of o) (condition_of o) p x.0 r m ∙ v m e);
       }
 
   -- and by a run
-  record Begun (S : Store R) (g : Signature R) (rest : List (ValueType R)) (b : Block ℕ) (vs below top : List (Value R)) (w : Begins W B b vs below top) : Type 0 where
+  record Begun (S : Store R) (g : Signature R) (rest : List (ValueType R)) (b : Block ℕ) (vs below top : List (Value R))
+      (w : Begins W B b vs below top) : Type 0 where
     same : w.signature ≡ g
     under : HaveTypes W S below rest
     above : HaveTypes W S top (vals g.takes)
@@ -329,7 +335,8 @@ module _ {R : Type 0} (W : World R) (P : Primitives R) (a : AreSound W P) (B : S
   Heights n D c ts =
       (L : Place W B) → scope L ≡ over L.inits D → (p : Stack R) (ws rest : List (ValueType R)) (s : State R) → Covers W B D.sets (p.sets ++ L.inits)
       → FitsStack W p (onto ts ws) → p.unreached ≡ false → length rest ≡ length ws → Fits W P B I s.store D.sets (rest ++ ts) s
-      → (ops : List (Instruction ℕ)) (vs : List (Value R)) (to : State R) → Comes W P B I n c s ops vs to → Seen L p ops (length vs) (length to.operands)
+      → (ops : List (Instruction ℕ)) (vs : List (Value R)) (to : State R) → Comes W P B I n c s ops vs to
+      → Seen L p ops (length vs) (length to.operands)
 
   abbrev entered_with : Block R → List (Val R) → List (Val R) → Stack R → Entered R
   entered_with b ts us left = record { block = b; signature = record { takes = ts; gives = us }; left = left }
@@ -338,8 +345,10 @@ module _ {R : Type 0} (W : World R) (P : Primitives R) (a : AreSound W P) (B : S
   HandlersHeights n D hs us =
       (L : Place W B) → scope L ≡ over L.inits D → (k : Kind) → may_catch k ≡ true → (b : Block R) (ts : List (Val R)) (left r : Stack R)
       → (g : IsSigned W B (entered_with b ts us left)) → Covers W B D.sets (left.sets ++ L.inits) → FitsStack W r (onto (vals us) [])
-      → (s : State R) (some : List (ValueType R)) → Fits W P B I s.store D.sets some s → (x : ℕ) (e : Exception R) → slice_get s.store.exceptions x ≡ Some e
-      → (ops : List (Instruction ℕ)) (vs : List (Value R)) (to : State R) → Handles W P B I n hs s e ops vs to → Seen (inside_of L k (entered_with b ts us left) g) r ops (length vs) (length to.operands)
+      → (s : State R) (some : List (ValueType R)) → Fits W P B I s.store D.sets some s → (x : ℕ) (e : Exception R)
+      → slice_get s.store.exceptions x ≡ Some e
+      → (ops : List (Instruction ℕ)) (vs : List (Value R)) (to : State R) → Handles W P B I n hs s e ops vs to
+      → Seen (inside_of L k (entered_with b ts us left) g) r ops (length vs) (length to.operands)
 
   -- within fewer steps
   abbrev Fewer : ℕ → Type 0
@@ -358,7 +367,9 @@ module _ {R : Type 0} (W : World R) (P : Primitives R) (a : AreSound W P) (B : S
       omega (arith, a, b, c, d, e)
 
   -- in a block
-  deeper-scope : (D : Scope R) (L : Place W B) → scope L ≡ over L.inits D → (k : Kind) (e : Entered R) (g : IsSigned W B e) → scope (inside_of L k e g) ≡ over (e.left.sets ++ L.inits) (labelled (has_caught k) (label_by k e.signature) D)
+  deeper-scope :
+      (D : Scope R) (L : Place W B) → scope L ≡ over L.inits D → (k : Kind) (e : Entered R) (g : IsSigned W B e)
+      → scope (inside_of L k e g) ≡ over (e.left.sets ++ L.inits) (labelled (has_caught k) (label_by k e.signature) D)
   deeper-scope D L q k e g = λ i. record {
     labels = label_by k e.signature ∷ (q i).labels;
     caught = has_caught k ∷ (q i).caught;
@@ -368,8 +379,10 @@ module _ {R : Type 0} (W : World R) (P : Primitives R) (a : AreSound W P) (B : S
 
   in-block :
       (n : ℕ) (D : Scope R) (k : Kind) (u : Bool) (c : Code) (us ts : List (Val R)) → has_caught k ≡ u → Heights n (labelled u us D) c (vals ts)
-      → (L : Place W B) → scope L ≡ over L.inits D → (e : Entered R) (g : IsSigned W B e) → label_by k e.signature ≡ us → Covers W B D.sets (e.left.sets ++ L.inits)
-      → (s : State R) → Fits W P B I s.store D.sets (vals ts) s → (ops : List (Instruction ℕ)) (vs : List (Value R)) (to : State R) → Comes W P B I n c s ops vs to
+      → (L : Place W B) → scope L ≡ over L.inits D → (e : Entered R) (g : IsSigned W B e) → label_by k e.signature ≡ us
+      → Covers W B D.sets (e.left.sets ++ L.inits)
+      → (s : State R) → Fits W P B I s.store D.sets (vals ts) s → (ops : List (Instruction ℕ)) (vs : List (Value R)) (to : State R)
+      → Comes W P B I n c s ops vs to
       → Seen (inside_of L k e g) (starting ts) ops (length vs) (length to.operands)
   in-block n D k u c us ts z h L q e g l v s f ops vs to m =
       h (inside_of L k e g) (deeper-scope D L q k e g ∙ (λ i. over (e.left.sets ++ L.inits) (labelled (z i) (l i) D))) (starting ts) [] [] s v
@@ -377,7 +390,8 @@ module _ {R : Type 0} (W : World R) (P : Primitives R) (a : AreSound W P) (B : S
 
   -- the machine, past code that is typed
   checked_through :
-      {D : Scope R} {c : Code} {ts us : List (ValueType R)} {xs : List ℕ} → Typed W B D c ts xs us → (L : Place W B) → scope L ≡ over L.inits D → (p : Stack R)
+      {D : Scope R} {c : Code} {ts us : List (ValueType R)} {xs : List ℕ} → Typed W B D c ts xs us → (L : Place W B) → scope L ≡ over L.inits D
+      → (p : Stack R)
       (zs : List (ValueType R)) (f : Led W a.in_order B D L.inits c p zs xs) (n : List (Instruction ℕ))
       → steps_in W B (flatten c ++ n) (at L p) ≡ steps_in W B n (at L f.end)
   checked_through {c = c} t L q p zs f n =
@@ -386,7 +400,8 @@ module _ {R : Type 0} (W : World R) (P : Primitives R) (a : AreSound W P) (B : S
       ∙ (λ i. f.leads i >>= λ z. steps_in W B n (at L z))
 
   higher :
-      (L : Place W B) (left : Stack R) (ws rest : List (ValueType R)) {S : Store R} (below us : List (Value R)) → length left.items ≡ length ws → length rest ≡ length ws
+      (L : Place W B) (left : Stack R) (ws rest : List (ValueType R)) {S : Store R} (below us : List (Value R)) → length left.items ≡ length ws
+      → length rest ≡ length ws
       → HaveTypes W S below rest → length (left.items ++ L.base) + length us ≡ length L.base + length (below ++ us)
   higher L left ws rest below us e l t =
       let x : length (left.items ++ L.base) ≡ length left.items + length L.base = length-append left.items L.base in
@@ -398,10 +413,13 @@ module _ {R : Type 0} (W : World R) (P : Primitives R) (a : AreSound W P) (B : S
   entering :
       (n : ℕ) (D : Scope R) (x : Opening) (g : Signature R) (b : Code) → Opens W B D x g
       → Heights n (labelled (has_caught (kind_of x)) (label_by (kind_of x) g) D) b (vals g.takes)
-      → (L : Place W B) → scope L ≡ over L.inits D → (p : Stack R) (ws rest : List (ValueType R)) (s : State R) (ts : List (ValueType R)) → Covers W B D.sets (p.sets ++ L.inits)
+      → (L : Place W B) → scope L ≡ over L.inits D → (p : Stack R) (ws rest : List (ValueType R)) (s : State R) (ts : List (ValueType R))
+      → Covers W B D.sets (p.sets ++ L.inits)
       → FitsStack W p (onto (vals (condition W a.in_order B x)) (onto (vals g.takes) ws)) → p.unreached ≡ false → length rest ≡ length ws
-      → Fits W P B I s.store D.sets ts s → (vs below top : List (Value R)) → HaveTypes W s.store vs (rest ++ vals g.takes) → Begins W B (block_of x) vs below top
-      → (ops : List (Instruction ℕ)) (us : List (Value R)) (to : State R) → Comes W P B I n b (holding top s) ops us to → Seen L p (written x ∷ ops) (length (below ++ us)) (length to.operands)
+      → Fits W P B I s.store D.sets ts s → (vs below top : List (Value R)) → HaveTypes W s.store vs (rest ++ vals g.takes)
+      → Begins W B (block_of x) vs below top
+      → (ops : List (Instruction ℕ)) (us : List (Value R)) (to : State R) → Comes W P B I n b (holding top s) ops us to
+      → Seen L p (written x ∷ ops) (length (below ++ us)) (length to.operands)
   entering n D x g b h ih L q p ws rest s ts v k u l f vs below top t w ops us to m =
       let e : Opened D L x g p ws = opens D L q x g h p ws v k u in
       let y : Entered R = record { block = e.block; signature = g; left = e.left } in
@@ -416,7 +434,8 @@ module _ {R : Type 0} (W : World R) (P : Primitives R) (a : AreSound W P) (B : S
   entering_else :
       (n : ℕ) (D : Scope R) (x : Block ℕ) (g : Signature R) (b d : Code) (xs : List ℕ) → Opens W B D (an_if x) g
       → Typed W B (inside g.gives D) b (vals g.takes) xs (vals g.gives) → Heights n (inside g.gives D) d (vals g.takes)
-      → (L : Place W B) → scope L ≡ over L.inits D → (p : Stack R) (ws rest : List (ValueType R)) (s : State R) (ts : List (ValueType R)) → Covers W B D.sets (p.sets ++ L.inits)
+      → (L : Place W B) → scope L ≡ over L.inits D → (p : Stack R) (ws rest : List (ValueType R)) (s : State R) (ts : List (ValueType R))
+      → Covers W B D.sets (p.sets ++ L.inits)
       → FitsStack W p (val i32 ∷ onto (vals g.takes) ws) → p.unreached ≡ false → length rest ≡ length ws
       → Fits W P B I s.store D.sets ts s → (vs below top : List (Value R)) → HaveTypes W s.store vs (rest ++ vals g.takes) → Begins W B x vs below top
       → (ops : List (Instruction ℕ)) (us : List (Value R)) (to : State R) → Comes W P B I n d (holding top s) ops us to
@@ -427,23 +446,27 @@ module _ {R : Type 0} (W : World R) (P : Primitives R) (a : AreSound W P) (B : S
       let z : Begun s.store g rest x vs below top w = begun D (an_if x) g h rest vs below top t w in
       let c = check-complete W a.in_order B tb (e.left.sets ++ L.inits) (fresh g) [] e.covers (push-complete W a.in_order false g.takes [] [] tt) in
       let j = end-complete W g.gives c.end c.fits in
-      outwards L (inside_of L else_kind y e.signed) p (fresh g) ops (written (an_if x) ∷ (flatten b ++ (else_ ∷ ops))) (length us) (length (below ++ us)) (length to.operands)
+      outwards L (inside_of L else_kind y e.signed) p (fresh g) ops (written (an_if x) ∷ (flatten b ++ (else_ ∷ ops))) (length us)
+      (length (below ++ us)) (length to.operands)
       (enters L (an_if x) p y e.signed (flatten b ++ (else_ ∷ ops)) e.leads
       ∙ checked_through tb (inside_of L if_kind y e.signed) (deeper-scope D L q if_kind y e.signed) (fresh g) (onto (vals g.gives) []) c (else_ ∷ ops)
       ∙ (λ i. (turn-at L if_kind y e.signed c.end i >>= λ r. Some r) >>= steps_in W B ops)
       ∙ (λ i. ((j.1 i >>= λ r. guard (is_if if_kind) (opened L else_kind y)) >>= λ r. Some r) >>= steps_in W B ops))
       (higher L e.left ws rest below us e.high l z.under)
-      (in-block n D else_kind false d g.gives g.takes refl ih L q y e.signed refl e.covers (holding top s) (fits-with W P B I top f z.above) ops us to m)
+      (in-block n D else_kind false d g.gives g.takes refl ih L q y e.signed refl e.covers (holding top s)
+      (fits-with W P B I top f z.above) ops us to m)
 
   -- a further turn of a loop
   turning :
       (n : ℕ) (D : Scope R) (x : Block ℕ) (g : Signature R) (b : Code) (xs : List ℕ) → Opens W B D (a_loop x) g
       → Typed W B (inside g.takes D) b (vals g.takes) xs (vals g.gives) → Heights n D (enclosing (a_loop x) b done) (vals g.takes)
-      → (L : Place W B) → scope L ≡ over L.inits D → (p : Stack R) (ws rest : List (ValueType R)) (s : State R) → Covers W B D.sets (p.sets ++ L.inits)
+      → (L : Place W B) → scope L ≡ over L.inits D → (p : Stack R) (ws rest : List (ValueType R)) (s : State R)
+      → Covers W B D.sets (p.sets ++ L.inits)
       → FitsStack W p (onto (vals g.takes) ws) → p.unreached ≡ false → length rest ≡ length ws → Fits W P B I s.store D.sets (rest ++ vals g.takes) s
       → (t : State R) (below top left again : List (Value R)) → Begins W B x s.operands below top
       → run W P (suc n) (does B I b) (holding top s) ≡ leaves (branches zero t) → Begins W B x t.operands left again
-      → (ops : List (Instruction ℕ)) (vs : List (Value R)) (to : State R) → Comes W P B I n (enclosing (a_loop x) b done) (holding (below ++ again) t) ops vs to → Seen L p ops (length vs) (length to.operands)
+      → (ops : List (Instruction ℕ)) (vs : List (Value R)) (to : State R)
+      → Comes W P B I n (enclosing (a_loop x) b done) (holding (below ++ again) t) ops vs to → Seen L p ops (length vs) (length to.operands)
   turning n D x g b xs h tb ih L q p ws rest s v k u l f t below top left again w r w2 ops vs to m =
       let z : Begun s.store g rest x s.operands below top w = begun D (a_loop x) g h rest s.operands below top f.operands w in
       let j = branched (run W P (suc n) (does B I b) (holding top s)) t
@@ -456,10 +479,12 @@ module _ {R : Type 0} (W : World R) (P : Primitives R) (a : AreSound W P) (B : S
 
   -- behind the one instruction that code is
   behind_one :
-      {D : Scope R} {c : Code} {ts us : List (ValueType R)} {xs : List ℕ} → Typed W B D c ts xs us → (n : ℕ) (L : Place W B) → scope L ≡ over L.inits D
+      {D : Scope R} {c : Code} {ts us : List (ValueType R)} {xs : List ℕ} → Typed W B D c ts xs us → (n : ℕ) (L : Place W B)
+      → scope L ≡ over L.inits D
       → (p : Stack R) (ws rest : List (ValueType R)) (s : State R) → length rest ≡ length ws → Fits W P B I s.store D.sets (rest ++ ts) s
       → (f : Led W a.in_order B D L.inits c p (onto us ws) xs) → f.end.unreached ≡ false
-      → (t : State R) → run W P n (does B I c) s ≡ falls_through t → (more : List (Instruction ℕ)) (vs : List (Value R)) (to : State R) → Comes W P B I n done t more vs to
+      → (t : State R) → run W P n (does B I c) s ≡ falls_through t → (more : List (Instruction ℕ)) (vs : List (Value R)) (to : State R)
+      → Comes W P B I n done t more vs to
       → Seen L p (flatten c ++ more) (length vs) (length to.operands)
   behind_one {D = D} {c = c} {ts = ts} {us = us} {xs = xs} y n L q p ws rest s l h f u t r more vs to m =
       let b = nothing_behind m in
@@ -472,7 +497,8 @@ module _ {R : Type 0} (W : World R) (P : Primitives R) (a : AreSound W P) (B : S
 
   -- an instruction that falls through goes on
   instruction_goes_on :
-      (n : ℕ) (D : Scope R) (i : Instruction ℕ) (ts us : List (ValueType R)) → Rule W B D (shape_of i) ts us → (base : List ℕ) (p q : Stack R) (rest : List (ValueType R))
+      (n : ℕ) (D : Scope R) (i : Instruction ℕ) (ts us : List (ValueType R)) → Rule W B D (shape_of i) ts us
+      → (base : List ℕ) (p q : Stack R) (rest : List (ValueType R))
       (s t : State R) → p.unreached ≡ false → check W B (over base D) (simply i done) p ≡ Some q → Fits W P B I s.store D.sets (rest ++ ts) s
       → run W P n (does B I (simply i done)) s ≡ falls_through t
       → (all_go_on (actions_of (shape_of i)) ≡ true) ⊎ ((vs : List (ValueType R)) → Rule W B D (shape_of i) ts vs) → q.unreached ≡ false
@@ -481,9 +507,11 @@ module _ {R : Type 0} (W : World R) (P : Primitives R) (a : AreSound W P) (B : S
       run-reach W B (over base D) (actions_of (shape_of i)) p q g (x.1 ∙ x.2) ∙ u
   instruction_goes_on n D i ts us r base p q rest s t u h f e (inr any) =
       let x : length t.operands ≡ length (rest ++ []) =
-      heights_are_as_typed R W P a B I D (simply i done) (rest ++ ts) (sets_of (shape_of i)) (rest ++ []) (frame_rule rest (instruction_rule (any []))) n s t f e in
+      heights_are_as_typed R W P a B I D (simply i done) (rest ++ ts) (sets_of (shape_of i)) (rest ++ [])
+      (frame_rule rest (instruction_rule (any []))) n s t f e in
       let y : length t.operands ≡ length (rest ++ bot ∷ []) =
-      heights_are_as_typed R W P a B I D (simply i done) (rest ++ ts) (sets_of (shape_of i)) (rest ++ bot ∷ []) (frame_rule rest (instruction_rule (any (bot ∷ [])))) n s t f e in
+      heights_are_as_typed R W P a B I D (simply i done) (rest ++ ts) (sets_of (shape_of i)) (rest ++ bot ∷ [])
+      (frame_rule rest (instruction_rule (any (bot ∷ [])))) n s t f e in
       let z : length (rest ++ []) ≡ length rest + 0 = length-append rest [] in
       let w : length (rest ++ bot ∷ []) ≡ length rest + 1 = length-append rest (bot ∷ []) in
       absurd (omega (arith, x, y, z, w))
@@ -492,8 +520,10 @@ module _ {R : Type 0} (W : World R) (P : Primitives R) (a : AreSound W P) (B : S
   in_a_row :
       {n : ℕ} {D : Scope R} {c d : Code} {ts us : List (ValueType R)} {xs : List ℕ} → is_one c ≡ true → Typed W B D c ts xs us → Heights n D c ts
       → Heights n (behind_setting xs D) d us → (L : Place W B) → scope L ≡ over L.inits D → (p : Stack R) (ws rest : List (ValueType R)) (s : State R)
-      → Covers W B D.sets (p.sets ++ L.inits) → FitsStack W p (onto ts ws) → p.unreached ≡ false → length rest ≡ length ws → Fits W P B I s.store D.sets (rest ++ ts) s
-      → (ops : List (Instruction ℕ)) (vs : List (Value R)) (to : State R) → Split W P B I n (and_then c d) s ops vs to → Seen L p ops (length vs) (length to.operands)
+      → Covers W B D.sets (p.sets ++ L.inits) → FitsStack W p (onto ts ws) → p.unreached ≡ false → length rest ≡ length ws
+      → Fits W P B I s.store D.sets (rest ++ ts) s
+      → (ops : List (Instruction ℕ)) (vs : List (Value R)) (to : State R) → Split W P B I n (and_then c d) s ops vs to
+      → Seen L p ops (length vs) (length to.operands)
   in_a_row {n = n} {c = c} {d = d} o y ih ih2 L q p ws rest s v k u l f ops vs to (in_front m) =
       ih L q p ws rest s v k u l f ops vs to (subst (λ (z : Code). Comes W P B I n z s ops vs to) (first-is c d o) m)
   in_a_row {n = n} {D = D} {c = c} {d = d} {ts = ts} {us = us} {xs = xs} o y ih ih2 L q p ws rest s v k u l f ops vs to (further t more r w m) =
@@ -506,25 +536,30 @@ module _ {R : Type 0} (W : World R) (P : Primitives R) (a : AreSound W P) (B : S
       (ap (λ (z : List (Instruction ℕ)). steps_in W B z (at L p)) (sym w ∙ ap (λ (z : Code). flatten z ++ more) (first-is c d o))
       ∙ checked_through y L q p (onto us ws) g more)
       refl
-      (ih2 L q g.end ws rest t g.covers g.fits x l (fits-now W P B I j) more vs to (subst (λ (z : Code). Comes W P B I n z t more vs to) (rest-is c d o) m))
+      (ih2 L q g.end ws rest t g.covers g.fits x l (fits-now W P B I j) more vs to
+      (subst (λ (z : Code). Comes W P B I n z t more vs to) (rest-is c d o) m))
 
   -- handlers
   found_types :
-      (D : Scope R) (h : Handler) (ts : List (Val R)) → Catches W B D h ts → (s : State R) (some : List (ValueType R)) → Fits W P B I s.store D.sets some s
-      → (x : ℕ) (e : Exception R) → slice_get s.store.exceptions x ≡ Some e → (found : List (Value R)) → Takes I h e found → HaveTypes W s.store found (vals ts)
+      (D : Scope R) (h : Handler) (ts : List (Val R)) → Catches W B D h ts → (s : State R) (some : List (ValueType R))
+      → Fits W P B I s.store D.sets some s
+      → (x : ℕ) (e : Exception R) → slice_get s.store.exceptions x ≡ Some e → (found : List (Value R)) → Takes I h e found
+      → HaveTypes W s.store found (vals ts)
   found_types D (a_catch y) ts k s some f x e i found (by_tag w) =
       let g = passes-gives (λ (z : Signature R). length z.gives == 0) (signature_at W B (of_tag y)) k.holds.1.1.0 in
       let c : Carries W s.store I y g.0.takes = f.instance.tags y g.0 g.1 in
       let j : IsTypedException W s.store e = f.store.exceptions x e i in
       let n : c.address ≡ e.tag = the_same c.address e.tag (sym c.known ∙ w) in
       let o : j.types ≡ g.0.takes = the_same j.types g.0.takes (sym j.tagged ∙ ap (slice_get s.store.tags) (sym n) ∙ c.there) in
-      let b : g.0.takes ≡ ts = the_same g.0.takes ts (sym (ap (λ (z : Option (Signature R)). option_map (λ (r : Signature R). r.takes) z) g.1) ∙ k.found) in
+      let b : g.0.takes ≡ ts = the_same g.0.takes ts
+      (sym (ap (λ (z : Option (Signature R)). option_map (λ (r : Signature R). r.takes) z) g.1) ∙ k.found) in
       subst (λ (z : List (Val R)). HaveTypes W s.store e.values (vals z)) (o ∙ b) j.values
   found_types D a_catch_all ts k s some f x e i found of_any_tag =
       subst (λ (z : List (Val R)). HaveTypes W s.store [] (vals z)) (the_same [] ts k.found) no_values
 
   handler_starts :
-      (D : Scope R) (L : Place W B) (k : Kind) (y : Entered R) (g : IsSigned W B y) (x : Handler) (ts : List (Val R)) (r : Stack R) → may_catch k ≡ true → Catches W B D x ts
+      (D : Scope R) (L : Place W B) (k : Kind) (y : Entered R) (g : IsSigned W B y) (x : Handler) (ts : List (Val R)) (r : Stack R)
+      → may_catch k ≡ true → Catches W B D x ts
       → FitsStack W r (onto (vals y.signature.gives) []) → (n : List (Instruction ℕ))
       → steps_in W B (handler_written x ∷ n) (at (inside_of L k y g) r) ≡ steps_in W B n (at (inside_of L (handler_kind x) y g) (starting ts))
   handler_starts D L k y g x ts r t c h n =
@@ -535,8 +570,10 @@ module _ {R : Type 0} (W : World R) (P : Primitives R) (a : AreSound W P) (B : S
           let E : Scope R = deeper k y (scope L) in
           let z = end-complete W y.signature.gives r h in
           bind-at (λ q. types_in W B E.labels E.returns (handler_operands x) >>= λ vs. lend W y.signature.gives q >>= λ z. Some vs)
-          (checks-run W a.in_order B E E.sets (handler_checks x) [] r (handler-holds W a.in_order B D E x c.holds) (λ m k. covers-more W B r.sets E.sets m k))
-          (bind-at (λ vs. lend W y.signature.gives r >>= λ z. Some vs) (handler-finds W a.in_order B D E x ts c.found) (bind-at (λ z. Some ts) z.1 refl))
+          (checks-run W a.in_order B E E.sets (handler_checks x) [] r (handler-holds W a.in_order B D E x c.holds)
+          (λ m k. covers-more W B r.sets E.sets m k))
+          (bind-at (λ vs. lend W y.signature.gives r >>= λ z. Some vs) (handler-finds W a.in_order B D E x ts c.found)
+          (bind-at (λ z. Some ts) z.1 refl))
 
   handler_caught : (x : Handler) → has_caught (handler_kind x) ≡ true
   handler_caught (a_catch n) = refl
@@ -551,12 +588,15 @@ module _ {R : Type 0} (W : World R) (P : Primitives R) (a : AreSound W P) (B : S
       (n : ℕ) (D : Scope R) (h : Handler) (c : Code) (us ts : List (Val R)) → Catches W B D h ts → Heights n (in_handler us D) c (vals ts)
       → (L : Place W B) → scope L ≡ over L.inits D → (k : Kind) → may_catch k ≡ true → (b : Block R) (takes : List (Val R)) (left r : Stack R)
       → (g : IsSigned W B (entered_with b takes us left)) → Covers W B D.sets (left.sets ++ L.inits) → FitsStack W r (onto (vals us) [])
-      → (s : State R) (some : List (ValueType R)) → Fits W P B I s.store D.sets some s → (x : ℕ) (e : Exception R) → slice_get s.store.exceptions x ≡ Some e
-      → (found : List (Value R)) → Takes I h e found → (ops : List (Instruction ℕ)) (vs : List (Value R)) (to : State R) → Comes W P B I n c (holding found s) ops vs to
+      → (s : State R) (some : List (ValueType R)) → Fits W P B I s.store D.sets some s → (x : ℕ) (e : Exception R)
+      → slice_get s.store.exceptions x ≡ Some e
+      → (found : List (Value R)) → Takes I h e found → (ops : List (Instruction ℕ)) (vs : List (Value R)) (to : State R)
+      → Comes W P B I n c (holding found s) ops vs to
       → Seen (inside_of L k (entered_with b takes us left) g) r (handler_written h ∷ ops) (length vs) (length to.operands)
   in_handler_seen n D h c us ts w ih L q k t b takes left r g v z s some f x e i found o ops vs to m =
       let y : Entered R = entered_with b takes us left in
-      outwards (inside_of L k y g) (inside_of L (handler_kind h) y g) r (starting ts) ops (handler_written h ∷ ops) (length vs) (length vs) (length to.operands)
+      outwards (inside_of L k y g) (inside_of L (handler_kind h) y g) r (starting ts) ops (handler_written h ∷ ops) (length vs) (length vs)
+      (length to.operands)
       (handler_starts D L k y g h ts r t w z ops)
       refl
       (in-block n D (handler_kind h) true c us ts (handler_caught h) ih L q y g (handler_label h y.signature) v (holding found s)
@@ -577,7 +617,8 @@ module _ {R : Type 0} (W : World R) (P : Primitives R) (a : AreSound W P) (B : S
   before_seen n D j c hs us ts xs w y ih ihs L q k t b takes left r g v z s some f x e i ops vs to (in_later {ops = more} o p m) =
       let E : Entered R = entered_with b takes us left in
       let d = check-complete W a.in_order B y (left.sets ++ L.inits) (starting ts) [] v (push-complete W a.in_order false ts [] [] tt) in
-      outwards (inside_of L k E g) (inside_of L legacy_catch_kind E g) r d.end more (handler_written (a_catch j) ∷ (flatten c ++ more)) (length vs) (length vs) (length to.operands)
+      outwards (inside_of L k E g) (inside_of L legacy_catch_kind E g) r d.end more (handler_written (a_catch j) ∷ (flatten c ++ more)) (length vs)
+      (length vs) (length to.operands)
       (handler_starts D L k E g (a_catch j) ts r t w z (flatten c ++ more)
       ∙ checked_through y (inside_of L legacy_catch_kind E g) (deeper-scope D L q legacy_catch_kind E g) (starting ts) (onto (vals us) []) d more)
       refl
@@ -587,11 +628,13 @@ module _ {R : Type 0} (W : World R) (P : Primitives R) (a : AreSound W P) (B : S
   catching_seen :
       (n : ℕ) (D : Scope R) (x : Block ℕ) (g : Signature R) (b : Code) (hs : Handlers) (xs : List ℕ) → Opens W B D (a_try x) g
       → Typed W B (inside g.gives D) b (vals g.takes) xs (vals g.gives) → HandlersHeights n D hs g.gives
-      → (L : Place W B) → scope L ≡ over L.inits D → (p : Stack R) (ws rest : List (ValueType R)) (s : State R) → Covers W B D.sets (p.sets ++ L.inits)
+      → (L : Place W B) → scope L ≡ over L.inits D → (p : Stack R) (ws rest : List (ValueType R)) (s : State R)
+      → Covers W B D.sets (p.sets ++ L.inits)
       → FitsStack W p (onto (vals g.takes) ws) → p.unreached ≡ false → length rest ≡ length ws → Fits W P B I s.store D.sets (rest ++ vals g.takes) s
       → (y : ℕ) (t : State R) (e : Exception R) (below top : List (Value R)) (w : Begins W B x s.operands below top)
       → labelled_by falls_through (length w.signature.gives) below (run W P n (does B I b) (holding top s)) ≡ leaves (throws y t)
-      → slice_get t.store.exceptions y ≡ Some e → (ops : List (Instruction ℕ)) (vs : List (Value R)) (to : State R) → Handles W P B I n hs t e ops vs to
+      → slice_get t.store.exceptions y ≡ Some e → (ops : List (Instruction ℕ)) (vs : List (Value R)) (to : State R)
+      → Handles W P B I n hs t e ops vs to
       → Seen L p (written (a_try x) ∷ (flatten b ++ ops)) (length (below ++ vs)) (length to.operands)
   catching_seen n D x g b hs xs h tb ihs L q p ws rest s v k u l f y t e below top w r i ops vs to m =
       let o : Opened D L (a_try x) g p ws = opens D L q (a_try x) g h p ws v k u in
@@ -599,12 +642,15 @@ module _ {R : Type 0} (W : World R) (P : Primitives R) (a : AreSound W P) (B : S
       let z : Begun s.store g rest x s.operands below top w = begun D (a_try x) g h rest s.operands below top f.operands w in
       let d = check-complete W a.in_order B tb (o.left.sets ++ L.inits) (fresh g) [] o.covers (push-complete W a.in_order false g.takes [] [] tt) in
       let j = thrown (labelled_by falls_through (length g.gives) below (run W P n (does B I b) (holding top s))) y t
-      (label-promised W P B I s.store D g.gives g.gives xs falls_through below rest (run W P n (does B I b) (holding top s)) z.under (λ c w. falling w)
+      (label-promised W P B I s.store D g.gives g.gives xs falls_through below rest (run W P n (does B I b) (holding top s)) z.under
+      (λ c w. falling w)
       (soundness R W P a B I (inside g.gives D) b (vals g.takes) xs (vals g.gives) tb n (holding top s) (fits-with W P B I top f z.above)))
       (ap (λ (c : Signature R). labelled_by falls_through (length c.gives) below (run W P n (does B I b) (holding top s))) (sym z.same) ∙ r) in
-      outwards L (inside_of L legacy_try_kind E o.signed) p d.end ops (written (a_try x) ∷ (flatten b ++ ops)) (length vs) (length (below ++ vs)) (length to.operands)
+      outwards L (inside_of L legacy_try_kind E o.signed) p d.end ops (written (a_try x) ∷ (flatten b ++ ops)) (length vs) (length (below ++ vs))
+      (length to.operands)
       (enters L (a_try x) p E o.signed (flatten b ++ ops) o.leads
-      ∙ checked_through tb (inside_of L legacy_try_kind E o.signed) (deeper-scope D L q legacy_try_kind E o.signed) (fresh g) (onto (vals g.gives) []) d ops)
+      ∙ checked_through tb (inside_of L legacy_try_kind E o.signed) (deeper-scope D L q legacy_try_kind E o.signed) (fresh g)
+      (onto (vals g.gives) []) d ops)
       (higher L o.left ws rest below vs o.high l z.under)
       (ihs L q legacy_try_kind refl o.block g.takes o.left d.end o.signed o.covers d.fits t j.left (fits-now W P B I j.fits) y e i ops vs to m)
 
@@ -615,10 +661,12 @@ module _ {R : Type 0} (W : World R) (P : Primitives R) (a : AreSound W P) (B : S
   below_condition {S = S} g rest vs h front top e =
       let c = cut-fits (rest ++ vals g.takes) (val i32 ∷ []) 1 vs refl
       (subst (λ (z : List (ValueType R)). HaveTypes W S vs z) (sym (append_assoc rest (vals g.takes) (val i32 ∷ []))) h) in
-      subst (λ (z : List (Value R) × List (Value R)). HaveTypes W S z.0 (rest ++ vals g.takes)) (the_same (c.front, c.top) (front, top) (sym c.is ∙ e)) c.below
+      subst (λ (z : List (Value R) × List (Value R)). HaveTypes W S z.0 (rest ++ vals g.takes))
+      (the_same (c.front, c.top) (front, top) (sym c.is ∙ e)) c.below
 
   tested :
-      (p : Stack R) (g : Signature R) (ws : List (ValueType R)) → FitsStack W p (onto (vals g.takes ++ val i32 ∷ []) ws) → FitsStack W p (val i32 ∷ onto (vals g.takes) ws)
+      (p : Stack R) (g : Signature R) (ws : List (ValueType R)) → FitsStack W p (onto (vals g.takes ++ val i32 ∷ []) ws)
+      → FitsStack W p (val i32 ∷ onto (vals g.takes) ws)
   tested p g ws h = subst (λ (z : List (ValueType R)). FitsStack W p z) (onto-append (vals g.takes) (val i32 ∷ []) ws) h
 
   -- each form of code
@@ -626,8 +674,10 @@ module _ {R : Type 0} (W : World R) (P : Primitives R) (a : AreSound W P) (B : S
   nothing_seen n D L q p ws rest s v k u l f ops vs to starts = here L p (length s.operands) u (start-high p [] ws rest s.operands k u l f.operands)
   nothing_seen n D L q p ws rest s v k u l f ops vs to (behind e r m) = no (sym e)
 
-  instruction_seen : (n : ℕ) (D : Scope R) (i : Instruction ℕ) (ts us : List (ValueType R)) → Rule W B D (shape_of i) ts us → Heights n D (simply i done) ts
-  instruction_seen n D i ts us j L q p ws rest s v k u l f ops vs to starts = here L p (length s.operands) u (start-high p ts ws rest s.operands k u l f.operands)
+  instruction_seen :
+      (n : ℕ) (D : Scope R) (i : Instruction ℕ) (ts us : List (ValueType R)) → Rule W B D (shape_of i) ts us → Heights n D (simply i done) ts
+  instruction_seen n D i ts us j L q p ws rest s v k u l f ops vs to starts =
+      here L p (length s.operands) u (start-high p ts ws rest s.operands k u l f.operands)
   instruction_seen n D i ts us j L q p ws rest s v k u l f ops vs to (behind {t = t} {ops = more} e r m) =
       let y = check-complete W a.in_order B (instruction_rule j) L.inits p ws v k in
       behind_one (instruction_rule j) n L q p ws rest s l f y
@@ -647,15 +697,18 @@ module _ {R : Type 0} (W : World R) (P : Primitives R) (a : AreSound W P) (B : S
 
   plain_seen :
       (n : ℕ) (D : Scope R) (x : Opening) (g : Signature R) (b : Code) → opens_plainly x ≡ true → Opens W B D x g
-      → Typed W B D (enclosing x b done) (vals g.takes) [] (vals g.gives) → Heights n (labelled (has_caught (kind_of x)) (label_by (kind_of x) g) D) b (vals g.takes)
+      → Typed W B D (enclosing x b done) (vals g.takes) [] (vals g.gives)
+      → Heights n (labelled (has_caught (kind_of x)) (label_by (kind_of x) g) D) b (vals g.takes)
       → Heights n D (enclosing x b done) (vals g.takes)
-  plain_seen n D x g b e h y ih L q p ws rest s v k u l f ops vs to starts = here L p (length s.operands) u (start-high p (vals g.takes) ws rest s.operands k u l f.operands)
+  plain_seen n D x g b e h y ih L q p ws rest s v k u l f ops vs to starts =
+      here L p (length s.operands) u (start-high p (vals g.takes) ws rest s.operands k u l f.operands)
   plain_seen n D x g b e h y ih L q p ws rest s v k u l f ops vs to (behind {t = t} {ops = more} d r m) =
       let c = check-complete W a.in_order B y L.inits p ws v k in
       behind_one y n L q p ws rest s l f c (enclosing-reach W B (over L.inits D) x b p c.end c.leads ∙ u) t r more vs to m
   plain_seen n D x g b e h y ih L q p ws rest s v k u l f ops vs to (within {below = below} {top = top} {ops = more} {vs = us} d w m) =
       entering n D x g b h ih L q p ws rest s (rest ++ vals g.takes) v
-      (subst (λ (z : List (Val R)). FitsStack W p (onto (vals z) (onto (vals g.takes) ws))) (sym (no_condition x e)) k) u l f s.operands below top f.operands w more us to m
+      (subst (λ (z : List (Val R)). FitsStack W p (onto (vals z) (onto (vals g.takes) ws))) (sym (no_condition x e)) k) u l f
+      s.operands below top f.operands w more us to m
   plain_seen n D x g b e h y ih L q p ws rest s v k u l f ops vs to (turns w r w2 m) = no e
   plain_seen n D x g b e h y ih L q p ws rest s v k u l f ops vs to (within_if c w m) = no e
 
@@ -663,15 +716,18 @@ module _ {R : Type 0} (W : World R) (P : Primitives R) (a : AreSound W P) (B : S
       (n : ℕ) → Fewer n → (D : Scope R) (x : Block ℕ) (g : Signature R) (b : Code) (xs : List ℕ) → Opens W B D (a_loop x) g
       → Typed W B (inside g.takes D) b (vals g.takes) xs (vals g.gives) → Heights n (inside g.takes D) b (vals g.takes)
       → Heights n D (enclosing (a_loop x) b done) (vals g.takes)
-  loop_seen n fewer D x g b xs h y ih L q p ws rest s v k u l f ops vs to starts = here L p (length s.operands) u (start-high p (vals g.takes) ws rest s.operands k u l f.operands)
+  loop_seen n fewer D x g b xs h y ih L q p ws rest s v k u l f ops vs to starts =
+      here L p (length s.operands) u (start-high p (vals g.takes) ws rest s.operands k u l f.operands)
   loop_seen n fewer D x g b xs h y ih L q p ws rest s v k u l f ops vs to (behind {t = t} {ops = more} d r m) =
       let c = check-complete W a.in_order B (loop_rule x g h y) L.inits p ws v k in
       behind_one (loop_rule x g h y) n L q p ws rest s l f c (enclosing-reach W B (over L.inits D) (a_loop x) b p c.end c.leads ∙ u) t r more vs to m
   loop_seen n fewer D x g b xs h y ih L q p ws rest s v k u l f ops vs to (within {below = below} {top = top} {ops = more} {vs = us} d w m) =
       entering n D (a_loop x) g b h ih L q p ws rest s (rest ++ vals g.takes) v k u l f s.operands below top f.operands w more us to m
-  loop_seen n fewer D x g b xs h y ih L q p ws rest s v k u l f ops vs to (turns {n = j} {t = t} {below = below} {top = top} {left = left} {again = again} w r w2 m) =
-      turning j D x g b xs h y (fewer D (enclosing (a_loop x) b done) (vals g.takes) (vals g.gives) [] (loop_rule x g h y)) L q p ws rest s v k u l f t below top left again w r w2
-      ops vs to m
+  loop_seen n fewer D x g b xs h y ih L q p ws rest s v k u l f ops vs to
+      (turns {n = j} {t = t} {below = below} {top = top} {left = left} {again = again} w r w2 m) =
+      turning j D x g b xs h y
+      (fewer D (enclosing (a_loop x) b done) (vals g.takes) (vals g.gives) [] (loop_rule x g h y)) L q p ws rest s v k u l f t below top left
+      again w r w2 ops vs to m
 
   if_seen :
       (n : ℕ) (D : Scope R) (x : Block ℕ) (g : Signature R) (b : Code) → Opens W B D (an_if x) g
@@ -683,13 +739,15 @@ module _ {R : Type 0} (W : World R) (P : Primitives R) (a : AreSound W P) (B : S
       let c = check-complete W a.in_order B y L.inits p ws v k in
       behind_one y n L q p ws rest s l f c (enclosing-reach W B (over L.inits D) (an_if x) b p c.end c.leads ∙ u) t r more vs to m
   if_seen n D x g b h y ih L q p ws rest s v k u l f ops vs to (within d w m) = no (sym d)
-  if_seen n D x g b h y ih L q p ws rest s v k u l f ops vs to (within_if {k = j} {rest = front} {below = below} {top = top} {ops = more} {vs = us} c w m) =
+  if_seen n D x g b h y ih L q p ws rest s v k u l f ops vs to
+      (within_if {k = j} {rest = front} {below = below} {top = top} {ops = more} {vs = us} c w m) =
       entering n D (an_if x) g b h ih L q p ws rest s (rest ++ (vals g.takes ++ val i32 ∷ [])) v (tested p g ws k) u l f front below top
       (below_condition g rest s.operands f.operands front (i32_value (suc j) ∷ []) c) w more us to m
 
   choosing_seen :
       (n : ℕ) (D : Scope R) (x : Block ℕ) (g : Signature R) (b d : Code) (xs : List ℕ) → Opens W B D (an_if x) g
-      → Typed W B D (choosing_between x b d done) (vals g.takes ++ val i32 ∷ []) [] (vals g.gives) → Typed W B (inside g.gives D) b (vals g.takes) xs (vals g.gives)
+      → Typed W B D (choosing_between x b d done) (vals g.takes ++ val i32 ∷ []) [] (vals g.gives)
+      → Typed W B (inside g.gives D) b (vals g.takes) xs (vals g.gives)
       → Heights n (inside g.gives D) b (vals g.takes) → Heights n (inside g.gives D) d (vals g.takes)
       → Heights n D (choosing_between x b d done) (vals g.takes ++ val i32 ∷ [])
   choosing_seen n D x g b d xs h y tb ih ih2 L q p ws rest s v k u l f ops vs to starts =
@@ -697,10 +755,12 @@ module _ {R : Type 0} (W : World R) (P : Primitives R) (a : AreSound W P) (B : S
   choosing_seen n D x g b d xs h y tb ih ih2 L q p ws rest s v k u l f ops vs to (behind {t = t} {ops = more} e r m) =
       let c = check-complete W a.in_order B y L.inits p ws v k in
       behind_one y n L q p ws rest s l f c (choosing-reach W B (over L.inits D) x b d p c.end c.leads ∙ u) t r more vs to m
-  choosing_seen n D x g b d xs h y tb ih ih2 L q p ws rest s v k u l f ops vs to (within_then {k = j} {rest = front} {below = below} {top = top} {ops = more} {vs = us} c w m) =
+  choosing_seen n D x g b d xs h y tb ih ih2 L q p ws rest s v k u l f ops vs to
+      (within_then {k = j} {rest = front} {below = below} {top = top} {ops = more} {vs = us} c w m) =
       entering n D (an_if x) g b h ih L q p ws rest s (rest ++ (vals g.takes ++ val i32 ∷ [])) v (tested p g ws k) u l f front below top
       (below_condition g rest s.operands f.operands front (i32_value (suc j) ∷ []) c) w more us to m
-  choosing_seen n D x g b d xs h y tb ih ih2 L q p ws rest s v k u l f ops vs to (within_else {rest = front} {below = below} {top = top} {ops = more} {vs = us} c w m) =
+  choosing_seen n D x g b d xs h y tb ih ih2 L q p ws rest s v k u l f ops vs to
+      (within_else {rest = front} {below = below} {top = top} {ops = more} {vs = us} c w m) =
       entering_else n D x g b d xs h tb ih2 L q p ws rest s (rest ++ (vals g.takes ++ val i32 ∷ [])) v (tested p g ws k) u l f front below top
       (below_condition g rest s.operands f.operands front (i32_value zero ∷ []) c) w more us to m
 
@@ -708,20 +768,24 @@ module _ {R : Type 0} (W : World R) (P : Primitives R) (a : AreSound W P) (B : S
       (n : ℕ) (D : Scope R) (x : Block ℕ) (g : Signature R) (b : Code) (hs : Handlers) (xs : List ℕ) → Opens W B D (a_try x) g
       → Typed W B D (handling x b hs done) (vals g.takes) [] (vals g.gives) → Typed W B (inside g.gives D) b (vals g.takes) xs (vals g.gives)
       → Heights n (inside g.gives D) b (vals g.takes) → HandlersHeights n D hs g.gives → Heights n D (handling x b hs done) (vals g.takes)
-  handling_seen n D x g b hs xs h y tb ih ihs L q p ws rest s v k u l f ops vs to starts = here L p (length s.operands) u (start-high p (vals g.takes) ws rest s.operands k u l f.operands)
+  handling_seen n D x g b hs xs h y tb ih ihs L q p ws rest s v k u l f ops vs to starts =
+      here L p (length s.operands) u (start-high p (vals g.takes) ws rest s.operands k u l f.operands)
   handling_seen n D x g b hs xs h y tb ih ihs L q p ws rest s v k u l f ops vs to (behind {t = t} {ops = more} e r m) =
       let c = check-complete W a.in_order B y L.inits p ws v k in
       behind_one y n L q p ws rest s l f c (handling-reach W B (over L.inits D) x b hs p c.end c.leads ∙ u) t r more vs to m
-  handling_seen n D x g b hs xs h y tb ih ihs L q p ws rest s v k u l f ops vs to (within_try {below = below} {top = top} {ops = more} {vs = us} w m) =
+  handling_seen n D x g b hs xs h y tb ih ihs L q p ws rest s v k u l f ops vs to
+      (within_try {below = below} {top = top} {ops = more} {vs = us} w m) =
       entering n D (a_try x) g b h ih L q p ws rest s (rest ++ vals g.takes) v k u l f s.operands below top f.operands w more us to m
-  handling_seen n D x g b hs xs h y tb ih ihs L q p ws rest s v k u l f ops vs to (catches {a = j} {t = t} {below = below} {top = top} {e = e} {ops = more} {vs = us} w r i m) =
+  handling_seen n D x g b hs xs h y tb ih ihs L q p ws rest s v k u l f ops vs to
+      (catches {a = j} {t = t} {below = below} {top = top} {e = e} {ops = more} {vs = us} w r i m) =
       catching_seen n D x g b hs xs h tb ihs L q p ws rest s v k u l f j t e below top w r i more us to m
 
   delegating_seen :
       (n : ℕ) (D : Scope R) (j : ℕ) (x : Block ℕ) (g : Signature R) (b : Code) → Opens W B D (a_try x) g
       → Typed W B D (delegating_to j x b done) (vals g.takes) [] (vals g.gives) → Heights n (inside g.gives D) b (vals g.takes)
       → Heights n D (delegating_to j x b done) (vals g.takes)
-  delegating_seen n D j x g b h y ih L q p ws rest s v k u l f ops vs to starts = here L p (length s.operands) u (start-high p (vals g.takes) ws rest s.operands k u l f.operands)
+  delegating_seen n D j x g b h y ih L q p ws rest s v k u l f ops vs to starts =
+      here L p (length s.operands) u (start-high p (vals g.takes) ws rest s.operands k u l f.operands)
   delegating_seen n D j x g b h y ih L q p ws rest s v k u l f ops vs to (behind {t = t} {ops = more} e r m) =
       let c = check-complete W a.in_order B y L.inits p ws v k in
       behind_one y n L q p ws rest s l f c (delegating-reach W B (over L.inits D) j x b p c.end c.leads ∙ u) t r more vs to m
@@ -731,7 +795,8 @@ module _ {R : Type 0} (W : World R) (P : Primitives R) (a : AreSound W P) (B : S
   row_seen :
       (n : ℕ) (D : Scope R) (c d : Code) (ts us : List (ValueType R)) (xs : List ℕ) → is_one c ≡ true → Typed W B D c ts xs us → Heights n D c ts
       → Heights n (behind_setting xs D) d us → Heights n D (and_then c d) ts
-  row_seen n D c d ts us xs e t ih ih2 L q p ws rest s v k u l f ops vs to m = in_a_row e t ih ih2 L q p ws rest s v k u l f ops vs to (split W P B I m)
+  row_seen n D c d ts us xs e t ih ih2 L q p ws rest s v k u l f ops vs to m =
+      in_a_row e t ih ih2 L q p ws rest s v k u l f ops vs to (split W P B I m)
 
   -- operands below, and other types
   frame_seen :
@@ -739,7 +804,8 @@ module _ {R : Type 0} (W : World R) (P : Primitives R) (a : AreSound W P) (B : S
   frame_seen n D c ts under ih L q p ws rest s v k u l f ops vs to m =
       let x : length (rest ++ under) ≡ length rest + length under = length-append rest under in
       let y : length (onto under ws) ≡ length under + length ws = length-onto under ws in
-      ih L q p (onto under ws) (rest ++ under) s v (subst (λ (z : List (ValueType R)). FitsStack W p z) (onto-append under ts ws) k) u (omega (arith, l, x, y))
+      ih L q p (onto under ws) (rest ++ under) s v (subst (λ (z : List (ValueType R)). FitsStack W p z) (onto-append under ts ws) k) u
+      (omega (arith, l, x, y))
       (subst (λ (z : List (ValueType R)). Fits W P B I s.store D.sets z s) (sym (append_assoc rest under ts)) f) ops vs to m
 
   subsumed_seen :
@@ -757,16 +823,20 @@ module _ {R : Type 0} (W : World R) (P : Primitives R) (a : AreSound W P) (B : S
     heights n w (try_table_rule {C = D} {c = c} b cs g h t) = plain_seen n D (a_try_table b cs) g c refl h (try_table_rule b cs g h t) (heights n w t)
     heights n w (loop_rule {C = D} {c = c} {xs = xs} b g h t) = loop_seen n w D b g c xs h t (heights n w t)
     heights n w (if_rule {C = D} {c = c} b g h t e) = if_seen n D b g c h (if_rule b g h t e) (heights n w t)
-    heights n w (if_else_rule {C = D} {c = c} {d = d} {xs = xs} b g h t e) = choosing_seen n D b g c d xs h (if_else_rule b g h t e) t (heights n w t) (heights n w e)
-    heights n w (handling_rule {C = D} {c = c} {hs = hs} {xs = xs} b g h t i) = handling_seen n D b g c hs xs h (handling_rule b g h t i) t (heights n w t) (handlers n w i)
+    heights n w (if_else_rule {C = D} {c = c} {d = d} {xs = xs} b g h t e) =
+        choosing_seen n D b g c d xs h (if_else_rule b g h t e) t (heights n w t) (heights n w e)
+    heights n w (handling_rule {C = D} {c = c} {hs = hs} {xs = xs} b g h t i) =
+        handling_seen n D b g c hs xs h (handling_rule b g h t i) t (heights n w t) (handlers n w i)
     heights n w (delegating_rule {C = D} {c = c} {l = l} b g h t e) = delegating_seen n D l b g c h (delegating_rule b g h t e) (heights n w t)
-    heights n w (sequence_rule {C = D} {c = c} {d = d} {ts = ts} {us = us} {xs = xs} e t r) = row_seen n D c d ts us xs e t (heights n w t) (heights n w r)
+    heights n w (sequence_rule {C = D} {c = c} {d = d} {ts = ts} {us = us} {xs = xs} e t r) =
+        row_seen n D c d ts us xs e t (heights n w t) (heights n w r)
     heights n w (frame_rule {C = D} {c = c} {ts = ts} below t) = frame_seen n D c ts below (heights n w t)
     heights n w (subsumption_rule {C = D} {c = c} {ts = ts} {vs = vs} j e x t) = subsumed_seen n D c ts vs j (heights n w t)
 
     handlers : (n : ℕ) → Fewer n → {D : Scope R} {hs : Handlers} {us : List (Val R)} → Handle W B D hs us → HandlersHeights n D hs us
     handlers n w (last_rule {C = D} {h = h} {c = c} {ts = ts} {us = us} k t) = last_seen n D h c us ts k (heights n w t)
-    handlers n w (before_rule {C = D} {x = x} {c = c} {hs = hs} {ts = ts} {us = us} {xs = xs} k t i) = before_seen n D x c hs us ts xs k t (heights n w t) (handlers n w i)
+    handlers n w (before_rule {C = D} {x = x} {c = c} {hs = hs} {ts = ts} {us = us} {xs = xs} k t i) =
+        before_seen n D x c hs us ts xs k t (heights n w t) (handlers n w i)
 
   fewer : (n : ℕ) → Fewer n
   fewer zero = tt

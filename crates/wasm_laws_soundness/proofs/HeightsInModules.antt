@@ -1,4 +1,4 @@
--- The same of the bodies of valid modules.
+-- The same of functions of a store that fits, and of the bodies of valid modules.
 use Rattle.std.proofs.Common.{◌≡◌, refl, sym, subst, ◌∙◌, ℕ, nat_eq, List, slice_get, Some, length}
 use Rattle.wasm_spec.specs.Features.{Features}
 use Rattle.wasm_spec.specs.MatchingTests.{World}
@@ -19,14 +19,29 @@ use Rattle.wasm_laws_instructions.proofs.Bodies.{bodies_are_typed}
 use Rattle.wasm_laws_instructions.proofs.Numbered.{is_in_order, has_no_sharing}
 use Rattle.wasm_laws_values.specs.Values.{Value, Instance, Store, HaveTypes, no_values}
 use Rattle.wasm_laws_values.specs.Outcomes.{State, Primitives, entered}
-use Rattle.wasm_laws_values.specs.Fits.{IsTypedCode}
+use Rattle.wasm_laws_values.specs.Fits.{IsTypedCode, IsTypedFunction}
 use Rattle.wasm_laws_values.proofs.Values.{grows-refl, start-fits}
 use Rattle.wasm_laws_soundness.specs.Laws.{AreSound}
 use Rattle.wasm_laws_soundness.specs.Modules.{IsCodeOf, IsInstance, called_with, context_in}
-use Rattle.wasm_laws_soundness.specs.Heights.{Comes, AreHeights, ValidModulesHaveTheirHeights}
+use Rattle.wasm_laws_soundness.specs.Heights.{Comes, AreHeights, FunctionsHaveTheirHeights, ValidModulesHaveTheirHeights}
 use Rattle.wasm_laws_soundness.proofs.Modules.{code-typed, function-typed}
 use Rattle.wasm_laws_soundness.proofs.Worlds.{functions-match}
 use Rattle.wasm_laws_soundness.proofs.Heights.{heights_are_as_seen}
+
+pub functions_have_their_heights : (R : Type 0) → FunctionsHaveTheirHeights R
+functions_have_their_heights R W P sound a f g B I c b s h i w d e vs v n ops below t m =
+    let k : IsTypedFunction W P s.store f = h.functions a f i in
+    let j : IsTypedCode W P s.store g B I c =
+    subst (λ (z : Signature R). IsTypedCode W P s.store z B I c) (the_same k.signature g (sym k.is ∙ w)) (k.code B I c d) in
+    heights_are_as_seen R W P sound B I b g c j.sets e j.typed n (entered B.locals vs s)
+    (record {
+      operands = no_values;
+      locals = start-fits B g.takes j.extra vs j.locals v;
+      store = h;
+      instance = j.instance;
+      grown = grows-refl s.store;
+    })
+    ops below t m
 
 module _ {R : Type 0} (W : World R) (F : Features) (C : Context R) (P : Primitives R) where
   seen_in :
@@ -63,4 +78,5 @@ valid_modules_have_their_heights F bytes m off P keep S I h i n body e w B c k v
     let u = has_no_sharing F types z.distinct z.number accepted z.first z.numbers C refl off in
     seen_in (world_of nat_eq C) F C P m.well_formed.parts
     (record { in_order = o; functions = functions-match F types z.distinct z.number accepted z.first z.numbers C refl o; keep = keep })
-    (λ y x b q l. (bodies_are_typed ℕ (world_of nat_eq C) F C x b o).sound u (m.typed.bodies y x b q l)) S I h i n body e w B c k vs v steps ops below to r
+    (λ y x b q l. (bodies_are_typed ℕ (world_of nat_eq C) F C x b o).sound u (m.typed.bodies y x b q l))
+    S I h i n body e w B c k vs v steps ops below to r

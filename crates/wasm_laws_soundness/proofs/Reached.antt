@@ -74,13 +74,16 @@ module _ {R : Type 0} (W : World R) (B : Surroundings R) (C : Scope R) where
   act-reach (turn_to_catch t k) p q h e = absurd (absent q e)
   act-reach (find_outside n) p q h e = absurd (absent q e)
   act-reach (find_caught n) p q h e = let g = guard-gives (is_caught W B C.caught n) p q e in same_reach p q g.1
-  act-reach (take t) p q h e = let f = bind-gives (types_in W B C.labels C.returns t) (λ (vs : List (Val R)). lpops W vs p) q e in pops-reach W f.0 p q f.2
+  act-reach (take t) p q h e =
+      let f = bind-gives (types_in W B C.labels C.returns t) (λ (vs : List (Val R)). lpops W vs p) q e in pops-reach W f.0 p q f.2
   act-reach (give t) p q h e =
-      let f = bind-gives (types_in W B C.labels C.returns t) (λ (vs : List (Val R)). Some (lpush vs p)) q e in same_reach (lpush f.0 p) q (the_same (lpush f.0 p) q f.2)
+      let f = bind-gives (types_in W B C.labels C.returns t) (λ (vs : List (Val R)). Some (lpush vs p)) q e in same_reach (lpush f.0 p) q
+      (the_same (lpush f.0 p) q f.2)
   act-reach take_any p q h e =
       let f = bind-gives (lpop p) without q e in
       same_reach f.0.1 q (the_same f.0.1 q f.2) ∙ pop-reach p f.0 f.1
-  act-reach (set n) p q h e = same_reach (record p { sets = lgrown W B n C.sets p.sets }) q (the_same (record p { sets = lgrown W B n C.sets p.sets }) q e)
+  act-reach (set n) p q h e =
+      same_reach (record p { sets = lgrown W B n C.sets p.sets }) q (the_same (record p { sets = lgrown W B n C.sets p.sets }) q e)
   act-reach take_reference p q h e =
       let f = bind-gives (lpop_reference p) without q e in
       same_reach f.0.1 q (the_same f.0.1 q f.2) ∙ pop_reference-reach p f.0 f.1
@@ -109,7 +112,8 @@ module _ {R : Type 0} (W : World R) (B : Surroundings R) (C : Scope R) where
       let b = bind-gives (lpop_reference p) (null_at W B C.labels n) q e in
       let c = bind-gives (slice_get C.labels n) (null_for W B b.0) q b.2 in
       let d = bind-gives (lpops W c.0 b.0.1) (given_back b.0.0 c.0) q c.2 in
-      let x : q.unreached ≡ d.0.unreached = same_reach (lput (non_null b.0.0) (lpush c.0 d.0)) q (the_same (lput (non_null b.0.0) (lpush c.0 d.0)) q d.2) in
+      let x : q.unreached ≡ d.0.unreached = same_reach (lput (non_null b.0.0) (lpush c.0 d.0)) q
+      (the_same (lput (non_null b.0.0) (lpush c.0 d.0)) q d.2) in
       let y : d.0.unreached ≡ b.0.1.unreached = pops-reach W c.0 b.0.1 d.0 d.1 in
       x ∙ y ∙ pop_reference-reach p b.0 b.1
 
@@ -133,7 +137,8 @@ goes_on_or_gives_any W B C s ts us (choosing_rule t v n m) = inl refl
 goes_on_or_gives_any W B C s ts us (testing_null_rule {cs = cs} x h) = inl (checked-go_on cs (take_reference ∷ give _ ∷ []) refl)
 goes_on_or_gives_any W B C s ts us (asserting_non_null_rule {cs = cs} x h) = inl (checked-go_on cs (make_non_null ∷ []) refl)
 goes_on_or_gives_any W B C s ts us (branching_on_null_rule {cs = cs} {l = l} x h e) = inl (checked-go_on cs (branch_on_null l ∷ []) refl)
-goes_on_or_gives_any W B C s ts us (branching_on_non_null_rule {cs = cs} ls r h e) = inl (checked-go_on cs (make_non_null ∷ take _ ∷ take _ ∷ give _ ∷ []) refl)
+goes_on_or_gives_any W B C s ts us (branching_on_non_null_rule {cs = cs} ls r h e) =
+    inl (checked-go_on cs (make_non_null ∷ take _ ∷ take _ ∷ give _ ∷ []) refl)
 goes_on_or_gives_any W B C s ts us (setting_rule y e) = inl refl
 goes_on_or_gives_any W B C s ts us (giving_back_rule y e) = inl refl
 goes_on_or_gives_any W B C s ts us (measuring_rule {cs = cs} {k = k} {t = t} f h e) = inl (checked-go_on cs (take_below k ∷ give t ∷ []) refl)
@@ -147,12 +152,14 @@ module _ {R : Type 0} (W : World R) (B : Surroundings R) where
       let x = bind-gives (resolve_block B.context.types b) (signed W B p) e h in
       let y = bind-gives (block_signature W B x.0) (taking W B x.0 p) e x.2 in
       let z = bind-gives (lpops W y.0.takes p) (entered x.0 y.0) e y.2 in
-      ap (λ (w : Entered R). w.left.unreached) (sym (the_same (record { block = x.0; signature = y.0; left = z.0 }) e z.2)) ∙ pops-reach W y.0.takes p z.0 z.1
+      ap (λ (w : Entered R). w.left.unreached) (sym (the_same (record { block = x.0; signature = y.0; left = z.0 }) e z.2))
+      ∙ pops-reach W y.0.takes p z.0 z.1
 
   enter-reach : (C : Scope R) (o : Opening) (p : Stack R) (e : Entered R) → lenter W B C o p ≡ Some e → e.left.unreached ≡ p.unreached
   enter-reach C o p e h =
       let x = bind-gives (lrun W B C (checked (checks_of o) (take (condition_of o) ∷ [])) p) (lenter_block W B (block_of o)) e h in
-      block-reach (block_of o) x.0 e x.2 ∙ run-reach W B C (checked (checks_of o) (take (condition_of o) ∷ [])) p x.0 (checked-go_on (checks_of o) (take (condition_of o) ∷ []) refl) x.1
+      block-reach (block_of o) x.0 e x.2 ∙ run-reach W B C (checked (checks_of o) (take (condition_of o) ∷ [])) p x.0
+      (checked-go_on (checks_of o) (take (condition_of o) ∷ []) refl) x.1
 
   shut-reach : (k : Kind) (e : Entered R) (r q : Stack R) → lshut W B k e r ≡ Some q → q.unreached ≡ e.left.unreached
   shut-reach k e r q h =
@@ -160,13 +167,16 @@ module _ {R : Type 0} (W : World R) (B : Surroundings R) where
       let y = guard-gives (may_end W B k e.signature) (lpush e.signature.gives e.left) q x.2 in
       same_reach (lpush e.signature.gives e.left) q y.1
 
-  handle-reach : (C : Scope R) (k : Kind) (e : Entered R) (hs : Handlers) (r q : Stack R) → handle W B C k e hs r ≡ Some q → q.unreached ≡ e.left.unreached
+  handle-reach :
+      (C : Scope R) (k : Kind) (e : Entered R) (hs : Handlers) (r q : Stack R) → handle W B C k e hs r ≡ Some q → q.unreached ≡ e.left.unreached
   handle-reach C k e (last_handler h b) r q i =
-      let x = bind-gives (lcatch W B (deeper k e C) h e r) (λ vs. check W B (deeper (handler_kind h) e C) b (starting vs) >>= lshut W B (handler_kind h) e) q i in
+      let x = bind-gives (lcatch W B (deeper k e C) h e r)
+      (λ vs. check W B (deeper (handler_kind h) e C) b (starting vs) >>= lshut W B (handler_kind h) e) q i in
       let y = bind-gives (check W B (deeper (handler_kind h) e C) b (starting x.0)) (lshut W B (handler_kind h) e) q x.2 in
       shut-reach (handler_kind h) e y.0 q y.2
   handle-reach C k e (catch_before n b hs) r q i =
-      let x = bind-gives (lcatch W B (deeper k e C) (a_catch n) e r) (λ vs. check W B (deeper legacy_catch_kind e C) b (starting vs) >>= handle W B C legacy_catch_kind e hs) q i in
+      let x = bind-gives (lcatch W B (deeper k e C) (a_catch n) e r)
+      (λ vs. check W B (deeper legacy_catch_kind e C) b (starting vs) >>= handle W B C legacy_catch_kind e hs) q i in
       let y = bind-gives (check W B (deeper legacy_catch_kind e C) b (starting x.0)) (handle W B C legacy_catch_kind e hs) q x.2 in
       handle-reach C legacy_catch_kind e hs y.0 q y.2
 
@@ -175,14 +185,17 @@ module _ {R : Type 0} (W : World R) (B : Surroundings R) where
   then_done C None q e = e
   then_done C (Some y) q e = e
 
-  pub enclosing-reach : (C : Scope R) (o : Opening) (b : Code) (p q : Stack R) → check W B C (enclosing o b done) p ≡ Some q → q.unreached ≡ p.unreached
+  pub enclosing-reach :
+      (C : Scope R) (o : Opening) (b : Code) (p q : Stack R) → check W B C (enclosing o b done) p ≡ Some q → q.unreached ≡ p.unreached
   enclosing-reach C o b p q h =
-      let x = bind-gives (lenter W B C o p) (λ e. (check W B (deeper (kind_of o) e C) b (fresh e.signature) >>= lshut W B (kind_of o) e) >>= check W B C done) q h in
+      let x = bind-gives (lenter W B C o p)
+      (λ e. (check W B (deeper (kind_of o) e C) b (fresh e.signature) >>= lshut W B (kind_of o) e) >>= check W B C done) q h in
       let y = bind-gives (check W B (deeper (kind_of o) x.0 C) b (fresh x.0.signature)) (lshut W B (kind_of o) x.0) q
       (then_done C (check W B (deeper (kind_of o) x.0 C) b (fresh x.0.signature) >>= lshut W B (kind_of o) x.0) q x.2) in
       shut-reach (kind_of o) x.0 y.0 q y.2 ∙ enter-reach C o p x.0 x.1
 
-  pub choosing-reach : (C : Scope R) (g : Block ℕ) (b d : Code) (p q : Stack R) → check W B C (choosing_between g b d done) p ≡ Some q → q.unreached ≡ p.unreached
+  pub choosing-reach :
+      (C : Scope R) (g : Block ℕ) (b d : Code) (p q : Stack R) → check W B C (choosing_between g b d done) p ≡ Some q → q.unreached ≡ p.unreached
   choosing-reach C g b d p q h =
       let x = bind-gives (lenter W B C (an_if g) p) (λ e. (check W B (deeper if_kind e C) b (fresh e.signature) >>= lend W e.signature.gives)
       >>= λ z. (check W B (deeper else_kind e C) d (fresh e.signature) >>= lshut W B else_kind e) >>= check W B C done) q h in
@@ -192,18 +205,24 @@ module _ {R : Type 0} (W : World R) (B : Surroundings R) where
       (then_done C (check W B (deeper else_kind x.0 C) d (fresh x.0.signature) >>= lshut W B else_kind x.0) q w.2) in
       shut-reach else_kind x.0 y.0 q y.2 ∙ enter-reach C (an_if g) p x.0 x.1
 
-  pub handling-reach : (C : Scope R) (g : Block ℕ) (b : Code) (hs : Handlers) (p q : Stack R) → check W B C (handling g b hs done) p ≡ Some q → q.unreached ≡ p.unreached
+  pub handling-reach :
+      (C : Scope R) (g : Block ℕ) (b : Code) (hs : Handlers) (p q : Stack R) → check W B C (handling g b hs done) p ≡ Some q
+      → q.unreached ≡ p.unreached
   handling-reach C g b hs p q h =
-      let x = bind-gives (lenter W B C (a_try g) p) (λ e. (check W B (deeper legacy_try_kind e C) b (fresh e.signature) >>= handle W B C legacy_try_kind e hs) >>= check W B C done) q h in
+      let x = bind-gives (lenter W B C (a_try g) p)
+      (λ e. (check W B (deeper legacy_try_kind e C) b (fresh e.signature) >>= handle W B C legacy_try_kind e hs) >>= check W B C done) q h in
       let y = bind-gives (check W B (deeper legacy_try_kind x.0 C) b (fresh x.0.signature)) (handle W B C legacy_try_kind x.0 hs) q
       (then_done C (check W B (deeper legacy_try_kind x.0 C) b (fresh x.0.signature) >>= handle W B C legacy_try_kind x.0 hs) q x.2) in
       handle-reach C legacy_try_kind x.0 hs y.0 q y.2 ∙ enter-reach C (a_try g) p x.0 x.1
 
-  pub delegating-reach : (C : Scope R) (l : ℕ) (g : Block ℕ) (b : Code) (p q : Stack R) → check W B C (delegating_to l g b done) p ≡ Some q → q.unreached ≡ p.unreached
+  pub delegating-reach :
+      (C : Scope R) (l : ℕ) (g : Block ℕ) (b : Code) (p q : Stack R) → check W B C (delegating_to l g b done) p ≡ Some q → q.unreached ≡ p.unreached
   delegating-reach C l g b p q h =
-      let x = bind-gives (lenter W B C (a_try g) p) (λ e. (check W B (deeper legacy_try_kind e C) b (fresh e.signature) >>= ldelegate W B C l e) >>= check W B C done) q h in
+      let x = bind-gives (lenter W B C (a_try g) p)
+      (λ e. (check W B (deeper legacy_try_kind e C) b (fresh e.signature) >>= ldelegate W B C l e) >>= check W B C done) q h in
       let y = bind-gives (check W B (deeper legacy_try_kind x.0 C) b (fresh x.0.signature)) (ldelegate W B C l x.0) q
       (then_done C (check W B (deeper legacy_try_kind x.0 C) b (fresh x.0.signature) >>= ldelegate W B C l x.0) q x.2) in
-      let z = bind-gives (lrun W B (deeper legacy_try_kind x.0 C) (checked (legacy_checks []) []) y.0) (λ r. guard (is_some (slice_get C.labels l)) r >>= lshut W B legacy_try_kind x.0) q y.2 in
+      let z = bind-gives (lrun W B (deeper legacy_try_kind x.0 C) (checked (legacy_checks []) []) y.0)
+      (λ r. guard (is_some (slice_get C.labels l)) r >>= lshut W B legacy_try_kind x.0) q y.2 in
       let w = bind-gives (guard (is_some (slice_get C.labels l)) z.0) (lshut W B legacy_try_kind x.0) q z.2 in
       shut-reach legacy_try_kind x.0 w.0 q w.2 ∙ enter-reach C (a_try g) p x.0 x.1

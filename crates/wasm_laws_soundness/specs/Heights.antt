@@ -17,9 +17,9 @@ use Rattle.wasm_spec_instructions.specs.ValueTypes.{vals}
 use Rattle.wasm_spec_instructions.specs.Expressions.{body_scope}
 use Rattle.wasm_spec_instructions.specs.Sequences.{Typed}
 use Rattle.wasm_spec_validity.specs.Modules.{IsValidModule}
-use Rattle.wasm_laws_values.specs.Values.{Value, i32_value, Instance, Exception, Store, HaveTypes}
+use Rattle.wasm_laws_values.specs.Values.{Value, i32_value, Instance, defined, Function, Exception, Store, signature_in, HaveTypes}
 use Rattle.wasm_laws_values.specs.Outcomes.{State, branches, throws, falls_through, leaves, Primitives, cut, holding, label, entered}
-use Rattle.wasm_laws_values.specs.Fits.{Fits}
+use Rattle.wasm_laws_values.specs.Fits.{StoreFits, Fits}
 use Rattle.wasm_laws_soundness.specs.Interpreter.{does, run}
 use Rattle.wasm_laws_soundness.specs.Promises.{KeepsPromises}
 use Rattle.wasm_laws_soundness.specs.Laws.{AreSound}
@@ -149,6 +149,16 @@ HeightsAreAsSeen R =
     → block_signature W B b ≡ Some g → Typed W B (body_scope g.gives) c [] xs (vals g.gives)
     → (n : ℕ) (s : State R) → Fits W P B I s.store [] [] s
     → (ops : List (Instruction ℕ)) (below : List (Value R)) (t : State R) → Comes W P B I n c s ops below t
+    → AreHeights W B b ops (length below) (length t.operands)
+
+-- So it is in each function of a store that fits, called with arguments of its types.
+abbrev pub FunctionsHaveTheirHeights : (R : Type 0) → Type 0
+FunctionsHaveTheirHeights R =
+    (W : World R) (P : Primitives R) → AreSound W P
+    → (a : ℕ) (f : Function R) (g : Signature R) (B : Surroundings R) (I : Instance) (c : Code) (b : Block R) (s : State R) → StoreFits W P s.store
+    → slice_get s.store.functions a ≡ Some f → signature_in W f.type ≡ Some g → f.definition ≡ defined B I c → block_signature W B b ≡ Some g
+    → (vs : List (Value R)) → HaveTypes W s.store vs (vals g.takes)
+    → (n : ℕ) (ops : List (Instruction ℕ)) (below : List (Value R)) (t : State R) → Comes W P B I n c (entered B.locals vs s) ops below t
     → AreHeights W B b ops (length below) (length t.operands)
 
 -- And where code falls through, its run has come to its end.

@@ -4,7 +4,7 @@
 
 ghost use Rattle.wasm_laws_soundness.specs.Example.{ExampleWorks};
 ghost use Rattle.wasm_laws_soundness.specs.Frames.{NoRunReadsBelow};
-ghost use Rattle.wasm_laws_soundness.specs.Heights.{HeightsAreAsSeen, RunsComeToTheEnd, ValidModulesHaveTheirHeights};
+ghost use Rattle.wasm_laws_soundness.specs.Heights.{FunctionsHaveTheirHeights, HeightsAreAsSeen, RunsComeToTheEnd, ValidModulesHaveTheirHeights};
 ghost use Rattle.wasm_laws_soundness.specs.Laws.{FunctionsAreSound, HeightsAreAsTyped, NeverStuck, Soundness};
 ghost use Rattle.wasm_laws_soundness.specs.Modules.{ValidModulesNeverGetStuck};
 
@@ -37,6 +37,12 @@ pub fn heights_are_as_typed<R>()
 #[tactic(auto, using(crate::proofs::Heights::heights_are_as_seen))]
 pub fn heights_are_as_seen<R>()
     ensures { HeightsAreAsSeen R }
+{}
+
+/// So it is in each function of a store that fits, called with arguments of its types.
+#[tactic(auto, using(crate::proofs::HeightsInModules::functions_have_their_heights))]
+pub fn functions_have_their_heights<R>()
+    ensures { FunctionsHaveTheirHeights R }
 {}
 
 /// Where code falls through, its run has come to its end.
