@@ -1,4 +1,4 @@
-"""The program that bin/wasm-check or bin/wasm-validate runs, for a tool that calls it hundreds of times: the wrapper compares all sources at each call."""
+"""The program that bin/wasm-check or bin/wasm-validate runs, for tools that call it often: the wrapper looks at all sources at each call."""
 import os
 import subprocess
 import sys
