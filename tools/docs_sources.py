@@ -13,14 +13,15 @@ TRAIT_ITEM = re.compile(r"^( +)(fn|const|type|ghost) (\w+)")
 
 
 class Tree:
-    """The files of the repository, some of which may be replaced: a self-test reads false documents so."""
+    """The files of the repository, some of which may be replaced: a self-test reads false documents so. It keeps which were read."""
 
     kept, listed = {}, {}
 
     def __init__(self, replaced=None):
-        self.replaced = replaced or {}
+        self.replaced, self.asked = replaced or {}, set()
 
     def read(self, path):
+        self.asked.add(path)
         if path in self.replaced:
             return self.replaced[path]
         if path not in self.kept:

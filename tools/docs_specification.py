@@ -5,7 +5,7 @@ spec_code.py). A file of the theorem has its chapter below; one that has none, o
 import re
 
 from docs_code import bullets_of_definitions
-from docs_sources import stop, wrap
+from docs_sources import Tree, stop, wrap
 from docs_texts import ticked
 from spec_code import Code
 from spec_names import Names, Specs, uses_of
@@ -320,12 +320,12 @@ class Specification:
 
     @staticmethod
     def of(tree):
-        """The specification of the sources as they are, which is made once, or of ones of which some are replaced."""
-        if tree.replaced.keys() - {PAGE}:
-            return Specification(tree)
+        """The specification of the sources as they are, which is made once, or of ones of which some that it is made of are replaced."""
         if not Specification.kept:
-            Specification.kept[0] = Specification(tree)
-        return Specification.kept[0]
+            sources = Tree()
+            made = Specification(sources)
+            Specification.kept = {"made": made, "asked": sources.asked}
+        return Specification(tree) if tree.replaced.keys() & Specification.kept["asked"] else Specification.kept["made"]
 
     def write(self, title, about, files):
         rows, total, count = [], 0, 0

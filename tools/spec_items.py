@@ -5,7 +5,6 @@ them: a variable of a pattern, a `λ`, a binder, a field or a `let` hides an ite
 `use` lines bring in. No type is looked at, so a name behind a dot is a field unless what stands before it is a module."""
 import re
 
-SYMBOLS = set("(){}.;,@\"")
 KEYWORDS = set(
     "→ × ↦ = | : λ . data record deriving module where use mod pub package open as unfoldable abbrev axiom unfold unfolding mutual infix infixl infixr "
     "elim let in do Type ℓ _ [ ] ← ⊥ ⊤ₛ Unit tt absurd ¬".split()
@@ -22,30 +21,26 @@ class Token:
         self.text, self.row, self.column, self.is_joined = text, row, column, is_joined
 
 
+# A space, a comment to the end of its row, the begin of another one, or a word.
+PIECE = re.compile(r"\s+|--.*|\{-|«[^»]*»|[(){}.;,@\"]|[^\s(){}.;,@\"]+")
+
+
 def tokens_of(rows, first=0):
     """The words of these rows, without comments."""
-    found, is_comment = [], False
+    found, is_comment, match = [], False, PIECE.match
     for row, text in enumerate(rows, first):
-        at = end = 0
+        at, end = 0, 0
         while at < len(text):
             if is_comment:
                 at = text.find("-}", at)
                 is_comment, at = at < 0, len(text) if at < 0 else at + 2
-            elif text[at].isspace():
-                at += 1
-            elif text.startswith("--", at):
-                break
-            elif text.startswith("{-", at):
-                is_comment = True
-            else:
-                begin = at
-                at += 1
-                if text[begin] == "«":
-                    at = text.index("»", at) + 1
-                elif text[begin] not in SYMBOLS:
-                    while at < len(text) and not text[at].isspace() and text[at] not in SYMBOLS:
-                        at += 1
-                found.append(Token(text[begin:at].strip("«»"), row, begin, begin == end and begin > 0))
+                continue
+            begin, piece = at, match(text, at)
+            word, at = piece[0], piece.end()
+            if word == "{-":
+                is_comment, at = True, begin
+            elif not word[0].isspace() and not word.startswith("--"):
+                found.append(Token(word.strip("«»"), row, begin, begin == end and begin > 0))
                 end = at
     return found
 

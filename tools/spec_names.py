@@ -9,16 +9,25 @@ IGNORED = KEYWORDS | {"(", ")", "{", "}", ";", ",", ".", "@"}
 class Specs:
     """The files of specs by crate and name."""
 
+    kept = {}
+
     def __init__(self, tree):
         self.modules = {}
         for crate in tree.crates():
             for path in tree.files(f"crates/{crate}/specs", ending=".antt"):
                 name = path[len(f"crates/{crate}/specs/") : -len(".antt")].replace("/", ".")
-                self.modules[crate, name] = SpecModule(crate, name, path, tree.read(path).split("\n"))
+                self.modules[crate, name] = self.read(crate, name, path, tree.read(path))
+        self.crates = {crate for crate, _ in self.modules}
+
+    def read(self, crate, name, path, text):
+        """A file of specs, which is read once, also where another file is replaced."""
+        if (path, text) not in self.kept:
+            self.kept[path, text] = SpecModule(crate, name, path, text.split("\n"))
+        return self.kept[path, text]
 
     def resolve(self, path):
         """What a path stands for: ("item", item), ("module", crate, name), ("rust", crate, path), or ("kit", name)."""
-        if path[0] != "Rattle" or len(path) < 3 or not any(crate == path[1] for crate, _ in self.modules):
+        if path[0] != "Rattle" or len(path) < 3 or path[1] not in self.crates:
             return ("kit", path[-1])
         return self.below(("module", path[1], "Lib"), path[3:], path)
 
