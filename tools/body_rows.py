@@ -975,6 +975,36 @@ HEAD = '''# Each line is a row; blank lines and lines that begin with `#` are pa
 '''
 
 
+def scored():
+    """What no other row told apart: found by tools/score."""
+    subject('control')
+    case('a branch in an else without what its label takes', 'i32.const 0; if =i32; i32.const 1; else; br 0; end; drop')
+    case('an else in a loop', 'loop; else; end', wanted='refused 3 ' + ELSE)
+    case('an else in a try_table', 'try_table; else; end', wanted='refused 4 ' + ELSE)
+    case('an else in an else', 'i32.const 0; if; else; else; end', wanted='refused 6 ' + ELSE)
+    case('catch_all_ref to a block of an empty list', 'block @0; try_table [catch_all_ref:0]; end; end')
+    case('catch_ref to a block of an empty list', 'block @0; try_table [catch_ref:0:0]; end; end')
+    case('a table that takes nothing, with an unknown label', 'i32.const 0; br_table 9 0')
+    case('a label that is cut off', '', raw=b'\0\x0c')
+    case('a label behind a condition that is cut off', '', raw=b'\0\x41\0\x0d')
+    case('the function of a call that is cut off', '', raw=b'\0\x10')
+    subject('variables')
+    case('the index of a local that is cut off', '', raw=b'\0\x20')
+    case('the index of a local that is set and cut off', '', raw=b'\0\x41\0\x21')
+    case('the index of a global that is cut off', '', raw=b'\0\x23')
+    subject('references')
+    case('ref.eq of what may be any below eq', 'ref.null any; ref.null eq; ref.eq; drop', told='')
+    case('ref.eq of what may be any above eq', 'ref.null eq; ref.null any; ref.eq; drop', told='')
+    case('br_on_cast to an outer label of another type', 'block =?array; block =?any; ref.null any; br_on_cast 1 ?any ?i31; end; drop; unreachable; end; drop', told='')
+    case('br_on_cast_fail to an outer label of another type', 'block =?i31; block =?any; ref.null any; br_on_cast_fail 1 ?any ?i31; end; drop; unreachable; end; drop')
+    case('ref.func of its exact type', '', raw=bytes.fromhex('0002646201d2010b1a0b'))
+    subject('aggregates')
+    case('array.new_elem of numbers, with an unknown segment', 'i32.const 0; i32.const 0; array.new_elem 4 9; drop')
+    subject('legacy_exceptions')
+    for where, head in [('a try', [TRY_I32]), ('a catch', [TRY_I32, I32, '0700']), ('a catch_all', [TRY_I32, I32, '19'])]:
+        case('a branch in %s without what its label takes' % where, '', raw=b'\0' + bytes.fromhex(''.join(head)) + bytes.fromhex('0c000b1a0b'), features=LEGACY)
+
+
 def wanted_of(answers, type_index, body, told):
     b, start = module(type_index, body)
     it = answers.of(b)
@@ -987,7 +1017,7 @@ def wanted_of(answers, type_index, body, told):
 
 
 def main():
-    for part in [numbers, memories, tables, variables, control, references, abstract_casts, continuation_branches, unreached, aggregates, proposals, legacy]:
+    for part in [numbers, memories, tables, variables, control, references, abstract_casts, continuation_branches, unreached, aggregates, proposals, legacy, scored]:
         part()
     answers = Answers()
     files, lacking = {}, []

@@ -1475,6 +1475,23 @@ CHANGED = {0x6a: 0x7c, 0x6b: 0x45, 0x7c: 0x6a, 0x41: 0x42, 0x42: 0x41, 0x20: 0x2
            0x1b: 0x1a, 0xa7: 0xac, 0xac: 0xa7, 0xad: 0xa7, 0x04: 0x02, 0x03: 0x04}
 
 
+def scored():
+    """What no other row told apart: found by tools/score."""
+    heading('Types that are alike in part')
+    asked('catch_ref to a block that takes a number behind its tag', 'block @2; try_table _ [catch_ref:0:0]; end; unreachable; end; unreachable',
+          types=['func ->', 'func i32 ->', 'func -> i32 i64'], tags=[1], told='')
+    asked('array.copy of bytes into halves', 'ref.null 1; i32.const 0; ref.null 0; i32.const 0; i32.const 0; array.copy 1 0',
+          types=['array mut:i8', 'array mut:i16'], told='')
+    shared = b'\x65\x60\0\0'
+    for title, ops in [('any below eq', 'x:d0656e; x:d0656d; ref.eq; drop'), ('any above eq', 'x:d0656d; x:d0656e; ref.eq; drop'),
+                       ('eq alone', 'x:d0656d; x:d0656d; ref.eq; drop')]:
+        asked('ref.eq in a shared function, of shared %s' % title, ops, ty=0, types=[shared], features='all', told='')
+    structure = b'\x65\x5f\0'
+    asked('ref.test of any shared for a shared structure', 'x:d0656e; ref.test 1; drop', ty=0, types=['func ->', structure], features='all')
+    asked('ref.test of any shared for a structure', 'x:d0656e; ref.test 1; drop', ty=0, types=['func ->', 'struct'], features='all', told='')
+    asked('ref.test of any for a shared structure', 'ref.null any; ref.test 1; drop', ty=0, types=['func ->', structure], features='all', told='')
+
+
 def changed(b, most):
     """The module with one operator exchanged for another: so many of them, in even steps."""
     places = []
@@ -1503,7 +1520,7 @@ def programs():
         row('the program %s with another operator, in turn' % name, *[Part(other, plain=True) for other in changed(b, 10 if len(b) < 800 else 6)])
 
 
-PARTS = [by_bytes, on_one_validator, limits, numbers, accesses, frames, unreached, joins, named, calls, identities, catches, casts, gated, beyond, descriptors, continuations, edges,
+PARTS = [by_bytes, on_one_validator, limits, numbers, accesses, frames, unreached, joins, named, calls, identities, catches, casts, gated, beyond, descriptors, continuations, edges, scored,
          bodies, programs]
 
 if __name__ == '__main__':
