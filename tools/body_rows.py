@@ -998,6 +998,24 @@ def scored():
     case('br_on_cast to an outer label of another type', 'block =?array; block =?any; ref.null any; br_on_cast 1 ?any ?i31; end; drop; unreachable; end; drop', told='')
     case('br_on_cast_fail to an outer label of another type', 'block =?i31; block =?any; ref.null any; br_on_cast_fail 1 ?any ?i31; end; drop; unreachable; end; drop')
     case('ref.func of its exact type', '', raw=bytes.fromhex('0002646201d2010b1a0b'))
+    case('ref.func of a function for a structure', 'block =!struct; ref.func 1; end; drop', told='')
+    case('ref.func of a function for one of another type', 'block =!10; ref.func 1; end; drop', told='')
+    case('ref.func of a function for one of its type', 'block =!1; ref.func 1; end; drop')
+    case('ref.null of a type index with gc alone', 'ref.null 3; drop', features='all-function_references', wanted='ok')
+    case('ref.null of a type index with function references alone', 'ref.null 3; drop', features='all-gc', wanted='ok')
+    exact = 'custom descriptors required for exact reference types; missing custom_descriptors'
+    case('ref.null of an exact type', '', raw=bytes.fromhex('00d062031a0b'))
+    case('ref.null of an exact type without custom_descriptors', '', raw=bytes.fromhex('00d062031a0b'), features='all-custom_descriptors', wanted='refused 1 ' + exact)
+    case('ref.test of an exact type without custom_descriptors', '', raw=bytes.fromhex('0000fb1462031a0b'), features='all-custom_descriptors',
+         wanted='refused 2 ' + exact)
+    for name, op in [('a type index', '03'), ('an exact type', '6203')]:
+        case('ref.test of %s without reference_types' % name, '', raw=bytes.fromhex('0000fb14%s1a0b' % op), features='all-reference_types',
+             wanted='refused 2 ' + value_type('reference_types'))
+    subject('memories')
+    case('an offset of 33 bits with the largest alignment', 'i32.const 0; i32.load 2:4294967296; drop')
+    case('v128.load of 64 bits with an offset of 33 bits', '', raw=bytes.fromhex('004200fd00400180808080101a0b'))
+    subject('tables')
+    case('elem.drop of an unknown segment 7', 'elem.drop 7')
     subject('aggregates')
     case('array.new_elem of numbers, with an unknown segment', 'i32.const 0; i32.const 0; array.new_elem 4 9; drop')
     subject('legacy_exceptions')

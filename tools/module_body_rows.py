@@ -1490,6 +1490,17 @@ def scored():
     asked('ref.test of any shared for a shared structure', 'x:d0656e; ref.test 1; drop', ty=0, types=['func ->', structure], features='all')
     asked('ref.test of any shared for a structure', 'x:d0656e; ref.test 1; drop', ty=0, types=['func ->', 'struct'], features='all', told='')
     asked('ref.test of any for a shared structure', 'ref.null any; ref.test 1; drop', ty=0, types=['func ->', structure], features='all', told='')
+    for title, ops in [('twice', 'ref.null 1; ref.null 1'), ('and of shared eq', 'ref.null 1; x:d0656d'), ('and of eq', 'ref.null 1; ref.null eq')]:
+        asked('ref.eq of a shared structure %s' % title, ops + '; ref.eq; drop', ty=0, types=['func ->', structure], features='all', told=None if 'shared' in title else '')
+    heading('References to functions, whose types are exact')
+    parts = dict(types=['func ->', 'func -> i32'], elems=[dict(mode='declared', funcs=[0])], features='all', ty=0, told='')
+    exact = 'x:02646200; ref.func 0; x:0b; drop'
+    asked('a defined function is of its exact type', exact, **parts)
+    # the custom descriptors proposal: an import without `exact` may be of a subtype
+    asked('an imported function is not of its exact type', exact, imports=[('func', 0)], wanted='refused 49; ' + IN_BODY, own=True, **parts)
+    asked('a function that is imported as exact is of its exact type', exact, imports=[b'\1m\1f\x20\0'], wanted='ok', **parts)
+    for heap, op in [('a structure', 'block =!struct'), ('any', 'block =!any'), ('a shared function', 'x:02646570'), ('a function of another type', 'block =!1')]:
+        asked('a defined function for %s' % heap, op + '; ref.func 0; x:0b; drop', **parts)
 
 
 def changed(b, most):
