@@ -1497,7 +1497,7 @@ def scored():
     exact = 'x:02646200; ref.func 0; x:0b; drop'
     asked('a defined function is of its exact type', exact, **parts)
     # the custom descriptors proposal: an import without `exact` may be of a subtype
-    asked('an imported function is not of its exact type', exact, imports=[('func', 0)], wanted='refused 49; ' + IN_BODY, own=True, **parts)
+    asked('an imported function is not of its exact type', exact, imports=[('func', 0)], wanted='refused 49 type mismatch: expected (ref (exact (id 0))), found (ref (id 0)); ' + IN_BODY, own=True, **parts)
     asked('a function that is imported as exact is of its exact type', exact, imports=[b'\1m\1f\x20\0'], wanted='ok', **parts)
     for heap, op in [('a structure', 'block =!struct'), ('any', 'block =!any'), ('a shared function', 'x:02646570'), ('a function of another type', 'block =!1')]:
         asked('a defined function for %s' % heap, op + '; ref.func 0; x:0b; drop', **parts)
