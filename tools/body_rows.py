@@ -979,6 +979,9 @@ def scored():
     """What no other row told apart: found by tools/score."""
     subject('control')
     case('a branch in an else without what its label takes', 'i32.const 0; if =i32; i32.const 1; else; br 0; end; drop')
+    case('an if without else of a type that takes nothing and gives nothing', 'i32.const 0; if @0; end')
+    case('an if without else of a type that gives a number', 'i32.const 0; if @9; i32.const 1; end; drop', told='')
+    case('an if without else of a type that takes a number', 'i32.const 1; i32.const 0; if @8; drop; end', told='')
     case('an else in a loop', 'loop; else; end', wanted='refused 3 ' + ELSE)
     case('an else in a try_table', 'try_table; else; end', wanted='refused 4 ' + ELSE)
     case('an else in an else', 'i32.const 0; if; else; else; end', wanted='refused 6 ' + ELSE)
@@ -997,6 +1000,11 @@ def scored():
     case('ref.eq of what may be any above eq', 'ref.null eq; ref.null any; ref.eq; drop', told='')
     case('br_on_cast to an outer label of another type', 'block =?array; block =?any; ref.null any; br_on_cast 1 ?any ?i31; end; drop; unreachable; end; drop', told='')
     case('br_on_cast_fail to an outer label of another type', 'block =?i31; block =?any; ref.null any; br_on_cast_fail 1 ?any ?i31; end; drop; unreachable; end; drop')
+    for title, before in [('alone', ''), ('behind eq', 'ref.null eq; '), ('behind shared eq', 'x:d0656d; ')]:
+        case('unreached ref.eq %s' % title, 'unreachable; %sref.eq; drop' % before)
+    for title, before in [('alone', 'any.convert_extern'), ('below eq', 'any.convert_extern; ref.null eq'),
+                          ('above eq', 'ref.null eq; unreachable; any.convert_extern')]:
+        case('unreached ref.eq of what any.convert_extern gives %s' % title, 'unreachable; %s; ref.eq; drop' % before, told='')
     case('ref.func of its exact type', '', raw=bytes.fromhex('0002646201d2010b1a0b'))
     case('ref.func of a function for a structure', 'block =!struct; ref.func 1; end; drop', told='')
     case('ref.func of a function for one of another type', 'block =!10; ref.func 1; end; drop', told='')
@@ -1020,7 +1028,10 @@ def scored():
     case('array.new_elem of numbers, with an unknown segment', 'i32.const 0; i32.const 0; array.new_elem 4 9; drop')
     subject('legacy_exceptions')
     for where, head in [('a try', [TRY_I32]), ('a catch', [TRY_I32, I32, '0700']), ('a catch_all', [TRY_I32, I32, '19'])]:
-        case('a branch in %s without what its label takes' % where, '', raw=b'\0' + bytes.fromhex(''.join(head)) + bytes.fromhex('0c000b1a0b'), features=LEGACY)
+        case('a branch in legacy %s without what its label takes' % where, '', raw=b'\0' + bytes.fromhex(''.join(head)) + bytes.fromhex('0c000b1a0b'), features=LEGACY)
+    case('an else in a catch_all', '', raw=bytes.fromhex('00064019050b0b'), features=LEGACY, wanted='refused 4 ' + ELSE)
+    for where, head in [('a loop', '0340'), ('an if', '41000440'), ('an else', '4100044005')]:
+        case('rethrow to %s in a catch_all' % where, '', raw=bytes.fromhex('00064019%s09000b0b0b' % head), features=LEGACY)
 
 
 def wanted_of(answers, type_index, body, told):

@@ -1482,6 +1482,10 @@ def scored():
           types=['func ->', 'func i32 ->', 'func -> i32 i64'], tags=[1], told='')
     asked('array.copy of bytes into halves', 'ref.null 1; i32.const 0; ref.null 0; i32.const 0; i32.const 0; array.copy 1 0',
           types=['array mut:i8', 'array mut:i16'], told='')
+    packed = ['array mut:i8', 'array mut:i16', 'array mut:i32']
+    for title, to, of in [('bytes into bytes', 0, 0), ('halves into halves', 1, 1), ('halves into bytes', 0, 1), ('bytes into words', 2, 0), ('words into bytes', 0, 2)]:
+        asked('array.copy of %s' % title, 'ref.null %d; i32.const 0; ref.null %d; i32.const 0; i32.const 0; array.copy %d %d' % (to, of, to, of),
+              types=packed, told='')
     shared = b'\x65\x60\0\0'
     for title, ops in [('any below eq', 'x:d0656e; x:d0656d; ref.eq; drop'), ('any above eq', 'x:d0656d; x:d0656e; ref.eq; drop'),
                        ('eq alone', 'x:d0656d; x:d0656d; ref.eq; drop')]:
@@ -1492,6 +1496,14 @@ def scored():
     asked('ref.test of any for a shared structure', 'ref.null any; ref.test 1; drop', ty=0, types=['func ->', structure], features='all', told='')
     for title, ops in [('twice', 'ref.null 1; ref.null 1'), ('and of shared eq', 'ref.null 1; x:d0656d'), ('and of eq', 'ref.null 1; ref.null eq')]:
         asked('ref.eq of a shared structure %s' % title, ops + '; ref.eq; drop', ty=0, types=['func ->', structure], features='all', told=None if 'shared' in title else '')
+    heading('Three nulls in an element segment, of its type or of another')
+    for null, types in [('cont', '68 75'), ('exn', '69 74'), ('array', '6a 6e'), ('struct', '6b 70'), ('i31', '6c 6d'), ('eq', '6d 69'), ('any', '6e 6a'),
+                        ('extern', '6f 72'), ('func', '70 73'), ('none', '71 74'), ('noextern', '72 6f'), ('nofunc', '73 70'), ('noexn', '74 69'),
+                        ('nocont', '75 68')]:
+        own, other = bytes.fromhex(types)
+        for code in (own, other):
+            segment = bytes([5, code]) + W.listed([bytes([0xd0, own, 0x0b])] * 3)
+            case('three nulls of %s in a segment of 0x%02x' % (null, code), W.build(elems=[segment]), 'all', told='')
     heading('References to functions, whose types are exact')
     parts = dict(types=['func ->', 'func -> i32'], elems=[dict(mode='declared', funcs=[0])], features='all', ty=0, told='')
     exact = 'x:02646200; ref.func 0; x:0b; drop'
