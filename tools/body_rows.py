@@ -1005,6 +1005,10 @@ def scored():
     case('global.get behind an operand of the type', 'i32.const 0; global.get 1; drop; drop')
     case('a local that is set before one of its type', 'ref.func 1; local.set 0; local.get 0; drop', locals='!func !func')
     case('a local that is not set behind one of its type', 'ref.func 1; local.set 0; local.get 1; drop', locals='!func !func')
+    case('a local that is set after a later one', 'ref.func 1; local.set 2; ref.func 1; local.set 0; local.get 2; drop; local.get 0; drop',
+         locals='!func !func !func')
+    case('the last of 1,025 locals', '', raw=b'\1' + W.unsigned(1025) + b'\x7f\x20' + W.unsigned(1024) + b'\x1a\x0b')
+    case('a local behind 1,025', '', raw=b'\1' + W.unsigned(1025) + b'\x7f\x20' + W.unsigned(1025) + b'\x1a\x0b', told='')
     case('a local that is set again in a block is set behind it', 'ref.func 1; local.set 0; block; ref.func 1; local.set 0; end; local.get 0; drop',
          locals='!func')
     subject('references')

@@ -1482,6 +1482,13 @@ def scored():
           types=['func ->', 'func i32 ->', 'func -> i32 i64'], tags=[1], told='')
     asked('array.copy of bytes into halves', 'ref.null 1; i32.const 0; ref.null 0; i32.const 0; i32.const 0; array.copy 1 0',
           types=['array mut:i8', 'array mut:i16'], told='')
+    lists = ['func ->', 'func -> i32 i64', 'func i32 i64 -> i32 i64']
+    for title, ops in [('br_if', 'block @1; i32.const 0; i64.const 0; block; i32.const 0; br_if 1; end; br 0; end; drop; drop'),
+                       ('a call', 'i32.const 0; i64.const 0; block; call 1; end; drop; drop'),
+                       ('a call, the first alone', 'i32.const 0; block; i64.const 0; call 1; drop; end; drop'),
+                       ('a sum, the first alone', 'i32.const 0; block; i32.const 1; i32.add; end; drop'),
+                       ('a loop', 'i32.const 0; i64.const 0; block; loop @2; end; end; drop; drop')]:
+        case('operands of %s that stand outside of their block' % title, W.build(types=lists, funcs=[(0, '', ops), (2, '', 'unreachable')]), 'all', plain=True)
     packed = ['array mut:i8', 'array mut:i16', 'array mut:i32']
     for title, to, of in [('bytes into bytes', 0, 0), ('halves into halves', 1, 1), ('halves into bytes', 0, 1), ('bytes into words', 2, 0), ('words into bytes', 0, 2)]:
         asked('array.copy of %s' % title, 'ref.null %d; i32.const 0; ref.null %d; i32.const 0; i32.const 0; array.copy %d %d' % (to, of, to, of),
