@@ -1035,6 +1035,12 @@ def scored():
     for name, op in [('a type index', '03'), ('an exact type', '6203')]:
         case('ref.test of %s without reference_types' % name, '', raw=bytes.fromhex('0000fb14%s1a0b' % op), features='all-reference_types',
              wanted='refused 2 ' + value_type('reference_types'))
+    subject('features')
+    for name, op in [('f32x4.splat', 'fd13'), ('f32x4.extract_lane', 'fd1f00'), ('f32x4.replace_lane', 'fd2000'), ('f64x2.splat', 'fd14'),
+                     ('f64x2.extract_lane', 'fd2100'), ('f64x2.replace_lane', 'fd2200')]:
+        case('%s without floats' % name, '', raw=bytes.fromhex('0000%s1a0b' % op), features='all-floats', wanted='refused 2 %s; missing floats' % FLOATS)
+    for name, op in [('f32x4.add', 'fde401'), ('i32x4.splat', 'fd11'), ('i32x4.extract_lane', 'fd1b00')]:
+        case('%s without floats' % name, '', raw=bytes.fromhex('0000%s1a0b' % op), features='all-floats', wanted='ok')
     subject('memories')
     case('an offset of 33 bits with the largest alignment', 'i32.const 0; i32.load 2:4294967296; drop')
     case('v128.load of 64 bits with an offset of 33 bits', '', raw=bytes.fromhex('004200fd00400180808080101a0b'))

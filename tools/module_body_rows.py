@@ -1503,6 +1503,10 @@ def scored():
     asked('ref.test of any for a shared structure', 'ref.null any; ref.test 1; drop', ty=0, types=['func ->', structure], features='all', told='')
     for title, ops in [('twice', 'ref.null 1; ref.null 1'), ('and of shared eq', 'ref.null 1; x:d0656d'), ('and of eq', 'ref.null 1; ref.null eq')]:
         asked('ref.eq of a shared structure %s' % title, ops + '; ref.eq; drop', ty=0, types=['func ->', structure], features='all', told=None if 'shared' in title else '')
+    described = ['func ->', [b'\x4d\2\x5f\0', b'\x4c\1\x5f\0']]
+    for title, op in [('struct.new_desc', 'fb2001'), ('struct.new_default_desc', 'fb2101')]:
+        case('%s of a structure without fields' % title, W.build(types=described, ntypes=3, funcs=[(0, '', 'x:d06202%s; drop' % op)]), 'all')
+        case('%s gives a reference' % title, W.build(types=described, ntypes=3, funcs=[(0, '', 'x:d06202%s' % op)]), 'all', plain=True)
     heading('Three nulls in an element segment, of its type or of another')
     for null, types in [('cont', '68 75'), ('exn', '69 74'), ('array', '6a 6e'), ('struct', '6b 70'), ('i31', '6c 6d'), ('eq', '6d 69'), ('any', '6e 6a'),
                         ('extern', '6f 72'), ('func', '70 73'), ('none', '71 74'), ('noextern', '72 6f'), ('nofunc', '73 70'), ('noexn', '74 69'),
